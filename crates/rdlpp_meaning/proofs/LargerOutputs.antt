@@ -4,7 +4,7 @@ use Rattle.std.specs.Prelude.{if◌then◌else◌, not, ◌==◌, length, drop, 
 use Rattle.std.specs.Str.{is_utf8}
 use Rattle.rdlpp_scan.specs.declared.token.Directive.{Directive}
 use Rattle.rdlpp_scan.specs.declared.token.Directive.TheVariants.{Define, Undef, Include, Line}
-use Rattle.rdlpp_scan.specs.SourceTokens.{Sort, Ordinary, Definition, Renumbering, Broken, SourceToken, whole_tokens}
+use Rattle.rdlpp_scan.specs.SourceTokens.{Broken, SourceToken, whole_tokens}
 use Rattle.rdlpp_table.specs.Table.{Macro, macro_size, table_size, without}
 use Rattle.rdlpp_meaning.specs.declared.fault.FaultKind.{FaultKind}
 use Rattle.rdlpp_meaning.specs.declared.fault.FaultKind.TheVariants.{BranchAfterElse, TooManyConditionals, TooManyIncludes, IncludeName, SourceNotFound, PathTooLong, BadLine, StrayBranch, OutputBytes}
@@ -13,7 +13,7 @@ use Rattle.rdlpp_meaning.specs.State.{Defined, Accepted, Refused, Lookup, NoSour
 use Rattle.rdlpp_meaning.specs.Parts.{Command, line_ends_of, Piece, Run, Single, Opening, Branching, Closing, pieces, parts_of}
 use Rattle.rdlpp_meaning.specs.Meaning.{Passage, leaves, behind_bytes, goes_on, refusal, Nest, skipped_run, Checked, Fine, Faulty, macro_name, defines, undefines, origin_line, at_start_of, back_in, added_end, includes, includes_found, unquoted, includes_named, includes_given, Renumbered, renumbered, renumbers, single, Progress, Test, Stopped, Holds, by_test, is_defined, name_test, wants_defined, opening_within, opening, in_conditional, past_conditional, is_else, turn, outcome, skipped_command, begun, turned, unclosed, mean, nest_of, text_meaning}
 use Rattle.rdlpp_meaning.specs.LimitLaws.{is_limit, NamesNoLimit, IsLarger}
-use Rattle.rdlpp_meaning.proofs.LargerRuns.{Agrees, IsFault, TornAgrees, run-agrees, run-torn, skip-torn}
+use Rattle.rdlpp_meaning.proofs.LargerRuns.{Agrees, IsFault, TornAgrees, run-agrees, run-torn, skip-agrees, skip-torn}
 use Rattle.std.proofs.lemmas.Bool.{leb-true, leb-false}
 use Rattle.rdlpp_scan.specs.Front.{Breach}
 use Rattle.rdlpp_table.specs.declared.limits.Limits.{Limits}
@@ -130,113 +130,9 @@ NestAgrees more (Some within) None = ⊥
 NestAgrees more (Some within) (Some within') =
     (sources : ℕ) (s : State) (text : List ℕ) → PassageAgrees more (within s text) (within' (roomier sources more s) text)
 
--- an included text with its origin lines
-includes-agree : (rules : Rules) (depth most : ℕ) (define : List Macro → List ℕ → Defined) (tokens : List ℕ → List SourceToken) (sources more : ℕ) (within within' : State → List ℕ → Passage)
-    (path text : List ℕ) (c : Command) (s : State)
-    → ((y : ℕ) (t : State) (bytes : List ℕ) → PassageAgrees more (within t bytes) (within' (roomier y more t) bytes))
-    → PassageAgrees more (includes rules within path text c s) (includes (wider rules depth most define tokens) within' path text c (roomier sources more s))
-unfolding includes origin_line at_start_of back_in leaves gives
-includes-agree rules depth most define tokens sources more within within' path text c s h =
-    bytes-agree more (origin_line rules path 1)
-    (goes_on (within (at_start_of path s) text) (λ after.
-    leaves (gives (added_end text ++ origin_line rules s.name (shown_line s.shift c.line))) (back_in s after)))
-    (goes_on (within' (at_start_of path (roomier sources more s)) text) (λ after.
-    leaves (gives (added_end text ++ origin_line rules s.name (shown_line s.shift c.line))) (back_in (roomier sources more s) after)))
-    (on-agrees more (within (at_start_of path s) text) (within' (at_start_of path (roomier sources more s)) text)
-    (λ after. leaves (gives (added_end text ++ origin_line rules s.name (shown_line s.shift c.line))) (back_in s after))
-    (λ after. leaves (gives (added_end text ++ origin_line rules s.name (shown_line s.shift c.line))) (back_in (roomier sources more s) after))
-    (h (sources - 1) (at_start_of path s) text)
-    (λ y t. lifted-agrees sources more
-    (leaves (gives (added_end text ++ origin_line rules s.name (shown_line s.shift c.line))) (back_in s t))))
-
--- an `include` of what was found
-found-agrees : (rules : Rules) (depth most : ℕ) (define : List Macro → List ℕ → Defined) (tokens : List ℕ → List SourceToken) (sources more : ℕ) (within within' : State → List ℕ → Passage)
-    (found : Lookup) (c : Command) (s : State)
-    → ((y : ℕ) (t : State) (bytes : List ℕ) → PassageAgrees more (within t bytes) (within' (roomier y more t) bytes))
-    → PassageAgrees more (includes_found rules within found c s) (includes_found (wider rules depth most define tokens) within' found c (roomier sources more s))
-unfolding includes_found
-found-agrees rules depth most define tokens sources more within within' NoSource c s h = refusal-agrees sources more SourceNotFound [] c s
-found-agrees rules depth most define tokens sources more within within' LongPath c s h = refusal-agrees sources more PathTooLong [] c s
-found-agrees rules depth most define tokens sources more within within' (Source path text) c s h =
-    includes-agree rules depth most define tokens sources more within within' path text c s h
-
--- an `include` of a name, by what may be opened
-nested-agrees : (rules : Rules) (depth most : ℕ) (define : List Macro → List ℕ → Defined) (tokens : List ℕ → List SourceToken) (sources more : ℕ) (nest nest' : Nest) (name : List ℕ) (c : Command) (s : State)
-    → NestAgrees more nest nest'
-    → PassageAgrees more
-    (elim nest [ None ↦ refusal TooManyIncludes [] c s | Some within ↦ includes_found rules within (rules.find s.path name) c s ])
-    (elim nest' [
-      | None ↦ refusal TooManyIncludes [] c (roomier sources more s)
-      | Some within ↦ includes_found (wider rules depth most define tokens) within (rules.find s.path name) c (roomier sources more s)
-    ])
-unfolding NestAgrees is_limit
-nested-agrees rules depth most define tokens sources more None None name c s h = limit-passage more TooManyIncludes [] c s _ refl
-nested-agrees rules depth most define tokens sources more None (Some within') name c s h = limit-passage more TooManyIncludes [] c s _ refl
-nested-agrees rules depth most define tokens sources more (Some within) None name c s h = absurd h
-nested-agrees rules depth most define tokens sources more (Some within) (Some within') name c s h =
-    found-agrees rules depth most define tokens sources more within within' (rules.find s.path name) c s h
-
--- an `include` of what it is given
-given-agrees : (rules : Rules) (depth most : ℕ) (define : List Macro → List ℕ → Defined) (tokens : List ℕ → List SourceToken) (sources more : ℕ) (nest nest' : Nest) (given : Option (List ℕ)) (c : Command) (s : State)
-    → NestAgrees more nest nest'
-    → PassageAgrees more (includes_given rules nest given c s) (includes_given (wider rules depth most define tokens) nest' given c (roomier sources more s))
-unfolding includes_given includes_named
-given-agrees rules depth most define tokens sources more nest nest' None c s h = refusal-agrees sources more IncludeName [] c s
-given-agrees rules depth most define tokens sources more nest nest' (Some string) c s h =
-    let name = unquoted string in
-    choice-passage more (length name == 0 || not (is_utf8 name)) (refusal IncludeName [] c s) (refusal IncludeName [] c (roomier sources more s))
-    (elim nest [ None ↦ refusal TooManyIncludes [] c s | Some within ↦ includes_found rules within (rules.find s.path name) c s ])
-    (elim nest' [
-      | None ↦ refusal TooManyIncludes [] c (roomier sources more s)
-      | Some within ↦ includes_found (wider rules depth most define tokens) within (rules.find s.path name) c (roomier sources more s)
-    ])
-    (refusal-agrees sources more IncludeName [] c s)
-    (nested-agrees rules depth most define tokens sources more nest nest' name c s h)
-
--- a `line`
-line-agrees : (rules : Rules) (depth most : ℕ) (define : List Macro → List ℕ → Defined) (tokens : List ℕ → List SourceToken) (sources more : ℕ) (r : Option Renumbered) (c : Command) (s : State)
-    → PassageAgrees more (renumbers rules r c s) (renumbers (wider rules depth most define tokens) r c (roomier sources more s))
-unfolding renumbers origin_line leaves gives refusal fails fault_at
-line-agrees rules depth most define tokens sources more None c s = lifted-agrees sources more (refusal BadLine [] c s)
-line-agrees rules depth most define tokens sources more (Some r) c s =
-    choice-passage more c.first
-    (leaves (gives (line_ends_of c.text ++ origin_line rules r.name r.number)) (record s { name = r.name; shift = record { from = suc c.line; number = r.number } }))
-    (leaves (gives (line_ends_of c.text ++ origin_line rules r.name r.number))
-    (record (roomier sources more s) { name = r.name; shift = record { from = suc c.line; number = r.number } }))
-    (refusal BadLine [] c s) (refusal BadLine [] c (roomier sources more s))
-    (lifted-agrees sources more
-    (leaves (gives (line_ends_of c.text ++ origin_line rules r.name r.number)) (record s { name = r.name; shift = record { from = suc c.line; number = r.number } })))
-    (lifted-agrees sources more (refusal BadLine [] c s))
-
 -- what a `define` does agrees for all macros and texts
 unfoldable pub AllDefined : Rules → (List Macro → List ℕ → Defined) → Type 0
 AllDefined rules define = (macros : List Macro) (rest : List ℕ) → DefinedAgrees (rules.define macros rest) (define macros rest)
-
--- a directive by itself, by its word
-word-agrees : (rules : Rules) (depth most : ℕ) (define : List Macro → List ℕ → Defined) (tokens : List ℕ → List SourceToken) (sources more : ℕ) (nest nest' : Nest)
-    (word : Directive) (given : Option (List ℕ)) (text : List ℕ) (line : ℕ) (first : Bool) (s : State)
-    → AllDefined rules define → NestAgrees more nest nest'
-    → PassageAgrees more (single rules nest (record { word = word; given = given; text = text; line = line; first = first }) s)
-    (single (wider rules depth most define tokens) nest' (record { word = word; given = given; text = text; line = line; first = first }) (roomier sources more s))
-unfolding single AllDefined leaves gives
-word-agrees rules depth most define tokens sources more nest nest' Define given text line first s d h =
-    define-agrees sources more (record { word = Define; given = given; text = text; line = line; first = first }) s
-    (rules.define s.macros (drop 7 text)) (define s.macros (drop 7 text)) (d s.macros (drop 7 text))
-word-agrees rules depth most define tokens sources more nest nest' Undef given text line first s d h =
-    let c : Command = record { word = Undef; given = given; text = text; line = line; first = first } in
-    undef-agrees sources more c s (macro_name c)
-word-agrees rules depth most define tokens sources more nest nest' Include given text line first s d h =
-    given-agrees rules depth most define tokens sources more nest nest' given (record { word = Include; given = given; text = text; line = line; first = first }) s h
-word-agrees rules depth most define tokens sources more nest nest' Line given text line first s d h =
-    line-agrees rules depth most define tokens sources more (renumbered (drop 5 text)) (record { word = Line; given = given; text = text; line = line; first = first }) s
-word-agrees rules depth most define tokens sources more nest nest' word given text line first s d h = lifted-agrees sources more (leaves (gives []) s)
-
--- a directive by itself
-pub single-agrees : (rules : Rules) (depth most : ℕ) (define : List Macro → List ℕ → Defined) (tokens : List ℕ → List SourceToken) (sources more : ℕ) (nest nest' : Nest) (c : Command) (s : State)
-    → AllDefined rules define → NestAgrees more nest nest'
-    → PassageAgrees more (single rules nest c s) (single (wider rules depth most define tokens) nest' c (roomier sources more s))
-single-agrees rules depth most define tokens sources more nest nest' c s d h =
-    word-agrees rules depth most define tokens sources more nest nest' c.word c.given c.text c.line c.first s d h
 
 -- the test of a name is the same in a state with more room
 name-room : (sources more : ℕ) (defined : Bool) (name : Checked) (s : State) → name_test defined name (roomier sources more s) ≡ name_test defined name s
@@ -316,155 +212,12 @@ past-room sources more s = ap (λ (n : ℕ). record s { sources_left = sources; 
     number : (a k : ℕ) → suc (a + k) ≡ a + suc k
     number a k = omega arith
 
--- skipped tokens write the same in a state with more room, by what the first is
-skipped-by : (sources more : ℕ) (s : State) (sort : Sort) (bytes : List ℕ) (line : ℕ) (ts : List SourceToken)
-    → skipped_run (roomier sources more s) ts ≡ skipped_run s ts
-    → skipped_run (roomier sources more s) (record { sort = sort; bytes = bytes; line = line } ∷ ts)
-    ≡ skipped_run s (record { sort = sort; bytes = bytes; line = line } ∷ ts)
-unfolding skipped_run fault_at
-skipped-by sources more s (Broken b) bytes line ts e = refl
-skipped-by sources more s (Ordinary k) bytes line ts e = ap (λ (o : Outcome). and_then (gives (line_ends_of bytes)) o) e
-skipped-by sources more s Definition bytes line ts e = ap (λ (o : Outcome). and_then (gives (line_ends_of bytes)) o) e
-skipped-by sources more s Renumbering bytes line ts e = ap (λ (o : Outcome). and_then (gives (line_ends_of bytes)) o) e
-
--- skipped tokens write the same in a state with more room
-skipped-room : (sources more : ℕ) (s : State) (ts : List SourceToken) → skipped_run (roomier sources more s) ts ≡ skipped_run s ts
-unfolding skipped_run
-skipped-room sources more s [] = refl
-skipped-room sources more s (t ∷ ts) = skipped-by sources more s t.sort t.bytes t.line ts (skipped-room sources more s ts)
-
--- skipped tokens agree
-pub skipped-agrees : (sources more : ℕ) (s : State) (ts : List SourceToken)
-    → PassageAgrees more (leaves (skipped_run s ts) s) (leaves (skipped_run (roomier sources more s) ts) (roomier sources more s))
-unfolding Agrees
-skipped-agrees sources more s ts =
-    leaves-agrees sources more s (skipped_run s ts) (skipped_run (roomier sources more s) ts) (λ n. skipped-room sources more s ts)
-
--- no list is one with an element
-nothing-more : {A : Type 0} (x : A) (xs : List A) → [] ≡ x ∷ xs → ⊥
-nothing-more x xs e = cc
-
 -- what is larger of some rules
 record Widens (rules : Rules) (depth most : ℕ) (define : List Macro → List ℕ → Defined) (tokens : List ℕ → List SourceToken) : Type 0 where
   depths : rules.depth ≤ depth
   bytes : rules.argument_bytes ≤ most
   defines : AllDefined rules define
   texts : (text : List ℕ) → TokensTorn true (rules.tokens text) (tokens text)
-
--- what resumes agrees from each place and state
-unfoldable Resumes : Rules → ℕ → ℕ → (List Macro → List ℕ → Defined) → (List ℕ → List SourceToken) → ℕ → Nest → Nest → List Piece → List Piece → Type 0
-Resumes rules depth most define tokens more nest nest' ps qs = (place : Place) (sources : ℕ) (s : State)
-    → PassageAgrees more (resume rules nest place ps s) (resume (wider rules depth most define tokens) nest' place qs (roomier sources more s))
-
--- what resumes behind a conditional that is opened
-conditional-agrees : (rules : Rules) (depth most : ℕ) (define : List Macro → List ℕ → Defined) (tokens : List ℕ → List SourceToken) (sources more : ℕ) (nest nest' : Nest) (ps qs : List Piece)
-    (place : Place) (s : State) (m : ℕ) → Resumes rules depth most define tokens more nest nest' ps qs → s.conditions_left ≡ suc m
-    → PassageAgrees more (resume rules nest place ps (in_conditional s))
-    (resume (wider rules depth most define tokens) nest' place qs (in_conditional (roomier sources more s)))
-unfolding Resumes
-conditional-agrees rules depth most define tokens sources more nest nest' ps qs place s m r e =
-    subst (λ (t : State). PassageAgrees more (resume rules nest place ps (in_conditional s)) (resume (wider rules depth most define tokens) nest' place qs t))
-    (sym (in-room sources more s m e)) (r place sources (in_conditional s))
-
--- what resumes behind the end of a conditional
-end-agrees : (rules : Rules) (depth most : ℕ) (define : List Macro → List ℕ → Defined) (tokens : List ℕ → List SourceToken) (sources more : ℕ) (nest nest' : Nest) (ps qs : List Piece)
-    (place : Place) (s : State) → Resumes rules depth most define tokens more nest nest' ps qs
-    → PassageAgrees more (resume rules nest place ps (past_conditional s))
-    (resume (wider rules depth most define tokens) nest' place qs (past_conditional (roomier sources more s)))
-unfolding Resumes
-end-agrees rules depth most define tokens sources more nest nest' ps qs place s r =
-    subst (λ (t : State). PassageAgrees more (resume rules nest place ps (past_conditional s)) (resume (wider rules depth most define tokens) nest' place qs t))
-    (sym (past-room sources more s)) (r place sources (past_conditional s))
-
--- what resumes behind a passage
-behind-agrees : (rules : Rules) (depth most : ℕ) (define : List Macro → List ℕ → Defined) (tokens : List ℕ → List SourceToken) (more : ℕ) (nest nest' : Nest) (ps qs : List Piece)
-    (place : Place) (p q : Passage) → Resumes rules depth most define tokens more nest nest' ps qs → PassageAgrees more p q
-    → PassageAgrees more (goes_on p (λ after. resume rules nest place ps after))
-    (goes_on q (λ after. resume (wider rules depth most define tokens) nest' place qs after))
-unfolding Resumes
-behind-agrees rules depth most define tokens more nest nest' ps qs place p q r h =
-    on-agrees more p q (λ after. resume rules nest place ps after) (λ after. resume (wider rules depth most define tokens) nest' place qs after)
-    h (λ sources t. r place sources t)
-
--- at the end of a file
-ends-agree : (rules : Rules) (depth most : ℕ) (define : List Macro → List ℕ → Defined) (tokens : List ℕ → List SourceToken) (more : ℕ) (nest nest' : Nest) (place : Place) (sources : ℕ) (s : State)
-    → PassageAgrees more (resume rules nest place [] s) (resume (wider rules depth most define tokens) nest' place [] (roomier sources more s))
-unfolding resume unclosed leaves gives fails
-ends-agree rules depth most define tokens more nest nest' (Live []) sources s = lifted-agrees sources more (leaves (gives []) s)
-ends-agree rules depth most define tokens more nest nest' (Live (o ∷ os)) sources s = lifted-agrees sources more (unclosed o s)
-ends-agree rules depth most define tokens more nest nest' (Skipped n o os) sources s = lifted-agrees sources more (unclosed o s)
-
--- a directive that opens a conditional in live text
-opened-agrees : (rules : Rules) (depth most : ℕ) (define : List Macro → List ℕ → Defined) (tokens : List ℕ → List SourceToken) (more : ℕ) (nest nest' : Nest) (c : Command) (ps qs : List Piece)
-    → Resumes rules depth most define tokens more nest nest' ps qs → (os : List Progress) (sources : ℕ) (s : State)
-    → PassageAgrees more (resume rules nest (Live os) (Opening c ∷ ps) s)
-    (resume (wider rules depth most define tokens) nest' (Live os) (Opening c ∷ qs) (roomier sources more s))
-unfolding resume begun
-opened-agrees rules depth most define tokens more nest nest' c ps qs r os sources s =
-    opening-agrees sources more c s
-    (λ t. resume rules nest (Live (begun c t true ∷ os)) ps (in_conditional t))
-    (λ t. resume rules nest (Skipped 0 (begun c t false) os) ps (in_conditional t))
-    (λ t. resume (wider rules depth most define tokens) nest' (Live (begun c t true ∷ os)) qs (in_conditional t))
-    (λ t. resume (wider rules depth most define tokens) nest' (Skipped 0 (begun c t false) os) qs (in_conditional t))
-    (λ m e. conditional-agrees rules depth most define tokens sources more nest nest' ps qs (Live (begun c s true ∷ os)) s m r e)
-    (λ m e. conditional-agrees rules depth most define tokens sources more nest nest' ps qs (Skipped 0 (begun c s false) os) s m r e)
-
--- a branch of an open conditional
-branched-agrees : (rules : Rules) (depth most : ℕ) (define : List Macro → List ℕ → Defined) (tokens : List ℕ → List SourceToken) (more : ℕ) (nest nest' : Nest) (c : Command) (ps qs : List Piece)
-    → Resumes rules depth most define tokens more nest nest' ps qs → (o : Progress) (os : List Progress) (sources : ℕ) (s : State)
-    → PassageAgrees more (resume rules nest (Live (o ∷ os)) (Branching c ∷ ps) s)
-    (resume (wider rules depth most define tokens) nest' (Live (o ∷ os)) (Branching c ∷ qs) (roomier sources more s))
-unfolding resume Resumes
-branched-agrees rules depth most define tokens more nest nest' c ps qs r o os sources s =
-    turn-agrees sources more o c s
-    (λ t. resume rules nest (Live (turned o c true ∷ os)) ps t)
-    (λ t. resume rules nest (Skipped 0 (turned o c false) os) ps t)
-    (λ t. resume (wider rules depth most define tokens) nest' (Live (turned o c true ∷ os)) qs t)
-    (λ t. resume (wider rules depth most define tokens) nest' (Skipped 0 (turned o c false) os) qs t)
-    (r (Live (turned o c true ∷ os)) sources s) (r (Skipped 0 (turned o c false) os) sources s)
-
--- a piece in front
-piece-agrees : (rules : Rules) (depth most : ℕ) (define : List Macro → List ℕ → Defined) (tokens : List ℕ → List SourceToken) (more : ℕ) (nest nest' : Nest)
-    → Widens rules depth most define tokens → NestAgrees more nest nest' → (p : Piece) (ps qs : List Piece)
-    → Resumes rules depth most define tokens more nest nest' ps qs → (place : Place) (sources : ℕ) (s : State)
-    → PassageAgrees more (resume rules nest place (p ∷ ps) s) (resume (wider rules depth most define tokens) nest' place (p ∷ qs) (roomier sources more s))
-unfolding resume skipped_command
-piece-agrees rules depth most define tokens more nest nest' w h (Run ts) ps qs r (Live os) sources s =
-    behind-agrees rules depth most define tokens more nest nest' ps qs (Live os) (leaves (run_outcome rules s ts) s)
-    (leaves (run_outcome (wider rules depth most define tokens) (roomier sources more s) ts) (roomier sources more s)) r
-    (leaves-agrees sources more s (run_outcome rules s ts) (run_outcome (wider rules depth most define tokens) (roomier sources more s) ts)
-    (run-agrees rules (wider rules depth most define tokens) s sources more w.bytes ts w.depths))
-piece-agrees rules depth most define tokens more nest nest' w h (Single c) ps qs r (Live os) sources s =
-    behind-agrees rules depth most define tokens more nest nest' ps qs (Live os) (single rules nest c s)
-    (single (wider rules depth most define tokens) nest' c (roomier sources more s)) r
-    (single-agrees rules depth most define tokens sources more nest nest' c s w.defines h)
-piece-agrees rules depth most define tokens more nest nest' w h (Opening c) ps qs r (Live os) sources s =
-    opened-agrees rules depth most define tokens more nest nest' c ps qs r os sources s
-piece-agrees rules depth most define tokens more nest nest' w h (Branching c) ps qs r (Live []) sources s = refusal-agrees sources more StrayBranch [] c s
-piece-agrees rules depth most define tokens more nest nest' w h (Branching c) ps qs r (Live (o ∷ os)) sources s =
-    branched-agrees rules depth most define tokens more nest nest' c ps qs r o os sources s
-piece-agrees rules depth most define tokens more nest nest' w h (Closing c) ps qs r (Live []) sources s = refusal-agrees sources more StrayBranch [] c s
-piece-agrees rules depth most define tokens more nest nest' w h (Closing c) ps qs r (Live (o ∷ os)) sources s =
-    end-agrees rules depth most define tokens sources more nest nest' ps qs (Live os) s r
-piece-agrees rules depth most define tokens more nest nest' w h (Run ts) ps qs r (Skipped n o os) sources s =
-    behind-agrees rules depth most define tokens more nest nest' ps qs (Skipped n o os) (leaves (skipped_run s ts) s)
-    (leaves (skipped_run (roomier sources more s) ts) (roomier sources more s)) r (skipped-agrees sources more s ts)
-piece-agrees rules depth most define tokens more nest nest' w h (Single c) ps qs r (Skipped n o os) sources s =
-    behind-agrees rules depth most define tokens more nest nest' ps qs (Skipped n o os) (leaves (skipped_command c) s)
-    (leaves (skipped_command c) (roomier sources more s)) r (leaves-same sources more s (skipped_command c))
-piece-agrees rules depth most define tokens more nest nest' w h (Opening c) ps qs r (Skipped n o os) sources s =
-    behind-agrees rules depth most define tokens more nest nest' ps qs (Skipped (suc n) o os) (leaves (skipped_command c) s)
-    (leaves (skipped_command c) (roomier sources more s)) r (leaves-same sources more s (skipped_command c))
-piece-agrees rules depth most define tokens more nest nest' w h (Branching c) ps qs r (Skipped (suc n) o os) sources s =
-    behind-agrees rules depth most define tokens more nest nest' ps qs (Skipped (suc n) o os) (leaves (skipped_command c) s)
-    (leaves (skipped_command c) (roomier sources more s)) r (leaves-same sources more s (skipped_command c))
-piece-agrees rules depth most define tokens more nest nest' w h (Branching c) ps qs r (Skipped zero o os) sources s =
-    branched-agrees rules depth most define tokens more nest nest' c ps qs r o os sources s
-piece-agrees rules depth most define tokens more nest nest' w h (Closing c) ps qs r (Skipped (suc n) o os) sources s =
-    behind-agrees rules depth most define tokens more nest nest' ps qs (Skipped n o os) (leaves (skipped_command c) s)
-    (leaves (skipped_command c) (roomier sources more s)) r (leaves-same sources more s (skipped_command c))
-piece-agrees rules depth most define tokens more nest nest' w h (Closing c) ps qs r (Skipped zero o os) sources s =
-    end-agrees rules depth most define tokens sources more nest nest' ps qs (Live os) s r
 
 -- what goes on behind a fault of a limit agrees with all, by the outcome's fault
 limited-by : (more : ℕ) (x : List ℕ) (o f : Option Told) (s : State) (next : State → Passage) (q : Passage) → o ≡ f → IsFault f
@@ -522,121 +275,243 @@ first-torn rules nest more (Skipped n o os) b bytes line s q limit =
     limited-by more out.bytes out.fault (Some (fault_at (breach_kind b) line [] s)) s (λ after. resume rules nest (Skipped n o os) [] after) q
     (tear-skips s b bytes line) tt (named-limit b line s limit)
 
--- a run that is torn behind its first token, from each place
-later-torn : (rules : Rules) (depth most : ℕ) (define : List Macro → List ℕ → Defined) (tokens : List ℕ → List SourceToken) (more : ℕ) (nest nest' : Nest)
-    → Widens rules depth most define tokens → (xs : List SourceToken) (b : Breach) (bytes : List ℕ) (line : ℕ) (us : List SourceToken) (qs : List Piece)
-    → is_limit (breach_kind b) ≡ true → TornBy token_role (token_role (record { sort = Broken b; bytes = bytes; line = line })) us
-    → (place : Place) (sources : ℕ) (s : State)
-    → PassageAgrees more (resume rules nest place (Run (xs ++ record { sort = Broken b; bytes = bytes; line = line } ∷ []) ∷ []) s)
-    (resume (wider rules depth most define tokens) nest' place (Run (xs ++ us) ∷ qs) (roomier sources more s))
-unfolding resume
-later-torn rules depth most define tokens more nest nest' w xs b bytes line us qs limit torn (Live os) sources s =
-    let t : SourceToken = record { sort = Broken b; bytes = bytes; line = line } in
-    faulty-agrees sources more (run_outcome rules s (xs ++ t ∷ [])) (run_outcome (wider rules depth most define tokens) (roomier sources more s) (xs ++ us)) s
-    (λ after. resume rules nest (Live os) [] after) (λ after. resume (wider rules depth most define tokens) nest' (Live os) qs after)
-    (run-torn rules (wider rules depth most define tokens) s sources more w.bytes xs b bytes line us w.depths limit torn)
-later-torn rules depth most define tokens more nest nest' w xs b bytes line us qs limit torn (Skipped n o os) sources s =
-    let t : SourceToken = record { sort = Broken b; bytes = bytes; line = line } in
-    faulty-agrees sources more (skipped_run s (xs ++ t ∷ [])) (skipped_run (roomier sources more s) (xs ++ us)) s
-    (λ after. resume rules nest (Skipped n o os) [] after) (λ after. resume (wider rules depth most define tokens) nest' (Skipped n o os) qs after)
-    (skip-torn sources more s xs b bytes line us limit)
-
--- a run that is torn, by the tokens before and by the pieces of larger limits
-torn-by : (rules : Rules) (depth most : ℕ) (define : List Macro → List ℕ → Defined) (tokens : List ℕ → List SourceToken) (more : ℕ) (nest nest' : Nest)
-    → Widens rules depth most define tokens → (xs : List SourceToken) (b : Breach) (bytes : List ℕ) (line : ℕ) (us : List SourceToken) (qs : List Piece)
-    → run_front qs ≡ xs ++ us
-    → is_limit (breach_kind b) ≡ true → TornBy token_role (token_role (record { sort = Broken b; bytes = bytes; line = line })) us
-    → (place : Place) (sources : ℕ) (s : State)
-    → PassageAgrees more (resume rules nest place (Run (xs ++ record { sort = Broken b; bytes = bytes; line = line } ∷ []) ∷ []) s)
-    (resume (wider rules depth most define tokens) nest' place qs (roomier sources more s))
-unfolding run_front
-torn-by rules depth most define tokens more nest nest' w [] b bytes line us qs e limit torn place sources s =
-    first-torn rules nest more place b bytes line s (resume (wider rules depth most define tokens) nest' place qs (roomier sources more s)) limit
-torn-by rules depth most define tokens more nest nest' w (x ∷ xs) b bytes line us (Run vs ∷ qs) e limit torn place sources s =
-    subst (λ (ts : List SourceToken). PassageAgrees more (resume rules nest place (Run (x ∷ (xs ++ record { sort = Broken b; bytes = bytes; line = line } ∷ [])) ∷ []) s)
-    (resume (wider rules depth most define tokens) nest' place (Run ts ∷ qs) (roomier sources more s))) (sym e)
-    (later-torn rules depth most define tokens more nest nest' w (x ∷ xs) b bytes line us qs limit torn place sources s)
-torn-by rules depth most define tokens more nest nest' w (x ∷ xs) b bytes line us [] e limit torn place sources s = absurd (nothing-more x (xs ++ us) e)
-torn-by rules depth most define tokens more nest nest' w (x ∷ xs) b bytes line us (Single c ∷ qs) e limit torn place sources s = absurd (nothing-more x (xs ++ us) e)
-torn-by rules depth most define tokens more nest nest' w (x ∷ xs) b bytes line us (Opening c ∷ qs) e limit torn place sources s = absurd (nothing-more x (xs ++ us) e)
-torn-by rules depth most define tokens more nest nest' w (x ∷ xs) b bytes line us (Branching c ∷ qs) e limit torn place sources s = absurd (nothing-more x (xs ++ us) e)
-torn-by rules depth most define tokens more nest nest' w (x ∷ xs) b bytes line us (Closing c ∷ qs) e limit torn place sources s = absurd (nothing-more x (xs ++ us) e)
-
--- a run that is torn
-run-ends : (rules : Rules) (depth most : ℕ) (define : List Macro → List ℕ → Defined) (tokens : List ℕ → List SourceToken) (more : ℕ) (nest nest' : Nest)
-    → Widens rules depth most define tokens → (p : Piece) (ps qs : List Piece) → EndsTorn p ps qs
-    → Resumes rules depth most define tokens more nest nest' (p ∷ ps) qs
-unfolding Resumes
-run-ends rules depth most define tokens more nest nest' w p ps qs e = λ place sources s.
-    let t : SourceToken = record { sort = Broken e.breach; bytes = e.bytes; line = e.line } in
-    let large = resume (wider rules depth most define tokens) nest' place qs (roomier sources more s) in
-    subst (λ (x : Piece). PassageAgrees more (resume rules nest place (x ∷ ps) s) large) (sym e.piece)
-    (subst (λ (xs : List Piece). PassageAgrees more (resume rules nest place (Run (e.before ++ t ∷ []) ∷ xs) s) large) (sym e.last)
-    (torn-by rules depth most define tokens more nest nest' w e.before e.breach e.bytes e.line e.behind qs e.front e.limit e.torn place sources s))
-
--- what resumes agrees
-resume-agrees : (rules : Rules) (depth most : ℕ) (define : List Macro → List ℕ → Defined) (tokens : List ℕ → List SourceToken) (more : ℕ) (nest nest' : Nest)
-    → Widens rules depth most define tokens → NestAgrees more nest nest' → (ps qs : List Piece) → PiecesTorn ps qs
-    → Resumes rules depth most define tokens more nest nest' ps qs
-unfolding Resumes PiecesTorn
-resume-agrees rules depth most define tokens more nest nest' w h [] qs r = λ place sources s.
-    subst (λ (xs : List Piece). PassageAgrees more (resume rules nest place [] s) (resume (wider rules depth most define tokens) nest' place xs (roomier sources more s)))
-    (sym r) (ends-agree rules depth most define tokens more nest nest' place sources s)
-resume-agrees rules depth most define tokens more nest nest' w h (p ∷ ps) qs (inl e) = run-ends rules depth most define tokens more nest nest' w p ps qs e
-resume-agrees rules depth most define tokens more nest nest' w h (p ∷ ps) qs (inr (rest, e, r)) = λ place sources s.
-    subst (λ (xs : List Piece). PassageAgrees more (resume rules nest place (p ∷ ps) s) (resume (wider rules depth most define tokens) nest' place xs (roomier sources more s)))
-    (sym e)
-    (piece-agrees rules depth most define tokens more nest nest' w h p ps rest
-    (resume-agrees rules depth most define tokens more nest nest' w h ps rest r) place sources s)
-
--- what a text means agrees
-mean-agrees : (rules : Rules) (depth most : ℕ) (define : List Macro → List ℕ → Defined) (tokens : List ℕ → List SourceToken) (sources more : ℕ) (nest nest' : Nest) (text : List ℕ) (s : State)
-    → Widens rules depth most define tokens → NestAgrees more nest nest'
-    → PassageAgrees more (mean rules nest (parts_of (rules.tokens text)) s)
-    (mean (wider rules depth most define tokens) nest' (parts_of (tokens text)) (roomier sources more s))
-unfolding Resumes FirstUnbroken
-mean-agrees rules depth most define tokens sources more nest nest' text s w h =
-    let ts = rules.tokens text in
-    let us = tokens text in
-    subst (λ (p : Passage). PassageAgrees more p (mean (wider rules depth most define tokens) nest' (parts_of us) (roomier sources more s)))
-    (sym (mean_resumes rules nest ts s))
-    (subst (λ (q : Passage). PassageAgrees more (resume rules nest (Live []) (pieces true 0 ts) s) q)
-    (sym (mean_resumes (wider rules depth most define tokens) nest' us (roomier sources more s)))
-    (resume-agrees rules depth most define tokens more nest nest' w h (pieces true 0 ts) (pieces true 0 us)
-    (pieces-torn true ts us (w.texts text) true 0 tt) (Live []) sources s))
-
--- included texts agree where more sources may be opened
-nest-agrees : (rules : Rules) (depth most : ℕ) (define : List Macro → List ℕ → Defined) (tokens : List ℕ → List SourceToken) (more n m : ℕ) → Widens rules depth most define tokens → n ≤ m
-    → NestAgrees more (nest_of rules n) (nest_of (wider rules depth most define tokens) m)
-unfolding nest_of NestAgrees
-nest-agrees rules depth most define tokens more zero m w h = tt
-nest-agrees rules depth most define tokens more (suc n) zero w h = absurd (omega (arith, h))
-nest-agrees rules depth most define tokens more (suc n) (suc m) w h = λ sources s text.
-    mean-agrees rules depth most define tokens sources more (nest_of rules n) (nest_of (wider rules depth most define tokens) m) text s w
-    (nest-agrees rules depth most define tokens more n m w (omega (arith, h)))
-
 -- the bytes and the fault of passages that agree
 outcome-agrees : (more : ℕ) (p q : Passage) → PassageAgrees more p q → NamesNoLimit (outcome p).fault → outcome q ≡ outcome p
 unfolding PassageAgrees outcome
 outcome-agrees more p q h n = let r = h n in ap outcome r.1
 
--- outputs agree, from states that differ in the room that they have
-output-agrees : (rules : Rules) (depth most : ℕ) (define : List Macro → List ℕ → Defined) (tokens : List ℕ → List SourceToken) (macros : List Macro) (sources room conditions more : ℕ) (path : List ℕ) (found : Lookup)
-    → Widens rules depth most define tokens → sources ≤ room
-    → NamesNoLimit (output rules macros sources conditions path found).fault
-    → output (wider rules depth most define tokens) macros room (more + conditions) path found ≡ output rules macros sources conditions path found
-unfolding output text_meaning origin_line start_state
-output-agrees rules depth most define tokens macros sources room conditions more path NoSource w h n = refl
-output-agrees rules depth most define tokens macros sources room conditions more path LongPath w h n = refl
-output-agrees rules depth most define tokens macros sources room conditions more path (Source found text) w h n =
-    let s = start_state macros sources conditions found in
-    outcome-agrees more
-    (behind_bytes (origin_line rules found 1) (mean rules (nest_of rules sources) (parts_of (rules.tokens text)) s))
-    (behind_bytes (origin_line rules found 1) (mean (wider rules depth most define tokens) (nest_of (wider rules depth most define tokens) room) (parts_of (tokens text)) (roomier room more s)))
-    (bytes-agree more (origin_line rules found 1) (mean rules (nest_of rules sources) (parts_of (rules.tokens text)) s)
-    (mean (wider rules depth most define tokens) (nest_of (wider rules depth most define tokens) room) (parts_of (tokens text)) (roomier room more s))
-    (mean-agrees rules depth most define tokens room more (nest_of rules sources) (nest_of (wider rules depth most define tokens) room) text s w
-    (nest-agrees rules depth most define tokens more sources room w h))) n
+-- no list is one with an element
+nothing-more : {A : Type 0} (x : A) (xs : List A) → [] ≡ x ∷ xs → ⊥
+nothing-more x xs e = cc
+
+module _ (rules : Rules) (depth most : ℕ) (define : List Macro → List ℕ → Defined) (tokens : List ℕ → List SourceToken) (w : Widens rules depth most define tokens) (more : ℕ) where
+  -- the rules of larger limits
+  abbrev larger : Rules
+  larger = wider rules depth most define tokens
+
+  -- an included text with its origin lines
+  includes-agree : (sources : ℕ) (within within' : State → List ℕ → Passage) (path text : List ℕ) (c : Command) (s : State)
+      → ((y : ℕ) (t : State) (bytes : List ℕ) → PassageAgrees more (within t bytes) (within' (roomier y more t) bytes))
+      → PassageAgrees more (includes rules within path text c s) (includes larger within' path text c (roomier sources more s))
+  unfolding includes origin_line at_start_of back_in leaves gives
+  includes-agree sources within within' path text c s h =
+      bytes-agree more (origin_line rules path 1) _ _ (on-agrees more _ _ _ _ (h (sources - 1) (at_start_of path s) text)
+      (λ y t. lifted-agrees sources more (leaves (gives (added_end text ++ origin_line rules s.name (shown_line s.shift c.line))) (back_in s t))))
+
+  -- an `include` of what was found
+  found-agrees : (sources : ℕ) (within within' : State → List ℕ → Passage) (found : Lookup) (c : Command) (s : State)
+      → ((y : ℕ) (t : State) (bytes : List ℕ) → PassageAgrees more (within t bytes) (within' (roomier y more t) bytes))
+      → PassageAgrees more (includes_found rules within found c s) (includes_found larger within' found c (roomier sources more s))
+  unfolding includes_found
+  found-agrees sources within within' NoSource c s h = refusal-agrees sources more SourceNotFound [] c s
+  found-agrees sources within within' LongPath c s h = refusal-agrees sources more PathTooLong [] c s
+  found-agrees sources within within' (Source path text) c s h = includes-agree sources within within' path text c s h
+
+  -- a `line`
+  line-agrees : (sources : ℕ) (r : Option Renumbered) (c : Command) (s : State) → PassageAgrees more (renumbers rules r c s) (renumbers larger r c (roomier sources more s))
+  unfolding renumbers origin_line leaves gives refusal fails fault_at
+  line-agrees sources None c s = lifted-agrees sources more (refusal BadLine [] c s)
+  line-agrees sources (Some r) c s =
+      choice-passage more c.first _ _ _ _
+      (lifted-agrees sources more
+      (leaves (gives (line_ends_of c.text ++ origin_line rules r.name r.number)) (record s { name = r.name; shift = record { from = suc c.line; number = r.number } })))
+      (lifted-agrees sources more (refusal BadLine [] c s))
+
+  -- where what is included agrees
+  module _ (nest nest' : Nest) (h : NestAgrees more nest nest') where
+    -- an `include` of a name, by what may be opened
+    nested-agrees : (sources : ℕ) (nest nest' : Nest) (name : List ℕ) (c : Command) (s : State) → NestAgrees more nest nest'
+        → PassageAgrees more
+        (elim nest [ None ↦ refusal TooManyIncludes [] c s | Some within ↦ includes_found rules within (rules.find s.path name) c s ])
+        (elim nest' [
+          | None ↦ refusal TooManyIncludes [] c (roomier sources more s)
+          | Some within ↦ includes_found larger within (rules.find s.path name) c (roomier sources more s)
+        ])
+    unfolding NestAgrees is_limit
+    nested-agrees sources None None name c s h = limit-passage more TooManyIncludes [] c s _ refl
+    nested-agrees sources None (Some within') name c s h = limit-passage more TooManyIncludes [] c s _ refl
+    nested-agrees sources (Some within) None name c s h = absurd h
+    nested-agrees sources (Some within) (Some within') name c s h = found-agrees sources within within' (rules.find s.path name) c s h
+
+    -- an `include` of what it is given
+    given-agrees : (sources : ℕ) (given : Option (List ℕ)) (c : Command) (s : State)
+        → PassageAgrees more (includes_given rules nest given c s) (includes_given larger nest' given c (roomier sources more s))
+    unfolding includes_given includes_named
+    given-agrees sources None c s = refusal-agrees sources more IncludeName [] c s
+    given-agrees sources (Some string) c s =
+        let name = unquoted string in
+        choice-passage more (length name == 0 || not (is_utf8 name)) _ _ _ _ (refusal-agrees sources more IncludeName [] c s)
+        (nested-agrees sources nest nest' name c s h)
+
+    -- a directive by itself, by its word
+    word-agrees : (sources : ℕ) (word : Directive) (given : Option (List ℕ)) (text : List ℕ) (line : ℕ) (first : Bool) (s : State)
+        → let c : Command = record { word = word; given = given; text = text; line = line; first = first } in
+        PassageAgrees more (single rules nest c s) (single larger nest' c (roomier sources more s))
+    unfolding single AllDefined leaves gives
+    word-agrees sources Define given text line first s =
+        define-agrees sources more (record { word = Define; given = given; text = text; line = line; first = first }) s _ _ (w.defines s.macros (drop 7 text))
+    word-agrees sources Undef given text line first s =
+        let c : Command = record { word = Undef; given = given; text = text; line = line; first = first } in
+        undef-agrees sources more c s (macro_name c)
+    word-agrees sources Include given text line first s =
+        given-agrees sources given (record { word = Include; given = given; text = text; line = line; first = first }) s
+    word-agrees sources Line given text line first s =
+        line-agrees sources (renumbered (drop 5 text)) (record { word = Line; given = given; text = text; line = line; first = first }) s
+    word-agrees sources word given text line first s = lifted-agrees sources more (leaves (gives []) s)
+
+    -- a directive by itself
+    single-agrees : (sources : ℕ) (c : Command) (s : State) → PassageAgrees more (single rules nest c s) (single larger nest' c (roomier sources more s))
+    single-agrees sources c s = word-agrees sources c.word c.given c.text c.line c.first s
+
+    -- what resumes agrees from each place and state
+    unfoldable Resumes : List Piece → List Piece → Type 0
+    Resumes ps qs = (place : Place) (sources : ℕ) (s : State) → PassageAgrees more (resume rules nest place ps s) (resume larger nest' place qs (roomier sources more s))
+
+    -- what resumes behind a conditional that is opened
+    conditional-agrees : (ps qs : List Piece) (place : Place) (sources : ℕ) (s : State) (m : ℕ) → Resumes ps qs → s.conditions_left ≡ suc m
+        → PassageAgrees more (resume rules nest place ps (in_conditional s)) (resume larger nest' place qs (in_conditional (roomier sources more s)))
+    unfolding Resumes
+    conditional-agrees ps qs place sources s m r e =
+        subst (λ (t : State). PassageAgrees more (resume rules nest place ps (in_conditional s)) (resume larger nest' place qs t))
+        (sym (in-room sources more s m e)) (r place sources (in_conditional s))
+
+    -- what resumes behind the end of a conditional
+    end-agrees : (ps qs : List Piece) (place : Place) (sources : ℕ) (s : State) → Resumes ps qs
+        → PassageAgrees more (resume rules nest place ps (past_conditional s)) (resume larger nest' place qs (past_conditional (roomier sources more s)))
+    unfolding Resumes
+    end-agrees ps qs place sources s r =
+        subst (λ (t : State). PassageAgrees more (resume rules nest place ps (past_conditional s)) (resume larger nest' place qs t))
+        (sym (past-room sources more s)) (r place sources (past_conditional s))
+
+    -- what resumes behind a passage
+    behind-agrees : (ps qs : List Piece) (place : Place) (p q : Passage) → Resumes ps qs → PassageAgrees more p q
+        → PassageAgrees more (goes_on p (λ after. resume rules nest place ps after)) (goes_on q (λ after. resume larger nest' place qs after))
+    unfolding Resumes
+    behind-agrees ps qs place p q r h = on-agrees more p q _ _ h (λ sources t. r place sources t)
+
+    -- at the end of a file
+    ends-agree : (place : Place) (sources : ℕ) (s : State) → PassageAgrees more (resume rules nest place [] s) (resume larger nest' place [] (roomier sources more s))
+    unfolding resume unclosed leaves gives fails
+    ends-agree (Live []) sources s = lifted-agrees sources more (leaves (gives []) s)
+    ends-agree (Live (o ∷ os)) sources s = lifted-agrees sources more (unclosed o s)
+    ends-agree (Skipped n o os) sources s = lifted-agrees sources more (unclosed o s)
+
+    -- a directive that opens a conditional in live text
+    opened-agrees : (c : Command) (ps qs : List Piece) → Resumes ps qs → (os : List Progress) (sources : ℕ) (s : State)
+        → PassageAgrees more (resume rules nest (Live os) (Opening c ∷ ps) s) (resume larger nest' (Live os) (Opening c ∷ qs) (roomier sources more s))
+    unfolding resume begun
+    opened-agrees c ps qs r os sources s =
+        opening-agrees sources more c s _ _ _ _
+        (λ m e. conditional-agrees ps qs (Live (begun c s true ∷ os)) sources s m r e) (λ m e. conditional-agrees ps qs (Skipped 0 (begun c s false) os) sources s m r e)
+
+    -- a branch of an open conditional
+    branched-agrees : (c : Command) (ps qs : List Piece) → Resumes ps qs → (o : Progress) (os : List Progress) (sources : ℕ) (s : State)
+        → PassageAgrees more (resume rules nest (Live (o ∷ os)) (Branching c ∷ ps) s) (resume larger nest' (Live (o ∷ os)) (Branching c ∷ qs) (roomier sources more s))
+    unfolding resume Resumes
+    branched-agrees c ps qs r o os sources s =
+        turn-agrees sources more o c s _ _ _ _ (r (Live (turned o c true ∷ os)) sources s) (r (Skipped 0 (turned o c false) os) sources s)
+
+    -- a piece in front
+    piece-agrees : (p : Piece) (ps qs : List Piece) → Resumes ps qs → (place : Place) (sources : ℕ) (s : State)
+        → PassageAgrees more (resume rules nest place (p ∷ ps) s) (resume larger nest' place (p ∷ qs) (roomier sources more s))
+    unfolding resume skipped_command
+    piece-agrees (Run ts) ps qs r (Live os) sources s =
+        behind-agrees ps qs (Live os) _ _ r (leaves-agrees sources more s _ _ (run-agrees rules larger s sources more w.bytes ts w.depths))
+    piece-agrees (Single c) ps qs r (Live os) sources s = behind-agrees ps qs (Live os) _ _ r (single-agrees sources c s)
+    piece-agrees (Opening c) ps qs r (Live os) sources s = opened-agrees c ps qs r os sources s
+    piece-agrees (Branching c) ps qs r (Live []) sources s = refusal-agrees sources more StrayBranch [] c s
+    piece-agrees (Branching c) ps qs r (Live (o ∷ os)) sources s = branched-agrees c ps qs r o os sources s
+    piece-agrees (Closing c) ps qs r (Live []) sources s = refusal-agrees sources more StrayBranch [] c s
+    piece-agrees (Closing c) ps qs r (Live (o ∷ os)) sources s = end-agrees ps qs (Live os) sources s r
+    piece-agrees (Run ts) ps qs r (Skipped n o os) sources s =
+        behind-agrees ps qs (Skipped n o os) _ _ r (leaves-agrees sources more s _ _ (skip-agrees sources more s ts))
+    piece-agrees (Single c) ps qs r (Skipped n o os) sources s = behind-agrees ps qs (Skipped n o os) _ _ r (leaves-same sources more s (skipped_command c))
+    piece-agrees (Opening c) ps qs r (Skipped n o os) sources s = behind-agrees ps qs (Skipped (suc n) o os) _ _ r (leaves-same sources more s (skipped_command c))
+    piece-agrees (Branching c) ps qs r (Skipped (suc n) o os) sources s =
+        behind-agrees ps qs (Skipped (suc n) o os) _ _ r (leaves-same sources more s (skipped_command c))
+    piece-agrees (Branching c) ps qs r (Skipped zero o os) sources s = branched-agrees c ps qs r o os sources s
+    piece-agrees (Closing c) ps qs r (Skipped (suc n) o os) sources s = behind-agrees ps qs (Skipped n o os) _ _ r (leaves-same sources more s (skipped_command c))
+    piece-agrees (Closing c) ps qs r (Skipped zero o os) sources s = end-agrees ps qs (Live os) sources s r
+
+    -- a run that is torn behind its first token, from each place
+    later-torn : (xs : List SourceToken) (b : Breach) (bytes : List ℕ) (line : ℕ) (us : List SourceToken) (qs : List Piece)
+        → is_limit (breach_kind b) ≡ true → TornBy token_role (token_role (record { sort = Broken b; bytes = bytes; line = line })) us
+        → (place : Place) (sources : ℕ) (s : State)
+        → PassageAgrees more (resume rules nest place (Run (xs ++ record { sort = Broken b; bytes = bytes; line = line } ∷ []) ∷ []) s)
+        (resume larger nest' place (Run (xs ++ us) ∷ qs) (roomier sources more s))
+    unfolding resume
+    later-torn xs b bytes line us qs limit torn (Live os) sources s =
+        faulty-agrees sources more _ _ s _ _ (run-torn rules larger s sources more w.bytes xs b bytes line us w.depths limit torn)
+    later-torn xs b bytes line us qs limit torn (Skipped n o os) sources s =
+        faulty-agrees sources more _ _ s _ _ (skip-torn sources more s xs b bytes line us limit)
+
+    -- a run that is torn, by the tokens before and by the pieces of larger limits
+    torn-by : (xs : List SourceToken) (b : Breach) (bytes : List ℕ) (line : ℕ) (us : List SourceToken) (qs : List Piece) → run_front qs ≡ xs ++ us
+        → is_limit (breach_kind b) ≡ true → TornBy token_role (token_role (record { sort = Broken b; bytes = bytes; line = line })) us
+        → (place : Place) (sources : ℕ) (s : State)
+        → PassageAgrees more (resume rules nest place (Run (xs ++ record { sort = Broken b; bytes = bytes; line = line } ∷ []) ∷ []) s)
+        (resume larger nest' place qs (roomier sources more s))
+    unfolding run_front
+    torn-by [] b bytes line us qs e limit torn place sources s = first-torn rules nest more place b bytes line s _ limit
+    torn-by (x ∷ xs) b bytes line us (Run vs ∷ qs) e limit torn place sources s =
+        subst (λ (ts : List SourceToken). PassageAgrees more (resume rules nest place (Run (x ∷ (xs ++ record { sort = Broken b; bytes = bytes; line = line } ∷ [])) ∷ []) s)
+        (resume larger nest' place (Run ts ∷ qs) (roomier sources more s))) (sym e)
+        (later-torn (x ∷ xs) b bytes line us qs limit torn place sources s)
+    torn-by (x ∷ xs) b bytes line us [] e limit torn place sources s = absurd (nothing-more x (xs ++ us) e)
+    torn-by (x ∷ xs) b bytes line us (Single c ∷ qs) e limit torn place sources s = absurd (nothing-more x (xs ++ us) e)
+    torn-by (x ∷ xs) b bytes line us (Opening c ∷ qs) e limit torn place sources s = absurd (nothing-more x (xs ++ us) e)
+    torn-by (x ∷ xs) b bytes line us (Branching c ∷ qs) e limit torn place sources s = absurd (nothing-more x (xs ++ us) e)
+    torn-by (x ∷ xs) b bytes line us (Closing c ∷ qs) e limit torn place sources s = absurd (nothing-more x (xs ++ us) e)
+
+    -- a run that is torn
+    run-ends : (p : Piece) (ps qs : List Piece) → EndsTorn p ps qs → Resumes (p ∷ ps) qs
+    unfolding Resumes
+    run-ends p ps qs e = λ place sources s.
+        let t : SourceToken = record { sort = Broken e.breach; bytes = e.bytes; line = e.line } in
+        let last = resume larger nest' place qs (roomier sources more s) in
+        subst (λ (x : Piece). PassageAgrees more (resume rules nest place (x ∷ ps) s) last) (sym e.piece)
+        (subst (λ (xs : List Piece). PassageAgrees more (resume rules nest place (Run (e.before ++ t ∷ []) ∷ xs) s) last) (sym e.last)
+        (torn-by e.before e.breach e.bytes e.line e.behind qs e.front e.limit e.torn place sources s))
+
+    -- what resumes agrees
+    resume-agrees : (ps qs : List Piece) → PiecesTorn ps qs → Resumes ps qs
+    unfolding Resumes PiecesTorn
+    resume-agrees [] qs r = λ place sources s.
+        subst (λ (xs : List Piece). PassageAgrees more (resume rules nest place [] s) (resume larger nest' place xs (roomier sources more s))) (sym r) (ends-agree place sources s)
+    resume-agrees (p ∷ ps) qs (inl e) = run-ends p ps qs e
+    resume-agrees (p ∷ ps) qs (inr (rest, e, r)) = λ place sources s.
+        subst (λ (xs : List Piece). PassageAgrees more (resume rules nest place (p ∷ ps) s) (resume larger nest' place xs (roomier sources more s))) (sym e)
+        (piece-agrees p ps rest (resume-agrees ps rest r) place sources s)
+
+    -- what a text means agrees
+    mean-agrees : (sources : ℕ) (s : State) (text : List ℕ)
+        → PassageAgrees more (mean rules nest (parts_of (rules.tokens text)) s) (mean larger nest' (parts_of (tokens text)) (roomier sources more s))
+    unfolding Resumes FirstUnbroken
+    mean-agrees sources s text =
+        let ts = rules.tokens text in
+        let us = tokens text in
+        subst (λ (p : Passage). PassageAgrees more p (mean larger nest' (parts_of us) (roomier sources more s))) (sym (mean_resumes rules nest ts s))
+        (subst (λ (q : Passage). PassageAgrees more (resume rules nest (Live []) (pieces true 0 ts) s) q) (sym (mean_resumes larger nest' us (roomier sources more s)))
+        (resume-agrees (pieces true 0 ts) (pieces true 0 us) (pieces-torn true ts us (w.texts text) true 0 tt) (Live []) sources s))
+
+  -- included texts agree where more sources may be opened
+  nest-agrees : (n m : ℕ) → n ≤ m → NestAgrees more (nest_of rules n) (nest_of larger m)
+  unfolding nest_of NestAgrees
+  nest-agrees zero m h = tt
+  nest-agrees (suc n) zero h = absurd (omega (arith, h))
+  nest-agrees (suc n) (suc m) h = mean-agrees (nest_of rules n) (nest_of larger m) (nest-agrees n m (omega (arith, h)))
+
+  -- outputs agree, from states that differ in the room that they have
+  output-agrees : (macros : List Macro) (sources room conditions : ℕ) (path : List ℕ) (found : Lookup) → sources ≤ room
+      → NamesNoLimit (output rules macros sources conditions path found).fault
+      → output larger macros room (more + conditions) path found ≡ output rules macros sources conditions path found
+  unfolding output text_meaning origin_line start_state
+  output-agrees macros sources room conditions path NoSource h n = refl
+  output-agrees macros sources room conditions path LongPath h n = refl
+  output-agrees macros sources room conditions path (Source found text) h n =
+      outcome-agrees more _ _
+      (bytes-agree more (origin_line rules found 1) _ _
+      (mean-agrees (nest_of rules sources) (nest_of larger room) (nest-agrees sources room h) room (start_state macros sources conditions found) text)) n
 
 -- a choice of what a `define` comes to, where a first fault is of a limit
 limited-agrees : (kind : FaultKind) (word : List ℕ) (small large : Bool) (u v : Defined) → is_limit kind ≡ true
@@ -723,13 +598,13 @@ larger_output small large find origins macros path found l n =
     ap (λ (r : Rules). output r macros large.includes large.conditions path found) (rules-wider small large find origins)
     ∙ ap (λ (k : ℕ). output (wider rules large.depth large.argument_bytes define tokens) macros large.includes k path found)
     (difference small.conditions large.conditions l.conditions)
-    ∙ output-agrees rules large.depth large.argument_bytes define tokens macros small.includes large.includes small.conditions more path found
+    ∙ output-agrees rules large.depth large.argument_bytes define tokens
     (record {
       depths = l.depth;
       bytes = l.argument_bytes;
       defines = all-defined small.definition_bytes small.definitions large.definition_bytes large.definitions l.definition_bytes l.definitions;
       texts = λ text. sources-torn small.line_bytes large.line_bytes small.source_bytes large.source_bytes text l.line_bytes l.source_bytes;
-    }) l.includes n
+    }) more macros small.includes large.includes small.conditions path found l.includes n
   where
     difference : (a b : ℕ) → a ≤ b → b ≡ (b - a) + a
     difference a b h = omega (arith, h)

@@ -4,7 +4,7 @@ use Rattle.std.specs.Prelude.{unwrap_or}
 use Rattle.std.proofs.lemmas.List.{append-nil, map-append}
 use Rattle.rdlpp_scan.specs.declared.token.Kind.TheVariants.{Back, BareBackquote}
 use Rattle.rdlpp_scan.specs.Front.{Breach}
-use Rattle.rdlpp_scan.specs.SourceTokens.{SourceToken, Sort, Ordinary, Definition, Renumbering, Broken}
+use Rattle.rdlpp_scan.specs.SourceTokens.{SourceToken, Sort, Ordinary, Broken}
 use Rattle.rdlpp_meaning.specs.State.{Rules, State, fault_at, breach_kind}
 use Rattle.rdlpp_meaning.specs.Items.{Item, Written, Arg, listed}
 use Rattle.rdlpp_meaning.specs.Actuals.{item_reads, item_role, token_role}
@@ -191,30 +191,33 @@ module _ (rules large : Rules) (s : State) (sources more : ℕ) (bytes : rules.a
       (expand-torn (Written t ∷ []) (map Written us) Unit (torn-written (token_role t) us torn) rules.depth large.depth (deeper-agrees rules.depth large.depth k) None []
       (torn-along Unit _ _ _ _ (expand_broken rules s rules.depth None [] b own line) refl (limit-torn own (fault_at (breach_kind b) line [] s) _ limit)) (map Written xs))
 
--- skipped tokens of which the last is torn, by what the first is
-skip-by : (sources more : ℕ) (s : State) (sort : Sort) (bytes : List ℕ) (line : ℕ) (ts us : List SourceToken)
-    → TornAgrees Unit (skipped_run s ts) (skipped_run (roomier sources more s) us)
-    → TornAgrees Unit (skipped_run s (record { sort = sort; bytes = bytes; line = line } ∷ ts))
+-- skipped tokens, of which the last may be torn, by what the first is
+skip-by : (torn : Type 0) (sources more : ℕ) (s : State) (sort : Sort) (bytes : List ℕ) (line : ℕ) (ts us : List SourceToken)
+    → TornAgrees torn (skipped_run s ts) (skipped_run (roomier sources more s) us)
+    → TornAgrees torn (skipped_run s (record { sort = sort; bytes = bytes; line = line } ∷ ts))
     (skipped_run (roomier sources more s) (record { sort = sort; bytes = bytes; line = line } ∷ us))
 unfolding skipped_run fault_at IsFault and_then gives fails
-skip-by sources more s (Broken b) bytes line ts us h =
-    record { faulty = λ p. tt; agrees = agrees-same (skipped_run s (record { sort = Broken b; bytes = bytes; line = line } ∷ ts)) }
-skip-by sources more s (Ordinary k) bytes line ts us h =
-    then-torn Unit (gives (line_ends_of bytes)) (gives (line_ends_of bytes)) (skipped_run s ts) (skipped_run (roomier sources more s) us)
-    (agrees-same (gives (line_ends_of bytes))) h
-skip-by sources more s Definition bytes line ts us h =
-    then-torn Unit (gives (line_ends_of bytes)) (gives (line_ends_of bytes)) (skipped_run s ts) (skipped_run (roomier sources more s) us)
-    (agrees-same (gives (line_ends_of bytes))) h
-skip-by sources more s Renumbering bytes line ts us h =
-    then-torn Unit (gives (line_ends_of bytes)) (gives (line_ends_of bytes)) (skipped_run s ts) (skipped_run (roomier sources more s) us)
-    (agrees-same (gives (line_ends_of bytes))) h
+skip-by torn sources more s (Broken b) bytes line ts us h = record { faulty = λ p. tt; agrees = agrees-same _ }
+skip-by torn sources more s sort bytes line ts us h =
+    then-torn torn (gives (line_ends_of bytes)) (gives (line_ends_of bytes)) _ _ (agrees-same (gives (line_ends_of bytes))) h
+
+-- skipped tokens in front of an end that agrees
+skips : (torn : Type 0) (sources more : ℕ) (s : State) (ys zs : List SourceToken) → TornAgrees torn (skipped_run s ys) (skipped_run (roomier sources more s) zs)
+    → (xs : List SourceToken) → TornAgrees torn (skipped_run s (xs ++ ys)) (skipped_run (roomier sources more s) (xs ++ zs))
+skips torn sources more s ys zs h [] = h
+skips torn sources more s ys zs h (x ∷ xs) = skip-by torn sources more s x.sort x.bytes x.line (xs ++ ys) (xs ++ zs) (skips torn sources more s ys zs h xs)
+
+-- skipped tokens agree
+pub skip-agrees : (sources more : ℕ) (s : State) (ts : List SourceToken) → Agrees (skipped_run s ts) (skipped_run (roomier sources more s) ts)
+unfolding skipped_run
+skip-agrees sources more s ts =
+    subst (λ (us : List SourceToken). Agrees (skipped_run s us) (skipped_run (roomier sources more s) us)) (append-nil ts)
+    (skips ⊥ sources more s [] [] (record { faulty = λ p. absurd p; agrees = agrees-same (gives []) }) ts).agrees
 
 -- skipped tokens of which the last is torn
 pub skip-torn : (sources more : ℕ) (s : State) (xs : List SourceToken) (b : Breach) (bytes : List ℕ) (line : ℕ) (us : List SourceToken)
     → is_limit (breach_kind b) ≡ true
     → TornAgrees Unit (skipped_run s (xs ++ record { sort = Broken b; bytes = bytes; line = line } ∷ [])) (skipped_run (roomier sources more s) (xs ++ us))
-unfolding skipped_run fault_at IsFault and_then gives fails Agrees
-skip-torn sources more s [] b bytes line us limit = record { faulty = λ p. tt; agrees = λ n. absurd (true≢false (sym limit ∙ n)) }
-skip-torn sources more s (x ∷ xs) b bytes line us limit =
-    skip-by sources more s x.sort x.bytes x.line (xs ++ record { sort = Broken b; bytes = bytes; line = line } ∷ []) (xs ++ us)
-    (skip-torn sources more s xs b bytes line us limit)
+unfolding skipped_run fault_at
+skip-torn sources more s xs b bytes line us limit =
+    skips Unit sources more s (record { sort = Broken b; bytes = bytes; line = line } ∷ []) us (limit-torn (line_ends_of bytes) (fault_at (breach_kind b) line [] s) _ limit) xs
