@@ -1,5 +1,5 @@
 -- The tokens of a text with smaller and with larger limits of lines and sources: the same, or torn by the smaller ones.
-use Rattle.std.proofs.Common.{◌≡◌, ℕ, zero, suc, ◌+◌, ◌-◌, ◌<◌, ◌≤◌, ◌⊎◌, inl, inr, Bool, true, false, true≢false, List, [], ◌∷◌, ◌++◌, length, take, drop, refl, sym, ap, subst, ◌∙◌, arith, append-nil, append_assoc, Option, None, Some}
+use Rattle.std.proofs.Common.{◌≡◌, ℕ, zero, suc, ◌+◌, ◌-◌, ◌<◌, ◌≤◌, ◌⊎◌, ⊎_elim, inl, inr, Bool, true, false, true≢false, List, [], ◌∷◌, ◌++◌, length, take, drop, refl, sym, ap, subst, ◌∙◌, arith, append-nil, append_assoc, Option, None, Some}
 use Rattle.std.specs.Prelude.{if◌then◌else◌, ◌==◌, nat_lt, slice_index}
 use Rattle.std.specs.List.{list_any}
 use Rattle.std.proofs.Math.Seq.{take-length, take-append-add}
@@ -22,12 +22,11 @@ use Rattle.rdlpp_scan.proofs.TokenSteps.{next_held}
 use Rattle.rdlpp_scan.proofs.TokenLens.{token_of-part}
 use Rattle.rdlpp_scan.proofs.StopKinds.{Row, AtPerl, AtLineComment, AtBlockComment, AtString, AtBack, AtBare, AtPlain, token_of-row, string_token-kind, block_token-kind}
 use Rattle.rdlpp_scan.proofs.Seams.{Seam, Closed, BeforePerl, OpenString, OpenComment, longer, token_of-seam, IsCut-from_line}
-use Rattle.rdlpp_meaning.specs.State.{breach_kind}
-use Rattle.rdlpp_meaning.specs.Actuals.{token_role, broken_role}
-use Rattle.rdlpp_meaning.specs.LimitLaws.{is_limit}
+use Rattle.rdlpp_meaning.specs.Actuals.{Role, token_role}
+use Rattle.rdlpp_meaning.specs.Resumed.{leading}
 use Rattle.rdlpp_meaning.proofs.TornCalls.{TornBy}
 use Rattle.rdlpp_meaning.proofs.TornPieces.{ends_line, TokensTorn}
-use Rattle.rdlpp_meaning.proofs.TornTokens.{step_head, StepTorn, Goes, Stays, Tears, IsBreakOfLimit, Ends, unpassed, ends-line, IsShort, plain-short, closed-torn, IsOwnBreak, has_line_end, string-head, comment-head, tears-string, tears-comment}
+use Rattle.rdlpp_meaning.proofs.TornTokens.{step_head, StepTorn, Goes, Stays, Tears, IsBreakOfLimit, Ends, ends-by, unpassed, ends-line, IsShort, plain-short, closed-torn, limit-broken, limit-breach, IsOwnBreak, has_line_end, string-head, comment-head, tears-string, tears-comment}
 
 -- a string begins with a quote
 pub row-string : (bs : List ℕ) (t : Token) → Row bs t → t.kind ≡ Str → (slice_index bs 0 == 34) ≡ true
@@ -142,26 +141,18 @@ open-string-torn : (most most' : ℕ) (k k' : Option Break) (line : ℕ) (b : �
     → token_of Plain ((b ∷ bs) ++ more) ≡ longer (length (b ∷ bs)) (string_token 0 more)
     → StepTorn (b ∷ bs) (step_by (record { most = most; break = k }) line line (record { kind = Str; len = length (b ∷ bs); next_mode = InStr }) (b ∷ bs))
     (step_by (record { most = most'; break = k' }) line line (token_of Plain ((b ∷ bs) ++ more)) ((b ∷ bs) ++ more))
-unfolding step_by IsBreakOfLimit
-open-string-torn most most' k k' line b bs more (inl h) own is e =
-    let held = b ∷ bs in
-    let same : held ++ more ≡ held = ap (λ (m : List ℕ). held ++ m) h.0 ∙ append-nil held in
-    let small : Option Break → Step = λ x. step_by (record { most = most; break = x }) line line (record { kind = Str; len = length held; next_mode = InStr }) held in
-    subst (λ (x : Option Break). StepTorn held (small x) (step_by (record { most = most'; break = k' }) line line (token_of Plain (held ++ more)) (held ++ more))) (sym h.1)
-    (subst (λ (x : Option Break). StepTorn held (small None) (step_by (record { most = most'; break = x }) line line (token_of Plain (held ++ more)) (held ++ more))) (sym h.2)
-    (subst (λ (xs : List ℕ). StepTorn held (small None) (step_by (record { most = most'; break = None }) line line (token_of Plain xs) xs)) (sym same)
-    (subst (λ (t : Token). StepTorn held (small None) (step_by (record { most = most'; break = None }) line line t held)) (sym is)
-    (string-end most most' line held))))
-open-string-torn most most' None k' line b bs more (inr h) own is e = absurd h.1
-open-string-torn most most' (Some j) k' line b bs more (inr h) own is e =
+unfolding step_by
+open-string-torn most most' k k' line b bs more ends own is e =
     let held = b ∷ bs in
     let v = string_token 0 more in
-    let c' : Course = record { most = most'; break = k' } in
-    let small = step_by (record { most = most; break = Some j }) line line (record { kind = Str; len = length held; next_mode = InStr }) held in
-    subst (λ (t : Token). StepTorn held small (step_by c' line line t (held ++ more))) (sym e)
-    (subst (λ (x : Kind). StepTorn held small (step_by c' line line (record { kind = x; len = length held + v.len; next_mode = v.next_mode }) (held ++ more))) (sym (string_token-kind 0 more))
-    (string-torn most most' j k' line v.len v.next_mode b bs more h.1 own h.0
-    (row-string held (token_of Plain held) (token_of-row held) (ap (λ (t : Token). t.kind) is))))
+    let small : Option Break → Step = λ x. step_by (record { most = most; break = x }) line line (record { kind = Str; len = length held; next_mode = InStr }) held in
+    let large : Option Break → Token → List ℕ → Step = λ x t. step_by (record { most = most'; break = x }) line line t in
+    ends-by (λ text x y. StepTorn held (small x) (large y (token_of Plain text) text)) held more k k' ends
+    (subst (λ (t : Token). StepTorn held (small None) (large None t held)) (sym is) (string-end most most' line held))
+    (λ j w limit. subst (λ (t : Token). StepTorn held (small (Some j)) (large k' t (held ++ more))) (sym e)
+    (subst (λ (x : Kind). StepTorn held (small (Some j)) (large k' (record { kind = x; len = length held + v.len; next_mode = v.next_mode }) (held ++ more))) (sym (string_token-kind 0 more))
+    (string-torn most most' j k' line v.len v.next_mode b bs more limit own w
+    (row-string held (token_of Plain held) (token_of-row held) (ap (λ (t : Token). t.kind) is)))))
 
 -- a comment that is open where the text ends, by what is behind it
 open-comment-torn : (most most' : ℕ) (k k' : Option Break) (line : ℕ) (held more : List ℕ)
@@ -170,24 +161,17 @@ open-comment-torn : (most most' : ℕ) (k k' : Option Break) (line : ℕ) (held 
     → token_of Plain (held ++ more) ≡ longer (length held) (block_token 0 more)
     → StepTorn held (step_by (record { most = most; break = k }) line line (record { kind = BlockComment; len = length held; next_mode = InBlock }) held)
     (step_by (record { most = most'; break = k' }) line line (token_of Plain (held ++ more)) (held ++ more))
-unfolding step_by IsBreakOfLimit
-open-comment-torn most most' k k' line held more (inl h) own is e =
-    let same : held ++ more ≡ held = ap (λ (m : List ℕ). held ++ m) h.0 ∙ append-nil held in
-    let small : Option Break → Step = λ x. step_by (record { most = most; break = x }) line line (record { kind = BlockComment; len = length held; next_mode = InBlock }) held in
-    subst (λ (x : Option Break). StepTorn held (small x) (step_by (record { most = most'; break = k' }) line line (token_of Plain (held ++ more)) (held ++ more))) (sym h.1)
-    (subst (λ (x : Option Break). StepTorn held (small None) (step_by (record { most = most'; break = x }) line line (token_of Plain (held ++ more)) (held ++ more))) (sym h.2)
-    (subst (λ (xs : List ℕ). StepTorn held (small None) (step_by (record { most = most'; break = None }) line line (token_of Plain xs) xs)) (sym same)
-    (subst (λ (t : Token). StepTorn held (small None) (step_by (record { most = most'; break = None }) line line t held)) (sym is)
-    (comment-end most most' line held))))
-open-comment-torn most most' None k' line held more (inr h) own is e = absurd h.1
-open-comment-torn most most' (Some j) k' line held more (inr h) own is e =
+unfolding step_by
+open-comment-torn most most' k k' line held more ends own is e =
     let v = block_token 0 more in
-    let c' : Course = record { most = most'; break = k' } in
-    let small = step_by (record { most = most; break = Some j }) line line (record { kind = BlockComment; len = length held; next_mode = InBlock }) held in
-    subst (λ (t : Token). StepTorn held small (step_by c' line line t (held ++ more))) (sym e)
-    (subst (λ (x : Kind). StepTorn held small (step_by c' line line (record { kind = x; len = length held + v.len; next_mode = v.next_mode }) (held ++ more))) (sym (block_token-kind 0 more))
-    (comment-torn most most' j k' line (length held + v.len) v.next_mode held more h.1
-    (comment-quote held (row-comment held (token_of Plain held) (token_of-row held) (ap (λ (t : Token). t.kind) is)))))
+    let small : Option Break → Step = λ x. step_by (record { most = most; break = x }) line line (record { kind = BlockComment; len = length held; next_mode = InBlock }) held in
+    let large : Option Break → Token → List ℕ → Step = λ x t. step_by (record { most = most'; break = x }) line line t in
+    ends-by (λ text x y. StepTorn held (small x) (large y (token_of Plain text) text)) held more k k' ends
+    (subst (λ (t : Token). StepTorn held (small None) (large None t held)) (sym is) (comment-end most most' line held))
+    (λ j w limit. subst (λ (t : Token). StepTorn held (small (Some j)) (large k' t (held ++ more))) (sym e)
+    (subst (λ (x : Kind). StepTorn held (small (Some j)) (large k' (record { kind = x; len = length held + v.len; next_mode = v.next_mode }) (held ++ more))) (sym (block_token-kind 0 more))
+    (comment-torn most most' j k' line (length held + v.len) v.next_mode held more limit
+    (comment-quote held (row-comment held (token_of Plain held) (token_of-row held) (ap (λ (t : Token). t.kind) is))))))
 
 -- a token that closes is one that is closed
 closed-is : (t : Token) → t.next_mode ≡ Plain → t ≡ record { kind = t.kind; len = t.len; next_mode = Plain }
@@ -271,23 +255,19 @@ end-torn : (most most' : ℕ) (k k' : Option Break) (ended : Bool) (o l : ℕ) (
     → (ended ≡ false → IsBreakOfLimit k → ⊥)
     → TokensTorn ended (source_tokens (record { most = most; break = k }) Plain o l 0 [])
     (source_tokens (record { most = most'; break = k' }) Plain o l 0 more)
-unfolding source_tokens source_end TokensTorn IsBreakOfLimit TornBy token_role broken_role breach_kind is_limit
-end-torn most most' k k' ended o l more (inl h) not_here =
-    subst (λ (x : Option Break). TokensTorn ended (source_tokens (record { most = most; break = x }) Plain o l 0 [])
-    (source_tokens (record { most = most'; break = k' }) Plain o l 0 more)) (sym h.1)
-    (subst (λ (x : Option Break). TokensTorn ended (source_tokens (record { most = most; break = None }) Plain o l 0 [])
-    (source_tokens (record { most = most'; break = x }) Plain o l 0 more)) (sym h.2)
-    (subst (λ (xs : List ℕ). TokensTorn ended (source_tokens (record { most = most; break = None }) Plain o l 0 [])
-    (source_tokens (record { most = most'; break = None }) Plain o l 0 xs)) (sym h.0) refl))
-end-torn most most' None k' ended o l more (inr h) not_here = absurd h.1
-end-torn most most' (Some j) k' ended o l more (inr (w, inl e)) not_here =
-    let us = source_tokens (record { most = most'; break = k' }) Plain o l 0 more in
-    subst (λ (x : Breach). TokensTorn ended (record { sort = Broken x; bytes = []; line = l } ∷ []) us) (sym e)
-    (inl (record { breach = LineLong; broken = refl; last = refl; limit = refl; torn = refl; nothing = λ f. absurd (not_here f (inl e)) }))
-end-torn most most' (Some j) k' ended o l more (inr (w, inr e)) not_here =
-    let us = source_tokens (record { most = most'; break = k' }) Plain o l 0 more in
-    subst (λ (x : Breach). TokensTorn ended (record { sort = Broken x; bytes = []; line = l } ∷ []) us) (sym e)
-    (inl (record { breach = SourceLong; broken = refl; last = refl; limit = refl; torn = refl; nothing = λ f. absurd (not_here f (inr e)) }))
+unfolding source_tokens source_end TokensTorn IsBreakOfLimit TornBy token_role
+end-torn most most' k k' ended o l more ends =
+    let small : Option Break → List SourceToken = λ x. source_tokens (record { most = most; break = x }) Plain o l 0 [] in
+    let large : Option Break → List ℕ → List SourceToken = λ x text. source_tokens (record { most = most'; break = x }) Plain o l 0 text in
+    ends-by (λ text x y. (ended ≡ false → IsBreakOfLimit x → ⊥) → TokensTorn ended (small x) (large y text)) [] more k k' ends (λ not_here. refl)
+    (λ j w limit not_here. inl (record {
+      breach = j.breach;
+      broken = refl;
+      last = refl;
+      limit = limit-breach j.breach limit;
+      torn = subst (λ (r : Role). TornBy token_role r (leading (large k' more))) (sym (limit-broken j.breach [] l false limit refl)) (limit-breach j.breach limit);
+      nothing = λ f. absurd (not_here f limit);
+    }))
 
 -- a flag that a line ends holds where a limit breaks off at once
 abbrev Flagged : Bool → List ℕ → Option Break → Type 0
@@ -360,8 +340,7 @@ text-torn most most' k k' more le own (suc fuel) ended o l (b ∷ bs) fits ends 
 -- lines of which each but the last ends in LF
 unfoldable AreLines : List (List ℕ) → Type 0
 AreLines [] = Unit
-AreLines (l ∷ []) = 0 < length l
-AreLines (l ∷ m ∷ ls) = (0 < length l) × IsWholeLines l × AreLines (m ∷ ls)
+AreLines (l ∷ ls) = (0 < length l) × (IsWholeLines l ⊎ (ls ≡ [])) × AreLines ls
 
 -- a byte in front of whole lines
 whole-cons : (b : ℕ) (l : List ℕ) → 0 < length l → IsWholeLines l → IsWholeLines (b ∷ l)
@@ -375,15 +354,13 @@ whole-cons b l some h = onto (whole_lines_len l) (length l) some h
 -- an LF in front of lines
 lines-end : (b : ℕ) (ls : List (List ℕ)) → (b == 10) ≡ true → AreLines ls → AreLines ((b ∷ []) ∷ ls)
 unfolding AreLines whole_lines_len onto_whole_lines is_line_end
-lines-end b [] e h = omega arith
-lines-end b (l ∷ ls) e h = (omega arith, ap (λ (x : Bool). if x then 1 else 0) e, h)
+lines-end b ls e h = (omega arith, inl (ap (λ (x : Bool). if x then 1 else 0) e), h)
 
 -- another byte in front of lines
 lines-cons : (b : ℕ) (ls : List (List ℕ)) → AreLines ls → AreLines (onto_first b ls)
 unfolding AreLines onto_first
-lines-cons b [] h = omega arith
-lines-cons b (l ∷ []) h = omega arith
-lines-cons b (l ∷ m ∷ ls) h = (omega arith, whole-cons b l h.0 h.1, h.2)
+lines-cons b [] h = (omega arith, inr refl, tt)
+lines-cons b (l ∷ ls) h = (omega arith, ⊎_elim (λ w. inl (whole-cons b l h.0 w)) (λ none. inr none) h.1, h.2)
 
 -- a byte in front of lines, by whether it is an LF
 lines-by : (b : ℕ) (x : Bool) (ls : List (List ℕ)) → (b == 10) ≡ x → AreLines ls → AreLines (if x then (b ∷ []) ∷ ls else onto_first b ls)
@@ -458,30 +435,21 @@ line-choice false false x' y' l f g i j h line own =
     (subst (λ (q : Bool). FrontTorn (onto_front l f) (large false q)) (sym (j refl)) (front-line l f g h line))
 
 -- no line breaks the front of none
-nothing-breaks : (most room : ℕ) → IsBreakOfLimit (front_of_lines most room []).break → ⊥
+nothing-breaks : (most room : ℕ) (ls : List (List ℕ)) → ls ≡ [] → IsBreakOfLimit (front_of_lines most room ls).break → ⊥
 unfolding IsBreakOfLimit front_of_lines
-nothing-breaks most room h = h
+nothing-breaks most room ls none h = subst (λ (ms : List (List ℕ)). IsBreakOfLimit (front_of_lines most room ms).break) none h
 
 -- the fronts of lines
 fronts-torn : (most most' : ℕ) → most ≤ most' → (ls : List (List ℕ)) → AreLines ls → (room room' : ℕ) → room ≤ room'
     → FrontTorn (front_of_lines most room ls) (front_of_lines most' room' ls)
 unfolding front_of_lines AreLines IsOwnBreak
 fronts-torn most most' le [] h room room' rooms = record { more = []; text = refl; own = tt; ends = inl (refl, refl, refl) }
-fronts-torn most most' le (l ∷ []) h room room' rooms =
+fronts-torn most most' le (l ∷ ls) h room room' rooms =
     line-choice (nat_lt most (length l)) (nat_lt room (length l)) (nat_lt most' (length l)) (nat_lt room' (length l)) l
-    (front_of_lines most (room - length l) []) (front_of_lines most' (room' - length l) [])
+    (front_of_lines most (room - length l) ls) (front_of_lines most' (room' - length l) ls)
     (unpassed most most' (length l) le) (unpassed room room' (length l) rooms)
-    (fronts-torn most most' le [] tt (room - length l) (room' - length l) (less room room' (length l) rooms))
-    (λ limit. absurd (nothing-breaks most (room - length l) limit)) (front-own most' (room' - length l) [])
-  where
-    less : (a b n : ℕ) → a ≤ b → a - n ≤ b - n
-    less a b n e = omega (arith, e)
-fronts-torn most most' le (l ∷ m ∷ ls) h room room' rooms =
-    line-choice (nat_lt most (length l)) (nat_lt room (length l)) (nat_lt most' (length l)) (nat_lt room' (length l)) l
-    (front_of_lines most (room - length l) (m ∷ ls)) (front_of_lines most' (room' - length l) (m ∷ ls))
-    (unpassed most most' (length l) le) (unpassed room room' (length l) rooms)
-    (fronts-torn most most' le (m ∷ ls) h.2 (room - length l) (room' - length l) (less room room' (length l) rooms))
-    (λ limit. h.1) (front-own most' (room' - length l) (m ∷ ls))
+    (fronts-torn most most' le ls h.2 (room - length l) (room' - length l) (less room room' (length l) rooms))
+    (λ limit. ⊎_elim (λ w. w) (λ none. absurd (nothing-breaks most (room - length l) ls none limit)) h.1) (front-own most' (room' - length l) ls)
   where
     less : (a b n : ℕ) → a ≤ b → a - n ≤ b - n
     less a b n e = omega (arith, e)

@@ -54,6 +54,16 @@ IsBreakOfLimit (Some k) = (k.breach ≡ LineLong) ⊎ (k.breach ≡ SourceLong)
 abbrev pub Ends : List ℕ → List ℕ → Option Break → Option Break → Type 0
 Ends held more k k' = ((more ≡ []) × (k ≡ None) × (k' ≡ None)) ⊎ (IsWholeLines held × IsBreakOfLimit k)
 
+-- what holds where both texts end alike, and where a limit ends the first, holds where they end so
+pub ends-by : (P : List ℕ → Option Break → Option Break → Type 0) (held more : List ℕ) (k k' : Option Break) → Ends held more k k' → P held None None
+    → ((j : Break) → IsWholeLines held → (j.breach ≡ LineLong) ⊎ (j.breach ≡ SourceLong) → P (held ++ more) (Some j) k') → P (held ++ more) k k'
+unfolding IsBreakOfLimit
+ends-by P held more k k' (inl h) alike limit =
+    subst (λ (x : Option Break). P (held ++ more) x k') (sym h.1) (subst (λ (x : Option Break). P (held ++ more) None x) (sym h.2)
+    (subst (λ (bs : List ℕ). P bs None None) (sym (ap (λ (m : List ℕ). held ++ m) h.0 ∙ append-nil held)) alike))
+ends-by P held more None k' (inr h) alike limit = absurd h.1
+ends-by P held more (Some j) k' (inr h) alike limit = limit j h.0 h.1
+
 -- the token of a `define`, whole or broken
 IsDefineHead : SourceToken → Type 0
 IsDefineHead t = (t.sort ≡ Definition) ⊎ ((t.sort ≡ Broken DefineLong) ⊎ (t.sort ≡ Broken DefineCut))
@@ -227,20 +237,12 @@ define-torn-by : (most most' : ℕ) (k k' : Option Break) (line : ℕ) (held mor
     → Ends held more k k' → logical_len 0 0 held ≡ o
     → StepTorn held (define_step (record { most = most; break = k }) line held)
     (define_step (record { most = most'; break = k' }) line (held ++ more))
-unfolding IsBreakOfLimit
 define-torn-by most most' k k' line held more (Some n) some le ends e =
     ended-torn most most' k k' line held more n (nat_lt most n) le e refl
-define-torn-by most most' (Some j) k' line held more None some le (inr h) e =
-    cut-torn most most' j k' line held more (nat_lt most (length held + j.len)) e refl
-define-torn-by most most' None k' line held more None some le (inr h) e = absurd h.1
-define-torn-by most most' k k' line held more None some le (inl h) e =
-    subst (λ (x : Option Break). StepTorn held (define_step (record { most = most; break = x }) line held)
-    (define_step (record { most = most'; break = k' }) line (held ++ more))) (sym h.1)
-    (subst (λ (x : Option Break). StepTorn held (define_step (record { most = most; break = None }) line held)
-    (define_step (record { most = most'; break = x }) line (held ++ more))) (sym h.2)
-    (subst (λ (bs : List ℕ). StepTorn held (define_step (record { most = most; break = None }) line held)
-    (define_step (record { most = most'; break = None }) line bs)) (sym (ap (λ (m : List ℕ). held ++ m) h.0 ∙ append-nil held))
-    (last-torn most most' line held (nat_lt most (length held)) some le e refl)))
+define-torn-by most most' k k' line held more None some le ends e =
+    ends-by (λ text x y. StepTorn held (define_step (record { most = most; break = x }) line held) (define_step (record { most = most'; break = y }) line text)) held more k k' ends
+    (last-torn most most' line held (nat_lt most (length held)) some le e refl)
+    (λ j w limit. cut-torn most most' j k' line held more (nat_lt most (length held + j.len)) e refl)
 
 -- a `define`
 pub define-torn : (most most' : ℕ) (k k' : Option Break) (line : ℕ) (held more : List ℕ) → 0 < length held → most ≤ most'
@@ -457,14 +459,23 @@ unfolding IsStringRole
 quote-role true b line e = tt
 quote-role false b line e = absurd (true≢false (sym e))
 
--- the role of a broken string, by what breaks it
-limit-role : (b : Breach) (bytes : List ℕ) (line : ℕ) → (b ≡ LineLong) ⊎ (b ≡ SourceLong) → (slice_index bytes 0 == 34) ≡ true
-    → IsStringRole (broken_role b bytes line)
+-- the role of a token that a limit of lines or sources breaks, by whether it begins with a quote
+pub limit-broken : (b : Breach) (bytes : List ℕ) (line : ℕ) (q : Bool) → (b ≡ LineLong) ⊎ (b ≡ SourceLong) → (slice_index bytes 0 == 34) ≡ q
+    → broken_role b bytes line ≡ (if q then EndsString (breach_kind b) line else Stops (breach_kind b) line)
 unfolding broken_role
-limit-role b bytes line (inl e) q =
-    subst (λ (x : Breach). IsStringRole (broken_role x bytes line)) (sym e) (quote-role (slice_index bytes 0 == 34) LineLong line q)
-limit-role b bytes line (inr e) q =
-    subst (λ (x : Breach). IsStringRole (broken_role x bytes line)) (sym e) (quote-role (slice_index bytes 0 == 34) SourceLong line q)
+limit-broken b bytes line q (inl e) h = rw (e, h) refl
+limit-broken b bytes line q (inr e) h = rw (e, h) refl
+
+-- its fault is that of a limit
+pub limit-breach : (b : Breach) → (b ≡ LineLong) ⊎ (b ≡ SourceLong) → is_limit (breach_kind b) ≡ true
+unfolding breach_kind is_limit
+limit-breach b (inl e) = ap (λ (x : Breach). is_limit (breach_kind x)) e
+limit-breach b (inr e) = ap (λ (x : Breach). is_limit (breach_kind x)) e
+
+-- the role of a broken string
+limit-role : (b : Breach) (bytes : List ℕ) (line : ℕ) → (b ≡ LineLong) ⊎ (b ≡ SourceLong) → (slice_index bytes 0 == 34) ≡ true → IsStringRole (broken_role b bytes line)
+unfolding IsStringRole
+limit-role b bytes line limit q = subst (λ (r : Role). IsStringRole r) (sym (limit-broken b bytes line true limit q)) tt
 
 -- the token of a step has what a string has
 unfoldable pub HeadIsString : Step → Type 0
@@ -530,31 +541,22 @@ comment-head c opened line n Plain bytes = inl refl
 comment-head c opened line n InStr bytes = end-comment c opened line (take n bytes) c.break
 comment-head c opened line n InBlock bytes = end-comment c opened line (take n bytes) c.break
 
--- a torn token that begins with a quote, and one that doesn't
+-- a token that such a limit tears
+tears : (held : List ℕ) (b : Breach) (own : List ℕ) (line : ℕ) (q : Bool) (s s' : Step) → (b ≡ LineLong) ⊎ (b ≡ SourceLong) → (slice_index own 0 == 34) ≡ q
+    → s ≡ broken b own line → Suits (if q then EndsString (breach_kind b) line else Stops (breach_kind b) line) (step_head s') → StepTorn held s s'
+unfolding broken token_role
+tears held b own line q s s' limit quote is suits =
+    Tears (record { sort = Broken b; bytes = own; line = line }) b is refl (limit-breach b limit)
+    (subst (λ (r : Role). Suits r (step_head s')) (sym (limit-broken b own line q limit quote)) suits)
+
+-- one that begins with a quote, and one that doesn't
 pub tears-string : (held : List ℕ) (b : Breach) (own : List ℕ) (line : ℕ) (s s' : Step) → (b ≡ LineLong) ⊎ (b ≡ SourceLong) → (slice_index own 0 == 34) ≡ true
     → s ≡ broken b own line → HeadIsString s' → StepTorn held s s'
-unfolding broken token_role broken_role breach_kind is_limit HeadIsString
-tears-string held b own line s s' (inl e) q is h =
-    Tears (record { sort = Broken LineLong; bytes = own; line = line }) LineLong
-    (is ∙ ap (λ (x : Breach). Last (record { sort = Broken x; bytes = own; line = line })) e) refl refl
-    (subst (λ (x : Bool). Suits (if x then EndsString (breach_kind LineLong) line else Stops (breach_kind LineLong) line) (step_head s')) (sym q)
-    (string-suits-by LineLong line (step_head s').line (step_head s').sort (step_head s').bytes refl h))
-tears-string held b own line s s' (inr e) q is h =
-    Tears (record { sort = Broken SourceLong; bytes = own; line = line }) SourceLong
-    (is ∙ ap (λ (x : Breach). Last (record { sort = Broken x; bytes = own; line = line })) e) refl refl
-    (subst (λ (x : Bool). Suits (if x then EndsString (breach_kind SourceLong) line else Stops (breach_kind SourceLong) line) (step_head s')) (sym q)
-    (string-suits-by SourceLong line (step_head s').line (step_head s').sort (step_head s').bytes refl h))
+unfolding HeadIsString
+tears-string held b own line s s' limit q is h =
+    tears held b own line true s s' limit q is (string-suits-by b line (step_head s').line (step_head s').sort (step_head s').bytes (limit-breach b limit) h)
 
 pub tears-comment : (held : List ℕ) (b : Breach) (own : List ℕ) (line : ℕ) (s s' : Step) → (b ≡ LineLong) ⊎ (b ≡ SourceLong) → (slice_index own 0 == 34) ≡ false
     → s ≡ broken b own line → IsCommentHead (step_head s').sort → StepTorn held s s'
-unfolding broken token_role broken_role breach_kind is_limit
-tears-comment held b own line s s' (inl e) q is h =
-    Tears (record { sort = Broken LineLong; bytes = own; line = line }) LineLong
-    (is ∙ ap (λ (x : Breach). Last (record { sort = Broken x; bytes = own; line = line })) e) refl refl
-    (subst (λ (x : Bool). Suits (if x then EndsString (breach_kind LineLong) line else Stops (breach_kind LineLong) line) (step_head s')) (sym q)
-    (comment-suits-by LineLong line (step_head s').line (step_head s').sort (step_head s').bytes refl h))
-tears-comment held b own line s s' (inr e) q is h =
-    Tears (record { sort = Broken SourceLong; bytes = own; line = line }) SourceLong
-    (is ∙ ap (λ (x : Breach). Last (record { sort = Broken x; bytes = own; line = line })) e) refl refl
-    (subst (λ (x : Bool). Suits (if x then EndsString (breach_kind SourceLong) line else Stops (breach_kind SourceLong) line) (step_head s')) (sym q)
-    (comment-suits-by SourceLong line (step_head s').line (step_head s').sort (step_head s').bytes refl h))
+tears-comment held b own line s s' limit q is h =
+    tears held b own line false s s' limit q is (comment-suits-by b line (step_head s').line (step_head s').sort (step_head s').bytes (limit-breach b limit) h)
