@@ -11,12 +11,12 @@ use Rattle.rdlpp_meaning.specs.Outcome.{fails}
 use Rattle.rdlpp_meaning.specs.State.{Rules, State, fault_at, shown_line}
 use Rattle.rdlpp_meaning.specs.Parts.{Argument, command_in_front, command_of, no_argument, Command}
 use Rattle.rdlpp_meaning.specs.Meaning.{Faulty, Fine, Holds, Progress, Stopped, Test, begun, by_test, in_conditional, is_else, leaves, macro_name, opening, past_conditional, refusal, turn, turned, Checked, is_defined, name_test}
-use Rattle.rdlpp_meaning.specs.Resumed.{Live, Skipped, behind, resumed}
+use Rattle.rdlpp_meaning.specs.Resumed.{Live, Skipped, behind, resumed, resume}
 use Rattle.rdlpp_meaning.specs.Opened.{Waiting}
 use Rattle.rdlpp_meaning.proofs.ConditionalMoves.{branches_conditional, branching_piece, closing_piece, in_branch, opening_piece, opens_conditional}
 use Rattle.rdlpp_meaning.proofs.ConditionalTests.{named_test, opening-faulty, opening-full, opening-held}
 use Rattle.rdlpp_meaning.proofs.DirectiveWords.{has_own_token}
-use Rattle.rdlpp_meaning.proofs.Directives.{live_branching, live_closing, live_opening, live_stray_branch, live_stray_end, skipped_branching, skipped_closing}
+use Rattle.rdlpp_meaning.proofs.Directives.{directive_piece, live_branching, live_opening, skipped_branching}
 use Rattle.rdlpp_meaning.proofs.Undefining.{macro_name_given, macro_name_missing, macro_name_reserved, wants_name}
 use Rattle.rdlpp_meaning.proofs.SkippedStretches.{branching_word}
 use Rattle.rdlpp_read.specs.declared.files.File.{File}
@@ -125,11 +125,11 @@ resumed_unturned rules live o os d line first ts s kind word b e =
 -- an `endif`
 resumed_closed : (rules : Rules) (live : Bool) (o : Progress) (os : List Progress) (line : ℕ) (first : Bool) (ts : List SourceToken) (s : State)
     → resumed rules (in_branch live o os) first (word_token Endif line ∷ ts) s ≡ behind rules (Live os) Endif first (word_token Endif line) ts (past_conditional s)
-unfolding in_branch has_own_token
+unfolding in_branch has_own_token resume resumed past_conditional
 resumed_closed rules true o os line first ts s =
-    live_closing rules o os Endif first (word_token Endif line) ts s (word_directive Endif line refl) (closing_piece first (word_token Endif line) ts)
+    directive_piece rules (Live (o ∷ os)) Endif first (word_token Endif line) ts s _ (word_directive Endif line refl) (closing_piece first (word_token Endif line) ts)
 resumed_closed rules false o os line first ts s =
-    skipped_closing rules o os Endif first (word_token Endif line) ts s (word_directive Endif line refl) (closing_piece first (word_token Endif line) ts)
+    directive_piece rules (Skipped 0 o os) Endif first (word_token Endif line) ts s _ (word_directive Endif line refl) (closing_piece first (word_token Endif line) ts)
 
 module _ {R : Type 0} (rules : Rules) (unread : R → List ℕ) (ws : List Waiting) (os : List Progress) (f : File R) (s : State) where
   -- what the name of a directive comes to
@@ -206,20 +206,21 @@ module _ {R : Type 0} (rules : Rules) (unread : R → List ℕ) (ws : List Waiti
   -- a branch without an open conditional in its source is a fault
   pub stray_branch_left : (d : Directive) → branches_conditional d ≡ true
       → HoldsFront f.buffer → f.buffer.mode ≡ Plain → IsDirective d (held_of f.buffer) → source_left rules unread ws (Live []) f s ≡ leaves (fails (fault_at StrayBranch f.buffer.line [] s)) s
+  unfolding resume
   stray_branch_left d b holds mode is =
       let ts = tokens_left unread (consumed_file (length (word_of d)) 0 f).buffer in
       let tok = word_token d f.buffer.line in
       refused_move rules unread ws f s d ts (Live []) StrayBranch [] (word_tokens d unread f.buffer (branching_word d b) holds mode is)
-      (live_stray_branch rules d f.blanks tok ts s (word_directive d f.buffer.line (branching_word d b)) (branching_piece d f.blanks tok ts b))
+      (directive_piece rules (Live []) d f.blanks tok ts s _ (word_directive d f.buffer.line (branching_word d b)) (branching_piece d f.blanks tok ts b))
 
   -- and so is an `endif`
   pub stray_end_left : HoldsFront f.buffer → f.buffer.mode ≡ Plain → IsDirective Endif (held_of f.buffer) → source_left rules unread ws (Live []) f s ≡ leaves (fails (fault_at StrayBranch f.buffer.line [] s)) s
-  unfolding has_own_token
+  unfolding has_own_token resume
   stray_end_left holds mode is =
       let ts = tokens_left unread (consumed_file (length (word_of Endif)) 0 f).buffer in
       let tok = word_token Endif f.buffer.line in
       refused_move rules unread ws f s Endif ts (Live []) StrayBranch [] (word_tokens Endif unread f.buffer refl holds mode is)
-      (live_stray_end rules Endif f.blanks tok ts s (word_directive Endif f.buffer.line refl) (closing_piece f.blanks tok ts))
+      (directive_piece rules (Live []) Endif f.blanks tok ts s _ (word_directive Endif f.buffer.line refl) (closing_piece f.blanks tok ts))
 
 -- What a branch in front does to what remains, by what its test is told to be before its name is looked at.
 

@@ -4,8 +4,6 @@ use Rattle.std.specs.Prelude.{not, ◌==◌}
 use Rattle.std.specs.List.{list_any}
 use Rattle.std.specs.Option.{option_map}
 use Rattle.std.specs.Str.{is_utf8}
-use Rattle.std.proofs.Math.Seq.{take-add}
-use Rattle.std.proofs.lemmas.List.{drop-drop}
 use Rattle.rdlpp_scan.specs.declared.token.Directive.TheVariants.{Include}
 use Rattle.rdlpp_scan.specs.declared.token.Kind.{Kind}
 use Rattle.rdlpp_scan.specs.declared.token.Kind.TheVariants.{Blank, Str}
@@ -36,9 +34,8 @@ use Rattle.rdlpp_read.specs.Files.{consumed_file}
 use Rattle.rdlpp_front.specs.Fronts.{HasString, argument_name, word_of, include_name, LacksString}
 use Rattle.rdlpp_front.specs.SourceLeft.{HoldsFront, source_left}
 use Rattle.rdlpp_front.proofs.DefineLeft.{not_counted, counted}
-use Rattle.rdlpp_front.proofs.NamedDirectives.{refused_move, IsGiven, NameInFront, blank_lead, given_of, word_at, word_directive, word_token, word_tokens, gone_blanks, gone_word, nothing_tokens}
+use Rattle.rdlpp_front.proofs.NamedDirectives.{refused_move, IsGiven, NameInFront, blank_lead, given_of, word_directive, word_token, gone_blanks, gone_word, nothing_tokens, given_in_front, nothing_in_front}
 use Rattle.rdlpp_read.proofs.BufferTokens.{ends_line}
-use Rattle.rdlpp_front.proofs.SourcePassages.{tokens_used, used_buffer}
 use Rattle.rdlpp_scan.specs.declared.token.Token.{Token}
 use Rattle.rdlpp_scan.specs.Front.{Front, StringOpen}
 use Rattle.rdlpp_scan.specs.Resumed.{line_with, onto_tokens, opening, with_part}
@@ -111,40 +108,13 @@ module _ (most l room : ℕ) (rest : List ℕ) where
 -- an `include` with its string in front
 pub string_in_front_of : {R : Type 0} (unread : R → List ℕ) (b : BufferView R) → HoldsFront b → b.mode ≡ Plain → (start stop : ℕ) → HasString (held_of b) start stop → NameInFront Include unread b start stop
 string_in_front_of unread b holds mode start stop has =
-    let held = held_of b in
-    let rest = rest_of unread b in
-    let n = length (word_of Include) in
-    let r = drop n held in
+    let r = drop (length (word_of Include)) (held_of b) in
     let bl = has.from in
     let k = has.to - bl in
     let g = has.given in
-    let ends = ends_line unread b holds.ends in
-    let starts = has.starts in
-    let stops = has.stops in
-    let some_string : 0 < k = omega (arith, g.some) in
-    let line : b.line ≡ b.line + 0 = omega arith in
-    let used : (i : ℕ) → remaining_tokens b.line_bytes Plain b.line b.line (drop i held) b.bytes_left rest ≡ tokens_left unread (used_buffer b i 0) =
-    λ i. ap (λ (m : ℕ). remaining_tokens b.line_bytes Plain b.line m (drop i held) b.bytes_left rest) line ∙ tokens_used unread b i 0 b.line mode in
-    let a = string_given b.line_bytes b.line b.bytes_left rest r bl k (EndsLine-drop n held rest ends) g.space (closed_string (drop bl r) k g.string some_string) in
-    let at : drop bl r ≡ drop start held = drop-drop bl n held ∙ ap (λ (i : ℕ). drop i held) (sym starts) in
-    let size : k ≡ stop - start = omega (arith, g.some) in
-    let more : bl + k ≡ has.to = omega (arith, g.some) in
-    let taken : take bl r ++ take k (drop bl r) ≡ take has.to r = sym (take-add bl k r) ∙ ap (λ (i : ℕ). take i r) more in
-    let whole : word_of Include ++ take has.to r ≡ take stop held =
-    ap (λ (z : List ℕ). z ++ take has.to r) (sym (word_at Include held rest holds.some ends has.word))
-    ∙ sym (take-add n has.to held) ∙ ap (λ (i : ℕ). take i held) (sym stops) in
-    let end : start + k ≡ stop = omega (arith, g.some) in
-    record {
-      tokens = remaining_tokens b.line_bytes Plain b.line b.line r b.bytes_left rest;
-      all = word_tokens Include unread b include_word holds mode has.word ∙ ap (λ (ts : List SourceToken). word_token Include b.line ∷ ts) (sym (used n));
-      given = a.given ∙ ap Some (ap (take k) at ∙ ap (λ (i : ℕ). take i (drop start held)) size);
-      text = ap (λ (z : List ℕ). word_of Include ++ z) (a.taken ∙ taken) ∙ whole;
-      behind =
-          a.rest
-          ∙ ap (λ (z : List ℕ). remaining_tokens b.line_bytes Plain b.line b.line z b.bytes_left rest)
-          (ap (drop k) at ∙ drop-drop k start held ∙ ap (λ (i : ℕ). drop i held) end)
-          ∙ used stop;
-    }
+    let ends = EndsLine-drop (length (word_of Include)) (held_of b) (rest_of unread b) (ends_line unread b holds.ends) in
+    given_in_front Include unread b include_word holds mode has.word bl has.to start stop g.some has.starts has.stops
+    (string_given b.line_bytes b.line b.bytes_left (rest_of unread b) r bl k ends g.space (closed_string (drop bl r) k g.string (omega (arith, g.some))))
 
 -- a source that waits for the text that its `include` has found, as a file of which the directive is used
 abbrev pub waiting_file : {R : Type 0} → Rules → (R → List ℕ) → List Progress → ℕ → File R → State → List ℕ → Waiting
@@ -393,15 +363,9 @@ module _ {R : Type 0} (rules : Rules) (unread : R → List ℕ) (ws : List Waiti
       let r = drop n held in
       let ends = ends_line unread b holds.ends in
       let bl = lacks.none.start in
-      let ts = remaining_tokens b.line_bytes Plain b.line b.line r b.bytes_left rest in
-      let line : b.line ≡ b.line + 0 = omega arith in
-      let used : ts ≡ tokens_left unread (used_buffer b n 0) =
-      ap (λ (m : ℕ). remaining_tokens b.line_bytes Plain b.line m r b.bytes_left rest) line ∙ tokens_used unread b n 0 b.line mode in
-      let all : tokens_left unread b ≡ word_token Include b.line ∷ ts =
-      word_tokens Include unread b include_word holds mode lacks.word ∙ ap (λ (us : List SourceToken). word_token Include b.line ∷ us) (sym used) in
-      let given : argument_of Include ts ≡ no_argument =
-      string_missing b.line_bytes b.line b.bytes_left rest r bl (EndsLine-drop n held rest ends)
+      let i = nothing_in_front Include unread b include_word holds mode lacks.word
+      (string_missing b.line_bytes b.line b.bytes_left rest r bl (EndsLine-drop n held rest ends)
       (gone_word Include held rest holds.some ends lacks.word) (gone_blanks Include held rest holds.some ends lacks.word bl lacks.none.space)
-      lacks.none.space lacks.none.none in
-      refused_move rules unread ws f s Include ts (Live os) IncludeName [] all
-      (include_nameless rules os f.blanks (word_token Include b.line) ts s (word_directive Include b.line include_word) (ap (λ (a : Argument). a.given) given))
+      lacks.none.space lacks.none.none) in
+      refused_move rules unread ws f s Include i.tokens (Live os) IncludeName [] i.all
+      (include_nameless rules os f.blanks (word_token Include b.line) i.tokens s (word_directive Include b.line include_word) (ap (λ (a : Argument). a.given) i.none))

@@ -284,26 +284,60 @@ pub record NoNameInFront {R : Type 0} (d : Directive) (unread : R → List ℕ) 
   pub none : argument_of d tokens ≡ no_argument
   pub behind : tokens ≡ tokens_left unread (used_buffer b (length (word_of d)) 0)
 
-module _ {R : Type 0} (d : Directive) (unread : R → List ℕ) (b : BufferView R) (wants : wants_name d ≡ true)
-    (holds : HoldsFront b) (mode : b.mode ≡ Plain) where
-  -- the tokens behind a place, on the line of the directive
-  abbrev tokens_at : ℕ → List SourceToken
-  tokens_at n = remaining_tokens b.line_bytes Plain b.line b.line (drop n (held_of b)) b.bytes_left (rest_of unread b)
+module _ {R : Type 0} (d : Directive) (unread : R → List ℕ) (b : BufferView R) (word : has_own_token d ≡ false) (holds : HoldsFront b) (mode : b.mode ≡ Plain) where
+  -- the tokens of what is held, on the line of the directive
+  abbrev tokens_in : List ℕ → List SourceToken
+  tokens_in z = remaining_tokens b.line_bytes Plain b.line b.line z b.bytes_left (rest_of unread b)
 
   -- they are those that remain where so many bytes are used
-  at_used : (n : ℕ) → tokens_at n ≡ tokens_left unread (used_buffer b n 0)
+  at_used : (n : ℕ) → tokens_in (drop n (held_of b)) ≡ tokens_left unread (used_buffer b n 0)
   at_used n =
       let line : b.line ≡ b.line + 0 = omega arith in
       ap (λ (k : ℕ). remaining_tokens b.line_bytes Plain b.line k (drop n (held_of b)) b.bytes_left (rest_of unread b)) line
       ∙ tokens_used unread b n 0 b.line mode
 
   -- the word in front
-  at_word : IsDirective d (held_of b) → tokens_left unread b ≡ word_token d b.line ∷ tokens_at (length (word_of d))
+  at_word : IsDirective d (held_of b) → tokens_left unread b ≡ word_token d b.line ∷ tokens_in (drop (length (word_of d)) (held_of b))
   at_word is =
-      word_tokens d unread b (wants_word d wants) holds mode is
+      word_tokens d unread b word holds mode is
       ∙ ap (λ (ts : List SourceToken). word_token d b.line ∷ ts) (sym (at_used (length (word_of d))))
 
-  -- a directive with its name
+  -- a directive with what it is given, from a place behind its word up to another
+  pub given_in_front : IsDirective d (held_of b) → (from to start stop : ℕ) → from < to → start ≡ length (word_of d) + from → stop ≡ length (word_of d) + to
+      → (let r = drop (length (word_of d)) (held_of b) in
+      IsGiven d (tokens_in r) (take (to - from) (drop from r)) (take from r ++ take (to - from) (drop from r)) (tokens_in (drop (to - from) (drop from r))))
+      → NameInFront d unread b start stop
+  given_in_front is from to start stop some starts stops a =
+      let held = held_of b in
+      let n = length (word_of d) in
+      let r = drop n held in
+      let k = to - from in
+      let at : drop from r ≡ drop start held = drop-drop from n held ∙ ap (λ (i : ℕ). drop i held) (sym starts) in
+      let size : k ≡ stop - start = omega (arith, some) in
+      let more : from + k ≡ to = omega (arith, some) in
+      let taken : take from r ++ take k (drop from r) ≡ take to r = sym (take-add from k r) ∙ ap (λ (i : ℕ). take i r) more in
+      let whole : word_of d ++ take to r ≡ take stop held =
+      ap (λ (z : List ℕ). z ++ take to r) (sym (word_at d held (rest_of unread b) holds.some (ends_line unread b holds.ends) is))
+      ∙ sym (take-add n to held) ∙ ap (λ (i : ℕ). take i held) (sym stops) in
+      let end : start + k ≡ stop = omega (arith, some) in
+      record {
+        tokens = tokens_in r;
+        all = at_word is;
+        given = a.given ∙ ap Some (ap (take k) at ∙ ap (λ (i : ℕ). take i (drop start held)) size);
+        text = ap (λ (z : List ℕ). word_of d ++ z) (a.taken ∙ taken) ∙ whole;
+        behind =
+            a.rest
+            ∙ ap tokens_in (ap (drop k) at ∙ drop-drop k start held ∙ ap (λ (i : ℕ). drop i held) end)
+            ∙ at_used stop;
+      }
+
+  -- one that is given nothing
+  pub nothing_in_front : IsDirective d (held_of b) → argument_of d (tokens_in (drop (length (word_of d)) (held_of b))) ≡ no_argument → NoNameInFront d unread b
+  nothing_in_front is none =
+      record { tokens = tokens_in (drop (length (word_of d)) (held_of b)); all = at_word is; none = none; behind = at_used (length (word_of d)) }
+
+-- a directive with its name, and one without
+module _ {R : Type 0} (d : Directive) (unread : R → List ℕ) (b : BufferView R) (wants : wants_name d ≡ true) (holds : HoldsFront b) (mode : b.mode ≡ Plain) where
   pub name_in_front_of : (start stop : ℕ) → HasName d (held_of b) start stop → NameInFront d unread b start stop
   name_in_front_of start stop has =
       let held = held_of b in
@@ -314,33 +348,10 @@ module _ {R : Type 0} (d : Directive) (unread : R → List ℕ) (b : BufferView 
       let k = has.name.to - bl in
       let g = has.name.given in
       let ends = ends_line unread b holds.ends in
-      let starts = has.name.starts in
-      let stops = has.name.stops in
-      let some_name : 0 < k = omega (arith, g.some) in
-      let lead = lead_name (drop bl r) k g.name some_name in
-      let a = behind_given b.line_bytes b.line b.bytes_left rest d wants r bl k (EndsLine-drop n held rest ends)
-      (gone_word d held rest holds.some ends has.word) g.space lead.0 lead.1 lead.2 in
-      let at : drop bl r ≡ drop start held = drop-drop bl n held ∙ ap (λ (i : ℕ). drop i held) (sym starts) in
-      let size : k ≡ stop - start = omega (arith, g.some) in
-      let more : bl + k ≡ has.name.to = omega (arith, g.some) in
-      let taken : take bl r ++ take k (drop bl r) ≡ take has.name.to r = sym (take-add bl k r) ∙ ap (λ (i : ℕ). take i r) more in
-      let whole : word_of d ++ take has.name.to r ≡ take stop held =
-      ap (λ (z : List ℕ). z ++ take has.name.to r) (sym (word_at d held rest holds.some ends has.word))
-      ∙ sym (take-add n has.name.to held) ∙ ap (λ (i : ℕ). take i held) (sym stops) in
-      let end : start + k ≡ stop = omega (arith, g.some) in
-      record {
-        tokens = tokens_at n;
-        all = at_word has.word;
-        given = a.given ∙ ap Some (ap (take k) at ∙ ap (λ (i : ℕ). take i (drop start held)) size);
-        text = ap (λ (z : List ℕ). word_of d ++ z) (a.taken ∙ taken) ∙ whole;
-        behind =
-            a.rest
-            ∙ ap (λ (z : List ℕ). remaining_tokens b.line_bytes Plain b.line b.line z b.bytes_left rest)
-            (ap (drop k) at ∙ drop-drop k start held ∙ ap (λ (i : ℕ). drop i held) end)
-            ∙ at_used stop;
-      }
+      let lead = lead_name (drop bl r) k g.name (omega (arith, g.some)) in
+      given_in_front d unread b (wants_word d wants) holds mode has.word bl has.name.to start stop g.some has.name.starts has.name.stops
+      (behind_given b.line_bytes b.line b.bytes_left rest d wants r bl k (EndsLine-drop n held rest ends) (gone_word d held rest holds.some ends has.word) g.space lead.0 lead.1 lead.2)
 
-  -- a directive without one
   pub no_name_in_front_of : LacksName d (held_of b) → NoNameInFront d unread b
   no_name_in_front_of lacks =
       let held = held_of b in
@@ -348,15 +359,10 @@ module _ {R : Type 0} (d : Directive) (unread : R → List ℕ) (b : BufferView 
       let n = length (word_of d) in
       let r = drop n held in
       let ends = ends_line unread b holds.ends in
-      record {
-        tokens = tokens_at n;
-        all = at_word lacks.word;
-        none =
-            behind_missing b.line_bytes b.line b.bytes_left rest d wants r lacks.none.start (EndsLine-drop n held rest ends)
-            (gone_word d held rest holds.some ends lacks.word) (gone_blanks d held rest holds.some ends lacks.word lacks.none.start lacks.none.space)
-            lacks.none.space (lead_none (drop lacks.none.start r) 0 lacks.none.none refl);
-        behind = at_used n;
-      }
+      nothing_in_front d unread b (wants_word d wants) holds mode lacks.word
+      (behind_missing b.line_bytes b.line b.bytes_left rest d wants r lacks.none.start (EndsLine-drop n held rest ends)
+      (gone_word d held rest holds.some ends lacks.word) (gone_blanks d held rest holds.some ends lacks.word lacks.none.start lacks.none.space)
+      lacks.none.space (lead_none (drop lacks.none.start r) 0 lacks.none.none refl))
 
 -- what remains behind a directive and what it is given
 pub behind_name : {R : Type 0} (d : Directive) (unread : R → List ℕ) (b : BufferView R) (rules : Rules) (ws : List Waiting) (place : Place) (first : Bool) (s : State)

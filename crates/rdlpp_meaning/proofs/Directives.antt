@@ -9,14 +9,13 @@ use Rattle.rdlpp_scan.specs.declared.token.Directive.TheVariants.{Define, Undef,
 use Rattle.rdlpp_scan.specs.Bytes.{is_line_end}
 use Rattle.rdlpp_scan.specs.SourceTokens.{Sort, Ordinary, Definition, Renumbering, Broken, SourceToken}
 use Rattle.rdlpp_meaning.specs.declared.fault.FaultKind.{FaultKind}
-use Rattle.rdlpp_meaning.specs.declared.fault.FaultKind.TheVariants.{StrayBranch, SourceNotFound, PathTooLong, IncludeName, TooManyIncludes, BadLine}
+use Rattle.rdlpp_meaning.specs.declared.fault.FaultKind.TheVariants.{SourceNotFound, PathTooLong, IncludeName, TooManyIncludes, BadLine}
 use Rattle.rdlpp_meaning.specs.Outcome.{Told, Outcome, gives}
 use Rattle.rdlpp_meaning.specs.State.{Defined, Accepted, Refused, Lookup, NoSource, LongPath, Source, Rules, shown_line, State}
 use Rattle.rdlpp_meaning.specs.Expansion.{bytes_of}
-use Rattle.rdlpp_meaning.specs.Parts.{Command, Piece, line_ends_of, Single, Opening, Branching, Closing, only_blanks, directive_of, Argument, no_argument, one_argument, behind_blanks, name_in_front, string_in_front, past_blanks, argument_of, command_of, command_in_front, behind_directive, piece_of, pieces}
-use Rattle.rdlpp_meaning.specs.Meaning.{Passage, leaves, goes_on, behind_bytes, refusal, Nest, Test, Stopped, Holds, by_test, Checked, Fine, Faulty, defines, undefines, origin_line, at_start_of, back_in, added_end, includes, includes_found, includes_named, includes_given, unquoted, Renumbered, renumbered, renumbers, skipped_command, single, Progress, opening, in_conditional, past_conditional, begun, turn, turned, nest_of}
-use Rattle.rdlpp_meaning.specs.Resumed.{Place, Live, Skipped, resume, resumed, behind, skips}
-use Rattle.rdlpp_meaning.proofs.Passages.{on_leaves}
+use Rattle.rdlpp_meaning.specs.Parts.{Command, Piece, line_ends_of, Single, Opening, Branching, only_blanks, directive_of, Argument, no_argument, one_argument, behind_blanks, name_in_front, string_in_front, past_blanks, argument_of, command_of, command_in_front, behind_directive, piece_of, pieces}
+use Rattle.rdlpp_meaning.specs.Meaning.{Passage, leaves, goes_on, behind_bytes, refusal, Nest, Test, Stopped, Holds, by_test, Checked, Fine, Faulty, defines, undefines, origin_line, at_start_of, back_in, added_end, includes, includes_found, includes_named, includes_given, unquoted, Renumbered, renumbered, renumbers, single, Progress, opening, in_conditional, begun, turn, turned, nest_of}
+use Rattle.rdlpp_meaning.specs.Resumed.{Place, Live, Skipped, resume, resumed, behind}
 use Rattle.rdlpp_meaning.proofs.TokenWrites.{only_blanks-append}
 
 -- tokens that are passed over leave what the flag of blanks is behind their bytes
@@ -29,96 +28,79 @@ pieces_skip first (suc k) (t ∷ ts) =
     pieces_skip (only_blanks first t.bytes) k ts
     ∙ ap (λ (f : Bool). pieces f 0 (drop k ts)) (sym (only_blanks-append first t.bytes (bytes_of (take k ts))))
 
--- the bytes that an argument takes are those of its tokens
-TakesItsText : List SourceToken → Argument → Type 0
-TakesItsText ts a = bytes_of (take a.used ts) ≡ a.text
+-- what holds of nothing, of a name and of a string in front, and of what blanks stand before, holds of what a directive is given
+module _ (P : List SourceToken → Argument → Type 0) (none : (ts : List SourceToken) → P ts no_argument)
+    (name : (bytes : List ℕ) (line : ℕ) (ts : List SourceToken)
+    → let t : SourceToken = record { sort = Ordinary Name; bytes = bytes; line = line } in P (t ∷ ts) (one_argument t))
+    (string : (bytes : List ℕ) (line : ℕ) (ts : List SourceToken)
+    → let t : SourceToken = record { sort = Ordinary Str; bytes = bytes; line = line } in P (t ∷ ts) (one_argument t))
+    (blank : (bytes : List ℕ) (line : ℕ) (ts : List SourceToken) (given text : List ℕ) (used : ℕ) → P ts (record { given = Some given; text = text; used = used })
+    → P (record { sort = Ordinary Blank; bytes = bytes; line = line } ∷ ts) (record { given = Some given; text = bytes ++ text; used = suc used }))
+  where
+    -- a name in front, by what the first token is
+    name_by : (sort : Sort) (bytes : List ℕ) (line : ℕ) (ts : List SourceToken)
+        → let t : SourceToken = record { sort = sort; bytes = bytes; line = line } in P (t ∷ ts) (name_in_front (t ∷ ts))
+    unfolding name_in_front
+    name_by (Ordinary Name) bytes line ts = name bytes line ts
+    name_by sort bytes line ts = none _
 
--- nothing takes nothing
-nothing_takes : (ts : List SourceToken) → TakesItsText ts no_argument
-unfolding TakesItsText no_argument
-nothing_takes ts = refl
+    names : (ts : List SourceToken) → P ts (name_in_front ts)
+    unfolding name_in_front
+    names [] = none []
+    names (t ∷ ts) = name_by t.sort t.bytes t.line ts
 
--- one token takes its bytes
-one_takes : (t : SourceToken) (ts : List SourceToken) → TakesItsText (t ∷ ts) (one_argument t)
-unfolding TakesItsText one_argument
-one_takes t ts = append-nil t.bytes
+    -- a string in front, by whether it has an LF, and by what the first token is
+    string_choice : (split : Bool) (bytes : List ℕ) (line : ℕ) (ts : List SourceToken)
+        → let t : SourceToken = record { sort = Ordinary Str; bytes = bytes; line = line } in P (t ∷ ts) (if split then no_argument else one_argument t)
+    string_choice true bytes line ts = none _
+    string_choice false bytes line ts = string bytes line ts
 
--- a name in front, by what the first token is
-name_takes_by : (sort : Sort) (bytes : List ℕ) (line : ℕ) (ts : List SourceToken)
-    → TakesItsText (record { sort = sort; bytes = bytes; line = line } ∷ ts) (name_in_front (record { sort = sort; bytes = bytes; line = line } ∷ ts))
-unfolding name_in_front
-name_takes_by (Ordinary Name) bytes line ts = one_takes (record { sort = Ordinary Name; bytes = bytes; line = line }) ts
-name_takes_by (Ordinary k) bytes line ts = nothing_takes (record { sort = Ordinary k; bytes = bytes; line = line } ∷ ts)
-name_takes_by Definition bytes line ts = nothing_takes (record { sort = Definition; bytes = bytes; line = line } ∷ ts)
-name_takes_by Renumbering bytes line ts = nothing_takes (record { sort = Renumbering; bytes = bytes; line = line } ∷ ts)
-name_takes_by (Broken b) bytes line ts = nothing_takes (record { sort = Broken b; bytes = bytes; line = line } ∷ ts)
+    string_by : (sort : Sort) (bytes : List ℕ) (line : ℕ) (ts : List SourceToken)
+        → let t : SourceToken = record { sort = sort; bytes = bytes; line = line } in P (t ∷ ts) (string_in_front (t ∷ ts))
+    unfolding string_in_front
+    string_by (Ordinary Str) bytes line ts = string_choice (list_any is_line_end bytes) bytes line ts
+    string_by sort bytes line ts = none _
 
--- a name in front takes its bytes
-name_takes : (ts : List SourceToken) → TakesItsText ts (name_in_front ts)
-unfolding name_in_front
-name_takes [] = nothing_takes []
-name_takes (t ∷ ts) = name_takes_by t.sort t.bytes t.line ts
+    strings : (ts : List SourceToken) → P ts (string_in_front ts)
+    unfolding string_in_front
+    strings [] = none []
+    strings (t ∷ ts) = string_by t.sort t.bytes t.line ts
 
--- a choice between nothing and one token takes its bytes
-choice_takes : (b : Bool) (t : SourceToken) (ts : List SourceToken)
-    → TakesItsText (t ∷ ts) (if b then no_argument else one_argument t)
-choice_takes true t ts = nothing_takes (t ∷ ts)
-choice_takes false t ts = one_takes t ts
+    -- what stands behind blanks, by what is given, and by what the first token is
+    blanks : (bytes : List ℕ) (line : ℕ) (ts : List SourceToken) (given : Option (List ℕ)) (text : List ℕ) (used : ℕ) → P ts (record { given = given; text = text; used = used })
+        → let t : SourceToken = record { sort = Ordinary Blank; bytes = bytes; line = line } in
+        P (t ∷ ts) (behind_blanks t (record { given = given; text = text; used = used }))
+    unfolding behind_blanks
+    blanks bytes line ts None text used h = none _
+    blanks bytes line ts (Some x) text used h = blank bytes line ts x text used h
 
--- a string in front, by what the first token is
-string_takes_by : (sort : Sort) (bytes : List ℕ) (line : ℕ) (ts : List SourceToken)
-    → TakesItsText (record { sort = sort; bytes = bytes; line = line } ∷ ts) (string_in_front (record { sort = sort; bytes = bytes; line = line } ∷ ts))
-unfolding string_in_front
-string_takes_by (Ordinary Str) bytes line ts =
-    choice_takes (list_any is_line_end bytes) (record { sort = Ordinary Str; bytes = bytes; line = line }) ts
-string_takes_by (Ordinary k) bytes line ts = nothing_takes (record { sort = Ordinary k; bytes = bytes; line = line } ∷ ts)
-string_takes_by Definition bytes line ts = nothing_takes (record { sort = Definition; bytes = bytes; line = line } ∷ ts)
-string_takes_by Renumbering bytes line ts = nothing_takes (record { sort = Renumbering; bytes = bytes; line = line } ∷ ts)
-string_takes_by (Broken b) bytes line ts = nothing_takes (record { sort = Broken b; bytes = bytes; line = line } ∷ ts)
+    past_by : (f : List SourceToken → Argument) → ((us : List SourceToken) → P us (f us)) → (sort : Sort) (bytes : List ℕ) (line : ℕ) (ts : List SourceToken)
+        → let t : SourceToken = record { sort = sort; bytes = bytes; line = line } in P (t ∷ ts) (past_blanks f (t ∷ ts))
+    unfolding past_blanks
+    past_by f h (Ordinary Blank) bytes line ts = let a = f ts in blanks bytes line ts a.given a.text a.used (h ts)
+    past_by f h (Ordinary k) bytes line ts = h _
+    past_by f h sort bytes line ts = none _
 
--- a string in front takes its bytes
-string_takes : (ts : List SourceToken) → TakesItsText ts (string_in_front ts)
-unfolding string_in_front
-string_takes [] = nothing_takes []
-string_takes (t ∷ ts) = string_takes_by t.sort t.bytes t.line ts
+    past : (f : List SourceToken → Argument) → ((us : List SourceToken) → P us (f us)) → (ts : List SourceToken) → P ts (past_blanks f ts)
+    unfolding past_blanks
+    past f h [] = none []
+    past f h (t ∷ ts) = past_by f h t.sort t.bytes t.line ts
 
--- blanks in front of an argument, by what is given
-blanks_take_by : (t : SourceToken) (ts : List SourceToken) (given : Option (List ℕ)) (text : List ℕ) (used : ℕ)
-    → TakesItsText ts (record { given = given; text = text; used = used })
-    → TakesItsText (t ∷ ts) (behind_blanks t (record { given = given; text = text; used = used }))
-unfolding TakesItsText behind_blanks no_argument
-blanks_take_by t ts None text used e = refl
-blanks_take_by t ts (Some bytes) text used e = ap (λ (x : List ℕ). t.bytes ++ x) e
-
--- what stands behind blanks takes its bytes, by what the first token is
-past_take_by : (in_front : List SourceToken → Argument) → ((us : List SourceToken) → TakesItsText us (in_front us))
-    → (sort : Sort) (bytes : List ℕ) (line : ℕ) (ts : List SourceToken)
-    → TakesItsText (record { sort = sort; bytes = bytes; line = line } ∷ ts) (past_blanks in_front (record { sort = sort; bytes = bytes; line = line } ∷ ts))
-unfolding past_blanks
-past_take_by in_front h (Ordinary Blank) bytes line ts =
-    let a = in_front ts in
-    blanks_take_by (record { sort = Ordinary Blank; bytes = bytes; line = line }) ts a.given a.text a.used (h ts)
-past_take_by in_front h (Ordinary k) bytes line ts = h (record { sort = Ordinary k; bytes = bytes; line = line } ∷ ts)
-past_take_by in_front h Definition bytes line ts = nothing_takes (record { sort = Definition; bytes = bytes; line = line } ∷ ts)
-past_take_by in_front h Renumbering bytes line ts = nothing_takes (record { sort = Renumbering; bytes = bytes; line = line } ∷ ts)
-past_take_by in_front h (Broken b) bytes line ts = nothing_takes (record { sort = Broken b; bytes = bytes; line = line } ∷ ts)
-
--- what stands behind blanks takes its bytes
-past_take : (in_front : List SourceToken → Argument) → ((us : List SourceToken) → TakesItsText us (in_front us))
-    → (ts : List SourceToken) → TakesItsText ts (past_blanks in_front ts)
-unfolding past_blanks
-past_take in_front h [] = nothing_takes []
-past_take in_front h (t ∷ ts) = past_take_by in_front h t.sort t.bytes t.line ts
+    pub argument_by : (d : Directive) (ts : List SourceToken) → P ts (argument_of d ts)
+    unfolding argument_of
+    argument_by Undef ts = past name_in_front names ts
+    argument_by Ifdef ts = past name_in_front names ts
+    argument_by Ifndef ts = past name_in_front names ts
+    argument_by Elsif ts = past name_in_front names ts
+    argument_by Include ts = past string_in_front strings ts
+    argument_by d ts = none ts
 
 -- the argument of a directive takes the bytes of its tokens
 pub argument_takes : (d : Directive) (ts : List SourceToken) → bytes_of (take (argument_of d ts).used ts) ≡ (argument_of d ts).text
-unfolding argument_of TakesItsText
-argument_takes Undef ts = past_take name_in_front name_takes ts
-argument_takes Ifdef ts = past_take name_in_front name_takes ts
-argument_takes Ifndef ts = past_take name_in_front name_takes ts
-argument_takes Elsif ts = past_take name_in_front name_takes ts
-argument_takes Include ts = past_take string_in_front string_takes ts
-argument_takes d ts = nothing_takes ts
+unfolding no_argument one_argument
+argument_takes d ts =
+    argument_by (λ us a. bytes_of (take a.used us) ≡ a.text) (λ us. refl) (λ bytes line us. append-nil bytes) (λ bytes line us. append-nil bytes)
+    (λ bytes line us given text used e. ap (λ (x : List ℕ). bytes ++ x) e) d ts
 
 -- a directive in front is a piece in front of those of the tokens behind it
 pub pieces_directive : (d : Directive) (first : Bool) (t : SourceToken) (ts : List SourceToken) → directive_of t ≡ Some d
@@ -136,16 +118,15 @@ pieces_directive d first t ts e =
     (sym (only_blanks-append first t.bytes (bytes_of (take a.used ts)))
     ∙ ap (λ (x : List ℕ). only_blanks first (t.bytes ++ x)) (argument_takes d ts))))
 
--- what remains where a directive stands in front
-pub resumed_directive : (rules : Rules) (place : Place) (d : Directive) (first : Bool) (t : SourceToken) (ts : List SourceToken) (s : State)
-    → directive_of t ≡ Some d
+-- what remains where a directive stands in front that is a piece
+pub directive_piece : (rules : Rules) (place : Place) (d : Directive) (first : Bool) (t : SourceToken) (ts : List SourceToken) (s : State) (p : Piece)
+    → directive_of t ≡ Some d → piece_of (command_in_front d first t ts) ≡ p
     → resumed rules place first (t ∷ ts) s
-    ≡ resume rules (nest_of rules s.sources_left) place
-    (piece_of (command_in_front d first t ts)
-    ∷ pieces (only_blanks first (command_in_front d first t ts).text) 0 (behind_directive d ts)) s
+    ≡ resume rules (nest_of rules s.sources_left) place (p ∷ pieces (only_blanks first (command_in_front d first t ts).text) 0 (behind_directive d ts)) s
 unfolding resumed
-resumed_directive rules place d first t ts s e =
-    ap (λ (ps : List Piece). resume rules (nest_of rules s.sources_left) place ps s) (pieces_directive d first t ts e)
+directive_piece rules place d first t ts s p e is =
+    let rest = pieces (only_blanks first (command_in_front d first t ts).text) 0 (behind_directive d ts) in
+    ap (λ (ps : List Piece). resume rules (nest_of rules s.sources_left) place ps s) (pieces_directive d first t ts e ∙ ap (λ (x : Piece). x ∷ rest) is)
 
 -- a passage without a fault keeps how many more sources may be opened
 Keeps : State → Passage → Type 0
@@ -271,12 +252,9 @@ live_single rules os d first t ts s e p =
     let c = command_in_front d first t ts in
     let rest = pieces (only_blanks first c.text) 0 (behind_directive d ts) in
     let nest = nest_of rules s.sources_left in
-    resumed_directive rules (Live os) d first t ts s e
-    ∙ ap (λ (x : Piece). resume rules nest (Live os) (x ∷ rest) s) p
-    ∙ on_after (single rules nest c s) (λ after. resume rules nest (Live os) rest after)
-    (λ after. behind rules (Live os) d first t ts after)
-    (λ f. ap (λ (n : ℕ). resume rules (nest_of rules n) (Live os) rest (single rules nest c s).after)
-    (sym (single_keeps rules nest c s f)))
+    directive_piece rules (Live os) d first t ts s (Single c) e p
+    ∙ on_after (single rules nest c s) (λ after. resume rules nest (Live os) rest after) (λ after. behind rules (Live os) d first t ts after)
+    (λ f. ap (λ (n : ℕ). resume rules (nest_of rules n) (Live os) rest (single rules nest c s).after) (sym (single_keeps rules nest c s f)))
 
 -- in live text, a directive that opens a conditional
 pub live_opening : (rules : Rules) (os : List Progress) (d : Directive) (first : Bool) (t : SourceToken) (ts : List SourceToken) (s : State)
@@ -288,18 +266,9 @@ pub live_opening : (rules : Rules) (os : List Progress) (d : Directive) (first :
 unfolding resume resumed in_conditional
 live_opening rules os d first t ts s e p =
     let c = command_in_front d first t ts in
-    let rest = pieces (only_blanks first c.text) 0 (behind_directive d ts) in
-    let nest = nest_of rules s.sources_left in
-    resumed_directive rules (Live os) d first t ts s e
-    ∙ ap (λ (x : Piece). resume rules nest (Live os) (x ∷ rest) s) p
-    ∙ by_test-same (opening c s) c s
-    (λ u. resume rules nest (Live (begun c u true ∷ os)) rest (in_conditional u))
-    (λ u. resume rules nest (Skipped 0 (begun c u false) os) rest (in_conditional u))
-    (λ u. behind rules (Live (begun c u true ∷ os)) d first t ts (in_conditional u))
-    (λ u. behind rules (Skipped 0 (begun c u false) os) d first t ts (in_conditional u))
-    refl refl
+    directive_piece rules (Live os) d first t ts s (Opening c) e p ∙ by_test-same (opening c s) c s _ _ _ _ refl refl
 
--- in live text, a branch of the innermost open conditional
+-- a branch of the innermost open conditional, in live text or in that which it skips
 pub live_branching : (rules : Rules) (o : Progress) (os : List Progress) (d : Directive) (first : Bool) (t : SourceToken) (ts : List SourceToken) (s : State)
     → directive_of t ≡ Some d → piece_of (command_in_front d first t ts) ≡ Branching (command_in_front d first t ts)
     → resumed rules (Live (o ∷ os)) first (t ∷ ts) s
@@ -309,107 +278,8 @@ pub live_branching : (rules : Rules) (o : Progress) (os : List Progress) (d : Di
 unfolding resume resumed
 live_branching rules o os d first t ts s e p =
     let c = command_in_front d first t ts in
-    let rest = pieces (only_blanks first c.text) 0 (behind_directive d ts) in
-    let nest = nest_of rules s.sources_left in
-    resumed_directive rules (Live (o ∷ os)) d first t ts s e
-    ∙ ap (λ (x : Piece). resume rules nest (Live (o ∷ os)) (x ∷ rest) s) p
-    ∙ by_test-same (turn o c s) c s
-    (λ u. resume rules nest (Live (turned o c true ∷ os)) rest u)
-    (λ u. resume rules nest (Skipped 0 (turned o c false) os) rest u)
-    (λ u. behind rules (Live (turned o c true ∷ os)) d first t ts u)
-    (λ u. behind rules (Skipped 0 (turned o c false) os) d first t ts u)
-    refl refl
+    directive_piece rules (Live (o ∷ os)) d first t ts s (Branching c) e p ∙ by_test-same (turn o c s) c s _ _ _ _ refl refl
 
--- in live text without an open conditional, a branch is refused
-pub live_stray_branch : (rules : Rules) (d : Directive) (first : Bool) (t : SourceToken) (ts : List SourceToken) (s : State)
-    → directive_of t ≡ Some d → piece_of (command_in_front d first t ts) ≡ Branching (command_in_front d first t ts)
-    → resumed rules (Live []) first (t ∷ ts) s ≡ refusal StrayBranch [] (command_in_front d first t ts) s
-unfolding resume
-live_stray_branch rules d first t ts s e p =
-    let c = command_in_front d first t ts in
-    let rest = pieces (only_blanks first c.text) 0 (behind_directive d ts) in
-    resumed_directive rules (Live []) d first t ts s e
-    ∙ ap (λ (x : Piece). resume rules (nest_of rules s.sources_left) (Live []) (x ∷ rest) s) p
-
--- in live text without an open conditional, an `endif` is refused
-pub live_stray_end : (rules : Rules) (d : Directive) (first : Bool) (t : SourceToken) (ts : List SourceToken) (s : State)
-    → directive_of t ≡ Some d → piece_of (command_in_front d first t ts) ≡ Closing (command_in_front d first t ts)
-    → resumed rules (Live []) first (t ∷ ts) s ≡ refusal StrayBranch [] (command_in_front d first t ts) s
-unfolding resume
-live_stray_end rules d first t ts s e p =
-    let c = command_in_front d first t ts in
-    let rest = pieces (only_blanks first c.text) 0 (behind_directive d ts) in
-    resumed_directive rules (Live []) d first t ts s e
-    ∙ ap (λ (x : Piece). resume rules (nest_of rules s.sources_left) (Live []) (x ∷ rest) s) p
-
--- in live text, an `endif` closes the innermost open conditional
-pub live_closing : (rules : Rules) (o : Progress) (os : List Progress) (d : Directive) (first : Bool) (t : SourceToken) (ts : List SourceToken) (s : State)
-    → directive_of t ≡ Some d → piece_of (command_in_front d first t ts) ≡ Closing (command_in_front d first t ts)
-    → resumed rules (Live (o ∷ os)) first (t ∷ ts) s ≡ behind rules (Live os) d first t ts (past_conditional s)
-unfolding resume resumed past_conditional
-live_closing rules o os d first t ts s e p =
-    let c = command_in_front d first t ts in
-    let rest = pieces (only_blanks first c.text) 0 (behind_directive d ts) in
-    resumed_directive rules (Live (o ∷ os)) d first t ts s e
-    ∙ ap (λ (x : Piece). resume rules (nest_of rules s.sources_left) (Live (o ∷ os)) (x ∷ rest) s) p
-
--- in skipped text, a directive by itself is skipped
-pub skipped_single : (rules : Rules) (n : ℕ) (o : Progress) (os : List Progress) (d : Directive) (first : Bool) (t : SourceToken) (ts : List SourceToken) (s : State)
-    → directive_of t ≡ Some d → piece_of (command_in_front d first t ts) ≡ Single (command_in_front d first t ts)
-    → resumed rules (Skipped n o os) first (t ∷ ts) s ≡ skips rules (Skipped n o os) d first t ts s
-unfolding resume resumed
-skipped_single rules n o os d first t ts s e p =
-    let c = command_in_front d first t ts in
-    let rest = pieces (only_blanks first c.text) 0 (behind_directive d ts) in
-    let nest = nest_of rules s.sources_left in
-    resumed_directive rules (Skipped n o os) d first t ts s e
-    ∙ ap (λ (x : Piece). resume rules nest (Skipped n o os) (x ∷ rest) s) p
-    ∙ on_leaves (skipped_command c) s (λ after. resume rules nest (Skipped n o os) rest after)
-    (λ after. behind rules (Skipped n o os) d first t ts after) refl
-
--- in skipped text, a conditional opens inside
-pub skipped_opening : (rules : Rules) (n : ℕ) (o : Progress) (os : List Progress) (d : Directive) (first : Bool) (t : SourceToken) (ts : List SourceToken) (s : State)
-    → directive_of t ≡ Some d → piece_of (command_in_front d first t ts) ≡ Opening (command_in_front d first t ts)
-    → resumed rules (Skipped n o os) first (t ∷ ts) s ≡ skips rules (Skipped (suc n) o os) d first t ts s
-unfolding resume resumed
-skipped_opening rules n o os d first t ts s e p =
-    let c = command_in_front d first t ts in
-    let rest = pieces (only_blanks first c.text) 0 (behind_directive d ts) in
-    let nest = nest_of rules s.sources_left in
-    resumed_directive rules (Skipped n o os) d first t ts s e
-    ∙ ap (λ (x : Piece). resume rules nest (Skipped n o os) (x ∷ rest) s) p
-    ∙ on_leaves (skipped_command c) s (λ after. resume rules nest (Skipped (suc n) o os) rest after)
-    (λ after. behind rules (Skipped (suc n) o os) d first t ts after) refl
-
--- in skipped text, a branch of a conditional that opened inside is skipped
-pub skipped_inner_branch : (rules : Rules) (n : ℕ) (o : Progress) (os : List Progress) (d : Directive) (first : Bool) (t : SourceToken) (ts : List SourceToken) (s : State)
-    → directive_of t ≡ Some d → piece_of (command_in_front d first t ts) ≡ Branching (command_in_front d first t ts)
-    → resumed rules (Skipped (suc n) o os) first (t ∷ ts) s ≡ skips rules (Skipped (suc n) o os) d first t ts s
-unfolding resume resumed
-skipped_inner_branch rules n o os d first t ts s e p =
-    let c = command_in_front d first t ts in
-    let rest = pieces (only_blanks first c.text) 0 (behind_directive d ts) in
-    let nest = nest_of rules s.sources_left in
-    resumed_directive rules (Skipped (suc n) o os) d first t ts s e
-    ∙ ap (λ (x : Piece). resume rules nest (Skipped (suc n) o os) (x ∷ rest) s) p
-    ∙ on_leaves (skipped_command c) s (λ after. resume rules nest (Skipped (suc n) o os) rest after)
-    (λ after. behind rules (Skipped (suc n) o os) d first t ts after) refl
-
--- in skipped text, the end of a conditional that opened inside is skipped
-pub skipped_inner_end : (rules : Rules) (n : ℕ) (o : Progress) (os : List Progress) (d : Directive) (first : Bool) (t : SourceToken) (ts : List SourceToken) (s : State)
-    → directive_of t ≡ Some d → piece_of (command_in_front d first t ts) ≡ Closing (command_in_front d first t ts)
-    → resumed rules (Skipped (suc n) o os) first (t ∷ ts) s ≡ skips rules (Skipped n o os) d first t ts s
-unfolding resume resumed
-skipped_inner_end rules n o os d first t ts s e p =
-    let c = command_in_front d first t ts in
-    let rest = pieces (only_blanks first c.text) 0 (behind_directive d ts) in
-    let nest = nest_of rules s.sources_left in
-    resumed_directive rules (Skipped (suc n) o os) d first t ts s e
-    ∙ ap (λ (x : Piece). resume rules nest (Skipped (suc n) o os) (x ∷ rest) s) p
-    ∙ on_leaves (skipped_command c) s (λ after. resume rules nest (Skipped n o os) rest after)
-    (λ after. behind rules (Skipped n o os) d first t ts after) refl
-
--- in skipped text, a branch of the conditional that skips it
 pub skipped_branching : (rules : Rules) (o : Progress) (os : List Progress) (d : Directive) (first : Bool) (t : SourceToken) (ts : List SourceToken) (s : State)
     → directive_of t ≡ Some d → piece_of (command_in_front d first t ts) ≡ Branching (command_in_front d first t ts)
     → resumed rules (Skipped 0 o os) first (t ∷ ts) s
@@ -419,24 +289,4 @@ pub skipped_branching : (rules : Rules) (o : Progress) (os : List Progress) (d :
 unfolding resume resumed
 skipped_branching rules o os d first t ts s e p =
     let c = command_in_front d first t ts in
-    let rest = pieces (only_blanks first c.text) 0 (behind_directive d ts) in
-    let nest = nest_of rules s.sources_left in
-    resumed_directive rules (Skipped 0 o os) d first t ts s e
-    ∙ ap (λ (x : Piece). resume rules nest (Skipped 0 o os) (x ∷ rest) s) p
-    ∙ by_test-same (turn o c s) c s
-    (λ u. resume rules nest (Live (turned o c true ∷ os)) rest u)
-    (λ u. resume rules nest (Skipped 0 (turned o c false) os) rest u)
-    (λ u. behind rules (Live (turned o c true ∷ os)) d first t ts u)
-    (λ u. behind rules (Skipped 0 (turned o c false) os) d first t ts u)
-    refl refl
-
--- in skipped text, the end of the conditional that skips it
-pub skipped_closing : (rules : Rules) (o : Progress) (os : List Progress) (d : Directive) (first : Bool) (t : SourceToken) (ts : List SourceToken) (s : State)
-    → directive_of t ≡ Some d → piece_of (command_in_front d first t ts) ≡ Closing (command_in_front d first t ts)
-    → resumed rules (Skipped 0 o os) first (t ∷ ts) s ≡ behind rules (Live os) d first t ts (past_conditional s)
-unfolding resume resumed past_conditional
-skipped_closing rules o os d first t ts s e p =
-    let c = command_in_front d first t ts in
-    let rest = pieces (only_blanks first c.text) 0 (behind_directive d ts) in
-    resumed_directive rules (Skipped 0 o os) d first t ts s e
-    ∙ ap (λ (x : Piece). resume rules (nest_of rules s.sources_left) (Skipped 0 o os) (x ∷ rest) s) p
+    directive_piece rules (Skipped 0 o os) d first t ts s (Branching c) e p ∙ by_test-same (turn o c s) c s _ _ _ _ refl refl

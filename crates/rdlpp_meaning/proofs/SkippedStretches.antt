@@ -5,9 +5,9 @@ use Rattle.rdlpp_scan.specs.declared.token.Kind.{Kind}
 use Rattle.rdlpp_scan.specs.SourceTokens.{Ordinary, SourceToken, Sort, Definition, Renumbering, Broken}
 use Rattle.rdlpp_meaning.specs.Outcome.{Outcome, gives, fails, and_then}
 use Rattle.rdlpp_meaning.specs.State.{Rules, State, fault_at, breach_kind}
-use Rattle.rdlpp_meaning.specs.Parts.{only_blanks, line_ends_of, directive_of, Argument, no_argument, one_argument, behind_blanks, name_in_front, string_in_front, past_blanks, argument_of, command_of, behind_directive, piece_of}
-use Rattle.rdlpp_meaning.specs.Meaning.{Passage, leaves, goes_on, Progress, behind_bytes, skipped_command}
-use Rattle.rdlpp_meaning.specs.Resumed.{Skipped, resumed, behind, skips}
+use Rattle.rdlpp_meaning.specs.Parts.{Piece, command_in_front, only_blanks, line_ends_of, directive_of, Argument, no_argument, one_argument, behind_blanks, name_in_front, string_in_front, past_blanks, argument_of, command_of, behind_directive, piece_of, pieces}
+use Rattle.rdlpp_meaning.specs.Meaning.{Passage, leaves, goes_on, Progress, behind_bytes, skipped_command, nest_of}
+use Rattle.rdlpp_meaning.specs.Resumed.{Skipped, resume, resumed, behind, skips}
 use Rattle.rdlpp_meaning.proofs.Outcomes.{and_then-gives}
 use Rattle.rdlpp_meaning.proofs.TokenWrites.{only_blanks-append, line_ends_of-append, usage_text}
 use Rattle.rdlpp_meaning.proofs.Passages.{on_leaves, leaves-and_then, goes_on-gives, behind_bytes-nil, behind_bytes-twice, gives_fails-goes_on}
@@ -21,7 +21,7 @@ use Rattle.rdlpp_scan.specs.declared.token.Directive.{Directive}
 use Rattle.rdlpp_scan.specs.declared.token.Directive.TheVariants.{Undef, Ifdef, Ifndef, Elsif, Include, Define, Else, Endif, Line}
 use Rattle.rdlpp_scan.specs.Bytes.{is_line_end}
 use Rattle.rdlpp_meaning.specs.Expansion.{bytes_of, is_copied, usage_token}
-use Rattle.rdlpp_meaning.proofs.Directives.{argument_takes, skipped_single, skipped_opening, skipped_inner_branch, skipped_inner_end}
+use Rattle.rdlpp_meaning.proofs.Directives.{argument_by, argument_takes, directive_piece}
 use Rattle.rdlpp_scan.specs.Front.{Breach}
 use Rattle.rdlpp_scan.specs.Reserved.{is_reserved}
 use Rattle.rdlpp_meaning.proofs.ConditionalMoves.{opens_conditional, branches_conditional, opening_piece, branching_piece, closing_piece}
@@ -124,92 +124,12 @@ text_passed rules n p os (t ∷ ts) more s e =
     (λ first. skipped_text_token rules n p os first t (ts ++ more) s (and_parts (is_text t) (list_all is_text ts) e).0)
     (text_passed rules n p os ts more s (and_parts (is_text t) (list_all is_text ts) e).1)
 
--- what a directive takes is text
-TakesText : List SourceToken → Argument → Type 0
-TakesText ts a = list_all is_text (take a.used ts) ≡ true
-
--- nothing is
-nothing_takes : (ts : List SourceToken) → TakesText ts no_argument
-unfolding TakesText no_argument
-nothing_takes ts = refl
-
--- a name in front, by what the first token is
-name_takes_by : (sort : Sort) (bytes : List ℕ) (line : ℕ) (ts : List SourceToken)
-    → TakesText (record { sort = sort; bytes = bytes; line = line } ∷ ts) (name_in_front (record { sort = sort; bytes = bytes; line = line } ∷ ts))
-unfolding name_in_front one_argument TakesText is_text directive_of
-name_takes_by (Ordinary Name) bytes line ts = refl
-name_takes_by (Ordinary k) bytes line ts = nothing_takes (record { sort = Ordinary k; bytes = bytes; line = line } ∷ ts)
-name_takes_by Definition bytes line ts = nothing_takes (record { sort = Definition; bytes = bytes; line = line } ∷ ts)
-name_takes_by Renumbering bytes line ts = nothing_takes (record { sort = Renumbering; bytes = bytes; line = line } ∷ ts)
-name_takes_by (Broken b) bytes line ts = nothing_takes (record { sort = Broken b; bytes = bytes; line = line } ∷ ts)
-
--- a name in front
-name_takes : (ts : List SourceToken) → TakesText ts (name_in_front ts)
-unfolding name_in_front
-name_takes [] = nothing_takes []
-name_takes (t ∷ ts) = name_takes_by t.sort t.bytes t.line ts
-
--- a choice between nothing and a string
-choice_takes : (b : Bool) (bytes : List ℕ) (line : ℕ) (ts : List SourceToken)
-    → TakesText (record { sort = Ordinary Str; bytes = bytes; line = line } ∷ ts)
-    (if b then no_argument else one_argument (record { sort = Ordinary Str; bytes = bytes; line = line }))
-unfolding one_argument TakesText is_text directive_of
-choice_takes true bytes line ts = nothing_takes (record { sort = Ordinary Str; bytes = bytes; line = line } ∷ ts)
-choice_takes false bytes line ts = refl
-
--- a string in front, by what the first token is
-string_takes_by : (sort : Sort) (bytes : List ℕ) (line : ℕ) (ts : List SourceToken)
-    → TakesText (record { sort = sort; bytes = bytes; line = line } ∷ ts) (string_in_front (record { sort = sort; bytes = bytes; line = line } ∷ ts))
-unfolding string_in_front
-string_takes_by (Ordinary Str) bytes line ts = choice_takes (list_any is_line_end bytes) bytes line ts
-string_takes_by (Ordinary k) bytes line ts = nothing_takes (record { sort = Ordinary k; bytes = bytes; line = line } ∷ ts)
-string_takes_by Definition bytes line ts = nothing_takes (record { sort = Definition; bytes = bytes; line = line } ∷ ts)
-string_takes_by Renumbering bytes line ts = nothing_takes (record { sort = Renumbering; bytes = bytes; line = line } ∷ ts)
-string_takes_by (Broken b) bytes line ts = nothing_takes (record { sort = Broken b; bytes = bytes; line = line } ∷ ts)
-
--- a string in front
-string_takes : (ts : List SourceToken) → TakesText ts (string_in_front ts)
-unfolding string_in_front
-string_takes [] = nothing_takes []
-string_takes (t ∷ ts) = string_takes_by t.sort t.bytes t.line ts
-
--- blanks in front of an argument, by what is given
-blanks_take_by : (bytes : List ℕ) (line : ℕ) (ts : List SourceToken) (given : Option (List ℕ)) (text : List ℕ) (used : ℕ)
-    → TakesText ts (record { given = given; text = text; used = used })
-    → TakesText (record { sort = Ordinary Blank; bytes = bytes; line = line } ∷ ts)
-    (behind_blanks (record { sort = Ordinary Blank; bytes = bytes; line = line }) (record { given = given; text = text; used = used }))
-unfolding TakesText behind_blanks no_argument is_text directive_of
-blanks_take_by bytes line ts None text used e = refl
-blanks_take_by bytes line ts (Some x) text used e = e
-
--- what stands behind blanks, by what the first token is
-past_take_by : (in_front : List SourceToken → Argument) → ((us : List SourceToken) → TakesText us (in_front us))
-    → (sort : Sort) (bytes : List ℕ) (line : ℕ) (ts : List SourceToken)
-    → TakesText (record { sort = sort; bytes = bytes; line = line } ∷ ts) (past_blanks in_front (record { sort = sort; bytes = bytes; line = line } ∷ ts))
-unfolding past_blanks
-past_take_by in_front h (Ordinary Blank) bytes line ts =
-    let a = in_front ts in blanks_take_by bytes line ts a.given a.text a.used (h ts)
-past_take_by in_front h (Ordinary k) bytes line ts = h (record { sort = Ordinary k; bytes = bytes; line = line } ∷ ts)
-past_take_by in_front h Definition bytes line ts = nothing_takes (record { sort = Definition; bytes = bytes; line = line } ∷ ts)
-past_take_by in_front h Renumbering bytes line ts = nothing_takes (record { sort = Renumbering; bytes = bytes; line = line } ∷ ts)
-past_take_by in_front h (Broken b) bytes line ts = nothing_takes (record { sort = Broken b; bytes = bytes; line = line } ∷ ts)
-
--- what stands behind blanks
-past_take : (in_front : List SourceToken → Argument) → ((us : List SourceToken) → TakesText us (in_front us))
-    → (ts : List SourceToken) → TakesText ts (past_blanks in_front ts)
-unfolding past_blanks
-past_take in_front h [] = nothing_takes []
-past_take in_front h (t ∷ ts) = past_take_by in_front h t.sort t.bytes t.line ts
-
 -- the tokens that a directive takes are text
 pub argument_text : (d : Directive) (ts : List SourceToken) → list_all is_text (take (argument_of d ts).used ts) ≡ true
-unfolding argument_of TakesText
-argument_text Undef ts = past_take name_in_front name_takes ts
-argument_text Ifdef ts = past_take name_in_front name_takes ts
-argument_text Ifndef ts = past_take name_in_front name_takes ts
-argument_text Elsif ts = past_take name_in_front name_takes ts
-argument_text Include ts = past_take string_in_front string_takes ts
-argument_text d ts = nothing_takes ts
+unfolding no_argument one_argument is_text directive_of
+argument_text d ts =
+    argument_by (λ us a. list_all is_text (take a.used us) ≡ true) (λ us. refl) (λ bytes line us. refl) (λ bytes line us. refl)
+    (λ bytes line us given text used e. e) d ts
 
 -- what a directive would take is skipped as text is
 argument_passed : (rules : Rules) (n : ℕ) (p : Progress) (os : List Progress) (d : Directive) (ts : List SourceToken) (s : State) (flag : Bool)
@@ -239,6 +159,23 @@ skips_token rules n p os d first t ts s =
     ∙ sym (behind_bytes-twice (line_ends_of x) (line_ends_of y) (resumed rules (Skipped n p os) (only_blanks (only_blanks first x) y) us s))
     ∙ ap (λ (q : Passage). behind_bytes (line_ends_of x) q) (sym (argument_passed rules n p os d ts s (only_blanks first x)))
 
+-- a directive in skipped text that is a piece which is skipped, and leaves so many conditionals open inside
+skipped_piece : (rules : Rules) (n m : ℕ) (p : Progress) (os : List Progress) (d : Directive) (first : Bool) (t : SourceToken) (ts : List SourceToken) (s : State) (x : Piece)
+    → directive_of t ≡ Some d → piece_of (command_in_front d first t ts) ≡ x
+    → ((ps : List Piece) → resume rules (nest_of rules s.sources_left) (Skipped n p os) (x ∷ ps) s
+    ≡ goes_on (leaves (skipped_command (command_in_front d first t ts)) s) (λ after. resume rules (nest_of rules s.sources_left) (Skipped m p os) ps after))
+    → resumed rules (Skipped n p os) first (t ∷ ts) s
+    ≡ behind_bytes (line_ends_of t.bytes) (resumed rules (Skipped m p os) (only_blanks first t.bytes) ts s)
+unfolding resumed
+skipped_piece rules n m p os d first t ts s x e is skips_it =
+    let c = command_in_front d first t ts in
+    let rest = pieces (only_blanks first c.text) 0 (behind_directive d ts) in
+    directive_piece rules (Skipped n p os) d first t ts s x e is
+    ∙ skips_it rest
+    ∙ on_leaves (skipped_command c) s (λ after. resume rules (nest_of rules s.sources_left) (Skipped m p os) rest after)
+    (λ after. behind rules (Skipped m p os) d first t ts after) refl
+    ∙ skips_token rules m p os d first t ts s
+
 -- whether a directive stands by itself: it belongs to no conditional
 unfoldable pub stands_by_itself : Directive → Bool
 stands_by_itself Define = true
@@ -260,11 +197,11 @@ pub skipped_directive : (rules : Rules) (n : ℕ) (p : Progress) (os : List Prog
     → directive_of t ≡ Some d → stands_by_itself d ≡ true
     → resumed rules (Skipped n p os) first (t ∷ ts) s
     ≡ behind_bytes (line_ends_of t.bytes) (resumed rules (Skipped n p os) (only_blanks first t.bytes) ts s)
-unfolding stands_by_itself piece_of command_of
-skipped_directive rules n p os Define first t ts s e h = skipped_single rules n p os Define first t ts s e refl ∙ skips_token rules n p os Define first t ts s
-skipped_directive rules n p os Undef first t ts s e h = skipped_single rules n p os Undef first t ts s e refl ∙ skips_token rules n p os Undef first t ts s
-skipped_directive rules n p os Include first t ts s e h = skipped_single rules n p os Include first t ts s e refl ∙ skips_token rules n p os Include first t ts s
-skipped_directive rules n p os Line first t ts s e h = skipped_single rules n p os Line first t ts s e refl ∙ skips_token rules n p os Line first t ts s
+unfolding stands_by_itself piece_of command_of resume
+skipped_directive rules n p os Define first t ts s e h = skipped_piece rules n n p os Define first t ts s _ e refl (λ ps. refl)
+skipped_directive rules n p os Undef first t ts s e h = skipped_piece rules n n p os Undef first t ts s _ e refl (λ ps. refl)
+skipped_directive rules n p os Include first t ts s e h = skipped_piece rules n n p os Include first t ts s _ e refl (λ ps. refl)
+skipped_directive rules n p os Line first t ts s e h = skipped_piece rules n n p os Line first t ts s _ e refl (λ ps. refl)
 skipped_directive rules n p os d first t ts s e h = cc
 
 -- an ordinary token that is skipped, by the directive that it begins
@@ -324,24 +261,25 @@ pub resumed_skipped_opening : (rules : Rules) (n : ℕ) (p : Progress) (os : Lis
     → directive_of t ≡ Some d → opens_conditional d ≡ true
     → resumed rules (Skipped n p os) first (t ∷ ts) s
     ≡ behind_bytes (line_ends_of t.bytes) (resumed rules (Skipped (suc n) p os) (only_blanks first t.bytes) ts s)
-resumed_skipped_opening rules n p os d first t ts s e o =
-    skipped_opening rules n p os d first t ts s e (opening_piece d first t ts o) ∙ skips_token rules (suc n) p os d first t ts s
+unfolding resume
+resumed_skipped_opening rules n p os d first t ts s e o = skipped_piece rules n (suc n) p os d first t ts s _ e (opening_piece d first t ts o) (λ ps. refl)
 
 -- a branch of a conditional that opened in skipped text
 pub resumed_inner_branch : (rules : Rules) (n : ℕ) (p : Progress) (os : List Progress) (d : Directive) (first : Bool) (t : SourceToken) (ts : List SourceToken) (s : State)
     → directive_of t ≡ Some d → branches_conditional d ≡ true
     → resumed rules (Skipped (suc n) p os) first (t ∷ ts) s
     ≡ behind_bytes (line_ends_of t.bytes) (resumed rules (Skipped (suc n) p os) (only_blanks first t.bytes) ts s)
+unfolding resume
 resumed_inner_branch rules n p os d first t ts s e b =
-    skipped_inner_branch rules n p os d first t ts s e (branching_piece d first t ts b) ∙ skips_token rules (suc n) p os d first t ts s
+    skipped_piece rules (suc n) (suc n) p os d first t ts s _ e (branching_piece d first t ts b) (λ ps. refl)
 
 -- the end of a conditional that opened in skipped text
 pub resumed_inner_end : (rules : Rules) (n : ℕ) (p : Progress) (os : List Progress) (first : Bool) (t : SourceToken) (ts : List SourceToken) (s : State)
     → directive_of t ≡ Some Endif
     → resumed rules (Skipped (suc n) p os) first (t ∷ ts) s
     ≡ behind_bytes (line_ends_of t.bytes) (resumed rules (Skipped n p os) (only_blanks first t.bytes) ts s)
-resumed_inner_end rules n p os first t ts s e =
-    skipped_inner_end rules n p os Endif first t ts s e (closing_piece first t ts) ∙ skips_token rules n p os Endif first t ts s
+unfolding resume
+resumed_inner_end rules n p os first t ts s e = skipped_piece rules (suc n) n p os Endif first t ts s _ e (closing_piece first t ts) (λ ps. refl)
 
 -- a broken token gives its LF bytes, and then ends its source
 pub resumed_skipped_broken : (rules : Rules) (n : ℕ) (p : Progress) (os : List Progress) (first : Bool) (b : Breach) (bytes : List ℕ) (line : ℕ) (more : List SourceToken) (s : State)

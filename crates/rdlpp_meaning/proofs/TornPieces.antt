@@ -13,6 +13,7 @@ use Rattle.rdlpp_meaning.specs.Actuals.{token_role}
 use Rattle.rdlpp_meaning.specs.Parts.{Command, Piece, Run, Single, Opening, Branching, Closing, only_blanks, directive_of, directive_named, Argument, no_argument, one_argument, behind_blanks, name_in_front, string_in_front, past_blanks, argument_of, command_of, piece_of, joined, pieces}
 use Rattle.rdlpp_meaning.specs.Resumed.{leading}
 use Rattle.rdlpp_meaning.specs.LimitLaws.{is_limit}
+use Rattle.rdlpp_meaning.proofs.Directives.{argument_by}
 use Rattle.rdlpp_meaning.proofs.TornCalls.{TornBy}
 
 -- whether a line may end behind a token by what it is: not behind a backquoted name, nor behind blanks
@@ -284,84 +285,11 @@ argument-torn Else ts us h = refl
 argument-torn Endif ts us h = refl
 argument-torn Line ts us h = refl
 
--- what a name or a string in front uses isn't broken, by what the first token is
-name-unbroken-by : (sort : Sort) (bytes : List ℕ) (line : ℕ) (ts : List SourceToken)
-    → FirstUnbroken (name_in_front (record { sort = sort; bytes = bytes; line = line } ∷ ts)).used (record { sort = sort; bytes = bytes; line = line } ∷ ts)
-unfolding name_in_front FirstUnbroken IsUnbroken no_argument one_argument
-name-unbroken-by (Ordinary Name) bytes line ts = (tt, tt)
-name-unbroken-by (Ordinary k) bytes line ts = tt
-name-unbroken-by Definition bytes line ts = tt
-name-unbroken-by Renumbering bytes line ts = tt
-name-unbroken-by (Broken b) bytes line ts = tt
-
--- a name in front
-name-unbroken : (ts : List SourceToken) → FirstUnbroken (name_in_front ts).used ts
-unfolding name_in_front FirstUnbroken no_argument
-name-unbroken [] = tt
-name-unbroken (t ∷ ts) = name-unbroken-by t.sort t.bytes t.line ts
-
--- a string, by whether it has an LF
-string-unbroken-by : (bytes : List ℕ) (line : ℕ) (ts : List SourceToken) (split : Bool)
-    → FirstUnbroken (if split then no_argument else one_argument (record { sort = Ordinary Str; bytes = bytes; line = line })).used
-    (record { sort = Ordinary Str; bytes = bytes; line = line } ∷ ts)
-unfolding FirstUnbroken IsUnbroken no_argument one_argument
-string-unbroken-by bytes line ts true = tt
-string-unbroken-by bytes line ts false = (tt, tt)
-
--- a string in front, by what the first token is
-string-unbroken-sort : (sort : Sort) (bytes : List ℕ) (line : ℕ) (ts : List SourceToken)
-    → FirstUnbroken (string_in_front (record { sort = sort; bytes = bytes; line = line } ∷ ts)).used (record { sort = sort; bytes = bytes; line = line } ∷ ts)
-unfolding string_in_front FirstUnbroken IsUnbroken no_argument
-string-unbroken-sort (Ordinary Str) bytes line ts = string-unbroken-by bytes line ts (list_any is_line_end bytes)
-string-unbroken-sort (Ordinary k) bytes line ts = tt
-string-unbroken-sort Definition bytes line ts = tt
-string-unbroken-sort Renumbering bytes line ts = tt
-string-unbroken-sort (Broken b) bytes line ts = tt
-
--- a string in front
-string-unbroken : (ts : List SourceToken) → FirstUnbroken (string_in_front ts).used ts
-unfolding string_in_front FirstUnbroken no_argument
-string-unbroken [] = tt
-string-unbroken (t ∷ ts) = string-unbroken-sort t.sort t.bytes t.line ts
-
--- blanks in front of what is given, by whether anything is
-blanks-unbroken : (bytes : List ℕ) (line : ℕ) (ts : List SourceToken) (given : Option (List ℕ)) (text : List ℕ) (used : ℕ) → FirstUnbroken used ts
-    → FirstUnbroken (behind_blanks (record { sort = Ordinary Blank; bytes = bytes; line = line }) (record { given = given; text = text; used = used })).used
-    (record { sort = Ordinary Blank; bytes = bytes; line = line } ∷ ts)
-unfolding behind_blanks FirstUnbroken IsUnbroken no_argument
-blanks-unbroken bytes line ts None text used h = tt
-blanks-unbroken bytes line ts (Some x) text used h = (tt, h)
-
--- what stands behind blanks, by what the first token is
-past-unbroken-by : (f : List SourceToken → Argument) → ((ts : List SourceToken) → FirstUnbroken (f ts).used ts)
-    → (sort : Sort) (bytes : List ℕ) (line : ℕ) (ts : List SourceToken)
-    → FirstUnbroken (past_blanks f (record { sort = sort; bytes = bytes; line = line } ∷ ts)).used (record { sort = sort; bytes = bytes; line = line } ∷ ts)
-unfolding past_blanks FirstUnbroken no_argument
-past-unbroken-by f each (Ordinary Blank) bytes line ts = blanks-unbroken bytes line ts (f ts).given (f ts).text (f ts).used (each ts)
-past-unbroken-by f each (Ordinary k) bytes line ts = each (record { sort = Ordinary k; bytes = bytes; line = line } ∷ ts)
-past-unbroken-by f each Definition bytes line ts = tt
-past-unbroken-by f each Renumbering bytes line ts = tt
-past-unbroken-by f each (Broken b) bytes line ts = tt
-
--- what stands behind blanks
-past-unbroken : (f : List SourceToken → Argument) → ((ts : List SourceToken) → FirstUnbroken (f ts).used ts) → (ts : List SourceToken)
-    → FirstUnbroken (past_blanks f ts).used ts
-unfolding past_blanks FirstUnbroken no_argument
-past-unbroken f each [] = tt
-past-unbroken f each (t ∷ ts) = past-unbroken-by f each t.sort t.bytes t.line ts
-
 -- what a directive takes isn't broken
 argument-unbroken : (d : Directive) (ts : List SourceToken) → FirstUnbroken (argument_of d ts).used ts
-unfolding argument_of FirstUnbroken no_argument
-argument-unbroken Undef ts = past-unbroken name_in_front name-unbroken ts
-argument-unbroken Ifdef ts = past-unbroken name_in_front name-unbroken ts
-argument-unbroken Ifndef ts = past-unbroken name_in_front name-unbroken ts
-argument-unbroken Elsif ts = past-unbroken name_in_front name-unbroken ts
-argument-unbroken Include ts = past-unbroken string_in_front string-unbroken ts
-argument-unbroken Define ts = tt
-argument-unbroken Else ts = tt
-argument-unbroken Endif ts = tt
-argument-unbroken Line ts = tt
+unfolding FirstUnbroken IsUnbroken no_argument one_argument
+argument-unbroken d ts =
+    argument_by (λ us a. FirstUnbroken a.used us) (λ us. tt) (λ bytes line us. (tt, tt)) (λ bytes line us. (tt, tt)) (λ bytes line us given text used h. (tt, h)) d ts
 
 -- pieces from each number of tokens on that aren't broken
 abbrev pub PiecesFrom : List SourceToken → List SourceToken → Type 0

@@ -84,42 +84,22 @@ define-suits-by sort bytes line (inr (inr e)) =
 
 -- a `define` by its break
 unfoldable break_by : Course → ℕ → List ℕ → Option Break → Step
-break_by c line bytes None = if nat_lt c.most (length bytes) then broken DefineLong [] line else Next (record { sort = Definition; bytes = bytes; line = line })
-break_by c line bytes (Some k) = if nat_lt c.most (length bytes + k.len) then broken DefineLong [] line else broken DefineCut [] line
+break_by c line bytes k = elim k [
+  | None ↦ if nat_lt c.most (length bytes) then broken DefineLong [] line else Next (record { sort = Definition; bytes = bytes; line = line })
+  | Some x ↦ if nat_lt c.most (length bytes + x.len) then broken DefineLong [] line else broken DefineCut [] line
+]
 
 -- a `define` by where its logical line ends
 unfoldable define_by : Course → ℕ → List ℕ → Option ℕ → Step
-define_by c line bytes (Some n) = if nat_lt c.most n then broken DefineLong [] line else Next (record { sort = Definition; bytes = take n bytes; line = line })
-define_by c line bytes None = break_by c line bytes c.break
+define_by c line bytes o = elim o [
+  | Some n ↦ if nat_lt c.most n then broken DefineLong [] line else Next (record { sort = Definition; bytes = take n bytes; line = line })
+  | None ↦ break_by c line bytes c.break
+]
 
 -- the definition chooses so
 define_is : (c : Course) (line : ℕ) (bytes : List ℕ) → define_step c line bytes ≡ define_by c line bytes (logical_len 0 0 bytes)
 unfolding define_step define_by break_by
-define_is c line bytes = by_len (logical_len 0 0 bytes)
-  where
-    by_break : (k : Option Break)
-        → (elim k [
-          | None ↦ if nat_lt c.most (length bytes) then broken DefineLong [] line
-              else Next (record { sort = Definition; bytes = bytes; line = line })
-          | Some x ↦ if nat_lt c.most (length bytes + x.len) then broken DefineLong [] line
-              else broken DefineCut [] line
-        ]) ≡ break_by c line bytes k
-    by_break None = refl
-    by_break (Some x) = refl
-
-    by_len : (o : Option ℕ)
-        → (elim o [
-          | Some n ↦ if nat_lt c.most n then broken DefineLong [] line
-              else Next (record { sort = Definition; bytes = take n bytes; line = line })
-          | None ↦ elim c.break [
-            | None ↦ if nat_lt c.most (length bytes) then broken DefineLong [] line
-                else Next (record { sort = Definition; bytes = bytes; line = line })
-            | Some k ↦ if nat_lt c.most (length bytes + k.len) then broken DefineLong [] line
-                else broken DefineCut [] line
-          ]
-        ]) ≡ define_by c line bytes o
-    by_len (Some n) = refl
-    by_len None = by_break c.break
+define_is c line bytes = refl
 
 -- a choice of steps of a `define`
 head-choice : (x : Bool) (line : ℕ) (s : Step) → IsDefineHead (step_head s) → IsDefineHead (step_head (if x then broken DefineLong [] line else s))
