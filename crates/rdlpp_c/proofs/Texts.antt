@@ -2,11 +2,9 @@
 use Rattle.std.proofs.Common.{◌≡◌, ℕ, ◌+◌, ◌<◌, Bool, true, false, cond, List, [], ◌∷◌, ◌++◌, find, get_or, length, take, Option, None, Some, bytes_eq, refl, sym, ap, ◌∙◌}
 use Rattle.std.proofs.lemmas.List.{take_more}
 use Rattle.std.specs.Option.{option_map}
-use Rattle.rdlpp_source.specs.Asked.{Adds, first_known, standing_at, told_of}
 use Rattle.rdlpp_source.specs.declared.asked.AskedTexts.{AskedTexts}
-use Rattle.rdlpp_source.specs.declared.asked.Standing.{Standing}
 use Rattle.rdlpp_c.specs.declared.arrays.Text.{Text}
-use Rattle.rdlpp_c.specs.Knowing.{AddsText, KnowsTexts, content, content_at, first_of, lent_at, lent_content}
+use Rattle.rdlpp_c.specs.Knowing.{AddsText, KnowsTexts, first_of, lent_at, lent_content}
 
 first_behind : (f : Text → Option (List ℕ)) (is : Text → Bool) (x : Text) (b : Bool) (e : Option Text) (rest : Option (Option (List ℕ)))
     → option_map f e ≡ rest → option_map f (cond b (Some x) e) ≡ cond b (Some (f x)) rest

@@ -1,5 +1,5 @@
 -- Watchers, which are shown what a sink took.
-use Rattle.std.proofs.Common.{◌≡◌, ℕ, true, false, List, [], ◌++◌, Option, refl, subst, sym, ◌∙◌}
+use Rattle.std.proofs.Common.{◌≡◌, ℕ, true, false, List, [], ◌++◌, refl, subst, ◌∙◌}
 use Rattle.std.specs.Io.KnownBytes.{Appends, Keeps}
 use Rattle.rdlpp_source.specs.declared.sinks.Sink.{Ghosts as SinkGhosts}
 use Rattle.rdlpp_expand.specs.declared.watching.Watcher.{Ghosts as WatcherGhosts}

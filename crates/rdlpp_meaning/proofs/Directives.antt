@@ -7,7 +7,7 @@ use Rattle.rdlpp_scan.specs.declared.token.Kind.TheVariants.{Name, Blank, Str}
 use Rattle.rdlpp_scan.specs.declared.token.Directive.{Directive}
 use Rattle.rdlpp_scan.specs.declared.token.Directive.TheVariants.{Define, Undef, Ifdef, Ifndef, Elsif, Include, Line}
 use Rattle.rdlpp_scan.specs.Bytes.{is_line_end}
-use Rattle.rdlpp_scan.specs.SourceTokens.{Sort, Ordinary, Definition, Renumbering, Broken, SourceToken}
+use Rattle.rdlpp_scan.specs.SourceTokens.{Sort, Ordinary, SourceToken}
 use Rattle.rdlpp_meaning.specs.declared.fault.FaultKind.{FaultKind}
 use Rattle.rdlpp_meaning.specs.declared.fault.FaultKind.TheVariants.{SourceNotFound, PathTooLong, IncludeName, TooManyIncludes, BadLine}
 use Rattle.rdlpp_meaning.specs.Outcome.{Told, Outcome, gives}

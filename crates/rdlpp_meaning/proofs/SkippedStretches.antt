@@ -5,21 +5,19 @@ use Rattle.rdlpp_scan.specs.declared.token.Kind.{Kind}
 use Rattle.rdlpp_scan.specs.SourceTokens.{Ordinary, SourceToken, Sort, Definition, Renumbering, Broken}
 use Rattle.rdlpp_meaning.specs.Outcome.{Outcome, gives, fails, and_then}
 use Rattle.rdlpp_meaning.specs.State.{Rules, State, fault_at, breach_kind}
-use Rattle.rdlpp_meaning.specs.Parts.{Piece, command_in_front, only_blanks, line_ends_of, directive_of, Argument, no_argument, one_argument, behind_blanks, name_in_front, string_in_front, past_blanks, argument_of, command_of, behind_directive, piece_of, pieces}
+use Rattle.rdlpp_meaning.specs.Parts.{Piece, command_in_front, only_blanks, line_ends_of, directive_of, no_argument, one_argument, argument_of, command_of, behind_directive, piece_of, pieces}
 use Rattle.rdlpp_meaning.specs.Meaning.{Passage, leaves, goes_on, Progress, behind_bytes, skipped_command, nest_of}
 use Rattle.rdlpp_meaning.specs.Resumed.{Skipped, resume, resumed, behind, skips}
 use Rattle.rdlpp_meaning.proofs.Outcomes.{and_then-gives}
 use Rattle.rdlpp_meaning.proofs.TokenWrites.{only_blanks-append, line_ends_of-append, usage_text}
 use Rattle.rdlpp_meaning.proofs.Passages.{on_leaves, leaves-and_then, goes_on-gives, behind_bytes-nil, behind_bytes-twice, gives_fails-goes_on}
 use Rattle.rdlpp_meaning.proofs.Skipping.{skipped_token, ordinary_skips, broken_skips}
-use Rattle.std.specs.Prelude.{if◌then◌else◌}
 use Rattle.std.proofs.lemmas.Bool.{and_parts, and_from}
-use Rattle.std.specs.List.{list_all, list_any}
+use Rattle.std.specs.List.{list_all}
 use Rattle.std.proofs.lemmas.List.{take-append-drop}
-use Rattle.rdlpp_scan.specs.declared.token.Kind.TheVariants.{Name, Blank, Str, Back, BareBackquote}
+use Rattle.rdlpp_scan.specs.declared.token.Kind.TheVariants.{Back, BareBackquote}
 use Rattle.rdlpp_scan.specs.declared.token.Directive.{Directive}
-use Rattle.rdlpp_scan.specs.declared.token.Directive.TheVariants.{Undef, Ifdef, Ifndef, Elsif, Include, Define, Else, Endif, Line}
-use Rattle.rdlpp_scan.specs.Bytes.{is_line_end}
+use Rattle.rdlpp_scan.specs.declared.token.Directive.TheVariants.{Undef, Elsif, Include, Define, Else, Endif, Line}
 use Rattle.rdlpp_meaning.specs.Expansion.{bytes_of, is_copied, usage_token}
 use Rattle.rdlpp_meaning.proofs.Directives.{argument_by, argument_takes, directive_piece}
 use Rattle.rdlpp_scan.specs.Front.{Breach}

@@ -1,9 +1,6 @@
 -- Pieces of tokens of which a limit tears the last: those of larger limits, up to the run that the torn token ends.
 use Rattle.std.proofs.Common.{◌≡◌, ℕ, zero, suc, ◌⊎◌, inl, inr, Bool, true, false, List, [], ◌∷◌, ◌++◌, refl, sym, ap, subst, ◌∙◌, Option, None, Some}
-use Rattle.std.specs.Prelude.{if◌then◌else◌}
-use Rattle.std.specs.List.{list_any}
-use Rattle.rdlpp_scan.specs.Bytes.{is_line_end}
-use Rattle.rdlpp_scan.specs.declared.token.Kind.TheVariants.{Name, Back, Blank, Str}
+use Rattle.rdlpp_scan.specs.declared.token.Kind.TheVariants.{Back, Blank}
 use Rattle.rdlpp_scan.specs.declared.token.Directive.{Directive}
 use Rattle.rdlpp_scan.specs.declared.token.Directive.TheVariants.{Define, Undef, Ifdef, Ifndef, Elsif, Else, Endif, Include, Line}
 use Rattle.rdlpp_scan.specs.Front.{Breach}

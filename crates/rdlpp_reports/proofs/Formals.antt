@@ -1,5 +1,5 @@
 -- Formals were written one after another, and the lines of macros.
-use Rattle.std.proofs.Common.{◌≡◌, ℕ, ◌+◌, ◌<◌, ◌≤◌, List, [], ◌∷◌, ◌++◌, length, drop, get_or, codes, Option, Result, Ok, Err, None, Some, true, false, option_map, unwrap_or, refl, ap, sym, ◌∙◌, append_assoc, add-one}
+use Rattle.std.proofs.Common.{◌≡◌, ℕ, ◌+◌, ◌<◌, ◌≤◌, List, [], ◌∷◌, ◌++◌, length, drop, get_or, codes, Option, Result, Ok, Err, true, false, ap, sym, ◌∙◌, append_assoc, add-one}
 use Rattle.std.specs.Prelude.{if◌then◌else◌}
 use Rattle.std.proofs.Math.Seq.{drop-cons}
 use Rattle.std.proofs.lemmas.Bool.{eq-eqb, ne_eqb}
@@ -7,10 +7,9 @@ use Rattle.std.proofs.lemmas.List.{drop_all}
 use Rattle.std.specs.Io.KnownBytes.{Appends}
 use Rattle.std.proofs.KnownBytes.{Appends-trans}
 use Rattle.std.specs.List.{concat, flat_map}
-use Rattle.std.proofs.lemmas.Option.{none-some}
 use Rattle.rdlpp_table.specs.Table.{Formal, Macro, formal_bytes, macro_bytes}
 use Rattle.rdlpp_table.specs.View.{formals_of}
-use Rattle.rdlpp_reports.specs.Definitions.{BeginsWith, continued, definition_line, ends_in_slash, formal_part, formal_text, formals_text, gap, list_text}
+use Rattle.rdlpp_reports.specs.Definitions.{BeginsWith, continued, definition_line, ends_in_slash, formal_part, formal_text, formals_text, list_text}
 use Rattle.rdlpp_reports.proofs.Behind.{formals_behind}
 use Rattle.rdlpp_reports.specs.Writes.{Writes}
 use Rattle.rdlpp_reports.proofs.Parts.{writes_by, writes_part, writes_then, writes_whole}

@@ -1,7 +1,7 @@
 -- The line map: the place of each line of an output, in runs.
 -- A definition that names no source is this project's own.
-use Rattle.std.specs.Prelude.{ℕ, ◌+◌, ◌-◌, ◌^◌, ◌==◌, ◌&&◌, Bool, true, false, min, List, [], ◌∷◌, ◌++◌, codes, decimal, bytes_eq, Option, None, Some, if◌then◌else◌}
-use Rattle.std.specs.List.{concat, flat_map}
+use Rattle.std.specs.Prelude.{ℕ, ◌+◌, ◌-◌, ◌^◌, ◌==◌, ◌&&◌, Bool, true, false, min, List, [], ◌∷◌, codes, decimal, bytes_eq, Option, None, Some, if◌then◌else◌}
+use Rattle.std.specs.List.{concat}
 use Rattle.rdlpp_meaning.specs.Output.{name_cut}
 use Rattle.rdlpp_reports.specs.declared.lines.LineRun.{LineRun}
 use Rattle.rdlpp_state.specs.declared.positions.LineStep.{LineStep}

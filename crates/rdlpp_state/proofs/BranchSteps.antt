@@ -36,10 +36,11 @@ use Rattle.rdlpp_state.specs.declared.place.Place.{Place}
 use Rattle.rdlpp_state.specs.declared.place.Place.TheVariants.{Source, Text, Owed, End, Kept}
 use Rattle.rdlpp_state.proofs.ConditionalNests.{Continues, Faults, IsPlainFront, closes_at, decided_else, decided_elsif, decided_nameless, opens_at, opens_full, opens_nameless, opens_reserved, refused_else, refused_elsif, skips_else, skips_elsif, skips_end, stray_else, stray_elsif, stray_end, tested_elsif, tested_nameless, tested_reserved}
 use Rattle.rdlpp_state.proofs.EngineSteps.{not_called}
-use Rattle.rdlpp_state.proofs.FrontSteps.{kept_cut, late_branch_kind, lends_source, many_conditionals_kind, nameless_kind, read_nothing, refuses, reserved_kind, stray_kind}
+use Rattle.rdlpp_state.proofs.FrontSteps.{kept_cut, lends_source, read_nothing, refuses}
 use Rattle.rdlpp_state.proofs.OpenSteps.{EndsInner, EndsNone, EndsOne, EndsOwn, Meets, MeetsInner, MeetsNone, MeetsOwn, else_unnamed, ends_one, inner_most, meets, none_opens, one_opens}
 use Rattle.rdlpp_state.proofs.Soundness.{inner_facts}
 use Rattle.rdlpp_state.proofs.WorkFacts.{used_bytes}
+use Rattle.rdlpp_state.proofs.GoingOn.{own_kind}
 
 -- bytes that have no LF are used, and other conditionals are open
 pub goes_on : {S R : Type 0} (g : Ghosts S R) (old new : EngineView S R) (v : ConditionsView) (len : ℕ) → IsReady old → IsBounded new → 0 < len → len ≤ length (held_of (inner_buffer old.files.nest))
@@ -148,7 +149,7 @@ module _ {S R : Type 0} (g : Ghosts S R) (old new : EngineView S R) (ready : IsR
         (opens_at old.limits (run_rules g old) g.unread old.table.macros old.conditions live defined old.files.nest start stop front has free opens.0
         (inner_most old.limits old.conditions old.files.nest ready.sound.conditions_of))
     opens_steps start stop (Some Kept) has free opens =
-        faults Kept fault.TooManyConditionals [] refl opens.1 many_conditionals_kind
+        faults Kept fault.TooManyConditionals [] refl opens.1 (own_kind _ refl)
         (opens_full old.limits (run_rules g old) g.unread old.table.macros old.conditions live defined old.files.nest start stop front has free opens.0)
     opens_steps start stop (Some (Source from to)) has free opens = absurd opens
     opens_steps start stop (Some (Text place)) has free opens = absurd opens
@@ -160,14 +161,14 @@ module _ {S R : Type 0} (g : Ghosts S R) (old new : EngineView S R) (ready : IsR
         → is_reserved (argument_name (held_of (inner_buffer old.files.nest)) start stop) ≡ true → place ≡ Kept → word ≡ take 128 (argument_name (held_of (inner_buffer old.files.nest)) start stop)
         → new ≡ record old { kept = Some (fault_at fault.ReservedName (inner_buffer old.files.nest).line word (state_of old)) } → Walks g old new (lent_answer new place)
     reserved_steps start stop place word has taken is cut becomes =
-        faults place fault.ReservedName (argument_name (held_of (inner_buffer old.files.nest)) start stop) is (kept_cut old new _ _ _ _ _ becomes cut) reserved_kind
+        faults place fault.ReservedName (argument_name (held_of (inner_buffer old.files.nest)) start stop) is (kept_cut old new _ _ _ _ _ becomes cut) (own_kind _ refl)
         (opens_reserved old.limits (run_rules g old) g.unread old.table.macros old.conditions live defined old.files.nest start stop front has taken)
 
     -- it has none
     pub nameless_steps : (place : Place) → LacksName (opening_word defined) (held_of (inner_buffer old.files.nest)) → place ≡ Kept
         → new ≡ record old { kept = Some (fault_at fault.NameExpected (inner_buffer old.files.nest).line [] (state_of old)) } → Walks g old new (lent_answer new place)
     nameless_steps place lacks is becomes =
-        faults place fault.NameExpected [] is becomes nameless_kind (opens_nameless old.limits (run_rules g old) g.unread old.table.macros old.conditions live defined old.files.nest front lacks)
+        faults place fault.NameExpected [] is becomes (own_kind _ refl) (opens_nameless old.limits (run_rules g old) g.unread old.table.macros old.conditions live defined old.files.nest front lacks)
 
   -- an `elsif` of a conditional that opened in skipped text is used
   pub inner_elsif : Meets Elsif Inner (inner_below old.files.nest) old.conditions → IsDirective Elsif (held_of (inner_buffer old.files.nest))
@@ -200,9 +201,9 @@ module _ {S R : Type 0} (g : Ghosts S R) (old new : EngineView S R) (ready : IsR
   pub elsif_refused : (place : Place) (kind : FaultKind) → Meets Elsif (Refused kind) (inner_below old.files.nest) old.conditions → IsDirective Elsif (held_of (inner_buffer old.files.nest)) → place ≡ Kept
       → new ≡ record old { kept = Some (fault_at kind (inner_buffer old.files.nest).line [] (state_of old)) } → Walks g old new (lent_answer new place)
   elsif_refused place kind (MeetsNone alone same) is kept becomes =
-      refused_by place kind fault.StrayBranch kept (cc) stray_kind becomes (stray_elsif old.limits (run_rules g old) g.unread old.table.macros old.conditions old.files.nest front alone is)
+      refused_by place kind fault.StrayBranch kept (cc) (own_kind _ refl) becomes (stray_elsif old.limits (run_rules g old) g.unread old.table.macros old.conditions old.files.nest front alone is)
   elsif_refused place kind (MeetsOwn live o os is_open below skips turns) is kept becomes =
-      refused_by place kind fault.BranchAfterElse kept turns.0 late_branch_kind becomes
+      refused_by place kind fault.BranchAfterElse kept turns.0 (own_kind _ refl) becomes
       (refused_elsif old.limits (run_rules g old) g.unread old.table.macros old.conditions live o os is_open skips old.files.nest front below is
       (λ c s w. turns.1 c s w ∙ ap (λ (k : FaultKind). Stopped k []) turns.0))
   elsif_refused place kind (MeetsInner n o os is_open below skips wrong) is kept becomes = absurd (cc)
@@ -210,9 +211,9 @@ module _ {S R : Type 0} (g : Ghosts S R) (old new : EngineView S R) (ready : IsR
   pub else_refused : (place : Place) (kind : FaultKind) → Meets Else (Refused kind) (inner_below old.files.nest) old.conditions → IsDirective Else (held_of (inner_buffer old.files.nest)) → place ≡ Kept
       → new ≡ record old { kept = Some (fault_at kind (inner_buffer old.files.nest).line [] (state_of old)) } → Walks g old new (lent_answer new place)
   else_refused place kind (MeetsNone alone same) is kept becomes =
-      refused_by place kind fault.StrayBranch kept (cc) stray_kind becomes (stray_else old.limits (run_rules g old) g.unread old.table.macros old.conditions old.files.nest front alone is)
+      refused_by place kind fault.StrayBranch kept (cc) (own_kind _ refl) becomes (stray_else old.limits (run_rules g old) g.unread old.table.macros old.conditions old.files.nest front alone is)
   else_refused place kind (MeetsOwn live o os is_open below skips turns) is kept becomes =
-      refused_by place kind fault.BranchAfterElse kept turns.0 late_branch_kind becomes
+      refused_by place kind fault.BranchAfterElse kept turns.0 (own_kind _ refl) becomes
       (refused_else old.limits (run_rules g old) g.unread old.table.macros old.conditions live o os is_open skips old.files.nest front below is
       (λ c s w. turns.1 c s w ∙ ap (λ (k : FaultKind). Stopped k []) turns.0))
   else_refused place kind (MeetsInner n o os is_open below skips wrong) is kept becomes = absurd (cc)
@@ -258,13 +259,13 @@ module _ {S R : Type 0} (g : Ghosts S R) (old new : EngineView S R) (ready : IsR
         → is_reserved (argument_name (held_of (inner_buffer old.files.nest)) start stop) ≡ true → place ≡ Kept → word ≡ take 128 (argument_name (held_of (inner_buffer old.files.nest)) start stop)
         → new ≡ record old { kept = Some (fault_at fault.ReservedName (inner_buffer old.files.nest).line word (state_of old)) } → Walks g old new (lent_answer new place)
     elsif_reserved start stop place word has taken is cut becomes =
-        faults place fault.ReservedName (argument_name (held_of (inner_buffer old.files.nest)) start stop) is (kept_cut old new _ _ _ _ _ becomes cut) reserved_kind
+        faults place fault.ReservedName (argument_name (held_of (inner_buffer old.files.nest)) start stop) is (kept_cut old new _ _ _ _ _ becomes cut) (own_kind _ refl)
         (tested_reserved old.limits (run_rules g old) g.unread old.table.macros old.conditions tested.live tested.conditional tested.around tested.is_open tested.skips tested.test old.files.nest start stop front tested.below has taken)
 
     pub elsif_nameless : (place : Place) → LacksName Elsif (held_of (inner_buffer old.files.nest)) → place ≡ Kept
         → new ≡ record old { kept = Some (fault_at fault.NameExpected (inner_buffer old.files.nest).line [] (state_of old)) } → Walks g old new (lent_answer new place)
     elsif_nameless place lacks is becomes =
-        faults place fault.NameExpected [] is becomes nameless_kind
+        faults place fault.NameExpected [] is becomes (own_kind _ refl)
         (tested_nameless old.limits (run_rules g old) g.unread old.table.macros old.conditions tested.live tested.conditional tested.around tested.is_open tested.skips tested.test old.files.nest front tested.below lacks)
 
   -- an `endif` that is stray
@@ -272,7 +273,7 @@ module _ {S R : Type 0} (g : Ghosts S R) (old new : EngineView S R) (ready : IsR
       → new ≡ record (record old { conditions = v }) { kept = Some (fault_at kind (inner_buffer old.files.nest).line [] (state_of (record old { conditions = v }))) } → Walks g old new (lent_answer new place)
   end_refused A place kind v (EndsNone alone same stays) is kept becomes =
       let keeps : ConditionsView → EngineView S R = λ w. record (record old { conditions = w }) { kept = Some (fault_at kind (inner_buffer old.files.nest).line [] (state_of (record old { conditions = w }))) } in
-      refused_by place kind fault.StrayBranch kept (cc) stray_kind (becomes ∙ ap keeps stays) (stray_end old.limits (run_rules g old) g.unread old.table.macros old.conditions old.files.nest front alone is)
+      refused_by place kind fault.StrayBranch kept (cc) (own_kind _ refl) (becomes ∙ ap keeps stays) (stray_end old.limits (run_rules g old) g.unread old.table.macros old.conditions old.files.nest front alone is)
   end_refused A place kind v (EndsOwn live o os is_open below skips wrong moves) is kept becomes = absurd wrong
   end_refused A place kind v (EndsInner n o os is_open below skips wrong moves) is kept becomes = absurd wrong
 

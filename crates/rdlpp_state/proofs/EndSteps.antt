@@ -39,13 +39,14 @@ use Rattle.rdlpp_state.specs.declared.place.Place.{Place}
 use Rattle.rdlpp_state.specs.declared.place.Place.TheVariants.{Source, Text, Owed, End, Kept}
 use Rattle.rdlpp_state.proofs.ConditionalPlaces.{conditions_live, inner_below-same}
 use Rattle.rdlpp_state.proofs.EngineSteps.{walks_end}
-use Rattle.rdlpp_state.proofs.FrontSteps.{IsRead, left_by, lends_by, refuses, refuses_by, text_unowed, unclosed_kind}
+use Rattle.rdlpp_state.proofs.FrontSteps.{IsRead, left_by, lends_by, refuses, refuses_by, text_unowed}
 use Rattle.rdlpp_state.proofs.IncludeSteps.{nest_returned}
 use Rattle.rdlpp_state.proofs.NestLeft.{nest_ended, nest_open}
 use Rattle.rdlpp_state.proofs.OwedOrigins.{owed_few, owed_torn}
 use Rattle.rdlpp_state.proofs.PassedNests.{unclosed_at}
 use Rattle.rdlpp_state.proofs.Soundness.{with_inner-length}
 use Rattle.rdlpp_state.proofs.WorkFacts.{left_falls}
+use Rattle.rdlpp_state.proofs.GoingOn.{own_kind}
 
 -- the macros of a state are those that it is made of
 pub nest_macros : {R : Type 0} (limits : Limits) (macros : List Macro) (v : ConditionsView) (nest : List (File R)) → (nest_state limits macros v nest).macros ≡ macros
@@ -171,7 +172,7 @@ module _ {S R : Type 0} (g : Ghosts S R) (old mid new : EngineView S R) (ready :
       let o = stops.conditional in
       let below = stops.below in
       let same = same_below in
-      refuses_by g old mid new Kept (unclosed_fault o.line) (λ s. unclosed_kind) ready r bounded refl stops.kept call
+      refuses_by g old mid new Kept (unclosed_fault o.line) (λ s. (own_kind _ refl)) ready r bounded refl stops.kept call
       (λ t. unclosed_at old.limits (run_rules g old) g.unread old.table.macros old.conditions (g.tells old.sources) t old.files.nest (inner_buffer mid.files.nest) o stops.around ready.nest
       (sym (ap (λ (v : ConditionsView). v.open_now) same_open) ∙ stops.is_open) (omega arith) fills (sym fills.mode ∙ stops.plain))
 

@@ -48,6 +48,7 @@ use Rattle.rdlpp_state.proofs.NestLeft.{none_held}
 use Rattle.rdlpp_state.proofs.OwedOrigins.{owed_few, owed_origin}
 use Rattle.rdlpp_state.proofs.Soundness.{inner_facts}
 use Rattle.rdlpp_state.proofs.WorkFacts.{entered_falls, used_bytes}
+use Rattle.rdlpp_state.proofs.GoingOn.{own_kind}
 
 -- an `include` with its string
 pub string_inside : (held : List ℕ) (start stop : ℕ) → HasString held start stop → (start < stop) × (stop ≤ length held)
@@ -58,23 +59,6 @@ string_inside held start stop has =
     let stops = has.stops in
     let inside : n + has.to ≤ length held = omega (arith, given.inside, given.some, length-drop n held) in
     (omega (arith, given.some), omega arith)
-
--- the faults of an `include` are the text's own
-pub include_name_kind : IsOwn IncludeName
-unfolding is_read_failed is_write_failed is_memory_kind
-include_name_kind = record { read = refl; write = refl; memory = refl }
-
-many_includes_kind : IsOwn TooManyIncludes
-unfolding is_read_failed is_write_failed is_memory_kind
-many_includes_kind = record { read = refl; write = refl; memory = refl }
-
-absent_kind : IsOwn SourceNotFound
-unfolding is_read_failed is_write_failed is_memory_kind
-absent_kind = record { read = refl; write = refl; memory = refl }
-
-overlong_kind : IsOwn PathTooLong
-unfolding is_read_failed is_write_failed is_memory_kind
-overlong_kind = record { read = refl; write = refl; memory = refl }
 
 -- what remains of the open sources at an `include`
 module _ {R : Type 0} (limits : Limits) (rules : Rules) (unread : R → List ℕ) (macros : List Macro) (v : ConditionsView) (live : v.skipped ≡ None) where
@@ -199,13 +183,13 @@ module _ {S R : Type 0} (g : Ghosts S R) (old mid new : EngineView S R) (start s
   finds_as source.Absent s place is kept =
       let room = s.room in
       let slots = ready.sound.slots in
-      refuse_steps place is SourceNotFound absent_kind s.call kept
+      refuse_steps place is SourceNotFound (own_kind _ refl) s.call kept
       (λ t. refused_absent old.limits (run_rules g old) g.unread old.table.macros old.conditions live old.files.nest start stop some (inner_facts old.files ready.nest ready.files).ends plain has s.name_good (omega arith)
       (ap lookup_of (s.answers t)))
   finds_as source.PathTooLong s place is kept =
       let room = s.room in
       let slots = ready.sound.slots in
-      refuse_steps place is PathTooLong overlong_kind s.call kept
+      refuse_steps place is PathTooLong (own_kind _ refl) s.call kept
       (λ t. refused_overlong old.limits (run_rules g old) g.unread old.table.macros old.conditions live old.files.nest start stop some (inner_facts old.files ready.nest ready.files).ends plain has s.name_good (omega arith)
       (ap lookup_of (s.answers t)))
   finds_as source.Device s place is kept = stopped_steps place is ReadFailed refl refl s.call kept s.name_good s.room
@@ -215,11 +199,11 @@ module _ {S R : Type 0} (g : Ghosts S R) (old mid new : EngineView S R) (start s
   pub denied_steps : (place : Place) (kind : FaultKind) → place ≡ Kept → Denies g old name_of mid.sources kind → KeepsKind kind → Walks g old new (lent_answer new place)
   unfolding state_of
   denied_steps place kind is (BadName bad named same) kept =
-      refuse_steps place is IncludeName include_name_kind (subst (λ (s : S). SourcesCalled g false false old.sources s) (sym same) (not_called g old.sources)) (subst KeepsKind named kept)
+      refuse_steps place is IncludeName (own_kind _ refl) (subst (λ (s : S). SourcesCalled g false false old.sources s) (sym same) (not_called g old.sources)) (subst KeepsKind named kept)
       (λ t. refused_bad old.limits (run_rules g old) g.unread old.table.macros old.conditions live old.files.nest start stop some (inner_facts old.files ready.nest ready.files).ends plain has bad)
   denied_steps place kind is (Full good full named same) kept =
       let slots = ready.sound.slots in
-      refuse_steps place is TooManyIncludes many_includes_kind (subst (λ (s : S). SourcesCalled g false false old.sources s) (sym same) (not_called g old.sources)) (subst KeepsKind named kept)
+      refuse_steps place is TooManyIncludes (own_kind _ refl) (subst (λ (s : S). SourcesCalled g false false old.sources s) (sym same) (not_called g old.sources)) (subst KeepsKind named kept)
       (λ t. refused_full old.limits (run_rules g old) g.unread old.table.macros old.conditions live old.files.nest start stop some (inner_facts old.files ready.nest ready.files).ends plain has good (omega arith))
   denied_steps place kind is (Refuses fault named s) kept = finds_as fault s place is (subst KeepsKind named kept)
 

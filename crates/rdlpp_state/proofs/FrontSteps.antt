@@ -1,5 +1,5 @@
 -- What is taken of the open sources, as steps of the engine.
-use Rattle.std.proofs.Common.{◌≡◌, ℕ, zero, suc, ◌+◌, ◌-◌, ◌^◌, ◌≤◌, ◌<◌, true, false, List, [], ◌∷◌, ◌++◌, length, take, drop, replicate, append_assoc, append-nil, Option, None, Some, Ok, refl, sym, ap, ◌∙◌, subst, inl, inr, codes, arith}
+use Rattle.std.proofs.Common.{◌≡◌, ℕ, zero, suc, ◌+◌, ◌-◌, ◌^◌, ◌≤◌, ◌<◌, true, false, List, [], ◌∷◌, ◌++◌, length, take, drop, replicate, append_assoc, append-nil, Option, None, Some, Ok, refl, sym, ap, ◌∙◌, subst, inr, codes, arith}
 use Rattle.std.specs.List.{slice_range}
 use Rattle.std.specs.Prelude.{min, IfSome}
 use Rattle.std.proofs.lemmas.List.{take-take, drop-take, length-drop, length-take, take_rest}
@@ -12,7 +12,7 @@ use Rattle.rdlpp_scan.specs.declared.token.Directive.TheVariants.{Define, Undef}
 use Rattle.rdlpp_scan.specs.declared.token.Mode.{Mode}
 use Rattle.rdlpp_scan.specs.declared.token.Mode.TheVariants.{Plain}
 use Rattle.rdlpp_table.specs.Table.{Macro, macro_named, without}
-use Rattle.rdlpp_table.specs.View.{TableView, macro_at}
+use Rattle.rdlpp_table.specs.View.{TableView}
 use Rattle.rdlpp_table.specs.declared.limits.Limits.{Limits}
 use Rattle.rdlpp_table.specs.Define.{define_of}
 use Rattle.rdlpp_table.specs.Define as table_define
@@ -35,7 +35,7 @@ use Rattle.rdlpp_read.specs.declared.buffer.filling.Fill.TheVariants as fill
 use Rattle.rdlpp_read.specs.declared.files.File.{File}
 use Rattle.rdlpp_read.proofs.Slices.{line_ends_le}
 use Rattle.rdlpp_front.specs.Fronts.{AtBare, AtPerl, HasName, IsDirective, IsRefused, IsText, IsUsage, LacksName, argument_name, usage_name}
-use Rattle.rdlpp_front.proofs.Insides.{name_inside, text_inside, usage_inside}
+use Rattle.rdlpp_front.proofs.Insides.{name_inside, text_inside}
 use Rattle.rdlpp_front.proofs.SourcePassages.{held_entered}
 use Rattle.rdlpp_conditions.specs.Conditions.{ConditionsView}
 use Rattle.rdlpp_state.specs.Calls.{SourcesCalled}
@@ -192,55 +192,6 @@ define_kind define.FormalTwice = record { read = refl; write = refl; memory = re
 define_kind define.TooManyFormals = record { read = refl; write = refl; memory = refl }
 define_kind define.DefinitionBytes = record { read = refl; write = refl; memory = refl }
 define_kind define.TooManyDefinitions = record { read = refl; write = refl; memory = refl }
-
--- nor are the faults that the engine names itself
-pub undefined_kind : IsOwn fault.UndefinedMacro
-unfolding is_read_failed is_write_failed is_memory_kind
-undefined_kind = record { read = refl; write = refl; memory = refl }
-
-pub nameless_kind : IsOwn fault.NameExpected
-unfolding is_read_failed is_write_failed is_memory_kind
-nameless_kind = record { read = refl; write = refl; memory = refl }
-
-pub reserved_kind : IsOwn fault.ReservedName
-unfolding is_read_failed is_write_failed is_memory_kind
-reserved_kind = record { read = refl; write = refl; memory = refl }
-
-pub line_kind : IsOwn fault.LineTooLong
-unfolding is_read_failed is_write_failed is_memory_kind
-line_kind = record { read = refl; write = refl; memory = refl }
-
-pub source_kind : IsOwn fault.SourceTooLong
-unfolding is_read_failed is_write_failed is_memory_kind
-source_kind = record { read = refl; write = refl; memory = refl }
-
-pub string_kind : IsOwn fault.OpenString
-unfolding is_read_failed is_write_failed is_memory_kind
-string_kind = record { read = refl; write = refl; memory = refl }
-
-pub stray_kind : IsOwn fault.StrayBranch
-unfolding is_read_failed is_write_failed is_memory_kind
-stray_kind = record { read = refl; write = refl; memory = refl }
-
-pub late_branch_kind : IsOwn fault.BranchAfterElse
-unfolding is_read_failed is_write_failed is_memory_kind
-late_branch_kind = record { read = refl; write = refl; memory = refl }
-
-pub many_conditionals_kind : IsOwn fault.TooManyConditionals
-unfolding is_read_failed is_write_failed is_memory_kind
-many_conditionals_kind = record { read = refl; write = refl; memory = refl }
-
-pub unclosed_kind : IsOwn fault.OpenConditional
-unfolding is_read_failed is_write_failed is_memory_kind
-unclosed_kind = record { read = refl; write = refl; memory = refl }
-
-pub perl_kind : IsOwn fault.EmbeddedPerl
-unfolding is_read_failed is_write_failed is_memory_kind
-perl_kind = record { read = refl; write = refl; memory = refl }
-
-pub comment_kind : IsOwn fault.OpenComment
-unfolding is_read_failed is_write_failed is_memory_kind
-comment_kind = record { read = refl; write = refl; memory = refl }
 
 -- a fault's word is cut once
 pub cut_once : (kind : FaultKind) (line : ℕ) (word : List ℕ) (s : State) → fault_at kind line (take 128 word) s ≡ fault_at kind line word s

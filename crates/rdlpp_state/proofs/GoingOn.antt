@@ -4,10 +4,11 @@ use Rattle.std.specs.List.{starts_with}
 use Rattle.std.proofs.lemmas.Bool.{false≢true, or_from}
 use Rattle.rdlpp_meaning.specs.Outcome.{Told}
 use Rattle.rdlpp_meaning.specs.declared.fault.FaultKind.{FaultKind}
+use Rattle.rdlpp_meaning.specs.declared.fault.FaultKind.TheVariants.{ReadFailed, WriteFailed, SourceMemory}
 use Rattle.rdlpp_read.specs.Buffer.{BufferView, held_of}
 use Rattle.rdlpp_read.specs.Files.{inner_buffer}
 use Rattle.rdlpp_state.specs.Engine.{EngineView}
-use Rattle.rdlpp_state.specs.Failures.{MayGoOn, begins_include, is_call_failed, is_failed_call, is_failed_search, is_failed_start, is_over, may_follow}
+use Rattle.rdlpp_state.specs.Failures.{MayGoOn, begins_include, is_call_failed, is_memory_kind, is_read_failed, is_write_failed, is_failed_call, is_failed_search, is_failed_start, is_over, may_follow}
 use Rattle.rdlpp_state.specs.Steps.{IsOwn, IsReading}
 use Rattle.rdlpp_state.specs.declared.phase.Phase.TheVariants.{Open}
 
@@ -25,6 +26,28 @@ first_fails false b fails = refl
 pub second_fails : (a b : Bool) → b ≡ false → (a && b) ≡ false
 second_fails true b fails = fails
 second_fails false b fails = refl
+
+-- whether a fault is a text's own: none of a device or of memory
+abbrev pub is_own : FaultKind → Bool
+is_own ReadFailed = false
+is_own WriteFailed = false
+is_own SourceMemory = false
+is_own kind = true
+
+-- such a fault is
+pub own_kind : (kind : FaultKind) → is_own kind ≡ true → IsOwn kind
+unfolding is_read_failed is_write_failed is_memory_kind
+own_kind ReadFailed own = cc own
+own_kind WriteFailed own = cc own
+own_kind SourceMemory own = cc own
+own_kind kind own = record { read = refl; write = refl; memory = refl }
+
+-- and one of kinds of which each is
+pub own_by : (is : FaultKind → Bool) → is ReadFailed ≡ false → is WriteFailed ≡ false → is SourceMemory ≡ false → (kind : FaultKind) → is kind ≡ true → IsOwn kind
+own_by is read write memory ReadFailed h = absurd (false≢true (sym read ∙ h))
+own_by is read write memory WriteFailed h = absurd (false≢true (sym write ∙ h))
+own_by is read write memory SourceMemory h = absurd (false≢true (sym memory ∙ h))
+own_by is read write memory kind h = own_kind kind refl
 
 -- a text's own fault is none of a device or of memory
 pub own_failed : (kind : FaultKind) → IsOwn kind → is_call_failed kind ≡ false

@@ -35,7 +35,7 @@ use Rattle.rdlpp_state.specs.Positions.{BehindLine}
 use Rattle.rdlpp_state.specs.Owed.{OwedView, nothing_owed, origin_owed, owed_bytes}
 use Rattle.rdlpp_state.specs.Pieces.{step_answer}
 use Rattle.rdlpp_state.specs.Remaining.{file_state, inner_name, nest_left, nest_state, run_rules, state_of}
-use Rattle.rdlpp_state.specs.Steps.{IsOwn, Walks, is_memory_kind, is_read_failed, is_write_failed}
+use Rattle.rdlpp_state.specs.Steps.{Walks}
 use Rattle.rdlpp_state.proofs.EngineSteps.{not_called}
 use Rattle.rdlpp_state.proofs.FrontSteps.{Fails, left_by, lends_piece}
 use Rattle.rdlpp_state.proofs.OwedOrigins.{owed_few, owed_with_origin}
@@ -93,11 +93,6 @@ module _ {R : Type 0} (limits : Limits) (rules : Rules) (unread : R → List ℕ
       at_live limits rules unread macros v live f outer _
       (late_line_left rules unread (around limits rules unread macros v f outer) (own_conditions f.conditions_below v) f (nest_state limits macros v (f ∷ outer))
       (record { some = some; ends = ends }) plain is late)
-
--- a bad `line` is a fault of the text
-pub bad_line_kind : IsOwn BadLine
-unfolding is_read_failed is_write_failed is_memory_kind
-bad_line_kind = record { read = refl; write = refl; memory = refl }
 
 -- what a source shows changes none of its bytes
 shown_used : {R : Type 0} (old new : List (File R)) (change : File R → File R) → ((f : File R) → (change f).buffer ≡ f.buffer) → IsUsed old new → IsUsed old (with_inner change new)

@@ -27,14 +27,14 @@ use Rattle.rdlpp_state.specs.Held.{IsBounded}
 use Rattle.rdlpp_state.specs.Standing.{AtCursor, InTexts, Nowhere}
 use Rattle.rdlpp_texts.specs.Fronts.{IsFrontPlace, StandsAt}
 use Rattle.rdlpp_texts.specs.Opened.{StaysOutermost}
-use Rattle.rdlpp_state.proofs.GoingOn.{own_failed}
+use Rattle.rdlpp_state.proofs.GoingOn.{own_failed, own_by}
 use Rattle.rdlpp_state.proofs.Stores.{KeepsStores, keeps_refused, keeps_texts}
 use Rattle.rdlpp_state.specs.Marks.{lends_usage}
 use Rattle.rdlpp_state.specs.Moves.{IsUnowed}
 use Rattle.rdlpp_state.specs.Owed.{owed_pieces}
 use Rattle.rdlpp_state.specs.Pieces.{held_texts, lent_answer}
 use Rattle.rdlpp_state.specs.Remaining.{inner_name, nest_state, run_rules, state_of, text_of, work_left}
-use Rattle.rdlpp_state.specs.Steps.{IsOwn, Walks, is_memory_kind, is_read_failed, is_write_failed}
+use Rattle.rdlpp_state.specs.Steps.{IsOwn, Walks}
 use Rattle.rdlpp_state.specs.declared.place.Place.{Place}
 use Rattle.rdlpp_state.specs.declared.place.Place.TheVariants.{Text, Kept}
 use Rattle.rdlpp_state.proofs.CursorWork.{cursors_fall}
@@ -90,16 +90,8 @@ texts_fail rules s macros x f p ends = ap (λ (o : Outcome). goes_on (leaves o s
 
 -- a fault of open texts is a text's own
 pub text_kind : (kind : FaultKind) → is_text_fault kind ≡ true → IsOwn kind
-unfolding is_text_fault is_read_failed is_write_failed is_memory_kind
-text_kind FaultKind.BareBackquote h = record { read = refl; write = refl; memory = refl }
-text_kind FaultKind.UndefinedMacro h = record { read = refl; write = refl; memory = refl }
-text_kind FaultKind.RecursiveMacro h = record { read = refl; write = refl; memory = refl }
-text_kind FaultKind.DirectiveInText h = record { read = refl; write = refl; memory = refl }
-text_kind FaultKind.ArgumentsMissing h = record { read = refl; write = refl; memory = refl }
-text_kind FaultKind.ArgumentsOpen h = record { read = refl; write = refl; memory = refl }
-text_kind FaultKind.ArgumentCount h = record { read = refl; write = refl; memory = refl }
-text_kind FaultKind.DepthPassed h = record { read = refl; write = refl; memory = refl }
-text_kind kind h = cc h
+unfolding is_text_fault
+text_kind kind h = own_by is_text_fault refl refl refl kind h
 
 -- what always holds of an engine and of its open texts, between steps
 pub record HoldsTexts {S R : Type 0} (e : EngineView S R) (x : ExpansionView) : Type 0 where

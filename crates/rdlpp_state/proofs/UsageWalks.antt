@@ -1,10 +1,10 @@
 -- The opening of a usage, as a step of the engine.
-use Rattle.std.proofs.Common.{◌≤◌, ◌≡◌, ◌+◌, ◌<◌, ◌^◌, ℕ, Bool, true, false, List, [], ◌∷◌, ◌++◌, length, drop, Option, None, Some, Ok, Err, refl, sym, ap, ◌∙◌, subst, inl, arith}
+use Rattle.std.proofs.Common.{◌≤◌, ◌≡◌, ◌+◌, ◌<◌, ◌^◌, ℕ, true, false, List, [], ◌∷◌, ◌++◌, length, drop, None, Some, Ok, Err, refl, sym, ap, ◌∙◌, subst, inl, arith}
 use Rattle.rdlpp_scan.specs.declared.token.Mode.TheVariants.{Plain}
 use Rattle.rdlpp_source.specs.Sources.{Catalog}
 use Rattle.rdlpp_source.specs.declared.sources.Sources.{Ghosts}
 use Rattle.rdlpp_table.specs.Table.{Macro, macro_named}
-use Rattle.rdlpp_meaning.specs.Meaning.{Passage, Progress, behind_bytes, goes_on, leaves}
+use Rattle.rdlpp_meaning.specs.Meaning.{Progress, behind_bytes, leaves}
 use Rattle.rdlpp_meaning.specs.Opened.{Waiting}
 use Rattle.rdlpp_meaning.specs.Opens.{Open}
 use Rattle.rdlpp_meaning.specs.Outcome.{Told, fails}
@@ -16,7 +16,6 @@ use Rattle.rdlpp_read.specs.Buffer.{closed_buffer, held_of, reading_line_of, tex
 use Rattle.rdlpp_read.specs.Files.{FilesView, consumed_file, inner_buffer, with_inner}
 use Rattle.rdlpp_read.specs.declared.files.File.{File}
 use Rattle.rdlpp_front.specs.Fronts.{IsUsage, usage_name}
-use Rattle.rdlpp_texts.specs.Digits.{cursor_digits}
 use Rattle.rdlpp_texts.specs.Places.{texts_of}
 use Rattle.rdlpp_texts.specs.Steps.{AreSound}
 use Rattle.rdlpp_texts.proofs.ShortTexts.{digits-count, digits-short}
@@ -26,17 +25,16 @@ use Rattle.rdlpp_usages.specs.declared.expansion.Opening.TheVariants.{Opened, Re
 use Rattle.rdlpp_state.specs.Calls.{SourcesCalled}
 use Rattle.rdlpp_state.specs.Engine.{AreOpenTexts, EngineView}
 use Rattle.rdlpp_state.specs.Failures.{MayGoOn}
-use Rattle.rdlpp_state.proofs.GoingOn.{own_failed, own_stops, read_stops}
+use Rattle.rdlpp_state.proofs.GoingOn.{own_failed, own_stops, read_stops, own_by}
 use Rattle.rdlpp_state.specs.Held.{IsBounded}
 use Rattle.rdlpp_state.specs.Standing.{Nowhere, OpensText, OpensUsage, Turns}
 use Rattle.rdlpp_front.proofs.Insides.{usage_inside}
 use Rattle.rdlpp_state.proofs.Stores.{KeepsStores, keeps_broken, keeps_opened, parts_moved}
 use Rattle.rdlpp_read.proofs.Sliding.{moves-told}
 use Rattle.rdlpp_state.specs.Moves.{IsReady}
-use Rattle.rdlpp_state.specs.Owed.{owed_bytes}
 use Rattle.rdlpp_state.specs.Pieces.{lent_answer}
-use Rattle.rdlpp_state.specs.Remaining.{inner_name, nest_left, nest_state, run_rules, source_rules, state_of, text_of, work_left}
-use Rattle.rdlpp_state.specs.Steps.{HaltsAt, InCall, BeforeCall, IsOwn, OnRead, StopsInCall, StopsReading, Walks, is_call_failed, is_memory_kind, is_read_failed, is_write_failed}
+use Rattle.rdlpp_state.specs.Remaining.{nest_state, run_rules, source_rules, state_of, text_of, work_left}
+use Rattle.rdlpp_state.specs.Steps.{HaltsAt, InCall, BeforeCall, IsOwn, OnRead, StopsInCall, Walks, is_call_failed, is_memory_kind, is_read_failed, is_write_failed}
 use Rattle.rdlpp_state.specs.declared.place.Place.{Place}
 use Rattle.rdlpp_state.specs.declared.place.Place.TheVariants.{Kept}
 use Rattle.rdlpp_state.proofs.EngineSteps.{called, kept_at, walks_ceased, walks_kept, walks_lent}
@@ -58,17 +56,8 @@ usage_within (f ∷ outer) n some inside = let room = held_room f.buffer in omeg
 
 -- a fault of a usage is a text's own
 pub usage_kind : (kind : FaultKind) → is_usage_fault kind ≡ true → IsOwn kind
-unfolding is_usage_fault is_read_failed is_write_failed is_memory_kind
-usage_kind FaultKind.ArgumentsMissing h = record { read = refl; write = refl; memory = refl }
-usage_kind FaultKind.ArgumentsOpen h = record { read = refl; write = refl; memory = refl }
-usage_kind FaultKind.ArgumentBytes h = record { read = refl; write = refl; memory = refl }
-usage_kind FaultKind.ArgumentCount h = record { read = refl; write = refl; memory = refl }
-usage_kind FaultKind.EmbeddedPerl h = record { read = refl; write = refl; memory = refl }
-usage_kind FaultKind.OpenString h = record { read = refl; write = refl; memory = refl }
-usage_kind FaultKind.OpenComment h = record { read = refl; write = refl; memory = refl }
-usage_kind FaultKind.LineTooLong h = record { read = refl; write = refl; memory = refl }
-usage_kind FaultKind.SourceTooLong h = record { read = refl; write = refl; memory = refl }
-usage_kind kind h = cc h
+unfolding is_usage_fault
+usage_kind kind h = own_by is_usage_fault refl refl refl kind h
 
 -- what remains of a text is that by the rules of the run
 by_run : {S R : Type 0} (g : Ghosts S R) (e : EngineView S R) → text_of g e ≡ text_by (run_rules g e) g e

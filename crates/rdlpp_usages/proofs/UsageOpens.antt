@@ -34,8 +34,7 @@ use Rattle.rdlpp_texts.specs.declared.step.CursorStep.{CursorStep}
 use Rattle.rdlpp_texts.specs.declared.step.CursorStep.TheVariants.{Lends, Silent, Refused as Fault}
 use Rattle.rdlpp_front.specs.Fronts.{IsUsage, usage_name}
 use Rattle.rdlpp_front.specs.SourceLeft.{HoldsFront}
-use Rattle.rdlpp_usages.specs.Usages.{is_usage_fault, IsUsageFault, BindsKept, ExpansionView, IsRun, RefusesCall, StaysAt, StaysLent, TellsCallUsage, TellsUsage, inner_left, texts_left}
-use Rattle.rdlpp_usages.specs.declared.expansion.Opening.{Opening}
+use Rattle.rdlpp_usages.specs.Usages.{is_usage_fault, BindsKept, ExpansionView, IsRun, RefusesCall, StaysAt, StaysLent, TellsCallUsage, TellsUsage, inner_left, texts_left}
 use Rattle.rdlpp_usages.specs.declared.expansion.Opening.TheVariants.{Opened, Refused, Broken}
 use Rattle.rdlpp_usages.proofs.CallLeft.{IsBehind, body_opens, call_opens, call_refused}
 use Rattle.rdlpp_meaning.specs.CallScan.{call_of}

@@ -1,10 +1,11 @@
-use Rattle.std.proofs.Common.{false, true, [], ap, ◌∙◌}
+use Rattle.std.proofs.Common.{false, true, [], ap, ◌∙◌, refl}
 use Rattle.rdlpp_meaning.specs.declared.fault.FaultKind.TheVariants as fault
 use Rattle.rdlpp_read.specs.Files.{inner_buffer}
 use Rattle.rdlpp_front.proofs.DefineLeft.{define_inside, define_rest_whole}
 use Rattle.rdlpp_state.proofs.EngineSteps.{called}
-use Rattle.rdlpp_state.proofs.FrontSteps.{IsRead, defined_placed, defined_steps, held_few, fails_reading, left_cut_define, left_long_define, left_unheld, line_kind, opened_phase, refuses, slid, source_kind, reading_define}
+use Rattle.rdlpp_state.proofs.FrontSteps.{IsRead, defined_placed, defined_steps, held_few, fails_reading, left_cut_define, left_long_define, left_unheld, opened_phase, refuses, slid, reading_define}
 use Rattle.rdlpp_expand.proofs.engine.Engine.define_line.Goals as goal
+use Rattle.rdlpp_state.proofs.GoingOn.{own_kind}
 
 pub read_define-requires : goal.read_define-requires
 read_define-requires g c =
@@ -37,7 +38,7 @@ returns-in-TooLong-clause-walks g c = λ bounded.
     let e = c.in-TooLong.ensures in
     let r : IsRead g.S.Sources c.args.self.now c.hold_line.new.self = record { becomes = e.becomes; only = e.only; moves = slid _ _ _ _ _ e.holds.slides } in
     refuses g.S.Sources c.args.self.now c.hold_line.new.self c.refuse.new.self c.refuse.result fault.LineTooLong _ [] c.requires.ready r bounded c.refuse.ensures.place
-    (rw c.new.ensures at c.refuse.ensures.kept) line_kind (called g.S.Sources false _ _ e.call)
+    (rw c.new.ensures at c.refuse.ensures.kept) (own_kind _ refl) (called g.S.Sources false _ _ e.call)
     (λ t. left_long_define g.S.Sources c.args.self.now c.hold_line.new.self c.requires.ready t c.requires.live c.requires.some c.requires.mode c.requires.define e.holds)
 
 pub returns-in-SourceLong-clause-walks : goal.returns-in-SourceLong-clause-walks
@@ -45,7 +46,7 @@ returns-in-SourceLong-clause-walks g c = λ bounded.
     let e = c.in-SourceLong.ensures in
     let r : IsRead g.S.Sources c.args.self.now c.hold_line.new.self = record { becomes = e.becomes; only = e.only; moves = slid _ _ _ _ _ e.holds.slides } in
     refuses g.S.Sources c.args.self.now c.hold_line.new.self c.refuse-in-SourceLong.new.self c.refuse-in-SourceLong.result fault.SourceTooLong _ [] c.requires.ready r bounded c.refuse-in-SourceLong.ensures.place
-    (rw c.new-in-SourceLong.ensures at c.refuse-in-SourceLong.ensures.kept) source_kind (called g.S.Sources false _ _ e.call)
+    (rw c.new-in-SourceLong.ensures at c.refuse-in-SourceLong.ensures.kept) (own_kind _ refl) (called g.S.Sources false _ _ e.call)
     (λ t. left_cut_define g.S.Sources c.args.self.now c.hold_line.new.self c.requires.ready t c.requires.live c.requires.some c.requires.mode c.requires.define e.holds)
 
 pub returns-in-Failed-clause-walks : goal.returns-in-Failed-clause-walks

@@ -4,9 +4,9 @@ use Rattle.rdlpp_scan.specs.declared.token.Mode.TheVariants.{InStr, InBlock}
 use Rattle.rdlpp_meaning.specs.State.{breach_kind}
 use Rattle.rdlpp_read.specs.Files.{inner_buffer}
 use Rattle.rdlpp_state.proofs.Soundness.{inner_facts}
-use Rattle.rdlpp_state.proofs.FrontSteps.{comment_kind, string_kind}
 use Rattle.rdlpp_state.proofs.EndSteps.{stops_open}
 use Rattle.rdlpp_expand.proofs.engine.Engine.end.Goals as goal
+use Rattle.rdlpp_state.proofs.GoingOn.{own_kind}
 
 pub refuse_at-requires-clause-line : goal.refuse_at-requires-clause-line
 refuse_at-requires-clause-line g c =
@@ -34,11 +34,11 @@ unfolding breach_kind
 returns-in-InStr g c =
     let same = c.file.ensures.buffer ∙ ap (λ e. inner_buffer e.files.nest) c.self.view_is in
     stops_open c.args.self.now c.refuse_at.new.self c.refuse_at.result Breach.StringOpen InStr c.open_token_line-opened.result
-    c.refuse_at.ensures.place (ap (λ b. b.mode) (sym same) ∙ (sym c.mode.ensures ∙ c.in-InStr.is)) refl string_kind (c.open_token_line-opened.ensures ∙ ap (λ b. b.open_token_line) same) (rw c.new.ensures at c.refuse_at.ensures.kept)
+    c.refuse_at.ensures.place (ap (λ b. b.mode) (sym same) ∙ (sym c.mode.ensures ∙ c.in-InStr.is)) refl (own_kind _ refl) (c.open_token_line-opened.ensures ∙ ap (λ b. b.open_token_line) same) (rw c.new.ensures at c.refuse_at.ensures.kept)
 
 pub returns-in-InBlock : goal.returns-in-InBlock
 unfolding breach_kind
 returns-in-InBlock g c =
     let same = c.file.ensures.buffer ∙ ap (λ e. inner_buffer e.files.nest) c.self.view_is in
     stops_open c.args.self.now c.refuse_at-in-InBlock.new.self c.refuse_at-in-InBlock.result Breach.CommentOpen InBlock c.open_token_line-opened.result
-    c.refuse_at-in-InBlock.ensures.place (ap (λ b. b.mode) (sym same) ∙ (sym c.mode.ensures ∙ c.in-InBlock.is)) refl comment_kind (c.open_token_line-opened.ensures ∙ ap (λ b. b.open_token_line) same) (rw c.new-in-InBlock.ensures at c.refuse_at-in-InBlock.ensures.kept)
+    c.refuse_at-in-InBlock.ensures.place (ap (λ b. b.mode) (sym same) ∙ (sym c.mode.ensures ∙ c.in-InBlock.is)) refl (own_kind _ refl) (c.open_token_line-opened.ensures ∙ ap (λ b. b.open_token_line) same) (rw c.new-in-InBlock.ensures at c.refuse_at-in-InBlock.ensures.kept)

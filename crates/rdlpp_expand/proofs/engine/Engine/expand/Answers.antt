@@ -1,4 +1,4 @@
-use Rattle.std.proofs.Common.{◌≡◌, take, None, ap, ◌∙◌}
+use Rattle.std.proofs.Common.{◌≡◌, take, None, ap, ◌∙◌, refl}
 use Rattle.rdlpp_table.specs.Table.{macro_named}
 use Rattle.rdlpp_meaning.specs.declared.fault.FaultKind.TheVariants as fault
 use Rattle.rdlpp_read.specs.Buffer.{held_of}
@@ -6,8 +6,9 @@ use Rattle.rdlpp_read.specs.Files.{inner_buffer}
 use Rattle.rdlpp_front.specs.Fronts.{usage_name}
 use Rattle.rdlpp_front.proofs.Insides.{usage_inside, usage_word}
 use Rattle.rdlpp_state.proofs.EngineSteps.{not_called}
-use Rattle.rdlpp_state.proofs.FrontSteps.{kept_cut, left_undefined, read_nothing, refuses, undefined_kind}
+use Rattle.rdlpp_state.proofs.FrontSteps.{kept_cut, left_undefined, read_nothing, refuses}
 use Rattle.rdlpp_expand.proofs.engine.Engine.expand.Goals as goal
+use Rattle.rdlpp_state.proofs.GoingOn.{own_kind}
 
 pub name_of-name-requires-clause-some : goal.name_of-name-requires-clause-some
 name_of-name-requires-clause-some g c = (usage_inside _ _ c.requires.some c.requires.usage).0
@@ -30,5 +31,5 @@ returns-in-None-clause-walks g c = λ bounded.
     let none : macro_named e.table.macros (usage_name (held_of (inner_buffer e.files.nest)) c.args.len) ≡ None = rw (← name, ← c.self.view_is) c.in-None.ensures.named in
     let word : c.word_of-word.result.bytes ≡ take 128 (usage_name (held_of (inner_buffer e.files.nest)) c.args.len) = c.word_of-word.ensures ∙ ap (take 128) name in
     refuses g.S.Sources e e c.refuse.new.self c.refuse.result fault.UndefinedMacro _ (usage_name (held_of (inner_buffer e.files.nest)) c.args.len) c.requires.ready (read_nothing e) bounded
-    c.refuse.ensures.place (kept_cut e c.refuse.new.self _ _ _ _ _ c.refuse.ensures.kept word) undefined_kind (not_called g.S.Sources e.sources)
+    c.refuse.ensures.place (kept_cut e c.refuse.new.self _ _ _ _ _ c.refuse.ensures.kept word) (own_kind _ refl) (not_called g.S.Sources e.sources)
     (λ t. left_undefined g.S.Sources e c.args.len c.requires.ready c.requires.live c.requires.some c.requires.mode c.requires.usage none)

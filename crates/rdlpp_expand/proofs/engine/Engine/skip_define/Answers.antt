@@ -1,4 +1,4 @@
-use Rattle.std.proofs.Common.{◌≡◌, true, false, length, take, [], sym, ap, ◌∙◌, arith}
+use Rattle.std.proofs.Common.{◌≡◌, true, false, length, take, [], sym, ap, ◌∙◌, arith, refl}
 use Rattle.std.proofs.lemmas.List.{length-take-le}
 use Rattle.rdlpp_scan.specs.SourceTokens.{line_ends}
 use Rattle.rdlpp_meaning.specs.declared.fault.FaultKind.TheVariants as fault
@@ -7,9 +7,10 @@ use Rattle.rdlpp_read.specs.Files.{inner_buffer}
 use Rattle.rdlpp_read.proofs.Slices.{line_ends_le}
 use Rattle.rdlpp_front.proofs.DefineLeft.{define_inside}
 use Rattle.rdlpp_state.proofs.EngineSteps.{called}
-use Rattle.rdlpp_state.proofs.FrontSteps.{IsRead, fails_reading, held_few, left_unheld, line_kind, opened_phase, refuses, slid, source_kind, reading_define}
+use Rattle.rdlpp_state.proofs.FrontSteps.{IsRead, fails_reading, held_few, left_unheld, opened_phase, refuses, slid, reading_define}
 use Rattle.rdlpp_state.proofs.PassSteps.{define_steps, left_cut, left_long, skipping}
 use Rattle.rdlpp_expand.proofs.engine.Engine.skip_define.Goals as goal
+use Rattle.rdlpp_state.proofs.GoingOn.{own_kind}
 
 pub slice_bounds-line_ends_in-end : goal.slice_bounds-line_ends_in-end
 slice_bounds-line_ends_in-end g c =
@@ -55,7 +56,7 @@ returns-in-TooLong-clause-walks g c = λ bounded.
     let e = c.in-TooLong.ensures in
     let r : IsRead g.S.Sources o c.hold_line.new.self = record { becomes = e.becomes; only = e.only; moves = slid _ _ _ _ _ e.holds.slides } in
     refuses g.S.Sources o c.hold_line.new.self c.refuse.new.self c.refuse.result fault.LineTooLong _ [] c.requires.ready r bounded c.refuse.ensures.place
-    (rw c.new.ensures at c.refuse.ensures.kept) line_kind (called g.S.Sources false _ _ e.call)
+    (rw c.new.ensures at c.refuse.ensures.kept) (own_kind _ refl) (called g.S.Sources false _ _ e.call)
     (λ t. left_long g.S.Sources o c.refuse.new.self c.requires.ready bounded c.requires.some (skipping o c.requires.ready c.requires.skipped) c.requires.mode c.requires.define c.hold_line.new.self r e.holds t)
 
 pub returns-in-SourceLong-clause-walks : goal.returns-in-SourceLong-clause-walks
@@ -64,7 +65,7 @@ returns-in-SourceLong-clause-walks g c = λ bounded.
     let e = c.in-SourceLong.ensures in
     let r : IsRead g.S.Sources o c.hold_line.new.self = record { becomes = e.becomes; only = e.only; moves = slid _ _ _ _ _ e.holds.slides } in
     refuses g.S.Sources o c.hold_line.new.self c.refuse-in-SourceLong.new.self c.refuse-in-SourceLong.result fault.SourceTooLong _ [] c.requires.ready r bounded c.refuse-in-SourceLong.ensures.place
-    (rw c.new-in-SourceLong.ensures at c.refuse-in-SourceLong.ensures.kept) source_kind (called g.S.Sources false _ _ e.call)
+    (rw c.new-in-SourceLong.ensures at c.refuse-in-SourceLong.ensures.kept) (own_kind _ refl) (called g.S.Sources false _ _ e.call)
     (λ t. left_cut g.S.Sources o c.refuse-in-SourceLong.new.self c.requires.ready bounded c.requires.some (skipping o c.requires.ready c.requires.skipped) c.requires.mode c.requires.define c.hold_line.new.self r e.holds t)
 
 pub returns-in-Failed-clause-walks : goal.returns-in-Failed-clause-walks

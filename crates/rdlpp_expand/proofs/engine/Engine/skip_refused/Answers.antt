@@ -1,15 +1,16 @@
-use Rattle.std.proofs.Common.{[]}
+use Rattle.std.proofs.Common.{[], refl}
 use Rattle.rdlpp_meaning.specs.declared.fault.FaultKind.TheVariants as fault
 use Rattle.rdlpp_state.proofs.EngineSteps.{not_called}
-use Rattle.rdlpp_state.proofs.FrontSteps.{perl_kind, read_nothing, refuses}
+use Rattle.rdlpp_state.proofs.FrontSteps.{read_nothing, refuses}
 use Rattle.rdlpp_state.proofs.PassSteps.{bare_is, left_perl, perl_is, skipping}
 use Rattle.rdlpp_expand.proofs.engine.Engine.skip_refused.Goals as goal
+use Rattle.rdlpp_state.proofs.GoingOn.{own_kind}
 
 pub returns-in-EmbeddedPerl-clause-walks : goal.returns-in-EmbeddedPerl-clause-walks
 returns-in-EmbeddedPerl-clause-walks g c = λ bounded.
     let e = c.args.self.now in
     refuses g.S.Sources e e c.refuse.new.self c.refuse.result fault.EmbeddedPerl _ [] c.requires.ready (read_nothing e) bounded c.refuse.ensures.place
-    (rw (c.new.ensures, c.in-EmbeddedPerl.is) at c.refuse.ensures.kept) perl_kind (not_called g.S.Sources e.sources)
+    (rw (c.new.ensures, c.in-EmbeddedPerl.is) at c.refuse.ensures.kept) (own_kind _ refl) (not_called g.S.Sources e.sources)
     (λ t. left_perl g.S.Sources e c.refuse.new.self c.requires.ready bounded c.requires.some (skipping e c.requires.ready c.requires.skipped) (perl_is _ _ _ c.requires.refused c.in-EmbeddedPerl.is))
 
 pub skip_word-requires-clause-mode : goal.skip_word-requires-clause-mode

@@ -1,9 +1,10 @@
-use Rattle.std.proofs.Common.{false, true, [], inl, arith}
+use Rattle.std.proofs.Common.{false, true, [], inl, arith, refl}
 use Rattle.rdlpp_meaning.specs.declared.fault.FaultKind.TheVariants as fault
 use Rattle.rdlpp_state.proofs.EngineSteps.{called, silent_then, wider}
 use Rattle.rdlpp_state.proofs.EndSteps.{ended_placed, ended_steps}
-use Rattle.rdlpp_state.proofs.FrontSteps.{IsRead, fails_reading, left_long_line, left_long_source, left_unfilled, line_kind, ready_filled, refuses, silent_fill, slid, source_kind}
+use Rattle.rdlpp_state.proofs.FrontSteps.{IsRead, fails_reading, left_long_line, left_long_source, left_unfilled, ready_filled, refuses, silent_fill, slid}
 use Rattle.rdlpp_expand.proofs.engine.Engine.step_sources.Goals as goal
+use Rattle.rdlpp_state.proofs.GoingOn.{own_kind}
 
 pub take_held-requires : goal.take_held-requires
 take_held-requires g c =
@@ -28,14 +29,14 @@ pub returns-in-SourceLong-clause-walks : goal.returns-in-SourceLong-clause-walks
 returns-in-SourceLong-clause-walks g c = λ bounded.
     let r : IsRead g.S.Sources c.args.self.now c.fill.new.self = record { becomes = c.in-SourceLong.ensures.becomes; only = c.in-SourceLong.ensures.only; moves = slid _ _ _ _ _ c.in-SourceLong.ensures.fills.slides } in
     wider g.S.Sources 0 1 _ _ _ (omega arith) (refuses g.S.Sources c.args.self.now c.fill.new.self c.refuse.new.self c.refuse.result fault.SourceTooLong _ [] c.requires r bounded c.refuse.ensures.place
-    (rw c.new.ensures at c.refuse.ensures.kept) source_kind (called g.S.Sources false _ _ c.in-SourceLong.ensures.call)
+    (rw c.new.ensures at c.refuse.ensures.kept) (own_kind _ refl) (called g.S.Sources false _ _ c.in-SourceLong.ensures.call)
     (λ t. left_long_source g.S.Sources c.args.self.now c.fill.new.self c.requires t c.in-SourceLong.ensures.fills))
 
 pub returns-in-LineLong-clause-walks : goal.returns-in-LineLong-clause-walks
 returns-in-LineLong-clause-walks g c = λ bounded.
     let r : IsRead g.S.Sources c.args.self.now c.fill.new.self = record { becomes = c.in-LineLong.ensures.becomes; only = c.in-LineLong.ensures.only; moves = slid _ _ _ _ _ c.in-LineLong.ensures.fills.slides } in
     wider g.S.Sources 0 1 _ _ _ (omega arith) (refuses g.S.Sources c.args.self.now c.fill.new.self c.refuse-in-LineLong.new.self c.refuse-in-LineLong.result fault.LineTooLong _ [] c.requires r bounded c.refuse-in-LineLong.ensures.place
-    (rw c.new-in-LineLong.ensures at c.refuse-in-LineLong.ensures.kept) line_kind (called g.S.Sources false _ _ c.in-LineLong.ensures.call)
+    (rw c.new-in-LineLong.ensures at c.refuse-in-LineLong.ensures.kept) (own_kind _ refl) (called g.S.Sources false _ _ c.in-LineLong.ensures.call)
     (λ t. left_long_line g.S.Sources c.args.self.now c.fill.new.self c.requires t c.in-LineLong.ensures.fills))
 
 pub returns-in-Failed-clause-walks : goal.returns-in-Failed-clause-walks

@@ -1,13 +1,14 @@
-use Rattle.std.proofs.Common.{[]}
+use Rattle.std.proofs.Common.{[], refl}
 use Rattle.rdlpp_meaning.specs.declared.fault.FaultKind.TheVariants as fault
 use Rattle.rdlpp_state.proofs.EngineSteps.{not_called}
-use Rattle.rdlpp_state.proofs.EnterSteps.{include_name_kind, left_nameless_include}
+use Rattle.rdlpp_state.proofs.EnterSteps.{left_nameless_include}
 use Rattle.rdlpp_state.proofs.FrontSteps.{read_nothing, refuses}
 use Rattle.rdlpp_expand.proofs.engine.Engine.take_include.Goals as goal
+use Rattle.rdlpp_state.proofs.GoingOn.{own_kind}
 
 pub returns-in-None-clause-walks : goal.returns-in-None-clause-walks
 returns-in-None-clause-walks g c = λ bounded.
     let e = c.args.self.now in
     refuses g.S.Sources e e c.refuse.new.self c.refuse.result fault.IncludeName _ [] c.requires.ready (read_nothing e) bounded
-    c.refuse.ensures.place (rw c.new.ensures at c.refuse.ensures.kept) include_name_kind (not_called g.S.Sources e.sources)
+    c.refuse.ensures.place (rw c.new.ensures at c.refuse.ensures.kept) (own_kind _ refl) (not_called g.S.Sources e.sources)
     (λ t. left_nameless_include g.S.Sources e c.requires.ready c.requires.live c.requires.some c.requires.mode (rw c.in-None.is at c.requires.include))

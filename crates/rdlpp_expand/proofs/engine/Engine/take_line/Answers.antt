@@ -1,4 +1,4 @@
-use Rattle.std.proofs.Common.{◌≡◌, ℕ, List, [], None, true, false, length, take, drop, sym, ap, ◌∙◌, subst, arith}
+use Rattle.std.proofs.Common.{◌≡◌, ℕ, List, [], None, true, false, length, take, drop, sym, ap, ◌∙◌, subst, arith, refl}
 use Rattle.rdlpp_scan.specs.SourceTokens.{line_len}
 use Rattle.rdlpp_meaning.specs.Meaning.{renumbered}
 use Rattle.rdlpp_meaning.specs.declared.fault.FaultKind.TheVariants as fault
@@ -9,15 +9,16 @@ use Rattle.rdlpp_front.proofs.DefineLeft.{word_held}
 use Rattle.rdlpp_state.specs.Lines.{inner_blanks}
 use Rattle.rdlpp_state.proofs.EngineSteps.{not_called}
 use Rattle.rdlpp_state.proofs.FrontSteps.{read_nothing, refuses}
-use Rattle.rdlpp_state.proofs.LineSteps.{bad_line_kind, held_short, left_bad_line, left_late_line, take_renumbered}
+use Rattle.rdlpp_state.proofs.LineSteps.{held_short, left_bad_line, left_late_line, take_renumbered}
 use Rattle.rdlpp_expand.proofs.engine.Engine.take_line.Goals as goal
+use Rattle.rdlpp_state.proofs.GoingOn.{own_kind}
 
 pub returns-then-not-file-clause-walks : goal.returns-then-not-file-clause-walks
 returns-then-not-file-clause-walks g c = λ bounded.
     let e = c.args.self.now in
     let late : inner_blanks e.files.nest ≡ false = ap inner_blanks (ap (λ e. e.files.nest) (sym c.self.view_is) ∙ c.file-file.ensures.inner) ∙ c.if-not-file.true in
     refuses g.S.Sources e e c.refuse.new.self c.refuse.result fault.BadLine _ [] c.requires.ready (read_nothing e) bounded c.refuse.ensures.place (rw c.new.ensures at c.refuse.ensures.kept)
-    bad_line_kind (not_called g.S.Sources e.sources)
+    (own_kind _ refl) (not_called g.S.Sources e.sources)
     (λ t. left_late_line g.S.Sources e c.requires.ready c.requires.live c.requires.some c.requires.mode c.requires.line late)
 
 pub line_argument-requires : goal.line_argument-requires
@@ -34,7 +35,7 @@ returns-in-None-clause-walks g c = λ bounded.
     let held : c.held.result.now ≡ held_of (inner_buffer e.files.nest) = c.held.ensures.value ∙ ap held_of (c.file-file.ensures.buffer ∙ ap (λ e. inner_buffer e.files.nest) c.self.view_is) in
     let bad = subst (λ (x : List ℕ). renumbered (take (line_len (drop 5 x)) (drop 5 x)) ≡ None) held c.in-None.ensures in
     refuses g.S.Sources e e c.refuse-in-None.new.self c.refuse-in-None.result fault.BadLine _ [] c.requires.ready (read_nothing e) bounded c.refuse-in-None.ensures.place
-    (rw c.new-in-None.ensures at c.refuse-in-None.ensures.kept) bad_line_kind (not_called g.S.Sources e.sources)
+    (rw c.new-in-None.ensures at c.refuse-in-None.ensures.kept) (own_kind _ refl) (not_called g.S.Sources e.sources)
     (λ t. left_bad_line g.S.Sources e c.requires.ready c.requires.live c.requires.some c.requires.mode c.requires.line bad)
 
 pub renumber-requires-clause-inside : goal.renumber-requires-clause-inside

@@ -1,4 +1,4 @@
-use Rattle.std.proofs.Common.{◌≡◌, take, true, false, sym, ap, ◌∙◌}
+use Rattle.std.proofs.Common.{◌≡◌, take, true, false, sym, ap, ◌∙◌, refl}
 use Rattle.rdlpp_scan.specs.Reserved.{is_reserved}
 use Rattle.rdlpp_scan.specs.declared.token.Directive.TheVariants.{Undef}
 use Rattle.rdlpp_meaning.specs.declared.fault.FaultKind.TheVariants as fault
@@ -8,8 +8,9 @@ use Rattle.rdlpp_read.specs.Files.{consumed_file, inner_buffer, with_inner}
 use Rattle.rdlpp_front.specs.Fronts.{argument_name}
 use Rattle.rdlpp_front.proofs.Insides.{name_inside, name_word}
 use Rattle.rdlpp_state.proofs.EngineSteps.{not_called}
-use Rattle.rdlpp_state.proofs.FrontSteps.{kept_cut, left_reserved, read_nothing, refuses, reserved_kind, take_undef}
+use Rattle.rdlpp_state.proofs.FrontSteps.{kept_cut, left_reserved, read_nothing, refuses, take_undef}
 use Rattle.rdlpp_expand.proofs.engine.Engine.undefine_named.Goals as goal
+use Rattle.rdlpp_state.proofs.GoingOn.{own_kind}
 
 pub word_of-word-requires : goal.word_of-word-requires
 word_of-word-requires g c =
@@ -25,7 +26,7 @@ returns-then-is_some-clause-walks g c = λ bounded.
     ap (λ x. is_reserved (argument_name x c.args.start c.args.stop)) (sym held) ∙ (sym c.reserved.ensures.reserved ∙ (sym c.is_some.ensures ∙ c.if-is_some.true)) in
     let word : c.word_of-word.result.bytes ≡ take 128 (argument_name h c.args.start c.args.stop) = c.word_of-word.ensures ∙ ap (λ x. take 128 (argument_name x c.args.start c.args.stop)) held in
     refuses g.S.Sources e e c.refuse.new.self c.refuse.result fault.ReservedName _ (argument_name h c.args.start c.args.stop) c.requires.ready (read_nothing e) bounded
-    c.refuse.ensures.place (kept_cut e c.refuse.new.self _ _ _ _ _ c.refuse.ensures.kept word) reserved_kind (not_called g.S.Sources e.sources)
+    c.refuse.ensures.place (kept_cut e c.refuse.new.self _ _ _ _ _ c.refuse.ensures.kept word) (own_kind _ refl) (not_called g.S.Sources e.sources)
     (λ t. left_reserved g.S.Sources e c.args.start c.args.stop c.requires.ready c.requires.live c.requires.some c.requires.mode c.requires.undef taken)
 
 pub consume-requires-clause-inside : goal.consume-requires-clause-inside
