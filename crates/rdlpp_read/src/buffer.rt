@@ -8,7 +8,7 @@ mod extending;
 mod filling;
 
 pub use extending::{LogicalLine, hold_logical_line};
-pub use filling::{Fill, fill_buffer};
+pub use filling::{Fill, fill_buffer, fill_room};
 use rdlpp_scan::{Mode, line_ends_in};
 use std::alloc::{AllocError, Global};
 use std::marker::Model;

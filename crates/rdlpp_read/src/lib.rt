@@ -7,5 +7,5 @@ mod buffer;
 mod files;
 
 pub use arguments::{Given, GivenLine, given_line, given_name, given_string};
-pub use buffer::{Fill, LogicalLine, SourceBuffer, fill_buffer, hold_logical_line};
+pub use buffer::{Fill, LogicalLine, SourceBuffer, fill_buffer, fill_room, hold_logical_line};
 pub use files::{File, Files, Shift};

@@ -2,27 +2,29 @@
 ghost use Rattle.std.specs.Prelude.{◌≡◌, ◌+◌, ◌-◌, ◌≤◌, ◌++◌, [], length, IfOk};
 ghost use Rattle.rdlpp_usages.specs.Store.{StoreView};
 
-use rdlpp_lines::append_part;
+use rdlpp_read::fill_room;
 use std::alloc::{AllocError, Global};
 use std::marker::Model;
 
 /// The kept bytes of a call, of which there may be so many. No call but `new` takes memory.
 #[derive(Drop)]
 pub struct ArgumentStore {
+    // of these the first `kept` are the kept bytes; there are as many as were kept at once at most
     bytes: Vec<u8>,
+    kept: usize,
     // how many bytes may be kept, for which there is room
     most: usize,
 }
 
 impl Model for ArgumentStore {
-    ghost use Rattle.std.specs.Prelude.{◌≡◌, ◌≤◌, vec_capacity, vec_len};
+    ghost use Rattle.std.specs.Prelude.{◌≡◌, ◌≤◌, take, vec_capacity, vec_len};
     ghost use Rattle.rdlpp_usages.specs.Store.{StoreView};
 
     ghost Value = { StoreView };
 
-    ghost view = { λ s. record { bytes = s.bytes.items; most = s.most } };
+    ghost view = { λ s. record { bytes = take s.kept s.bytes.items; most = s.most } };
 
-    ghost invariant = { λ s. (vec_len s.bytes ≤ s.most) × (vec_capacity s.bytes ≡ s.most) };
+    ghost invariant = { λ s. (s.kept ≤ vec_len s.bytes) × (vec_len s.bytes ≤ s.most) × (vec_capacity s.bytes ≡ s.most) };
 }
 
 impl ArgumentStore {
@@ -36,6 +38,7 @@ impl ArgumentStore {
     {
         Ok(ArgumentStore {
             bytes: Vec::with_capacity(alloc, argument_bytes)?,
+            kept: 0,
             most: argument_bytes,
         })
     }
@@ -44,7 +47,7 @@ impl ArgumentStore {
     pub fn clear(&mut self)
         ensures { self.new ≡ record self.old { bytes = [] } }
     {
-        self.bytes.clear();
+        self.kept = 0;
     }
 
     /// The kept bytes.
@@ -52,7 +55,7 @@ impl ArgumentStore {
         ensures value { result.now ≡ self.now.bytes }
         ensures fits { length self.now.bytes ≤ self.now.most }
     {
-        self.bytes.as_slice()
+        &self.bytes[..self.kept]
     }
 
     /// How many bytes there is memory for: as many as may be kept, however many are.
@@ -68,7 +71,7 @@ impl ArgumentStore {
         ensures fits { length self.now.bytes ≤ self.now.most }
         ensures counted { self.now.most ≤ usize.MAX }
     {
-        self.most - self.bytes.len()
+        self.most - self.kept
     }
 
     /// Keeps bytes behind those that are kept, for which there is room.
@@ -76,6 +79,9 @@ impl ArgumentStore {
         requires { length self.old.bytes + length more.now ≤ self.old.most }
         ensures { self.new ≡ record self.old { bytes = self.old.bytes ++ more.now } }
     {
-        append_part(&mut self.bytes, more);
+        let end = self.kept + more.len();
+        fill_room(&mut self.bytes, end);
+        self.bytes[self.kept..end].copy_from_slice(more);
+        self.kept = end;
     }
 }

@@ -1,5 +1,5 @@
 // What stands before the next byte of a source: reading by lines.
-ghost use Rattle.std.specs.Prelude.{◌≡◌, ℕ, ◌+◌, ◌-◌, ◌≤◌, ◌<◌, [], length, take, drop, Option, None, IfSome, IfNone, IsSome, MatchOption, IfOk, IfErr, vec_len};
+ghost use Rattle.std.specs.Prelude.{◌≡◌, ℕ, ◌+◌, ◌-◌, ◌≤◌, ◌<◌, [], length, max, take, drop, Option, None, IfSome, IfNone, IsSome, MatchOption, IfOk, IfErr, vec_len};
 ghost use Rattle.rdlpp_source.specs.Sources.{Reads, is_device};
 ghost use Rattle.rdlpp_source.specs.Counts.{Counts};
 ghost use Rattle.rdlpp_scan.specs.Lines.{whole_lines_len};
@@ -82,11 +82,10 @@ pub fn fill_buffer<S: Sources>(buffer: &mut SourceBuffer<S::Reader>, sources: &m
     take_lines(buffer, sources)
 }
 
-// Fills the room of bytes with zeros, up to `len` bytes, in the memory that is reserved for them.
-fn fill_room(bytes: &mut Vec<u8>, len: usize)
-    requires inside { vec_len bytes.old ≤ len }
+/// Fills the room of bytes with zeros, up to `len` bytes, in the memory that is reserved for them; bytes that are there stay.
+pub fn fill_room(bytes: &mut Vec<u8>, len: usize)
     requires reserved { len ≤ vec_capacity bytes.old }
-    ensures len { vec_len bytes.new ≡ len }
+    ensures len { vec_len bytes.new ≡ max (vec_len bytes.old) len }
     ensures kept { (n : ℕ) → n ≤ vec_len bytes.old → take n bytes.new.items ≡ take n bytes.old.items }
     ensures capacity { vec_capacity bytes.new ≡ vec_capacity bytes.old }
 {
