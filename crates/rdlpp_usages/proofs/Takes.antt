@@ -1,21 +1,21 @@
 -- What is done with the first token of held bytes is what reading the call comes to there.
-use Rattle.std.proofs.Common.{◌≡◌, ◌≢◌, ℕ, ◌-◌, ◌≤◌, ◌<◌, Bool, true, false, cond, ◌==◌, List, [], ◌∷◌, ◌++◌, length, take, drop, slice_index, refl, sym, ap, ◌∙◌, subst, inl, arith, zero, suc, ◌+◌, ◌||◌, get_or, inr, ⊎_elim, append_assoc}
+use Rattle.std.proofs.Common.{◌≡◌, ◌≢◌, ℕ, ◌-◌, ◌≤◌, ◌<◌, Bool, true, false, not, cond, ◌&&◌, ◌==◌, List, [], ◌∷◌, ◌++◌, length, take, drop, slice_index, refl, sym, ap, ◌∙◌, subst, inl, arith, zero, suc, ◌+◌, get_or, inr, append_assoc}
 use Rattle.std.specs.Prelude.{nat_le}
-use Rattle.std.proofs.lemmas.Bool.{cond_both, cases_Bool, eqb-true, false≢true, or_cases, leb-true, leb-false}
+use Rattle.std.proofs.lemmas.Bool.{cond_both, cases_Bool, eqb-true, false≢true, leb-true, leb-false}
 use Rattle.std.proofs.lemmas.List.{length-take-le, drop-drop}
 use Rattle.std.specs.List.{prefix_len}
 use Rattle.std.proofs.Math.Seq.{take-add}
 use Rattle.std.proofs.lemmas.List.Sums.{prefix_len-le-length, prefix_len_passes}
 use Rattle.rdlpp_scan.specs.declared.token.Kind.{Kind}
-use Rattle.rdlpp_scan.specs.declared.token.Kind.TheVariants.{Opener, Closer, Back, Perl, Name, Word, Blank, Comma}
+use Rattle.rdlpp_scan.specs.declared.token.Kind.TheVariants.{Opener, Closer, Back, Perl, Name, Word, Blank, Comma, Other}
 use Rattle.rdlpp_scan.specs.declared.token.Mode.{Mode}
 use Rattle.rdlpp_scan.specs.declared.token.Mode.TheVariants.{Plain, InStr, InBlock}
 use Rattle.rdlpp_scan.specs.declared.token.Token.{Token}
 use Rattle.rdlpp_scan.specs.SourceTokens.{SourceToken, line_ends, remaining_tokens}
 use Rattle.rdlpp_scan.specs.Reserved.{is_reserved}
 use Rattle.rdlpp_scan.specs.TokenKinds.{opens_mode, is_one_byte}
-use Rattle.rdlpp_scan.specs.Bytes.{begins_perl, is_blank, is_digit, is_letter, is_word}
-use Rattle.rdlpp_scan.specs.Tokens.{token_of, whole, string_token}
+use Rattle.rdlpp_scan.specs.Bytes.{begins_block_comment, begins_line_comment, begins_perl, is_blank, is_closer, is_digit, is_letter, is_line_end, is_opener, is_word, takes_word}
+use Rattle.rdlpp_scan.specs.Tokens.{plain_token, token_of, whole, string_token}
 use Rattle.rdlpp_scan.specs.Pieces.{is_open}
 use Rattle.rdlpp_scan.proofs.StopKinds.{string_token-kind, block_token-kind, closed_kind_plain, one_byte_len}
 use Rattle.rdlpp_scan.proofs.Seams.{Seam, Closed, BeforePerl, OpenString, OpenComment, token_of-seam}
@@ -36,7 +36,6 @@ use Rattle.rdlpp_usages.proofs.Halts.{IsFirst, own_token, token_first, directive
 use Rattle.rdlpp_scan.specs.Resumed.{opening}
 use Rattle.rdlpp_scan.proofs.SourceLaws.{line_ends-miss, line_ends-part}
 use Rattle.rdlpp_scan.proofs.LineLaws.{EndsLine-drop}
-use Rattle.rdlpp_texts.proofs.QuickTokens.{letter_token, digit_token, blank_token, comma_token}
 use Rattle.rdlpp_usages.specs.declared.taking.Stand.TheVariants.{Inside as InsideCall}
 use Rattle.rdlpp_usages.proofs.Turns.{keeps_step}
 
@@ -270,7 +269,7 @@ behind p (suc m) (b ∷ bs) inside = elim (cases_Bool (p b)) [
 
 -- no LF is among such bytes
 no_line_end : (b : ℕ) → is_calm b ≡ true → b ≡ 10 → ⊥
-unfolding is_calm is_word is_letter is_digit is_blank
+unfolding is_calm is_line_end
 no_line_end b calm e = false≢true (subst (λ (n : ℕ). is_calm n ≡ true) e calm)
 
 no_line_ends : (m : ℕ) (bs : List ℕ) → m ≤ prefix_len is_calm bs → line_ends (take m bs) ≡ 0
@@ -306,64 +305,88 @@ calm_comma : IsCalmKind Comma
 unfolding is_kept_kind kind_role turn_inside kept_size level_behind
 calm_comma = record { kept = refl; turns = λ own k fits. refl; size = λ own n. refl; level = λ own k. refl }
 
+calm_other : IsCalmKind Other
+unfolding is_kept_kind kind_role turn_inside kept_size level_behind
+calm_other = record { kept = refl; turns = λ own k fits. refl; size = λ own n. refl; level = λ own k. refl }
+
 -- the first token of such bytes is one of them, and plain text stands behind it
 record IsCalmToken (held : List ℕ) (t : Token) : Type 0 where
   size : t.len ≤ prefix_len is_calm held
   next : t.next_mode ≡ Plain
   kind : IsCalmKind t.kind
 
-calm_whole : (held : List ℕ) (kind : Kind) (n : ℕ) (t : Token) → t ≡ whole kind n → IsCalmKind kind → n ≤ prefix_len is_calm held → IsCalmToken held t
-unfolding whole
-calm_whole held kind n t is calm size = subst (λ (v : Token). IsCalmToken held v) (sym is) (record { size = size; next = refl; kind = calm })
+-- a byte that isn't calm is none of a class
+none_of : (p : ℕ → Bool) (b n : ℕ) → p n ≡ false → p b ≡ true → (b == n) ≡ false
+none_of p b n dark e = elim (cases_Bool (b == n)) [
+  | inl h ↦ absurd (false≢true (sym dark ∙ subst (λ (m : ℕ). p m ≡ true) (eqb-true b n h) e))
+  | inr h ↦ h
+]
 
-or_left : (p q : Bool) → p ≡ true → (p || q) ≡ true
-or_left true q e = refl
-or_left false q e = absurd (false≢true e)
-
-or_right : (p q : Bool) → q ≡ true → (p || q) ≡ true
-or_right true q e = refl
-or_right false q e = e
+calm_by : (b : ℕ) (p : ℕ → Bool) → p b ≡ true → p 10 ≡ false → p 40 ≡ false → p 91 ≡ false → p 123 ≡ false → p 41 ≡ false → p 93 ≡ false → p 125 ≡ false
+    → p 34 ≡ false → p 47 ≡ false → p 60 ≡ false → p 96 ≡ false → is_calm b ≡ true
+unfolding is_calm is_line_end is_opener is_closer
+calm_by b p e h10 h40 h91 h123 h41 h93 h125 h34 h47 h60 h96 =
+    rw (none_of p b 10 h10 e, none_of p b 40 h40 e, none_of p b 91 h91 e, none_of p b 123 h123 e, none_of p b 41 h41 e, none_of p b 93 h93 e, none_of p b 125 h125 e, none_of p b 34 h34 e, none_of p b 47 h47 e, none_of p b 60 h60 e, none_of p b 96 h96 e) refl
 
 word_calm : (b : ℕ) → is_word b ≡ true → is_calm b ≡ true
-unfolding is_calm
-word_calm b e = or_left (is_word b || is_blank b) (b == 44) (or_left (is_word b) (is_blank b) e)
+unfolding is_word is_letter is_digit
+word_calm b e = calm_by b is_word e refl refl refl refl refl refl refl refl refl refl refl
 
 blank_calm : (b : ℕ) → is_blank b ≡ true → is_calm b ≡ true
-unfolding is_calm
-blank_calm b e = or_left (is_word b || is_blank b) (b == 44) (or_right (is_word b) (is_blank b) e)
+unfolding is_blank
+blank_calm b e = calm_by b is_blank e refl refl refl refl refl refl refl refl refl refl refl
 
--- a byte of which it isn't known whether it is a letter begins such a token
-calm_digit : (b : ℕ) (bs : List ℕ) → is_letter b ≡ false → is_word b ≡ true → IsCalmToken (b ∷ bs) (token_of Plain (b ∷ bs))
-unfolding is_word
-calm_digit b bs dark e =
-    calm_whole (b ∷ bs) Word (prefix_len is_word (b ∷ bs)) (token_of Plain (b ∷ bs))
-    (digit_token b bs dark (⊎_elim (λ l. absurd (false≢true (sym dark ∙ l))) (λ d. d) (or_cases (is_letter b) (is_digit b) e)))
-    calm_word (longer is_word is_calm word_calm (b ∷ bs))
+apart : (p : Bool) → p ≡ false → p ≡ true → ⊥
+apart p h g = false≢true (sym h ∙ g)
 
-calm_dark : (b : ℕ) (bs : List ℕ) → is_letter b ≡ false → is_calm b ≡ true → IsCalmToken (b ∷ bs) (token_of Plain (b ∷ bs))
-unfolding is_calm
-calm_dark b bs dark e =
-    ⊎_elim (λ h. ⊎_elim (λ w. calm_digit b bs dark w)
-    (λ l. calm_whole (b ∷ bs) Blank (prefix_len is_blank (b ∷ bs)) (token_of Plain (b ∷ bs)) (blank_token b bs dark l) calm_blank (longer is_blank is_calm blank_calm (b ∷ bs)))
-    (or_cases (is_word b) (is_blank b) h))
-    (λ c. subst (λ (n : ℕ). IsCalmToken (n ∷ bs) (token_of Plain (n ∷ bs))) (sym (eqb-true b 44 c)) (comma bs))
-    (or_cases (is_word b || is_blank b) (b == 44) e)
-  where
-    calm_44 : is_calm 44 ≡ true
-    calm_44 = or_right (is_word 44 || is_blank 44) (44 == 44) refl
+no_first : (p q : Bool) → (not p && q) ≡ true → (p ≡ false) × (q ≡ true)
+no_first true q h = absurd (false≢true h)
+no_first false q h = (refl, h)
 
-    comma : (bs : List ℕ) → IsCalmToken (44 ∷ bs) (token_of Plain (44 ∷ bs))
-    comma bs =
-        let first : prefix_len is_calm (44 ∷ bs) ≡ 1 + prefix_len is_calm bs = ap (λ (t : Bool). cond t (1 + prefix_len is_calm bs) 0) calm_44 in
-        calm_whole (44 ∷ bs) Comma 1 (token_of Plain (44 ∷ bs)) (comma_token bs) calm_comma (omega (arith, first))
+no_last : (p : Bool) → not p ≡ true → p ≡ false
+no_last true h = absurd (false≢true h)
+no_last false h = refl
+
+both_first : (p q : Bool) → (p && q) ≡ true → p ≡ true
+both_first true q h = refl
+both_first false q h = absurd (false≢true h)
+
+-- such a byte begins one of these tokens
+calm_token : (b : ℕ) (bs : List ℕ) → is_calm b ≡ true → IsCalmToken (b ∷ bs) (token_of Plain (b ∷ bs))
+unfolding is_calm token_of plain_token whole begins_perl begins_line_comment begins_block_comment
+calm_token b bs calm =
+    let line = no_first (is_line_end b) _ calm in
+    let opener = no_first (is_opener b) _ line.1 in
+    let closer = no_first (is_closer b) _ opener.1 in
+    let quote = no_first (b == 34) _ closer.1 in
+    let slash = no_first (b == 47) _ quote.1 in
+    let less = no_first (b == 60) _ slash.1 in
+    let back = no_last (b == 96) less.1 in
+    let held = b ∷ bs in
+    let first : prefix_len is_calm held ≡ 1 + prefix_len is_calm bs = ap (λ (t : Bool). cond t (1 + prefix_len is_calm bs) 0) calm in
+    let P : Token → Type 0 = λ t. IsCalmToken held t in
+    let word = longer is_word is_calm word_calm held in
+    let taken = longer is_word is_calm word_calm bs in
+    let one : (kind : Kind) → IsCalmKind kind → P (whole kind 1) = λ kind k. record { size = omega (arith, first); next = refl; kind = k } in
+    cond_both (begins_perl held) _ _ P (λ h. absurd (apart _ less.0 (both_first _ _ h))) (λ _.
+    cond_both (is_line_end b) _ _ P (λ h. absurd (apart _ line.0 h)) (λ _.
+    cond_both (is_blank b) _ _ P (λ _. record { size = longer is_blank is_calm blank_calm held; next = refl; kind = calm_blank }) (λ _.
+    cond_both (begins_line_comment held) _ _ P (λ h. absurd (apart _ slash.0 (both_first _ _ h))) (λ _.
+    cond_both (begins_block_comment held) _ _ P (λ h. absurd (apart _ slash.0 (both_first _ _ h))) (λ _.
+    cond_both (b == 34) _ _ P (λ h. absurd (apart _ quote.0 h)) (λ _.
+    cond_both (is_letter b) _ _ P (λ _. record { size = word; next = refl; kind = calm_name }) (λ _.
+    cond_both (is_digit b) _ _ P (λ _. record { size = word; next = refl; kind = calm_word }) (λ _.
+    cond_both (takes_word b && is_word (get_or held 1 0)) _ _ P (λ _. record { size = omega (arith, first, taken); next = refl; kind = calm_word }) (λ _.
+    cond_both (b == 96 && is_letter (get_or held 1 0)) _ _ P (λ h. absurd (apart _ back (both_first _ _ h))) (λ _.
+    cond_both (b == 96) _ _ P (λ h. absurd (apart _ back h)) (λ _.
+    cond_both (is_opener b) _ _ P (λ h. absurd (apart _ opener.0 h)) (λ _.
+    cond_both (is_closer b) _ _ P (λ h. absurd (apart _ closer.0 h)) (λ _.
+    cond_both (b == 44) _ _ P (λ _. one Comma calm_comma) (λ _. one Other calm_other))))))))))))))
 
 calm_first : (held : List ℕ) → 0 < prefix_len is_calm held → IsCalmToken held (token_of Plain held)
 calm_first [] some = absurd (omega (arith, some))
 calm_first (b ∷ bs) some = elim (cases_Bool (is_calm b)) [
-  | inl e ↦ elim (cases_Bool (is_letter b)) [
-    | inl l ↦ calm_whole (b ∷ bs) Name (prefix_len is_word (b ∷ bs)) (token_of Plain (b ∷ bs)) (letter_token b bs l) calm_name (longer is_word is_calm word_calm (b ∷ bs))
-    | inr d ↦ calm_dark b bs d e
-  ]
+  | inl e ↦ calm_token b bs e
   | inr e ↦
       let none : prefix_len is_calm (b ∷ bs) ≡ 0 = ap (λ (t : Bool). cond t (1 + prefix_len is_calm bs) 0) e in
       absurd (omega (arith, none, some))

@@ -1,8 +1,8 @@
 -- What is done with the first token of the held bytes of a source, in a call, or with the part of it that is held, or with a run of
--- tokens that are words, blanks and commas.
+-- calm bytes.
 -- A definition that names no source is this project's own.
-use Rattle.std.specs.Prelude.{◌≡◌, ◌≢◌, ℕ, ◌+◌, ◌-◌, ◌≤◌, ◌<◌, Bool, nat_le, ◌||◌, ◌==◌, List, [], ◌++◌, length, take, drop, if◌then◌else◌}
-use Rattle.rdlpp_scan.specs.Bytes.{is_blank, is_word}
+use Rattle.std.specs.Prelude.{◌≡◌, ◌≢◌, ℕ, ◌+◌, ◌-◌, ◌≤◌, ◌<◌, Bool, not, nat_le, ◌&&◌, ◌==◌, List, [], ◌++◌, length, take, drop, if◌then◌else◌}
+use Rattle.rdlpp_scan.specs.Bytes.{is_closer, is_line_end, is_opener}
 use Rattle.rdlpp_scan.specs.declared.token.Mode.{Mode}
 use Rattle.rdlpp_scan.specs.declared.token.Mode.TheVariants.{Plain, InStr}
 use Rattle.rdlpp_scan.specs.declared.token.Token.{Token}
@@ -93,10 +93,11 @@ pub record IsUse (at : scan.Stand) (mode : Mode) (room : ℕ) (held : List ℕ) 
   pub bytes : (a : Around) → IsAround held a
       → bytes_of (tokens_at a mode held) ≡ take u.len held ++ bytes_of (tokens_behind a mode held u.len u.next_mode)
 
--- whether a byte is of a word or a blank, or a comma: tokens of such bytes open nothing and close nothing (source: this project's
--- profile)
+-- whether a byte is neither LF nor a bracket, and begins no string, no comment, no usage and no `<%`: tokens of such bytes open
+-- nothing and close nothing (source: this project's profile)
 unfoldable pub is_calm : ℕ → Bool
-is_calm b = is_word b || is_blank b || b == 44
+is_calm b =
+    not (is_line_end b) && (not (is_opener b) && (not (is_closer b) && (not (b == 34) && (not (b == 47) && (not (b == 60) && not (b == 96))))))
 
 -- the first byte closes the call
 pub record IsClose (at : scan.Stand) (mode : Mode) (room : ℕ) (held : List ℕ) : Type 0 where

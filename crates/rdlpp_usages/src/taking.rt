@@ -1,4 +1,4 @@
-// One token of a call, or the part of it that is held, or a run of words, blanks and commas.
+// One token of a call, or the part of it that is held, or a run of calm bytes.
 ghost use Rattle.std.specs.Prelude.{◌≡◌, ◌≢◌, ℕ, ◌+◌, ◌≤◌, ◌<◌, ◌∷◌, [], length, false, IfSome};
 ghost use Rattle.std.specs.List.{prefix_len};
 ghost use Rattle.rdlpp_scan.specs.Tokens.{token_of};
@@ -9,7 +9,7 @@ ghost use Rattle.rdlpp_texts.specs.CallTokens.{role_meant};
 ghost use Rattle.rdlpp_usages.specs.Taking.{is_calm, Answers, IsKeptAt, IsTaking, IsUse, level_in, stand_meant};
 
 use rdlpp_meaning::FaultKind;
-use rdlpp_scan::{Kind, Mode, Token, first_token, is_blank, is_letter, reserved};
+use rdlpp_scan::{Kind, Mode, Token, first_token, reserved};
 use rdlpp_texts::{CallRole, ends_call, level_behind, role_of};
 
 // Where the reading of a call stands.
@@ -147,12 +147,18 @@ fn name_taking(stand: Stand, room: usize, held: &[u8], token: Token) -> Taking
     role_taking(stand, room, CallRole::Text, token)
 }
 
-// Whether a byte is of a word or a blank, or a comma.
-#[tactic(auto, unfolding(crate::specs::Taking::is_calm, rdlpp_scan::specs::Bytes::is_word, rdlpp_scan::specs::Bytes::is_digit))]
+// Whether a byte is neither LF nor a bracket, and begins no string, no comment, no usage and no `<%`.
+#[tactic(auto, unfolding(crate::specs::Taking::is_calm, rdlpp_scan::specs::Bytes::is_line_end, rdlpp_scan::specs::Bytes::is_opener, rdlpp_scan::specs::Bytes::is_closer))]
 fn is_calm(b: u8) -> bool
     ensures { result ≡ is_calm b }
 {
-    is_letter(b) || b'0' <= b && b <= b'9' || is_blank(b) || b == b','
+    b != b'\n'
+        && !(b == b'(' || b == b'[' || b == b'{')
+        && !(b == b')' || b == b']' || b == b'}')
+        && b != b'"'
+        && b != b'/'
+        && b != b'<'
+        && b != b'`'
 }
 
 // How many such bytes a text begins with.
@@ -163,8 +169,8 @@ fn calm_bytes(text: &[u8]) -> usize
     text.iter().take_while(|b| is_calm(**b)).count()
 }
 
-// The use of the words, blanks and commas with which held bytes begin in plain text, at a level of further openers, if there are
-// some and they fit.
+// The use of the calm bytes with which held bytes begin in plain text, at a level of further openers, if there are some and they
+// fit.
 fn plain_calm_use(level: usize, room: usize, held: &[u8]) -> Option<Use>
     ensures { IfSome result (λ u. IsUse (Inside level) Plain room held.now u) }
 {
@@ -195,8 +201,8 @@ fn calm_use(stand: Stand, mode: Mode, room: usize, held: &[u8]) -> Option<Use>
 
 /// What is done in a call with the first token of held bytes, or with the part of it that is held: it
 /// is used, and kept where it stands between the parentheses and is no `//` comment; or it is the `)`;
-/// or it ends the call. Words, blanks and commas that stand first between the parentheses are used at
-/// once, where they fit.
+/// or it ends the call. What stands first between the parentheses is used at once up to a line end, a
+/// bracket, a string, a comment, a usage or `<%`, where it fits.
 ///
 /// # Rules
 ///
