@@ -11,9 +11,6 @@ shared = librdlpp_c.so
 # The name by which a program that is linked with the shared library asks for it.
 soname = $(shared).$(basename $(VERSION))
 
-# How many crates `make build` and `make c` prove side by side: one for each processor, and for each 3 GB of free memory.
-JOBS ?= $(shell awk -v most=$$(nproc) '/^MemAvailable/ { n = int($$2 / 3e6); print n < 1 ? 1 : n < most ? n : most }' /proc/meminfo)
-
 # The folders of a crate and of all below it: crates.txt has the lowest first, so one walk from its end meets each.
 folders = $(shell tac crates.txt | awk -F '[ :]+' -v crate=$(1) \
 	'BEGIN { is[crate] } $$1 in is { for (i = 2; i <= NF; i++) is[$$i]; print "crates/" $$1 }')
@@ -26,7 +23,7 @@ help: ## list these commands
 build: out/rdlpp ## prove and build the program, which becomes out/rdlpp
 
 out/rdlpp: $(call sources,rdlpp_cli)
-	@cd crates/rdlpp_cli && rt all check --jobs $(JOBS) && rt run -- - < /dev/null
+	@cd crates/rdlpp_cli && rt run -- - < /dev/null
 	@mkdir -p out && cp crates/rdlpp_cli/out/rdlpp_cli $@
 
 run: ## show the worked examples with their output, in two minutes: by out/rdlpp, or by a program without a proof where that isn't built
@@ -47,7 +44,7 @@ crates/rdlpp_refusals/out/rdlpp_refusals: $(call sources,rdlpp_refusals)
 c: out/librdlpp_c.a ## prove and build the library for C, which becomes out/librdlpp_c.a and out/librdlpp_c.so
 
 out/librdlpp_c.a: $(call sources,rdlpp_c) checks/c/library VERSION
-	@cd crates/rdlpp_c && rt all check --jobs $(JOBS) && rt lib
+	@cd crates/rdlpp_c && rt lib
 	@checks/c/library
 
 python: out/rdlpp out/librdlpp_c.a ## build the program, the library for C and the wheel of the Python package, which goes to out/
