@@ -271,6 +271,37 @@ static void comes_back_from_nothing(int reads)
     rdlpp_close(&handle);
 }
 
+/*
+ * Ten doublings of nothing before each byte: a read of 4,096 bytes comes back behind a few of them, with a line map or without, and
+ * all are read.
+ */
+static void comes_back_between_bytes(int count, int is_mapped)
+{
+    static char source[10000] = "`define A0\n", map[RDLPP_MAP_ROOM];
+    size_t length = 0;
+    rdlpp_handle handle = RDLPP_CLOSED_HANDLE;
+    rdlpp_outcome outcome;
+    int at;
+    source[11] = '\0';
+    open_asking(&handle);
+    for (at = 1; at <= 10; at += 1) {
+        sprintf(source + strlen(source), "`define A%d `A%d`A%d\n", at, at - 1, at - 1);
+    }
+    for (at = 0; at < count; at += 1) {
+        strcat(source, "`A10.");
+    }
+    check(give(&handle, "m", source) == RDLPP_WHOLE, "the main text");
+    do {
+        outcome = is_mapped
+            ? rdlpp_read_mapped(&handle, out, ROOM, map, sizeof map, name, sizeof name, word, sizeof word).outcome
+            : read_some(&handle);
+        check(outcome.length < 40, "a read comes back behind a few bytes");
+        length += outcome.length;
+    } while (outcome.status == RDLPP_MORE);
+    check(outcome.status == RDLPP_WHOLE && length == 11 + (size_t)count, "all of the output");
+    rdlpp_close(&handle);
+}
+
 /* With an argument it does less, as over a memory checker. */
 int main(int count, char **words)
 {
@@ -283,5 +314,7 @@ int main(int count, char **words)
     asks_with_short_buffers();
     asks_many_times(is_short ? 100 : 10000);
     comes_back_from_nothing(is_short ? 2 : 200);
+    comes_back_between_bytes(is_short ? 50 : 1000, 0);
+    comes_back_between_bytes(is_short ? 50 : 1000, 1);
     return failures == 0 ? EXIT_SUCCESS : EXIT_FAILURE;
 }

@@ -9,8 +9,8 @@ from ._reading import Reading
 from ._request import Path, Read, Source, request_of
 from ._written import Written, roomy
 
-# How much one read asks for: it comes back soon, so that a signal is seen.
-PART = 262_144
+# How much one read asks for: it comes back in milliseconds, so that a signal is seen.
+PART = 131_072
 
 
 def _read_all(reading: Reading, read: Callable[[Written, int], None]) -> bytes:

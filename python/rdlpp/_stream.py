@@ -11,7 +11,7 @@ from ._reading import Reading
 from ._request import Path, Read, Source, request_of
 from ._written import Written
 
-# How much one read asks for: it comes back soon.
+# How much one read asks for: it comes back in milliseconds.
 PART = 65_536
 MOST_ROOM = 1_073_741_824
 
@@ -20,7 +20,7 @@ class Stream(Iterator[bytes]):
     """The pieces of an output, in order; none is empty. `stream` makes it.
 
     It ends where the output ends, and raises the fault that ends it behind the pieces before it. It is read and
-    closed in any thread, by one call at a time; others wait. A call looks after each read whether the
+    closed in any thread, by one call at a time; others wait. A call looks every few milliseconds whether the
     stream was closed meanwhile, and then ends by a ValueError. Any exception but a fault closes it, so that no
     bytes are lost unseen.
 

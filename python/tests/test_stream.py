@@ -253,7 +253,7 @@ class Signals(unittest.TestCase):
         began = time.monotonic()
         with self.assertRaises(TimeoutError):
             call()
-        self.assertLess(time.monotonic() - began, 2)
+        self.assertLess(time.monotonic() - began, 1)
 
     def test_an_alarm_ends_each_call(self):
         for call in (rdlpp.preprocess, rdlpp.run, lambda text: list(rdlpp.stream(text))):
@@ -261,9 +261,7 @@ class Signals(unittest.TestCase):
 
     def test_an_alarm_ends_a_call_whose_bytes_come_rarely(self):
         for call in (rdlpp.preprocess, rdlpp.run, lambda text: list(rdlpp.stream(text))):
-            began = time.monotonic()
             self.check(lambda: call(RARE))
-            self.assertLess(time.monotonic() - began, 1)
 
     def test_an_alarm_closes_a_stream(self):
         given = rdlpp.stream(NOTHING, room=10)

@@ -8,6 +8,7 @@ use crate::stream::{Stream, part_place, told_read};
 use crate::telling::{CLOSED, Outcome, SHORT_MAP, numbered};
 use arrayvec::ArrayVec;
 use rdlpp::ReadPart;
+use rdlpp_expand::READ_ALLOWANCE;
 use rdlpp_reports::{LineRun, write_run};
 use std::alloc::Global;
 
@@ -96,8 +97,9 @@ fn read_lines(stream: &mut Stream, out: &mut [u8], map: &mut [u8]) -> Lines
 {
     let mut len = 0;
     let mut map_len = 0;
+    let mut left = READ_ALLOWANCE;
     while len < out.len() && map.len() - map_len >= MAP_ROOM {
-        let read = read_part(stream, &mut out[len..], &mut map[map_len..]);
+        let read = read_part(stream, &mut out[len..], &mut map[map_len..], &mut left);
         len += read.part.len;
         map_len += read.map_len;
         if read.part.ending.is_some() || read.part.len == 0 {
@@ -114,14 +116,16 @@ fn read_lines(stream: &mut Stream, out: &mut [u8], map: &mut [u8]) -> Lines
     }
 }
 
-// Reads a part of a piece, and writes the run of lines that ended, if one did.
-fn read_part(stream: &mut Stream, out: &mut [u8], map: &mut [u8]) -> Lines
-    requires { 1100 ≤ length map.old }
+// Reads a part of a piece, by what is left for steps without bytes, and writes the run of lines that ended, if one did.
+fn read_part(stream: &mut Stream, out: &mut [u8], map: &mut [u8], left: &mut usize) -> Lines
+    requires room { 1100 ≤ length map.old }
+    requires left { left.old ≤ 65535 }
     ensures part { ReadsPart stream.old stream.new out.old out.new result.part.len result.part.ending }
     ensures inside { result.part.len ≤ length out.new }
     ensures map { result.map_len ≤ length map.new }
+    ensures left { left.new ≤ left.old }
 {
-    let part = stream.read_piece(out);
+    let part = stream.read_piece(out, left);
     let map_len = map_part(stream, &part, &out[..part.len], map);
     Lines { part, map_len }
 }

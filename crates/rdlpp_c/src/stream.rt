@@ -14,7 +14,7 @@ ghost use Rattle.rdlpp_c.specs.Streaming.{IsQuiet, ReadsBytes, ReadsPiece, Reads
 use crate::telling::{MORE, Outcome, STOPPED, WANTED, WHOLE, numbered, tell_text};
 use arrayvec::ArrayString;
 use rdlpp::{Fault, FaultKind, ReadEnd, ReadPart, Reading};
-use rdlpp_expand::{LineStep, Position};
+use rdlpp_expand::{LineStep, Position, READ_ALLOWANCE};
 use rdlpp_reports::MappedLines;
 use rdlpp_source::{AskedTexts, Sources};
 
@@ -85,19 +85,22 @@ impl Stream {
         ensures { ReadsBytes self.old.pieces self.old self.new out.old out.new result.len result.ending }
     {
         if self.pieces {
-            self.read_piece(out)
+            let mut left = READ_ALLOWANCE;
+            self.read_piece(out, &mut left)
         } else {
             self.reading.read(out)
         }
     }
 
-    // Reads the next bytes of one piece, and counts their lines.
-    pub(crate) fn read_piece(&mut self, out: &mut [u8]) -> ReadPart
+    // Reads the next bytes of one piece, by what is left for steps without bytes, and counts their lines.
+    pub(crate) fn read_piece(&mut self, out: &mut [u8], left: &mut usize) -> ReadPart
+        requires { left.old ≤ 65535 }
         ensures piece { ReadsPiece self.old self.new out.old out.new result.len result.ending }
         ensures inside { result.len ≤ length out.new }
+        ensures left { left.new ≤ left.old }
     {
         let is_next = self.reading.rest_len() == 0;
-        let part = self.reading.read_piece(out);
+        let part = self.reading.read_piece_within(out, left);
         self.part = Part {
             lines_before: if is_next {
                 0

@@ -1,5 +1,5 @@
 -- Steps over open texts, and what is known between them.
-use Rattle.std.proofs.Common.{◌≡◌, ℕ, ◌-◌, ◌<◌, Bool, true, false, List, [], length, Option, None, Some, Ok, Err, refl, sym, ap, subst, arith}
+use Rattle.std.proofs.Common.{◌≡◌, ℕ, ◌+◌, ◌-◌, ◌≤◌, ◌<◌, Bool, true, false, List, [], length, Option, None, Some, Ok, Err, refl, sym, ap, subst, arith}
 use Rattle.std.specs.Prelude.{◌↔◌, IsTrue, is_some}
 use Rattle.std.proofs.lemmas.Bool.{true≢false}
 use Rattle.rdlpp_source.specs.declared.sources.Sources.{Ghosts}
@@ -18,7 +18,7 @@ use Rattle.rdlpp_state.specs.declared.place.Place.{Place}
 use Rattle.rdlpp_state.specs.declared.phase.Phase.TheVariants.{Open}
 use Rattle.rdlpp_state.proofs.Cuts.{cut_kept, cut_piece, IsSpent}
 use Rattle.rdlpp_state.proofs.EngineSteps.{follows}
-use Rattle.rdlpp_expand.specs.Texts.{IsInTexts, LeavesTexts, StaysUnowed, place_of}
+use Rattle.rdlpp_expand.specs.Texts.{IsInTexts, LeavesTexts, StaysUnowed, further_parts, place_of}
 use Rattle.rdlpp_expand.specs.declared.engine.texts.TextStep.{TextStep}
 use Rattle.rdlpp_expand.specs.declared.engine.texts.TextStep.TheVariants.{Lent, Silent, Kept}
 
@@ -78,3 +78,20 @@ pub other-leaves : {S R : Type 0} (step : TextStep) (e : EngineView S R) → (st
 other-leaves (Lent place) e other stays = λ _. stays
 other-leaves Silent e other stays = stays
 other-leaves Kept e other stays = stays
+
+-- a step has one further part at most
+pub one_further : (in_texts : Bool) → further_parts in_texts ≤ 1
+one_further true = omega arith
+one_further false = omega arith
+
+-- with its further part, steps are one more
+pub one_more : (n m : ℕ) → m ≤ 1 → n + m ≤ n + 1
+one_more n m few = omega (arith, few)
+
+-- what is left falls by more than the further parts of a step that costs more
+pub spent_more : (all left cost parts : ℕ) → left ≤ all → parts < cost → cost ≤ left → (all - left) + parts < all - (left - cost)
+spent_more all left cost parts inside less room = omega (arith, inside, less, room)
+
+-- the parts of which no more than 65,535 are left are 65,536 at most with the last one
+pub allowed : (all left : ℕ) → all ≤ 65535 → all - left + 1 ≤ 65536
+allowed all left most = omega (arith, most)

@@ -1,6 +1,6 @@
 -- Steps over the open texts of a usage.
 -- A definition that names no source is this project's own.
-use Rattle.std.specs.Prelude.{◌≡◌, ◌<◌, true, length, is_some, Option, None, Some}
+use Rattle.std.specs.Prelude.{◌≡◌, ℕ, ◌<◌, Bool, true, false, length, is_some, Option, None, Some}
 use Rattle.rdlpp_state.specs.Engine.{EngineView}
 use Rattle.rdlpp_state.specs.Moves.{IsUnowed}
 use Rattle.rdlpp_state.specs.declared.phase.Phase.TheVariants.{Open}
@@ -32,3 +32,8 @@ abbrev pub LeavesTexts : {S R : Type 0} → TextStep → EngineView S R → Type
 LeavesTexts (Lent place) e = e.phase ≡ Open → IsInTexts e
 LeavesTexts Silent e = IsUnowed e
 LeavesTexts Kept e = is_some e.kept ≡ true
+
+-- how many parts a step has at most before its last one: none over open texts, where it is one step of theirs
+abbrev pub further_parts : Bool → ℕ
+further_parts true = 0
+further_parts false = 1

@@ -27,6 +27,7 @@ ghost use Rattle.rdlpp_state.specs.Pieces.{IsPlaced, Lends, answer_of, bytes_at,
 ghost use Rattle.rdlpp_state.specs.Stored.{LetsGo};
 ghost use Rattle.rdlpp_state.specs.Remaining.{output_fault, state_of};
 ghost use Rattle.rdlpp_expand.specs.Run.{write_fault};
+ghost use Rattle.rdlpp_expand.specs.Texts.{IsInTexts, further_parts};
 ghost use Rattle.rdlpp_state.specs.Steps.{IsStarted, Steps, Walks, WalksOver, is_write_failed};
 ghost use Rattle.rdlpp_state.specs.Silences.{most_silent};
 ghost use Rattle.rdlpp_expand.specs.contracts.engine.Engine.{the_row};
@@ -63,9 +64,14 @@ use std::marker::Model;
 pub(crate) use texts::TextStep;
 use words::DEFINE_BYTES;
 
-// How many steps that come to no bytes are taken in a row, before one more: 256 steps in all, and where they are over open
-// texts, 256 times 256.
-const FURTHER_STEPS: usize = 255;
+/// What the steps that come to no bytes may cost in one read, or in one call of `Engine::next`, before one more: a step over open
+/// texts costs 1, the opening of a usage 16, and another one, which may take a line, 256.
+pub const READ_ALLOWANCE: usize = 65_535;
+
+// What such a step costs that isn't one over open texts, and what one costs that opens a usage.
+const LINE_COST: usize = 256;
+
+const USAGE_COST: usize = 16;
 
 // No bytes, as of no LF bytes that are owed.
 const NO_BYTES: OwedPiece = OwedPiece {
@@ -158,24 +164,28 @@ impl<S: Sources> Engine<S> {
     ///
     /// The engine must have been started. A fault is kept: every later call answers it again and
     /// changes nothing. After the end every later call answers the end. A piece may have no bytes:
-    /// so is one that is lent where 65,536 steps in a row came to no bytes.
+    /// so is one that is lent where steps came to no bytes that cost more than `READ_ALLOWANCE`.
     pub fn next(&mut self) -> Result<Piece<'_>, &Fault>
         requires { IsStarted self.old }
         ensures* after { sem 𝓛 (Rests (the_row S.row S.Reader.row S.Sources) self.entry (λ new.
             Steps S.Sources self.old new (answer_of result) × Lends new (answer_of result))) }
     {
-        let place = self.advance();
+        let mut left = READ_ALLOWANCE;
+        let place = self.advance(&mut left);
         self.answer(place)
     }
 
     // The step of `next`: goes on to the next piece, cut to what the limit on the output leaves, and answers where it stands.
-    // Where too many steps came to no bytes, the piece is that of no LF bytes that are owed.
-    pub(crate) fn advance(&mut self) -> Place
-        requires { IsStarted self.old }
+    // The steps on the way that come to no bytes are taken from what is left for them. Where that is too little, the piece is
+    // that of no LF bytes that are owed.
+    pub(crate) fn advance(&mut self, left: &mut usize) -> Place
+        requires started { IsStarted self.old }
+        requires left { left.old ≤ 65535 }
         ensures place { IsPlaced self.new result }
+        ensures left { left.new ≤ left.old }
         ensures steps { Steps S.Sources self.old self.new (lent_answer self.new result) }
     {
-        match self.walk() {
+        match self.walk(left) {
             Some(place) => self.cut(place),
             None => {
                 self.facts();
@@ -243,37 +253,53 @@ impl<S: Sources> Engine<S> {
         left
     }
 
-    // Goes on to the next piece, however many bytes may still be lent, and answers where it stands; none where 256 steps came
-    // to no bytes.
-    fn walk(&mut self) -> Option<Place>
+    // Goes on to the next piece, however many bytes may still be lent, and answers where it stands; none where too little is left
+    // for the steps that come to no bytes.
+    fn walk(&mut self, left: &mut usize) -> Option<Place>
         requires { IsStarted self.old }
         ensures place { IfSome result (IsPlaced self.new) }
-        ensures walks { WalksOver S.Sources most_silent self.old self.new (step_answer self.new result) }
+        ensures left { left.new ≤ left.old }
+        ensures walks { WalksOver S.Sources (left.old - left.new + 1) self.old self.new (step_answer self.new result) }
     {
-        let mut silent = 0;
         loop {
-            if let Some(place) = self.step() {
+            let in_texts = self.is_in_texts();
+            if let Some(place) = self.step(in_texts) {
                 return Some(place);
             }
-            if silent == FURTHER_STEPS {
+            let cost = self.cost(in_texts);
+            if *left < cost {
                 return None;
             }
-            silent += 1;
+            *left -= cost;
         }
     }
 
-    // Takes one step, or 256 over open texts at most, which may lend nothing.
-    fn step(&mut self) -> Option<Place>
-        requires { IsStarted self.old }
+    // Takes one step, over open texts or not, which may lend nothing.
+    fn step(&mut self, in_texts: bool) -> Option<Place>
+        requires started { IsStarted self.old }
+        requires texts { IsTrue in_texts ↔ IsInTexts self.old }
         ensures place { IfSome result (IsPlaced self.new) }
-        ensures walks { WalksOver S.Sources 255 self.old self.new (step_answer self.new result) }
+        ensures walks { WalksOver S.Sources (further_parts in_texts) self.old self.new (step_answer self.new result) }
     {
-        if !self.is_in_texts() {
+        if !in_texts {
             return self.step_outside();
         }
-        let step = self.walk_texts();
+        let step = self.step_text();
         self.facts();
         step.place()
+    }
+
+    // What the step costs that was taken last and came to no bytes.
+    fn cost(&self, in_texts: bool) -> usize
+        ensures { further_parts in_texts < result }
+    {
+        if in_texts {
+            1
+        } else if self.expansion.is_empty() {
+            LINE_COST
+        } else {
+            USAGE_COST
+        }
     }
 
     // Takes one step that is none over the open texts of a usage.

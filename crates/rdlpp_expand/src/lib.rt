@@ -6,7 +6,7 @@ mod reading;
 mod watching;
 mod writing;
 
-pub use engine::{Engine, OpenSource};
+pub use engine::{Engine, OpenSource, READ_ALLOWANCE};
 pub use rdlpp_meaning::{Fault, FaultKind, laws};
 pub use rdlpp_state::{Held, LineStep, NewFault, Piece, Position, fault_kind};
 pub use reading::{ReadEnd, ReadPart, Reading};

@@ -8,7 +8,7 @@ ghost use Rattle.rdlpp_state.specs.Opening.{start_fault};
 ghost use Rattle.rdlpp_state.specs.Searches.{Retries, StartsAgain, is_failed_start};
 ghost use Rattle.rdlpp_expand.specs.Reading.{Fills, FillsPart, GivesPiece, Leaves, Turns};
 
-use crate::engine::Engine;
+use crate::engine::{Engine, READ_ALLOWANCE};
 use rdlpp_meaning::Fault;
 use rdlpp_source::Sources;
 use rdlpp_state::{Held, Piece, Place};
@@ -148,7 +148,8 @@ impl<S: Sources> Reading<S> {
                     ending: None,
                 };
             }
-            if let Some(ending) = self.turn() {
+            let mut left = READ_ALLOWANCE;
+            if let Some(ending) = self.turn(&mut left) {
                 return ReadPart {
                     len: given,
                     ending: Some(ending),
@@ -159,7 +160,8 @@ impl<S: Sources> Reading<S> {
 
     /// Writes the next bytes of the output to the front of a buffer, until it is full, or the output
     /// ends, or a piece without bytes is lent: so a read comes back after as many steps without bytes
-    /// as `Engine::next` takes, with fewer bytes than the buffer has, and no end.
+    /// as `Engine::next` takes for one piece, also where pieces with bytes come between them, with
+    /// fewer bytes than the buffer has, and no end.
     ///
     /// The bytes behind them stay. After the end, and after a fault, every later read answers the
     /// same again with no bytes.
@@ -168,12 +170,13 @@ impl<S: Sources> Reading<S> {
         ensures left { S.Sources.tells self.old.engine.sources → Leaves S.Sources self.old self.new (take result.len out.new) result.ending }
     {
         let mut len = 0;
+        let mut left = READ_ALLOWANCE;
         loop {
             len += self.give(out, len);
             if len == out.len() {
                 return ReadPart { len, ending: None };
             }
-            if let Some(ending) = self.turn() {
+            if let Some(ending) = self.turn(&mut left) {
                 return ReadPart {
                     len,
                     ending: Some(ending),
@@ -194,11 +197,24 @@ impl<S: Sources> Reading<S> {
     pub fn read_piece(&mut self, out: &mut [u8]) -> ReadPart
         ensures piece { GivesPiece S.Sources self.old self.new out.old out.new result.len result.ending }
     {
+        let mut left = READ_ALLOWANCE;
+        self.read_piece_within(out, &mut left)
+    }
+
+    /// Reads one piece as `read_piece` does, and takes what its steps without bytes cost from what is
+    /// left for those of several pieces. So a caller that reads these one after another, and begins
+    /// with `READ_ALLOWANCE`, comes back after as many such steps as a `read`: where too little is
+    /// left the piece has no bytes.
+    pub fn read_piece_within(&mut self, out: &mut [u8], left: &mut usize) -> ReadPart
+        requires { left.old ≤ 65535 }
+        ensures piece { GivesPiece S.Sources self.old self.new out.old out.new result.len result.ending }
+        ensures left { left.new ≤ left.old }
+    {
         if self.rest_len() > 0 {
             let len = self.give(out, 0);
             return ReadPart { len, ending: None };
         }
-        let ending = self.turn();
+        let ending = self.turn(left);
         let len = self.give(out, 0);
         ReadPart { len, ending }
     }
@@ -223,12 +239,14 @@ impl<S: Sources> Reading<S> {
         }
     }
 
-    // Goes on to the next piece.
-    fn turn(&mut self) -> Option<ReadEnd>
-        ensures { Turns S.Sources self.old.engine self.new.engine self.new.rest result }
+    // Goes on to the next piece, by what is left for steps without bytes.
+    fn turn(&mut self, left: &mut usize) -> Option<ReadEnd>
+        requires { left.old ≤ 65535 }
+        ensures turns { Turns S.Sources self.old.engine self.new.engine self.new.rest result }
+        ensures left { left.new ≤ left.old }
     {
         self.given = 0;
-        self.place = self.engine.advance();
+        self.place = self.engine.advance(left);
         match self.engine.answer(self.place) {
             Ok(Piece::Bytes(_)) => None,
             Ok(Piece::Done) => Some(ReadEnd::Finished),

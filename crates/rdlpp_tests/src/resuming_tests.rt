@@ -120,9 +120,8 @@ fn keeps_what_is_no_failed_search(rt: HostRuntime) -> Result<(), Fail> {
     Ok(())
 }
 
-// Forty doublings of nothing, of which a read takes a few steps alone.
-#[test]
-fn comes_back_over_doublings_of_nothing(rt: HostRuntime) -> Result<(), Fail> {
+// The definitions of forty doublings of nothing.
+fn doublings<R: Abort + AllocGlobal>(rt: &R) -> Result<Vec<u8>, Fail> {
     let mut source = Vec::from_slice(rt.alloc(), b"`define E0\n")?;
     for number in 1..41_u32 {
         let line = format!(in rt.alloc();
@@ -132,6 +131,13 @@ fn comes_back_over_doublings_of_nothing(rt: HostRuntime) -> Result<(), Fail> {
         )?;
         source.extend_from_slice(line.as_bytes())?;
     }
+    Ok(source)
+}
+
+// Forty doublings of nothing, of which a read takes a few steps alone.
+#[test]
+fn comes_back_over_doublings_of_nothing(rt: HostRuntime) -> Result<(), Fail> {
+    let mut source = doublings(&rt)?;
     source.extend_from_slice(b"`E40\n")?;
     let files = [("m", source.as_slice())];
     let texts = Texts {
@@ -148,5 +154,39 @@ fn comes_back_over_doublings_of_nothing(rt: HostRuntime) -> Result<(), Fail> {
     let part = reading.read(&mut out);
     assert!(rt; part.len == 0 && part.ending.is_none());
     assert!(rt; reading.engine().held().cursors > 0);
+    Ok(())
+}
+
+// Ten doublings of nothing before each of fifty bytes: a read takes no more steps than over nothing alone, so it comes back
+// behind some of them, and reads on and on give all.
+#[test]
+fn comes_back_between_single_bytes(rt: HostRuntime) -> Result<(), Fail> {
+    let mut source = doublings(&rt)?;
+    for _ in 0..50 {
+        source.extend_from_slice(b"`E10.")?;
+    }
+    let files = [("m", source.as_slice())];
+    let texts = Texts {
+        files: &files,
+        folders: &[],
+    };
+    let mut engine = Engine::new(rt.alloc(), STANDARD, texts, false)?;
+    assert!(rt; engine.is_fresh());
+    assert!(rt; engine.start("m").is_ok());
+    let mut reading = Reading::of(engine);
+    let (mut given, mut reads) = (0_usize, 0_usize);
+    for _ in 0..100 {
+        let mut out = [0_u8; 200];
+        let part = reading.read(&mut out);
+        assert!(rt; part.len <= 60);
+        given = given.saturating_add(part.len);
+        reads = reads.saturating_add(1);
+        if part.ending.is_some() {
+            break;
+        }
+    }
+    assert_eq!(rt; given, 91);
+    assert!(rt; reads < 10);
+    assert!(rt; reading.rest_len() == 0 && reading.fault().is_none());
     Ok(())
 }

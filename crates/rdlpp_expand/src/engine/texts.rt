@@ -7,11 +7,13 @@ ghost use Rattle.rdlpp_state.specs.Pieces.{IsPlaced, held_texts, step_answer};
 ghost use Rattle.rdlpp_state.specs.Steps.{Steps, Walks, WalksOver};
 ghost use Rattle.rdlpp_expand.specs.Texts.{IsInTexts, LeavesTexts, StaysUnowed, place_of};
 
-use super::FURTHER_STEPS;
 use crate::engine::Engine;
 use rdlpp_source::Sources;
 use rdlpp_state::{Phase, Place};
 use rdlpp_texts::{CursorStep, TextPlace, text_at};
+
+// How many steps of a run that come to no bytes are taken in a row, before one more: 256 in all.
+const FURTHER_STEPS: usize = 255;
 
 // What steps over open texts come to.
 #[derive(Clone, Copy)]
@@ -80,7 +82,7 @@ impl<S: Sources> Engine<S> {
 
     // Takes steps over the open texts of a usage, until one lends something, or no text is open any more, or 256 came to no
     // bytes.
-    pub(super) fn walk_texts(&mut self) -> TextStep
+    fn walk_texts(&mut self) -> TextStep
         requires { IsInTexts self.old }
         ensures place { IfSome (place_of result) (IsPlaced self.new) }
         ensures walks { IsBounded self.new → WalksOver S.Sources 255 self.old self.new (step_answer self.new (place_of result)) }
@@ -102,7 +104,7 @@ impl<S: Sources> Engine<S> {
     }
 
     // Takes one step over the open texts of a usage.
-    fn step_text(&mut self) -> TextStep
+    pub(super) fn step_text(&mut self) -> TextStep
         requires { IsInTexts self.old }
         ensures place { IfSome (place_of result) (IsPlaced self.new) }
         ensures walks { IsBounded self.new → Walks S.Sources self.old self.new (step_answer self.new (place_of result)) }

@@ -8,7 +8,7 @@ use Rattle.rdlpp_c.proofs.mapping.read_lines.Goals.{then-is_some-via-then-is_som
 use Rattle.rdlpp_c.proofs.mapping.read_lines.Goals as goal
 
 pub loop-len-init : goal.loop-len-init
-loop-len-init c = record { given = given_none owned_sources c.args.stream.now.reading c.args.out.now; only = refl; inside = omega arith; map = omega arith }
+loop-len-init c = record { given = given_none owned_sources c.args.stream.now.reading c.args.out.now; only = refl; inside = omega arith; map = omega arith; left = omega arith }
 
 pub loop-len-preserved : goal.loop-len-preserved
 loop-len-preserved c =
@@ -22,7 +22,11 @@ loop-len-preserved c =
       only = only_more c.args.stream.now c.loop-len.stream c.read_part-read.new.stream c.loop-len.invariant.only part.only;
       inside = given.inside;
       map = put_length c.loop-len.map_len c.read_part-read.result.map_len c.loop-len.map c.read_part-read.new.map c.loop-len.invariant.map c.read_part-read.ensures.map;
+      left = omega (arith, c.loop-len.invariant.left, c.read_part-read.ensures.left);
     }
+
+pub read_part-read-requires-clause-left : goal.read_part-read-requires-clause-left
+read_part-read-requires-clause-left c = c.loop-len.invariant.left
 
 pub returns-then-is_some-clause-lines : goal.returns-then-is_some-clause-lines
 returns-then-is_some-clause-lines c =

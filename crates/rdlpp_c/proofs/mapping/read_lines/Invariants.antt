@@ -10,6 +10,7 @@ invariant-loop-len l = record {
   only : l.stream ≡ record l.initial.stream { reading = l.stream.reading; part = l.stream.part; lines = l.stream.lines };
   inside : l.len ≤ length l.out;
   map : l.map_len ≤ length l.map;
+  left : l.left ≤ 65535;
 }
 
 abbrev pub decreases-loop-len : goal.decreases-loop-len

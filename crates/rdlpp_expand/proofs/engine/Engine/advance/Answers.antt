@@ -1,18 +1,18 @@
 use Rattle.std.proofs.Common.{[], refl, arith}
-use Rattle.rdlpp_state.proofs.EngineSteps.{follows}
+use Rattle.rdlpp_state.proofs.EngineSteps.{follows, wider}
 use Rattle.rdlpp_state.proofs.FrontSteps.{opened_phase}
 use Rattle.rdlpp_state.specs.Silences.{most_silent}
-use Rattle.rdlpp_expand.proofs.TextFacts.{open-lent, silent-steps}
+use Rattle.rdlpp_expand.proofs.TextFacts.{allowed, open-lent, silent-steps}
 use Rattle.rdlpp_expand.proofs.engine.Engine.advance.Goals as goal
 
 pub cut-requires-clause-open : goal.cut-requires-clause-open
-cut-requires-clause-open g c lent e = open-lent g.S.Sources most_silent _ _ _ lent c.in-Some.ensures.walks e
+cut-requires-clause-open g c lent e = open-lent g.S.Sources _ _ _ _ lent c.in-Some.ensures.walks e
 
 pub returns-in-Some-clause-steps : goal.returns-in-Some-clause-steps
-returns-in-Some-clause-steps g c = c.cut.ensures.steps _ c.in-Some.ensures.walks
+returns-in-Some-clause-steps g c = c.cut.ensures.steps _ (wider g.S.Sources _ most_silent _ _ _ (allowed _ _ c.requires.left) c.in-Some.ensures.walks)
 
 pub returns-in-None-clause-steps : goal.returns-in-None-clause-steps
-returns-in-None-clause-steps g c = silent-steps g.S.Sources _ _ c.in-None.ensures.walks
+returns-in-None-clause-steps g c = silent-steps g.S.Sources _ _ (wider g.S.Sources _ most_silent _ _ _ (allowed _ _ c.requires.left) c.in-None.ensures.walks)
 
 pub returns-in-None-clause-place : goal.returns-in-None-clause-place
 returns-in-None-clause-place g c =

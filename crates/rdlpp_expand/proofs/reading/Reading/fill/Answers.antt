@@ -15,7 +15,7 @@ returns-in-Some-clause-fills g c =
     let gave = c.give-given.ensures in
     fills_ended g.S.Sources _ _ _ _ _ _ c.in-Some.ending (given_more g.S.Sources _ _ _ _ _ _ _ _ c.loop-given.invariant gave.engine gave.len gave.out)
     (rest_used g.S.Sources _ _ _ _ _ _ _ _ c.loop-given.invariant gave.engine gave.len gave.out c.if-given-out.false)
-    (turns_as g.S.Sources c.give-given.new.self.engine c.turn.new.self.engine c.turn.new.self.rest _ _ c.turn.ensures c.in-Some.is)
+    (turns_as g.S.Sources c.give-given.new.self.engine c.turn.new.self.engine c.turn.new.self.rest _ _ c.turn.ensures.turns c.in-Some.is)
 
 pub returns-in-Some-clause-left : goal.returns-in-Some-clause-left
 returns-in-Some-clause-left g c = leaves g.S.Sources _ _ _ _ _ _ (fills_part g.S.Sources _ _ _ _ _ _ (returns-in-Some-clause-fills g c))
@@ -25,4 +25,4 @@ loop-given-preserved g c =
     let gave = c.give-given.ensures in
     given_turned g.S.Sources _ _ _ _ _ _ (given_more g.S.Sources _ _ _ _ _ _ _ _ c.loop-given.invariant gave.engine gave.len gave.out)
     (rest_used g.S.Sources _ _ _ _ _ _ _ _ c.loop-given.invariant gave.engine gave.len gave.out c.if-given-out.false)
-    (turns_as g.S.Sources c.give-given.new.self.engine c.turn.new.self.engine c.turn.new.self.rest _ _ c.turn.ensures c.in_default.is)
+    (turns_as g.S.Sources c.give-given.new.self.engine c.turn.new.self.engine c.turn.new.self.rest _ _ c.turn.ensures.turns c.in_default.is)
