@@ -15,12 +15,12 @@ ghost use Rattle.rdlpp_read.specs.Filling.{Fills, is_failed};
 ghost use Rattle.rdlpp_read.specs.LogicalLines.{HoldsLine, is_failed_line};
 ghost use Rattle.rdlpp_texts.specs.Places.{IsPlaced as IsTextPlaced, place_bytes};
 ghost use Rattle.rdlpp_front.specs.Names.{IsWordBytes};
-ghost use Rattle.rdlpp_front.specs.Fronts.{HasName, IsDirective, IsNamed, IsText, IsUsage, usage_name};
+ghost use Rattle.rdlpp_front.specs.Fronts.{IsDirective, IsNamed, IsText, IsUsage, usage_name};
 ghost use Rattle.rdlpp_usages.specs.Usages.{IsRoomy};
 ghost use Rattle.rdlpp_state.specs.Conditionals.{unclosed_fault};
 ghost use Rattle.rdlpp_state.specs.Engine.{AreOpenTexts, EngineView, IsSoundEngine};
 ghost use Rattle.rdlpp_state.specs.Held.{HoldsDefinitions, IsBounded, bound_of, held_told};
-ghost use Rattle.rdlpp_state.specs.Moves.{Ends, IsReady, IsUnowed, ReadsDefine};
+ghost use Rattle.rdlpp_state.specs.Moves.{Ends, IsReady, IsUnowed, LooksAtName, ReadsDefine};
 ghost use Rattle.rdlpp_state.specs.OpenConditionals.{inner_below};
 ghost use Rattle.rdlpp_state.specs.Owed.{nothing_owed};
 ghost use Rattle.rdlpp_state.specs.Pieces.{IsPlaced, Lends, answer_of, bytes_at, held_texts, lent_answer, piece_bytes, step_answer};
@@ -50,7 +50,7 @@ use rdlpp_conditions::Conditions;
 use rdlpp_front::{Argument, Front, front_of};
 use rdlpp_meaning::{Fault, FaultKind};
 use rdlpp_read::{Files, Fill, LogicalLine};
-use rdlpp_scan::{Mode, line_ends_in, reserved};
+use rdlpp_scan::{Directive, Mode, line_ends_in, reserved};
 use rdlpp_source::Sources;
 use rdlpp_state::{
     Held, Marks, Owed, OwedPart, OwedPiece, Phase, Piece, Place, copied, copied_fault, fault_kind,
@@ -387,8 +387,8 @@ impl<S: Sources> Engine<S> {
             Front::Undef(argument) => self.undefine(argument),
             Front::Ifdef(argument) => self.open_conditional(true, argument),
             Front::Ifndef(argument) => self.open_conditional(false, argument),
-            Front::Elsif(argument) => self.take_elsif(argument),
-            Front::Else => self.take_else(),
+            Front::Elsif(argument) => self.take_branch(Directive::Elsif, argument),
+            Front::Else => self.take_branch(Directive::Else, None),
             Front::Endif => self.take_endif(),
             Front::Include(argument) => self.take_include(argument),
             Front::Line => self.take_line(),
@@ -473,31 +473,36 @@ impl<S: Sources> Engine<S> {
         ensures place { IfSome result (IsPlaced self.new) }
         ensures walks { IsBounded self.new → Walks S.Sources self.old self.new (step_answer self.new result) }
     {
-        match argument {
-            None => Some(self.refuse(FaultKind::NameExpected, ArrayString::new())),
-            Some(Argument { start, stop }) => self.undefine_named(start, stop),
+        match self.named(argument) {
+            Err(place) => Some(place),
+            Ok(given) => {
+                let name = &self.files.file().buffer.held()[given.start..given.stop];
+                let _found = self.table.remove(name);
+                let _count = self.table.len();
+                self.consume(given.stop, 0);
+                None
+            }
         }
     }
 
-    // Takes out the macro of an `undef`, whose name stands from a place up to another.
-    fn undefine_named(&mut self, start: usize, stop: usize) -> Option<Place>
-        requires ready { IsReady self.old }
-        requires live { self.old.conditions.skipped ≡ None }
-        requires some { 0 < length (held_of (inner_buffer self.old.files.nest)) }
-        requires mode { (inner_buffer self.old.files.nest).mode ≡ Mode.Plain }
-        requires undef { HasName Undef (held_of (inner_buffer self.old.files.nest)) start stop }
-        ensures place { IfSome result (IsPlaced self.new) }
-        ensures walks { IsBounded self.new → Walks S.Sources self.old self.new (step_answer self.new result) }
+    // The name that a directive is given; or the place of its fault, which is kept: none stands there, or it is
+    // reserved.
+    fn named(&mut self, argument: Option<Argument>) -> Result<Argument, Place>
+        requires nest { 0 < length self.old.files.nest }
+        requires given { (word : Directive) × IsNamed word (held_of (inner_buffer self.old.files.nest)) argument }
+        ensures { LooksAtName argument self.old self.new result }
     {
-        let name = &self.files.file().buffer.held()[start..stop];
-        if reserved(name).is_some() {
-            let word = word_of(name);
-            return Some(self.refuse(FaultKind::ReservedName, word));
+        match argument {
+            None => Err(self.refuse(FaultKind::NameExpected, ArrayString::new())),
+            Some(given) => {
+                let name = &self.files.file().buffer.held()[given.start..given.stop];
+                if reserved(name).is_some() {
+                    let word = word_of(name);
+                    return Err(self.refuse(FaultKind::ReservedName, word));
+                }
+                Ok(given)
+            }
         }
-        let _found = self.table.remove(name);
-        let _count = self.table.len();
-        self.consume(stop, 0);
-        None
     }
 
     // Ends the innermost source, which has no more bytes; a string, a comment or a conditional that is open

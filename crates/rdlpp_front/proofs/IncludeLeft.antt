@@ -19,7 +19,7 @@ use Rattle.rdlpp_scan.proofs.TokenSteps.{is_kept_kind}
 use Rattle.rdlpp_meaning.specs.declared.fault.FaultKind.TheVariants.{IncludeName, PathTooLong, SourceNotFound, TooManyIncludes}
 use Rattle.rdlpp_meaning.specs.Outcome.{fails}
 use Rattle.rdlpp_meaning.specs.State.{LongPath, NoSource, Rules, Source, State, fault_at, shown_line}
-use Rattle.rdlpp_meaning.specs.Parts.{behind_directive, command_of, only_blanks, Argument, argument_of, behind_blanks, no_argument, past_blanks, string_in_front}
+use Rattle.rdlpp_meaning.specs.Parts.{behind_directive, command_of, only_blanks, argument_of, behind_blanks, no_argument, past_blanks, string_in_front}
 use Rattle.rdlpp_meaning.specs.Meaning.{Progress, added_end, at_start_of, behind_bytes, leaves, origin_line}
 use Rattle.rdlpp_meaning.specs.Resumed.{Live}
 use Rattle.rdlpp_meaning.specs.Opened.{Waiting, all_resumed, waiting}
@@ -34,7 +34,7 @@ use Rattle.rdlpp_read.specs.Files.{consumed_file}
 use Rattle.rdlpp_front.specs.Fronts.{HasString, argument_name, word_of, include_name, LacksString}
 use Rattle.rdlpp_front.specs.SourceLeft.{HoldsFront, source_left}
 use Rattle.rdlpp_front.proofs.DefineLeft.{not_counted, counted}
-use Rattle.rdlpp_front.proofs.NamedDirectives.{refused_move, IsGiven, NameInFront, blank_lead, given_of, word_directive, word_token, gone_blanks, gone_word, nothing_tokens, given_in_front, nothing_in_front}
+use Rattle.rdlpp_front.proofs.NamedDirectives.{refused_move, IsGiven, GivenInFront, given_in_front_of, nothing_in_front_of, blank_lead, given_of, word_directive, word_token, gone_blanks, gone_word, nothing_tokens}
 use Rattle.rdlpp_read.proofs.BufferTokens.{ends_line}
 use Rattle.rdlpp_scan.specs.declared.token.Token.{Token}
 use Rattle.rdlpp_scan.specs.Front.{Front, StringOpen}
@@ -106,15 +106,15 @@ module _ (most l room : ℕ) (rest : List ℕ) where
       subst P (sym zero_is) at_zero c
 
 -- an `include` with its string in front
-pub string_in_front_of : {R : Type 0} (unread : R → List ℕ) (b : BufferView R) → HoldsFront b → b.mode ≡ Plain → (start stop : ℕ) → HasString (held_of b) start stop → NameInFront Include unread b start stop
+string_in_front_of : {R : Type 0} (unread : R → List ℕ) (b : BufferView R) → HoldsFront b → b.mode ≡ Plain → (start stop : ℕ) → HasString (held_of b) start stop → GivenInFront Include unread b (Some (argument_name (held_of b) start stop)) stop
 string_in_front_of unread b holds mode start stop has =
-    let r = drop (length (word_of Include)) (held_of b) in
-    let bl = has.from in
-    let k = has.to - bl in
+    let held = held_of b in
+    let r = drop (length (word_of Include)) held in
+    let k = has.to - has.from in
     let g = has.given in
-    let ends = EndsLine-drop (length (word_of Include)) (held_of b) (rest_of unread b) (ends_line unread b holds.ends) in
-    given_in_front Include unread b include_word holds mode has.word bl has.to start stop g.some has.starts has.stops
-    (string_given b.line_bytes b.line b.bytes_left (rest_of unread b) r bl k ends g.space (closed_string (drop bl r) k g.string (omega (arith, g.some))))
+    given_in_front_of Include unread b holds mode include_word has.word has.from has.to start stop g.some has.starts has.stops
+    (string_given b.line_bytes b.line b.bytes_left (rest_of unread b) r has.from k (EndsLine-drop (length (word_of Include)) held (rest_of unread b) (ends_line unread b holds.ends)) g.space
+    (closed_string (drop has.from r) k g.string (omega (arith, g.some))))
 
 -- a source that waits for the text that its `include` has found, as a file of which the directive is used
 abbrev pub waiting_file : {R : Type 0} → Rules → (R → List ℕ) → List Progress → ℕ → File R → State → List ℕ → Waiting
@@ -130,11 +130,11 @@ module _ {R : Type 0} (rules : Rules) (unread : R → List ℕ) (ws : List Waiti
     (holds : HoldsFront f.buffer) (mode : f.buffer.mode ≡ Plain)
     (start stop : ℕ) (has : HasString (held_of f.buffer) start stop) where
   -- the tokens at the `include`
-  abbrev front : NameInFront Include unread f.buffer start stop
+  abbrev front : GivenInFront Include unread f.buffer (Some (argument_name (held_of f.buffer) start stop)) stop
   front = string_in_front_of unread f.buffer holds mode start stop has
 
   -- the source that stood innermost waits
-  waits : (i : NameInFront Include unread f.buffer start stop) (text : List ℕ)
+  waits : (i : GivenInFront Include unread f.buffer (Some (argument_name (held_of f.buffer) start stop)) stop) (text : List ℕ)
       → waiting rules os f.blanks (word_token Include f.buffer.line) i.tokens s text ≡ waiting_file rules unread os stop f s text
   unfolding waiting command_of
   waits i text =
@@ -363,9 +363,10 @@ module _ {R : Type 0} (rules : Rules) (unread : R → List ℕ) (ws : List Waiti
       let r = drop n held in
       let ends = ends_line unread b holds.ends in
       let bl = lacks.none.start in
-      let i = nothing_in_front Include unread b include_word holds mode lacks.word
+      let i =
+      nothing_in_front_of Include unread b holds mode include_word lacks.word
       (string_missing b.line_bytes b.line b.bytes_left rest r bl (EndsLine-drop n held rest ends)
       (gone_word Include held rest holds.some ends lacks.word) (gone_blanks Include held rest holds.some ends lacks.word bl lacks.none.space)
       lacks.none.space lacks.none.none) in
       refused_move rules unread ws f s Include i.tokens (Live os) IncludeName [] i.all
-      (include_nameless rules os f.blanks (word_token Include b.line) i.tokens s (word_directive Include b.line include_word) (ap (λ (a : Argument). a.given) i.none))
+      (include_nameless rules os f.blanks (word_token Include b.line) i.tokens s (word_directive Include b.line include_word) i.given)

@@ -1,5 +1,5 @@
 -- A directive that wants a name in front of what remains: its token, its name, what it does to what remains; and so an `undef`.
-use Rattle.std.proofs.Common.{◌≡◌, ◌⊎◌, ℕ, ◌+◌, ◌-◌, ◌<◌, Bool, true, false, List, [], ◌∷◌, ◌++◌, Some, length, take, drop, refl, sym, ap, ◌∙◌, subst, inl, inr, ⊎_elim, arith}
+use Rattle.std.proofs.Common.{◌≡◌, ◌⊎◌, ℕ, ◌+◌, ◌-◌, ◌≤◌, ◌<◌, Bool, true, false, List, [], ◌∷◌, ◌++◌, Option, None, Some, length, take, drop, refl, sym, ap, ◌∙◌, subst, inl, inr, ⊎_elim, arith}
 use Rattle.std.specs.Prelude.{bytes_eq, codes}
 use Rattle.std.proofs.Math.Seq.{take-add}
 use Rattle.std.proofs.lemmas.List.{append-nil, drop-drop, take-append-drop}
@@ -25,24 +25,23 @@ use Rattle.rdlpp_meaning.specs.Parts.{Argument, argument_of, behind_blanks, behi
 use Rattle.rdlpp_meaning.specs.Resumed.{Place, behind, resumed, Live}
 use Rattle.rdlpp_meaning.specs.Opened.{Waiting, all_resumed}
 use Rattle.rdlpp_meaning.proofs.DirectiveWords.{has_own_token}
-use Rattle.rdlpp_meaning.proofs.Undefining.{blank_token, name_token, takes_name, takes_name_at_once, takes_name_behind_blanks, wants_name, macro_name_given, macro_name_missing, macro_name_reserved, resumed_bad_undef, resumed_undef}
+use Rattle.rdlpp_meaning.proofs.Undefining.{blank_token, name_token, takes_name, takes_name_at_once, takes_name_behind_blanks, wants_name, resumed_bad_undef, resumed_undef}
 use Rattle.rdlpp_read.specs.Arguments.{IsLead, Leads, Lacks}
 use Rattle.rdlpp_read.specs.Buffer.{BufferView, held_of, rest_of, tokens_left}
-use Rattle.rdlpp_front.specs.Fronts.{HasName, IsDirective, LacksName, argument_name, word_of}
+use Rattle.rdlpp_front.specs.Fronts.{HasName, IsDirective, IsNamed, LacksName, argument_name, given_by, given_len, given_name, word_of}
+use Rattle.rdlpp_front.specs.declared.front.Argument.{Argument as Given}
 use Rattle.rdlpp_front.specs.SourceLeft.{HoldsFront, source_left}
-use Rattle.rdlpp_front.proofs.Insides.{word_len}
+use Rattle.rdlpp_front.proofs.Insides.{name_inside, word_len}
 use Rattle.rdlpp_read.proofs.BufferTokens.{ends_line}
 use Rattle.rdlpp_front.proofs.SourcePassages.{tokens_used, used_buffer, all_resumed_refused}
 use Rattle.rdlpp_front.proofs.TextLeft.{back_tokens}
 use Rattle.rdlpp_meaning.specs.declared.fault.FaultKind.{FaultKind}
 use Rattle.rdlpp_meaning.specs.Outcome.{fails}
-use Rattle.rdlpp_meaning.specs.Meaning.{leaves, refusal, Faulty, Progress, macro_name}
+use Rattle.rdlpp_meaning.specs.Meaning.{leaves, refusal, Faulty, Fine, Progress, macro_name}
 use Rattle.rdlpp_meaning.proofs.Includes.{all_resumed_move}
 use Rattle.rdlpp_read.specs.declared.files.File.{File}
 use Rattle.rdlpp_read.specs.Files.{consumed_file}
-use Rattle.rdlpp_scan.specs.Reserved.{is_reserved}
 use Rattle.rdlpp_table.specs.Table.{without}
-use Rattle.rdlpp_meaning.specs.declared.fault.FaultKind.TheVariants.{NameExpected, ReservedName}
 
 -- A directive that wants a name in front of what remains: its token, the name that it is given, and what remains behind that.
 
@@ -269,113 +268,6 @@ module _ (d : Directive) (held rest : List ℕ) (some : 0 < length held) (ends :
       omega (arith, ap line_ends (take-add n bl held), line_ends-append (take n held) (take bl (drop n held)), word_at_line_ends, lead_line_ends (drop n held) bl space) in
       ended_behind held rest (n + bl) some ends none (sym (drop-drop bl n held) ∙ gone)
 
--- a directive with what it is given in front: the tokens behind its word, what it takes of them, and what remains behind that
-pub record NameInFront {R : Type 0} (d : Directive) (unread : R → List ℕ) (b : BufferView R) (start stop : ℕ) : Type 0 where
-  pub tokens : List SourceToken
-  pub all : tokens_left unread b ≡ word_token d b.line ∷ tokens
-  pub given : (argument_of d tokens).given ≡ Some (argument_name (held_of b) start stop)
-  pub text : word_of d ++ (argument_of d tokens).text ≡ take stop (held_of b)
-  pub behind : behind_directive d tokens ≡ tokens_left unread (used_buffer b stop 0)
-
--- a directive without a name in front
-pub record NoNameInFront {R : Type 0} (d : Directive) (unread : R → List ℕ) (b : BufferView R) : Type 0 where
-  pub tokens : List SourceToken
-  pub all : tokens_left unread b ≡ word_token d b.line ∷ tokens
-  pub none : argument_of d tokens ≡ no_argument
-  pub behind : tokens ≡ tokens_left unread (used_buffer b (length (word_of d)) 0)
-
-module _ {R : Type 0} (d : Directive) (unread : R → List ℕ) (b : BufferView R) (word : has_own_token d ≡ false) (holds : HoldsFront b) (mode : b.mode ≡ Plain) where
-  -- the tokens of what is held, on the line of the directive
-  abbrev tokens_in : List ℕ → List SourceToken
-  tokens_in z = remaining_tokens b.line_bytes Plain b.line b.line z b.bytes_left (rest_of unread b)
-
-  -- they are those that remain where so many bytes are used
-  at_used : (n : ℕ) → tokens_in (drop n (held_of b)) ≡ tokens_left unread (used_buffer b n 0)
-  at_used n =
-      let line : b.line ≡ b.line + 0 = omega arith in
-      ap (λ (k : ℕ). remaining_tokens b.line_bytes Plain b.line k (drop n (held_of b)) b.bytes_left (rest_of unread b)) line
-      ∙ tokens_used unread b n 0 b.line mode
-
-  -- the word in front
-  at_word : IsDirective d (held_of b) → tokens_left unread b ≡ word_token d b.line ∷ tokens_in (drop (length (word_of d)) (held_of b))
-  at_word is =
-      word_tokens d unread b word holds mode is
-      ∙ ap (λ (ts : List SourceToken). word_token d b.line ∷ ts) (sym (at_used (length (word_of d))))
-
-  -- a directive with what it is given, from a place behind its word up to another
-  pub given_in_front : IsDirective d (held_of b) → (from to start stop : ℕ) → from < to → start ≡ length (word_of d) + from → stop ≡ length (word_of d) + to
-      → (let r = drop (length (word_of d)) (held_of b) in
-      IsGiven d (tokens_in r) (take (to - from) (drop from r)) (take from r ++ take (to - from) (drop from r)) (tokens_in (drop (to - from) (drop from r))))
-      → NameInFront d unread b start stop
-  given_in_front is from to start stop some starts stops a =
-      let held = held_of b in
-      let n = length (word_of d) in
-      let r = drop n held in
-      let k = to - from in
-      let at : drop from r ≡ drop start held = drop-drop from n held ∙ ap (λ (i : ℕ). drop i held) (sym starts) in
-      let size : k ≡ stop - start = omega (arith, some) in
-      let more : from + k ≡ to = omega (arith, some) in
-      let taken : take from r ++ take k (drop from r) ≡ take to r = sym (take-add from k r) ∙ ap (λ (i : ℕ). take i r) more in
-      let whole : word_of d ++ take to r ≡ take stop held =
-      ap (λ (z : List ℕ). z ++ take to r) (sym (word_at d held (rest_of unread b) holds.some (ends_line unread b holds.ends) is))
-      ∙ sym (take-add n to held) ∙ ap (λ (i : ℕ). take i held) (sym stops) in
-      let end : start + k ≡ stop = omega (arith, some) in
-      record {
-        tokens = tokens_in r;
-        all = at_word is;
-        given = a.given ∙ ap Some (ap (take k) at ∙ ap (λ (i : ℕ). take i (drop start held)) size);
-        text = ap (λ (z : List ℕ). word_of d ++ z) (a.taken ∙ taken) ∙ whole;
-        behind =
-            a.rest
-            ∙ ap tokens_in (ap (drop k) at ∙ drop-drop k start held ∙ ap (λ (i : ℕ). drop i held) end)
-            ∙ at_used stop;
-      }
-
-  -- one that is given nothing
-  pub nothing_in_front : IsDirective d (held_of b) → argument_of d (tokens_in (drop (length (word_of d)) (held_of b))) ≡ no_argument → NoNameInFront d unread b
-  nothing_in_front is none =
-      record { tokens = tokens_in (drop (length (word_of d)) (held_of b)); all = at_word is; none = none; behind = at_used (length (word_of d)) }
-
--- a directive with its name, and one without
-module _ {R : Type 0} (d : Directive) (unread : R → List ℕ) (b : BufferView R) (wants : wants_name d ≡ true) (holds : HoldsFront b) (mode : b.mode ≡ Plain) where
-  pub name_in_front_of : (start stop : ℕ) → HasName d (held_of b) start stop → NameInFront d unread b start stop
-  name_in_front_of start stop has =
-      let held = held_of b in
-      let rest = rest_of unread b in
-      let n = length (word_of d) in
-      let r = drop n held in
-      let bl = has.name.from in
-      let k = has.name.to - bl in
-      let g = has.name.given in
-      let ends = ends_line unread b holds.ends in
-      let lead = lead_name (drop bl r) k g.name (omega (arith, g.some)) in
-      given_in_front d unread b (wants_word d wants) holds mode has.word bl has.name.to start stop g.some has.name.starts has.name.stops
-      (behind_given b.line_bytes b.line b.bytes_left rest d wants r bl k (EndsLine-drop n held rest ends) (gone_word d held rest holds.some ends has.word) g.space lead.0 lead.1 lead.2)
-
-  pub no_name_in_front_of : LacksName d (held_of b) → NoNameInFront d unread b
-  no_name_in_front_of lacks =
-      let held = held_of b in
-      let rest = rest_of unread b in
-      let n = length (word_of d) in
-      let r = drop n held in
-      let ends = ends_line unread b holds.ends in
-      nothing_in_front d unread b (wants_word d wants) holds mode lacks.word
-      (behind_missing b.line_bytes b.line b.bytes_left rest d wants r lacks.none.start (EndsLine-drop n held rest ends)
-      (gone_word d held rest holds.some ends lacks.word) (gone_blanks d held rest holds.some ends lacks.word lacks.none.start lacks.none.space)
-      lacks.none.space (lead_none (drop lacks.none.start r) 0 lacks.none.none refl))
-
--- what remains behind a directive and what it is given
-pub behind_name : {R : Type 0} (d : Directive) (unread : R → List ℕ) (b : BufferView R) (rules : Rules) (ws : List Waiting) (place : Place) (first : Bool) (s : State)
-    (start stop : ℕ) (i : NameInFront d unread b start stop)
-    → all_resumed rules ws place (only_blanks first (command_in_front d first (word_token d b.line) i.tokens).text) (behind_directive d i.tokens) s
-    ≡ all_resumed rules ws place (only_blanks first (take stop (held_of b))) (tokens_left unread (used_buffer b stop 0)) s
-unfolding command_of
-behind_name d unread b rules ws place first s start stop i =
-    ap (λ (z : List ℕ). all_resumed rules ws place (only_blanks first z) (behind_directive d i.tokens) s) i.text
-    ∙ ap (λ (ts : List SourceToken). all_resumed rules ws place (only_blanks first (take stop (held_of b))) ts s) i.behind
-
--- A directive in front as a move: from what its token does to what remains of its source, to what it does to what remains of all.
-
 -- a directive that takes nothing but its word
 unfoldable pub stands_bare : Directive → Bool
 stands_bare Else = true
@@ -396,34 +288,137 @@ bare_word Else e = refl
 bare_word Endif e = refl
 bare_word d e = cc
 
-module _ {R : Type 0} (rules : Rules) (unread : R → List ℕ) (ws : List Waiting) (f : File R) (s : State) (d : Directive)
-    (holds : HoldsFront f.buffer) (mode : f.buffer.mode ≡ Plain) where
-  -- a directive that is given nothing
-  pub bare_move : IsDirective d (held_of f.buffer) → (i : NoNameInFront d unread f.buffer) (place new : Place) (t : State)
-      → resumed rules place f.blanks (word_token d f.buffer.line ∷ i.tokens) s ≡ behind rules new d f.blanks (word_token d f.buffer.line) i.tokens t
-      → source_left rules unread ws place f s ≡ source_left rules unread ws new (consumed_file (length (word_of d)) 0 f) t
-  unfolding source_left command_of no_argument
-  bare_move is i place new t e =
-      let tok = word_token d f.buffer.line in
-      let c = command_in_front d f.blanks tok i.tokens in
-      let held = held_of f.buffer in
-      let text : word_of d ++ (argument_of d i.tokens).text ≡ take (length (word_of d)) held =
-      ap (λ (a : Argument). word_of d ++ a.text) i.none ∙ append-nil (word_of d)
-      ∙ sym (word_at d held (rest_of unread f.buffer) holds.some (ends_line unread f.buffer holds.ends) is) in
-      let rest : behind_directive d i.tokens ≡ i.tokens = ap (λ (a : Argument). drop a.used i.tokens) i.none in
-      ap (λ (ts : List SourceToken). all_resumed rules ws place f.blanks ts s) i.all
-      ∙ all_resumed_move rules ws place new f.blanks (only_blanks f.blanks c.text) (tok ∷ i.tokens) (behind_directive d i.tokens) s t e
-      ∙ ap (λ (z : List ℕ). all_resumed rules ws new (only_blanks f.blanks z) (behind_directive d i.tokens) t) text
-      ∙ ap (λ (ts : List SourceToken). all_resumed rules ws new (only_blanks f.blanks (take (length (word_of d)) held)) ts t) (rest ∙ i.behind)
+-- the held bytes begin with a directive: what it is given, and how many bytes it has with that
+pub data Begins (d : Directive) (held : List ℕ) : Option (List ℕ) → ℕ → Type 0 where
+  Named : (start stop : ℕ) → wants_name d ≡ true → HasName d held start stop → Begins d held (Some (argument_name held start stop)) stop
+  Nameless : wants_name d ≡ true → LacksName d held → Begins d held None (length (word_of d))
+  Bare : stands_bare d ≡ true → IsDirective d held → Begins d held None (length (word_of d))
 
-  -- a directive that takes nothing but its word in front
-  pub bare_in_front : stands_bare d ≡ true → IsDirective d (held_of f.buffer) → NoNameInFront d unread f.buffer
-  bare_in_front bare is = record {
-    tokens = tokens_left unread (consumed_file (length (word_of d)) 0 f).buffer;
-    all = word_tokens d unread f.buffer (bare_word d bare) holds mode is;
-    none = bare_takes d (tokens_left unread (consumed_file (length (word_of d)) 0 f).buffer) bare;
-    behind = refl;
-  }
+-- where it wants a name
+pub named_begins : (d : Directive) (held : List ℕ) (a : Option Given) → wants_name d ≡ true → IsNamed d held a → Begins d held (given_by held a) (given_len d a)
+named_begins d held None wants lacks = Nameless wants lacks
+named_begins d held (Some a) wants has = Named a.start a.stop wants has
+
+-- its word
+pub begins_word : (d : Directive) (held : List ℕ) (given : Option (List ℕ)) (len : ℕ) → Begins d held given len → IsDirective d held
+begins_word d held _ _ (Named start stop wants has) = has.word
+begins_word d held _ _ (Nameless wants lacks) = lacks.word
+begins_word d held _ _ (Bare bare is) = is
+
+-- the word of a directive lies in what is held
+pub word_within : (d : Directive) (held : List ℕ) → IsDirective d held → 0 < length held → (0 < length (word_of d)) × (length (word_of d) ≤ length held)
+word_within d held is some =
+    let whole = word_len d held some is in
+    let part = token_of-part Plain held some in
+    let inside = part.inside in
+    let positive = part.not_empty in
+    (omega arith, omega arith)
+
+-- and so does what it is given
+pub begins_within : (d : Directive) (held : List ℕ) (given : Option (List ℕ)) (len : ℕ) → Begins d held given len → 0 < length held → (0 < len) × (len ≤ length held)
+begins_within d held _ _ (Named start stop wants has) some = let within = name_inside d held start stop has in (omega (arith, within.0, within.1), within.2)
+begins_within d held _ _ (Nameless wants lacks) some = word_within d held lacks.word some
+begins_within d held _ _ (Bare bare is) some = word_within d held is some
+
+-- a directive with what it is given in front: the tokens behind its word, what it takes of them, and what remains behind that
+pub record GivenInFront {R : Type 0} (d : Directive) (unread : R → List ℕ) (b : BufferView R) (name : Option (List ℕ)) (len : ℕ) : Type 0 where
+  pub tokens : List SourceToken
+  pub all : tokens_left unread b ≡ word_token d b.line ∷ tokens
+  pub given : (argument_of d tokens).given ≡ name
+  pub text : word_of d ++ (argument_of d tokens).text ≡ take len (held_of b)
+  pub behind : behind_directive d tokens ≡ tokens_left unread (used_buffer b len 0)
+
+module _ {R : Type 0} (d : Directive) (unread : R → List ℕ) (b : BufferView R) (holds : HoldsFront b) (mode : b.mode ≡ Plain) where
+  -- the tokens behind a place, on the line of the directive
+  abbrev tokens_at : ℕ → List SourceToken
+  tokens_at n = remaining_tokens b.line_bytes Plain b.line b.line (drop n (held_of b)) b.bytes_left (rest_of unread b)
+
+  -- they are those that remain where so many bytes are used
+  at_used : (n : ℕ) → tokens_at n ≡ tokens_left unread (used_buffer b n 0)
+  at_used n =
+      let line : b.line ≡ b.line + 0 = omega arith in
+      ap (λ (k : ℕ). remaining_tokens b.line_bytes Plain b.line k (drop n (held_of b)) b.bytes_left (rest_of unread b)) line
+      ∙ tokens_used unread b n 0 b.line mode
+
+  -- the word in front
+  at_word : has_own_token d ≡ false → IsDirective d (held_of b) → tokens_left unread b ≡ word_token d b.line ∷ tokens_at (length (word_of d))
+  at_word word is =
+      word_tokens d unread b word holds mode is
+      ∙ ap (λ (ts : List SourceToken). word_token d b.line ∷ ts) (sym (at_used (length (word_of d))))
+
+  -- a directive with what it takes, from a place behind its word up to another
+  pub given_in_front_of : has_own_token d ≡ false → IsDirective d (held_of b) → (from to start stop : ℕ) → from < to → start ≡ length (word_of d) + from → stop ≡ length (word_of d) + to
+      → (let z = drop from (drop (length (word_of d)) (held_of b)) in
+      IsGiven d (tokens_at (length (word_of d))) (take (to - from) z) (take from (drop (length (word_of d)) (held_of b)) ++ take (to - from) z)
+      (remaining_tokens b.line_bytes Plain b.line b.line (drop (to - from) z) b.bytes_left (rest_of unread b)))
+      → GivenInFront d unread b (Some (argument_name (held_of b) start stop)) stop
+  given_in_front_of word is from to start stop some starts stops a =
+      let held = held_of b in
+      let rest = rest_of unread b in
+      let n = length (word_of d) in
+      let r = drop n held in
+      let k = to - from in
+      let at : drop from r ≡ drop start held = drop-drop from n held ∙ ap (λ (i : ℕ). drop i held) (sym starts) in
+      let size : k ≡ stop - start = omega arith in
+      let more : from + k ≡ to = omega arith in
+      let taken : take from r ++ take k (drop from r) ≡ take to r = sym (take-add from k r) ∙ ap (λ (i : ℕ). take i r) more in
+      let whole : word_of d ++ take to r ≡ take stop held =
+      ap (λ (z : List ℕ). z ++ take to r) (sym (word_at d held rest holds.some (ends_line unread b holds.ends) is))
+      ∙ sym (take-add n to held) ∙ ap (λ (i : ℕ). take i held) (sym stops) in
+      let end : start + k ≡ stop = omega arith in
+      record {
+        tokens = tokens_at n;
+        all = at_word word is;
+        given = a.given ∙ ap Some (ap (take k) at ∙ ap (λ (i : ℕ). take i (drop start held)) size);
+        text = ap (λ (z : List ℕ). word_of d ++ z) (a.taken ∙ taken) ∙ whole;
+        behind =
+            a.rest
+            ∙ ap (λ (z : List ℕ). remaining_tokens b.line_bytes Plain b.line b.line z b.bytes_left rest)
+            (ap (drop k) at ∙ drop-drop k start held ∙ ap (λ (i : ℕ). drop i held) end)
+            ∙ at_used stop;
+      }
+
+  -- a directive that takes nothing but its word
+  pub nothing_in_front_of : has_own_token d ≡ false → IsDirective d (held_of b) → argument_of d (tokens_at (length (word_of d))) ≡ no_argument → GivenInFront d unread b None (length (word_of d))
+  unfolding no_argument
+  nothing_in_front_of word is none =
+      let ts = tokens_at (length (word_of d)) in
+      record {
+        tokens = ts;
+        all = at_word word is;
+        given = ap (λ (a : Argument). a.given) none;
+        text =
+            ap (λ (a : Argument). word_of d ++ a.text) none ∙ append-nil (word_of d)
+            ∙ sym (word_at d (held_of b) (rest_of unread b) holds.some (ends_line unread b holds.ends) is);
+        behind = ap (λ (a : Argument). drop a.used ts) none ∙ at_used (length (word_of d));
+      }
+
+  -- a directive with what it is given
+  pub in_front_of : (given : Option (List ℕ)) (len : ℕ) → Begins d (held_of b) given len → GivenInFront d unread b given len
+  in_front_of _ _ (Named start stop wants has) =
+      let held = held_of b in
+      let rest = rest_of unread b in
+      let r = drop (length (word_of d)) held in
+      let from = has.name.from in
+      let g = has.name.given in
+      let ends = ends_line unread b holds.ends in
+      let lead = lead_name (drop from r) (has.name.to - from) g.name (omega (arith, g.some)) in
+      given_in_front_of (wants_word d wants) has.word from has.name.to start stop g.some has.name.starts has.name.stops
+      (behind_given b.line_bytes b.line b.bytes_left rest d wants r from (has.name.to - from) (EndsLine-drop (length (word_of d)) held rest ends)
+      (gone_word d held rest holds.some ends has.word) g.space lead.0 lead.1 lead.2)
+  in_front_of _ _ (Nameless wants lacks) =
+      let held = held_of b in
+      let rest = rest_of unread b in
+      let n = length (word_of d) in
+      let r = drop n held in
+      let ends = ends_line unread b holds.ends in
+      nothing_in_front_of (wants_word d wants) lacks.word
+      (behind_missing b.line_bytes b.line b.bytes_left rest d wants r lacks.none.start (EndsLine-drop n held rest ends)
+      (gone_word d held rest holds.some ends lacks.word) (gone_blanks d held rest holds.some ends lacks.word lacks.none.start lacks.none.space)
+      lacks.none.space (lead_none (drop lacks.none.start r) 0 lacks.none.none refl))
+  in_front_of _ _ (Bare bare is) = nothing_in_front_of (bare_word d bare) is (bare_takes d (tokens_at (length (word_of d))) bare)
+
+-- A directive in front as a move: from what its token does to what remains of its source, to what it does to what remains of all.
 
 module _ {R : Type 0} (rules : Rules) (unread : R → List ℕ) (ws : List Waiting) (f : File R) (s : State) (d : Directive) where
   -- a directive that is refused
@@ -436,63 +431,48 @@ module _ {R : Type 0} (rules : Rules) (unread : R → List ℕ) (ws : List Waiti
       ap (λ (ts : List SourceToken). all_resumed rules ws place f.blanks ts s) all
       ∙ all_resumed_refused rules ws place f.blanks (word_token d f.buffer.line ∷ tokens) s kind word (command_in_front d f.blanks (word_token d f.buffer.line) tokens) e
 
-  -- a directive that is given something and that changes the place or the state
-  pub named_move : (start stop : ℕ) (i : NameInFront d unread f.buffer start stop) (place new : Place) (t : State)
-      → resumed rules place f.blanks (word_token d f.buffer.line ∷ i.tokens) s ≡ behind rules new d f.blanks (word_token d f.buffer.line) i.tokens t
-      → source_left rules unread ws place f s ≡ source_left rules unread ws new (consumed_file stop 0 f) t
-  unfolding source_left
-  named_move start stop i place new t e =
-      let tok = word_token d f.buffer.line in
-      let c = command_in_front d f.blanks tok i.tokens in
-      ap (λ (ts : List SourceToken). all_resumed rules ws place f.blanks ts s) i.all
-      ∙ all_resumed_move rules ws place new f.blanks (only_blanks f.blanks c.text) (tok ∷ i.tokens) (behind_directive d i.tokens) s t e
-      ∙ behind_name d unread f.buffer rules ws new f.blanks t start stop i
+  module _ (given : Option (List ℕ)) (len : ℕ) (i : GivenInFront d unread f.buffer given len) where
+    -- a directive that changes the place or the state
+    pub directive_move : (place new : Place) (t : State)
+        → resumed rules place f.blanks (word_token d f.buffer.line ∷ i.tokens) s ≡ behind rules new d f.blanks (word_token d f.buffer.line) i.tokens t
+        → source_left rules unread ws place f s ≡ source_left rules unread ws new (consumed_file len 0 f) t
+    unfolding source_left command_of
+    directive_move place new t e =
+        let tok = word_token d f.buffer.line in
+        ap (λ (ts : List SourceToken). all_resumed rules ws place f.blanks ts s) i.all
+        ∙ all_resumed_move rules ws place new f.blanks (only_blanks f.blanks (command_in_front d f.blanks tok i.tokens).text) (tok ∷ i.tokens) (behind_directive d i.tokens) s t e
+        ∙ ap (λ (z : List ℕ). all_resumed rules ws new (only_blanks f.blanks z) (behind_directive d i.tokens) t) i.text
+        ∙ ap (λ (ts : List SourceToken). all_resumed rules ws new (only_blanks f.blanks (take len (held_of f.buffer))) ts t) i.behind
+
+    -- the name of a macro that it is given
+    pub name_of_front : macro_name (command_in_front d f.blanks (word_token d f.buffer.line) i.tokens) ≡ given_name given
+    unfolding macro_name given_name command_of
+    name_of_front = ap given_name i.given
 
 -- What an `undef` in front does to what remains.
 
 -- an `undef` wants a name
-undef_wants : wants_name Undef ≡ true
+pub undef_wants : wants_name Undef ≡ true
 unfolding wants_name
 undef_wants = refl
 
-module _ {R : Type 0} (rules : Rules) (unread : R → List ℕ) (ws : List Waiting) (os : List Progress) (f : File R) (s : State) where
+module _ {R : Type 0} (rules : Rules) (unread : R → List ℕ) (ws : List Waiting) (os : List Progress) (f : File R) (s : State) (given : Option (List ℕ)) (len : ℕ)
+    (holds : HoldsFront f.buffer) (mode : f.buffer.mode ≡ Plain) (begins : Begins Undef (held_of f.buffer) given len) where
+  abbrev front : GivenInFront Undef unread f.buffer given len
+  front = in_front_of Undef unread f.buffer holds mode given len begins
+
   -- an `undef` of a name takes out its macro
-  pub undef_left : (start stop : ℕ) → HoldsFront f.buffer → f.buffer.mode ≡ Plain → HasName Undef (held_of f.buffer) start stop
-      → is_reserved (argument_name (held_of f.buffer) start stop) ≡ false
-      → source_left rules unread ws (Live os) f s
-      ≡ source_left rules unread ws (Live os) (consumed_file stop 0 f) (record s { macros = without (argument_name (held_of f.buffer) start stop) s.macros })
-  undef_left start stop holds mode has free =
-      let name = argument_name (held_of f.buffer) start stop in
-      let i = name_in_front_of Undef unread f.buffer undef_wants holds mode start stop has in
-      let t = word_token Undef f.buffer.line in
-      let after = record s { macros = without name s.macros } in
-      named_move rules unread ws f s Undef start stop i (Live os) (Live os) after
-      (resumed_undef rules os f.blanks t i.tokens s name (word_directive Undef f.buffer.line (wants_word Undef undef_wants)) (macro_name_given Undef f.blanks t i.tokens name i.given free))
+  pub undef_left : (name : List ℕ) → given_name given ≡ Fine name
+      → source_left rules unread ws (Live os) f s ≡ source_left rules unread ws (Live os) (consumed_file len 0 f) (record s { macros = without name s.macros })
+  undef_left name fine =
+      directive_move rules unread ws f s Undef given len front (Live os) (Live os) (record s { macros = without name s.macros })
+      (resumed_undef rules os f.blanks (word_token Undef f.buffer.line) front.tokens s name (word_directive Undef f.buffer.line (wants_word Undef undef_wants))
+      (name_of_front rules unread ws f s Undef given len front ∙ fine))
 
-  -- an `undef` whose name is refused, by its tokens
-  refused_tokens : (tokens : List SourceToken) (kind : FaultKind) (word : List ℕ)
-      → tokens_left unread f.buffer ≡ word_token Undef f.buffer.line ∷ tokens
-      → macro_name (command_in_front Undef f.blanks (word_token Undef f.buffer.line) tokens) ≡ Faulty kind word
+  -- an `undef` without a name, or of a reserved one, is a fault
+  pub undef_refused_left : (kind : FaultKind) (word : List ℕ) → given_name given ≡ Faulty kind word
       → source_left rules unread ws (Live os) f s ≡ leaves (fails (fault_at kind f.buffer.line word s)) s
-  refused_tokens tokens kind word all e =
-      refused_move rules unread ws f s Undef tokens (Live os) kind word all
-      (resumed_bad_undef rules os f.blanks (word_token Undef f.buffer.line) tokens s kind word (word_directive Undef f.buffer.line (wants_word Undef undef_wants)) e)
-
-  -- an `undef` of a reserved name is a fault
-  pub undef_reserved_left : (start stop : ℕ) → HoldsFront f.buffer → f.buffer.mode ≡ Plain → HasName Undef (held_of f.buffer) start stop
-      → is_reserved (argument_name (held_of f.buffer) start stop) ≡ true
-      → source_left rules unread ws (Live os) f s
-      ≡ leaves (fails (fault_at ReservedName f.buffer.line (argument_name (held_of f.buffer) start stop) s)) s
-  undef_reserved_left start stop holds mode has taken =
-      let name = argument_name (held_of f.buffer) start stop in
-      let i = name_in_front_of Undef unread f.buffer undef_wants holds mode start stop has in
-      refused_tokens i.tokens ReservedName name i.all (macro_name_reserved Undef f.blanks (word_token Undef f.buffer.line) i.tokens name i.given taken)
-
-  -- and so is one without a name
-  pub undef_nameless_left : HoldsFront f.buffer → f.buffer.mode ≡ Plain → LacksName Undef (held_of f.buffer)
-      → source_left rules unread ws (Live os) f s ≡ leaves (fails (fault_at NameExpected f.buffer.line [] s)) s
-  unfolding no_argument
-  undef_nameless_left holds mode lacks =
-      let i = no_name_in_front_of Undef unread f.buffer undef_wants holds mode lacks in
-      refused_tokens i.tokens NameExpected [] i.all
-      (macro_name_missing Undef f.blanks (word_token Undef f.buffer.line) i.tokens (ap (λ (a : Argument). a.given) i.none))
+  undef_refused_left kind word faulty =
+      refused_move rules unread ws f s Undef front.tokens (Live os) kind word front.all
+      (resumed_bad_undef rules os f.blanks (word_token Undef f.buffer.line) front.tokens s kind word (word_directive Undef f.buffer.line (wants_word Undef undef_wants))
+      (name_of_front rules unread ws f s Undef given len front ∙ faulty))

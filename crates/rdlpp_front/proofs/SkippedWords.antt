@@ -130,6 +130,12 @@ module _ {R : Type 0} (rules : Rules) (unread : R → List ℕ) (ws : List Waiti
 
 -- What the words of conditionals in front do in skipped text, where they open, branch or close a conditional that is skipped whole,
 
+-- a word that counts there: how many conditionals opened there in front of it, and behind it
+pub data Counts : Directive → ℕ → ℕ → Type 0 where
+  Opens : (d : Directive) (n : ℕ) → opens_conditional d ≡ true → Counts d n (suc n)
+  Branches : (d : Directive) (n : ℕ) → branches_conditional d ≡ true → Counts d (suc n) (suc n)
+  Ends : (n : ℕ) → Counts Endif (suc n) n
+
 -- an `endif` is a token
 end_word : has_own_token Endif ≡ false
 unfolding has_own_token
@@ -156,29 +162,18 @@ module _ {R : Type 0} (rules : Rules) (unread : R → List ℕ) (ws : List Waiti
       ∙ behind_bytes-nil left
       ∙ ap (λ (x : List ℕ). all_resumed rules ws (Skipped m p os) (only_blanks f.blanks x) ts s) text
 
-  -- a conditional that opens in skipped text
-  pub skipped_opening_left : (d : Directive) (n : ℕ) → opens_conditional d ≡ true
+  -- a word that counts there
+  pub counted_left : (d : Directive) (n m : ℕ) → Counts d n m
       → HoldsFront f.buffer → f.buffer.mode ≡ Plain → IsDirective d (held_of f.buffer) → source_left rules unread ws (Skipped n p os) f s
-      ≡ source_left rules unread ws (Skipped (suc n) p os) (consumed_file (length (word_of d)) 0 f) s
-  skipped_opening_left d n o holds mode is =
-      word_move d n (suc n) (wants_word d (opening_wants d o)) holds mode is
-      (λ ts. resumed_skipped_opening rules n p os d f.blanks (word_token d f.buffer.line) ts s (word_directive d f.buffer.line (wants_word d (opening_wants d o))) o)
-
-  -- a branch of a conditional that opened in skipped text
-  pub inner_branch_left : (d : Directive) (n : ℕ) → branches_conditional d ≡ true
-      → HoldsFront f.buffer → f.buffer.mode ≡ Plain → IsDirective d (held_of f.buffer) → source_left rules unread ws (Skipped (suc n) p os) f s
-      ≡ source_left rules unread ws (Skipped (suc n) p os) (consumed_file (length (word_of d)) 0 f) s
-  inner_branch_left d n b holds mode is =
-      word_move d (suc n) (suc n) (branching_word d b) holds mode is
-      (λ ts. resumed_inner_branch rules n p os d f.blanks (word_token d f.buffer.line) ts s (word_directive d f.buffer.line (branching_word d b)) b)
-
-  -- the end of a conditional that opened in skipped text
-  pub inner_end_left : (n : ℕ)
-      → HoldsFront f.buffer → f.buffer.mode ≡ Plain → IsDirective Endif (held_of f.buffer) → source_left rules unread ws (Skipped (suc n) p os) f s
-      ≡ source_left rules unread ws (Skipped n p os) (consumed_file (length (word_of Endif)) 0 f) s
-  inner_end_left n holds mode is =
-      word_move Endif (suc n) n end_word holds mode is
-      (λ ts. resumed_inner_end rules n p os f.blanks (word_token Endif f.buffer.line) ts s (word_directive Endif f.buffer.line end_word))
+      ≡ source_left rules unread ws (Skipped m p os) (consumed_file (length (word_of d)) 0 f) s
+  counted_left _ _ _ (Opens d n o) holds mode is =
+      let word = wants_word d (opening_wants d o) in
+      word_move d n (suc n) word holds mode is (λ ts. resumed_skipped_opening rules n p os d f.blanks (word_token d f.buffer.line) ts s (word_directive d f.buffer.line word) o)
+  counted_left _ _ _ (Branches d n b) holds mode is =
+      let word = branching_word d b in
+      word_move d (suc n) (suc n) word holds mode is (λ ts. resumed_inner_branch rules n p os d f.blanks (word_token d f.buffer.line) ts s (word_directive d f.buffer.line word) b)
+  counted_left _ _ _ (Ends n) holds mode is =
+      word_move Endif (suc n) n end_word holds mode is (λ ts. resumed_inner_end rules n p os f.blanks (word_token Endif f.buffer.line) ts s (word_directive Endif f.buffer.line end_word))
 
   -- a broken token without bytes is a fault in skipped text too
   pub skipped_broken_left : (n : ℕ) (b : Breach) (line : ℕ) → tokens_left unread f.buffer ≡ only_broken b line

@@ -1,6 +1,6 @@
 -- What the held bytes of a source begin with.
 -- A definition that names no source is this project's own.
-use Rattle.std.specs.Prelude.{◌≡◌, ℕ, ◌+◌, ◌-◌, ◌<◌, Bool, true, false, List, length, take, drop, codes, Option, None, Some}
+use Rattle.std.specs.Prelude.{◌≡◌, ℕ, ◌+◌, ◌-◌, ◌<◌, Bool, true, false, List, [], length, take, drop, codes, Option, None, Some, if◌then◌else◌}
 use Rattle.rdlpp_scan.specs.declared.token.Mode.{Mode}
 use Rattle.rdlpp_scan.specs.declared.token.Mode.TheVariants.{Plain}
 use Rattle.rdlpp_scan.specs.declared.token.Kind.{Kind}
@@ -11,7 +11,7 @@ use Rattle.rdlpp_scan.specs.Tokens.{token_of, plain_len}
 use Rattle.rdlpp_scan.specs.Reserved.{is_reserved}
 use Rattle.rdlpp_meaning.specs.declared.fault.FaultKind.{FaultKind}
 use Rattle.rdlpp_meaning.specs.declared.fault.FaultKind.TheVariants as fault
-use Rattle.rdlpp_meaning.specs.Meaning.{unquoted}
+use Rattle.rdlpp_meaning.specs.Meaning.{Checked, Faulty, Fine, unquoted}
 use Rattle.rdlpp_read.specs.Arguments.{NameGiven, NoName, NoString, StringGiven}
 use Rattle.rdlpp_front.specs.declared.front.Argument.{Argument}
 use Rattle.rdlpp_front.specs.declared.front.Front.{Front}
@@ -119,6 +119,23 @@ IsGivenString held (Some a) = HasString held a.start a.stop
 -- what a directive is given
 abbrev pub argument_name : List ℕ → ℕ → ℕ → List ℕ
 argument_name held start stop = take (stop - start) (drop start held)
+
+-- if it is given anything
+abbrev pub given_by : List ℕ → Option Argument → Option (List ℕ)
+given_by held None = None
+given_by held (Some a) = Some (argument_name held a.start a.stop)
+
+-- how many bytes it has with that
+abbrev pub given_len : Directive → Option Argument → ℕ
+given_len d None = length (word_of d)
+given_len d (Some a) = a.stop
+
+-- the name of a macro that it is given, or its fault (IEEE 1364-2001, compiler directives)
+unfoldable pub given_name : Option (List ℕ) → Checked
+given_name given = elim given [
+  | None ↦ Faulty fault.NameExpected []
+  | Some name ↦ if is_reserved name then Faulty fault.ReservedName name else Fine name
+]
 
 -- the name that is given to an `include` whose string stands from a place up to another (this project's profile)
 abbrev pub include_name : List ℕ → ℕ → ℕ → List ℕ

@@ -31,7 +31,6 @@ pub mod LineDirective
 pub mod AddedEnds
 pub mod OwedLineEnds
 pub mod IncludeArguments
-pub mod ConditionalTests
 pub mod TornCalls
 pub mod TornPieces
 pub mod TornTokens

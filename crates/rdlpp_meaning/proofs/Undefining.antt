@@ -1,13 +1,11 @@
 -- The law of an `undef` in front of what remains, and what a directive takes where blanks and a name stand behind its word.
-use Rattle.std.proofs.Common.{◌≡◌, ℕ, Bool, true, false, List, [], ◌∷◌, ◌++◌, refl, sym, ap, ◌∙◌, None, Some}
+use Rattle.std.proofs.Common.{◌≡◌, ℕ, Bool, true, false, List, ◌∷◌, ◌++◌, refl, sym, ap, ◌∙◌, Some}
 use Rattle.rdlpp_scan.specs.declared.token.Kind.TheVariants.{Name, Blank}
 use Rattle.rdlpp_scan.specs.declared.token.Directive.{Directive}
 use Rattle.rdlpp_scan.specs.declared.token.Directive.TheVariants.{Undef, Ifdef, Ifndef, Elsif}
 use Rattle.rdlpp_scan.specs.SourceTokens.{Ordinary, SourceToken}
-use Rattle.rdlpp_scan.specs.Reserved.{is_reserved}
 use Rattle.rdlpp_table.specs.Table.{without}
 use Rattle.rdlpp_meaning.specs.declared.fault.FaultKind.{FaultKind}
-use Rattle.rdlpp_meaning.specs.declared.fault.FaultKind.TheVariants.{NameExpected, ReservedName}
 use Rattle.rdlpp_meaning.specs.State.{Rules, State}
 use Rattle.rdlpp_meaning.specs.Parts.{directive_of, one_argument, behind_blanks, name_in_front, past_blanks, argument_of, command_of, command_in_front, piece_of}
 use Rattle.rdlpp_meaning.specs.Meaning.{goes_on, refusal, Checked, Fine, Faulty, macro_name, undefines, single, Progress}
@@ -81,23 +79,3 @@ pub takes_name_behind_blanks : (d : Directive) (blanks name : List ℕ) (k l : �
     → argument_of d (blank_token blanks k ∷ name_token name l ∷ ts) ≡ record { given = Some name; text = blanks ++ name; used = 2 }
 unfolding past_blanks name_in_front one_argument behind_blanks
 takes_name_behind_blanks d blanks name k l ts e = takes_name d (blank_token blanks k ∷ name_token name l ∷ ts) e
-
--- what the name of a directive comes to, by what it takes
-pub macro_name_given : (d : Directive) (first : Bool) (t : SourceToken) (ts : List SourceToken) (name : List ℕ)
-    → (argument_of d ts).given ≡ Some name → is_reserved name ≡ false
-    → macro_name (command_in_front d first t ts) ≡ Fine name
-unfolding macro_name command_of
-macro_name_given d first t ts name e r = rw (e, r) refl
-
--- where it is reserved
-pub macro_name_reserved : (d : Directive) (first : Bool) (t : SourceToken) (ts : List SourceToken) (name : List ℕ)
-    → (argument_of d ts).given ≡ Some name → is_reserved name ≡ true
-    → macro_name (command_in_front d first t ts) ≡ Faulty ReservedName name
-unfolding macro_name command_of
-macro_name_reserved d first t ts name e r = rw (e, r) refl
-
--- where none is given
-pub macro_name_missing : (d : Directive) (first : Bool) (t : SourceToken) (ts : List SourceToken)
-    → (argument_of d ts).given ≡ None → macro_name (command_in_front d first t ts) ≡ Faulty NameExpected []
-unfolding macro_name command_of
-macro_name_missing d first t ts e = rw e refl

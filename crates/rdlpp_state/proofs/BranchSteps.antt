@@ -1,46 +1,50 @@
--- The directives of conditionals, as steps of the engine.
-use Rattle.std.proofs.Common.{◌≡◌, ℕ, suc, ◌≤◌, ◌<◌, Bool, true, false, List, [], length, take, Option, None, Some, Ok, Result, Err, refl, sym, ap, subst, ◌∙◌, arith}
+-- The directives of conditionals, and `undef`, as steps of the engine.
+use Rattle.std.proofs.Common.{◌≡◌, ℕ, zero, suc, ◌-◌, ◌≤◌, ◌<◌, Bool, true, false, List, [], length, Option, None, Some, Ok, Result, Err, refl, sym, ap, subst, ◌∙◌, arith}
 use Rattle.std.specs.Option.{is_some, option_map}
 use Rattle.rdlpp_source.specs.declared.sources.Sources.{Ghosts}
-use Rattle.rdlpp_scan.specs.Reserved.{is_reserved}
 use Rattle.rdlpp_scan.specs.declared.token.Directive.{Directive}
-use Rattle.rdlpp_scan.specs.declared.token.Directive.TheVariants.{Elsif, Else, Endif}
+use Rattle.rdlpp_scan.specs.declared.token.Directive.TheVariants.{Elsif, Else, Endif, Undef}
 use Rattle.rdlpp_scan.specs.declared.token.Mode.TheVariants.{Plain}
-use Rattle.rdlpp_scan.proofs.TokenLens.{token_of-part}
-use Rattle.rdlpp_table.specs.Table.{Macro, macro_named}
+use Rattle.rdlpp_table.specs.Table.{Macro, macro_named, without}
 use Rattle.rdlpp_meaning.specs.declared.fault.FaultKind.{FaultKind}
 use Rattle.rdlpp_meaning.specs.declared.fault.FaultKind.TheVariants as fault
-use Rattle.rdlpp_meaning.specs.Meaning.{Stopped, behind_bytes}
-use Rattle.rdlpp_meaning.specs.State.{fault_at}
+use Rattle.rdlpp_meaning.specs.Meaning.{Checked, Faulty, Fine, Holds, Stopped, Test, behind_bytes, is_defined, is_else, name_test, opening_within, wants_defined}
+use Rattle.rdlpp_meaning.specs.State.{State, fault_at}
+use Rattle.rdlpp_meaning.proofs.ConditionalMoves.{branches_conditional, opens_conditional}
+use Rattle.rdlpp_meaning.proofs.Undefining.{wants_name}
 use Rattle.rdlpp_read.specs.Buffer.{held_of}
 use Rattle.rdlpp_read.specs.Files.{consumed_file, inner_buffer, with_inner}
-use Rattle.rdlpp_front.specs.Fronts.{HasName, IsDirective, IsNamed, LacksName, argument_name, word_of}
+use Rattle.rdlpp_front.specs.Fronts.{IsDirective, IsNamed, given_by, given_len, given_name, word_of}
 use Rattle.rdlpp_front.specs.declared.front.Argument.{Argument}
-use Rattle.rdlpp_front.proofs.Insides.{word_len, name_inside}
-use Rattle.rdlpp_conditions.specs.Conditions.{ConditionsView, place_of}
+use Rattle.rdlpp_front.proofs.ConditionalLeft.{Turns, is_stray, opening_wants}
+use Rattle.rdlpp_front.proofs.NamedDirectives.{Bare, Begins, begins_within, begins_word, named_begins, stands_bare, undef_wants, word_within}
+use Rattle.rdlpp_front.proofs.SkippedWords.{Branches, Ends}
+use Rattle.rdlpp_conditions.specs.Conditions.{ConditionsView, conditions_left, place_of}
 use Rattle.rdlpp_conditions.specs.Moves.{Closes, IsBranch, Opens, closed_one, opened_with, turned_with, with_inner as with_count}
 use Rattle.rdlpp_conditions.specs.declared.conditions.Branch.{Branch}
 use Rattle.rdlpp_conditions.specs.declared.conditions.Branch.TheVariants.{Decided, Inner, Named, Refused}
-use Rattle.rdlpp_state.specs.Conditionals.{IsTested, OpensOne, elsif_len, goes_past, opening_word, test_of}
+use Rattle.rdlpp_state.specs.Conditionals.{DoesByTest, IsGivenBranch, OpensOne, goes_past, opening_word, test_of}
 use Rattle.rdlpp_state.specs.Engine.{EngineView}
 use Rattle.rdlpp_state.specs.Held.{IsBounded}
 use Rattle.rdlpp_state.specs.Standing.{InSources, Nowhere}
 use Rattle.rdlpp_state.proofs.Stores.{parts_used}
-use Rattle.rdlpp_state.specs.Moves.{IsReady}
+use Rattle.rdlpp_state.specs.Moves.{IsReady, LooksAtName}
 use Rattle.rdlpp_state.specs.OpenConditionals.{inner_below, inner_shown}
 use Rattle.rdlpp_state.specs.Pieces.{lent_answer, step_answer}
 use Rattle.rdlpp_state.specs.Positions.{Unmarked}
-use Rattle.rdlpp_state.specs.Remaining.{run_rules, state_of}
+use Rattle.rdlpp_state.specs.Remaining.{nest_state, run_rules, state_of}
 use Rattle.rdlpp_state.specs.Steps.{IsOwn, Walks}
 use Rattle.rdlpp_state.specs.declared.place.Place.{Place}
-use Rattle.rdlpp_state.specs.declared.place.Place.TheVariants.{Source, Text, Owed, End, Kept}
-use Rattle.rdlpp_state.proofs.ConditionalNests.{Continues, Faults, IsPlainFront, closes_at, decided_else, decided_elsif, decided_nameless, opens_at, opens_full, opens_nameless, opens_reserved, refused_else, refused_elsif, skips_else, skips_elsif, skips_end, stray_else, stray_elsif, stray_end, tested_elsif, tested_nameless, tested_reserved}
+use Rattle.rdlpp_state.specs.declared.place.Place.TheVariants.{Kept}
+use Rattle.rdlpp_state.proofs.ConditionalSteps.{Continues, Decides, Faults, IsPlainFront, closes_at, counts_at, opens_at, stray_at, turns_at}
+use Rattle.rdlpp_state.proofs.EndSteps.{nest_macros}
 use Rattle.rdlpp_state.proofs.EngineSteps.{not_called}
-use Rattle.rdlpp_state.proofs.FrontSteps.{kept_cut, lends_source, read_nothing, refuses}
-use Rattle.rdlpp_state.proofs.OpenSteps.{EndsInner, EndsNone, EndsOne, EndsOwn, Meets, MeetsInner, MeetsNone, MeetsOwn, else_unnamed, ends_one, inner_most, meets, none_opens, one_opens}
+use Rattle.rdlpp_state.proofs.FrontSteps.{lends_source, read_nothing, refuses}
+use Rattle.rdlpp_state.proofs.GoingOn.{own_kind}
+use Rattle.rdlpp_state.proofs.NestLeft.{nest_refused_undef, nest_undef}
+use Rattle.rdlpp_state.proofs.OpenSteps.{EndsInner, EndsNone, EndsOne, EndsOwn, Meets, MeetsInner, MeetsNone, MeetsOwn, OwnTurn, ends_one, inner_most, meets, own_turn}
 use Rattle.rdlpp_state.proofs.Soundness.{inner_facts}
 use Rattle.rdlpp_state.proofs.WorkFacts.{used_bytes}
-use Rattle.rdlpp_state.proofs.GoingOn.{own_kind}
 
 -- bytes that have no LF are used, and other conditionals are open
 pub goes_on : {S R : Type 0} (g : Ghosts S R) (old new : EngineView S R) (v : ConditionsView) (len : ℕ) → IsReady old → IsBounded new → 0 < len → len ≤ length (held_of (inner_buffer old.files.nest))
@@ -48,15 +52,6 @@ pub goes_on : {S R : Type 0} (g : Ghosts S R) (old new : EngineView S R) (v : Co
 unfolding goes_past behind_bytes
 goes_on g old new v len ready bounded some inside becomes law =
     lends_source g old new ready [] old.marks old.table.macros v (with_inner (consumed_file len 0) old.files.nest) becomes bounded (used_bytes old.files.nest len 0 some inside) law (parts_used g.unread len 0 old.files.nest) (Nowhere refl (InSources ready.idle refl (Unmarked refl)))
-
--- the word of a branch lies in what is held
-pub word_within : (d : Directive) (held : List ℕ) → IsDirective d held → 0 < length held → (0 < length (word_of d)) × (length (word_of d) ≤ length held)
-word_within d held is some =
-    let whole = word_len d held some is in
-    let part = token_of-part Plain held some in
-    let inside = part.inside in
-    let positive = part.not_empty in
-    (omega arith, omega arith)
 
 -- what is held in front of an engine that goes on
 pub plain_front : {S R : Type 0} (e : EngineView S R) → IsReady e → 0 < length (held_of (inner_buffer e.files.nest)) → (inner_buffer e.files.nest).mode ≡ Plain → IsPlainFront e.files.nest
@@ -76,50 +71,83 @@ ends_here {S} {R} {A} result e v ready below same h =
     ends_one result e.conditions v (inner_below e.files.nest) (inner_most e.limits e.conditions e.files.nest ready.sound.conditions_of)
     (subst (λ (n : ℕ). Closes {A = A} (place_of n e.conditions) result e.conditions v) same h)
 
--- an `elsif` lies in what is held
-pub elsif_within : (held : List ℕ) (a : Option Argument) → 0 < length held → IsNamed Elsif held a → elsif_len a ≤ length held
-elsif_within held None some lacks = (word_within Elsif held lacks.word some).1
-elsif_within held (Some a) some has = (name_inside Elsif held a.start a.stop has).2
+-- where the branch is decided, or its name decides
+pub own_here : {S R : Type 0} (d : Directive) (branch : Branch) (e : EngineView S R) → IsReady e → (below : ℕ) → below ≡ inner_below e.files.nest → IsBranch (place_of below e.conditions) d branch
+    → (branch ≡ Refused fault.StrayBranch → ⊥) → (branch ≡ Inner → ⊥) → OwnTurn d branch (inner_below e.files.nest) e.conditions
+own_here d branch e ready below same h stray inner = own_turn d branch (inner_below e.files.nest) e.conditions (meets_here d branch e ready below same h) stray inner
 
--- an `elsif` whose name decides
-pub tests_name : {S R : Type 0} (e : EngineView S R) → Meets Elsif Named (inner_below e.files.nest) e.conditions → IsTested e
-tests_name e (MeetsNone alone wrong) = absurd (cc)
-tests_name e (MeetsOwn live o os is_open below skips turns) = record { live = live; conditional = o; around = os; is_open = is_open; below = below; skips = skips; test = turns.1 }
-tests_name e (MeetsInner n o os is_open below skips wrong) = absurd (cc)
+-- a branch with what it is given
+given_branches : (d : Directive) (held : List ℕ) (a : Option Argument) → IsGivenBranch d held a → branches_conditional d ≡ true
+unfolding branches_conditional
+given_branches Elsif held a given = refl
+given_branches Else held a given = refl
+given_branches d held a given = absurd given
 
--- a directive with its name, or without one, is its word
-pub named_is : (d : Directive) (held : List ℕ) (a : Option Argument) → IsNamed d held a → IsDirective d held
-named_is d held None lacks = lacks.word
-named_is d held (Some a) has = has.word
+given_strays : (d : Directive) (held : List ℕ) (a : Option Argument) → IsGivenBranch d held a → is_stray d ≡ true
+unfolding is_stray
+given_strays Elsif held a given = refl
+given_strays Else held a given = refl
+given_strays d held a given = absurd given
+
+pub given_begins : (d : Directive) (held : List ℕ) (a : Option Argument) → IsGivenBranch d held a → Begins d held (given_by held a) (given_len d a)
+unfolding wants_name stands_bare
+given_begins Elsif held a given = named_begins Elsif held a refl given
+given_begins Else held None given = Bare refl given.1
+given_begins Else held (Some a) given = absurd (cc (given.0))
+given_begins d held a given = absurd given
+
+-- only an `elsif` is decided by its name
+pub given_named : (d : Directive) (held : List ℕ) (a : Option Argument) → IsGivenBranch d held a → is_else d ≡ false → IsNamed d held a
+unfolding is_else
+given_named Elsif held a given other = given
+given_named Else held a given other = cc
+given_named d held a given other = absurd given
 
 -- whether a macro was found
 pub found_by : (f : ℕ → Macro) (x : Option Macro) (id : Option ℕ) → x ≡ option_map f id → is_some id ≡ is_some x
 found_by f x None e = ap is_some (sym e)
 found_by f x (Some n) e = ap is_some (sym e)
 
--- the innermost conditional whose `elsif` is tested is the innermost source's own
-pub own_tested : {S R : Type 0} (e : EngineView S R) → IsTested e → inner_below e.files.nest < length e.conditions.open_now
-own_tested e t = let size : length e.conditions.open_now ≡ suc (length t.around) = ap length t.is_open in let below = t.below in omega arith
-
 -- a conditional was opened
-pub opened_by : {S R A : Type 0} (x : A) (holds : Bool) (len line : ℕ) (old new : EngineView S R) (v : ConditionsView) → IsReady old → Opens {A = A} (Ok x) line holds old.conditions v
+pub opened_by : {S R A : Type 0} (x : A) (holds : Bool) (len line : ℕ) (old new : EngineView S R) (v : ConditionsView) → Opens {A = A} (Ok x) line holds old.conditions v
     → new ≡ goes_past v len old → line ≡ inner_shown old.files.nest → OpensOne holds len old new None
-opened_by {S} {R} {A} x holds len line old new v ready opens becomes shown =
-    let room = one_opens {A = A} x old.conditions holds opens.test in
-    let limit = ready.sound.conditions_of.limit in
-    (omega arith, becomes ∙ ap (λ (w : ConditionsView). goes_past w len old) (opens.becomes ∙ ap (λ (n : ℕ). opened_with n holds old.conditions) shown))
+opened_by x holds len line old new v opens becomes shown =
+    subst (λ (t : Test). DoesByTest t (λ live. opened_with (inner_shown old.files.nest) live old.conditions) len old new None) (sym opens.test)
+    (refl, becomes ∙ ap (λ (w : ConditionsView). goes_past w len old) (opens.becomes ∙ ap (λ (n : ℕ). opened_with n holds old.conditions) shown))
 
 -- too many are open
-pub unopened_by : {S R A : Type 0} (kind : FaultKind) (holds : Bool) (len line : ℕ) (old new : EngineView S R) (v : ConditionsView) (place : Place) → IsReady old → Opens {A = A} (Err kind) line holds old.conditions v
+pub unopened_by : {S R A : Type 0} (kind : FaultKind) (holds : Bool) (len line : ℕ) (old new : EngineView S R) (v : ConditionsView) (place : Place) → Opens {A = A} (Err kind) line holds old.conditions v
     → place ≡ Kept → new ≡ record (record old { conditions = v }) { kept = Some (fault_at kind (inner_buffer old.files.nest).line [] (state_of (record old { conditions = v }))) }
     → OpensOne holds len old new (Some place)
-unopened_by {S} {R} {A} kind holds len line old new v place ready opens is becomes =
-    let full = none_opens A kind old.conditions holds opens.test in
-    let limit = ready.sound.conditions_of.limit in
-    let most = full.0 in
-    let keeps : ConditionsView → FaultKind → EngineView S R = λ w k. record (record old { conditions = w }) { kept = Some (fault_at k (inner_buffer old.files.nest).line [] (state_of (record old { conditions = w }))) } in
-    subst (λ (p : Place). OpensOne holds len old new (Some p)) (sym is)
-    (omega arith, becomes ∙ (ap (λ (w : ConditionsView). keeps w kind) opens.becomes ∙ ap (keeps old.conditions) full.1))
+unopened_by {S} {R} kind holds len line old new v place opens is becomes =
+    let keeps : ConditionsView → EngineView S R = λ w. record (record old { conditions = w }) { kept = Some (fault_at kind (inner_buffer old.files.nest).line [] (state_of (record old { conditions = w }))) } in
+    subst (λ (t : Test). DoesByTest t (λ live. opened_with (inner_shown old.files.nest) live old.conditions) len old new (Some place)) (sym opens.test)
+    (ap Some is, becomes ∙ ap keeps opens.becomes)
+
+-- the fault of a test is the text's own
+abbrev IsOwnTest : Test → Type 0
+IsOwnTest (Stopped kind word) = IsOwn kind
+IsOwnTest (Holds live) = Unit {0}
+
+opening_own : (k : ℕ) (holds : Bool) → IsOwnTest (opening_within k (Holds holds))
+unfolding opening_within
+opening_own zero holds = own_kind _ refl
+opening_own (suc k) holds = tt
+
+-- the test of the word that opens a conditional
+pub opening_opens : (defined : Bool) → opens_conditional (opening_word defined) ≡ true
+unfolding opens_conditional
+opening_opens true = refl
+opening_opens false = refl
+
+opening_test : (defined : Bool) (name : List ℕ) (s : State) → name_test (wants_defined (opening_word defined)) (Fine name) s ≡ Holds (test_of defined (is_some (macro_named s.macros name)))
+unfolding name_test wants_defined is_defined
+opening_test true name s = refl
+opening_test false name s = refl
+
+end_strays : is_stray Endif ≡ true
+unfolding is_stray
+end_strays = refl
 
 -- the same count of those that opened in skipped text
 same_count : (v : ConditionsView) (n : ℕ) → v.skipped ≡ Some n → v ≡ with_count n v
@@ -130,165 +158,183 @@ module _ {S R : Type 0} (g : Ghosts S R) (old new : EngineView S R) (ready : IsR
   abbrev front : IsPlainFront old.files.nest
   front = plain_front old ready some plain
 
+  abbrev held : List ℕ
+  held = held_of (inner_buffer old.files.nest)
+
+  -- the name of a macro that is given there, or its fault
+  abbrev name_of : Option Argument → Checked
+  name_of a = given_name (given_by held a)
+
+  -- what remains at a directive there, by what it comes to
+  abbrev FaultsHere : FaultKind → List ℕ → Type 0
+  FaultsHere kind word = Faults old.limits (run_rules g old) g.unread old.table.macros old.conditions old.files.nest kind word
+
+  abbrev DecidesHere : Test → (Bool → ConditionsView) → ℕ → Type 0
+  DecidesHere x next len = Decides old.limits (run_rules g old) g.unread old.table.macros old.conditions old.files.nest x next len
+
+  -- the state that the meaning goes on from
+  abbrev here : State
+  here = nest_state old.limits old.table.macros old.conditions old.files.nest
+
   -- a fault at this line is kept
-  pub faults : (place : Place) (kind : FaultKind) (word : List ℕ) → place ≡ Kept → new ≡ record old { kept = Some (fault_at kind (inner_buffer old.files.nest).line word (state_of old)) } → IsOwn kind
-      → Faults old.limits (run_rules g old) g.unread old.table.macros old.conditions old.files.nest kind word → Walks g old new (lent_answer new place)
+  faults : (place : Place) (kind : FaultKind) (word : List ℕ) → place ≡ Kept → new ≡ record old { kept = Some (fault_at kind (inner_buffer old.files.nest).line word (state_of old)) } → IsOwn kind
+      → FaultsHere kind word → Walks g old new (lent_answer new place)
   unfolding state_of
   faults place kind word is becomes own law =
       refuses g old old new place kind (inner_buffer old.files.nest).line word ready (read_nothing old) bounded is becomes own (not_called g old.sources) (λ t. law)
 
-  -- a conditional opens, or too many are open
-  module _ (live : old.conditions.skipped ≡ None) (defined : Bool) where
-    pub opens_steps : (start stop : ℕ) (result : Option Place) → HasName (opening_word defined) (held_of (inner_buffer old.files.nest)) start stop
-        → is_reserved (argument_name (held_of (inner_buffer old.files.nest)) start stop) ≡ false
-        → OpensOne (test_of defined (is_some (macro_named old.table.macros (argument_name (held_of (inner_buffer old.files.nest)) start stop)))) stop old new result → Walks g old new (step_answer new result)
-    opens_steps start stop None has free opens =
-        let held = held_of (inner_buffer old.files.nest) in
-        let within = name_inside (opening_word defined) held start stop has in
-        goes_on g old new _ stop ready bounded (omega (arith, within.0, within.1)) within.2 opens.1
-        (opens_at old.limits (run_rules g old) g.unread old.table.macros old.conditions live defined old.files.nest start stop front has free opens.0
-        (inner_most old.limits old.conditions old.files.nest ready.sound.conditions_of))
-    opens_steps start stop (Some Kept) has free opens =
-        faults Kept fault.TooManyConditionals [] refl opens.1 (own_kind _ refl)
-        (opens_full old.limits (run_rules g old) g.unread old.table.macros old.conditions live defined old.files.nest start stop front has free opens.0)
-    opens_steps start stop (Some (Source from to)) has free opens = absurd opens
-    opens_steps start stop (Some (Text place)) has free opens = absurd opens
-    opens_steps start stop (Some (Owed piece)) has free opens = absurd opens
-    opens_steps start stop (Some End) has free opens = absurd opens
+  -- a test is done
+  does_by : (x : Test) (next : Bool → ConditionsView) (len : ℕ) (result : Option Place) → (0 < len) × (len ≤ length held) → IsOwnTest x
+      → DecidesHere x next len → DoesByTest x next len old new result → Walks g old new (step_answer new result)
+  does_by (Stopped kind word) next len result within own law does = subst (λ (r : Option Place). Walks g old new (step_answer new r)) (sym does.0) (faults Kept kind word refl does.1 own law)
+  does_by (Holds t) next len result within own law does =
+      subst (λ (r : Option Place). Walks g old new (step_answer new r)) (sym does.0) (goes_on g old new (next t) len ready bounded within.0 within.1 does.1 law)
 
-    -- its name is reserved
-    pub reserved_steps : (start stop : ℕ) (place : Place) (word : List ℕ) → HasName (opening_word defined) (held_of (inner_buffer old.files.nest)) start stop
-        → is_reserved (argument_name (held_of (inner_buffer old.files.nest)) start stop) ≡ true → place ≡ Kept → word ≡ take 128 (argument_name (held_of (inner_buffer old.files.nest)) start stop)
-        → new ≡ record old { kept = Some (fault_at fault.ReservedName (inner_buffer old.files.nest).line word (state_of old)) } → Walks g old new (lent_answer new place)
-    reserved_steps start stop place word has taken is cut becomes =
-        faults place fault.ReservedName (argument_name (held_of (inner_buffer old.files.nest)) start stop) is (kept_cut old new _ _ _ _ _ becomes cut) (own_kind _ refl)
-        (opens_reserved old.limits (run_rules g old) g.unread old.table.macros old.conditions live defined old.files.nest start stop front has taken)
+  -- the name that a directive is given is refused
+  unnamed : (a : Option Argument) (place : Place) → LooksAtName a old new (Err place)
+      → ((kind : FaultKind) (word : List ℕ) → name_of a ≡ Faulty kind word → FaultsHere kind word) → Walks g old new (lent_answer new place)
+  unnamed a place looks law = let r = looks.1 in faults place r.kind r.word looks.0 r.becomes r.own (law r.kind r.word r.faulty)
 
-    -- it has none
-    pub nameless_steps : (place : Place) → LacksName (opening_word defined) (held_of (inner_buffer old.files.nest)) → place ≡ Kept
-        → new ≡ record old { kept = Some (fault_at fault.NameExpected (inner_buffer old.files.nest).line [] (state_of old)) } → Walks g old new (lent_answer new place)
-    nameless_steps place lacks is becomes =
-        faults place fault.NameExpected [] is becomes (own_kind _ refl) (opens_nameless old.limits (run_rules g old) g.unread old.table.macros old.conditions live defined old.files.nest front lacks)
+  module _ (live : old.conditions.skipped ≡ None) where
+    -- an `undef` whose name is refused
+    pub undef_unnamed : (a : Option Argument) (place : Place) → IsNamed Undef held a → LooksAtName a old new (Err place) → Walks g old new (lent_answer new place)
+    undef_unnamed a place named looks =
+        unnamed a place looks
+        (nest_refused_undef old.limits (run_rules g old) g.unread old.table.macros old.conditions live old.files.nest _ _ some front.ends plain (named_begins Undef held a undef_wants named))
 
-  -- an `elsif` of a conditional that opened in skipped text is used
-  pub inner_elsif : Meets Elsif Inner (inner_below old.files.nest) old.conditions → IsDirective Elsif (held_of (inner_buffer old.files.nest))
-      → new ≡ goes_past old.conditions (length (word_of Elsif)) old → Walks g old new (step_answer new None)
-  inner_elsif (MeetsNone alone wrong) is becomes = absurd (cc)
-  inner_elsif (MeetsOwn live o os is_open below skips wrong) is becomes = absurd wrong
-  inner_elsif (MeetsInner n o os is_open below skips same) is becomes =
-      let within = word_within Elsif (held_of (inner_buffer old.files.nest)) is some in
-      goes_on g old new (with_count (suc n) old.conditions) (length (word_of Elsif)) ready bounded within.0 within.1
-      (becomes ∙ ap (λ (v : ConditionsView). goes_past v (length (word_of Elsif)) old) (same_count old.conditions (suc n) skips))
-      (skips_elsif old.limits (run_rules g old) g.unread old.table.macros old.conditions n o os is_open old.files.nest front below skips is)
+    -- a macro is taken out
+    pub undef_named : (a : Argument) (name : List ℕ) → IsNamed Undef held (Some a) → name_of (Some a) ≡ Fine name
+        → new ≡ record old { table = record old.table { macros = without name old.table.macros }; files = record old.files { nest = with_inner (consumed_file a.stop 0) old.files.nest } }
+        → Walks g old new (step_answer new None)
+    unfolding behind_bytes
+    undef_named a name named fine becomes =
+        let begins = named_begins Undef held (Some a) undef_wants named in
+        let within = begins_within Undef held _ _ begins some in
+        lends_source g old new ready [] old.marks (without name old.table.macros) old.conditions (with_inner (consumed_file a.stop 0) old.files.nest) becomes bounded
+        (used_bytes old.files.nest a.stop 0 within.0 within.1)
+        (nest_undef old.limits (run_rules g old) g.unread old.table.macros old.conditions live old.files.nest _ a.stop some front.ends plain begins name fine)
+        (parts_used g.unread a.stop 0 old.files.nest) (Nowhere refl (InSources ready.idle refl (Unmarked refl)))
 
-  -- and so is an `else`
-  pub inner_else : Meets Else Inner (inner_below old.files.nest) old.conditions → IsDirective Else (held_of (inner_buffer old.files.nest))
-      → new ≡ goes_past old.conditions (length (word_of Else)) old → Walks g old new (step_answer new None)
-  inner_else (MeetsNone alone wrong) is becomes = absurd (cc)
-  inner_else (MeetsOwn live o os is_open below skips wrong) is becomes = absurd wrong
-  inner_else (MeetsInner n o os is_open below skips same) is becomes =
-      let within = word_within Else (held_of (inner_buffer old.files.nest)) is some in
-      goes_on g old new (with_count (suc n) old.conditions) (length (word_of Else)) ready bounded within.0 within.1
-      (becomes ∙ ap (λ (v : ConditionsView). goes_past v (length (word_of Else)) old) (same_count old.conditions (suc n) skips))
-      (skips_else old.limits (run_rules g old) g.unread old.table.macros old.conditions n o os is_open old.files.nest front below skips is)
+    -- a conditional opens, or is refused
+    module _ (defined : Bool) (a : Option Argument) (named : IsNamed (opening_word defined) held a) where
+      opening_begins : Begins (opening_word defined) held (given_by held a) (given_len (opening_word defined) a)
+      opening_begins = named_begins (opening_word defined) held a (opening_wants (opening_word defined) (opening_opens defined)) named
 
-  -- a branch that is refused
+      -- its test, by the name that it is given
+      abbrev opening_by : Checked → Test
+      opening_by name = opening_within (old.limits.conditions - length old.conditions.open_now) (name_test (wants_defined (opening_word defined)) name here)
+
+      opening_decides : DecidesHere (opening_by (name_of a)) (λ t. opened_with (inner_shown old.files.nest) t old.conditions) (given_len (opening_word defined) a)
+      opening_decides =
+          opens_at old.limits (run_rules g old) g.unread old.table.macros old.conditions old.files.nest (opening_word defined) _ _ front opening_begins live (opening_opens defined)
+          (inner_most old.limits old.conditions old.files.nest ready.sound.conditions_of)
+
+      pub opening_unnamed : (place : Place) → LooksAtName a old new (Err place) → Walks g old new (lent_answer new place)
+      unfolding opening_within name_test
+      opening_unnamed place looks =
+          unnamed a place looks (λ kind word faulty.
+          subst (λ (n : Checked). DecidesHere (opening_by n) (λ t. opened_with (inner_shown old.files.nest) t old.conditions) (given_len (opening_word defined) a)) faulty opening_decides)
+
+      pub opening_named : (name : List ℕ) (result : Option Place) → name_of a ≡ Fine name
+          → OpensOne (test_of defined (is_some (macro_named old.table.macros name))) (given_len (opening_word defined) a) old new result → Walks g old new (step_answer new result)
+      unfolding conditions_left
+      opening_named name result fine opens =
+          let holds : Test = Holds (test_of defined (is_some (macro_named old.table.macros name))) in
+          let test : opening_by (name_of a) ≡ opening_within (conditions_left old.conditions) holds =
+          ap opening_by fine
+          ∙ ap (opening_within (old.limits.conditions - length old.conditions.open_now))
+          (opening_test defined name here ∙ ap (λ (ms : List Macro). Holds (test_of defined (is_some (macro_named ms name)))) (nest_macros old.limits old.table.macros old.conditions old.files.nest))
+          ∙ ap (λ (n : ℕ). opening_within (n - length old.conditions.open_now) holds) (sym ready.sound.conditions_of.limit) in
+          does_by _ _ _ result (begins_within _ _ _ _ opening_begins some) (opening_own (conditions_left old.conditions) _)
+          (subst (λ (x : Test). DecidesHere x (λ t. opened_with (inner_shown old.files.nest) t old.conditions) (given_len (opening_word defined) a)) test opening_decides) opens
+
+  -- a branch, or an end, that is refused
   refused_by : (place : Place) (kind own : FaultKind) → place ≡ Kept → kind ≡ own → IsOwn own → new ≡ record old { kept = Some (fault_at kind (inner_buffer old.files.nest).line [] (state_of old)) }
-      → Faults old.limits (run_rules g old) g.unread old.table.macros old.conditions old.files.nest own [] → Walks g old new (lent_answer new place)
+      → FaultsHere own [] → Walks g old new (lent_answer new place)
   refused_by place kind own is same owns becomes law =
       faults place own [] is (becomes ∙ ap (λ (k : FaultKind). record old { kept = Some (fault_at k (inner_buffer old.files.nest).line [] (state_of old)) }) same) owns law
 
-  pub elsif_refused : (place : Place) (kind : FaultKind) → Meets Elsif (Refused kind) (inner_below old.files.nest) old.conditions → IsDirective Elsif (held_of (inner_buffer old.files.nest)) → place ≡ Kept
-      → new ≡ record old { kept = Some (fault_at kind (inner_buffer old.files.nest).line [] (state_of old)) } → Walks g old new (lent_answer new place)
-  elsif_refused place kind (MeetsNone alone same) is kept becomes =
-      refused_by place kind fault.StrayBranch kept (cc) (own_kind _ refl) becomes (stray_elsif old.limits (run_rules g old) g.unread old.table.macros old.conditions old.files.nest front alone is)
-  elsif_refused place kind (MeetsOwn live o os is_open below skips turns) is kept becomes =
-      refused_by place kind fault.BranchAfterElse kept turns.0 (own_kind _ refl) becomes
-      (refused_elsif old.limits (run_rules g old) g.unread old.table.macros old.conditions live o os is_open skips old.files.nest front below is
-      (λ c s w. turns.1 c s w ∙ ap (λ (k : FaultKind). Stopped k []) turns.0))
-  elsif_refused place kind (MeetsInner n o os is_open below skips wrong) is kept becomes = absurd (cc)
+  -- a branch, with what it is given
+  module _ (d : Directive) (a : Option Argument) (given : IsGivenBranch d held a) where
+    branch_begins : Begins d held (given_by held a) (given_len d a)
+    branch_begins = given_begins d held a given
 
-  pub else_refused : (place : Place) (kind : FaultKind) → Meets Else (Refused kind) (inner_below old.files.nest) old.conditions → IsDirective Else (held_of (inner_buffer old.files.nest)) → place ≡ Kept
-      → new ≡ record old { kept = Some (fault_at kind (inner_buffer old.files.nest).line [] (state_of old)) } → Walks g old new (lent_answer new place)
-  else_refused place kind (MeetsNone alone same) is kept becomes =
-      refused_by place kind fault.StrayBranch kept (cc) (own_kind _ refl) becomes (stray_else old.limits (run_rules g old) g.unread old.table.macros old.conditions old.files.nest front alone is)
-  else_refused place kind (MeetsOwn live o os is_open below skips turns) is kept becomes =
-      refused_by place kind fault.BranchAfterElse kept turns.0 (own_kind _ refl) becomes
-      (refused_else old.limits (run_rules g old) g.unread old.table.macros old.conditions live o os is_open skips old.files.nest front below is
-      (λ c s w. turns.1 c s w ∙ ap (λ (k : FaultKind). Stopped k []) turns.0))
-  else_refused place kind (MeetsInner n o os is_open below skips wrong) is kept becomes = absurd (cc)
+    branch_word : IsDirective d held
+    branch_word = begins_word d held _ _ branch_begins
 
-  -- a branch that is decided
-  pub else_decided : (t : Bool) → Meets Else (Decided t) (inner_below old.files.nest) old.conditions → IsDirective Else (held_of (inner_buffer old.files.nest))
-      → new ≡ goes_past (turned_with Else t old.conditions) (length (word_of Else)) old → Walks g old new (step_answer new None)
-  else_decided t (MeetsNone alone wrong) is becomes = absurd (cc)
-  else_decided t (MeetsOwn live o os is_open below skips turns) is becomes =
-      let within = word_within Else (held_of (inner_buffer old.files.nest)) is some in
-      goes_on g old new _ (length (word_of Else)) ready bounded within.0 within.1 becomes
-      (decided_else old.limits (run_rules g old) g.unread old.table.macros old.conditions live o os is_open skips old.files.nest t front below is turns)
-  else_decided t (MeetsInner n o os is_open below skips wrong) is becomes = absurd (cc)
+    -- of a conditional that opened in skipped text, it is used
+    pub inner_steps : Meets d Inner (inner_below old.files.nest) old.conditions → new ≡ goes_past old.conditions (length (word_of d)) old → Walks g old new (step_answer new None)
+    inner_steps (MeetsNone alone wrong) becomes = absurd (cc)
+    inner_steps (MeetsOwn own) becomes = absurd own.turns
+    inner_steps (MeetsInner n o os is_open below skips same) becomes =
+        let within = word_within d held branch_word some in
+        goes_on g old new (with_count (suc n) old.conditions) (length (word_of d)) ready bounded within.0 within.1
+        (becomes ∙ ap (λ (v : ConditionsView). goes_past v (length (word_of d)) old) (same_count old.conditions (suc n) skips))
+        (counts_at old.limits (run_rules g old) g.unread old.table.macros old.conditions old.files.nest d (suc n) (suc n) o os front
+        (Branches d n (given_branches d held a given)) is_open below skips branch_word)
 
-  pub elsif_decided : (t : Bool) (a : Option Argument) → Meets Elsif (Decided t) (inner_below old.files.nest) old.conditions → IsNamed Elsif (held_of (inner_buffer old.files.nest)) a
-      → new ≡ goes_past (turned_with Elsif t old.conditions) (elsif_len a) old → Walks g old new (step_answer new None)
-  elsif_decided t a (MeetsNone alone wrong) named becomes = absurd (cc)
-  elsif_decided t None (MeetsOwn live o os is_open below skips turns) lacks becomes =
-      let within = word_within Elsif (held_of (inner_buffer old.files.nest)) lacks.word some in
-      goes_on g old new _ (length (word_of Elsif)) ready bounded within.0 within.1 becomes
-      (decided_nameless old.limits (run_rules g old) g.unread old.table.macros old.conditions live o os is_open skips old.files.nest t front below lacks turns)
-  elsif_decided t (Some a) (MeetsOwn live o os is_open below skips turns) has becomes =
-      let within = name_inside Elsif (held_of (inner_buffer old.files.nest)) a.start a.stop has in
-      goes_on g old new _ a.stop ready bounded (omega (arith, within.0, within.1)) within.2 becomes
-      (decided_elsif old.limits (run_rules g old) g.unread old.table.macros old.conditions live o os is_open skips old.files.nest t a.start a.stop front below has turns)
-  elsif_decided t a (MeetsInner n o os is_open below skips wrong) named becomes = absurd (cc)
+    -- of the innermost conditional, it goes by its test
+    turn_decides : (branch : Branch) (own : OwnTurn d branch (inner_below old.files.nest) old.conditions) (test : Checked → State → Test) → Turns own.conditional d test
+        → DecidesHere (test (name_of a) here) (λ t. turned_with d t old.conditions) (given_len d a)
+    turn_decides branch own test turns =
+        turns_at old.limits (run_rules g old) g.unread old.table.macros old.conditions own.live own.conditional own.around own.is_open own.skips old.files.nest d _ _ test front own.within branch_begins
+        (given_branches d held a given) turns
 
-  -- no name decides an `else`
-  pub else_named : Meets Else Named (inner_below old.files.nest) old.conditions → Walks g old new (step_answer new None)
-  else_named m = absurd (else_unnamed (inner_below old.files.nest) old.conditions m)
+    -- it is refused
+    pub refused_steps : (place : Place) (kind : FaultKind) → Meets d (Refused kind) (inner_below old.files.nest) old.conditions → place ≡ Kept
+        → new ≡ record old { kept = Some (fault_at kind (inner_buffer old.files.nest).line [] (state_of old)) } → Walks g old new (lent_answer new place)
+    refused_steps place kind (MeetsNone alone same) is becomes =
+        refused_by place kind fault.StrayBranch is (cc) (own_kind _ refl) becomes
+        (stray_at old.limits (run_rules g old) g.unread old.table.macros old.conditions old.files.nest d front (given_strays d held a given) alone branch_word)
+    refused_steps place kind (MeetsOwn own) is becomes =
+        faults place kind [] is becomes (subst IsOwn (sym own.turns.0) (own_kind fault.BranchAfterElse refl)) (turn_decides (Refused kind) own (λ n s. Stopped kind []) own.turns.1)
+    refused_steps place kind (MeetsInner n o os is_open below skips wrong) is becomes = absurd (cc)
 
-  -- an `elsif` whose name decides
-  module _ (tested : IsTested old) where
-    pub elsif_named : (start stop : ℕ) → HasName Elsif (held_of (inner_buffer old.files.nest)) start stop → is_reserved (argument_name (held_of (inner_buffer old.files.nest)) start stop) ≡ false
-        → new ≡ goes_past (turned_with Elsif (is_some (macro_named old.table.macros (argument_name (held_of (inner_buffer old.files.nest)) start stop))) old.conditions) stop old
-        → Walks g old new (step_answer new None)
-    elsif_named start stop has free becomes =
-        let within = name_inside Elsif (held_of (inner_buffer old.files.nest)) start stop has in
-        goes_on g old new _ stop ready bounded (omega (arith, within.0, within.1)) within.2 becomes
-        (tested_elsif old.limits (run_rules g old) g.unread old.table.macros old.conditions tested.live tested.conditional tested.around tested.is_open tested.skips tested.test old.files.nest start stop front tested.below has free)
+    -- it is decided
+    pub decided_steps : (t : Bool) → OwnTurn d (Decided t) (inner_below old.files.nest) old.conditions → new ≡ goes_past (turned_with d t old.conditions) (given_len d a) old → Walks g old new (step_answer new None)
+    decided_steps t own becomes =
+        does_by (Holds t) (λ u. turned_with d u old.conditions) (given_len d a) None (begins_within _ _ _ _ branch_begins some) tt (turn_decides (Decided t) own (λ n s. Holds t) own.turns) (refl, becomes)
 
-    pub elsif_reserved : (start stop : ℕ) (place : Place) (word : List ℕ) → HasName Elsif (held_of (inner_buffer old.files.nest)) start stop
-        → is_reserved (argument_name (held_of (inner_buffer old.files.nest)) start stop) ≡ true → place ≡ Kept → word ≡ take 128 (argument_name (held_of (inner_buffer old.files.nest)) start stop)
-        → new ≡ record old { kept = Some (fault_at fault.ReservedName (inner_buffer old.files.nest).line word (state_of old)) } → Walks g old new (lent_answer new place)
-    elsif_reserved start stop place word has taken is cut becomes =
-        faults place fault.ReservedName (argument_name (held_of (inner_buffer old.files.nest)) start stop) is (kept_cut old new _ _ _ _ _ becomes cut) (own_kind _ refl)
-        (tested_reserved old.limits (run_rules g old) g.unread old.table.macros old.conditions tested.live tested.conditional tested.around tested.is_open tested.skips tested.test old.files.nest start stop front tested.below has taken)
+    -- its name decides
+    module _ (own : OwnTurn d Named (inner_below old.files.nest) old.conditions) where
+      pub turn_unnamed : (place : Place) → LooksAtName a old new (Err place) → Walks g old new (lent_answer new place)
+      unfolding name_test
+      turn_unnamed place looks =
+          unnamed a place looks (λ kind word faulty.
+          subst (λ (n : Checked). DecidesHere (name_test true n here) (λ t. turned_with d t old.conditions) (given_len d a)) faulty
+          (turn_decides Named own (λ n s. name_test true n s) own.turns.1))
 
-    pub elsif_nameless : (place : Place) → LacksName Elsif (held_of (inner_buffer old.files.nest)) → place ≡ Kept
-        → new ≡ record old { kept = Some (fault_at fault.NameExpected (inner_buffer old.files.nest).line [] (state_of old)) } → Walks g old new (lent_answer new place)
-    elsif_nameless place lacks is becomes =
-        faults place fault.NameExpected [] is becomes (own_kind _ refl)
-        (tested_nameless old.limits (run_rules g old) g.unread old.table.macros old.conditions tested.live tested.conditional tested.around tested.is_open tested.skips tested.test old.files.nest front tested.below lacks)
+      pub turn_named : (name : List ℕ) → name_of a ≡ Fine name
+          → new ≡ goes_past (turned_with d (is_some (macro_named old.table.macros name)) old.conditions) (given_len d a) old → Walks g old new (step_answer new None)
+      unfolding name_test is_defined
+      turn_named name fine becomes =
+          let test : name_test true (name_of a) here ≡ Holds (is_some (macro_named old.table.macros name)) =
+          ap (λ (n : Checked). name_test true n here) fine ∙ ap (λ (ms : List Macro). Holds (is_some (macro_named ms name))) (nest_macros old.limits old.table.macros old.conditions old.files.nest) in
+          does_by (Holds (is_some (macro_named old.table.macros name))) (λ u. turned_with d u old.conditions) (given_len d a) None (begins_within _ _ _ _ branch_begins some) tt
+          (subst (λ (x : Test). DecidesHere x (λ t. turned_with d t old.conditions) (given_len d a)) test
+          (turn_decides Named own (λ n s. name_test true n s) own.turns.1)) (refl, becomes)
 
   -- an `endif` that is stray
-  pub end_refused : (A : Type 0) (place : Place) (kind : FaultKind) (v : ConditionsView) → EndsOne {A = A} (Err kind) old.conditions v (inner_below old.files.nest) → IsDirective Endif (held_of (inner_buffer old.files.nest)) → place ≡ Kept
+  pub end_refused : (A : Type 0) (place : Place) (kind : FaultKind) (v : ConditionsView) → EndsOne {A = A} (Err kind) old.conditions v (inner_below old.files.nest) → IsDirective Endif held → place ≡ Kept
       → new ≡ record (record old { conditions = v }) { kept = Some (fault_at kind (inner_buffer old.files.nest).line [] (state_of (record old { conditions = v }))) } → Walks g old new (lent_answer new place)
   end_refused A place kind v (EndsNone alone same stays) is kept becomes =
       let keeps : ConditionsView → EngineView S R = λ w. record (record old { conditions = w }) { kept = Some (fault_at kind (inner_buffer old.files.nest).line [] (state_of (record old { conditions = w }))) } in
-      refused_by place kind fault.StrayBranch kept (cc) (own_kind _ refl) (becomes ∙ ap keeps stays) (stray_end old.limits (run_rules g old) g.unread old.table.macros old.conditions old.files.nest front alone is)
+      refused_by place kind fault.StrayBranch kept (cc) (own_kind _ refl) (becomes ∙ ap keeps stays) (stray_at old.limits (run_rules g old) g.unread old.table.macros old.conditions old.files.nest Endif front end_strays alone is)
   end_refused A place kind v (EndsOwn live o os is_open below skips wrong moves) is kept becomes = absurd wrong
   end_refused A place kind v (EndsInner n o os is_open below skips wrong moves) is kept becomes = absurd wrong
 
   -- one that closes a conditional
-  pub end_closes : (A : Type 0) (x : A) (v : ConditionsView) → EndsOne {A = A} (Ok x) old.conditions v (inner_below old.files.nest) → IsDirective Endif (held_of (inner_buffer old.files.nest))
+  pub end_closes : (A : Type 0) (x : A) (v : ConditionsView) → EndsOne {A = A} (Ok x) old.conditions v (inner_below old.files.nest) → IsDirective Endif held
       → new ≡ goes_past v (length (word_of Endif)) old → Walks g old new (step_answer new None)
   end_closes A x v (EndsNone alone wrong stays) is becomes = absurd (cc)
   end_closes A x v (EndsOwn live o os is_open below skips done moves) is becomes =
-      let within = word_within Endif (held_of (inner_buffer old.files.nest)) is some in
+      let within = word_within Endif held is some in
       let sound = ready.sound.conditions_of in
       let most = sound.few in
       let limit = sound.limit in
       goes_on g old new (closed_one old.conditions) (length (word_of Endif)) ready bounded within.0 within.1 (becomes ∙ ap (λ (w : ConditionsView). goes_past w (length (word_of Endif)) old) moves)
       (closes_at old.limits (run_rules g old) g.unread old.table.macros old.conditions live o os is_open skips old.files.nest front below is (omega arith))
   end_closes A x v (EndsInner n o os is_open below skips done moves) is becomes =
-      let within = word_within Endif (held_of (inner_buffer old.files.nest)) is some in
+      let within = word_within Endif held is some in
       goes_on g old new (with_count n old.conditions) (length (word_of Endif)) ready bounded within.0 within.1 (becomes ∙ ap (λ (w : ConditionsView). goes_past w (length (word_of Endif)) old) moves)
-      (skips_end old.limits (run_rules g old) g.unread old.table.macros old.conditions n o os is_open old.files.nest front below skips is)
+      (counts_at old.limits (run_rules g old) g.unread old.table.macros old.conditions old.files.nest Endif (suc n) n o os front (Ends n) is_open below skips is)

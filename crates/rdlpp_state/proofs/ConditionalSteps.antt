@@ -1,33 +1,48 @@
 -- What remains of the open sources, as a directive of the innermost one opens, branches or closes a conditional.
-use Rattle.std.proofs.Common.{◌≡◌, ℕ, suc, ◌-◌, ◌≤◌, ◌<◌, Bool, true, false, List, [], ◌∷◌, length, take, drop, None, Some, refl, sym, ap, ◌∙◌, arith}
-use Rattle.rdlpp_scan.specs.Reserved.{is_reserved}
+use Rattle.std.proofs.Common.{◌≡◌, ℕ, suc, ◌-◌, ◌≤◌, ◌<◌, Bool, true, false, List, [], ◌∷◌, length, take, drop, Option, None, Some, refl, sym, ap, ◌∙◌, arith}
 use Rattle.rdlpp_scan.specs.declared.token.Directive.{Directive}
-use Rattle.rdlpp_scan.specs.declared.token.Directive.TheVariants.{Elsif, Else, Endif}
+use Rattle.rdlpp_scan.specs.declared.token.Directive.TheVariants.{Endif}
 use Rattle.rdlpp_scan.specs.declared.token.Mode.TheVariants.{Plain}
 use Rattle.rdlpp_table.specs.Table.{Macro}
 use Rattle.rdlpp_table.specs.declared.limits.Limits.{Limits}
 use Rattle.rdlpp_meaning.specs.declared.fault.FaultKind.{FaultKind}
 use Rattle.rdlpp_meaning.specs.declared.fault.FaultKind.TheVariants as fault
-use Rattle.rdlpp_meaning.specs.Meaning.{Holds, Passage, Progress, Stopped, in_conditional, is_defined, is_else, leaves, macro_name, name_test, past_conditional}
+use Rattle.rdlpp_meaning.specs.Meaning.{Checked, Holds, Passage, Progress, Stopped, Test, in_conditional, is_else, leaves, name_test, opening_within, past_conditional, wants_defined}
 use Rattle.rdlpp_meaning.specs.Opened.{Waiting}
 use Rattle.rdlpp_meaning.specs.Outcome.{fails}
 use Rattle.rdlpp_meaning.specs.Resumed.{Place, Live, Skipped}
 use Rattle.rdlpp_meaning.specs.State.{Rules, State, fault_at, shown_line}
 use Rattle.rdlpp_meaning.proofs.ConditionalMoves.{branches_conditional, in_branch, opens_conditional}
-use Rattle.rdlpp_meaning.proofs.ConditionalTests.{named_test}
-use Rattle.rdlpp_read.specs.Buffer.{held_of, text_left}
-use Rattle.rdlpp_read.specs.Files.{consumed_file, shift_of, torn_after}
+use Rattle.rdlpp_read.specs.Buffer.{EndsHeld, held_of, text_left}
+use Rattle.rdlpp_read.specs.Files.{consumed_file, inner_buffer, shift_of, torn_after, with_inner}
 use Rattle.rdlpp_read.specs.declared.files.File.{File}
-use Rattle.rdlpp_front.specs.Fronts.{HasName, IsDirective, LacksName, argument_name, word_of}
+use Rattle.rdlpp_front.specs.Fronts.{IsDirective, given_name, word_of}
 use Rattle.rdlpp_front.specs.SourceLeft.{HoldsFront, source_left}
-use Rattle.rdlpp_front.proofs.ConditionalLeft.{Turns, decided_else_left, decided_elsif_left, decided_nameless_left, refused_branch_left, tested_elsif_left, tested_nameless_left, tested_reserved_left, branched, closed_left, opened_left, opening_full_left, opening_nameless_left, opening_reserved_left, stray_branch_left, stray_end_left}
-use Rattle.rdlpp_front.proofs.SkippedWords.{inner_branch_left, inner_end_left, skipped_opening_left}
+use Rattle.rdlpp_front.proofs.ConditionalLeft.{Turns, branched, closed_left, is_stray, opening_left, stray_left, tested, turned_left}
+use Rattle.rdlpp_front.proofs.NamedDirectives.{Begins}
+use Rattle.rdlpp_front.proofs.SkippedWords.{Counts, counted_left}
 use Rattle.rdlpp_conditions.specs.Conditions.{ConditionsView, own_conditions, place_of}
-use Rattle.rdlpp_conditions.specs.Moves.{closed_one, opened_with, skipped_by, turned_open, turned_with, with_inner}
-use Rattle.rdlpp_state.specs.OpenConditionals.{outer_open}
+use Rattle.rdlpp_conditions.specs.Moves.{closed_one, opened_with, skipped_by, turned_open, turned_with, with_inner as with_count}
+use Rattle.rdlpp_state.specs.OpenConditionals.{inner_below, inner_shown, outer_open}
 use Rattle.rdlpp_state.specs.Remaining.{file_state, nest_left, nest_state, waiting_around}
 use Rattle.rdlpp_state.proofs.ConditionalPlaces.{live_place, outer_cons, place_inside, place_outside, place_skipped}
-use Rattle.rdlpp_state.proofs.NestLeft.{torn_consumed, waiting_same}
+use Rattle.rdlpp_state.proofs.NestLeft.{none_held, torn_consumed, waiting_same}
+
+-- what remains behind a directive in front of the innermost source
+module _ {R : Type 0} (limits : Limits) (rules : Rules) (unread : R → List ℕ) (macros : List Macro) (v : ConditionsView) (nest : List (File R)) where
+  -- what remains behind so many bytes, by the open conditionals
+  abbrev pub Continues : ConditionsView → ℕ → Type 0
+  Continues w len = nest_left limits rules unread macros v nest ≡ nest_left limits rules unread macros w (with_inner (consumed_file len 0) nest)
+
+  -- a fault at the line of the next byte
+  abbrev pub Faults : FaultKind → List ℕ → Type 0
+  Faults kind word =
+      nest_left limits rules unread macros v nest ≡ leaves (fails (fault_at kind (inner_buffer nest).line word (nest_state limits macros v nest))) (nest_state limits macros v nest)
+
+  -- the one or the other, by a test
+  abbrev pub Decides : Test → (Bool → ConditionsView) → ℕ → Type 0
+  Decides (Stopped kind word) next len = Faults kind word
+  Decides (Holds t) next len = Continues (next t) len
 
 module _ {R : Type 0} (limits : Limits) (rules : Rules) (unread : R → List ℕ) (macros : List Macro) (outer : List (File R)) where
   -- the sources that wait around one, by the open conditionals
@@ -92,13 +107,15 @@ module _ {R : Type 0} (limits : Limits) (rules : Rules) (unread : R → List ℕ
     abbrev here : State
     here = nest_state limits macros v (f ∷ outer)
 
-    -- what a fault at this line comes to
-    abbrev pub Refuses : FaultKind → List ℕ → Type 0
-    Refuses kind word = nest_left limits rules unread macros v (f ∷ outer) ≡ leaves (fails (fault_at kind f.buffer.line word here)) here
+    -- what remains at it, by what it comes to
+    abbrev Refuses : FaultKind → List ℕ → Type 0
+    Refuses kind word = Faults limits rules unread macros v (f ∷ outer) kind word
 
-    -- what remains behind so many bytes, by the open conditionals
-    abbrev pub GoesOn : ConditionsView → ℕ → Type 0
-    GoesOn w len = nest_left limits rules unread macros v (f ∷ outer) ≡ nest_left limits rules unread macros w (consumed_file len 0 f ∷ outer)
+    abbrev GoesOn : ConditionsView → ℕ → Type 0
+    GoesOn w len = Continues limits rules unread macros v (f ∷ outer) w len
+
+    abbrev ByTest : Test → (Bool → ConditionsView) → ℕ → Type 0
+    ByTest x next len = Decides limits rules unread macros v (f ∷ outer) x next len
 
     -- a directive that moves the innermost source and its conditionals
     goes_on_at : (w : ConditionsView) (len : ℕ) (place new : Place) (t : State) → place_of f.conditions_below v ≡ place → place_of f.conditions_below w ≡ new
@@ -115,61 +132,35 @@ module _ {R : Type 0} (limits : Limits) (rules : Rules) (unread : R → List ℕ
         ∙ ap (λ (u : State). source_left rules unread (around v f) (place_of f.conditions_below w) g u) state)
         same (torn_consumed unread f len 0) refl refl
 
-    module _ (live : v.skipped ≡ None) (d : Directive) (opens : opens_conditional d ≡ true) where
-      -- a conditional opens, by a name
-      pub nest_opened : (start stop : ℕ) → HasName d (held_of f.buffer) start stop → is_reserved (argument_name (held_of f.buffer) start stop) ≡ false
-          → length v.open_now < limits.conditions → f.conditions_below ≤ length v.open_now
-          → GoesOn (opened_with (shown_line (shift_of f.shift) f.buffer.line) (named_test d here (argument_name (held_of f.buffer) start stop)) v) stop
-      unfolding nest_state file_state own_conditions
-      nest_opened start stop has free room below =
-          let t = named_test d here (argument_name (held_of f.buffer) start stop) in
-          let line = shown_line (shift_of f.shift) f.buffer.line in
-          let o : Progress = record { line = line; taken = t; closing = false } in
-          let os = v.open_now in
-          let w = opened_with line t v in
-          let own = own_conditions f.conditions_below v in
-          let k = limits.conditions - length os - 1 in
-          let left : limits.conditions - length os ≡ suc k = omega arith in
-          goes_on_at w stop (Live own) (in_branch t o own) (in_conditional here)
-          (live_place f.conditions_below v live)
-          (place_inside f.conditions_below w t o os refl below refl)
-          (opened_state v line t f (consumed_file stop 0 f) refl)
-          (outer_cons f.conditions_below o os below)
-          (opened_left rules unread (around v f) own f here d start stop k opens holds mode has free left)
+    -- one that does so by a test
+    tested_at : (next : Bool → ConditionsView) (len : ℕ) (place : Place) (new : Bool → Place) (s : State) (x : Test) → place_of f.conditions_below v ≡ place
+        → ((t : Bool) → place_of f.conditions_below (next t) ≡ new t) → ((t : Bool) → s ≡ nest_state limits macros (next t) (consumed_file len 0 f ∷ outer))
+        → ((t : Bool) → outer_open f.conditions_below (next t).open_now ≡ outer_open f.conditions_below v.open_now)
+        → source_left rules unread (around v f) place f here ≡ tested x f.buffer.line here (λ t. source_left rules unread (around v f) (new t) (consumed_file len 0 f) s)
+        → ByTest x next len
+    unfolding tested
+    tested_at next len place new s (Stopped kind word) is becomes state same law = fails_nest v f place _ is law
+    tested_at next len place new s (Holds t) is becomes state same law = goes_on_at (next t) len place (new t) s is (becomes t) (state t) (same t) law
 
-      -- where none may be opened, it is a fault
-      pub nest_full : (start stop : ℕ) → HasName d (held_of f.buffer) start stop → is_reserved (argument_name (held_of f.buffer) start stop) ≡ false
-          → limits.conditions ≤ length v.open_now → Refuses fault.TooManyConditionals []
-      unfolding nest_state file_state
-      nest_full start stop has free full =
-          let none : limits.conditions - length v.open_now ≡ 0 = omega arith in
-          fails_nest v f (Live (own_conditions f.conditions_below v)) _ (live_place f.conditions_below v live)
-          (opening_full_left rules unread (around v f) (own_conditions f.conditions_below v) f here d start stop opens holds mode has free none)
-
-      -- and so it is with a reserved name
-      pub nest_opening_reserved : (start stop : ℕ) → HasName d (held_of f.buffer) start stop → is_reserved (argument_name (held_of f.buffer) start stop) ≡ true
-          → Refuses fault.ReservedName (argument_name (held_of f.buffer) start stop)
-      nest_opening_reserved start stop has taken =
-          fails_nest v f (Live (own_conditions f.conditions_below v)) _ (live_place f.conditions_below v live)
-          (opening_reserved_left rules unread (around v f) (own_conditions f.conditions_below v) f here d start stop opens holds mode has taken)
-
-      -- and without one
-      pub nest_opening_nameless : LacksName d (held_of f.buffer) → Refuses fault.NameExpected []
-      nest_opening_nameless lacks =
-          fails_nest v f (Live (own_conditions f.conditions_below v)) _ (live_place f.conditions_below v live)
-          (opening_nameless_left rules unread (around v f) (own_conditions f.conditions_below v) f here d opens holds mode lacks)
+    -- a conditional opens, where one more may be open
+    nest_opening : (d : Directive) (given : Option (List ℕ)) (len : ℕ) → Begins d (held_of f.buffer) given len → v.skipped ≡ None → opens_conditional d ≡ true → f.conditions_below ≤ length v.open_now
+        → ByTest (opening_within (limits.conditions - length v.open_now) (name_test (wants_defined d) (given_name given) here)) (λ t. opened_with (shown_line (shift_of f.shift) f.buffer.line) t v) len
+    unfolding nest_state file_state own_conditions
+    nest_opening d given len begins live opens below =
+        let line = shown_line (shift_of f.shift) f.buffer.line in
+        let one : Bool → Progress = λ t. record { line = line; taken = t; closing = false } in
+        let own = own_conditions f.conditions_below v in
+        tested_at (λ t. opened_with line t v) len (Live own) (λ t. in_branch t (one t) own) (in_conditional here) _
+        (live_place f.conditions_below v live)
+        (λ t. place_inside f.conditions_below (opened_with line t v) t (one t) v.open_now refl below refl)
+        (λ t. opened_state v line t f (consumed_file len 0 f) refl)
+        (λ t. outer_cons f.conditions_below (one t) v.open_now below)
+        (opening_left rules unread (around v f) f here holds mode d given len begins own opens)
 
     -- a branch, or an end, where no conditional of its source is open
-    module _ (alone : length v.open_now ≡ f.conditions_below) where
-      pub nest_stray_branch : (d : Directive) → branches_conditional d ≡ true → IsDirective d (held_of f.buffer) → Refuses fault.StrayBranch []
-      nest_stray_branch d branches is =
-          fails_nest v f (Live []) _ (place_outside f.conditions_below v alone)
-          (stray_branch_left rules unread (around v f) f here d branches holds mode is)
-
-      pub nest_stray_end : IsDirective Endif (held_of f.buffer) → Refuses fault.StrayBranch []
-      nest_stray_end is =
-          fails_nest v f (Live []) _ (place_outside f.conditions_below v alone)
-          (stray_end_left rules unread (around v f) f here holds mode is)
+    nest_stray : (d : Directive) → is_stray d ≡ true → length v.open_now ≡ f.conditions_below → IsDirective d (held_of f.buffer) → Refuses fault.StrayBranch []
+    nest_stray d stray alone is =
+        fails_nest v f (Live []) _ (place_outside f.conditions_below v alone) (stray_left rules unread (around v f) f here holds mode d stray is)
 
     -- in a branch of the innermost conditional, which is its own
     module _ (live : Bool) (o : Progress) (os : List Progress) (is_open : v.open_now ≡ o ∷ os) (below : f.conditions_below ≤ length os) (skips : v.skipped ≡ skipped_by live) where
@@ -199,55 +190,16 @@ module _ {R : Type 0} (limits : Limits) (rules : Rules) (unread : R → List ℕ
           let size : length v.open_now ≡ length (turned_open d t v.open_now) = ap length is_open ∙ sym (ap length (turned_by d t)) in
           ap (λ (n : ℕ). file_state limits macros n (length outer) f) size
 
-      -- a branch that is taken, or skipped
-      turns_at : (d : Directive) (t : Bool) (len : ℕ)
-          → source_left rules unread (around v f) (in_branch live o own) f here ≡ source_left rules unread (around v f) (in_branch t (branched o t (is_else d)) own) (consumed_file len 0 f) here
-          → GoesOn (turned_with d t v) len
-      turns_at d t len law =
-          goes_on_at (turned_with d t v) len (in_branch live o own) (in_branch t (branched o t (is_else d)) own) here stands (turned_place d t) (turned_state d t len) (turned_outer d t) law
-
-      -- a branch that is refused
-      pub nest_refused_branch : (d : Directive) (kind : FaultKind) → branches_conditional d ≡ true → IsDirective d (held_of f.buffer) → Turns o d (λ c t. Stopped kind []) → Refuses kind []
-      nest_refused_branch d kind branches is turns =
-          fails_nest v f (in_branch live o own) _ stands (refused_branch_left rules unread (around v f) own f here live o d kind branches holds mode is turns)
-
-      -- a decided `else`
-      pub nest_else : (t : Bool) → IsDirective Else (held_of f.buffer) → Turns o Else (λ c u. Holds t) → GoesOn (turned_with Else t v) (length (word_of Else))
-      unfolding is_else
-      nest_else t is turns =
-          turns_at Else t (length (word_of Else)) (decided_else_left rules unread (around v f) own f here live o t holds mode is turns)
-
-      -- a decided `elsif`, with a name and without one
-      pub nest_elsif_decided : (t : Bool) (start stop : ℕ) → HasName Elsif (held_of f.buffer) start stop → Turns o Elsif (λ c u. Holds t) → GoesOn (turned_with Elsif t v) stop
-      unfolding is_else
-      nest_elsif_decided t start stop has turns =
-          turns_at Elsif t stop (decided_elsif_left rules unread (around v f) own f here live o t start stop holds mode has turns)
-
-      pub nest_elsif_passed : (t : Bool) → LacksName Elsif (held_of f.buffer) → Turns o Elsif (λ c u. Holds t) → GoesOn (turned_with Elsif t v) (length (word_of Elsif))
-      unfolding is_else
-      nest_elsif_passed t lacks turns =
-          turns_at Elsif t (length (word_of Elsif)) (decided_nameless_left rules unread (around v f) own f here live o t holds mode lacks turns)
-
-      -- an `elsif` whose name decides
-      module _ (turns : Turns o Elsif (λ c t. name_test true (macro_name c) t)) where
-        pub nest_elsif : (start stop : ℕ) → HasName Elsif (held_of f.buffer) start stop → is_reserved (argument_name (held_of f.buffer) start stop) ≡ false
-            → GoesOn (turned_with Elsif (is_defined here (argument_name (held_of f.buffer) start stop)) v) stop
-        unfolding is_else
-        nest_elsif start stop has free =
-            turns_at Elsif (is_defined here (argument_name (held_of f.buffer) start stop)) stop
-            (tested_elsif_left rules unread (around v f) own f here live o turns start stop holds mode has free)
-
-        pub nest_elsif_reserved : (start stop : ℕ) → HasName Elsif (held_of f.buffer) start stop → is_reserved (argument_name (held_of f.buffer) start stop) ≡ true
-            → Refuses fault.ReservedName (argument_name (held_of f.buffer) start stop)
-        nest_elsif_reserved start stop has taken =
-            fails_nest v f (in_branch live o own) _ stands (tested_reserved_left rules unread (around v f) own f here live o turns start stop holds mode has taken)
-
-        pub nest_elsif_nameless : LacksName Elsif (held_of f.buffer) → Refuses fault.NameExpected []
-        nest_elsif_nameless lacks =
-            fails_nest v f (in_branch live o own) _ stands (tested_nameless_left rules unread (around v f) own f here live o turns holds mode lacks)
+      -- a branch, by its test
+      nest_turned : (d : Directive) (given : Option (List ℕ)) (len : ℕ) (test : Checked → State → Test) → Begins d (held_of f.buffer) given len → branches_conditional d ≡ true → Turns o d test
+          → ByTest (test (given_name given) here) (λ t. turned_with d t v) len
+      nest_turned d given len test begins branches turns =
+          tested_at (λ t. turned_with d t v) len (in_branch live o own) (λ t. in_branch t (branched o t (is_else d)) own) here _
+          stands (turned_place d) (λ t. turned_state d t len) (turned_outer d)
+          (turned_left rules unread (around v f) f here holds mode d given len begins live o own test branches turns)
 
       -- an `endif`
-      pub nest_closed : IsDirective Endif (held_of f.buffer) → length v.open_now ≤ limits.conditions → GoesOn (closed_one v) (length (word_of Endif))
+      nest_closed : IsDirective Endif (held_of f.buffer) → length v.open_now ≤ limits.conditions → GoesOn (closed_one v) (length (word_of Endif))
       unfolding nest_state file_state
       nest_closed is few =
           let len = length (word_of Endif) in
@@ -256,33 +208,60 @@ module _ {R : Type 0} (limits : Limits) (rules : Rules) (unread : R → List ℕ
           (live_place f.conditions_below (closed_one v) refl ∙ ap Live (own_closed f.conditions_below v os rest))
           (closed_state v o os f (consumed_file len 0 f) is_open few refl)
           (ap (outer_open f.conditions_below) rest ∙ sym (outer_cons f.conditions_below o os below) ∙ sym (ap (outer_open f.conditions_below) is_open))
-          (closed_left rules unread (around v f) own f here live o holds mode is)
+          (closed_left rules unread (around v f) f here holds mode live o own is)
 
-    -- in skipped text, in so many conditionals that opened there
-    module _ (n : ℕ) (o : Progress) (os : List Progress) (is_open : v.open_now ≡ o ∷ os) (below : f.conditions_below ≤ length os) where
-      abbrev around_open : List Progress
-      around_open = take (length os - f.conditions_below) os
+    -- a word that counts in skipped text changes alone how many conditionals opened there
+    nest_counted : (d : Directive) (n m : ℕ) (o : Progress) (os : List Progress) → Counts d n m → v.open_now ≡ o ∷ os → f.conditions_below ≤ length os → v.skipped ≡ Some n → IsDirective d (held_of f.buffer)
+        → GoesOn (with_count m v) (length (word_of d))
+    unfolding nest_state file_state
+    nest_counted d n m o os counts is_open below skips is =
+        let around_open = take (length os - f.conditions_below) os in
+        goes_on_at (with_count m v) (length (word_of d)) (Skipped n o around_open) (Skipped m o around_open) here
+        (place_skipped f.conditions_below v n o os is_open below skips) (place_skipped f.conditions_below (with_count m v) m o os is_open below refl) refl refl
+        (counted_left rules unread (around v f) o around_open f here d n m counts holds mode is)
 
-      -- the count of the conditionals that opened there changes alone
-      counts_at : (k m len : ℕ) → v.skipped ≡ Some k
-          → source_left rules unread (around v f) (Skipped k o around_open) f here ≡ source_left rules unread (around v f) (Skipped m o around_open) (consumed_file len 0 f) here
-          → GoesOn (with_inner m v) len
-      unfolding nest_state file_state
-      counts_at k m len skips law =
-          goes_on_at (with_inner m v) len (Skipped k o around_open) (Skipped m o around_open) here
-          (place_skipped f.conditions_below v k o os is_open below skips) (place_skipped f.conditions_below (with_inner m v) m o os is_open below refl) refl refl law
+-- bytes of plain text are held of the innermost source
+pub record IsPlainFront {R : Type 0} (nest : List (File R)) : Type 0 where
+  pub some : 0 < length (held_of (inner_buffer nest))
+  pub ends : EndsHeld (inner_buffer nest)
+  pub plain : (inner_buffer nest).mode ≡ Plain
 
-      -- a conditional that opens there
-      pub nest_skipped_opening : (d : Directive) → opens_conditional d ≡ true → v.skipped ≡ Some n → IsDirective d (held_of f.buffer) → GoesOn (with_inner (suc n) v) (length (word_of d))
-      nest_skipped_opening d opens skips is =
-          counts_at n (suc n) (length (word_of d)) skips (skipped_opening_left rules unread (around v f) o around_open f here d n opens holds mode is)
+holds_front : {R : Type 0} (f : File R) (outer : List (File R)) → IsPlainFront (f ∷ outer) → HoldsFront f.buffer
+holds_front f outer h = record { some = h.some; ends = h.ends }
 
-      -- a branch of one that opened there
-      pub nest_inner_branch : (d : Directive) → branches_conditional d ≡ true → v.skipped ≡ Some (suc n) → IsDirective d (held_of f.buffer) → GoesOn (with_inner (suc n) v) (length (word_of d))
-      nest_inner_branch d branches skips is =
-          counts_at (suc n) (suc n) (length (word_of d)) skips (inner_branch_left rules unread (around v f) o around_open f here d n branches holds mode is)
+module _ {R : Type 0} (limits : Limits) (rules : Rules) (unread : R → List ℕ) (macros : List Macro) (v : ConditionsView) where
+  -- a conditional opens, where one more may be open
+  pub opens_at : (nest : List (File R)) (d : Directive) (given : Option (List ℕ)) (len : ℕ) → IsPlainFront nest → Begins d (held_of (inner_buffer nest)) given len → v.skipped ≡ None → opens_conditional d ≡ true
+      → inner_below nest ≤ length v.open_now
+      → Decides limits rules unread macros v nest (opening_within (limits.conditions - length v.open_now) (name_test (wants_defined d) (given_name given) (nest_state limits macros v nest))) (λ t. opened_with (inner_shown nest) t v) len
+  opens_at [] d given len h begins live opens below = absurd (none_held R h.some)
+  opens_at (f ∷ outer) d given len h begins live opens below =
+      nest_opening limits rules unread macros outer v f (holds_front f outer h) h.plain d given len begins live opens below
 
-      -- the end of one that opened there
-      pub nest_inner_end : v.skipped ≡ Some (suc n) → IsDirective Endif (held_of f.buffer) → GoesOn (with_inner n v) (length (word_of Endif))
-      nest_inner_end skips is =
-          counts_at (suc n) n (length (word_of Endif)) skips (inner_end_left rules unread (around v f) o around_open f here n holds mode is)
+  -- a branch, or an end, where no conditional of its source is open
+  pub stray_at : (nest : List (File R)) (d : Directive) → IsPlainFront nest → is_stray d ≡ true → length v.open_now ≡ inner_below nest → IsDirective d (held_of (inner_buffer nest)) → Faults limits rules unread macros v nest fault.StrayBranch []
+  stray_at [] d h stray alone is = absurd (none_held R h.some)
+  stray_at (f ∷ outer) d h stray alone is = nest_stray limits rules unread macros outer v f (holds_front f outer h) h.plain d stray alone is
+
+  -- in a branch of the innermost conditional, which is its own
+  module _ (live : Bool) (o : Progress) (os : List Progress) (is_open : v.open_now ≡ o ∷ os) (skips : v.skipped ≡ skipped_by live) where
+    -- a branch, by its test
+    pub turns_at : (nest : List (File R)) (d : Directive) (given : Option (List ℕ)) (len : ℕ) (test : Checked → State → Test) → IsPlainFront nest → inner_below nest ≤ length os
+        → Begins d (held_of (inner_buffer nest)) given len → branches_conditional d ≡ true → Turns o d test → Decides limits rules unread macros v nest (test (given_name given) (nest_state limits macros v nest)) (λ t. turned_with d t v) len
+    turns_at [] d given len test h below begins branches turns = absurd (none_held R h.some)
+    turns_at (f ∷ outer) d given len test h below begins branches turns =
+        nest_turned limits rules unread macros outer v f (holds_front f outer h) h.plain live o os is_open below skips d given len test begins branches turns
+
+    -- an `endif`
+    pub closes_at : (nest : List (File R)) → IsPlainFront nest → inner_below nest ≤ length os → IsDirective Endif (held_of (inner_buffer nest))
+        → length v.open_now ≤ limits.conditions → Continues limits rules unread macros v nest (closed_one v) (length (word_of Endif))
+    closes_at [] h below is few = absurd (none_held R h.some)
+    closes_at (f ∷ outer) h below is few =
+        nest_closed limits rules unread macros outer v f (holds_front f outer h) h.plain live o os is_open below skips is few
+
+  -- a word that counts in skipped text
+  pub counts_at : (nest : List (File R)) (d : Directive) (n m : ℕ) (o : Progress) (os : List Progress) → IsPlainFront nest → Counts d n m → v.open_now ≡ o ∷ os → inner_below nest ≤ length os → v.skipped ≡ Some n
+      → IsDirective d (held_of (inner_buffer nest)) → Continues limits rules unread macros v nest (with_count m v) (length (word_of d))
+  counts_at [] d n m o os h counts is_open below skips is = absurd (none_held R h.some)
+  counts_at (f ∷ outer) d n m o os h counts is_open below skips is =
+      nest_counted limits rules unread macros outer v f (holds_front f outer h) h.plain d n m o os counts is_open below skips is

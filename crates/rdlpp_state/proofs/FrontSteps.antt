@@ -7,11 +7,10 @@ use Rattle.std.proofs.Math.Seq.{drop-nil}
 use Rattle.rdlpp_source.specs.Sources.{Catalog}
 use Rattle.rdlpp_source.specs.declared.sources.Sources.{Ghosts}
 use Rattle.rdlpp_scan.specs.SourceTokens.{line_ends}
-use Rattle.rdlpp_scan.specs.Reserved.{is_reserved}
-use Rattle.rdlpp_scan.specs.declared.token.Directive.TheVariants.{Define, Undef}
+use Rattle.rdlpp_scan.specs.declared.token.Directive.TheVariants.{Define}
 use Rattle.rdlpp_scan.specs.declared.token.Mode.{Mode}
 use Rattle.rdlpp_scan.specs.declared.token.Mode.TheVariants.{Plain}
-use Rattle.rdlpp_table.specs.Table.{Macro, macro_named, without}
+use Rattle.rdlpp_table.specs.Table.{Macro, macro_named}
 use Rattle.rdlpp_table.specs.View.{TableView}
 use Rattle.rdlpp_table.specs.declared.limits.Limits.{Limits}
 use Rattle.rdlpp_table.specs.Define.{define_of}
@@ -34,8 +33,8 @@ use Rattle.rdlpp_read.specs.declared.buffer.extending.LogicalLine.TheVariants as
 use Rattle.rdlpp_read.specs.declared.buffer.filling.Fill.TheVariants as fill
 use Rattle.rdlpp_read.specs.declared.files.File.{File}
 use Rattle.rdlpp_read.proofs.Slices.{line_ends_le}
-use Rattle.rdlpp_front.specs.Fronts.{AtBare, AtPerl, HasName, IsDirective, IsRefused, IsText, IsUsage, LacksName, argument_name, usage_name}
-use Rattle.rdlpp_front.proofs.Insides.{name_inside, text_inside}
+use Rattle.rdlpp_front.specs.Fronts.{AtBare, AtPerl, IsDirective, IsRefused, IsText, IsUsage, usage_name}
+use Rattle.rdlpp_front.proofs.Insides.{text_inside}
 use Rattle.rdlpp_front.proofs.SourcePassages.{held_entered}
 use Rattle.rdlpp_conditions.specs.Conditions.{ConditionsView}
 use Rattle.rdlpp_state.specs.Calls.{SourcesCalled}
@@ -64,9 +63,9 @@ use Rattle.rdlpp_state.proofs.IdleTexts.{text_idle}
 use Rattle.rdlpp_front.proofs.DefineLeft.{define_begins}
 use Rattle.rdlpp_state.proofs.PlaceFacts.{owed_position, source_position}
 use Rattle.rdlpp_state.proofs.EngineSteps.{IsSilent, kept_at, not_called, one_part, reaches_one, walks_failed, walks_fault, walks_lent}
-use Rattle.rdlpp_state.proofs.NestLeft.{nest_cut_define, nest_defined, nest_filled, nest_long_define, nest_long_line, nest_long_source, nest_nameless, nest_refused, nest_refused_define, nest_reserved, nest_text, nest_undef, nest_undefined, nest_unfilled, nest_unheld}
+use Rattle.rdlpp_state.proofs.NestLeft.{nest_cut_define, nest_defined, nest_filled, nest_long_define, nest_long_line, nest_long_source, nest_refused, nest_refused_define, nest_text, nest_undefined, nest_unfilled, nest_unheld}
 use Rattle.rdlpp_state.proofs.Soundness.{inner_facts, with_inner-length}
-use Rattle.rdlpp_state.proofs.WorkFacts.{IsUsed, entered_unused, held_room, owed_falls, used_after, used_bytes, work_falls, work_same}
+use Rattle.rdlpp_state.proofs.WorkFacts.{IsUsed, entered_unused, held_room, owed_falls, used_after, work_falls, work_same}
 
 -- another buffer for the innermost source changes no state
 pub same_state : {R : Type 0} (b : BufferView R) (limits : Limits) (macros : List Macro) (v : ConditionsView) (nest : List (File R))
@@ -370,24 +369,6 @@ take_text {S} {R} g old mid new len lines from to next ready live bounded some t
     (parts_on g.unread old.files.nest (with_buffer (entered_mode b next) old.files.nest) nest (parts_mode g.unread next old.files.nest) (parts_used g.unread len lines (with_buffer (entered_mode b next) old.files.nest)))
     (AtSource len lines next ready.owed ready.idle refl (source_position old len lines next ready.free ready.open_) refl))
 
--- a macro is taken out
-pub take_undef : {S R : Type 0} (g : Ghosts S R) (old new : EngineView S R) (start stop : ℕ) → IsReady old → old.conditions.skipped ≡ None → IsBounded new
-    → 0 < length (held_of (inner_buffer old.files.nest)) → (inner_buffer old.files.nest).mode ≡ Plain → HasName Undef (held_of (inner_buffer old.files.nest)) start stop
-    → is_reserved (argument_name (held_of (inner_buffer old.files.nest)) start stop) ≡ false
-    → new ≡ record old {
-      table = record old.table { macros = without (argument_name (held_of (inner_buffer old.files.nest)) start stop) old.table.macros };
-      files = record old.files { nest = with_inner (consumed_file stop 0) old.files.nest };
-    } → Walks g old new (step_answer new None)
-unfolding behind_bytes
-take_undef g old new start stop ready live bounded some plain named free becomes =
-    let inner = inner_facts old.files ready.nest ready.files in
-    let held = held_of (inner_buffer old.files.nest) in
-    let within = name_inside Undef held start stop named in
-    lends_source g old new ready [] old.marks (without (argument_name held start stop) old.table.macros) old.conditions (with_inner (consumed_file stop 0) old.files.nest) becomes bounded
-    (used_bytes old.files.nest stop 0 (omega (arith, within.0, within.1)) within.2)
-    (nest_undef old.limits (run_rules g old) g.unread old.table.macros old.conditions live old.files.nest start stop some inner.ends plain named free)
-    (parts_used g.unread stop 0 old.files.nest) (Nowhere refl (InSources ready.idle refl (Unmarked refl)))
-
 -- a `define` whose logical line is held, and what it comes to
 module _ {S R : Type 0} (g : Ghosts S R) (old mid new : EngineView S R) (len : ℕ) (ready : IsReady old) (live : old.conditions.skipped ≡ None) (r : IsRead g old mid) (bounded : IsBounded new)
     (some : 0 < length (held_of (inner_buffer old.files.nest))) (plain : (inner_buffer old.files.nest).mode ≡ Plain) (define : IsDirective Define (held_of (inner_buffer old.files.nest)))
@@ -561,19 +542,6 @@ module _ {S R : Type 0} (g : Ghosts S R) (e : EngineView S R) where
   unfolding state_of
   left_refused kind ready live some refused =
       nest_refused e.limits (run_rules g e) g.unread e.table.macros e.conditions live e.files.nest kind some (inner_facts e.files ready.nest ready.files).ends refused
-
-  -- an `undef` of a reserved name
-  pub left_reserved : (start stop : ℕ) → IsReady e → e.conditions.skipped ≡ None → 0 < length (held_of (inner_buffer e.files.nest)) → (inner_buffer e.files.nest).mode ≡ Plain → HasName Undef (held_of (inner_buffer e.files.nest)) start stop
-      → is_reserved (argument_name (held_of (inner_buffer e.files.nest)) start stop) ≡ true → Fails fault.ReservedName (inner_buffer e.files.nest).line (argument_name (held_of (inner_buffer e.files.nest)) start stop)
-  unfolding state_of
-  left_reserved start stop ready live some plain named taken =
-      nest_reserved e.limits (run_rules g e) g.unread e.table.macros e.conditions live e.files.nest start stop some (inner_facts e.files ready.nest ready.files).ends plain named taken
-
-  -- an `undef` without a name
-  pub left_nameless : IsReady e → e.conditions.skipped ≡ None → 0 < length (held_of (inner_buffer e.files.nest)) → (inner_buffer e.files.nest).mode ≡ Plain → LacksName Undef (held_of (inner_buffer e.files.nest)) → Fails fault.NameExpected (inner_buffer e.files.nest).line []
-  unfolding state_of
-  left_nameless ready live some plain lacks =
-      nest_nameless e.limits (run_rules g e) g.unread e.table.macros e.conditions live e.files.nest some (inner_facts e.files ready.nest ready.files).ends plain lacks
 
 -- what remains where a line breaks the source
 module _ {S R : Type 0} (g : Ghosts S R) (old mid : EngineView S R) (ready : IsReady old) (t : g.tells old.sources) where

@@ -7,7 +7,6 @@ pub mod Bounds
 pub mod ConditionalPlaces
 pub mod NestLeft
 pub mod ConditionalSteps
-pub mod ConditionalNests
 pub mod SkippedStretch
 pub mod SkippedSteps
 pub mod PaddedDigits

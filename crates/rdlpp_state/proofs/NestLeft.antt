@@ -1,10 +1,9 @@
 -- What remains of the open sources, as the innermost of them moves, where any others wait for it.
-use Rattle.std.proofs.Common.{◌≡◌, ℕ, ◌+◌, ◌≤◌, ◌<◌, true, false, List, [], ◌∷◌, ◌++◌, length, take, drop, None, Some, refl, sym, ap, subst, ◌∙◌, append_assoc, inl, inr, arith}
+use Rattle.std.proofs.Common.{◌≡◌, ℕ, ◌+◌, ◌≤◌, ◌<◌, List, [], ◌∷◌, ◌++◌, length, take, drop, Option, None, refl, sym, ap, subst, ◌∙◌, append_assoc, inl, inr, arith}
 use Rattle.std.proofs.lemmas.List.{drop-drop, take-append-drop}
 use Rattle.rdlpp_scan.specs.Front.{Breach}
 use Rattle.rdlpp_scan.specs.Front as breach
 use Rattle.rdlpp_scan.specs.SourceTokens.{line_ends}
-use Rattle.rdlpp_scan.specs.Reserved.{is_reserved}
 use Rattle.rdlpp_scan.specs.declared.token.Mode.{Mode}
 use Rattle.rdlpp_scan.specs.declared.token.Mode.TheVariants.{Plain}
 use Rattle.rdlpp_scan.specs.declared.token.Directive.TheVariants.{Define, Undef}
@@ -12,7 +11,7 @@ use Rattle.rdlpp_table.specs.Table.{Macro, macro_named, without}
 use Rattle.rdlpp_table.specs.declared.limits.Limits.{Limits}
 use Rattle.rdlpp_meaning.specs.declared.fault.FaultKind.{FaultKind}
 use Rattle.rdlpp_meaning.specs.declared.fault.FaultKind.TheVariants as fault
-use Rattle.rdlpp_meaning.specs.Meaning.{Passage, Progress, behind_bytes, leaves}
+use Rattle.rdlpp_meaning.specs.Meaning.{Faulty, Fine, Passage, Progress, behind_bytes, leaves}
 use Rattle.rdlpp_meaning.specs.Opened.{Waiting, unwound}
 use Rattle.rdlpp_meaning.specs.Outcome.{fails, gives}
 use Rattle.rdlpp_meaning.specs.Parts.{line_ends_of}
@@ -26,13 +25,13 @@ use Rattle.rdlpp_read.specs.declared.buffer.extending.LogicalLine.TheVariants as
 use Rattle.rdlpp_read.specs.declared.buffer.filling.Fill.TheVariants as fill
 use Rattle.rdlpp_read.specs.declared.files.File.{File}
 use Rattle.rdlpp_read.proofs.Slots.{torn_after-append}
-use Rattle.rdlpp_front.specs.Fronts.{HasName, IsDirective, IsRefused, IsText, IsUsage, LacksName, argument_name, usage_name}
+use Rattle.rdlpp_front.specs.Fronts.{IsDirective, IsRefused, IsText, IsUsage, given_name, usage_name}
 use Rattle.rdlpp_front.specs.SourceLeft.{HoldsFront, source_left, with_file_buffer}
 use Rattle.rdlpp_front.proofs.DefineLeft.{define_cut_left, define_left, define_long_left, define_refused_left, holds_define}
 use Rattle.rdlpp_front.proofs.EndLeft.{broken_left, ended_left, filled_left, held_left, refused_left}
 use Rattle.rdlpp_front.proofs.SkippedWords.{skipped_broken_left}
 use Rattle.rdlpp_front.proofs.TextLeft.{text_left as text_law, undefined_left}
-use Rattle.rdlpp_front.proofs.NamedDirectives.{undef_left, undef_nameless_left, undef_reserved_left}
+use Rattle.rdlpp_front.proofs.NamedDirectives.{Begins, undef_left, undef_refused_left}
 use Rattle.rdlpp_conditions.specs.Conditions.{ConditionsView, own_conditions, place_of}
 use Rattle.rdlpp_state.specs.OpenConditionals.{inner_below, outer_open}
 use Rattle.rdlpp_state.proofs.ConditionalPlaces.{live_place, place_outside}
@@ -164,38 +163,26 @@ module _ {R : Type 0} (limits : Limits) (rules : Rules) (unread : R → List ℕ
           (record { some = some; ends = ends }) refused)
 
       -- an `undef` of a name
-      pub nest_undef : (nest : List (File R)) (start stop : ℕ) → 0 < length (held_of (inner_buffer nest)) → EndsHeld (inner_buffer nest)
-          → (inner_buffer nest).mode ≡ Plain → HasName Undef (held_of (inner_buffer nest)) start stop → is_reserved (argument_name (held_of (inner_buffer nest)) start stop) ≡ false
-          → nest_left limits rules unread macros v nest
-          ≡ nest_left limits rules unread (without (argument_name (held_of (inner_buffer nest)) start stop) macros) v (with_inner (consumed_file stop 0) nest)
+      pub nest_undef : (nest : List (File R)) (given : Option (List ℕ)) (len : ℕ) → 0 < length (held_of (inner_buffer nest)) → EndsHeld (inner_buffer nest)
+          → (inner_buffer nest).mode ≡ Plain → Begins Undef (held_of (inner_buffer nest)) given len → (name : List ℕ) → given_name given ≡ Fine name
+          → nest_left limits rules unread macros v nest ≡ nest_left limits rules unread (without name macros) v (with_inner (consumed_file len 0) nest)
       unfolding nest_state file_state behind_bytes
-      nest_undef [] start stop some ends plain named free = absurd (none_held R some)
-      nest_undef (f ∷ outer) start stop some ends plain named free =
-          moved_live f (consumed_file stop 0 f) outer (without (argument_name (held_of f.buffer) start stop) macros) []
-          (undef_left rules unread (around f outer) (own_conditions f.conditions_below v) f (nest_state limits macros v (f ∷ outer)) start stop
-          (record { some = some; ends = ends }) plain named free)
-          (torn_consumed unread f stop 0) refl refl
+      nest_undef [] given len some ends plain begins name fine = absurd (none_held R some)
+      nest_undef (f ∷ outer) given len some ends plain begins name fine =
+          moved_live f (consumed_file len 0 f) outer (without name macros) []
+          (undef_left rules unread (around f outer) (own_conditions f.conditions_below v) f (nest_state limits macros v (f ∷ outer)) given len
+          (record { some = some; ends = ends }) plain begins name fine)
+          (torn_consumed unread f len 0) refl refl
 
-      -- an `undef` of a reserved name
-      pub nest_reserved : (nest : List (File R)) (start stop : ℕ) → 0 < length (held_of (inner_buffer nest)) → EndsHeld (inner_buffer nest)
-          → (inner_buffer nest).mode ≡ Plain → HasName Undef (held_of (inner_buffer nest)) start stop → is_reserved (argument_name (held_of (inner_buffer nest)) start stop) ≡ true
-          → nest_left limits rules unread macros v nest
-          ≡ leaves (fails (fault_at fault.ReservedName (inner_buffer nest).line (argument_name (held_of (inner_buffer nest)) start stop) (nest_state limits macros v nest))) (nest_state limits macros v nest)
-      unfolding nest_left nest_state file_state
-      nest_reserved [] start stop some ends plain named taken = absurd (none_held R some)
-      nest_reserved (f ∷ outer) start stop some ends plain named taken =
-          at_live f outer _ (undef_reserved_left rules unread (around f outer) (own_conditions f.conditions_below v) f (nest_state limits macros v (f ∷ outer)) start stop
-          (record { some = some; ends = ends }) plain named taken)
-
-      -- an `undef` without a name
-      pub nest_nameless : (nest : List (File R)) → 0 < length (held_of (inner_buffer nest)) → EndsHeld (inner_buffer nest)
-          → (inner_buffer nest).mode ≡ Plain → LacksName Undef (held_of (inner_buffer nest))
-          → nest_left limits rules unread macros v nest ≡ leaves (fails (fault_at fault.NameExpected (inner_buffer nest).line [] (nest_state limits macros v nest))) (nest_state limits macros v nest)
+      -- one that is refused for its name
+      pub nest_refused_undef : (nest : List (File R)) (given : Option (List ℕ)) (len : ℕ) → 0 < length (held_of (inner_buffer nest)) → EndsHeld (inner_buffer nest)
+          → (inner_buffer nest).mode ≡ Plain → Begins Undef (held_of (inner_buffer nest)) given len → (kind : FaultKind) (word : List ℕ) → given_name given ≡ Faulty kind word
+          → nest_left limits rules unread macros v nest ≡ leaves (fails (fault_at kind (inner_buffer nest).line word (nest_state limits macros v nest))) (nest_state limits macros v nest)
       unfolding nest_left
-      nest_nameless [] some ends plain lacks = absurd (none_held R some)
-      nest_nameless (f ∷ outer) some ends plain lacks =
-          at_live f outer _ (undef_nameless_left rules unread (around f outer) (own_conditions f.conditions_below v) f (nest_state limits macros v (f ∷ outer))
-          (record { some = some; ends = ends }) plain lacks)
+      nest_refused_undef [] given len some ends plain begins kind word faulty = absurd (none_held R some)
+      nest_refused_undef (f ∷ outer) given len some ends plain begins kind word faulty =
+          at_live f outer _ (undef_refused_left rules unread (around f outer) (own_conditions f.conditions_below v) f (nest_state limits macros v (f ∷ outer)) given len
+          (record { some = some; ends = ends }) plain begins kind word faulty)
 
       module _ (tells : Type 0) (t : tells) where
         -- a `define` that is accepted

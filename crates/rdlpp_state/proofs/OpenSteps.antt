@@ -2,13 +2,12 @@
 use Rattle.std.proofs.Common.{◌≡◌, ℕ, zero, suc, ◌+◌, ◌-◌, ◌^◌, ◌≤◌, ◌<◌, Bool, true, false, List, [], ◌∷◌, length, take, drop, Option, None, Some, Result, Ok, Err, refl, ap, subst, ◌∙◌, arith}
 use Rattle.std.specs.Option.{is_none, unwrap_or}
 use Rattle.rdlpp_scan.specs.declared.token.Directive.{Directive}
-use Rattle.rdlpp_scan.specs.declared.token.Directive.TheVariants.{Else}
 use Rattle.rdlpp_table.specs.Table.{Macro}
 use Rattle.rdlpp_table.specs.View.{TableView}
 use Rattle.rdlpp_table.specs.declared.limits.Limits.{Limits}
 use Rattle.rdlpp_meaning.specs.declared.fault.FaultKind.{FaultKind}
-use Rattle.rdlpp_meaning.specs.declared.fault.FaultKind.TheVariants.{StrayBranch, TooManyConditionals}
-use Rattle.rdlpp_meaning.specs.Meaning.{Holds, Progress, Stopped, is_else, opening_within}
+use Rattle.rdlpp_meaning.specs.declared.fault.FaultKind.TheVariants.{StrayBranch}
+use Rattle.rdlpp_meaning.specs.Meaning.{Holds, Progress, opening_within}
 use Rattle.rdlpp_meaning.specs.Resumed.{Place, Live, Skipped}
 use Rattle.rdlpp_meaning.proofs.ConditionalMoves.{in_branch}
 use Rattle.rdlpp_read.specs.Buffer.{unused_of}
@@ -17,7 +16,7 @@ use Rattle.rdlpp_read.specs.declared.files.File.{File}
 use Rattle.rdlpp_conditions.specs.Conditions.{ConditionsView, conditions_left, place_of}
 use Rattle.rdlpp_conditions.specs.Moves.{Closes, IsBranch, IsDone, IsTurn, IsUnclosed, closed_one, opened_with, opening_answer, skipped_by, turned_open, turned_with, with_inner}
 use Rattle.rdlpp_conditions.specs.declared.conditions.Branch.{Branch}
-use Rattle.rdlpp_conditions.specs.declared.conditions.Branch.TheVariants.{Decided, Inner, Named, Refused}
+use Rattle.rdlpp_conditions.specs.declared.conditions.Branch.TheVariants.{Inner, Refused}
 use Rattle.rdlpp_usages.specs.Usages.{ExpansionView}
 use Rattle.rdlpp_state.specs.Engine.{IsSoundEngine, IsWholeEngine}
 use Rattle.rdlpp_state.specs.OpenConditionals.{AreBelow, AreConditions, inner_below}
@@ -131,10 +130,20 @@ pub whole_with : {R : Type 0} (limits : Limits) (phase : Phase) (table : TableVi
     → AreConditions limits w files.nest → IsWholeEngine limits phase table files w x
 whole_with limits phase table files v w x s c = record { sources = sound_with limits phase table files v w s.sources c; texts = s.texts }
 
+-- the innermost conditional is the innermost source's own, and what is told of a branch of it is its test
+pub record OwnTurn (word : Directive) (branch : Branch) (below : ℕ) (v : ConditionsView) : Type 0 where
+  pub live : Bool
+  pub conditional : Progress
+  pub around : List Progress
+  pub is_open : v.open_now ≡ conditional ∷ around
+  pub within : below ≤ length around
+  pub skips : v.skipped ≡ skipped_by live
+  pub turns : IsTurn conditional word branch
+
 -- what a branch meets: no conditional of its source; the innermost one, which is its own; or one that opened in skipped text
 pub data Meets (word : Directive) (branch : Branch) (below : ℕ) (v : ConditionsView) : Type 0 where
   MeetsNone : length v.open_now ≡ below → branch ≡ Refused StrayBranch → Meets word branch below v
-  MeetsOwn : (live : Bool) (o : Progress) (os : List Progress) → v.open_now ≡ o ∷ os → below ≤ length os → v.skipped ≡ skipped_by live → IsTurn o word branch → Meets word branch below v
+  MeetsOwn : OwnTurn word branch below v → Meets word branch below v
   MeetsInner : (n : ℕ) (o : Progress) (os : List Progress) → v.open_now ≡ o ∷ os → below ≤ length os → v.skipped ≡ Some (suc n) → branch ≡ Inner → Meets word branch below v
 
 turn_in : (live : Bool) (o : Progress) (os : List Progress) (word : Directive) (branch : Branch) → IsBranch (in_branch live o os) word branch → IsTurn o word branch
@@ -145,25 +154,29 @@ turn_in false o os word branch h = h
 meets_by : (word : Directive) (branch : Branch) (below : ℕ) (v : ConditionsView) → Standing below v → IsBranch (place_of below v) word branch → Meets word branch below v
 meets_by word branch below v (Outside alone) h = MeetsNone alone (subst (λ (p : Place). IsBranch p word branch) (place_outside below v alone) h)
 meets_by word branch below v (Inside live o os is some skips) h =
-    MeetsOwn live o os is some skips (turn_in live o _ word branch (subst (λ (p : Place). IsBranch p word branch) (place_inside below v live o os is some skips) h))
+    MeetsOwn (record {
+      live = live;
+      conditional = o;
+      around = os;
+      is_open = is;
+      within = some;
+      skips = skips;
+      turns = turn_in live o _ word branch (subst (λ (p : Place). IsBranch p word branch) (place_inside below v live o os is some skips) h);
+    })
 meets_by word branch below v (Deep n o os is some skips) h =
     MeetsInner n o os is some skips (subst (λ (p : Place). IsBranch p word branch) (place_skipped below v (suc n) o os is some skips) h)
 
 pub meets : (word : Directive) (branch : Branch) (below : ℕ) (v : ConditionsView) → below ≤ length v.open_now → IsBranch (place_of below v) word branch → Meets word branch below v
 meets word branch below v most h = meets_by word branch below v (standing below v most) h
 
--- no name decides an `else`
-pub else_unnamed : (below : ℕ) (v : ConditionsView) → Meets Else Named below v → ⊥
-unfolding is_else
-else_unnamed below v (MeetsNone alone wrong) = cc
-else_unnamed below v (MeetsOwn live o os is_open most skips turns) = cc (turns.0)
-else_unnamed below v (MeetsInner n o os is_open most skips wrong) = cc
+-- a branch that is decided, or whose name decides
+pub own_turn : (word : Directive) (branch : Branch) (below : ℕ) (v : ConditionsView) → Meets word branch below v → (branch ≡ Refused StrayBranch → ⊥) → (branch ≡ Inner → ⊥) → OwnTurn word branch below v
+own_turn word branch below v (MeetsNone alone is) stray inner = absurd (stray is)
+own_turn word branch below v (MeetsOwn own) stray inner = own
+own_turn word branch below v (MeetsInner n o os is_open within skips is) stray inner = absurd (inner is)
 
--- a branch that is refused or decided, or whose name decides, is no inner one
-pub decides_own : (word : Directive) (t : Bool) (below : ℕ) (v : ConditionsView) → Meets word (Decided t) below v → below < length v.open_now
-decides_own word t below v (MeetsNone alone wrong) = absurd (cc)
-decides_own word t below v (MeetsOwn live o os is_open most skips turns) = let size : length v.open_now ≡ suc (length os) = ap length is_open in omega arith
-decides_own word t below v (MeetsInner n o os is_open most skips wrong) = absurd (cc)
+pub own_open : (word : Directive) (branch : Branch) (below : ℕ) (v : ConditionsView) → OwnTurn word branch below v → below < length v.open_now
+own_open word branch below v own = let size : length v.open_now ≡ suc (length own.around) = ap length own.is_open in let within = own.within in omega arith
 
 -- what an end meets
 pub data EndsOne {A : Type 0} (result : Result A FaultKind) (old new : ConditionsView) (below : ℕ) : Type 0 where
@@ -236,17 +249,6 @@ unfolding opening_within
 one_within zero v holds is h = absurd (cc)
 one_within (suc k) v holds is h = omega arith
 
-none_within : (kind : FaultKind) (k : ℕ) (v : ConditionsView) (holds : Bool) → v.limit - length v.open_now ≡ k → opening_within k (Holds holds) ≡ Stopped kind []
-    → (v.limit ≤ length v.open_now) × (kind ≡ TooManyConditionals)
-unfolding opening_within
-none_within kind zero v holds is h = (omega arith, cc)
-none_within kind (suc k) v holds is h = absurd (cc)
-
 pub one_opens : {A : Type 0} (x : A) (v : ConditionsView) (holds : Bool) → opening_within (conditions_left v) (Holds holds) ≡ opening_answer {A = A} (Ok x) holds → length v.open_now < v.limit
 unfolding conditions_left
 one_opens x v holds e = one_within (v.limit - length v.open_now) v holds refl e
-
-pub none_opens : (A : Type 0) (kind : FaultKind) (v : ConditionsView) (holds : Bool) → opening_within (conditions_left v) (Holds holds) ≡ opening_answer {A = A} (Err kind) holds
-    → (v.limit ≤ length v.open_now) × (kind ≡ TooManyConditionals)
-unfolding conditions_left
-none_opens A kind v holds e = none_within kind (v.limit - length v.open_now) v holds refl e

@@ -44,8 +44,10 @@ use Rattle.rdlpp_state.specs.Pieces.{step_answer}
 use Rattle.rdlpp_state.specs.Positions.{Unmarked}
 use Rattle.rdlpp_state.specs.Remaining.{inner_name, run_rules, state_of}
 use Rattle.rdlpp_state.specs.Steps.{Walks}
-use Rattle.rdlpp_state.proofs.BranchSteps.{goes_on, plain_front, word_within}
-use Rattle.rdlpp_state.proofs.ConditionalNests.{skips_opening}
+use Rattle.rdlpp_state.proofs.BranchSteps.{goes_on, opening_opens, plain_front}
+use Rattle.rdlpp_state.proofs.ConditionalSteps.{counts_at}
+use Rattle.rdlpp_front.proofs.NamedDirectives.{word_within}
+use Rattle.rdlpp_front.proofs.SkippedWords.{Opens}
 use Rattle.rdlpp_state.proofs.EngineSteps.{not_called}
 use Rattle.rdlpp_state.proofs.FrontSteps.{IsRead, held_few, left_by, lends_piece, lines_few, owed_lines}
 use Rattle.rdlpp_state.proofs.PassedNests.{IsHeldFront, cut_at, long_at, passes_define, passes_line, passes_part, passes_stretch, passes_word, perl_at}
@@ -251,7 +253,8 @@ module _ {S R : Type 0} (g : Ghosts S R) (old new : EngineView S R) (ready : IsR
         let exact : v ≡ with_count (suc s.count) old.conditions = counts ∙ ap (λ (n : ℕ). with_count n old.conditions) one in
         goes_on g old new (with_count (suc s.count) old.conditions) (length (word_of (opening_word defined))) ready bounded within.0 within.1
         (becomes ∙ ap (λ (x : ConditionsView). goes_past x (length (word_of (opening_word defined))) old) exact)
-        (skips_opening old.limits (run_rules g old) g.unread old.table.macros old.conditions s.count s.conditional s.around s.is_open old.files.nest defined (plain_front old ready some plain) s.below s.skips is)
+        (counts_at old.limits (run_rules g old) g.unread old.table.macros old.conditions old.files.nest (opening_word defined) s.count (suc s.count) s.conditional s.around (plain_front old ready some plain)
+        (Opens (opening_word defined) s.count (opening_opens defined)) s.is_open s.below s.skips is)
 
     -- a `define`
     module _ (is : IsDirective Define (held_of (inner_buffer old.files.nest))) (mid : EngineView S R) (r : IsRead g old mid) where

@@ -1,26 +1,26 @@
 -- What the directives of conditionals do to an engine.
 -- A definition that names no source is this project's own.
-use Rattle.std.specs.Prelude.{◌≡◌, ℕ, ◌<◌, ◌≤◌, Bool, true, false, not, List, [], ◌∷◌, length, Option, None, Some, if◌then◌else◌}
+use Rattle.std.specs.Prelude.{◌≡◌, ℕ, Bool, true, false, not, List, [], length, Option, None, Some, if◌then◌else◌}
 use Rattle.rdlpp_scan.specs.declared.token.Directive.{Directive}
-use Rattle.rdlpp_scan.specs.declared.token.Directive.TheVariants.{Elsif, Ifdef, Ifndef, Include, Undef}
+use Rattle.rdlpp_scan.specs.declared.token.Directive.TheVariants.{Else, Elsif, Ifdef, Ifndef, Include, Undef}
 use Rattle.rdlpp_scan.specs.declared.token.Kind.TheVariants.{BareBackquote}
 use Rattle.rdlpp_scan.specs.declared.token.Mode.TheVariants.{Plain}
 use Rattle.rdlpp_scan.specs.Tokens.{token_of}
-use Rattle.rdlpp_meaning.specs.declared.fault.FaultKind.TheVariants.{OpenConditional, TooManyConditionals}
-use Rattle.rdlpp_meaning.specs.Meaning.{Progress, macro_name, name_test}
+use Rattle.rdlpp_meaning.specs.declared.fault.FaultKind.TheVariants.{OpenConditional}
+use Rattle.rdlpp_meaning.specs.Meaning.{Holds, Stopped, Test, opening_within}
 use Rattle.rdlpp_meaning.specs.Outcome.{Told}
 use Rattle.rdlpp_meaning.specs.State.{State, fault_at}
-use Rattle.rdlpp_conditions.specs.Conditions.{ConditionsView}
-use Rattle.rdlpp_conditions.specs.Moves.{HasTest, opened_with, skipped_by}
+use Rattle.rdlpp_conditions.specs.Conditions.{ConditionsView, conditions_left}
+use Rattle.rdlpp_conditions.specs.Moves.{opened_with}
 use Rattle.rdlpp_read.specs.Files.{consumed_file, inner_buffer, with_inner}
-use Rattle.rdlpp_front.specs.Fronts.{IsDirective, IsUsage, word_of}
+use Rattle.rdlpp_front.specs.Fronts.{IsDirective, IsNamed, IsUsage, word_of}
 use Rattle.rdlpp_front.specs.declared.front.Argument.{Argument}
 use Rattle.rdlpp_state.specs.Engine.{EngineView}
-use Rattle.rdlpp_state.specs.OpenConditionals.{inner_below, inner_shown}
+use Rattle.rdlpp_state.specs.OpenConditionals.{inner_shown}
 use Rattle.rdlpp_state.specs.Owed.{line_ends_owed}
 use Rattle.rdlpp_state.specs.Remaining.{state_of}
 use Rattle.rdlpp_state.specs.declared.place.Place.{Place}
-use Rattle.rdlpp_state.specs.declared.place.Place.TheVariants.{Source, Text, Owed, End, Kept}
+use Rattle.rdlpp_state.specs.declared.place.Place.TheVariants.{Kept}
 
 -- the directive that opens a conditional, by whether it wants its name defined (IEEE 1364-2001, `ifdef`, `ifndef`)
 abbrev pub opening_word : Bool → Directive
@@ -39,20 +39,11 @@ pub data IsSkippedWord (held : List ℕ) (len : ℕ) : Type 0 where
   UndefWord : IsDirective Undef held → len ≡ length (word_of Undef) → IsSkippedWord held len
   IncludeWord : IsDirective Include held → len ≡ length (word_of Include) → IsSkippedWord held len
 
--- the innermost conditional is the innermost source's own, and the name of an `elsif` of it decides (IEEE 1364-2001, `elsif`)
-pub record IsTested {S R : Type 0} (e : EngineView S R) : Type 0 where
-  pub live : Bool
-  pub conditional : Progress
-  pub around : List Progress
-  pub is_open : e.conditions.open_now ≡ conditional ∷ around
-  pub below : inner_below e.files.nest ≤ length around
-  pub skips : e.conditions.skipped ≡ skipped_by live
-  pub test : HasTest conditional Elsif (λ c s. name_test true (macro_name c) s)
-
--- how many bytes an `elsif` has whose name isn't looked at: up to behind its name, where it is given one
-abbrev pub elsif_len : Option Argument → ℕ
-elsif_len None = length (word_of Elsif)
-elsif_len (Some a) = a.stop
+-- a branch of a conditional, with the name that it is given if it wants one (IEEE 1364-2001, `elsif`, `else`)
+abbrev pub IsGivenBranch : Directive → List ℕ → Option Argument → Type 0
+IsGivenBranch Elsif held a = IsNamed Elsif held a
+IsGivenBranch Else held a = (a ≡ None) × IsDirective Else held
+IsGivenBranch d held a = ⊥
 
 -- an engine of whose innermost source so many bytes are passed, whose LF bytes are owed (this project's profile)
 unfoldable pub passes_over : {S R : Type 0} → ℕ → ℕ → EngineView S R → EngineView S R
@@ -66,15 +57,13 @@ unclosed_fault line s = record { kind = OpenConditional; name = s.name; line = l
 unfoldable pub goes_past : {S R : Type 0} → ConditionsView → ℕ → EngineView S R → EngineView S R
 goes_past v len e = record e { conditions = v; files = record e.files { nest = with_inner (consumed_file len 0) e.files.nest } }
 
+-- what an engine does by a test: its fault is kept, or so many bytes are used, with other conditionals open (this project's profile)
+abbrev pub DoesByTest : {S R : Type 0} → Test → (Bool → ConditionsView) → ℕ → EngineView S R → EngineView S R → Option Place → Type 0
+DoesByTest (Stopped kind word) next len old new result = (result ≡ Some Kept) × (new ≡ record old { kept = Some (fault_at kind (inner_buffer old.files.nest).line word (state_of old)) })
+DoesByTest (Holds live) next len old new result = (result ≡ None) × (new ≡ goes_past (next live) len old)
+
 -- what a conditional whose test was answered comes to: it is opened, at the line that its directive shows, or too many are open
 -- (this project's profile)
 abbrev pub OpensOne : {S R : Type 0} → Bool → ℕ → EngineView S R → EngineView S R → Option Place → Type 0
-OpensOne holds len old new None =
-    (length old.conditions.open_now < old.limits.conditions) × (new ≡ goes_past (opened_with (inner_shown old.files.nest) holds old.conditions) len old)
-OpensOne holds len old new (Some Kept) =
-    (old.limits.conditions ≤ length old.conditions.open_now)
-    × (new ≡ record old { kept = Some (fault_at TooManyConditionals (inner_buffer old.files.nest).line [] (state_of old)) })
-OpensOne holds len old new (Some (Source start end)) = ⊥
-OpensOne holds len old new (Some (Text place)) = ⊥
-OpensOne holds len old new (Some (Owed piece)) = ⊥
-OpensOne holds len old new (Some End) = ⊥
+OpensOne holds len old new result =
+    DoesByTest (opening_within (conditions_left old.conditions) (Holds holds)) (λ live. opened_with (inner_shown old.files.nest) live old.conditions) len old new result

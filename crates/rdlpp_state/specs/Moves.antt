@@ -1,18 +1,21 @@
 -- What the parts of a step over the open sources do.
 -- A definition that names no source is this project's own.
-use Rattle.std.specs.Prelude.{◌≡◌, ◌<◌, ◌≤◌, ◌⊎◌, ℕ, List, [], ◌∷◌, length, take, drop, Option, None, Some}
+use Rattle.std.specs.Prelude.{◌≡◌, ◌<◌, ◌≤◌, ◌⊎◌, ℕ, List, [], ◌∷◌, length, take, drop, Option, None, Some, Result, Ok, Err}
 use Rattle.rdlpp_scan.specs.Front.{Breach}
 use Rattle.rdlpp_scan.specs.SourceTokens.{line_ends}
 use Rattle.rdlpp_scan.specs.declared.token.Mode.TheVariants.{Plain}
 use Rattle.rdlpp_table.specs.Define.{Accepted, Refused, define_of}
 use Rattle.rdlpp_table.specs.Table.{Macro}
 use Rattle.rdlpp_table.specs.declared.fault.DefineKind.{DefineKind}
-use Rattle.rdlpp_meaning.specs.Meaning.{Progress}
+use Rattle.rdlpp_meaning.specs.declared.fault.FaultKind.{FaultKind}
+use Rattle.rdlpp_meaning.specs.Meaning.{Faulty, Fine, Progress}
 use Rattle.rdlpp_meaning.specs.Profile.{define_fault}
 use Rattle.rdlpp_meaning.specs.State.{breach_kind, fault_at}
 use Rattle.rdlpp_read.specs.Buffer.{held_of}
 use Rattle.rdlpp_read.specs.Filling.{ended_tokens, only_broken}
 use Rattle.rdlpp_read.specs.Files.{AreOpen, consumed_file, inner_buffer, with_inner}
+use Rattle.rdlpp_front.specs.Fronts.{argument_name, given_by, given_name}
+use Rattle.rdlpp_front.specs.declared.front.Argument.{Argument}
 use Rattle.rdlpp_state.specs.Engine.{EngineView, IsSoundEngine}
 use Rattle.rdlpp_state.specs.Conditionals.{unclosed_fault}
 use Rattle.rdlpp_state.specs.Includes.{left_engine}
@@ -112,3 +115,18 @@ ReadsDefine len old new (Some (Source start end)) = ⊥
 ReadsDefine len old new (Some (Text place)) = ⊥
 ReadsDefine len old new (Some (Owed n)) = ⊥
 ReadsDefine len old new (Some End) = ⊥
+
+-- the fault of the name that a directive is given is kept
+pub record RefusesName {S R : Type 0} (given : Option (List ℕ)) (old new : EngineView S R) : Type 0 where
+  pub kind : FaultKind
+  pub word : List ℕ
+  pub own : IsOwn kind
+  pub faulty : given_name given ≡ Faulty kind word
+  pub becomes : new ≡ record old { kept = Some (fault_at kind (inner_buffer old.files.nest).line word (state_of old)) }
+
+-- what a look at the name that a directive is given comes to: a name that it may have, or a fault that is kept
+abbrev pub LooksAtName : {S R : Type 0} → Option Argument → EngineView S R → EngineView S R → Result Argument Place → Type 0
+LooksAtName argument old new (Ok a) =
+    let name = argument_name (held_of (inner_buffer old.files.nest)) a.start a.stop in
+    (argument ≡ Some a) × (given_name (Some name) ≡ Fine name) × (new ≡ old)
+LooksAtName argument old new (Err place) = (place ≡ Kept) × RefusesName (given_by (held_of (inner_buffer old.files.nest)) argument) old new

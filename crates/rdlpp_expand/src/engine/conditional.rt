@@ -1,13 +1,12 @@
 // The directives of conditionals in the open sources.
-ghost use Rattle.std.specs.Prelude.{◌≡◌, ◌+◌, ◌<◌, ◌≤◌, Bool, None, IfSome, length};
-ghost use Rattle.rdlpp_scan.specs.Reserved.{is_reserved};
-ghost use Rattle.rdlpp_scan.specs.declared.token.Directive.TheVariants.{Elsif, Else, Endif};
-ghost use Rattle.rdlpp_conditions.specs.Moves.{turned_with};
-ghost use Rattle.rdlpp_meaning.specs.Meaning.{Progress};
+ghost use Rattle.std.specs.Prelude.{◌≡◌, ◌⊎◌, ◌+◌, ◌<◌, ◌≤◌, Bool, None, IfSome, length};
+ghost use Rattle.rdlpp_scan.specs.declared.token.Directive.TheVariants.{Endif};
+ghost use Rattle.rdlpp_conditions.specs.Conditions.{place_of};
+ghost use Rattle.rdlpp_conditions.specs.Moves.{IsBranch, turned_with};
 ghost use Rattle.rdlpp_read.specs.Buffer.{held_of};
 ghost use Rattle.rdlpp_read.specs.Files.{inner_buffer};
-ghost use Rattle.rdlpp_front.specs.Fronts.{HasName, IsDirective, IsNamed, argument_name};
-ghost use Rattle.rdlpp_state.specs.Conditionals.{IsTested, OpensOne, elsif_len, goes_past, opening_word, test_of};
+ghost use Rattle.rdlpp_front.specs.Fronts.{IsDirective, IsNamed, given_len};
+ghost use Rattle.rdlpp_state.specs.Conditionals.{IsGivenBranch, OpensOne, goes_past, opening_word, test_of};
 ghost use Rattle.rdlpp_state.specs.Held.{IsBounded};
 ghost use Rattle.rdlpp_state.specs.Moves.{IsReady};
 ghost use Rattle.rdlpp_state.specs.OpenConditionals.{inner_below};
@@ -20,9 +19,9 @@ use arrayvec::ArrayString;
 use rdlpp_conditions::Branch;
 use rdlpp_front::Argument;
 use rdlpp_meaning::FaultKind;
-use rdlpp_scan::{Directive, Mode, reserved};
+use rdlpp_scan::{Directive, Mode};
 use rdlpp_source::Sources;
-use rdlpp_state::{Place, word_of};
+use rdlpp_state::Place;
 
 impl<S: Sources> Engine<S> {
     // Opens a conditional in live text, whose first directive wants the name that it is given defined or
@@ -40,29 +39,14 @@ impl<S: Sources> Engine<S> {
         ensures place { IfSome result (IsPlaced self.new) }
         ensures walks { IsBounded self.new → Walks S.Sources self.old self.new (step_answer self.new result) }
     {
-        match argument {
-            None => Some(self.refuse(FaultKind::NameExpected, ArrayString::new())),
-            Some(Argument { start, stop }) => self.open_named(defined, start, stop),
+        match self.named(argument) {
+            Err(place) => Some(place),
+            Ok(given) => {
+                let name = &self.files.file().buffer.held()[given.start..given.stop];
+                let found = self.table.find(name).is_some();
+                self.open_tested(test_of(defined, found), given.stop)
+            }
         }
-    }
-
-    // Opens a conditional by the name that stands from a place up to another.
-    fn open_named(&mut self, defined: bool, start: usize, stop: usize) -> Option<Place>
-        requires ready { IsReady self.old }
-        requires live { self.old.conditions.skipped ≡ None }
-        requires some { 0 < length (held_of (inner_buffer self.old.files.nest)) }
-        requires mode { (inner_buffer self.old.files.nest).mode ≡ Mode.Plain }
-        requires opening { HasName (opening_word defined) (held_of (inner_buffer self.old.files.nest)) start stop }
-        ensures place { IfSome result (IsPlaced self.new) }
-        ensures walks { IsBounded self.new → Walks S.Sources self.old self.new (step_answer self.new result) }
-    {
-        let name = &self.files.file().buffer.held()[start..stop];
-        if reserved(name).is_some() {
-            let word = word_of(name);
-            return Some(self.refuse(FaultKind::ReservedName, word));
-        }
-        let found = self.table.find(name).is_some();
-        self.open_tested(test_of(defined, found), stop)
     }
 
     // Opens a conditional in live text whose test holds or doesn't, and uses its directive of `len` bytes.
@@ -84,89 +68,53 @@ impl<S: Sources> Engine<S> {
         }
     }
 
-    // Takes an `elsif`, which is given a name or none, in live text or behind text that is skipped, and lends
-    // nothing; or refuses it.
-    pub(super) fn take_elsif(&mut self, argument: Option<Argument>) -> Option<Place>
+    // Takes an `elsif`, which is given a name or none, or an `else`, in live text or behind text that is
+    // skipped, and lends nothing; or refuses it.
+    pub(super) fn take_branch(
+        &mut self,
+        word: Directive,
+        argument: Option<Argument>,
+    ) -> Option<Place>
         requires ready { IsReady self.old }
         requires some { 0 < length (held_of (inner_buffer self.old.files.nest)) }
         requires mode { (inner_buffer self.old.files.nest).mode ≡ Mode.Plain }
-        requires branch { IsNamed Elsif (held_of (inner_buffer self.old.files.nest)) argument }
+        requires branch { IsGivenBranch word (held_of (inner_buffer self.old.files.nest)) argument }
         ensures place { IfSome result (IsPlaced self.new) }
         ensures walks { IsBounded self.new → Walks S.Sources self.old self.new (step_answer self.new result) }
     {
         let below = self.files.file().conditions_below;
-        match self.conditions.branch(below, Directive::Elsif) {
+        match self.conditions.branch(below, word) {
             Branch::Inner => {
-                self.consume(ELSIF_BYTES, 0);
+                self.consume(branch_len(word, None), 0);
                 None
             }
             Branch::Refused(kind) => Some(self.refuse(kind, ArrayString::new())),
             Branch::Decided(holds) => {
-                self.turn(Directive::Elsif, holds, elsif_len(argument));
+                self.turn(word, holds, branch_len(word, argument));
                 None
             }
-            Branch::Named => self.turn_tested(argument),
+            Branch::Named => self.turn_named(word, argument),
         }
     }
 
-    // Takes an `elsif` of the innermost conditional, whose name decides.
-    fn turn_tested(&mut self, argument: Option<Argument>) -> Option<Place>
+    // Takes a branch of the innermost conditional, whose name decides.
+    fn turn_named(&mut self, word: Directive, argument: Option<Argument>) -> Option<Place>
         requires ready { IsReady self.old }
         requires some { 0 < length (held_of (inner_buffer self.old.files.nest)) }
         requires mode { (inner_buffer self.old.files.nest).mode ≡ Mode.Plain }
-        requires branch { IsNamed Elsif (held_of (inner_buffer self.old.files.nest)) argument }
-        requires decides { IsTested self.old }
+        requires branch { IsGivenBranch word (held_of (inner_buffer self.old.files.nest)) argument }
+        requires decides { IsBranch (place_of (inner_below self.old.files.nest) self.old.conditions) word Branch.Named }
         ensures place { IfSome result (IsPlaced self.new) }
         ensures walks { IsBounded self.new → Walks S.Sources self.old self.new (step_answer self.new result) }
     {
-        match argument {
-            None => Some(self.refuse(FaultKind::NameExpected, ArrayString::new())),
-            Some(Argument { start, stop }) => self.turn_named(start, stop),
-        }
-    }
-
-    // Takes an `elsif` by the name that stands from a place up to another.
-    fn turn_named(&mut self, start: usize, stop: usize) -> Option<Place>
-        requires ready { IsReady self.old }
-        requires some { 0 < length (held_of (inner_buffer self.old.files.nest)) }
-        requires mode { (inner_buffer self.old.files.nest).mode ≡ Mode.Plain }
-        requires branch { HasName Elsif (held_of (inner_buffer self.old.files.nest)) start stop }
-        requires decides { IsTested self.old }
-        ensures place { IfSome result (IsPlaced self.new) }
-        ensures walks { IsBounded self.new → Walks S.Sources self.old self.new (step_answer self.new result) }
-    {
-        let name = &self.files.file().buffer.held()[start..stop];
-        if reserved(name).is_some() {
-            let word = word_of(name);
-            return Some(self.refuse(FaultKind::ReservedName, word));
-        }
-        let found = self.table.find(name).is_some();
-        self.turn(Directive::Elsif, found, stop);
-        None
-    }
-
-    // Takes an `else`, in live text or behind text that is skipped, and lends nothing; or refuses it.
-    pub(super) fn take_else(&mut self) -> Option<Place>
-        requires ready { IsReady self.old }
-        requires some { 0 < length (held_of (inner_buffer self.old.files.nest)) }
-        requires mode { (inner_buffer self.old.files.nest).mode ≡ Mode.Plain }
-        requires branch { IsDirective Else (held_of (inner_buffer self.old.files.nest)) }
-        ensures place { IfSome result (IsPlaced self.new) }
-        ensures walks { IsBounded self.new → Walks S.Sources self.old self.new (step_answer self.new result) }
-    {
-        let below = self.files.file().conditions_below;
-        match self.conditions.branch(below, Directive::Else) {
-            Branch::Inner => {
-                self.consume(ELSE_BYTES, 0);
+        match self.named(argument) {
+            Err(place) => Some(place),
+            Ok(given) => {
+                let name = &self.files.file().buffer.held()[given.start..given.stop];
+                let found = self.table.find(name).is_some();
+                self.turn(word, found, given.stop);
                 None
             }
-            Branch::Refused(kind) => Some(self.refuse(kind, ArrayString::new())),
-            Branch::Decided(holds) => {
-                self.turn(Directive::Else, holds, ELSE_BYTES);
-                None
-            }
-            // no name decides an `else`
-            Branch::Named => None,
         }
     }
 
@@ -209,12 +157,16 @@ fn test_of(defined: bool, found: bool) -> bool
     if defined { found } else { !found }
 }
 
-// How many bytes an `elsif` has whose name isn't looked at.
-fn elsif_len(argument: Option<Argument>) -> usize
-    ensures { result ≡ elsif_len argument }
+// How many bytes an `elsif` or `else` has with what it is given.
+fn branch_len(word: Directive, argument: Option<Argument>) -> usize
+    requires { (word ≡ Directive.Elsif) ⊎ (word ≡ Directive.Else) }
+    ensures { result ≡ given_len word argument }
 {
     match argument {
-        None => ELSIF_BYTES,
-        Some(Argument { stop, .. }) => stop,
+        Some(given) => given.stop,
+        None => match word {
+            Directive::Else => ELSE_BYTES,
+            _ => ELSIF_BYTES,
+        },
     }
 }

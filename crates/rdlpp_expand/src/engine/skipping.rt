@@ -18,7 +18,7 @@ use rdlpp_conditions::skip_text;
 use rdlpp_front::{Front, front_of};
 use rdlpp_meaning::FaultKind;
 use rdlpp_read::LogicalLine;
-use rdlpp_scan::{Mode, line_ends_in, line_len};
+use rdlpp_scan::{Directive, Mode, line_ends_in, line_len};
 use rdlpp_source::Sources;
 use rdlpp_state::Place;
 
@@ -55,8 +55,8 @@ impl<S: Sources> Engine<S> {
             Front::Text(len, next) => self.skip_part(len, next),
             Front::Ifdef(_) => self.skip_opening(true),
             Front::Ifndef(_) => self.skip_opening(false),
-            Front::Elsif(argument) => self.take_elsif(argument),
-            Front::Else => self.take_else(),
+            Front::Elsif(argument) => self.take_branch(Directive::Elsif, argument),
+            Front::Else => self.take_branch(Directive::Else, None),
             Front::Endif => self.take_endif(),
             Front::Define => self.skip_define(),
             Front::Line => self.skip_line(),

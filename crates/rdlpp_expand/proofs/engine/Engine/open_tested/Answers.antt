@@ -30,7 +30,7 @@ returns-in-Err g c =
     let opens : Opens {A = Unit {0}} (Err c.in-Err.kind) c.shown_line-line.result c.args.holds e.conditions c.open.new.self = rw (← c.self.view_is) c.in-Err.ensures in
     let kept : c.refuse.new.self ≡ record (record e { conditions = c.open.new.self }) { kept = Some (fault_at c.in-Err.kind (inner_buffer e.files.nest).line [] (state_of (record e { conditions = c.open.new.self }))) } =
     rw (← c.self.view_is) (rw c.new.ensures at c.refuse.ensures.kept) in
-    unopened_by {A = Unit {0}} c.in-Err.kind c.args.holds c.args.len c.shown_line-line.result e c.refuse.new.self c.open.new.self c.refuse.result c.requires.ready opens c.refuse.ensures.place kept
+    unopened_by {A = Unit {0}} c.in-Err.kind c.args.holds c.args.len c.shown_line-line.result e c.refuse.new.self c.open.new.self c.refuse.result opens c.refuse.ensures.place kept
 
 pub returns-in-Ok : goal.returns-in-Ok
 unfolding goes_past
@@ -40,4 +40,4 @@ returns-in-Ok g c =
     c.shown_line-line.ensures ∙ (ap (λ n. shown_line (shift_of c.file-file.result.now.shift) n) c.line.ensures
     ∙ (sym (ap inner_shown c.file-file.ensures.inner) ∙ ap (λ e. inner_shown e.files.nest) c.self.view_is)) in
     let opens : Opens {A = Unit {0}} (Ok c.in-Ok.field-0) c.shown_line-line.result c.args.holds e.conditions c.open.new.self = rw (← c.self.view_is) c.in-Ok.ensures in
-    opened_by c.in-Ok.field-0 c.args.holds c.args.len c.shown_line-line.result e c.consume.new.self c.open.new.self c.requires.ready opens (rw (← c.self.view_is) c.consume.ensures.used) line
+    opened_by c.in-Ok.field-0 c.args.holds c.args.len c.shown_line-line.result e c.consume.new.self c.open.new.self opens (rw (← c.self.view_is) c.consume.ensures.used) line

@@ -3,7 +3,7 @@ use Rattle.rdlpp_conditions.specs.Moves.{with_inner as with_count}
 use Rattle.rdlpp_read.specs.Buffer.{held_of}
 use Rattle.rdlpp_read.specs.Files.{inner_buffer}
 use Rattle.rdlpp_state.specs.Conditionals.{goes_past, opening_word}
-use Rattle.rdlpp_state.proofs.BranchSteps.{word_within}
+use Rattle.rdlpp_front.proofs.NamedDirectives.{word_within}
 use Rattle.rdlpp_state.proofs.OpenSteps.{whole_with}
 use Rattle.rdlpp_state.proofs.PassSteps.{counts_one, opening_conditions, opening_steps, skipping, with_conditions}
 use Rattle.rdlpp_expand.proofs.engine.Engine.skip_opening.Goals as goal
