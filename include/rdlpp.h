@@ -252,7 +252,7 @@ rdlpp_outcome rdlpp_open(
  * no bytes, unless `out` has the length 0, which is always full.
  *
  * The answer is RDLPP_MORE where `out` is full. It is also that, perhaps with no bytes, after 65,536 steps
- * in all that gave none, so that a read comes back in milliseconds and the caller may stop; and, where the
+ * in all that gave none, so that a read comes back soon and the caller may stop; and, where the
  * request has `pieces`, at the end of what stands at one place. So a caller reads on until the answer is
  * another.
  *

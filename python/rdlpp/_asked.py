@@ -8,7 +8,7 @@ import ctypes
 import errno
 import os
 import stat
-from typing import Callable, Mapping, Optional, Union
+from typing import Callable, List, Mapping, Optional, Union
 
 from ._written import Part, Written, roomy
 
@@ -20,6 +20,9 @@ Asked = Callable[[str, Written], Union[Bytes, Part, None]]
 NUL_IN_NAME = "file name contained an unexpected NUL byte"
 # How much is read at once: a signal is seen between two such parts.
 PART = 4_194_304
+SMALL_PART = 65_536
+# The size from which on a file is read into the room of the output.
+LARGE = 1_048_576
 
 _part = ctypes.c_char * PART
 _last = ctypes.CDLL(None).memrchr
@@ -60,7 +63,7 @@ class Disk:
         self._most = source_bytes + line_bytes + 1
         self._line = line_bytes
 
-    def __call__(self, path: str, written: Written) -> Optional[Part]:
+    def __call__(self, path: str, written: Written) -> Union[bytes, Part, None]:
         if "\n" in path:
             return None
         if "\0" in path:
@@ -82,10 +85,29 @@ class Disk:
         finally:
             os.close(file)
 
-    def _text(self, file: int, written: Written) -> Part:
+    def _text(self, file: int, written: Written) -> Union[bytes, Part]:
         """What a run can use of an open file, which may grow meanwhile."""
         told = os.fstat(file)
-        size = told.st_size if stat.S_ISREG(told.st_mode) else 0
+        if stat.S_ISREG(told.st_mode) and told.st_size < LARGE:
+            return self._small_text(file, told.st_size)
+        return self._large_text(file, told.st_size, written)
+
+    def _small_text(self, file: int, size: int) -> bytes:
+        """What a run can use of a file of this size."""
+        parts: List[bytes] = []
+        length = line = 0
+        while length < self._most and line <= self._line:
+            part = os.read(file, min(max(size + 1 - length, SMALL_PART), self._most - length))
+            if not part:
+                break
+            last = part.rfind(b"\n")
+            line = len(part) - 1 - last if last >= 0 else line + len(part)
+            length += len(part)
+            parts.append(part)
+        return parts[0] if len(parts) == 1 else b"".join(parts)
+
+    def _large_text(self, file: int, size: int, written: Written) -> Part:
+        """The same of a larger file, or of one whose size isn't known: it is read into the room behind what was written."""
         length = line = 0
         while length < self._most and line <= self._line:
             room = min(roomy(max(size, length)), self._most)

@@ -9,7 +9,7 @@ from ._reading import Reading
 from ._request import Path, Read, Source, request_of
 from ._written import Written, roomy
 
-# How much one read asks for: it comes back in milliseconds, so that a signal is seen.
+# How much one read asks for: it comes back soon, mostly in milliseconds, so that a signal is seen.
 PART = 131_072
 
 

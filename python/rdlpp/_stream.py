@@ -11,7 +11,7 @@ from ._reading import Reading
 from ._request import Path, Read, Source, request_of
 from ._written import Written
 
-# How much one read asks for: it comes back in milliseconds.
+# How much one read asks for: it comes back soon, mostly in milliseconds.
 PART = 65_536
 MOST_ROOM = 1_073_741_824
 

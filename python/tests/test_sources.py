@@ -253,9 +253,9 @@ class Files(Sources):
             self.assertEqual(rdlpp.preprocess("m"), b"")
 
     def test_a_file_that_fails_in_the_middle(self):
-        def failing():
-            """A read that fails at its second call."""
-            calls, call = [], os.readv
+        def failing(name):
+            """A read that fails at its second call, with what it stands for."""
+            calls, call = [], getattr(os, name)
 
             def read(*given):
                 calls.append(given)
@@ -263,11 +263,11 @@ class Files(Sources):
                     raise OSError(errno.EIO, os.strerror(errno.EIO))
                 return call(*given)
 
-            return mock.patch.object(_asked.os, "readv", read)
+            return mock.patch.object(_asked.os, name, read)
 
-        for text in (b"x\n", b"x\n" * _asked.PART):
+        for name, text in (("read", b"x\n"), ("readv", b"x\n" * _asked.PART)):
             self.write("m", text)
-            with failing():
+            with failing(name):
                 fault = self.fault("m")
             self.assertEqual((str(fault), fault.output), ("m:1: error F32: read failed", b""))
             self.assertEqual((fault.notes, fault.__cause__.errno), (("m: Input/output error (os error 5)",), errno.EIO))
