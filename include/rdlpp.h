@@ -251,8 +251,8 @@ rdlpp_outcome rdlpp_open(
  * where the handle is closed. After the end, and after a fault, each later read answers the same again with
  * no bytes, unless `out` has the length 0, which is always full.
  *
- * The answer is RDLPP_MORE where `out` is full. It is also that, perhaps with no bytes, after 65,536 steps
- * in all that gave none, so that a read comes back soon and the caller may stop; and, where the
+ * The answer is RDLPP_MORE where `out` is full. It is also that, perhaps with no bytes, after at most 65,536
+ * steps in all that gave none, so that a read comes back soon and the caller may stop; and, where the
  * request has `pieces`, at the end of what stands at one place. So a caller reads on until the answer is
  * another.
  *
