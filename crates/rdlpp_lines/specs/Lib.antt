@@ -3,3 +3,4 @@ pub mod LineTokens
 pub mod Texts
 pub mod Reading
 pub mod OnePiece
+pub mod SimpleDefaults

@@ -22,10 +22,12 @@ ghost use Rattle.std.specs.Prelude.{
   ◌≡◌,
   ◌≤◌,
 };
+ghost use Rattle.std.specs.List.{prefix_len};
 ghost use Rattle.rdlpp_lines.specs.Continuations.{joined};
 ghost use Rattle.rdlpp_lines.specs.LineTokens.{kept_of};
 ghost use Rattle.rdlpp_lines.specs.OnePiece.{is_one_piece};
 ghost use Rattle.rdlpp_lines.specs.Reading.{left, unread, IsAdvanced, LevelFits};
+ghost use Rattle.rdlpp_lines.specs.SimpleDefaults.{is_simple};
 ghost use Rattle.rdlpp_lines.specs.Texts.{
   begun,
   cleared,
@@ -45,7 +47,7 @@ ghost use Rattle.rdlpp_lines.specs.Texts.{
 use crate::first::split_first;
 use crate::piece::{append_part, is_one_piece, trimmed};
 use crate::tokens::line_token;
-use rdlpp_scan::{Kind, LexFault, Mode, is_blank, is_perl, lex_fault, open_fault};
+use rdlpp_scan::{Kind, LexFault, Mode, byte_at, is_blank, is_perl, lex_fault, open_fault};
 
 /// Whether a byte is white space of a header: a blank or an LF (this project's profile).
 #[tactic(auto, unfolding(crate::specs::Texts::is_space, rdlpp_scan::specs::Bytes::is_line_end))]
@@ -364,6 +366,44 @@ fn append_kept(to: &mut Vec<u8>, text: &[u8], is_logical: bool, is_default: bool
 ///
 /// Costs time linear in the default text's length.
 pub fn behind_default(bytes: &[u8]) -> &[u8]
+    ensures value { result.now ≡ text_behind (cleared (Some 0) bytes.now) }
+    ensures inside { length result.now ≤ length bytes.now }
+{
+    // Most default texts are simple bytes alone, or nothing. None of these ends one or hides its end: the next byte tells.
+    let len = simple_bytes(bytes);
+    let next = byte_at(bytes, len);
+    if next == b',' || next == b')' {
+        return &bytes[len..];
+    }
+    behind_by_tokens(bytes)
+}
+
+// How many simple bytes a text begins with.
+fn simple_bytes(bytes: &[u8]) -> usize
+    ensures value { result ≡ prefix_len is_simple bytes.now }
+    ensures inside { result ≤ length bytes.now }
+{
+    bytes.iter().take_while(|b| is_simple(**b)).count()
+}
+
+// Whether a byte outside brackets neither ends a default text nor may begin a bracket, a string, a comment or `<%`.
+#[tactic(auto, unfolding(crate::specs::SimpleDefaults::is_simple))]
+fn is_simple(b: u8) -> bool
+    ensures { result ≡ is_simple b }
+{
+    !(b == b','
+        || b == b')'
+        || b == b'('
+        || b == b'['
+        || b == b'{'
+        || b == b'"'
+        || b == b'/'
+        || b == b'<')
+}
+
+// What stands behind a default text, token by token.
+#[inline(never)]
+fn behind_by_tokens(bytes: &[u8]) -> &[u8]
     ensures value { result.now ≡ text_behind (cleared (Some 0) bytes.now) }
     ensures inside { length result.now ≤ length bytes.now }
 {

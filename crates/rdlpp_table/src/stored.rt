@@ -1,18 +1,10 @@
 // Formals as they lie in a table's bytes: a name, `=` and a default text where there is one, and a comma.
 ghost use Rattle.std.specs.Prelude.{drop, length, ◌<◌, ◌≡◌, ◌≤◌};
 ghost use Rattle.std.specs.List.{prefix_len};
-ghost use Rattle.rdlpp_table.specs.Store.{behind_stored, formal_behind, formal_read, formals_read, is_name_byte};
+ghost use Rattle.rdlpp_table.specs.Store.{formal_read, formals_read, is_name_byte};
 ghost use Rattle.rdlpp_table.specs.View.{formal_at, formal_named};
 
 use rdlpp_lines::behind_default;
-
-// A formal that was read: its name, its default text, and what stands behind its comma.
-#[derive(Clone, Copy, Drop)]
-struct StoredFormal<'a> {
-    name: &'a [u8],
-    text: &'a [u8],
-    behind: &'a [u8],
-}
 
 // How many bytes of a formal's name bytes begin with.
 #[tactic(auto, unfolding(crate::specs::Store::is_name_byte))]
@@ -36,41 +28,6 @@ fn after_first(bytes: &[u8]) -> &[u8]
     }
 }
 
-// The formal of a name, by what stands behind the name.
-#[tactic(auto, unfolding(crate::specs::Store::formal_behind, crate::specs::Store::behind_stored))]
-fn formal_behind<'a>(name: &'a [u8], bytes: &'a [u8]) -> StoredFormal<'a>
-    ensures name { result.name.now ≡ (formal_behind name.now bytes.now).formal.name }
-    ensures text { result.text.now ≡ (formal_behind name.now bytes.now).formal.text }
-    ensures behind { result.behind.now ≡ (formal_behind name.now bytes.now).behind }
-{
-    let text = after_first(bytes);
-    if bytes.first().copied().unwrap_or(0) == b'=' {
-        let behind = behind_default(text);
-        StoredFormal {
-            name,
-            text: &text[..text.len() - behind.len()],
-            behind: after_first(behind),
-        }
-    } else {
-        StoredFormal {
-            name,
-            text: &[],
-            behind: text,
-        }
-    }
-}
-
-// The formal with which bytes begin.
-#[tactic(auto, unfolding(crate::specs::Store::formal_read))]
-fn first_formal(bytes: &[u8]) -> StoredFormal<'_>
-    ensures name { result.name.now ≡ (formal_read bytes.now).formal.name }
-    ensures text { result.text.now ≡ (formal_read bytes.now).formal.text }
-    ensures behind { result.behind.now ≡ (formal_read bytes.now).behind }
-{
-    let len = name_len(bytes);
-    formal_behind(&bytes[..len], &bytes[len..])
-}
-
 // The name of the formal with which bytes begin.
 #[tactic(auto, unfolding(crate::specs::Store::formal_read, crate::specs::Store::formal_behind))]
 pub(crate) fn formal_name(bytes: &[u8]) -> &[u8]
@@ -79,6 +36,20 @@ pub(crate) fn formal_name(bytes: &[u8]) -> &[u8]
     ensures inside { length result.now ≤ length bytes.now }
 {
     &bytes[..name_len(bytes)]
+}
+
+// The default text of the formal with which bytes begin.
+#[tactic(auto, unfolding(crate::specs::Store::formal_read, crate::specs::Store::formal_behind, crate::specs::Store::behind_stored))]
+fn formal_text(bytes: &[u8]) -> &[u8]
+    ensures { result.now ≡ (formal_read bytes.now).formal.text }
+{
+    let rest = &bytes[name_len(bytes)..];
+    let text = after_first(rest);
+    if rest.first().copied().unwrap_or(0) == b'=' {
+        &text[..text.len() - behind_default(text).len()]
+    } else {
+        &[]
+    }
 }
 
 // What stands behind the comma of the formal with which bytes begin, whose name has so many bytes.
@@ -119,7 +90,7 @@ pub(crate) fn default_in_list(bytes: &[u8], count: usize, place: usize) -> &[u8]
 {
     let mut rest = bytes;
     for _ in 0..place {
-        rest = first_formal(rest).behind;
+        rest = behind_formal(rest, name_len(rest));
     }
-    first_formal(rest).text
+    formal_text(rest)
 }

@@ -2,7 +2,7 @@ use Rattle.std.proofs.Common.{◌≡◌, ◌≤◌, length, Some}
 use Rattle.rdlpp_lines.specs.Texts.{cleared, text_behind}
 use Rattle.rdlpp_lines.specs.Reading.{left_behind, LevelFits}
 use Rattle.std.proofs.Common.{false}
-use Rattle.rdlpp_lines.proofs.reading.behind_default.Given as goal
+use Rattle.rdlpp_lines.proofs.reading.behind_by_tokens.Given as goal
 
 abbrev pub invariant-loop-reader : goal.invariant-loop-reader
 invariant-loop-reader l = record {
