@@ -43,7 +43,8 @@ impl Guesses {
     }
 }
 
-// The key of a name: its last byte and its length tell most names apart that are used near each other.
+// The key of a name: its last two bytes and its length tell most names apart that are used near each other, as those that end in
+// a number of two digits.
 #[tactic(auto, unfolding(crate::specs::Guesses::key_of))]
 fn key_of(name: &[u8]) -> usize
     ensures value { result ≡ key_of name.now }
@@ -53,5 +54,6 @@ fn key_of(name: &[u8]) -> usize
     if len == 0 {
         return 0;
     }
-    (name[len - 1] as usize + len) % GUESSES
+    let before = name[len.saturating_sub(2)] as usize;
+    (before * 10 + name[len - 1] as usize + len) % GUESSES
 }
