@@ -35,3 +35,4 @@ mod WordParts
 mod FirstOpeners
 mod NoSlashes
 pub mod QuickTokens
+mod CalmRuns

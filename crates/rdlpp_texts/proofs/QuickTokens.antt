@@ -1,4 +1,4 @@
--- Words, commas and parentheses of a call, which are told by their bytes.
+-- Words, commas and brackets of a call, which are told by their bytes.
 use Rattle.std.proofs.Common.{◌≡◌, ◌==◌, ◌||◌, ◌+◌, ◌≤◌, ◌<◌, ℕ, suc, Bool, true, false, cond, List, [], ◌∷◌, length, get_or, refl, sym, ap, ◌∙◌, subst, arith, inl, inr, ⊎_elim}
 use Rattle.std.specs.List.{prefix_len}
 use Rattle.std.proofs.lemmas.Bool.{false≢true, cases_Bool, cond_both, eqb-true, or_cases}
@@ -71,7 +71,7 @@ unfolding token_of plain_token whole begins_perl begins_line_comment begins_bloc
 comma_token bs = refl
 
 -- a token by what it is
-named : (text : List ℕ) (t : Token) (r : CallRole) → t ≡ token_of Plain text → 0 < t.len → t.len ≤ length text → role_meant r ≡ kind_role t.kind (get_or text 0 0 ∷ [])
+pub named : (text : List ℕ) (t : Token) (r : CallRole) → t ≡ token_of Plain text → 0 < t.len → t.len ≤ length text → role_meant r ≡ kind_role t.kind (get_or text 0 0 ∷ [])
     → IsFirstToken Plain text (record { role = r; len = t.len; next_mode = t.next_mode })
 named text t r is long inside role = first_token_is Plain text t r (omega (arith, long, inside)) is long inside role
 
@@ -103,6 +103,24 @@ pub end_here : (bs : List ℕ) → IsFirstToken Plain (41 ∷ bs) (call.plain_to
 unfolding token_of plain_token whole role_meant kind_role begins_perl begins_line_comment begins_block_comment is_blank is_line_end is_letter is_digit is_opener is_closer takes_word
 end_here bs = named (41 ∷ bs) (whole Closer 1) role.End refl (omega arith) (omega arith) refl
 
+-- so are `[` and `{`
+square_here : (bs : List ℕ) → IsFirstToken Plain (91 ∷ bs) (call.plain_token role.Opener 1)
+unfolding token_of plain_token whole role_meant kind_role begins_perl begins_line_comment begins_block_comment is_blank is_line_end is_letter is_digit is_opener is_closer takes_word
+square_here bs = named (91 ∷ bs) (whole Opener 1) role.Opener refl (omega arith) (omega arith) refl
+
+brace_here : (bs : List ℕ) → IsFirstToken Plain (123 ∷ bs) (call.plain_token role.Opener 1)
+unfolding token_of plain_token whole role_meant kind_role begins_perl begins_line_comment begins_block_comment is_blank is_line_end is_letter is_digit is_opener is_closer takes_word
+brace_here bs = named (123 ∷ bs) (whole Opener 1) role.Opener refl (omega arith) (omega arith) refl
+
+-- and `]` and `}`
+square_ends : (bs : List ℕ) → IsFirstToken Plain (93 ∷ bs) (call.plain_token role.Closer 1)
+unfolding token_of plain_token whole role_meant kind_role begins_perl begins_line_comment begins_block_comment is_blank is_line_end is_letter is_digit is_opener is_closer takes_word
+square_ends bs = named (93 ∷ bs) (whole Closer 1) role.Closer refl (omega arith) (omega arith) refl
+
+brace_ends : (bs : List ℕ) → IsFirstToken Plain (125 ∷ bs) (call.plain_token role.Closer 1)
+unfolding token_of plain_token whole role_meant kind_role begins_perl begins_line_comment begins_block_comment is_blank is_line_end is_letter is_digit is_opener is_closer takes_word
+brace_ends bs = named (125 ∷ bs) (whole Closer 1) role.Closer refl (omega arith) (omega arith) refl
+
 -- so at the front of a text
 pub front_of : (n : ℕ) (text : List ℕ) (t : CallToken) → 0 < n → get_or text 0 0 ≡ n → ((bs : List ℕ) → IsFirstToken Plain (n ∷ bs) t) → IsFirstToken Plain text t
 front_of n [] t some e h = absurd (omega (arith, some, e))
@@ -110,13 +128,19 @@ front_of n (b ∷ bs) t some e h = subst (λ (m : ℕ). IsFirstToken Plain (m �
 
 -- a byte of a word is none of the others
 word_role : (b : ℕ) → is_word b ≡ true → call.quick_role b ≡ role.Text
-unfolding call.quick_role is_word is_letter is_digit
+unfolding call.quick_role is_word is_letter is_digit is_opener is_closer
 word_role b w =
     let W : ℕ → Type 0 = λ n. is_word n ≡ true in
     let P : CallRole → Type 0 = λ r. r ≡ role.Text in
     cond_both (b == 44) _ _ P (λ e. absurd (false≢true (subst W (eqb-true b 44 e) w))) (λ _.
     cond_both (b == 40) _ _ P (λ e. absurd (false≢true (subst W (eqb-true b 40 e) w))) (λ _.
-    cond_both (b == 41) _ _ P (λ e. absurd (false≢true (subst W (eqb-true b 41 e) w))) (λ _. refl)))
+    cond_both (b == 41) _ _ P (λ e. absurd (false≢true (subst W (eqb-true b 41 e) w))) (λ _.
+    cond_both (is_opener b) _ _ P (λ h. absurd (
+    ⊎_elim (λ i. ⊎_elim (λ e. false≢true (subst W (eqb-true b 40 e) w)) (λ e. false≢true (subst W (eqb-true b 91 e) w)) (or_cases _ _ i))
+    (λ e. false≢true (subst W (eqb-true b 123 e) w)) (or_cases _ _ h))) (λ _.
+    cond_both (is_closer b) _ _ P (λ h. absurd (
+    ⊎_elim (λ i. ⊎_elim (λ e. false≢true (subst W (eqb-true b 41 e) w)) (λ e. false≢true (subst W (eqb-true b 93 e) w)) (or_cases _ _ i))
+    (λ e. false≢true (subst W (eqb-true b 125 e) w)) (or_cases _ _ h))) (λ _. refl)))))
 
 -- a word has such a first byte
 first_word : (text : List ℕ) → 0 < prefix_len is_word text → is_word (get_or text 0 0) ≡ true
@@ -135,15 +159,18 @@ word_first text n is some inside =
     let r = word_role (get_or text 0 0) (first_word text (omega (arith, is, some))) in
     subst (λ (q : CallRole). IsFirstToken Plain text (call.plain_token q n)) (sym r) (word_text text n is some inside)
 
--- a comma or a parenthesis is one
-pub mark_first : (text : List ℕ) → (get_or text 0 0 == 44 || (get_or text 0 0 == 40 || get_or text 0 0 == 41)) ≡ true
+-- a comma or a bracket is one
+pub mark_first : (text : List ℕ) → (get_or text 0 0 == 44 || (is_opener (get_or text 0 0) || is_closer (get_or text 0 0))) ≡ true
     → IsFirstToken Plain text (call.plain_token (call.quick_role (get_or text 0 0)) 1)
-unfolding call.quick_role
+unfolding call.quick_role is_opener is_closer
 mark_first text h =
     let b = get_or text 0 0 in
     let P : CallRole → Type 0 = λ r. IsFirstToken Plain text (call.plain_token r 1) in
-    let by : (n : ℕ) (r : CallRole) → (b == n) ≡ true → call.quick_role n ≡ r → ((b ≡ n) → P r) → P (call.quick_role b) =
-    λ n r e f g. subst P (sym (ap (λ (k : ℕ). call.quick_role k) (eqb-true b n e) ∙ f)) (g (eqb-true b n e)) in
-    ⊎_elim (λ e. by 44 role.Comma e refl (λ is. front_of 44 text (call.plain_token role.Comma 1) (omega arith) is comma_here))
-    (λ i. ⊎_elim (λ e. by 40 role.Start e refl (λ is. front_of 40 text (call.plain_token role.Start 1) (omega arith) is start_here))
-    (λ e. by 41 role.End e refl (λ is. front_of 41 text (call.plain_token role.End 1) (omega arith) is end_here)) (or_cases _ _ i)) (or_cases _ _ h)
+    let by : (n : ℕ) (r : CallRole) → 0 < n → (b == n) ≡ true → call.quick_role n ≡ r → ((bs : List ℕ) → IsFirstToken Plain (n ∷ bs) (call.plain_token r 1)) → P (call.quick_role b) =
+    λ n r some e f g. subst P (sym (ap (λ (k : ℕ). call.quick_role k) (eqb-true b n e) ∙ f)) (front_of n text (call.plain_token r 1) some (eqb-true b n e) g) in
+    ⊎_elim (λ e. by 44 role.Comma (omega arith) e refl comma_here)
+    (λ i. ⊎_elim
+    (λ o. ⊎_elim (λ p. ⊎_elim (λ e. by 40 role.Start (omega arith) e refl start_here) (λ e. by 91 role.Opener (omega arith) e refl square_here) (or_cases _ _ p))
+    (λ e. by 123 role.Opener (omega arith) e refl brace_here) (or_cases _ _ o))
+    (λ o. ⊎_elim (λ p. ⊎_elim (λ e. by 41 role.End (omega arith) e refl end_here) (λ e. by 93 role.Closer (omega arith) e refl square_ends) (or_cases _ _ p))
+    (λ e. by 125 role.Closer (omega arith) e refl brace_ends) (or_cases _ _ o)) (or_cases _ _ i)) (or_cases _ _ h)

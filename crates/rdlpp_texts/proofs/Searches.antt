@@ -37,22 +37,34 @@ opener_turn mode text at token f =
     ∙ ap (λ (x : List ℕ). opener_by (role_meant token.role) (at + token.len) (opener_from (at + token.len) (text_tokens token.next_mode x)))
     (rest_behind mode text at token)
 
--- the search for the end of a part at a token
+-- the search for the end of a part at a token with which a text begins
+pub rest_turn : (closes : Bool) (mode : Mode) (text : List ℕ) (start at level end : ℕ) (token : CallToken) → IsFirstToken mode text token
+    → part_from closes start at level end (text_tokens mode text)
+    ≡ cond (ends_text closes (role_meant token.role) level) (record { from = start; to = end; end = Last at })
+    (cond (ends_part (role_meant token.role) level) (record { from = start; to = end; end = AtComma (at + token.len) })
+    (part_from closes start (at + token.len) (level_behind (role_meant token.role) level)
+    (cond (is_space (role_meant token.role)) end (at + token.len)) (text_tokens token.next_mode (drop token.len text))))
+unfolding part_from
+rest_turn closes mode text start at level end token f =
+    let later : Role → ℕ → List ℕ → Part = λ r n x. cond (ends_text closes r level) (record { from = start; to = end; end = Last at })
+    (cond (ends_part r level) (record { from = start; to = end; end = AtComma (at + n) })
+    (part_from closes start (at + n) (level_behind r level) (cond (is_space r) end (at + n)) (text_tokens token.next_mode x))) in
+    ap (part_from closes start at level end) f.tokens
+    ∙ ap (λ (r : Role). later r (length f.first.bytes) (drop token.len text)) f.role_is
+    ∙ ap (λ (n : ℕ). later (role_meant token.role) n (drop token.len text)) f.size
+
+-- the search for the end of a part at a token of a text
 pub part_turn : (closes : Bool) (mode : Mode) (text : List ℕ) (start at level end : ℕ) (token : CallToken) → IsFirstToken mode (drop at text) token
     → part_from closes start at level end (text_tokens mode (drop at text))
     ≡ cond (ends_text closes (role_meant token.role) level) (record { from = start; to = end; end = Last at })
     (cond (ends_part (role_meant token.role) level) (record { from = start; to = end; end = AtComma (at + token.len) })
     (part_from closes start (at + token.len) (level_behind (role_meant token.role) level)
     (cond (is_space (role_meant token.role)) end (at + token.len)) (text_tokens token.next_mode (drop (at + token.len) text))))
-unfolding part_from
 part_turn closes mode text start at level end token f =
-    let later : Role → ℕ → List ℕ → Part = λ r n x. cond (ends_text closes r level) (record { from = start; to = end; end = Last at })
-    (cond (ends_part r level) (record { from = start; to = end; end = AtComma (at + n) })
-    (part_from closes start (at + n) (level_behind r level) (cond (is_space r) end (at + n)) (text_tokens token.next_mode x))) in
-    ap (part_from closes start at level end) f.tokens
-    ∙ ap (λ (r : Role). later r (length f.first.bytes) (drop token.len (drop at text))) f.role_is
-    ∙ ap (λ (n : ℕ). later (role_meant token.role) n (drop token.len (drop at text))) f.size
-    ∙ ap (λ (x : List ℕ). later (role_meant token.role) token.len x) (rest_behind mode text at token)
+    let later : List ℕ → Part = λ x. cond (ends_text closes (role_meant token.role) level) (record { from = start; to = end; end = Last at })
+    (cond (ends_part (role_meant token.role) level) (record { from = start; to = end; end = AtComma (at + token.len) })
+    (part_from closes start (at + token.len) (level_behind (role_meant token.role) level) (cond (is_space (role_meant token.role)) end (at + token.len)) (text_tokens token.next_mode x))) in
+    rest_turn closes mode (drop at text) start at level end token f ∙ ap later (rest_behind mode text at token)
 
 -- a token lies in its text
 pub token_inside : (mode : Mode) (text : List ℕ) (at : ℕ) (token : CallToken) → at ≤ length text → IsFirstToken mode (drop at text) token

@@ -1,8 +1,10 @@
 -- The tokens of a text by the role that each has in a call.
 -- A definition that names no source is this project's own.
-use Rattle.std.specs.Prelude.{◌≡◌, ℕ, ◌<◌, ◌≤◌, List, ◌∷◌, ◌==◌, length, drop, if◌then◌else◌}
+use Rattle.std.specs.Prelude.{◌≡◌, ℕ, ◌<◌, ◌≤◌, Bool, not, ◌&&◌, List, ◌∷◌, ◌==◌, length, drop, if◌then◌else◌}
+use Rattle.std.specs.List.{prefix_len}
 use Rattle.rdlpp_scan.specs.declared.token.Mode.{Mode}
 use Rattle.rdlpp_scan.specs.declared.token.Mode.TheVariants.{Plain}
+use Rattle.rdlpp_scan.specs.Bytes.{is_opener, is_closer}
 use Rattle.rdlpp_scan.specs.SourceTokens.{SourceToken}
 use Rattle.rdlpp_meaning.specs.Actuals.{Role, token_role}
 use Rattle.rdlpp_meaning.specs.Actuals as role
@@ -32,10 +34,27 @@ pub record IsFirstToken (mode : Mode) (text : List ℕ) (token : CallToken) : Ty
   pub not_empty : 0 < token.len
   pub inside : token.len ≤ length text
 
--- the role of a word, a comma or a parenthesis by its first byte (source: this project's profile)
+-- the role of a word, a comma or a bracket by its first byte (source: this project's profile)
 unfoldable pub quick_role : ℕ → CallRole
-quick_role b = if b == 44 then Comma else (if b == 40 then Start else (if b == 41 then End else Text))
+quick_role b =
+    if b == 44 then Comma
+    else (if b == 40 then Start
+    else (if b == 41 then End
+    else (if is_opener b then Opener
+    else (if is_closer b then Closer
+    else Text))))
 
 -- a token of a role and a size with plain text behind it
 abbrev pub plain_token : CallRole → ℕ → CallToken
 plain_token r n = record { role = r; len = n; next_mode = Plain }
+
+-- a byte that in plain text opens, closes and cuts nothing, and begins no string, no comment and no `<%` (source: this project's
+-- profile)
+unfoldable pub is_calm : ℕ → Bool
+is_calm b =
+    not (is_opener b) && (not (is_closer b) && (not (b == 44) && (not (b == 34) && (not (b == 47) && not (b == 60)))))
+
+-- how many such bytes stand at the front of a text from a mode on: none where it isn't plain text
+unfoldable pub calm_len : Mode → List ℕ → ℕ
+calm_len Plain text = prefix_len is_calm text
+calm_len mode text = 0

@@ -1,11 +1,13 @@
 // The `(` of a call in a text, and the parts after it.
-ghost use Rattle.std.specs.Prelude.{◌≡◌, ◌≤◌, IfSome, length, drop, nat_lt};
+ghost use Rattle.std.specs.Prelude.{◌≡◌, ◌+◌, ◌^◌, ◌<◌, ◌≤◌, IfSome, length, drop, nat_lt};
 ghost use Rattle.std.specs.List.{prefix_len};
 ghost use Rattle.rdlpp_meaning.specs.Substitution.{body_tokens};
-ghost use Rattle.rdlpp_texts.specs.CallParts.{IsNextPart, ends_text, is_white, opener_from, part_from, space_from};
+ghost use Rattle.rdlpp_texts.specs.CallParts.{IsNextPart, ends_text, is_white, last_end, opener_from, part_from, space_from};
 ghost use Rattle.rdlpp_texts.specs.CallTokens.{role_meant};
 
-use crate::tokens::{CallRole, ends_call, ends_part, is_space, level_behind, token_in_call};
+use crate::tokens::{
+    CallRole, calm_len, ends_call, ends_part, is_space, level_behind, token_in_call,
+};
 use rdlpp_scan::{Mode, byte_at, is_blank, word_bytes};
 
 /// Where a part of a call ends.
@@ -133,7 +135,7 @@ fn part_at(text: &[u8], from: usize, closes: bool) -> Part
     part_by_tokens(text, from, closes)
 }
 
-// The same, token by token.
+// The same, token by token, where what opens, closes and cuts nothing is passed at once.
 #[inline(never)]
 fn part_by_tokens(text: &[u8], from: usize, closes: bool) -> Part
     requires { from ≤ length text.now }
@@ -144,6 +146,12 @@ fn part_by_tokens(text: &[u8], from: usize, closes: bool) -> Part
     let mut level = 0;
     let mut mode = Mode::Plain;
     while at < text.len() {
+        let calm = calm_len(mode, &text[at..]);
+        if calm > 0 {
+            to = last_end(&text[at..at + calm], at, to);
+            at += calm;
+            continue;
+        }
         let token = token_in_call(mode, &text[at..]);
         if ends_text(closes, token.role, level) {
             return Part {
@@ -171,6 +179,22 @@ fn part_by_tokens(text: &[u8], from: usize, closes: bool) -> Part
         to,
         end: PartEnd::Last(at),
     }
+}
+
+// Where the last byte that isn't white space ends, of bytes that stand at a place, where such a byte ended at `before` in front of
+// them. It is told from their end: white space there is short.
+fn last_end(run: &[u8], at: usize, before: usize) -> usize
+    requires { at + length run.now < 2 ^ 64 }
+    ensures { result ≡ last_end at before run.now }
+{
+    let mut len = run.len();
+    while len > 0 {
+        if !is_white(run[len - 1]) {
+            return at + len;
+        }
+        len -= 1;
+    }
+    before
 }
 
 // Whether a token at a level of openers is the `)` of a call, where one may end it.

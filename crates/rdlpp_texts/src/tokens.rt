@@ -1,9 +1,11 @@
 // The tokens of a text by the role that each has in a call.
-ghost use Rattle.std.specs.Prelude.{◌≡◌, ◌+◌, ◌-◌, ◌<◌, ◌∷◌, ◌==◌, ◌||◌, [], length, slice_index};
+ghost use Rattle.std.specs.Prelude.{◌≡◌, ◌+◌, ◌-◌, ◌<◌, ◌∷◌, ◌==◌, ◌||◌, ◌≤◌, [], length, slice_index};
+ghost use Rattle.std.specs.List.{prefix_len};
+ghost use Rattle.rdlpp_scan.specs.Bytes.{is_closer, is_opener};
 ghost use Rattle.rdlpp_scan.specs.declared.token.Mode.TheVariants.{Plain};
 ghost use Rattle.rdlpp_meaning.specs.Actuals.{is_space, kind_role, level_behind};
 ghost use Rattle.rdlpp_texts.specs.CallParts.{ends_call, ends_part};
-ghost use Rattle.rdlpp_texts.specs.CallTokens.{plain_token, quick_role, role_meant, IsFirstToken};
+ghost use Rattle.rdlpp_texts.specs.CallTokens.{calm_len, is_calm, plain_token, quick_role, role_meant, IsFirstToken};
 
 use rdlpp_scan::{Kind, Mode, first_token, word_bytes};
 
@@ -69,8 +71,8 @@ fn other_token(mode: Mode, text: &[u8]) -> CallToken
     }
 }
 
-// How many bytes the first token of a text has that isn't empty, if it is a word, a comma or a parenthesis, as most tokens of calls
-// are; else 0.
+// How many bytes the first token of a text has that isn't empty, if it is a word, a comma or a bracket, as most tokens of calls are;
+// else 0.
 fn quick_len(mode: Mode, text: &[u8]) -> usize
     requires { 0 < length text.now }
     ensures quick { 0 < result → IsFirstToken mode text.now (plain_token (quick_role (slice_index text.now 0)) result) }
@@ -93,15 +95,31 @@ fn plain_quick_len(text: &[u8]) -> usize
     if is_mark(text[0]) { 1 } else { 0 }
 }
 
-// Whether a byte is a comma or a parenthesis.
+// Whether a byte is a comma or a bracket.
 fn is_mark(b: u8) -> bool
-    ensures { result ≡ (b == 44 || (b == 40 || b == 41)) }
+    ensures { result ≡ (b == 44 || (is_opener b || is_closer b)) }
 {
-    b == b',' || (b == b'(' || b == b')')
+    b == b',' || (is_opener(b) || is_closer(b))
 }
 
-// The role of a word, a comma or a parenthesis by its first byte.
-#[tactic(auto, unfolding(crate::specs::CallTokens::quick_role))]
+// Whether a byte is `(`, `[` or `{`.
+#[tactic(auto, unfolding(rdlpp_scan::specs::Bytes::is_opener))]
+fn is_opener(b: u8) -> bool
+    ensures { result ≡ is_opener b }
+{
+    b == b'(' || b == b'[' || b == b'{'
+}
+
+// Whether a byte is `)`, `]` or `}`.
+#[tactic(auto, unfolding(rdlpp_scan::specs::Bytes::is_closer))]
+fn is_closer(b: u8) -> bool
+    ensures { result ≡ is_closer b }
+{
+    b == b')' || b == b']' || b == b'}'
+}
+
+// The role of a word, a comma or a bracket by its first byte.
+#[tactic(auto, unfolding(crate::specs::CallTokens::quick_role, rdlpp_scan::specs::Bytes::is_opener, rdlpp_scan::specs::Bytes::is_closer))]
 fn quick_role(b: u8) -> CallRole
     ensures { result ≡ quick_role b }
 {
@@ -109,8 +127,39 @@ fn quick_role(b: u8) -> CallRole
         b',' => CallRole::Comma,
         b'(' => CallRole::Start,
         b')' => CallRole::End,
+        b'[' | b'{' => CallRole::Opener,
+        b']' | b'}' => CallRole::Closer,
         _ => CallRole::Text,
     }
+}
+
+// How many bytes at the front of a text open, close and cut nothing, and begin no string, no comment and no `<%`: whatever tokens
+// they are, only white space among them counts. None stand in a string or in a comment.
+#[tactic(auto, unfolding(crate::specs::CallTokens::calm_len))]
+pub(crate) fn calm_len(mode: Mode, text: &[u8]) -> usize
+    ensures value { result ≡ calm_len mode text.now }
+    ensures inside { result ≤ length text.now }
+{
+    match mode {
+        Mode::Plain => calm_bytes(text),
+        _ => 0,
+    }
+}
+
+// The same in plain text.
+fn calm_bytes(text: &[u8]) -> usize
+    ensures value { result ≡ prefix_len is_calm text.now }
+    ensures inside { result ≤ length text.now }
+{
+    text.iter().take_while(|b| is_calm(**b)).count()
+}
+
+// Whether a byte is such a one.
+#[tactic(auto, unfolding(crate::specs::CallTokens::is_calm))]
+fn is_calm(b: u8) -> bool
+    ensures { result ≡ is_calm b }
+{
+    !is_opener(b) && !is_closer(b) && b != b',' && b != b'"' && b != b'/' && b != b'<'
 }
 
 /// The role of a token of a kind with this first byte.

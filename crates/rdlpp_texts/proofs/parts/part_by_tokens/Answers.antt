@@ -1,4 +1,4 @@
-use Rattle.std.proofs.Common.{◌≡◌, ℕ, ◌+◌, cond, drop, sym, ap, ◌∙◌, arith}
+use Rattle.std.proofs.Common.{◌≡◌, ℕ, ◌+◌, ◌-◌, cond, length, take, drop, sym, ap, ◌∙◌, arith}
 use Rattle.rdlpp_meaning.specs.Actuals.{level_behind, is_space}
 use Rattle.rdlpp_meaning.specs.TextTokens.{text_tokens}
 use Rattle.rdlpp_meaning.proofs.TextRanges.{body_text}
@@ -6,6 +6,8 @@ use Rattle.rdlpp_texts.specs.CallParts.{ends_part, part_from}
 use Rattle.rdlpp_texts.specs.CallTokens.{role_meant}
 use Rattle.rdlpp_texts.specs.declared.parts.Part.{Part}
 use Rattle.rdlpp_texts.specs.declared.parts.PartEnd.TheVariants.{Comma, Last}
+use Rattle.std.proofs.lemmas.List.{length-drop, length-take}
+use Rattle.rdlpp_texts.proofs.CalmRuns.{calm_at}
 use Rattle.rdlpp_texts.proofs.Searches.{token_at, token_inside, part_turn, level_low, none_left}
 use Rattle.rdlpp_texts.proofs.parts.part_by_tokens.Goals as goal
 use Rattle.rdlpp_texts.proofs.parts.part_by_tokens.Goals.{then-not-is_space, else-not-is_space}
@@ -17,6 +19,21 @@ loop-at-init c =
       inside = omega arith;
       low = omega arith;
       found = ap (part_from c.args.closes start start 0 start) (sym (body_text (drop start c.args.text.now)));
+    }
+
+pub loop-at-preserved-then-calm-gt0 : goal.loop-at-preserved-then-calm-gt0
+loop-at-preserved-then-calm-gt0 c =
+    let text = c.args.text.now in
+    let at = c.loop-at.at in
+    let calm = c.calm_len-calm.result in
+    let size : length (take (length text - at) (drop at text)) ≡ length text - at = simp (length-take, length-drop) (omega arith) in
+    record {
+      inside = omega (arith, size, c.calm_len-calm.ensures.inside, c.loop-at.invariant.inside);
+      low = omega arith;
+      found =
+          calm_at c.args.closes c.loop-at.mode text c.args.from at c.loop-at.level c.loop-at.to calm c.last_end-to.result
+          c.loop-at.invariant.inside c.calm_len-calm.ensures.value (omega arith) c.last_end-to.ensures
+          ∙ c.loop-at.invariant.found;
     }
 
 pub returns-then-ends_text : goal.returns-then-ends_text
