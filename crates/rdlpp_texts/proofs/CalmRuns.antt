@@ -68,7 +68,7 @@ word_step closes start at level end b bs e =
     taken_step closes start at level end b bs (word_text (b ∷ bs) (suc k) len (omega arith) (omega (arith, all)))
 
 -- no blank is a letter
-blank_dark : (b : ℕ) → is_blank b ≡ true → is_letter b ≡ false
+pub blank_dark : (b : ℕ) → is_blank b ≡ true → is_letter b ≡ false
 unfolding is_letter is_blank
 blank_dark b h =
     let P : ℕ → Type 0 = λ n. is_letter n ≡ false in

@@ -36,3 +36,4 @@ mod FirstOpeners
 mod NoSlashes
 pub mod QuickTokens
 mod CalmRuns
+mod QuietFronts

@@ -45,7 +45,7 @@ token-back InStr bs none =
 token-back InBlock bs none = ap is_back (block_token-kind 0 bs)
 
 -- a token that is no stop is passed
-passed : (t : Token) (ts : List Token) (text : List ℕ) → is_back t.kind ≡ false → run_len [] (t ∷ ts) text ≡ t.len + run_len [] ts (drop t.len text)
+pub passed : (t : Token) (ts : List Token) (text : List ℕ) → is_back t.kind ≡ false → run_len [] (t ∷ ts) text ≡ t.len + run_len [] ts (drop t.len text)
 unfolding run_len
 passed t ts text h =
     ap (λ (b : Bool). cond b (t.len + run_len [] ts (drop t.len text)) 0) (back-none t.len t.next_mode t.kind (take t.len text) ∙ ap (λ (b : Bool). not b) h)

@@ -1,5 +1,6 @@
 // What stands at the front of an open text.
-ghost use Rattle.std.specs.Prelude.{[], length, slice_range, List, ℕ, ◌+◌, ◌<◌, ◌≡◌, ◌≤◌, ◌^◌};
+ghost use Rattle.std.specs.Prelude.{[], length, slice_range, List, Some, ℕ, ◌+◌, ◌<◌, ◌≡◌, ◌≤◌, ◌^◌};
+ghost use Rattle.memchr.specs.Find.{is_byte, IsFirstByte};
 ghost use Rattle.rdlpp_scan.specs.Tokens.{tokens_from};
 ghost use Rattle.rdlpp_table.specs.Stops.{stop_of};
 ghost use Rattle.rdlpp_table.specs.Table.{Formal};
@@ -12,7 +13,7 @@ use crate::Range;
 use crate::place::TextSource;
 use crate::scopes::{front_source, text_of};
 use crate::slot::Slot;
-use memchr::memchr;
+use memchr::{memchr, memchr2};
 use rdlpp_scan::{Kind, Mode, first_token};
 use rdlpp_table::{Stop, Table};
 
@@ -167,9 +168,30 @@ fn run_len(text: &[u8]) -> usize
     ensures value { result ≡ run_len [] (tokens_from Mode.Plain 0 text.now) text.now }
     ensures inside { result ≤ length text.now }
 {
-    if memchr(b'`', text).is_none() {
-        return text.len();
+    match memchr(b'`', text) {
+        None => text.len(),
+        Some(at) => run_up_to(text, at),
     }
+}
+
+// The same where the first backquote stands at a place: the run ends there, if no string and no comment can begin before it.
+fn run_up_to(text: &[u8], at: usize) -> usize
+    requires { IsFirstByte (is_byte 96) text.now (Some at) }
+    ensures value { result ≡ run_len [] (tokens_from Mode.Plain 0 text.now) text.now }
+    ensures inside { result ≤ length text.now }
+{
+    if memchr2(b'"', b'/', &text[..at]).is_none() {
+        return at;
+    }
+    run_by_tokens(text)
+}
+
+// The same, token by token.
+#[inline(never)]
+fn run_by_tokens(text: &[u8]) -> usize
+    ensures value { result ≡ run_len [] (tokens_from Mode.Plain 0 text.now) text.now }
+    ensures inside { result ≤ length text.now }
+{
     let mut mode = Mode::Plain;
     let mut at = 0;
     while at < text.len() {

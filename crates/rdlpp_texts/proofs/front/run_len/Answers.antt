@@ -1,27 +1,8 @@
-use Rattle.std.proofs.Common.{List, ℕ, not, ap, sym, ◌∙◌}
-use Rattle.std.proofs.lemmas.List.{take_rest}
-use Rattle.rdlpp_scan.specs.Tokens.{token_of}
-use Rattle.rdlpp_texts.proofs.Stopping.{running-end, running-more, running-start, running-stop}
+use Rattle.std.proofs.Common.{Option, None, ℕ, refl, subst}
+use Rattle.memchr.specs.Find.{IsFirstByte, is_byte}
 use Rattle.rdlpp_texts.proofs.Unquoted.{run_searched}
 use Rattle.rdlpp_texts.proofs.front.run_len.Goals as goal
 
-pub returns-then-is_none-clause-value : goal.returns-then-is_none-clause-value
-returns-then-is_none-clause-value c = run_searched c.args.text.now c.memchr.result (c.is_none.ensures ∙ ap not c.if-is_none.true) c.memchr.ensures
-
-pub loop-at-init : goal.loop-at-init
-loop-at-init c = running-start _
-
-pub returns-then-is_back-clause-value : goal.returns-then-is_back-clause-value
-returns-then-is_back-clause-value c =
-    running-stop _ c.loop-at.mode _ c.first_token-token.result c.loop-at.invariant c.loop-at-test.true
-    (c.first_token-token.ensures.value ∙ ap (λ (b : List ℕ). token_of c.loop-at.mode b) (take_rest c.args.text.now c.loop-at.at))
-    (sym c.is_back.ensures ∙ c.if-is_back.true)
-
-pub loop-at-preserved : goal.loop-at-preserved
-loop-at-preserved c =
-    running-more _ c.loop-at.mode _ c.first_token-token.result c.loop-at.invariant c.loop-at-test.true
-    (c.first_token-token.ensures.value ∙ ap (λ (b : List ℕ). token_of c.loop-at.mode b) (take_rest c.args.text.now c.loop-at.at))
-    (sym c.is_back.ensures ∙ c.if-is_back.false)
-
-pub returns-clause-value : goal.returns-clause-value
-returns-clause-value c = running-end _ c.loop-at.mode _ c.loop-at.invariant c.loop-at-test.false
+pub returns-in-None-clause-value : goal.returns-in-None-clause-value
+returns-in-None-clause-value c =
+    run_searched c.args.text.now None refl (subst (λ (o : Option ℕ). IsFirstByte (is_byte 96) c.args.text.now o) c.in-None.is c.memchr.ensures)
