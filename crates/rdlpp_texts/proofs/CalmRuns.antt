@@ -18,10 +18,10 @@ use Rattle.rdlpp_meaning.specs.Actuals.{is_space, kind_role, level_behind}
 use Rattle.rdlpp_meaning.specs.TextTokens.{text_tokens}
 use Rattle.rdlpp_texts.specs.CallParts.{ends_call, ends_part, ends_text, is_white, last_end, part_from}
 use Rattle.rdlpp_texts.specs.CallTokens as call
-use Rattle.rdlpp_texts.specs.CallTokens.{calm_len, is_calm, role_meant, IsFirstToken}
+use Rattle.rdlpp_texts.specs.CallTokens.{calm_len, is_calm, is_calm_at, is_inner, role_meant, IsFirstToken}
 use Rattle.rdlpp_texts.specs.declared.parts.Part.{Part}
 use Rattle.rdlpp_texts.specs.declared.tokens.CallRole.TheVariants as role
-use Rattle.rdlpp_texts.proofs.QuickTokens.{blank_token, named, word_text}
+use Rattle.rdlpp_texts.proofs.QuickTokens.{blank_token, comma_here, named, word_text}
 use Rattle.rdlpp_texts.proofs.Searches.{rest_turn}
 
 -- the search at a token of text
@@ -211,29 +211,58 @@ calm_step closes start at level end b bs calm =
     let h = two (is_blank b) (is_line_end b) dark in
     ⊎_elim (word_step closes start at level end b bs) (mark_step closes start at level end b bs calm h.0 h.1) (cases_Bool (is_word b)))
 
+-- a comma within an opener is a token that the search passes
+comma_turn : (closes : Bool) (start at k end : ℕ) (bs : List ℕ)
+    → part_from closes start at (suc k) end (text_tokens Plain (44 ∷ bs)) ≡ part_from closes start (at + 1) (suc k) (at + 1) (text_tokens Plain bs)
+unfolding role_meant ends_text ends_call ends_part level_behind is_space
+comma_turn true start at k end bs = rest_turn true Plain (44 ∷ bs) start at (suc k) end (call.plain_token role.Comma 1) (comma_here bs)
+comma_turn false start at k end bs = rest_turn false Plain (44 ∷ bs) start at (suc k) end (call.plain_token role.Comma 1) (comma_here bs)
+
+comma_step : (closes : Bool) (start at k end b : ℕ) (bs : List ℕ) → (b == 44) ≡ true
+    → part_from closes start at (suc k) end (text_tokens Plain (b ∷ bs)) ≡ part_from closes start (at + 1) (suc k) (cond (is_white b) end (at + 1)) (text_tokens Plain bs)
+unfolding is_white is_blank is_line_end
+comma_step closes start at k end b bs e =
+    let G : ℕ → Type 0 = λ n. part_from closes start at (suc k) end (text_tokens Plain (n ∷ bs)) ≡ part_from closes start (at + 1) (suc k) (cond (is_white n) end (at + 1)) (text_tokens Plain bs) in
+    subst G (sym (eqb-true b 44 e)) (comma_turn closes start at k end bs)
+
+-- any other byte that passes within an opener passes within none
+still_calm : (b : ℕ) → (b == 44) ≡ false → is_inner b ≡ true → is_calm b ≡ true
+unfolding is_inner is_calm
+still_calm b h e = rw h e
+
+-- the search passes a calm byte at its level
+level_step : (closes : Bool) (start at level end b : ℕ) (bs : List ℕ) → is_calm_at level b ≡ true
+    → part_from closes start at level end (text_tokens Plain (b ∷ bs)) ≡ part_from closes start (at + 1) level (cond (is_white b) end (at + 1)) (text_tokens Plain bs)
+unfolding is_calm_at
+level_step closes start at zero end b bs e = calm_step closes start at 0 end b bs e
+level_step closes start at (suc k) end b bs e = elim (cases_Bool (b == 44)) [
+  | inl h ↦ comma_step closes start at k end b bs h
+  | inr h ↦ calm_step closes start at (suc k) end b bs (still_calm b h e)
+]
+
 -- and so all of them
-calm_run : (closes : Bool) (start at level end : ℕ) (bs : List ℕ) (n : ℕ) → n ≤ prefix_len is_calm bs
+calm_run : (closes : Bool) (start at level end : ℕ) (bs : List ℕ) (n : ℕ) → n ≤ prefix_len (is_calm_at level) bs
     → part_from closes start at level end (text_tokens Plain bs) ≡ part_from closes start (at + n) level (last_end at end (take n bs)) (text_tokens Plain (drop n bs))
 unfolding last_end
 calm_run closes start at level end bs zero few =
     let same : at ≡ at + 0 = omega arith in
     ap (λ (k : ℕ). part_from closes start k level end (text_tokens Plain bs)) same
 calm_run closes start at level end [] (suc n) few = absurd (omega (arith, few))
-calm_run closes start at level end (b ∷ bs) (suc n) few = elim (cases_Bool (is_calm b)) [
+calm_run closes start at level end (b ∷ bs) (suc n) few = elim (cases_Bool (is_calm_at level b)) [
   | inl e ↦
-      let first : prefix_len is_calm (b ∷ bs) ≡ 1 + prefix_len is_calm bs = ap (λ (t : Bool). cond t (1 + prefix_len is_calm bs) 0) e in
+      let first : prefix_len (is_calm_at level) (b ∷ bs) ≡ 1 + prefix_len (is_calm_at level) bs = ap (λ (t : Bool). cond t (1 + prefix_len (is_calm_at level) bs) 0) e in
       let next = cond (is_white b) end (at + 1) in
       let same : (at + 1) + n ≡ at + suc n = omega arith in
-      calm_step closes start at level end b bs e
+      level_step closes start at level end b bs e
       ∙ calm_run closes start (at + 1) level next bs n (omega (arith, first, few))
       ∙ ap (λ (k : ℕ). part_from closes start k level (last_end (at + 1) next (take n bs)) (text_tokens Plain (drop n bs))) same
   | inr e ↦
-      let none : prefix_len is_calm (b ∷ bs) ≡ 0 = ap (λ (t : Bool). cond t (1 + prefix_len is_calm bs) 0) e in
+      let none : prefix_len (is_calm_at level) (b ∷ bs) ≡ 0 = ap (λ (t : Bool). cond t (1 + prefix_len (is_calm_at level) bs) 0) e in
       absurd (omega (arith, none, few))
 ]
 
 -- of a text from a mode on, which is plain text where there are some
-calm_turn : (closes : Bool) (mode : Mode) (start at level end : ℕ) (bs : List ℕ) (n : ℕ) → n ≡ calm_len mode bs → 0 < n
+calm_turn : (closes : Bool) (mode : Mode) (start at level end : ℕ) (bs : List ℕ) (n : ℕ) → n ≡ calm_len mode level bs → 0 < n
     → part_from closes start at level end (text_tokens mode bs) ≡ part_from closes start (at + n) level (last_end at end (take n bs)) (text_tokens mode (drop n bs))
 unfolding calm_len
 calm_turn closes Plain start at level end bs n e some = calm_run closes start at level end bs n (omega (arith, e))
@@ -269,7 +298,7 @@ last_step at end run len some inside =
 
 -- the search for the end of a part of a text passes those that stand at a place of it
 pub calm_at : (closes : Bool) (mode : Mode) (text : List ℕ) (start at level end n to : ℕ) → at ≤ length text
-    → n ≡ calm_len mode (take (length text - at) (drop at text)) → 0 < n → to ≡ last_end at end (take ((at + n) - at) (drop at text))
+    → n ≡ calm_len mode level (take (length text - at) (drop at text)) → 0 < n → to ≡ last_end at end (take ((at + n) - at) (drop at text))
     → part_from closes start (at + n) level to (text_tokens mode (drop (at + n) text)) ≡ part_from closes start at level end (text_tokens mode (drop at text))
 calm_at closes mode text start at level end n to inside is some last =
     let rest = between_to_end text at (length text) (omega arith) in
@@ -277,4 +306,4 @@ calm_at closes mode text start at level end n to inside is some last =
     let own : to ≡ last_end at end (take n (drop at text)) = last ∙ ap (λ (k : ℕ). last_end at end (take k (drop at text))) long in
     let behind : List ℕ → Part = λ x. part_from closes start (at + n) level (last_end at end (take n (drop at text))) (text_tokens mode x) in
     ap (λ (k : ℕ). part_from closes start (at + n) level k (text_tokens mode (drop (at + n) text))) own
-    ∙ sym (calm_turn closes mode start at level end (drop at text) n (is ∙ ap (calm_len mode) rest) some ∙ ap behind (drop-drop n at text))
+    ∙ sym (calm_turn closes mode start at level end (drop at text) n (is ∙ ap (calm_len mode level) rest) some ∙ ap behind (drop-drop n at text))

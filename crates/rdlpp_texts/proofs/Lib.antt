@@ -37,3 +37,4 @@ mod NoSlashes
 pub mod QuickTokens
 mod CalmRuns
 mod QuietFronts
+mod CalmBytes

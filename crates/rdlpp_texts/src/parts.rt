@@ -146,7 +146,7 @@ fn part_by_tokens(text: &[u8], from: usize, closes: bool) -> Part
     let mut level = 0;
     let mut mode = Mode::Plain;
     while at < text.len() {
-        let calm = calm_len(mode, &text[at..]);
+        let calm = calm_len(mode, level, &text[at..]);
         if calm > 0 {
             to = last_end(&text[at..at + calm], at, to);
             at += calm;

@@ -1,11 +1,11 @@
 // The tokens of a text by the role that each has in a call.
-ghost use Rattle.std.specs.Prelude.{◌≡◌, ◌+◌, ◌-◌, ◌<◌, ◌∷◌, ◌==◌, ◌||◌, ◌≤◌, [], length, slice_index};
+ghost use Rattle.std.specs.Prelude.{◌≡◌, ◌+◌, ◌-◌, ◌<◌, ◌∷◌, ◌==◌, ◌&&◌, ◌||◌, not, ◌≤◌, [], length, slice_index};
 ghost use Rattle.std.specs.List.{prefix_len};
 ghost use Rattle.rdlpp_scan.specs.Bytes.{is_closer, is_opener};
 ghost use Rattle.rdlpp_scan.specs.declared.token.Mode.TheVariants.{Plain};
 ghost use Rattle.rdlpp_meaning.specs.Actuals.{is_space, kind_role, level_behind};
 ghost use Rattle.rdlpp_texts.specs.CallParts.{ends_call, ends_part};
-ghost use Rattle.rdlpp_texts.specs.CallTokens.{calm_len, is_calm, plain_token, quick_role, role_meant, IsFirstToken};
+ghost use Rattle.rdlpp_texts.specs.CallTokens.{calm_len, is_calm, is_calm_at, is_inner, plain_token, quick_role, role_meant, IsFirstToken};
 
 use rdlpp_scan::{Kind, Mode, first_token, word_bytes};
 
@@ -133,33 +133,81 @@ fn quick_role(b: u8) -> CallRole
     }
 }
 
-// How many bytes at the front of a text open, close and cut nothing, and begin no string, no comment and no `<%`: whatever tokens
-// they are, only white space among them counts. None stand in a string or in a comment.
+// How many bytes at the front of a text at a level of openers open, close and cut nothing, and begin no string, no comment and no
+// `<%`: whatever tokens they are, only white space among them counts. None stand in a string or in a comment.
 #[tactic(auto, unfolding(crate::specs::CallTokens::calm_len))]
-pub(crate) fn calm_len(mode: Mode, text: &[u8]) -> usize
-    ensures value { result ≡ calm_len mode text.now }
+pub(crate) fn calm_len(mode: Mode, level: usize, text: &[u8]) -> usize
+    ensures value { result ≡ calm_len mode level text.now }
     ensures inside { result ≤ length text.now }
 {
     match mode {
-        Mode::Plain => calm_bytes(text),
+        Mode::Plain => calm_bytes(level, text),
         _ => 0,
     }
 }
 
-// The same in plain text.
-fn calm_bytes(text: &[u8]) -> usize
+// The same in plain text: within further openers a comma cuts nothing.
+fn calm_bytes(level: usize, text: &[u8]) -> usize
+    ensures value { result ≡ prefix_len (is_calm_at level) text.now }
+    ensures inside { result ≤ length text.now }
+{
+    if level == 0 {
+        outer_bytes(text)
+    } else {
+        inner_bytes(text)
+    }
+}
+
+// The same within no further opener.
+fn outer_bytes(text: &[u8]) -> usize
     ensures value { result ≡ prefix_len is_calm text.now }
     ensures inside { result ≤ length text.now }
 {
     text.iter().take_while(|b| is_calm(**b)).count()
 }
 
-// Whether a byte is such a one.
-#[tactic(auto, unfolding(crate::specs::CallTokens::is_calm))]
+// The same within one.
+fn inner_bytes(text: &[u8]) -> usize
+    ensures value { result ≡ prefix_len is_inner text.now }
+    ensures inside { result ≤ length text.now }
+{
+    text.iter().take_while(|b| is_inner(**b)).count()
+}
+
+// Whether a byte is such a one within an opener.
+fn is_inner(b: u8) -> bool
+    ensures { result ≡ is_inner b }
+{
+    if b < 64 {
+        b == b',' || is_calm_mark(b)
+    } else {
+        is_calm_letter(b)
+    }
+}
+
+// Whether a byte is one within no opener. Each half of the bytes is asked for its own, which is a mask of bits, and no jump.
 fn is_calm(b: u8) -> bool
     ensures { result ≡ is_calm b }
 {
-    !is_opener(b) && !is_closer(b) && b != b',' && b != b'"' && b != b'/' && b != b'<'
+    if b < 64 {
+        is_calm_mark(b)
+    } else {
+        is_calm_letter(b)
+    }
+}
+
+// The same of a byte below 64.
+fn is_calm_mark(b: u8) -> bool
+    ensures { result ≡ (not (b == 40) && (not (b == 41) && (not (b == 44) && (not (b == 34) && (not (b == 47) && not (b == 60)))))) }
+{
+    b != b'(' && b != b')' && b != b',' && b != b'"' && b != b'/' && b != b'<'
+}
+
+// The same of any other byte.
+fn is_calm_letter(b: u8) -> bool
+    ensures { result ≡ (not (b == 91) && (not (b == 123) && (not (b == 93) && not (b == 125)))) }
+{
+    b != b'[' && b != b'{' && b != b']' && b != b'}'
 }
 
 /// The role of a token of a kind with this first byte.
