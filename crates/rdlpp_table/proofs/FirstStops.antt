@@ -1,8 +1,8 @@
 -- The first stop of a text and of a range of it, and the first stops that an entry keeps.
-use Rattle.std.proofs.Common.{◌≡◌, ℕ, zero, suc, ◌+◌, ◌-◌, ◌<◌, ◌≤◌, Bool, true, false, cond, List, [], ◌∷◌, ⊎_elim, length, take, drop, Option, Some, None, refl, ap, sym, ◌∙◌, arith, ◌++◌, inl, slice_range, subst, if◌then◌else◌, ◌&&◌, leb, eqb, ltb, IfSome, get_or}
+use Rattle.std.proofs.Common.{◌≡◌, ℕ, zero, suc, ◌+◌, ◌-◌, ◌<◌, ◌≤◌, Bool, true, false, cond, List, [], ◌∷◌, ⊎_elim, length, take, drop, Option, Some, None, refl, ap, sym, ◌∙◌, arith, ◌++◌, inl, slice_range, subst, if◌then◌else◌, ◌&&◌, leb, eqb, ltb, IfSome, get_or, set, append_assoc, replicate, ◌⊎◌}
 use Rattle.std.specs.List.{prefix_len}
-use Rattle.std.proofs.lemmas.Bool.{cases_Bool, false≢true, cond-false, cond-true, and_parts, eqb-true, leb-true, ltb-false, or_cases}
-use Rattle.std.proofs.lemmas.List.{length-drop, nil_from_length, take_all, drop-drop, drop-take, length-take, take-append-drop}
+use Rattle.std.proofs.lemmas.Bool.{le-ltb, cases_Bool, false≢true, cond-false, cond-true, and_parts, eqb-true, leb-true, ltb-false, or_cases}
+use Rattle.std.proofs.lemmas.List.{drop_more, take_more_set, drop-set-lt, drop-replicate, length-drop, nil_from_length, take_all, drop-drop, drop-take, length-take, take-append-drop}
 use Rattle.rdlpp_scan.specs.Bytes.{is_blank, is_quiet}
 use Rattle.rdlpp_scan.specs.declared.token.Kind.{Kind}
 use Rattle.rdlpp_scan.specs.declared.token.Kind.TheVariants.{Name, Word, Back, Blank, LineEnd, Str, LineComment, BlockComment, Opener, Closer, Comma, Other, Perl, BareBackquote}
@@ -21,7 +21,7 @@ use Rattle.rdlpp_scan.specs.Ordinary.{is_plain_kind}
 use Rattle.rdlpp_scan.proofs.FirstTokens.{plain_token-run, IsRun}
 use Rattle.rdlpp_scan.proofs.RangeLaws.{token_of-front, EndsIn}
 use Rattle.rdlpp_scan.proofs.StopKinds.{Row, AtPerl, AtLineComment, AtBlockComment, AtString, AtBack, AtBare, AtPlain, token_of-row}
-use Rattle.rdlpp_table.specs.Kept.{stop_end, endless, first_stops, is_behind_quiet, is_known, kept_from, kept_of, placed, quiet_kept, stop_by, stop_kept}
+use Rattle.rdlpp_table.specs.Kept.{stop_end, endless, first_stops, is_behind_quiet, is_known, kept_from, kept_of, placed, quiet_kept, stop_by, stop_kept, stops_behind}
 use Rattle.rdlpp_table.specs.declared.kept.FirstStops.{FirstStops}
 use Rattle.rdlpp_table.specs.declared.kept.Kept.{Kept}
 use Rattle.rdlpp_table.specs.declared.kept.KeptKind.{KeptKind}
@@ -461,15 +461,6 @@ kind_end formals at len Perl mode bytes h = omega arith
 pub token_end : (formals : List Formal) (at : ℕ) (t : Token) (bytes : List ℕ) → 0 < t.len → stop_end (stop_at formals at t bytes) ≤ at + t.len
 token_end formals at t bytes h = kind_end formals at t.len t.kind t.next_mode bytes h
 
-pub first_four : (formals : List Formal) (text : List ℕ) (first second third fourth : Kept) → first ≡ kept_from formals text 0 → second ≡ kept_from formals text first.end → third ≡ kept_from formals text second.end → fourth ≡ kept_from formals text third.end → (let s : FirstStops = record { first = first; second = second; third = third; fourth = fourth } in s) ≡ first_stops formals text
-unfolding first_stops
-first_four formals text first second third fourth a b c d =
-    let next : Kept → Kept = λ k. kept_from formals text k.end in
-    ap (λ (k : Kept). let s : FirstStops = record { first = first; second = second; third = third; fourth = k } in s) d
-    ∙ (ap (λ (k : Kept). let s : FirstStops = record { first = first; second = second; third = k; fourth = next k } in s) c
-    ∙ (ap (λ (k : Kept). let s : FirstStops = record { first = first; second = k; third = next k; fourth = next (next k) } in s) b
-    ∙ ap (λ (k : Kept). let s : FirstStops = record { first = k; second = next k; third = next (next k); fourth = next (next (next k)) } in s) a))
-
 quiet_when : (b : Bool) (kind : KeptKind) (at len place quiet : ℕ) → (when b kind at len place quiet).quiet ≤ quiet
 unfolding endless
 quiet_when true kind at len place quiet = omega arith
@@ -539,24 +530,69 @@ known_range formals text size start k from to known r l e order high n h q =
     subst (λ (x : Option Stop). IfSome x (λ y. y ≡ S)) (sym (q ∙ ap stop_kept e))
     (known_when (ltb start 65535) formals text size start from to _ _ refl (quiet_text (drop start text)) l order.0 order.1 high here)
 
-pub first_of : (formals : List Formal) (text : List ℕ) (stops : FirstStops) → stops ≡ first_stops formals text → stops.first ≡ kept_from formals text 0
-unfolding first_stops
-first_of formals text stops e = ap (λ (x : FirstStops). x.first) e
+-- The first stops of a text, one behind another.
 
-pub second_of : (formals : List Formal) (text : List ℕ) (stops : FirstStops) → stops ≡ first_stops formals text → stops.second ≡ kept_from formals text stops.first.end
-unfolding first_stops
-second_of formals text stops e =
-    ap (λ (x : FirstStops). x.second) e ∙ ap (λ (x : FirstStops). kept_from formals text x.first.end) (sym e)
+-- a stop that is found behind others is one more of them
+pub stops_more : (formals : List Formal) (text : List ℕ) (all : List Kept) (i from : ℕ) (k : Kept) → i < length all → k ≡ kept_from formals text from → ((n : ℕ) → stops_behind (i + n) formals text 0 ≡ take i all ++ stops_behind n formals text from) → (n : ℕ) → stops_behind (i + 1 + n) formals text 0 ≡ take (i + 1) (set all i k) ++ stops_behind n formals text k.end
+unfolding stops_behind
+stops_more formals text all i from k h e f n =
+    let there : i + 1 + n ≡ i + suc n = omega arith in
+    let rest : List Kept = stops_behind n formals text k.end in
+    ap (λ (m : ℕ). stops_behind m formals text 0) there
+    ∙ (f (suc n)
+    ∙ (ap (λ (x : Kept). take i all ++ x ∷ stops_behind n formals text x.end) (sym e)
+    ∙ (sym (append_assoc (take i all) (k ∷ []) rest) ∙ ap (λ (l : List Kept). l ++ rest) (sym (take_more_set all i k h)))))
 
-pub third_of : (formals : List Formal) (text : List ℕ) (stops : FirstStops) → stops ≡ first_stops formals text → stops.third ≡ kept_from formals text stops.second.end
-unfolding first_stops
-third_of formals text stops e =
-    ap (λ (x : FirstStops). x.third) e ∙ ap (λ (x : FirstStops). kept_from formals text x.second.end) (sym e)
+-- what is kept where nothing is known
+abbrev unknown : Kept
+unknown = endless kept.Unknown 0
 
-pub fourth_of : (formals : List Formal) (text : List ℕ) (stops : FirstStops) → stops ≡ first_stops formals text → stops.fourth ≡ kept_from formals text stops.third.end
+-- from a place that is too far behind on nothing is known
+stops_beyond : (formals : List Formal) (text : List ℕ) (n from : ℕ) → 65535 ≤ from → stops_behind n formals text from ≡ replicate n unknown
+unfolding stops_behind kept_from endless
+stops_beyond formals text zero from h = refl
+stops_beyond formals text (suc n) from h =
+    let here : kept_from formals text from ≡ unknown = ap (λ (b : Bool). if b then kept_of (stop_of formals from (drop from text)) (quiet_kept (drop from text)) else unknown) (le-ltb from 65535 h) in
+    ap (λ (k : Kept). k ∷ stops_behind n formals text k.end) here ∙ ap (λ (l : List Kept). unknown ∷ l) (stops_beyond formals text n 65535 (omega arith))
+
+-- what is not written yet is unknown
+pub rest_unknown : (all : List Kept) (i : ℕ) (k : Kept) → drop i all ≡ replicate (10 - i) unknown → drop (i + 1) (set all i k) ≡ replicate (10 - (i + 1)) unknown
+rest_unknown all i k e =
+    let less : 10 - i - 1 ≡ 10 - (i + 1) = omega arith in
+    drop-set-lt (i + 1) all i k (omega arith)
+    ∙ (sym (drop-drop 1 i all)
+    ∙ (ap (λ (l : List Kept). drop 1 l) e
+    ∙ (drop-replicate 1 (10 - i) unknown ∙ ap (λ (m : ℕ). replicate m unknown) less)))
+
+-- ten of them are the first stops, and fewer are where behind them nothing is known
+pub stops_whole : (formals : List Formal) (text : List ℕ) (all : List Kept) (i from : ℕ) → i ≤ 10 → (10 ≤ i) ⊎ (65535 ≤ from) → drop i all ≡ replicate (10 - i) unknown → ((n : ℕ) → stops_behind (i + n) formals text 0 ≡ take i all ++ stops_behind n formals text from) → (let s : FirstStops = record { all = all } in s) ≡ first_stops formals text
+unfolding first_stops stops_behind
+stops_whole formals text all i from l o e f =
+    let there : 10 ≡ i + (10 - i) = omega arith in
+    let none : 10 ≤ i → stops_behind (10 - i) formals text from ≡ replicate (10 - i) unknown =
+    λ h. let z : 10 - i ≡ 0 = omega arith in ap (λ (m : ℕ). stops_behind m formals text from) z ∙ ap (λ (m : ℕ). replicate m unknown) (sym z) in
+    let rest : stops_behind (10 - i) formals text from ≡ drop i all = ⊎_elim none (stops_beyond formals text (10 - i) from) o ∙ sym e in
+    let whole : stops_behind 10 formals text 0 ≡ all = ap (λ (m : ℕ). stops_behind m formals text 0) there ∙ (f (10 - i) ∙ (ap (λ (x : List Kept). take i all ++ x) rest ∙ take-append-drop i all)) in
+    ap (λ (x : List Kept). let s : FirstStops = record { all = x } in s) (sym whole)
+
+pub all_stops : (formals : List Formal) (text : List ℕ) (stops : FirstStops) → stops ≡ first_stops formals text → stops.all ≡ stops_behind 10 formals text 0
 unfolding first_stops
-fourth_of formals text stops e =
-    ap (λ (x : FirstStops). x.fourth) e ∙ ap (λ (x : FirstStops). kept_from formals text x.third.end) (sym e)
+all_stops formals text stops e = ap (λ (x : FirstStops). x.all) e
+
+-- a stop without anything
+abbrev pub no_stop : Kept
+no_stop = record { end = 0; len = 0; place = 0; quiet = 0; kind = kept.Unknown }
+
+-- the stop at a place among them is the first one from the end of the one before, and those behind it come from its own end on
+pub stop_next : (formals : List Formal) (text : List ℕ) (all : List Kept) (d k : Kept) (i start : ℕ) → length all ≡ 10 → i < 10 → drop i all ≡ stops_behind (10 - i) formals text start → k ≡ get_or all i d → (k ≡ kept_from formals text start) × (drop (i + 1) all ≡ stops_behind (10 - (i + 1)) formals text k.end)
+unfolding stops_behind
+stop_next formals text all d k i start l h e q =
+    let left : 10 - i ≡ suc (10 - (i + 1)) = omega arith in
+    let first : Kept = kept_from formals text start in
+    let both : get_or all i d ∷ drop (i + 1) all ≡ first ∷ stops_behind (10 - (i + 1)) formals text first.end =
+    sym (drop_more all i d (omega arith)) ∙ (e ∙ ap (λ (m : ℕ). stops_behind m formals text start) left) in
+    let here : k ≡ first = q ∙ ap (λ (x : List Kept). get_or x 0 d) both in
+    (here, ap (λ (x : List Kept). drop 1 x) both ∙ ap (λ (x : Kept). stops_behind (10 - (i + 1)) formals text x.end) (sym here))
 
 -- The stops of the body of a macro in a table.
 

@@ -10,7 +10,6 @@ use Rattle.std.proofs.lemmas.Bool.Decides.{leb_tells}
 use Rattle.std.proofs.lemmas.List.{length-map, get_or-map}
 use Rattle.std.proofs.lemmas.List.Quantifiers.{position-Some}
 use Rattle.rdlpp_table.specs.declared.entry.Entry.{Entry}
-use Rattle.rdlpp_table.specs.declared.kept.Kept.{Kept}
 use Rattle.rdlpp_table.specs.Table.{Formal, Macro, default_bytes, default_size, formal_size, macro_size, table_size, formal_bytes, macro_bytes, table_bytes, macro_named}
 use Rattle.rdlpp_table.specs.View.{macro_at, TableView, formals_of, no_macro, place_named}
 use Rattle.rdlpp_table.specs.Store.{entry_of, entries_of, entry_end, body_start, list_start, list_size, IsStored, macros_in, macro_in, body_of, name_of}
@@ -18,7 +17,6 @@ use Rattle.rdlpp_table.specs.Marks.{is_marked, macro_marks, marks_of, starts_of,
 use Rattle.rdlpp_table.specs.Entries.{marks_len, AreWithin}
 use Rattle.rdlpp_table.specs.Kept.{first_stops}
 use Rattle.rdlpp_table.specs.Layout.{view_of, IsHeld}
-use Rattle.rdlpp_table.specs.declared.kept.KeptKind.TheVariants as kept
 
 -- Places in a list.
 
@@ -63,13 +61,9 @@ position_first p x xs =
 
 -- Sizes are lengths, and entries lie among the bytes.
 
--- a stop without anything
-abbrev no_stop : Kept
-no_stop = record { end = 0; len = 0; place = 0; quiet = 0; kind = kept.Unknown }
-
 -- an entry without anything
 abbrev pub no_entry : Entry
-no_entry = record { start = 0; name_len = 0; list_len = 0; body_len = 0; arity = None; marks = 0; stops = record { first = no_stop; second = no_stop; third = no_stop; fourth = no_stop } }
+no_entry = record { start = 0; name_len = 0; list_len = 0; body_len = 0; arity = None; marks = 0; stops = record { all = [] } }
 
 -- a list counts its items
 pub count_items : {A : Type 0} (v : Vec A Global) → vec_len v ≡ length v.items

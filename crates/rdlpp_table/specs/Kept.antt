@@ -1,6 +1,6 @@
 -- The first stops of a body, as they are kept in its entry.
 -- A definition that names no source is this project's own.
-use Rattle.std.specs.Prelude.{ℕ, ◌+◌, ◌-◌, Bool, nat_le, nat_lt, if◌then◌else◌, ◌&&◌, ◌||◌, ◌==◌, List, drop, Option, Some, None}
+use Rattle.std.specs.Prelude.{ℕ, zero, suc, ◌+◌, ◌-◌, Bool, nat_le, nat_lt, if◌then◌else◌, ◌&&◌, ◌||◌, ◌==◌, List, [], ◌∷◌, drop, Option, Some, None}
 use Rattle.std.specs.List.{prefix_len}
 use Rattle.rdlpp_scan.specs.Bytes.{is_quiet}
 use Rattle.rdlpp_table.specs.declared.kept.FirstStops.{FirstStops}
@@ -58,13 +58,14 @@ unfoldable pub kept_from : List Formal → List ℕ → ℕ → Kept
 kept_from formals text from =
     if nat_lt from 65535 then kept_of (stop_of formals from (drop from text)) (quiet_kept (drop from text)) else endless kept.Unknown 0
 
--- the first stops of a text, each of them the first one behind the one before
+-- so many first stops of a text from a place on, each of them the first one behind the one before
+unfoldable pub stops_behind : ℕ → List Formal → List ℕ → ℕ → List Kept
+stops_behind zero formals text from = []
+stops_behind (suc n) formals text from = kept_from formals text from ∷ stops_behind n formals text (kept_from formals text from).end
+
+-- the first stops of a text
 unfoldable pub first_stops : List Formal → List ℕ → FirstStops
-first_stops formals text =
-    let first : Kept = kept_from formals text 0 in
-    let second : Kept = kept_from formals text first.end in
-    let third : Kept = kept_from formals text second.end in
-    record { first = first; second = second; third = third; fourth = kept_from formals text third.end }
+first_stops formals text = record { all = stops_behind 10 formals text 0 }
 
 -- whether a stop that is kept as the first one from a place on stands behind quiet bytes alone, and ends no further on than at another
 unfoldable pub is_behind_quiet : ℕ → Kept → ℕ → Bool

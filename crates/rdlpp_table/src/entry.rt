@@ -9,17 +9,20 @@ use crate::marks::{Listed, is_marked};
 // A definition's name, its formals with a comma after each, and its body lie one after another.
 #[derive(Clone, Copy, Drop)]
 pub(crate) struct Entry {
-    pub(crate) start: usize,
-    pub(crate) name_len: usize,
-    pub(crate) list_len: usize,
-    pub(crate) body_len: usize,
-    // How many formals it has, where it has a list.
-    pub(crate) arity: Option<usize>,
+    pub(crate) start: u32,
+    pub(crate) list_len: u32,
+    pub(crate) body_len: u32,
     // Where its marks begin.
-    pub(crate) marks: usize,
+    pub(crate) marks: u32,
+    pub(crate) name_len: u8,
+    // How many formals it has, where it has a list.
+    pub(crate) arity: Option<u8>,
     // The first stops of its body.
     pub(crate) stops: FirstStops,
 }
+
+// The numbers of an entry are small ones, so that ten stops have room beside them.
+const _: () = prove!(size_of::<Entry>() == 80);
 
 // The name of a definition.
 #[tactic(auto, unfolding(crate::specs::Store::name_of, crate::specs::Store::entry_end, crate::specs::Store::body_start, crate::specs::Store::list_start))]
@@ -27,7 +30,8 @@ pub(crate) fn name_in<'a>(bytes: &'a [u8], entry: &Entry) -> &'a [u8]
     requires { entry_end entry.now ≤ length bytes.now }
     ensures { result.now ≡ name_of bytes.now entry.now }
 {
-    &bytes[entry.start..entry.start + entry.name_len]
+    let start = entry.start as usize;
+    &bytes[start..start + entry.name_len as usize]
 }
 
 // The formals of a definition, each with a comma after it.
@@ -36,8 +40,18 @@ pub(crate) fn list_in<'a>(bytes: &'a [u8], entry: &Entry) -> &'a [u8]
     requires { entry_end entry.now ≤ length bytes.now }
     ensures { result.now ≡ list_of bytes.now entry.now }
 {
-    let start = entry.start + entry.name_len;
-    &bytes[start..start + entry.list_len]
+    let start = entry.start as usize + entry.name_len as usize;
+    &bytes[start..start + entry.list_len as usize]
+}
+
+// How many formals a definition has, where it has a list.
+pub(crate) fn arity_in(entry: &Entry) -> Option<usize>
+    ensures { result ≡ entry.now.arity }
+{
+    match entry.arity {
+        Some(count) => Some(count as usize),
+        None => None,
+    }
 }
 
 // How many marks a definition has.
@@ -45,8 +59,8 @@ pub(crate) fn list_in<'a>(bytes: &'a [u8], entry: &Entry) -> &'a [u8]
 pub(crate) fn marks_len(entry: &Entry) -> usize
     ensures { result ≡ marks_len entry.now }
 {
-    let count = entry.arity.unwrap_or(0);
-    if is_marked(count, entry.list_len) {
+    let count = arity_in(entry).unwrap_or(0);
+    if is_marked(count, entry.list_len as usize) {
         count
     } else {
         0
@@ -61,11 +75,12 @@ pub(crate) fn listed_in<'a>(bytes: &'a [u8], marks: &'a [u32], entry: &Entry) ->
     ensures count { result.count ≡ unwrap_or entry.now.arity 0 }
     ensures marks { result.marks.now ≡ slice_range marks.now entry.now.marks (entry.now.marks + marks_len entry.now) }
 {
-    let end = entry.marks + marks_len(entry);
+    let first = entry.marks as usize;
+    let end = first + marks_len(entry);
     Listed {
         list: list_in(bytes, entry),
-        count: entry.arity.unwrap_or(0),
-        marks: &marks[entry.marks..end],
+        count: arity_in(entry).unwrap_or(0),
+        marks: &marks[first..end],
     }
 }
 
@@ -75,6 +90,6 @@ pub(crate) fn body_in<'a>(bytes: &'a [u8], entry: &Entry) -> &'a [u8]
     requires { entry_end entry.now ≤ length bytes.now }
     ensures { result.now ≡ body_of bytes.now entry.now }
 {
-    let start = entry.start + entry.name_len + entry.list_len;
-    &bytes[start..start + entry.body_len]
+    let start = entry.start as usize + entry.name_len as usize + entry.list_len as usize;
+    &bytes[start..start + entry.body_len as usize]
 }

@@ -44,13 +44,13 @@ pub(crate) struct Kept {
     pub(crate) kind: KeptKind,
 }
 
+// How many stops of a body are kept.
+pub(crate) const KEPT: usize = 10;
+
 // The first stops of a body, each of them the first one behind the one before.
 #[derive(Clone, Copy, Drop)]
 pub(crate) struct FirstStops {
-    pub(crate) first: Kept,
-    pub(crate) second: Kept,
-    pub(crate) third: Kept,
-    pub(crate) fourth: Kept,
+    pub(crate) all: [Kept; KEPT],
 }
 
 // What is kept where no stop is known to end.
@@ -151,22 +151,22 @@ fn kept_from(formals: &Listed, body: &[u8], from: u16) -> Kept
     }
 }
 
-// The first stops of a body, among formals as they lie in a table.
+// The first stops of a body, among formals as they lie in a table. Behind one that isn't known to end nothing is looked for.
 pub(crate) fn first_stops(formals: &Listed, body: &[u8]) -> FirstStops
     requires listed { IsListed formals.now.count formals.now.list.now formals.now.marks.now }
     requires short { length body.now < 2 ^ 64 }
     ensures { result ≡ first_stops (formals_read formals.now.count formals.now.list.now) body.now }
 {
-    let first = kept_from(formals, body, 0);
-    let second = kept_from(formals, body, first.end);
-    let third = kept_from(formals, body, second.end);
-    let fourth = kept_from(formals, body, third.end);
-    FirstStops {
-        first,
-        second,
-        third,
-        fourth,
+    let mut all = [endless(KeptKind::Unknown, 0); KEPT];
+    let mut count = 0;
+    let mut from = 0;
+    while count < KEPT && from < 65535 {
+        let next = kept_from(formals, body, from);
+        all[count] = next;
+        from = next.end;
+        count += 1;
     }
+    FirstStops { all }
 }
 
 // Whether a stop that is kept as the first one from a place on stands behind quiet bytes alone, and ends in a range.
@@ -206,35 +206,23 @@ struct Candidate<'a> {
     kept: &'a Kept,
 }
 
-// The first of the stops that are kept that doesn't end in front of a place, or at it; or else the last of them.
+// The first of the stops that are kept that doesn't end in front of a place, or at it; or else the last of them. The first
+// one that is known not to end is the last one that tells anything, so that places behind 65,534 count as this one.
 fn candidate_at(stops: &FirstStops, from: usize) -> Candidate<'_>
     ensures order { result.start ≤ from }
     ensures kept { (formals : List Formal) (text : List ℕ) → stops.now ≡ first_stops formals text → result.kept.now ≡ kept_from formals text result.start }
 {
-    let first = stops.first.end;
-    if from < first as usize {
-        return Candidate {
-            start: 0,
-            kept: &stops.first,
-        };
-    }
-    let second = stops.second.end;
-    if from < second as usize {
-        return Candidate {
-            start: first,
-            kept: &stops.second,
-        };
-    }
-    let third = stops.third.end;
-    if from < third as usize {
-        return Candidate {
-            start: second,
-            kept: &stops.third,
-        };
+    let place = from.min(65534);
+    let mut start = 0;
+    for kept in &stops.all[..KEPT - 1] {
+        if place < kept.end as usize {
+            return Candidate { start, kept };
+        }
+        start = kept.end;
     }
     Candidate {
-        start: third,
-        kept: &stops.fourth,
+        start,
+        kept: &stops.all[KEPT - 1],
     }
 }
 

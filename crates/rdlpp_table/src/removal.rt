@@ -19,8 +19,8 @@ fn move_down(entries: &mut [Entry], size: usize, marks: usize)
     ensures { entries.new ≡ map (moved_down size marks) entries.old }
 {
     for entry in entries.iter_mut() {
-        entry.start -= size;
-        entry.marks -= marks;
+        entry.start = (entry.start as usize - size) as u32;
+        entry.marks = (entry.marks as usize - marks) as u32;
     }
 }
 
@@ -68,10 +68,11 @@ fn take_out(bytes: &mut Vec<u8>, entries: &mut Vec<Entry>, order: &mut Vec<u32>,
     ensures capacity { (vec_capacity bytes.new ≡ vec_capacity bytes.old) × (vec_capacity entries.new ≡ vec_capacity entries.old) × (vec_capacity order.new ≡ vec_capacity order.old) }
 {
     let entry = entries.remove(place);
-    let size = entry.name_len + entry.list_len + entry.body_len;
+    let size = entry.name_len as usize + entry.list_len as usize + entry.body_len as usize;
     let marks = marks_len(&entry);
-    let first = entries.len() + entry.marks;
-    cut(bytes, entry.start, entry.start + size);
+    let first = entries.len() + entry.marks as usize;
+    let start = entry.start as usize;
+    cut(bytes, start, start + size);
     cut_marks(order, first, first + marks);
     move_down_from(entries, place, size, marks);
 }

@@ -80,6 +80,17 @@ fn stops_at(bytes: &[u8], list: usize, body: usize, count: usize, marks: &[u32])
     first_stops(&formals, &bytes[body..])
 }
 
+// How many formals a macro has, in a small number.
+fn small_arity(arity: Option<usize>) -> Option<u8>
+    requires { unwrap_or arity 0 < 256 }
+    ensures { result ≡ arity }
+{
+    match arity {
+        Some(count) => Some(count as u8),
+        None => None,
+    }
+}
+
 // Puts a macro behind the others, of which the index has a place already.
 fn put(bytes: &mut Vec<u8>, entries: &mut Vec<Entry>, order: &mut Vec<u32>, new: &New)
     requires stored { IsStored bytes.old.items entries.old.items (macros_in bytes.old.items entries.old.items) }
@@ -90,6 +101,9 @@ fn put(bytes: &mut Vec<u8>, entries: &mut Vec<Entry>, order: &mut Vec<u32>, new:
     requires entry_room { vec_len entries.old < vec_capacity entries.old }
     requires mark_room { vec_len order.old + new.now.list_len / 8 ≤ vec_capacity order.old }
     requires small { new.now.list_len < 2 ^ 32 }
+    requires narrow { (vec_capacity bytes.old < 2 ^ 32) × (vec_capacity order.old < 2 ^ 32) }
+    requires short { length new.now.name.now < 256 }
+    requires few_formals { unwrap_or new.now.arity 0 < 256 }
     ensures stored { IsStored bytes.new.items entries.new.items (macros_in bytes.old.items entries.old.items ++ new_macro new.now.name.now new.now.arity new.now.list.now new.now.is_logical new.now.text.now ∷ []) }
     ensures index { take (vec_len entries.new) order.new.items ≡ take (vec_len entries.old + 1) order.old.items }
     ensures marked { drop (vec_len entries.new) order.new.items ≡ table_marks (macros_in bytes.old.items entries.old.items ++ new_macro new.now.name.now new.now.arity new.now.list.now new.now.is_logical new.now.text.now ∷ []) }
@@ -105,13 +119,14 @@ fn put(bytes: &mut Vec<u8>, entries: &mut Vec<Entry>, order: &mut Vec<u32>, new:
     push_marks(order, &bytes[list..], count);
     append_trimmed(bytes, new.text, new.is_logical, false, new.body_len);
     let stops = stops_at(bytes.as_slice(), list, body, count, &order[first..]);
+    let marks = first - (entries.len() + 1);
     entries.push_reserved(Entry {
-        start,
-        name_len: new.name.len(),
-        list_len: new.list_len,
-        body_len: new.body_len,
-        arity: new.arity,
-        marks: first - (entries.len() + 1),
+        start: start as u32,
+        list_len: new.list_len as u32,
+        body_len: new.body_len as u32,
+        marks: marks as u32,
+        name_len: new.name.len() as u8,
+        arity: small_arity(new.arity),
         stops,
     });
 }
@@ -141,8 +156,9 @@ pub(crate) fn beside(
     match place_in(bytes, entries, order, starts, name, &mut Steps::new()) {
         Some(place) => {
             let entry = entries[place];
+            let front = entry.name_len as usize + entry.list_len as usize;
             Rest {
-                size: bytes.len() - (entry.name_len + entry.list_len + entry.body_len),
+                size: bytes.len() - (front + entry.body_len as usize),
                 count: entries.len() - 1,
             }
         }
@@ -167,6 +183,9 @@ pub(crate) fn replace(
     requires marked { drop (vec_len entries.old) order.old.items ≡ table_marks (macros_in bytes.old.items entries.old.items) }
     requires few { vec_len entries.old ≤ 65536 }
     requires small { new.now.list_len < 2 ^ 32 }
+    requires narrow { (vec_capacity bytes.old < 2 ^ 32) × (vec_capacity order.old < 2 ^ 32) }
+    requires short { length new.now.name.now < 256 }
+    requires few_formals { unwrap_or new.now.arity 0 < 256 }
     requires counted { IsNew new.now.name.now new.now.arity new.now.list.now new.now.list_len new.now.is_logical new.now.text.now new.now.body_len }
     requires room { table_size (without new.now.name.now (macros_in bytes.old.items entries.old.items)) + (length new.now.name.now + (new.now.list_len + new.now.body_len)) ≤ vec_capacity bytes.old }
     requires entry_room { length (without new.now.name.now (macros_in bytes.old.items entries.old.items)) < vec_capacity entries.old }

@@ -11,7 +11,7 @@ ghost use Rattle.rdlpp_table.specs.Define.{define_of, name_fault, observed, set_
 ghost use Rattle.rdlpp_table.specs.Store.{formals_read, IsListed};
 ghost use Rattle.rdlpp_table.specs.View.{TableView, AreSoundFormals, IsSound, IsSoundMacro, formal_at, formal_named, formals_of, macro_at, place_named};
 
-use crate::entry::{Entry, body_in, listed_in, name_in};
+use crate::entry::{Entry, arity_in, body_in, listed_in, name_in};
 use crate::fault::{DefineFault, DefineKind, NoMemory, lexical, refusal};
 use crate::formals::read_list;
 use crate::header::{after_space, leading_name, list_behind, unended};
@@ -212,14 +212,14 @@ impl Table {
         requires { id < length self.now.macros }
         ensures { result ≡ option_map length (macro_at self.now.macros id).formals }
     {
-        self.entries[id.index].arity
+        arity_in(&self.entries[id.index])
     }
 
     /// The first place, from `from` on and before `to`, of the body of a macro that isn't copied as it stands:
     /// a usage, a lone backquote or a formal of the macro. The bytes of the range are read as a text of their own,
     /// from plain text on. `from` and `to` are counted in bytes from the front of the body.
     ///
-    /// Takes time linear in the distance to that place, but where one of the first four stops of the body is known to be
+    /// Takes time linear in the distance to that place, but where one of the first ten stops of the body is known to be
     /// it: then no byte is read. It is where `from` lies among the blanks and the bytes that are tokens by themselves with
     /// which the body begins, or the text behind the stop before that one, or right behind them (255 of them count at most);
     /// and `to` is the end of the body, or the stop follows these bytes at once and ends at `to` or before it.

@@ -1,14 +1,25 @@
-use Rattle.rdlpp_table.proofs.FirstStops.{first_of, fourth_of, second_of, third_of}
+use Rattle.std.proofs.Common.{ap, arith, get_or, ℕ, ◌<◌, ◌≡◌}
+use Rattle.std.proofs.lemmas.List.{get_or-take}
+use Rattle.rdlpp_table.proofs.FirstStops.{all_stops, no_stop, stop_next}
 use Rattle.rdlpp_table.proofs.kept.candidate_at.Goals as goal
 
-pub returns-then-from-first-clause-kept : goal.returns-then-from-first-clause-kept
-returns-then-from-first-clause-kept c formals text e = first_of formals _ _ e
+pub loop-kept-init : goal.loop-kept-init
+loop-kept-init c = (omega arith, λ formals text e. all_stops formals text _ e)
 
-pub returns-then-from-second-clause-kept : goal.returns-then-from-second-clause-kept
-returns-then-from-second-clause-kept c formals text e = second_of formals _ _ e
+pub returns-then-place-kept-clause-kept : goal.returns-then-place-kept-clause-kept
+returns-then-place-kept-clause-kept c formals text e =
+    let i : ℕ = c.loop-kept.kept-index in
+    let h : i < 9 = omega arith in
+    (stop_next formals text c.args.stops.now.all no_stop _ i _ (omega arith) (omega (arith, h)) (c.loop-kept.invariant.1 formals text e) (get_or-take 9 c.args.stops.now.all i no_stop h)).0
 
-pub returns-then-from-third-clause-kept : goal.returns-then-from-third-clause-kept
-returns-then-from-third-clause-kept c formals text e = third_of formals _ _ e
+pub loop-kept-preserved : goal.loop-kept-preserved
+loop-kept-preserved c =
+    let i : ℕ = c.loop-kept.kept-index in
+    let h : i < 9 = omega arith in
+    (omega (arith, c.if-place-kept.false, c.min-place.ensures), λ formals text e. (stop_next formals text c.args.stops.now.all no_stop _ i _ (omega arith) (omega (arith, h)) (c.loop-kept.invariant.1 formals text e) (get_or-take 9 c.args.stops.now.all i no_stop h)).1)
 
 pub returns-clause-kept : goal.returns-clause-kept
-returns-clause-kept c formals text e = fourth_of formals _ _ e
+returns-clause-kept c formals text e =
+    let i : ℕ = c.loop-kept.kept-index in
+    let h : 9 ≡ i = omega arith in
+    (stop_next formals text c.args.stops.now.all no_stop _ i _ (omega arith) (omega (arith, h)) (c.loop-kept.invariant.1 formals text e) (ap (λ (n : ℕ). get_or c.args.stops.now.all n no_stop) h)).0

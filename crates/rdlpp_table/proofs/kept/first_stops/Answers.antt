@@ -1,6 +1,13 @@
-use Rattle.rdlpp_table.proofs.FirstStops.{first_four}
+use Rattle.std.proofs.Common.{rules, arith, inl, inr}
+use Rattle.rdlpp_table.proofs.FirstStops.{rest_unknown, stops_more, stops_whole}
 use Rattle.rdlpp_table.proofs.kept.first_stops.Goals as goal
 
-pub returns : goal.returns
-returns c =
-    first_four _ _ _ _ _ _ c.kept_from-first.ensures.value c.kept_from-second.ensures.value c.kept_from-third.ensures.value c.kept_from-fourth.ensures.value
+pub loop-count-preserved : goal.loop-count-preserved
+loop-count-preserved c =
+    (search rules, (omega arith, (search rules, (rest_unknown c.loop-count.all c.loop-count.count c.kept_from-next.result c.loop-count.invariant.1.1.1.0, stops_more _ _ c.loop-count.all c.loop-count.count _ c.kept_from-next.result (omega arith) c.kept_from-next.ensures.value c.loop-count.invariant.1.1.1.1))))
+
+pub returns-else-from-lt65535 : goal.returns-else-from-lt65535
+returns-else-from-lt65535 c = stops_whole _ _ c.loop-count.all c.loop-count.count _ c.loop-count.invariant.1.0 (inr (omega arith)) c.loop-count.invariant.1.1.1.0 c.loop-count.invariant.1.1.1.1
+
+pub returns-after-loop-count : goal.returns-after-loop-count
+returns-after-loop-count c = stops_whole _ _ c.loop-count.all c.loop-count.count _ c.loop-count.invariant.1.0 (inl (omega arith)) c.loop-count.invariant.1.1.1.0 c.loop-count.invariant.1.1.1.1

@@ -15,8 +15,8 @@ overflow_add-size-2 c =
     let h : c.args.place < length c.args.entries.now.items = omega (arith, count_items c.args.entries.now) in
     omega (arith, bytes_fit c.args.bytes.now, end_within _ _ _ _ _ c.requires.stored h c.remove-entry.ensures.value)
 
-pub overflow_add-entry : goal.overflow_add-entry
-overflow_add-entry c =
+pub overflow_add-start : goal.overflow_add-start
+overflow_add-start c =
     let h : c.args.place < length c.args.entries.now.items = omega (arith, count_items c.args.entries.now) in
     omega (arith, bytes_fit c.args.bytes.now, end_within _ _ _ _ _ c.requires.stored h c.remove-entry.ensures.value)
 

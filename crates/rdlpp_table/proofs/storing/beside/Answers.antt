@@ -21,16 +21,6 @@ pub overflow_sub-result-in-Some : goal.overflow_sub-result-in-Some
 overflow_sub-result-in-Some c =
     omega (arith, inside_by_place (macros_in c.args.bytes.now c.args.entries.now) _ _ (sym c.place_in.ensures.value ∙ c.in-Some.is), length_macros_in c.args.bytes.now c.args.entries.now)
 
-pub overflow_add-result : goal.overflow_add-result
-overflow_add-result c =
-    let at : place_named (macros_in c.args.bytes.now c.args.entries.now) c.args.name.now ≡ Some c.in-Some.place = sym c.place_in.ensures.value ∙ c.in-Some.is in
-    omega (arith, beside_size _ _ _ _ _ no_entry c.requires.stored c.requires.distinct at)
-
-pub overflow_add-result-in-Some : goal.overflow_add-result-in-Some
-overflow_add-result-in-Some c =
-    let at : place_named (macros_in c.args.bytes.now c.args.entries.now) c.args.name.now ≡ Some c.in-Some.place = sym c.place_in.ensures.value ∙ c.in-Some.is in
-    omega (arith, beside_size _ _ _ _ _ no_entry c.requires.stored c.requires.distinct at)
-
 pub overflow_sub-result : goal.overflow_sub-result
 overflow_sub-result c =
     let at : place_named (macros_in c.args.bytes.now c.args.entries.now) c.args.name.now ≡ Some c.in-Some.place = sym c.place_in.ensures.value ∙ c.in-Some.is in

@@ -1,4 +1,4 @@
-use Rattle.std.proofs.Common.{◌≡◌, ◌+◌, ◌-◌, ◌∙◌, ◌++◌, drop, take, vec_len, ◌∷◌, [], ap, arith, length, length-append, unwrap_or, List, ℕ}
+use Rattle.std.proofs.Common.{Option, ◌≡◌, ◌+◌, ◌-◌, ◌∙◌, ◌++◌, drop, take, vec_len, ◌∷◌, [], ap, arith, length, length-append, unwrap_or, List, ℕ}
 use Rattle.std.specs.List.{flat_map}
 use Rattle.rdlpp_lines.specs.Texts.{start_level}
 use Rattle.rdlpp_table.specs.Table.{Formal, formal_bytes}
@@ -58,7 +58,7 @@ returns-clause-stored c =
     (c.len-start.ensures ∙ count_items c.args.bytes.now)
     (omega (arith, c.len-first.ensures, count_items c.args.order.now, c.len.ensures, length-drop (vec_len c.args.entries.now + 1) c.args.order.now.items, ap (length {A = ℕ}) c.requires.marked))
     (new_bytes _ _ _ _ _ _ _ _ _ c.append_part.ensures.items c.append_formals.ensures.items (c.append_trimmed.ensures.items ∙ ap (λ (l : List ℕ). c.append_formals.new.bytes.items ++ l) (body_is _ _)))
-    (c.push_reserved.ensures.items ∙ ap (λ (e : Entry). c.args.entries.now.items ++ e ∷ []) (new_entry c.len-start.result (c.len-first.result - (c.len.result + 1)) _ _ _ _ _ _ _ _ c.requires.counted
+    (c.push_reserved.ensures.items ∙ ap (λ (e : Entry). c.args.entries.now.items ++ e ∷ []) (ap (λ (a : Option ℕ). let e : Entry = record { start = c.len-start.result; name_len = length c.args.new.now.name.now; list_len = c.args.new.now.list_len; body_len = c.args.new.now.body_len; arity = a; marks = c.len-first.result - (c.len.result + 1); stops = c.stops_at-stops.result } in e) c.small_arity.ensures ∙ new_entry c.len-start.result (c.len-first.result - (c.len.result + 1)) _ _ _ _ _ _ _ _ c.requires.counted
     (new_stops c.args.new.now.name.now _ _ _ _ _ _ _ _ _ _ _ _ c.requires.counted.listed c.append_formals.ensures.items (c.append_trimmed.ensures.items ∙ ap (λ (l : List ℕ). c.append_formals.new.bytes.items ++ l) (body_is _ _))
     (c.len-list.ensures ∙ count_items c.append_part.new.to) (c.len-body.ensures ∙ count_items c.append_formals.new.bytes) c.unwrap_or-count.ensures (c.stops_at-stops.ensures ∙ ap (λ (x : List ℕ). stops_told x c.len-list.result c.len-body.result c.unwrap_or-count.result) c.as_slice.ensures.value))))
 
