@@ -7,7 +7,7 @@ use Rattle.std.proofs.lemmas.Bool.{cases_lt, cond-true, cond-false, lt-ltb, le-l
 use Rattle.std.proofs.Math.Seq.{get_or-append_seam}
 use Rattle.rdlpp_table.specs.Index.{closed, IsGap, IsIndex, index_order, key_at, name_at, names_of, IsDivided, IsPlace, part_of}
 use Rattle.rdlpp_table.specs.Table.{Macro}
-use Rattle.rdlpp_table.proofs.Orders.{one_place, turned, less_part, more_part}
+use Rattle.rdlpp_table.proofs.Orders.{one_place, turned, turned_back, less_part, more_part}
 
 -- An index that has something behind it, in one list.
 
@@ -187,6 +187,31 @@ left_index names order at taken x h e =
           ap (λ (n : List ℕ). index_order n (key_at (remove names taken) (map (closed taken) (remove order at)) k)) one
           ∙ (ap (λ (n : List ℕ). index_order (key_at names order f.0) n) two
           ∙ x.sorted f.0 b.0 (from_sorted at j k f.0 b.0 g f.1.shift b.1.shift) b.1.inside);
+    }
+
+below_place : (at j k : ℕ) → j < at → ((j < at) × (k ≡ j)) ⊎ ((at ≤ j) × (k ≡ j + 1)) → k < at
+below_place at j k h (inl a) = omega arith
+below_place at j k h (inr a) = absurd (omega arith)
+
+above_place : (at j k : ℕ) → at ≤ j → ((j < at) × (k ≡ j)) ⊎ ((at ≤ j) × (k ≡ j + 1)) → at < k
+above_place at j k h (inl a) = absurd (omega arith)
+above_place at j k h (inr a) = omega arith
+
+-- a name that was taken out would stand where it stood
+pub left_gap : (names : List (List ℕ)) (order name : List ℕ) (at taken : ℕ) → IsIndex names order → IsPlace names order name at → taken ≡ get_or order at 0 → IsGap (remove names taken) (map (closed taken) (remove order at)) name at
+left_gap names order name at taken x p e =
+    let count : length (map (closed taken) (remove order at)) ≡ length (remove order at) = length-map (remove order at) (closed taken) in
+    record {
+      fits = omega (arith, length-remove order at p.inside, p.inside);
+      below = λ k h.
+          let f = left_key names order at taken k x p.inside e (omega (arith, length-remove order at p.inside, p.inside)) in
+          ap (λ (n : List ℕ). index_order n name) f.1.key
+          ∙ (ap (index_order (key_at names order f.0)) (sym p.same)
+          ∙ x.sorted f.0 at (below_place at k f.0 h f.1.shift) p.inside);
+      above = λ k h l.
+          let f = left_key names order at taken k x p.inside e (omega arith) in
+          ap (λ (n : List ℕ). index_order n name) f.1.key
+          ∙ turned_back name (key_at names order f.0) (ap (λ (n : List ℕ). index_order n (key_at names order f.0)) (sym p.same) ∙ x.sorted at f.0 (above_place at k f.0 h f.1.shift) f.1.inside);
     }
 
 pub names_left : (ms : List Macro) (place : ℕ) → names_of (remove ms place) ≡ remove (names_of ms) place

@@ -15,8 +15,8 @@ use Rattle.rdlpp_table.specs.Index.{IsGap, IsIndex, IsIndexed, IsPlace, closed, 
 use Rattle.rdlpp_table.proofs.Sizes.{length_macros_in, macros_of_none, count_items}
 use Rattle.rdlpp_table.proofs.RoundTrip.{read_back, stored_count}
 use Rattle.rdlpp_table.proofs.Taken.{without_at, without_length, without_nowhere}
-use Rattle.rdlpp_table.proofs.Orders.{count_names, name_of_macro, indexed_place, position_none}
-use Rattle.rdlpp_table.proofs.Indexed.{entered_index, left_index, names_left, IsLater, IsSooner, entered_divided, left_divided, nothing_divided}
+use Rattle.rdlpp_table.proofs.Orders.{count_names, name_of_macro, indexed_place}
+use Rattle.rdlpp_table.proofs.Indexed.{entered_index, left_gap, left_index, names_left, IsLater, IsSooner, entered_divided, left_divided, nothing_divided}
 
 -- an index of entries has as many places, each that of an entry
 pub entry_inside : (bytes : List ℕ) (entries : List Entry) (order : List ℕ) (k : ℕ) → IsIndex (names_of (macros_in bytes entries)) order → k < length order → get_or order k 0 < length entries
@@ -60,16 +60,6 @@ unfolding without
 none_stays name [] k l = absurd (omega arith)
 none_stays name (m ∷ ms) k l = stays_none (bytes_eq m.name name) m (without name ms) name refl (none_stays name ms) k l
 
-pub nowhere_without : (name : List ℕ) (ms : List Macro) → place_named (without name ms) name ≡ None
-nowhere_without name ms = position_none (λ m. bytes_eq m.name name) (without name ms) no_macro (none_stays name ms)
-
-pub nowhere_stored : (bs : List ℕ) (es : List Entry) (bytes : List ℕ) (entries : List Entry) (name : List ℕ) (ms : List Macro) → bs ≡ bytes → es ≡ entries → IsStored bytes entries (without name ms) → place_named (macros_in bs es) name ≡ None
-nowhere_stored bs es bytes entries name ms p q s =
-    ap (λ (l : List ℕ). place_named (macros_in l es) name) p
-    ∙ (ap (λ (l : List Entry). place_named (macros_in bytes l) name) q
-    ∙ (ap (λ (l : List Macro). place_named l name) (read_back bytes entries (without name ms) s)
-    ∙ nowhere_without name ms))
-
 pub few_left : (bytes : List ℕ) (entries old_entries : List Entry) (old : List ℕ) (name : List ℕ) → IsStored bytes entries (without name (macros_in old old_entries)) → length old_entries ≤ 65536 → length entries ≤ 65536
 few_left bytes entries old_entries old name s h =
     omega (arith, stored_count bytes entries _ s, without_length name (macros_in old old_entries), length_macros_in old old_entries)
@@ -86,6 +76,16 @@ left_without ms order starts name at taken part new begun d x p e f q b =
     let P : List (List ℕ) → Type 0 = λ n. IsIndexed n (map (closed taken) (remove order at)) begun in
     let Q : List ℕ → Type 0 = λ o. IsIndexed (names_of (without name ms)) o begun in
     subst Q (sym f) (subst P names left)
+
+-- a name that was taken out would stand in the index of what is left where it stood
+pub gap_without : (ms : List Macro) (order name : List ℕ) (at taken : ℕ) (new : List ℕ) (bytes : List ℕ) (entries : List Entry) → IsDistinct bytes_eq (map (λ m. m.name) ms) → IsIndex (names_of ms) order → IsPlace (names_of ms) order name at → taken ≡ get_or order at 0 → new ≡ map (closed taken) (remove order at) → IsStored bytes entries (without name ms) → IsGap (names_of (macros_in bytes entries)) new name at
+gap_without ms order name at taken new bytes entries d x p e f s =
+    let named : place_named ms name ≡ Some taken = indexed_place ms order name at x p ∙ ap Some (sym e) in
+    let names : remove (names_of ms) taken ≡ names_of (without name ms) = sym (ap names_of (without_at name ms taken d named) ∙ names_left ms taken) in
+    let back : names_of (without name ms) ≡ names_of (macros_in bytes entries) = ap names_of (sym (read_back bytes entries (without name ms) s)) in
+    let P : List (List ℕ) → Type 0 = λ n. IsGap n (map (closed taken) (remove order at)) name at in
+    let Q : List ℕ → Type 0 = λ o. IsGap (names_of (macros_in bytes entries)) o name at in
+    subst Q (sym f) (subst P back (subst P names (left_gap (names_of ms) order name at taken x p e)))
 
 -- so many places of a list that has them
 pub length_front : (items : List ℕ) (n : ℕ) → length (take n items) ≤ n

@@ -1,7 +1,7 @@
 -- The macros but the one of a name, and that macro taken out of the lists in which a table lies.
-use Rattle.std.proofs.Common.{◌≡◌, ℕ, ◌+◌, ◌<◌, ◌≤◌, Bool, true, false, cond, not, ◌||◌, List, [], ◌∷◌, ◌++◌, length, map, remove, bytes_eq, Option, Some, None, refl, ap, sym, ◌∙◌, subst, arith, one-add, inl, inr, suc, ◌-◌, take, drop, get_or, length-append, append_assoc, add-zero, add-one, zero-add, ◌^◌, Vec, Global, vec_capacity, vec_len}
+use Rattle.std.proofs.Common.{◌≡◌, ℕ, ◌+◌, ◌<◌, ◌≤◌, Bool, true, false, cond, not, ◌||◌, List, [], ◌∷◌, ◌++◌, length, map, remove, bytes_eq, Option, Some, None, refl, ap, sym, ◌∙◌, subst, arith, one-add, inl, inr, suc, ◌-◌, take, drop, get_or, length-append, append_assoc, add-zero, add-one, zero-add, ◌^◌, Vec, Global, vec_capacity}
 use Rattle.std.specs.List.{IsDistinct, AllByRecursion, position_or_len, filter, list_any, All, list_all, remove_range}
-use Rattle.std.proofs.lemmas.List.{map-append, length-drop, length-map, take_at, drop_at, take-append-drop, drop_more, length-take-le}
+use Rattle.std.proofs.lemmas.List.{map-append, length-drop, take_at, drop_at, take-append-drop, drop_more, length-take-le}
 use Rattle.std.proofs.lemmas.Cmp.{nat_list_eq_equiv}
 use Rattle.std.proofs.lemmas.Bool.{cases_Bool, cases_lt, lt-ltb, le-ltb, cond-true, cond-false, and_parts, and_from}
 use Rattle.std.proofs.lemmas.Map.Keys.{IsDistinct-head, IsDistinct-tail, IsDistinct-cons, IsDistinct-push}
@@ -11,7 +11,7 @@ use Rattle.std.proofs.lemmas.List.Elements.{All-cons, All-nil}
 use Rattle.rdlpp_table.specs.Index.{names_of}
 use Rattle.rdlpp_table.specs.Table.{Macro, table_size, without, macro_size, macro_bytes, table_bytes}
 use Rattle.rdlpp_table.specs.View.{place_named, macro_at, no_macro}
-use Rattle.rdlpp_table.proofs.Sizes.{table_size-cons, count_items, stored_within, length_macro_bytes, length_table_bytes, length_marks-cons, marks_len_of, no_marks, entry_of_macro}
+use Rattle.rdlpp_table.proofs.Sizes.{table_size-cons, stored_within, length_macro_bytes, length_table_bytes, length_marks-cons, marks_len_of, no_marks, entry_of_macro}
 use Rattle.rdlpp_table.specs.declared.entry.Entry.{Entry}
 use Rattle.rdlpp_table.specs.Store.{entry_of, entries_of, entry_end, body_start, list_start, list_size, is_plain_macro, IsStored}
 use Rattle.rdlpp_table.specs.Marks.{macro_marks, table_marks}
@@ -371,10 +371,3 @@ end_within bytes entries ms place entry s h q =
 
 pub capacity_small : (v : Vec ℕ Global) → vec_capacity v < 2 ^ 63
 capacity_small v = omega (arith, v.small)
-
--- entries that were moved are as many
-pub count_moved : (new old : Vec Entry Global) (place size marks n : ℕ) → new.items ≡ take place old.items ++ map (moved_down size marks) (drop place old.items) → n ≡ vec_len old → vec_len new ≡ n
-count_moved new old place size marks n e h =
-    let moved : length new.items ≡ length (take place old.items) + length (drop place old.items) = ap length e ∙ (length-append (take place old.items) _ ∙ ap (λ (k : ℕ). length (take place old.items) + k) (length-map (drop place old.items) (moved_down size marks))) in
-    let whole : length old.items ≡ length (take place old.items) + length (drop place old.items) = ap length (sym (take-append-drop place old.items)) ∙ length-append (take place old.items) _ in
-    omega (arith, count_items new, count_items old)

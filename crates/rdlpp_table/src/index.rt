@@ -1,6 +1,6 @@
 // The index of a table: the places of its entries, sorted by the parts in which their names stand, and then by name. Behind it, in
 // the same list, lie the marks of its macros.
-ghost use Rattle.std.specs.Prelude.{◌≡◌, ◌+◌, ◌<◌, ◌≤◌, ◌^◌, ◌-◌, ◌++◌, MatchResult, None, drop, insert, length, map, remove, slice_index, take, vec_capacity, vec_len};
+ghost use Rattle.std.specs.Prelude.{◌≡◌, ◌+◌, ◌<◌, ◌≤◌, ◌^◌, ◌-◌, ◌++◌, MatchResult, drop, insert, length, map, remove, slice_index, take, vec_capacity, vec_len};
 ghost use Rattle.rdlpp_table.specs.Entries.{AreWithin};
 ghost use Rattle.rdlpp_table.specs.Index.{closed, names_of, IsCounted, IsGap, IsIndexed, IsMiddle, IsPlace};
 ghost use Rattle.rdlpp_table.specs.Store.{macros_in};
@@ -67,32 +67,6 @@ pub(crate) fn place_in(
     match seek(bytes, entries, order, starts, &Sought::new(name), steps) {
         Ok(at) => Some(order[at] as usize),
         Err(_) => None,
-    }
-}
-
-// The place in the index at which a name that isn't there would stand.
-pub(crate) fn gap_in(
-    bytes: &[u8],
-    entries: &[Entry],
-    order: &[u32],
-    starts: &[u32],
-    name: &[u8],
-) -> usize
-    requires within { AreWithin (length bytes.now) entries.now }
-    requires indexed { IsIndexed (names_of (macros_in bytes.now entries.now)) order.now starts.now }
-    requires few { length entries.now ≤ 65536 }
-    requires absent { place_named (macros_in bytes.now entries.now) name.now ≡ None }
-    ensures { IsGap (names_of (macros_in bytes.now entries.now)) order.now name.now result }
-{
-    match seek(
-        bytes,
-        entries,
-        order,
-        starts,
-        &Sought::new(name),
-        &mut Steps::new(),
-    ) {
-        Ok(at) | Err(at) => at,
     }
 }
 

@@ -32,7 +32,7 @@ ghost use Rattle.rdlpp_table.specs.New.{list_formals, new_macro, stops_told, IsL
 
 use crate::entry::Entry;
 use crate::formals::append_list;
-use crate::index::{enter, gap_in, place_in};
+use crate::index::{enter, place_in};
 use crate::kept::{FirstStops, first_stops};
 use crate::marks::{Listed, push_marks};
 use crate::parts::{begin_later, part_of};
@@ -195,10 +195,8 @@ pub(crate) fn replace(
     ensures marked { drop (vec_len entries.new) order.new.items ≡ table_marks (without new.now.name.now (macros_in bytes.old.items entries.old.items) ++ new_macro new.now.name.now new.now.arity new.now.list.now new.now.is_logical new.now.text.now ∷ []) }
     ensures capacity { (vec_capacity bytes.new ≡ vec_capacity bytes.old) × (vec_capacity entries.new ≡ vec_capacity entries.old) × (vec_capacity order.new ≡ vec_capacity order.old) }
 {
-    take_out_named(bytes, entries, order, starts, new.name);
-    let count = entries.len();
-    let gap = gap_in(bytes, entries, &order[..count], starts, new.name);
-    enter(order, gap, count);
+    let (_, gap) = take_out_named(bytes, entries, order, starts, new.name);
+    enter(order, gap, entries.len());
     begin_later(starts, part_of(new.name));
     put(bytes, entries, order, new);
 }

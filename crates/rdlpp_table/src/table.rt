@@ -289,6 +289,7 @@ impl Table {
             &mut self.starts,
             name,
         )
+        .0
     }
 
     /// Stores the macro of a `define` in the place of one of its name (IEEE 1364-2001, `define`); `rest` is what

@@ -3,7 +3,7 @@ use Rattle.std.proofs.lemmas.List.{length-take-le}
 use Rattle.rdlpp_table.specs.Index.{closed}
 use Rattle.rdlpp_table.proofs.Sizes.{count_items, is_named, stored_slices_within}
 use Rattle.rdlpp_table.proofs.RoundTrip.{stored_without, stored_nowhere}
-use Rattle.rdlpp_table.proofs.Keyed.{entry_inside, gapped, index_front, left_nowhere, left_without, marks_nowhere, length_front, marks_without, placed}
+use Rattle.rdlpp_table.proofs.Keyed.{entry_inside, gapped, index_front, left_nowhere, left_without, gap_without, marks_nowhere, length_front, marks_without, placed}
 use Rattle.rdlpp_table.proofs.Indexed.{sooner_is, sooner_more}
 use Rattle.rdlpp_table.proofs.Orders.{indexed_gap, indexed_place}
 use Rattle.rdlpp_table.proofs.removal.take_out_named.Goals as goal
@@ -66,6 +66,18 @@ returns-in-Ok-clause-indexed c =
     ∙ ap (λ (n : ℕ). map (closed c.leave-place.result) (remove (take n c.args.order.now.items) c.in-Ok.at)) c.len-count.ensures)) in
     left_without _ _ _ _ _ _ _ _ _ c.requires.distinct c.requires.indexed p value left c.part_of.ensures.value (sooner_is _ _ _ (omega (arith, c.part_of.ensures.small, c.requires.indexed.divided.long)) c.begin_sooner.ensures)
 
+pub returns-in-Ok-clause-gap : goal.returns-in-Ok-clause-gap
+returns-in-Ok-clause-gap c =
+    let p = placed _ _ _ _ _ _ _ _ _ c.deref.ensures.value c.deref-2.ensures.value (ap (take c.len-count.result) c.deref-3.ensures.value ∙ ap (λ (n : ℕ). take n c.args.order.now.items) c.len-count.ensures) c.new.ensures c.in-Ok.ensures.found in
+    let value : c.leave-place.result ≡ get_or (take (vec_len c.args.entries.now) c.args.order.now.items) c.in-Ok.at 0 = c.leave-place.ensures.value ∙ ap (λ (n : ℕ). get_or (take n c.args.order.now.items) c.in-Ok.at 0) c.len-count.ensures in
+    let left : take (vec_len c.take_out.new.entries) c.take_out.new.order.items ≡ map (closed c.leave-place.result) (remove (take (vec_len c.args.entries.now) c.args.order.now.items) c.in-Ok.at) =
+    c.take_out.ensures.index
+    ∙ (ap (λ (n : ℕ). take (n - 1) c.leave-place.new.order.items) (sym c.len-count.ensures)
+    ∙ (c.leave-place.ensures.index
+    ∙ ap (λ (n : ℕ). map (closed c.leave-place.result) (remove (take n c.args.order.now.items) c.in-Ok.at)) c.len-count.ensures)) in
+    gap_without _ _ _ _ _ _ _ _ c.requires.distinct c.requires.indexed.index p value left
+    (stored_without _ _ _ _ _ c.requires.distinct (indexed_place _ _ _ _ c.requires.indexed.index p ∙ ap Some (sym value)) c.take_out.ensures.stored)
+
 pub returns-in-Ok-clause-marked : goal.returns-in-Ok-clause-marked
 returns-in-Ok-clause-marked c =
     let p = placed _ _ _ _ _ _ _ _ _ c.deref.ensures.value c.deref-2.ensures.value (ap (take c.len-count.result) c.deref-3.ensures.value ∙ ap (λ (n : ℕ). take n c.args.order.now.items) c.len-count.ensures) c.new.ensures c.in-Ok.ensures.found in
@@ -91,3 +103,7 @@ pub returns-clause-marked : goal.returns-clause-marked
 returns-clause-marked c =
     let g = gapped _ _ _ _ _ _ _ _ _ c.deref.ensures.value c.deref-2.ensures.value (ap (take c.len-count.result) c.deref-3.ensures.value ∙ ap (λ (n : ℕ). take n c.args.order.now.items) c.len-count.ensures) c.new.ensures c.in-Err.ensures.found in
     c.requires.marked ∙ marks_nowhere _ _ (indexed_gap _ _ _ _ c.requires.indexed.index g)
+
+pub returns-clause-gap : goal.returns-clause-gap
+returns-clause-gap c =
+    gapped _ _ _ _ _ _ _ _ _ c.deref.ensures.value c.deref-2.ensures.value (ap (take c.len-count.result) c.deref-3.ensures.value ∙ ap (λ (n : ℕ). take n c.args.order.now.items) c.len-count.ensures) c.new.ensures c.in-Err.ensures.found
