@@ -96,8 +96,9 @@ pub struct Engine<S: Sources> {
     table: Table,
     conditions: Conditions,
     sources: S,
-    files: Files<S::Reader>,
     expansion: Expansion,
+    // Dropped last: its buffers lie between the other memory, so that an allocator doesn't give all of that back at once.
+    files: Files<S::Reader>,
 }
 
 impl<S: Sources> Model for Engine<S> {
