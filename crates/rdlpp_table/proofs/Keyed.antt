@@ -1,5 +1,5 @@
 -- The index of a table's entries: the names to which it leads, and the index of the lists that a change makes.
-use Rattle.std.proofs.Common.{◌≡◌, ℕ, zero, suc, ◌<◌, ◌≤◌, Bool, true, false, cond, not, List, [], ◌∷◌, ◌++◌, length, map, get_or, insert, remove, bytes_eq, refl, ap, sym, ◌∙◌, subst, arith, Option, Some, None, Vec, Global, drop, take, vec_len}
+use Rattle.std.proofs.Common.{◌≡◌, ℕ, ◌<◌, ◌≤◌, List, [], ◌∷◌, ◌++◌, length, map, get_or, insert, remove, bytes_eq, refl, ap, sym, ◌∙◌, subst, arith, Option, Some, None, drop, take}
 use Rattle.std.specs.List.{IsDistinct}
 use Rattle.std.specs.declared.cmp.Ordering.{Ordering}
 use Rattle.std.proofs.Math.Nat.{min-le_left, min-le_right}
@@ -8,11 +8,11 @@ use Rattle.rdlpp_table.specs.declared.entry.Entry.{Entry}
 use Rattle.rdlpp_table.specs.Entries.{AreWithin}
 use Rattle.rdlpp_table.specs.Marks.{table_marks}
 use Rattle.rdlpp_table.specs.Table.{Macro, without}
-use Rattle.rdlpp_table.specs.View.{TableView, macro_at, no_macro, place_named}
+use Rattle.rdlpp_table.specs.View.{TableView, no_macro, place_named}
 use Rattle.rdlpp_table.specs.Store.{IsStored, entry_end, macro_in, macros_in, name_of}
 use Rattle.rdlpp_table.specs.Layout.{IsHeld, view_of}
 use Rattle.rdlpp_table.specs.Index.{IsGap, IsIndex, IsIndexed, IsPlace, closed, key_at, name_order, names_of, part_of}
-use Rattle.rdlpp_table.proofs.Sizes.{length_macros_in, macros_of_none, count_items}
+use Rattle.rdlpp_table.proofs.Sizes.{length_macros_in, macros_of_none}
 use Rattle.rdlpp_table.proofs.RoundTrip.{read_back, stored_count}
 use Rattle.rdlpp_table.proofs.Taken.{without_at, without_length, without_nowhere}
 use Rattle.rdlpp_table.proofs.Orders.{count_names, name_of_macro, indexed_place}
@@ -44,23 +44,12 @@ placed bs es os bytes entries order sought name at p q r s h = rw (p, q, r, s) a
 pub gapped : (bs : List ℕ) (es : List Entry) (os : List ℕ) (bytes : List ℕ) (entries : List Entry) (order sought name : List ℕ) (gap : ℕ) → bs ≡ bytes → es ≡ entries → os ≡ order → sought ≡ name → IsGap (names_of (macros_in bs es)) os sought gap → IsGap (names_of (macros_in bytes entries)) order name gap
 gapped bs es os bytes entries order sought name gap p q r s h = rw (p, q, r, s) at h
 
-pub indexed_slices : (bs : List ℕ) (es : List Entry) (os : List ℕ) (bytes : List ℕ) (entries : List Entry) (order starts : List ℕ) (ms : List Macro) → bs ≡ bytes → es ≡ entries → os ≡ order → IsStored bytes entries ms → IsIndexed (names_of ms) order starts → IsIndexed (names_of (macros_in bs es)) os starts
+pub indexed_slices : {from ahead : ℕ} (bs : List ℕ) (es : List Entry) (os : List ℕ) (bytes : List ℕ) (entries : List Entry) (order starts : List ℕ) (ms : List Macro) → bs ≡ bytes → es ≡ entries → os ≡ order → IsStored from ahead bytes entries ms → IsIndexed (names_of ms) order starts → IsIndexed (names_of (macros_in bs es)) os starts
 indexed_slices bs es os bytes entries order starts ms p q r s x =
     let P : List Macro → Type 0 = λ l. IsIndexed (names_of l) order starts in
     rw (p, q, r) (subst P (sym (read_back bytes entries ms s)) x)
 
--- no macro of a name is left without it
-stays_none : (b : Bool) (m : Macro) (rest : List Macro) (name : List ℕ) → bytes_eq m.name name ≡ b → ((k : ℕ) → k < length rest → bytes_eq (macro_at rest k).name name ≡ false) → (k : ℕ) → k < length (cond (not b) (m ∷ rest) rest) → bytes_eq (macro_at (cond (not b) (m ∷ rest) rest) k).name name ≡ false
-stays_none true m rest name e h k l = h k l
-stays_none false m rest name e h zero l = e
-stays_none false m rest name e h (suc k) l = h k (omega arith)
-
-none_stays : (name : List ℕ) (ms : List Macro) (k : ℕ) → k < length (without name ms) → bytes_eq (macro_at (without name ms) k).name name ≡ false
-unfolding without
-none_stays name [] k l = absurd (omega arith)
-none_stays name (m ∷ ms) k l = stays_none (bytes_eq m.name name) m (without name ms) name refl (none_stays name ms) k l
-
-pub few_left : (bytes : List ℕ) (entries old_entries : List Entry) (old : List ℕ) (name : List ℕ) → IsStored bytes entries (without name (macros_in old old_entries)) → length old_entries ≤ 65536 → length entries ≤ 65536
+pub few_left : {from ahead : ℕ} (bytes : List ℕ) (entries old_entries : List Entry) (old : List ℕ) (name : List ℕ) → IsStored from ahead bytes entries (without name (macros_in old old_entries)) → length old_entries ≤ 65536 → length entries ≤ 65536
 few_left bytes entries old_entries old name s h =
     omega (arith, stored_count bytes entries _ s, without_length name (macros_in old old_entries), length_macros_in old old_entries)
 
@@ -78,7 +67,7 @@ left_without ms order starts name at taken part new begun d x p e f q b =
     subst Q (sym f) (subst P names left)
 
 -- a name that was taken out would stand in the index of what is left where it stood
-pub gap_without : (ms : List Macro) (order name : List ℕ) (at taken : ℕ) (new : List ℕ) (bytes : List ℕ) (entries : List Entry) → IsDistinct bytes_eq (map (λ m. m.name) ms) → IsIndex (names_of ms) order → IsPlace (names_of ms) order name at → taken ≡ get_or order at 0 → new ≡ map (closed taken) (remove order at) → IsStored bytes entries (without name ms) → IsGap (names_of (macros_in bytes entries)) new name at
+pub gap_without : {from ahead : ℕ} (ms : List Macro) (order name : List ℕ) (at taken : ℕ) (new : List ℕ) (bytes : List ℕ) (entries : List Entry) → IsDistinct bytes_eq (map (λ m. m.name) ms) → IsIndex (names_of ms) order → IsPlace (names_of ms) order name at → taken ≡ get_or order at 0 → new ≡ map (closed taken) (remove order at) → IsStored from ahead bytes entries (without name ms) → IsGap (names_of (macros_in bytes entries)) new name at
 gap_without ms order name at taken new bytes entries d x p e f s =
     let named : place_named ms name ≡ Some taken = indexed_place ms order name at x p ∙ ap Some (sym e) in
     let names : remove (names_of ms) taken ≡ names_of (without name ms) = sym (ap names_of (without_at name ms taken d named) ∙ names_left ms taken) in
@@ -92,9 +81,9 @@ pub length_front : (items : List ℕ) (n : ℕ) → length (take n items) ≤ n
 length_front items n = omega (arith, length-take n items, min-le_left n (length items))
 
 -- an index has as many places as there are entries, and so has the list that it begins
-pub index_front : (bytes : List ℕ) (entries : Vec Entry Global) (items : List ℕ) → IsIndex (names_of (macros_in bytes entries.items)) (take (vec_len entries) items) → vec_len entries ≤ length items
+pub index_front : (bytes : List ℕ) (entries : List Entry) (items : List ℕ) → IsIndex (names_of (macros_in bytes entries)) (take (length entries) items) → length entries ≤ length items
 index_front bytes entries items x =
-    omega (arith, index_length bytes entries.items (take (vec_len entries) items) x, count_items entries, length-take (vec_len entries) items, min-le_right (vec_len entries) (length items))
+    omega (arith, index_length bytes entries (take (length entries) items) x, length-take (length entries) items, min-le_right (length entries) (length items))
 
 -- the marks of the macros without the one of a name
 pub marks_without : (ms : List Macro) (name : List ℕ) (place : ℕ) → IsDistinct bytes_eq (map (λ m. m.name) ms) → place_named ms name ≡ Some place → table_marks (remove ms place) ≡ table_marks (without name ms)
@@ -108,7 +97,7 @@ left_nowhere ms order starts name at x =
     let P : List Macro → Type 0 = λ l. IsIndexed (names_of l) order starts in
     subst P (sym (without_nowhere name ms at)) x
 
-pub entered_with : (bs : List ℕ) (es : List Entry) (os : List ℕ) (bytes : List ℕ) (entries : List Entry) (order starts : List ℕ) (ms : List Macro) (m : Macro) (gap n part : ℕ) (new begun : List ℕ) → bs ≡ bytes → es ≡ entries → os ≡ order → IsStored bytes entries ms → IsIndexed (names_of ms) order starts → IsGap (names_of (macros_in bs es)) os m.name gap → n ≡ length entries → new ≡ insert order gap n → part ≡ part_of m.name → IsLater part starts begun → IsIndexed (names_of (ms ++ m ∷ [])) new begun
+pub entered_with : {from ahead : ℕ} (bs : List ℕ) (es : List Entry) (os : List ℕ) (bytes : List ℕ) (entries : List Entry) (order starts : List ℕ) (ms : List Macro) (m : Macro) (gap n part : ℕ) (new begun : List ℕ) → bs ≡ bytes → es ≡ entries → os ≡ order → IsStored from ahead bytes entries ms → IsIndexed (names_of ms) order starts → IsGap (names_of (macros_in bs es)) os m.name gap → n ≡ length entries → new ≡ insert order gap n → part ≡ part_of m.name → IsLater part starts begun → IsIndexed (names_of (ms ++ m ∷ [])) new begun
 entered_with bs es os bytes entries order starts ms m gap n part new begun p q r s x g e f a b =
     let back : macros_in bytes entries ≡ ms = read_back bytes entries ms s in
     let P : List Macro → Type 0 = λ l. IsGap (names_of l) order m.name gap in
@@ -143,7 +132,7 @@ nothing_marked bytes entries order n e f =
     nil_from_length (drop n order) (omega (arith, length-drop n order, ap (length {A = ℕ}) f)) ∙ sym (ap table_marks (macros_of_none bytes entries e))
 
 -- the marks of macros, as they are read back
-pub marked_after : (bytes : List ℕ) (entries : List Entry) (marks : List ℕ) (ms : List Macro) → IsStored bytes entries ms → marks ≡ table_marks ms → marks ≡ table_marks (macros_in bytes entries)
+pub marked_after : {from ahead : ℕ} (bytes : List ℕ) (entries : List Entry) (marks : List ℕ) (ms : List Macro) → IsStored from ahead bytes entries ms → marks ≡ table_marks ms → marks ≡ table_marks (macros_in bytes entries)
 marked_after bytes entries marks ms s e = e ∙ ap table_marks (sym (read_back bytes entries ms s))
 
 -- the place of a name among the macros of a table
@@ -151,9 +140,9 @@ pub viewed_place : (bs : List ℕ) (es : List Entry) (bytes : List ℕ) (entries
 viewed_place bs es bytes entries a b view name r p q e h =
     h ∙ (ap (λ (l : List ℕ). place_named (macros_in l es) name) p ∙ (ap (λ (l : List Entry). place_named (macros_in bytes l) name) q ∙ ap (λ (v : TableView). place_named v.macros name) e))
 
-pub indexed_after : (bytes : List ℕ) (entries : List Entry) (order starts : List ℕ) (ms : List Macro) → IsStored bytes entries ms → IsIndexed (names_of ms) order starts → IsIndexed (names_of (macros_in bytes entries)) order starts
+pub indexed_after : {from ahead : ℕ} (bytes : List ℕ) (entries : List Entry) (order starts : List ℕ) (ms : List Macro) → IsStored from ahead bytes entries ms → IsIndexed (names_of ms) order starts → IsIndexed (names_of (macros_in bytes entries)) order starts
 indexed_after bytes entries order starts ms s x = indexed_slices bytes entries order bytes entries order starts ms refl refl refl s x
 
 -- a table has no more entries than it takes
-pub few_entries : (bytes : List ℕ) (entries : List Entry) (a b : ℕ) → IsHeld bytes entries a b → length entries ≤ b
+pub few_entries : {from ahead : ℕ} (bytes : List ℕ) (entries : List Entry) (a b : ℕ) → IsHeld from ahead bytes entries a b → length entries ≤ b
 few_entries bytes entries a b held = omega (arith, held.sound.macros_fit, length_macros_in bytes entries)

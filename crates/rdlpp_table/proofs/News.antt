@@ -21,7 +21,8 @@ use Rattle.rdlpp_table.specs.Table.{Formal, Macro, formal_bytes, formal_size, ma
 use Rattle.rdlpp_lines.specs.Continuations.{joined}
 use Rattle.rdlpp_lines.specs.Texts.{Cleared, Sound, Unsound, onto, trimmed_left, trimmed_len, trims, cleared, told, read_by, left_in, kept_bytes, start_level}
 use Rattle.rdlpp_table.specs.Define.{Draft, Drawn, Rejected, lexical, observed, macro_set, name_fault, refused_word, set_of, stored, stored_draft, trimmed, with_body, without_list, without_remarks, Bad, DefaultText, Good, Listed, Unlisted, after_space, behind_name, default_in, formal_fault, formal_in, formal_name, formals_in, formals_of_list, is_nothing, with_default, FormalList}
-use Rattle.rdlpp_table.proofs.RoundTrip.{refused_is, between_parts, read_list}
+use Rattle.rdlpp_table.proofs.Taken.{between_parts}
+use Rattle.rdlpp_table.proofs.RoundTrip.{refused_is, read_list}
 use Rattle.rdlpp_table.specs.View.{AreSoundFormals, IsSoundMacro, formals_of}
 use Rattle.rdlpp_table.specs.New.{list_formals, new_macro, stops_told, IsList, IsNew}
 use Rattle.rdlpp_scan.specs.CleanTexts.{IsCleanText}

@@ -1,7 +1,7 @@
 -- The macros of a table are read back from its lists as they are, also after a change of those.
-use Rattle.std.proofs.Common.{◌≡◌, ℕ, ◌+◌, ◌-◌, true, false, List, [], ◌∷◌, ◌++◌, length, take, drop, map, get_or, Option, Some, None, option_map, unwrap_or, refl, ap, sym, ◌∙◌, arith, length-append, append_assoc, slice_range, sum_by, zero, suc, ◌<◌, ◌≤◌, zero-add, remove, bytes_eq, subst, append-nil, add-one, Ok, Err, le_trans}
+use Rattle.std.proofs.Common.{◌≡◌, ℕ, ◌+◌, ◌-◌, true, false, List, [], ◌∷◌, ◌++◌, length, take, drop, map, get_or, Option, Some, None, option_map, unwrap_or, refl, ap, sym, ◌∙◌, arith, length-append, append_assoc, slice_range, sum_by, zero, suc, ◌<◌, ◌≤◌, remove, bytes_eq, subst, append-nil, add-one, Ok, Err, le_trans}
 use Rattle.std.specs.List.{list_all, flat_map, prefix_len, IsDistinct, All}
-use Rattle.std.proofs.lemmas.List.{take_at, drop_at, drop-append-le, take-append-le}
+use Rattle.std.proofs.lemmas.List.{take_at, drop_at, drop-append-le, length-drop, length-take-le, take-append-le}
 use Rattle.std.proofs.lemmas.Bool.{and_parts, cond-true, cond-false, and_from, lt-ltb, le-ltb}
 use Rattle.std.proofs.lemmas.List.Folds.{list_all-append}
 use Rattle.std.proofs.lemmas.List.Elements.{All-filter, All-push}
@@ -12,7 +12,7 @@ use Rattle.rdlpp_lines.specs.Texts.{text_behind}
 use Rattle.rdlpp_table.specs.Marks.{macro_marks, marks_of, table_marks}
 use Rattle.rdlpp_table.proofs.Defaults.{default_read_back}
 use Rattle.rdlpp_table.proofs.Sizes.{length_list_bytes, length_macro_bytes, entry_of_macro, length_table_bytes, marks_len_of, table_size-cons, table_size-append, size_of_none, length_macros_in, macro_at_entry, inside_by_place}
-use Rattle.rdlpp_table.proofs.Taken.{table_bytes-cons, marks_at, split_at, table_bytes-append, table_marks-append, table_marks-cons, entries_of-append, length_entries_of, size_of_entry, without_at, without_nowhere, without_distinct, without_size, without_length, pushed_distinct}
+use Rattle.rdlpp_table.proofs.Taken.{between_parts, bytes_round, whole_bytes, table_bytes-cons, marks_at, split_at, table_bytes-append, table_marks-append, table_marks-cons, entries_of-append, length_entries_of, size_of_entry, without_at, without_nowhere, without_distinct, without_size, without_length, pushed_distinct}
 use Rattle.rdlpp_table.specs.Entries.{marks_len}
 use Rattle.rdlpp_table.specs.View.{formals_of, macro_at, place_named, TableView, IsSound, IsSoundMacro}
 use Rattle.rdlpp_table.specs.Layout.{view_of, IsHeld}
@@ -22,11 +22,6 @@ use Rattle.rdlpp_table.specs.declared.fault.DefineFault.{DefineFault}
 use Rattle.rdlpp_table.specs.declared.fault.DefineKind.TheVariants as kind
 
 -- The macros of a table are read back from its lists as they are.
-
--- a part of a text between two others
-pub between_parts : (a b c : List ℕ) (i j : ℕ) → length a ≡ i → i + length b ≡ j → slice_range (a ++ (b ++ c)) i j ≡ b
-between_parts a b c i j p q =
-    ap (take (j - i)) (drop_at a (b ++ c) i p) ∙ take_at b c (j - i) (omega arith)
 
 -- a name is read up to what stands behind it
 name_read : (name rest : List ℕ) → list_all is_name_byte name ≡ true → is_name_byte (get_or rest 0 0) ≡ false → prefix_len is_name_byte (name ++ rest) ≡ length name
@@ -136,8 +131,12 @@ read_macros before k (m ∷ ms) h =
     ∙ (ap (λ (i : ℕ). map (macro_in ((before ++ macro_bytes m) ++ table_bytes ms)) (entries_of i j ms)) n
     ∙ read_macros (before ++ macro_bytes m) j ms parts.1)))
 
-pub read_back : (bytes : List ℕ) (entries : List Entry) (ms : List Macro) → IsStored bytes entries ms → macros_in bytes entries ≡ ms
-read_back bytes entries ms s = ap (λ (l : List ℕ). macros_in l entries) s.bytes_are ∙ (ap (macros_in (table_bytes ms)) s.entries_are ∙ read_macros [] 0 ms s.plain)
+pub read_back : {from ahead : ℕ} (bytes : List ℕ) (entries : List Entry) (ms : List Macro) → IsStored from ahead bytes entries ms → macros_in bytes entries ≡ ms
+read_back {from = from} {ahead = ahead} bytes entries ms s =
+    let before : List ℕ = take from bytes in
+    let long : from ≡ length before = sym (length-take-le from bytes s.inside) in
+    ap (λ (l : List ℕ). macros_in l entries) (whole_bytes bytes entries ms s)
+    ∙ (ap (macros_in (before ++ table_bytes ms)) (s.entries_are ∙ ap (λ (i : ℕ). entries_of i ahead ms) long) ∙ read_macros before ahead ms s.plain)
 
 -- The formals of a macro in a table, as they lie there with their marks.
 
@@ -160,13 +159,14 @@ plain_at ms place h e =
     let parts = and_parts (list_all is_plain_macro front) (list_all is_plain_macro behind) (sym (list_all-append is_plain_macro front behind) ∙ (ap (list_all is_plain_macro) (sym (split_at ms place h)) ∙ e)) in
     (and_parts (is_plain_macro (macro_at ms place)) (list_all is_plain_macro (drop (place + 1) ms)) parts.1).0
 
--- an entry's list and its marks among those of all
-pub record IsEntryListed (bytes marks : List ℕ) (entry : Entry) : Type 0 where
-  pub within : entry.marks + marks_len entry ≤ length marks
-  pub listed : IsListed (unwrap_or entry.arity 0) (list_of bytes entry) (slice_range marks entry.marks (entry.marks + marks_len entry))
+-- an entry's list and its marks among those of all, where the entry counts so many that are given up
+pub record IsEntryListed (ahead : ℕ) (bytes marks : List ℕ) (entry : Entry) : Type 0 where
+  pub behind : ahead ≤ entry.marks
+  pub within : entry.marks - ahead + marks_len entry ≤ length marks
+  pub listed : IsListed (unwrap_or entry.arity 0) (list_of bytes entry) (slice_range marks (entry.marks - ahead) (entry.marks - ahead + marks_len entry))
 
-module _ (bytes : List ℕ) (ms : List Macro) (place : ℕ) (entry : Entry) (h : place < length ms)
-    (is : entry ≡ entry_of (0 + table_size (take place ms)) (0 + length (table_marks (take place ms))) (macro_at ms place)) where
+module _ (from ahead : ℕ) (bytes : List ℕ) (ms : List Macro) (place : ℕ) (entry : Entry) (h : place < length ms)
+    (is : entry ≡ entry_of (from + table_size (take place ms)) (ahead + length (table_marks (take place ms))) (macro_at ms place)) where
   abbrev xs : List Macro
   xs = take place ms
 
@@ -179,45 +179,45 @@ module _ (bytes : List ℕ) (ms : List Macro) (place : ℕ) (entry : Entry) (h :
   marks_split : table_marks ms ≡ table_marks xs ++ (macro_marks m ++ table_marks ys)
   marks_split = ap table_marks (split_at ms place h) ∙ (table_marks-append xs (m ∷ ys) ∙ ap (λ (l : List ℕ). table_marks xs ++ l) (table_marks-cons m ys))
 
-  marks_from : entry.marks ≡ length (table_marks xs)
-  marks_from = ap (λ (e : Entry). e.marks) is ∙ (marks_at _ _ m ∙ zero-add (length (table_marks xs)))
+  marks_from : entry.marks ≡ ahead + length (table_marks xs)
+  marks_from = ap (λ (e : Entry). e.marks) is ∙ marks_at _ _ m
 
   marks_count : marks_len entry ≡ length (macro_marks m)
   marks_count = ap marks_len is ∙ marks_len_of _ _ m
 
-  marks_here : slice_range (table_marks ms) entry.marks (entry.marks + marks_len entry) ≡ macro_marks m
+  marks_here : slice_range (table_marks ms) (entry.marks - ahead) (entry.marks - ahead + marks_len entry) ≡ macro_marks m
   marks_here =
-      ap (λ (l : List ℕ). slice_range l entry.marks (entry.marks + marks_len entry)) marks_split
-      ∙ between_parts (table_marks xs) (macro_marks m) (table_marks ys) _ _ (sym marks_from) (omega (arith, marks_count))
+      ap (λ (l : List ℕ). slice_range l (entry.marks - ahead) (entry.marks - ahead + marks_len entry)) marks_split
+      ∙ between_parts (table_marks xs) (macro_marks m) (table_marks ys) _ _ (omega (arith, marks_from)) (omega (arith, marks_count))
 
-  marks_fit : entry.marks + marks_len entry ≤ length (table_marks ms)
+  marks_fit : entry.marks - ahead + marks_len entry ≤ length (table_marks ms)
   marks_fit = omega (arith, marks_from, marks_count, ap (length {A = ℕ}) marks_split, length-append (table_marks xs) (macro_marks m ++ table_marks ys), length-append (macro_marks m) (table_marks ys))
 
-  list_here : bytes ≡ table_bytes ms → list_of bytes entry ≡ flat_map formal_bytes (formals_of m)
-  list_here e =
-      let start : 0 + table_size xs ≡ length (table_bytes xs) = zero-add (table_size xs) ∙ sym (length_table_bytes xs) in
-      let split : bytes ≡ table_bytes xs ++ (macro_bytes m ++ table_bytes ys) =
-      e ∙ (ap table_bytes (split_at ms place h) ∙ (table_bytes-append xs (m ∷ ys) ∙ ap (λ (l : List ℕ). table_bytes xs ++ l) (table_bytes-cons m ys))) in
-      ap (λ (l : List ℕ). list_of l entry) split
-      ∙ (ap (list_of (table_bytes xs ++ (macro_bytes m ++ table_bytes ys))) (is ∙ ap (λ (n : ℕ). entry_of n (0 + length (table_marks xs)) m) start)
-      ∙ list_back (table_bytes xs) (table_bytes ys) _ m)
+  list_here : from ≤ length bytes → bytes ≡ take from bytes ++ table_bytes ms → list_of bytes entry ≡ flat_map formal_bytes (formals_of m)
+  list_here f e =
+      let before : List ℕ = take from bytes ++ table_bytes xs in
+      let start : from + table_size xs ≡ length before = omega (arith, length-append (take from bytes) (table_bytes xs), length-take-le from bytes f, length_table_bytes xs) in
+      ap (λ (l : List ℕ). list_of l entry) (bytes_round from bytes ms place e h)
+      ∙ (ap (list_of (before ++ (macro_bytes m ++ table_bytes ys))) (is ∙ ap (λ (n : ℕ). entry_of n (ahead + length (table_marks xs)) m) start)
+      ∙ list_back before (table_bytes ys) _ m)
 
 -- of every entry of a table
-pub entry_listed : (bytes marks : List ℕ) (entries : List Entry) (place : ℕ) (entry : Entry) → IsStored bytes entries (macros_in bytes entries) → marks ≡ table_marks (macros_in bytes entries) → place < length entries → entry ≡ get_or entries place entry → IsEntryListed bytes marks entry
+pub entry_listed : {from ahead : ℕ} (bytes marks : List ℕ) (entries : List Entry) (place : ℕ) (entry : Entry) → IsStored from ahead bytes entries (macros_in bytes entries) → marks ≡ table_marks (macros_in bytes entries) → place < length entries → entry ≡ get_or entries place entry → IsEntryListed ahead bytes marks entry
 unfolding macro_marks
-entry_listed bytes marks entries place entry s e h q =
+entry_listed {from = from} {ahead = ahead} bytes marks entries place entry s e h q =
     let ms : List Macro = macros_in bytes entries in
     let inside : place < length ms = omega (arith, length_macros_in bytes entries) in
-    let is : entry ≡ entry_of (0 + table_size (take place ms)) (0 + length (table_marks (take place ms))) (macro_at ms place) =
-    q ∙ (ap (λ (es : List Entry). get_or es place entry) s.entries_are ∙ entry_of_macro 0 0 ms place entry inside) in
+    let is : entry ≡ entry_of (from + table_size (take place ms)) (ahead + length (table_marks (take place ms))) (macro_at ms place) =
+    q ∙ (ap (λ (es : List Entry). get_or es place entry) s.entries_are ∙ entry_of_macro from ahead ms place entry inside) in
     let same : macro_in bytes entry ≡ macro_at ms place = ap (macro_in bytes) q ∙ sym (macro_at_entry bytes entries 0 0 (view_of bytes entries 0 0) place entry refl h) in
     let read : formals_read (unwrap_or entry.arity 0) (list_of bytes entry) ≡ formals_of (macro_at ms place) = read_here bytes entry ∙ ap formals_of same in
     record {
-      within = omega (arith, marks_fit bytes ms place entry inside is, ap (length {A = ℕ}) e);
+      behind = omega (arith, marks_from from ahead bytes ms place entry inside is);
+      within = omega (arith, marks_fit from ahead bytes ms place entry inside is, ap (length {A = ℕ}) e);
       listed = record {
-        whole = ap (flat_map formal_bytes) read ∙ sym (list_here bytes ms place entry inside is s.bytes_are);
+        whole = ap (flat_map formal_bytes) read ∙ sym (list_here from ahead bytes ms place entry inside is s.inside (whole_bytes bytes entries ms s));
         plain = ap (list_all is_plain_formal) read ∙ plain_at ms place inside s.plain;
-        marked = ap (λ (l : List ℕ). slice_range l entry.marks (entry.marks + marks_len entry)) e ∙ (marks_here bytes ms place entry inside is ∙ ap marks_of (sym read));
+        marked = ap (λ (l : List ℕ). slice_range l (entry.marks - ahead) (entry.marks - ahead + marks_len entry)) e ∙ (marks_here from ahead bytes ms place entry inside is ∙ ap marks_of (sym read));
       };
     }
 
@@ -230,6 +230,13 @@ pub count_read : (count : ℕ) (list : List ℕ) → length (formals_read count 
 unfolding formals_read
 count_read zero list = refl
 count_read (suc n) list = ap suc (count_read n (formal_read list).behind)
+
+-- how many bytes and how many entries there are
+pub stored_length : {from ahead : ℕ} (bytes : List ℕ) (entries : List Entry) (ms : List Macro) → IsStored from ahead bytes entries ms → length bytes ≡ from + table_size ms
+stored_length {from = from} bytes entries ms s = omega (arith, s.inside, length-drop from bytes, ap (length {A = ℕ}) s.bytes_are, length_table_bytes ms)
+
+pub stored_count : {from ahead : ℕ} (bytes : List ℕ) (entries : List Entry) (ms : List Macro) → IsStored from ahead bytes entries ms → length entries ≡ length ms
+stored_count {from = from} {ahead = ahead} bytes entries ms s = ap length s.entries_are ∙ length_entries_of from ahead ms
 
 -- A macro put behind the others, and what there is beside one of its name.
 
@@ -245,19 +252,20 @@ one_marks : (m : Macro) → table_marks (m ∷ []) ≡ macro_marks m
 unfolding table_marks
 one_marks m = append-nil (macro_marks m)
 
-pub put_stored : (bytes : List ℕ) (entries : List Entry) (ms : List Macro) (m : Macro) (start marks : ℕ) (bytes' : List ℕ) (entries' : List Entry) → IsStored bytes entries ms → is_plain_macro m ≡ true → start ≡ length bytes → marks ≡ length (table_marks ms) → bytes' ≡ bytes ++ macro_bytes m → entries' ≡ entries ++ entry_of start marks m ∷ [] → IsStored bytes' entries' (ms ++ m ∷ [])
-put_stored bytes entries ms m start marks bytes' entries' s p n k b e =
-    let at : start ≡ 0 + table_size ms = n ∙ (ap length s.bytes_are ∙ (length_table_bytes ms ∙ sym (zero-add (table_size ms)))) in
-    let mark : marks ≡ 0 + length (table_marks ms) = k ∙ sym (zero-add (length (table_marks ms))) in
+pub put_stored : {from ahead : ℕ} (bytes : List ℕ) (entries : List Entry) (ms : List Macro) (m : Macro) (start marks : ℕ) (bytes' : List ℕ) (entries' : List Entry) → IsStored from ahead bytes entries ms → is_plain_macro m ≡ true → start ≡ length bytes → marks ≡ ahead + length (table_marks ms) → bytes' ≡ bytes ++ macro_bytes m → entries' ≡ entries ++ entry_of start marks m ∷ [] → IsStored from ahead bytes' entries' (ms ++ m ∷ [])
+put_stored {from = from} {ahead = ahead} bytes entries ms m start marks bytes' entries' s p n k b e =
+    let at : start ≡ from + table_size ms = omega (arith, n, stored_length bytes entries ms s) in
     record {
-      bytes_are = b ∙ (ap (λ (l : List ℕ). l ++ macro_bytes m) s.bytes_are ∙ (ap (λ (l : List ℕ). table_bytes ms ++ l) (sym (one_bytes m)) ∙ sym (table_bytes-append ms (m ∷ []))));
+      inside = omega (arith, s.inside, ap (length {A = ℕ}) b, length-append bytes (macro_bytes m));
+      few = s.few;
+      bytes_are = ap (drop from) b ∙ (drop-append-le from bytes (macro_bytes m) s.inside ∙ (ap (λ (l : List ℕ). l ++ macro_bytes m) s.bytes_are ∙ (ap (λ (l : List ℕ). table_bytes ms ++ l) (sym (one_bytes m)) ∙ sym (table_bytes-append ms (m ∷ [])))));
       entries_are =
           e
           ∙ (ap (λ (l : List Entry). l ++ entry_of start marks m ∷ []) s.entries_are
-          ∙ (ap (λ (i : ℕ). entries_of 0 0 ms ++ entry_of i marks m ∷ []) at
-          ∙ (ap (λ (i : ℕ). entries_of 0 0 ms ++ entry_of (0 + table_size ms) i m ∷ []) mark
-          ∙ (ap (λ (l : List Entry). entries_of 0 0 ms ++ l) (sym (one_entry (0 + table_size ms) (0 + length (table_marks ms)) m))
-          ∙ sym (entries_of-append 0 0 ms (m ∷ []))))));
+          ∙ (ap (λ (i : ℕ). entries_of from ahead ms ++ entry_of i marks m ∷ []) at
+          ∙ (ap (λ (i : ℕ). entries_of from ahead ms ++ entry_of (from + table_size ms) i m ∷ []) k
+          ∙ (ap (λ (l : List Entry). entries_of from ahead ms ++ l) (sym (one_entry (from + table_size ms) (ahead + length (table_marks ms)) m))
+          ∙ sym (entries_of-append from ahead ms (m ∷ []))))));
       plain = list_all-append is_plain_macro ms (m ∷ []) ∙ and_from _ _ s.plain (and_from _ _ p refl);
     }
 
@@ -279,41 +287,35 @@ size_of_remove ms place h =
     ap (λ (k : ℕ). table_size (take place ms ++ drop k ms)) (sym (add-one place)) ∙ table_size-append (take place ms) _ in
     omega (arith, table_size-cons (macro_at ms place) (drop (place + 1) ms))
 
-length_of_remove : (ms : List Macro) (place : ℕ) → place < length ms → length (remove ms place) + 1 ≡ length ms
+pub length_of_remove : (ms : List Macro) (place : ℕ) → place < length ms → length (remove ms place) + 1 ≡ length ms
 length_of_remove ms place h =
     let whole : length ms ≡ length (take place ms) + length (macro_at ms place ∷ drop (place + 1) ms) = ap length (split_at ms place h) ∙ length-append (take place ms) _ in
     let rest : length (remove ms place) ≡ length (take place ms) + length (drop (place + 1) ms) =
     ap (λ (k : ℕ). length (take place ms ++ drop k ms)) (sym (add-one place)) ∙ length-append (take place ms) _ in
     omega arith
 
-pub beside_size : (bytes : List ℕ) (entries : List Entry) (ms : List Macro) (name : List ℕ) (place : ℕ) (d : Entry) → IsStored bytes entries ms → IsDistinct bytes_eq (map (λ m. m.name) ms) → place_named ms name ≡ Some place → (get_or entries place d).name_len + (get_or entries place d).list_len + (get_or entries place d).body_len + table_size (without name ms) ≡ length bytes
-beside_size bytes entries ms name place d s distinct at =
+pub beside_size : {from ahead : ℕ} (bytes : List ℕ) (entries : List Entry) (ms : List Macro) (name : List ℕ) (place : ℕ) (d : Entry) → IsStored from ahead bytes entries ms → IsDistinct bytes_eq (map (λ m. m.name) ms) → place_named ms name ≡ Some place → from + ((get_or entries place d).name_len + (get_or entries place d).list_len + (get_or entries place d).body_len + table_size (without name ms)) ≡ length bytes
+beside_size {from = from} {ahead = ahead} bytes entries ms name place d s distinct at =
     let h : place < length ms = inside_by_place ms name place at in
-    let is : get_or entries place d ≡ entry_of (0 + table_size (take place ms)) (0 + length (table_marks (take place ms))) (macro_at ms place) = ap (λ (es : List Entry). get_or es place d) s.entries_are ∙ entry_of_macro 0 0 ms place d h in
+    let is : get_or entries place d ≡ entry_of (from + table_size (take place ms)) (ahead + length (table_marks (take place ms))) (macro_at ms place) = ap (λ (es : List Entry). get_or es place d) s.entries_are ∙ entry_of_macro from ahead ms place d h in
     let size : (get_or entries place d).name_len + (get_or entries place d).list_len + (get_or entries place d).body_len ≡ macro_size (macro_at ms place) = ap (λ (x : Entry). x.name_len + x.list_len + x.body_len) is ∙ size_of_entry _ _ (macro_at ms place) in
-    omega (arith, ap table_size (without_at name ms place distinct at), size_of_remove ms place h, ap length s.bytes_are, length_table_bytes ms)
+    omega (arith, ap table_size (without_at name ms place distinct at), size_of_remove ms place h, stored_length bytes entries ms s)
 
-pub beside_count : (bytes : List ℕ) (entries : List Entry) (ms : List Macro) (name : List ℕ) (place : ℕ) → IsStored bytes entries ms → IsDistinct bytes_eq (map (λ m. m.name) ms) → place_named ms name ≡ Some place → length (without name ms) + 1 ≡ length entries
+pub beside_count : {from ahead : ℕ} (bytes : List ℕ) (entries : List Entry) (ms : List Macro) (name : List ℕ) (place : ℕ) → IsStored from ahead bytes entries ms → IsDistinct bytes_eq (map (λ m. m.name) ms) → place_named ms name ≡ Some place → length (without name ms) + 1 ≡ length entries
 beside_count bytes entries ms name place s distinct at =
     let h : place < length ms = inside_by_place ms name place at in
-    omega (arith, ap length (without_at name ms place distinct at), length_of_remove ms place h, ap length s.entries_are, length_entries_of 0 0 ms)
+    omega (arith, ap length (without_at name ms place distinct at), length_of_remove ms place h, stored_count bytes entries ms s)
 
-pub beside_none : (bytes : List ℕ) (entries : List Entry) (ms : List Macro) (name : List ℕ) → IsStored bytes entries ms → place_named ms name ≡ None → (length bytes ≡ table_size (without name ms)) × (length entries ≡ length (without name ms))
+pub beside_none : {from ahead : ℕ} (bytes : List ℕ) (entries : List Entry) (ms : List Macro) (name : List ℕ) → IsStored from ahead bytes entries ms → place_named ms name ≡ None → (length bytes ≡ from + table_size (without name ms)) × (length entries ≡ length (without name ms))
 beside_none bytes entries ms name s at = (
-  ap length s.bytes_are ∙ (length_table_bytes ms ∙ sym (ap table_size (without_nowhere name ms at))),
-  ap length s.entries_are ∙ (length_entries_of 0 0 ms ∙ sym (ap length (without_nowhere name ms at))),
+  omega (arith, stored_length bytes entries ms s, ap table_size (without_nowhere name ms at)),
+  stored_count bytes entries ms s ∙ sym (ap length (without_nowhere name ms at)),
 )
 
-pub stored_again : (bytes : List ℕ) (entries : List Entry) (ms : List Macro) → IsStored bytes entries ms → IsStored bytes entries (macros_in bytes entries)
-stored_again bytes entries ms s =
-    let P : List Macro → Type 0 = λ l. IsStored bytes entries l in
+pub stored_again : {from ahead : ℕ} (bytes : List ℕ) (entries : List Entry) (ms : List Macro) → IsStored from ahead bytes entries ms → IsStored from ahead bytes entries (macros_in bytes entries)
+stored_again {from = from} {ahead = ahead} bytes entries ms s =
+    let P : List Macro → Type 0 = λ l. IsStored from ahead bytes entries l in
     subst P (sym (read_back bytes entries ms s)) s
-
-pub stored_length : (bytes : List ℕ) (entries : List Entry) (ms : List Macro) → IsStored bytes entries ms → length bytes ≡ table_size ms
-stored_length bytes entries ms s = ap length s.bytes_are ∙ length_table_bytes ms
-
-pub stored_count : (bytes : List ℕ) (entries : List Entry) (ms : List Macro) → IsStored bytes entries ms → length entries ≡ length ms
-stored_count bytes entries ms s = ap length s.entries_are ∙ length_entries_of 0 0 ms
 
 -- A table after a change of its lists.
 
@@ -321,14 +323,14 @@ stored_count bytes entries ms s = ap length s.entries_are ∙ length_entries_of 
 abbrev pub table_of : List Macro → ℕ → ℕ → TableView
 table_of ms a b = record { macros = ms; most_bytes = a; most_macros = b }
 
-pub held_of : (bytes : List ℕ) (entries : List Entry) (ms : List Macro) (a b : ℕ) → IsStored bytes entries ms → IsSound (table_of ms a b) → IsHeld bytes entries a b
-held_of bytes entries ms a b s sound =
-    let P : List Macro → Type 0 = λ l. IsStored bytes entries l in
+pub held_of : {from ahead : ℕ} (bytes : List ℕ) (entries : List Entry) (ms : List Macro) (a b : ℕ) → IsStored from ahead bytes entries ms → IsSound (table_of ms a b) → IsHeld from ahead bytes entries a b
+held_of {from = from} {ahead = ahead} bytes entries ms a b s sound =
+    let P : List Macro → Type 0 = λ l. IsStored from ahead bytes entries l in
     let Q : List Macro → Type 0 = λ l. IsSound (table_of l a b) in
     let back : ms ≡ macros_in bytes entries = sym (read_back bytes entries ms s) in
     record { stored = subst P back s; sound = subst Q back sound }
 
-pub view_after : (bytes : List ℕ) (entries : List Entry) (ms : List Macro) (a b : ℕ) → IsStored bytes entries ms → view_of bytes entries a b ≡ table_of ms a b
+pub view_after : {from ahead : ℕ} (bytes : List ℕ) (entries : List Entry) (ms : List Macro) (a b : ℕ) → IsStored from ahead bytes entries ms → view_of bytes entries a b ≡ table_of ms a b
 view_after bytes entries ms a b s = ap (λ (l : List Macro). table_of l a b) (read_back bytes entries ms s)
 
 each_without : (name : List ℕ) (ms : List Macro) → All IsSoundMacro ms → All IsSoundMacro (without name ms)
@@ -343,14 +345,14 @@ sound_without name view s = record {
   macros_fit = le_trans (without_length name view.macros) s.macros_fit;
 }
 
-pub stored_without : (ms : List Macro) (name : List ℕ) (place : ℕ) (bytes' : List ℕ) (entries' : List Entry) → IsDistinct bytes_eq (map (λ m. m.name) ms) → place_named ms name ≡ Some place → IsStored bytes' entries' (remove ms place) → IsStored bytes' entries' (without name ms)
-stored_without ms name place bytes' entries' distinct at s =
-    let P : List Macro → Type 0 = λ l. IsStored bytes' entries' l in
+pub stored_without : {from ahead : ℕ} (ms : List Macro) (name : List ℕ) (place : ℕ) (bytes' : List ℕ) (entries' : List Entry) → IsDistinct bytes_eq (map (λ m. m.name) ms) → place_named ms name ≡ Some place → IsStored from ahead bytes' entries' (remove ms place) → IsStored from ahead bytes' entries' (without name ms)
+stored_without {from = from} {ahead = ahead} ms name place bytes' entries' distinct at s =
+    let P : List Macro → Type 0 = λ l. IsStored from ahead bytes' entries' l in
     subst P (sym (without_at name ms place distinct at)) s
 
-pub stored_nowhere : (ms : List Macro) (name : List ℕ) (bytes : List ℕ) (entries : List Entry) → place_named ms name ≡ None → IsStored bytes entries ms → IsStored bytes entries (without name ms)
-stored_nowhere ms name bytes entries at s =
-    let P : List Macro → Type 0 = λ l. IsStored bytes entries l in
+pub stored_nowhere : {from ahead : ℕ} (ms : List Macro) (name : List ℕ) (bytes : List ℕ) (entries : List Entry) → place_named ms name ≡ None → IsStored from ahead bytes entries ms → IsStored from ahead bytes entries (without name ms)
+stored_nowhere {from = from} {ahead = ahead} ms name bytes entries at s =
+    let P : List Macro → Type 0 = λ l. IsStored from ahead bytes entries l in
     subst P (sym (without_nowhere name ms at)) s
 
 -- what a definition gives a table, by the three cases

@@ -1,5 +1,5 @@
 -- Sizes are lengths, entries lie among the bytes, and what follows from how a table lies in its lists.
-use Rattle.std.proofs.Common.{◌≡◌, ℕ, zero, suc, ◌+◌, ◌≤◌, Bool, cond, not, ltb, one-add, List, [], ◌∷◌, length, get_or, Option, Some, None, option_map, refl, ap, sym, ◌∙◌, arith, inl, inr, ◌*◌, true, false, Vec, Global, vec_len, rules, ◌<◌, ◌++◌, take, unwrap_or, sum_by, length-append, add-zero, is_some}
+use Rattle.std.proofs.Common.{◌≡◌, ℕ, zero, suc, ◌+◌, ◌-◌, ◌≤◌, Bool, cond, not, ltb, one-add, List, [], ◌∷◌, length, get_or, Option, Some, None, option_map, refl, ap, sym, ◌∙◌, arith, inl, inr, ◌*◌, true, false, Vec, Global, vec_len, rules, ◌<◌, ◌++◌, take, unwrap_or, sum_by, length-append, add-zero, is_some, subst, drop}
 use Rattle.std.specs.List.{prefix_len, position_or_len, position, find, slice_get, All, flat_map, IsDistinct}
 use Rattle.std.proofs.lemmas.List.Folds.{find_at}
 use Rattle.std.proofs.lemmas.Option.{slice_get-get_or}
@@ -7,7 +7,7 @@ use Rattle.std.proofs.lemmas.Bool.{cases_Bool, cases_lt, lt-ltb, le-ltb, cond-tr
 use Rattle.std.proofs.lemmas.List.Elements.{All-cons, All-nil}
 use Rattle.std.proofs.lemmas.List.Sums.{sum_by-cons, sum_by-append}
 use Rattle.std.proofs.lemmas.Bool.Decides.{leb_tells}
-use Rattle.std.proofs.lemmas.List.{length-map, get_or-map}
+use Rattle.std.proofs.lemmas.List.{get_or_default, length-drop, length-map, get_or-map}
 use Rattle.std.proofs.lemmas.List.Quantifiers.{position-Some}
 use Rattle.rdlpp_table.specs.declared.entry.Entry.{Entry}
 use Rattle.rdlpp_table.specs.Table.{Formal, Macro, default_bytes, default_size, formal_size, macro_size, table_size, formal_bytes, macro_bytes, table_bytes, macro_named}
@@ -125,9 +125,11 @@ ends_within start marks (m ∷ ms) =
     (omega (arith, entry_end_of start marks m, table_size-cons m ms))
     (λ k d h. omega (arith, ends_within (start + macro_size m) (marks + length (macro_marks m)) ms k d h, table_size-cons m ms))
 
-pub stored_within : (bytes : List ℕ) (entries : List Entry) (ms : List Macro) → IsStored bytes entries ms → AreWithin (length bytes) entries
-stored_within bytes entries ms s =
-    rw (s.entries_are, s.bytes_are) (λ k d h. omega (arith, ends_within 0 0 ms k d h, length_table_bytes ms))
+pub stored_within : {from ahead : ℕ} (bytes : List ℕ) (entries : List Entry) (ms : List Macro) → IsStored from ahead bytes entries ms → AreWithin (length bytes) entries
+stored_within {from = from} {ahead = ahead} bytes entries ms s =
+    let long : length bytes ≡ from + table_size ms = omega (arith, s.inside, length-drop from bytes, ap (length {A = ℕ}) s.bytes_are, length_table_bytes ms) in
+    let P : List Entry → Type 0 = λ l. AreWithin (length bytes) l in
+    subst P (sym s.entries_are) (λ k d h. omega (arith, ends_within from ahead ms k d h, long))
 
 pub length_marks-cons : (m : Macro) (ms : List Macro) → length (table_marks (m ∷ ms)) ≡ length (macro_marks m) + length (table_marks ms)
 unfolding table_marks
@@ -180,7 +182,7 @@ few_marks_of fs = elim (leb_tells (8 * length fs) (sum_by formal_size fs)) [
   | inr e ↦ omega (arith, length_marks_of fs ∙ cond-false _ (length fs) 0 e.0)
 ]
 
-few_marks_in : (m : Macro) → 8 * length (macro_marks m) ≤ macro_size m
+pub few_marks_in : (m : Macro) → 8 * length (macro_marks m) ≤ macro_size m
 unfolding macro_marks macro_size
 few_marks_in m = omega (arith, few_marks_of (unwrap_or m.formals []))
 
@@ -206,18 +208,26 @@ pub macros_of_none : (bytes : List ℕ) (entries : List Entry) → entries ≡ [
 unfolding macros_in
 macros_of_none bytes entries e = rw e refl
 
-held_nothing : (a b : ℕ) → IsHeld [] [] a b
+held_nothing : (a b : ℕ) → IsHeld 0 0 [] [] a b
 unfolding macros_in entries_of table_bytes table_size IsDistinct
 held_nothing a b = record {
-  stored = record { bytes_are = refl; entries_are = refl; plain = refl };
+  stored = record { inside = omega arith; few = omega arith; bytes_are = refl; entries_are = refl; plain = refl };
   sound = record { distinct = tt; each = All-nil _; bytes_fit = omega arith; macros_fit = omega arith };
 }
 
-pub held_when_empty : (bytes : List ℕ) (entries : List Entry) (a b : ℕ) → bytes ≡ [] → entries ≡ [] → IsHeld bytes entries a b
+pub held_when_empty : (bytes : List ℕ) (entries : List Entry) (a b : ℕ) → bytes ≡ [] → entries ≡ [] → IsHeld 0 0 bytes entries a b
 held_when_empty bytes entries a b e f = rw (e, f) (held_nothing a b)
 
 pub empty_view : (bytes : List ℕ) (entries : List Entry) (a b : ℕ) → entries ≡ [] → view_of bytes entries a b ≡ record { macros = []; most_bytes = a; most_macros = b }
 empty_view bytes entries a b e = ap (λ (ms : List Macro). let v : TableView = record { macros = ms; most_bytes = a; most_macros = b } in v) (macros_of_none bytes entries e)
+
+-- the entry at a place of those that aren't given up, read from a slice of them
+pub live_read : (es entries : List Entry) (i : ℕ) → es ≡ entries → i < length entries → get_or es i no_entry ≡ get_or entries i (get_or es i no_entry)
+live_read es entries i p h = ap (λ (l : List Entry). get_or l i no_entry) p ∙ get_or_default entries i no_entry (get_or es i no_entry) h
+
+-- how many entries aren't given up
+pub live_count : (front : ℕ) (v : Vec Entry Global) → length (drop front v.items) ≡ vec_len v - front
+live_count front v = omega (arith, length-drop front v.items, count_items v)
 
 -- the macro of an entry
 pub macro_at_entry : (bytes : List ℕ) (entries : List Entry) (a b : ℕ) (view : TableView) (i : ℕ) (d : Entry) → view_of bytes entries a b ≡ view → i < length entries → macro_at view.macros i ≡ macro_in bytes (get_or entries i d)
@@ -234,7 +244,7 @@ inside_by_place ms name i e = (position-Some _ ms i no_macro e).0
 pub named_at : (ms : List Macro) (name : List ℕ) (r : Option ℕ) → r ≡ place_named ms name → macro_named ms name ≡ option_map (macro_at ms) r
 named_at ms name r e = named_by_place ms name ∙ ap (option_map (macro_at ms)) (sym e)
 
-pub entry_within : (bs bytes : List ℕ) (entries : List Entry) (a b : ℕ) (i : ℕ) (entry : Entry) → bs ≡ bytes → IsHeld bytes entries a b → i < length entries → entry ≡ get_or entries i entry → entry_end entry ≤ length bs
+pub entry_within : {from ahead : ℕ} (bs bytes : List ℕ) (entries : List Entry) (a b : ℕ) (i : ℕ) (entry : Entry) → bs ≡ bytes → IsHeld from ahead bytes entries a b → i < length entries → entry ≡ get_or entries i entry → entry_end entry ≤ length bs
 entry_within bs bytes entries a b i entry p held h q = rw (p, q) (stored_within bytes entries _ held.stored i entry h)
 
 pub body_at : (bs bytes : List ℕ) (entries : List Entry) (a b : ℕ) (view : TableView) (i j : ℕ) (entry : Entry) (r : List ℕ) → bs ≡ bytes → view_of bytes entries a b ≡ view → i ≡ j → i < length entries → entry ≡ get_or entries i entry → r ≡ body_of bs entry → r ≡ (macro_at view.macros j).body
@@ -247,21 +257,21 @@ unfolding macro_in
 name_at bs bytes entries a b view i j entry r p e s h q f =
     f ∙ (ap (λ (x : List ℕ). name_of x entry) p ∙ (ap (name_of bytes) q ∙ (sym (ap (λ (m : Macro). m.name) (macro_at_entry bytes entries a b view i entry e h)) ∙ ap (λ (k : ℕ). (macro_at view.macros k).name) s)))
 
-pub arity_at : (bytes : List ℕ) (entries : List Entry) (a b : ℕ) (view : TableView) (i j : ℕ) (entry : Entry) → view_of bytes entries a b ≡ view → IsHeld bytes entries a b → i ≡ j → i < length entries → entry ≡ get_or entries i entry → entry.arity ≡ option_map length (macro_at view.macros j).formals
+pub arity_at : {from ahead : ℕ} (bytes : List ℕ) (entries : List Entry) (a b : ℕ) (view : TableView) (i j : ℕ) (entry : Entry) → view_of bytes entries a b ≡ view → IsHeld from ahead bytes entries a b → i ≡ j → i < length entries → entry ≡ get_or entries i entry → entry.arity ≡ option_map length (macro_at view.macros j).formals
 unfolding entry_of
 arity_at bytes entries a b view i j entry e held s h q =
     let at : i < length (macros_in bytes entries) = omega (arith, length_macros_in bytes entries) in
-    ap (λ (x : Entry). x.arity) (q ∙ (ap (λ (es : List Entry). get_or es i entry) held.stored.entries_are ∙ entry_of_macro 0 0 (macros_in bytes entries) i entry at))
+    ap (λ (x : Entry). x.arity) (q ∙ (ap (λ (es : List Entry). get_or es i entry) held.stored.entries_are ∙ entry_of_macro _ _ (macros_in bytes entries) i entry at))
     ∙ (ap (λ (v : TableView). option_map length (macro_at v.macros i).formals) e ∙ ap (λ (k : ℕ). option_map length (macro_at view.macros k).formals) s)
 
-pub stops_at : (bytes : List ℕ) (entries : List Entry) (a b : ℕ) (view : TableView) (i j : ℕ) (entry : Entry) → view_of bytes entries a b ≡ view → IsHeld bytes entries a b → i ≡ j → i < length entries → entry ≡ get_or entries i entry → entry.stops ≡ first_stops (formals_of (macro_at view.macros j)) (macro_at view.macros j).body
+pub stops_at : {from ahead : ℕ} (bytes : List ℕ) (entries : List Entry) (a b : ℕ) (view : TableView) (i j : ℕ) (entry : Entry) → view_of bytes entries a b ≡ view → IsHeld from ahead bytes entries a b → i ≡ j → i < length entries → entry ≡ get_or entries i entry → entry.stops ≡ first_stops (formals_of (macro_at view.macros j)) (macro_at view.macros j).body
 unfolding entry_of
 stops_at bytes entries a b view i j entry e held s h q =
     let at : i < length (macros_in bytes entries) = omega (arith, length_macros_in bytes entries) in
-    ap (λ (x : Entry). x.stops) (q ∙ (ap (λ (es : List Entry). get_or es i entry) held.stored.entries_are ∙ entry_of_macro 0 0 (macros_in bytes entries) i entry at))
+    ap (λ (x : Entry). x.stops) (q ∙ (ap (λ (es : List Entry). get_or es i entry) held.stored.entries_are ∙ entry_of_macro _ _ (macros_in bytes entries) i entry at))
     ∙ (ap (λ (v : TableView). first_stops (formals_of (macro_at v.macros i)) (macro_at v.macros i).body) e ∙ ap (λ (k : ℕ). first_stops (formals_of (macro_at view.macros k)) (macro_at view.macros k).body) s)
 
-pub stored_slices_within : (bs : List ℕ) (es : List Entry) (bytes : List ℕ) (entries : List Entry) (ms : List Macro) → bs ≡ bytes → es ≡ entries → IsStored bytes entries ms → AreWithin (length bs) es
+pub stored_slices_within : {from ahead : ℕ} (bs : List ℕ) (es : List Entry) (bytes : List ℕ) (entries : List Entry) (ms : List Macro) → bs ≡ bytes → es ≡ entries → IsStored from ahead bytes entries ms → AreWithin (length bs) es
 stored_slices_within bs es bytes entries ms p q s = rw (p, q) (stored_within bytes entries ms s)
 
 some_map : (f : ℕ → Macro) (r : Option ℕ) → is_some r ≡ is_some (option_map f r)

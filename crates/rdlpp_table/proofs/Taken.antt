@@ -1,7 +1,7 @@
 -- The macros but the one of a name, and that macro taken out of the lists in which a table lies.
-use Rattle.std.proofs.Common.{◌≡◌, ℕ, ◌+◌, ◌<◌, ◌≤◌, Bool, true, false, cond, not, ◌||◌, List, [], ◌∷◌, ◌++◌, length, map, remove, bytes_eq, Option, Some, None, refl, ap, sym, ◌∙◌, subst, arith, one-add, inl, inr, suc, ◌-◌, take, drop, get_or, length-append, append_assoc, add-zero, add-one, zero-add, ◌^◌, Vec, Global, vec_capacity}
+use Rattle.std.proofs.Common.{◌≡◌, ℕ, ◌+◌, ◌<◌, ◌≤◌, Bool, true, false, cond, not, ◌||◌, List, [], ◌∷◌, ◌++◌, length, map, remove, bytes_eq, Option, Some, None, refl, ap, sym, ◌∙◌, subst, arith, one-add, inl, inr, suc, ◌-◌, take, drop, get_or, length-append, append_assoc, add-zero, add-one, zero-add, ◌^◌, Vec, Global, vec_capacity, slice_range}
 use Rattle.std.specs.List.{IsDistinct, AllByRecursion, position_or_len, filter, list_any, All, list_all, remove_range}
-use Rattle.std.proofs.lemmas.List.{map-append, length-drop, take_at, drop_at, take-append-drop, drop_more, length-take-le}
+use Rattle.std.proofs.lemmas.List.{get_or-drop, map-append, length-drop, take_at, drop_at, take-append-drop, drop_more, length-take-le}
 use Rattle.std.proofs.lemmas.Cmp.{nat_list_eq_equiv}
 use Rattle.std.proofs.lemmas.Bool.{cases_Bool, cases_lt, lt-ltb, le-ltb, cond-true, cond-false, and_parts, and_from}
 use Rattle.std.proofs.lemmas.Map.Keys.{IsDistinct-head, IsDistinct-tail, IsDistinct-cons, IsDistinct-push}
@@ -11,11 +11,11 @@ use Rattle.std.proofs.lemmas.List.Elements.{All-cons, All-nil}
 use Rattle.rdlpp_table.specs.Index.{names_of}
 use Rattle.rdlpp_table.specs.Table.{Macro, table_size, without, macro_size, macro_bytes, table_bytes}
 use Rattle.rdlpp_table.specs.View.{place_named, macro_at, no_macro}
-use Rattle.rdlpp_table.proofs.Sizes.{table_size-cons, stored_within, length_macro_bytes, length_table_bytes, length_marks-cons, marks_len_of, no_marks, entry_of_macro}
+use Rattle.rdlpp_table.proofs.Sizes.{table_size-cons, stored_within, length_macro_bytes, length_table_bytes, length_marks-cons, marks_len_of, no_marks, few_marks, few_marks_in, length_macros_in, entry_of_macro}
 use Rattle.rdlpp_table.specs.declared.entry.Entry.{Entry}
-use Rattle.rdlpp_table.specs.Store.{entry_of, entries_of, entry_end, body_start, list_start, list_size, is_plain_macro, IsStored}
+use Rattle.rdlpp_table.specs.Store.{entry_of, entries_of, entry_end, body_start, list_start, list_size, is_plain_macro, macros_in, IsStored}
 use Rattle.rdlpp_table.specs.Marks.{macro_marks, table_marks}
-use Rattle.rdlpp_table.specs.Entries.{marks_len, moved_down, AreBehind}
+use Rattle.rdlpp_table.specs.Entries.{marks_len, moved_down, moved_up, AreBehind, AreLow}
 
 -- The macros but the one of a name: what stays, and that it is the list without one place.
 
@@ -224,17 +224,16 @@ starts_behind low few n k (m ∷ ms) h g =
     (omega (arith, start_of n k m), omega (arith, marks_at n k m))
     (starts_behind low few (n + macro_size m) (k + length (macro_marks m)) ms (omega arith) (omega arith))
 
+-- a part of a text between two others
+pub between_parts : (a b c : List ℕ) (i j : ℕ) → length a ≡ i → i + length b ≡ j → slice_range (a ++ (b ++ c)) i j ≡ b
+between_parts a b c i j p q =
+    ap (take (j - i)) (drop_at a (b ++ c) i p) ∙ take_at b c (j - i) (omega arith)
+
 -- a list without a part between two others
 pub cut_middle : (a b c : List ℕ) (i j : ℕ) → length a ≡ i → i + length b ≡ j → remove_range (a ++ (b ++ c)) i j ≡ a ++ c
 cut_middle a b c i j e f =
     ap (λ (l : List ℕ). l ++ drop j (a ++ (b ++ c))) (take_at a (b ++ c) i e)
     ∙ ap (λ (l : List ℕ). a ++ l) (ap (drop j) (sym (append_assoc a b c)) ∙ drop_at (a ++ b) c j (omega (arith, length-append a b)))
-
-cut_bytes : (xs : List Macro) (m : Macro) (ys : List Macro) → remove_range (table_bytes (xs ++ m ∷ ys)) (table_size xs) (table_size xs + macro_size m) ≡ table_bytes (xs ++ ys)
-cut_bytes xs m ys =
-    ap (λ (bs : List ℕ). remove_range bs (table_size xs) (table_size xs + macro_size m)) (table_bytes-append xs (m ∷ ys) ∙ ap (λ (bs : List ℕ). table_bytes xs ++ bs) (table_bytes-cons m ys))
-    ∙ (cut_middle (table_bytes xs) (macro_bytes m) (table_bytes ys) _ _ (length_table_bytes xs) (omega (arith, length_macro_bytes m))
-    ∙ sym (table_bytes-append xs ys))
 
 -- without the element at the end of a front
 remove_at : {A : Type 0} (front : List A) (x : A) (back : List A) (n : ℕ) → length front ≡ n → remove (front ++ x ∷ back) n ≡ front ++ back
@@ -247,92 +246,236 @@ remove_at front x back n e =
 pub split_at : (ms : List Macro) (place : ℕ) → place < length ms → ms ≡ take place ms ++ macro_at ms place ∷ drop (place + 1) ms
 split_at ms place h = sym (take-append-drop place ms) ∙ ap (λ (l : List Macro). take place ms ++ l) (drop_more ms place no_macro h)
 
--- what is left of the lists without the macro between others
-taken_between : (bytes : List ℕ) (entries : List Entry) (xs : List Macro) (m : Macro) (ys : List Macro) → IsStored bytes entries (xs ++ m ∷ ys) → IsStored (remove_range bytes (table_size xs) (table_size xs + macro_size m)) (entries_of 0 0 xs ++ map (moved_down (macro_size m) (length (macro_marks m))) (entries_of (table_size xs + macro_size m) (length (table_marks xs) + length (macro_marks m)) ys)) (xs ++ ys)
-taken_between bytes entries xs m ys s = record {
-  bytes_are = ap (λ (bs : List ℕ). remove_range bs (table_size xs) (table_size xs + macro_size m)) s.bytes_are ∙ cut_bytes xs m ys;
-  entries_are =
-      ap (λ (es : List Entry). entries_of 0 0 xs ++ es) (moved_entries (table_size xs) (macro_size m) (length (table_marks xs)) (length (macro_marks m)) ys)
-      ∙ (ap (λ (n : ℕ). entries_of 0 0 xs ++ entries_of n (length (table_marks xs)) ys) (sym (zero-add (table_size xs)))
-      ∙ (ap (λ (n : ℕ). entries_of 0 0 xs ++ entries_of (0 + table_size xs) n ys) (sym (zero-add (length (table_marks xs))))
-      ∙ sym (entries_of-append 0 0 xs ys)));
-  plain =
-      let p = and_parts (list_all is_plain_macro xs) (list_all is_plain_macro (m ∷ ys)) (sym (list_all-append is_plain_macro xs (m ∷ ys)) ∙ s.plain) in
-      list_all-append is_plain_macro xs ys ∙ and_from _ _ p.0 (and_parts (is_plain_macro m) (list_all is_plain_macro ys) p.1).1;
-}
+-- the bytes of macros behind what is given up
+pub whole_bytes : {from ahead : ℕ} (bytes : List ℕ) (entries : List Entry) (ms : List Macro) → IsStored from ahead bytes entries ms → bytes ≡ take from bytes ++ table_bytes ms
+whole_bytes {from = from} bytes entries ms s = sym (take-append-drop from bytes) ∙ ap (λ (l : List ℕ). take from bytes ++ l) s.bytes_are
+
+-- the same, round one of them
+pub bytes_round : (from : ℕ) (bytes : List ℕ) (ms : List Macro) (place : ℕ) → bytes ≡ take from bytes ++ table_bytes ms → place < length ms → bytes ≡ (take from bytes ++ table_bytes (take place ms)) ++ (macro_bytes (macro_at ms place) ++ table_bytes (drop (place + 1) ms))
+bytes_round from bytes ms place e h =
+    let xs : List Macro = take place ms in
+    let m : Macro = macro_at ms place in
+    let ys : List Macro = drop (place + 1) ms in
+    e
+    ∙ (ap (λ (l : List ℕ). take from bytes ++ l) (ap table_bytes (split_at ms place h) ∙ (table_bytes-append xs (m ∷ ys) ∙ ap (λ (l : List ℕ). table_bytes xs ++ l) (table_bytes-cons m ys)))
+    ∙ sym (append_assoc (take from bytes) (table_bytes xs) _))
+
+plain_left : (ms : List Macro) (place : ℕ) → place < length ms → list_all is_plain_macro ms ≡ true → list_all is_plain_macro (take place ms ++ drop (place + 1) ms) ≡ true
+plain_left ms place h plain =
+    let xs : List Macro = take place ms in
+    let m : Macro = macro_at ms place in
+    let ys : List Macro = drop (place + 1) ms in
+    let p = and_parts (list_all is_plain_macro xs) (list_all is_plain_macro (m ∷ ys)) (sym (list_all-append is_plain_macro xs (m ∷ ys)) ∙ (ap (list_all is_plain_macro) (sym (split_at ms place h)) ∙ plain)) in
+    list_all-append is_plain_macro xs ys ∙ and_from _ _ p.0 (and_parts (is_plain_macro m) (list_all is_plain_macro ys) p.1).1
 
 -- the entries round one of them
-entries_between : (entries : List Entry) (xs : List Macro) (m : Macro) (ys : List Macro) → entries ≡ entries_of 0 0 (xs ++ m ∷ ys) → entries ≡ entries_of 0 0 xs ++ entry_of (table_size xs) (length (table_marks xs)) m ∷ entries_of (table_size xs + macro_size m) (length (table_marks xs) + length (macro_marks m)) ys
+entries_between : (from ahead : ℕ) (entries : List Entry) (xs : List Macro) (m : Macro) (ys : List Macro) → entries ≡ entries_of from ahead (xs ++ m ∷ ys) → entries ≡ entries_of from ahead xs ++ entry_of (from + table_size xs) (ahead + length (table_marks xs)) m ∷ entries_of (from + table_size xs + macro_size m) (ahead + length (table_marks xs) + length (macro_marks m)) ys
 unfolding entries_of
-entries_between entries xs m ys e =
-    e
-    ∙ (entries_of-append 0 0 xs (m ∷ ys)
-    ∙ (ap (λ (n : ℕ). entries_of 0 0 xs ++ entries_of n (0 + length (table_marks xs)) (m ∷ ys)) (zero-add (table_size xs))
-    ∙ ap (λ (n : ℕ). entries_of 0 0 xs ++ entries_of (table_size xs) n (m ∷ ys)) (zero-add (length (table_marks xs)))))
+entries_between from ahead entries xs m ys e = e ∙ entries_of-append from ahead xs (m ∷ ys)
 
 -- what the entry that was taken out says, and what the entries without it are
-pub record Taken (entries rest : List Entry) (entry : Entry) (ms : List Macro) (place size marks : ℕ) : Type 0 where
-  pub start : entry.start ≡ table_size (take place ms)
+pub record Taken (from ahead : ℕ) (entries rest : List Entry) (entry : Entry) (ms : List Macro) (place size marks : ℕ) : Type 0 where
+  pub start : entry.start ≡ from + table_size (take place ms)
   pub size_is : size ≡ macro_size (macro_at ms place)
-  pub marks_from : entry.marks ≡ length (table_marks (take place ms))
+  pub marks_from : entry.marks ≡ ahead + length (table_marks (take place ms))
   pub marks_are : marks ≡ length (macro_marks (macro_at ms place))
-  pub front : take place rest ≡ entries_of 0 0 (take place ms)
-  pub back : drop place rest ≡ entries_of (table_size (take place ms) + macro_size (macro_at ms place)) (length (table_marks (take place ms)) + length (macro_marks (macro_at ms place))) (drop (place + 1) ms)
+  pub front : take place rest ≡ entries_of from ahead (take place ms)
+  pub back : drop place rest ≡ entries_of (from + table_size (take place ms) + macro_size (macro_at ms place)) (ahead + length (table_marks (take place ms)) + length (macro_marks (macro_at ms place))) (drop (place + 1) ms)
 
 pub size_of_entry : (n k : ℕ) (m : Macro) → (entry_of n k m).name_len + (entry_of n k m).list_len + (entry_of n k m).body_len ≡ macro_size m
 unfolding entry_of list_size macro_size
 size_of_entry n k m = omega arith
 
-pub taken : (entries rest : List Entry) (entry : Entry) (ms : List Macro) (place marks : ℕ) → entries ≡ entries_of 0 0 ms → place < length ms → entry ≡ get_or entries place entry → rest ≡ remove entries place → marks ≡ marks_len entry → Taken entries rest entry ms place (entry.name_len + entry.list_len + entry.body_len) marks
-taken entries rest entry ms place marks e h q r f =
+pub taken : (from ahead : ℕ) (entries rest : List Entry) (entry : Entry) (ms : List Macro) (place size marks : ℕ) → entries ≡ entries_of from ahead ms → place < length ms → entry ≡ get_or entries place entry → rest ≡ remove entries place → size ≡ entry.name_len + entry.list_len + entry.body_len → marks ≡ marks_len entry → Taken from ahead entries rest entry ms place size marks
+taken from ahead entries rest entry ms place size marks e h q r z f =
     let xs : List Macro = take place ms in
     let m : Macro = macro_at ms place in
     let ys : List Macro = drop (place + 1) ms in
     let k : ℕ = length (table_marks xs) in
-    let n : length (entries_of 0 0 xs) ≡ place = length_entries_of 0 0 xs ∙ length-take-le place ms (omega arith) in
-    let is : entry ≡ entry_of (0 + table_size xs) (0 + k) m = q ∙ (ap (λ (es : List Entry). get_or es place entry) e ∙ entry_of_macro 0 0 ms place entry h) in
-    let around : rest ≡ entries_of 0 0 xs ++ entries_of (table_size xs + macro_size m) (k + length (macro_marks m)) ys =
-    r ∙ (ap (λ (es : List Entry). remove es place) (entries_between entries xs m ys (e ∙ ap (entries_of 0 0) (split_at ms place h))) ∙ remove_at (entries_of 0 0 xs) _ _ place n) in
+    let n : length (entries_of from ahead xs) ≡ place = length_entries_of from ahead xs ∙ length-take-le place ms (omega arith) in
+    let is : entry ≡ entry_of (from + table_size xs) (ahead + k) m = q ∙ (ap (λ (es : List Entry). get_or es place entry) e ∙ entry_of_macro from ahead ms place entry h) in
+    let around : rest ≡ entries_of from ahead xs ++ entries_of (from + table_size xs + macro_size m) (ahead + k + length (macro_marks m)) ys =
+    r ∙ (ap (λ (es : List Entry). remove es place) (entries_between from ahead entries xs m ys (e ∙ ap (entries_of from ahead) (split_at ms place h))) ∙ remove_at (entries_of from ahead xs) _ _ place n) in
     record {
-      start = ap (λ (x : Entry). x.start) is ∙ (start_of (0 + table_size xs) (0 + k) m ∙ zero-add (table_size xs));
-      size_is = ap (λ (x : Entry). x.name_len + x.list_len + x.body_len) is ∙ size_of_entry (0 + table_size xs) (0 + k) m;
-      marks_from = ap (λ (x : Entry). x.marks) is ∙ (marks_at (0 + table_size xs) (0 + k) m ∙ zero-add k);
-      marks_are = f ∙ (ap marks_len is ∙ marks_len_of (0 + table_size xs) (0 + k) m);
-      front = ap (take place) around ∙ take_at (entries_of 0 0 xs) _ place n;
-      back = ap (drop place) around ∙ drop_at (entries_of 0 0 xs) _ place n;
+      start = ap (λ (x : Entry). x.start) is ∙ start_of (from + table_size xs) (ahead + k) m;
+      size_is = z ∙ (ap (λ (x : Entry). x.name_len + x.list_len + x.body_len) is ∙ size_of_entry (from + table_size xs) (ahead + k) m);
+      marks_from = ap (λ (x : Entry). x.marks) is ∙ marks_at (from + table_size xs) (ahead + k) m;
+      marks_are = f ∙ (ap marks_len is ∙ marks_len_of (from + table_size xs) (ahead + k) m);
+      front = ap (take place) around ∙ take_at (entries_of from ahead xs) _ place n;
+      back = ap (drop place) around ∙ drop_at (entries_of from ahead xs) _ place n;
     }
 
-pub taken_stored : (bytes : List ℕ) (entries rest : List Entry) (entry : Entry) (ms : List Macro) (place size marks : ℕ) (bytes' : List ℕ) (entries' : List Entry) → IsStored bytes entries ms → Taken entries rest entry ms place size marks → place < length ms → bytes' ≡ remove_range bytes entry.start (entry.start + size) → entries' ≡ take place rest ++ map (moved_down size marks) (drop place rest) → IsStored bytes' entries' (remove ms place)
-taken_stored bytes entries rest entry ms place size marks bytes' entries' s t h b e =
+removed_parts : (ms : List Macro) (place : ℕ) → remove ms place ≡ take place ms ++ drop (place + 1) ms
+removed_parts ms place = ap (λ (k : ℕ). take place ms ++ drop k ms) (sym (add-one place))
+
+-- what is left of the lists once those behind a macro came to the front
+pub taken_stored : {from ahead : ℕ} (bytes : List ℕ) (entries rest : List Entry) (entry : Entry) (ms : List Macro) (place size marks : ℕ) (bytes' : List ℕ) (entries' : List Entry) → IsStored from ahead bytes entries ms → Taken from ahead entries rest entry ms place size marks → place < length ms → bytes' ≡ remove_range bytes entry.start (entry.start + size) → entries' ≡ take place rest ++ map (moved_down size marks) (drop place rest) → IsStored from ahead bytes' entries' (remove ms place)
+taken_stored {from = from} {ahead = ahead} bytes entries rest entry ms place size marks bytes' entries' s t h b e =
     let xs : List Macro = take place ms in
     let m : Macro = macro_at ms place in
     let ys : List Macro = drop (place + 1) ms in
-    let split : ms ≡ xs ++ m ∷ ys = split_at ms place h in
-    let P : List Macro → Type 0 = λ l. IsStored bytes entries l in
-    let between : IsStored _ _ (xs ++ ys) = taken_between bytes entries xs m ys (subst P split s) in
-    let bytes_are : bytes' ≡ remove_range bytes (table_size xs) (table_size xs + macro_size m) =
-    b ∙ (ap (λ (k : ℕ). remove_range bytes k (k + size)) t.start ∙ ap (λ (k : ℕ). remove_range bytes (table_size xs) (table_size xs + k)) t.size_is) in
-    let behind : List Entry = entries_of (table_size xs + macro_size m) (length (table_marks xs) + length (macro_marks m)) ys in
-    let entries_are : entries' ≡ entries_of 0 0 xs ++ map (moved_down (macro_size m) (length (macro_marks m))) behind =
-    e
-    ∙ (ap (λ (l : List Entry). l ++ map (moved_down size marks) (drop place rest)) t.front
-    ∙ (ap (λ (l : List Entry). entries_of 0 0 xs ++ map (moved_down size marks) l) t.back
-    ∙ (ap (λ (k : ℕ). entries_of 0 0 xs ++ map (moved_down k marks) behind) t.size_is
-    ∙ ap (λ (k : ℕ). entries_of 0 0 xs ++ map (moved_down (macro_size m) k) behind) t.marks_are))) in
-    let after : remove ms place ≡ xs ++ ys = ap (λ (k : ℕ). xs ++ drop k ms) (sym (add-one place)) in
+    let before : List ℕ = take from bytes in
+    let long : length before ≡ from = length-take-le from bytes s.inside in
+    let till : length (before ++ table_bytes xs) ≡ entry.start = omega (arith, length-append before (table_bytes xs), length_table_bytes xs, t.start) in
+    let left : bytes' ≡ before ++ (table_bytes xs ++ table_bytes ys) =
+    b
+    ∙ (ap (λ (bs : List ℕ). remove_range bs entry.start (entry.start + size)) (bytes_round from bytes ms place (whole_bytes bytes entries ms s) h)
+    ∙ (cut_middle (before ++ table_bytes xs) (macro_bytes m) (table_bytes ys) _ _ till (omega (arith, length_macro_bytes m, t.size_is))
+    ∙ append_assoc before (table_bytes xs) (table_bytes ys))) in
+    let k : ℕ = ahead + length (table_marks xs) in
+    let moved : map (moved_down size marks) (drop place rest) ≡ entries_of (from + table_size xs) k ys =
+    ap (map (moved_down size marks)) t.back
+    ∙ (ap (λ (i : ℕ). map (moved_down i marks) (entries_of (from + table_size xs + macro_size m) (k + length (macro_marks m)) ys)) t.size_is
+    ∙ (ap (λ (i : ℕ). map (moved_down (macro_size m) i) (entries_of (from + table_size xs + macro_size m) (k + length (macro_marks m)) ys)) t.marks_are
+    ∙ moved_entries (from + table_size xs) (macro_size m) k (length (macro_marks m)) ys)) in
     record {
-      bytes_are = bytes_are ∙ (between.bytes_are ∙ ap table_bytes (sym after));
-      entries_are = entries_are ∙ (between.entries_are ∙ ap (entries_of 0 0) (sym after));
-      plain = ap (list_all is_plain_macro) after ∙ between.plain;
+      inside = omega (arith, ap (length {A = ℕ}) left, length-append before (table_bytes xs ++ table_bytes ys));
+      few = s.few;
+      bytes_are = ap (drop from) left ∙ (drop_at before _ from long ∙ (sym (table_bytes-append xs ys) ∙ ap table_bytes (sym (removed_parts ms place))));
+      entries_are =
+          e
+          ∙ (ap (λ (l : List Entry). l ++ map (moved_down size marks) (drop place rest)) t.front
+          ∙ (ap (λ (l : List Entry). entries_of from ahead xs ++ l) moved
+          ∙ (sym (entries_of-append from ahead xs ys) ∙ ap (entries_of from ahead) (sym (removed_parts ms place)))));
+      plain = ap (list_all is_plain_macro) (removed_parts ms place) ∙ plain_left ms place h s.plain;
     }
 
-pub taken_behind : (entries rest : List Entry) (entry : Entry) (ms : List Macro) (place size marks : ℕ) → Taken entries rest entry ms place size marks → AreBehind size marks (drop place rest)
+raised_entry : (n size k marks : ℕ) (m : Macro) → moved_up size marks (entry_of n k m) ≡ entry_of (n + size) (k + marks) m
+unfolding moved_up entry_of
+raised_entry n size k marks m = refl
+
+raised_entries : (n size k marks : ℕ) (xs : List Macro) → map (moved_up size marks) (entries_of n k xs) ≡ entries_of (n + size) (k + marks) xs
+unfolding entries_of
+raised_entries n size k marks [] = refl
+raised_entries n size k marks (x ∷ xs) =
+    let j : ℕ = length (macro_marks x) in
+    let e : n + macro_size x + size ≡ n + size + macro_size x = omega arith in
+    let f : k + j + marks ≡ k + marks + j = omega arith in
+    ap (λ (y : Entry). y ∷ map (moved_up size marks) (entries_of (n + macro_size x) (k + j) xs)) (raised_entry n size k marks x)
+    ∙ ap (λ (es : List Entry). entry_of (n + size) (k + marks) x ∷ es)
+    (raised_entries (n + macro_size x) size (k + j) marks xs
+    ∙ (ap (λ (i : ℕ). entries_of i (k + j + marks) xs) e ∙ ap (λ (i : ℕ). entries_of (n + size + macro_size x) i xs) f))
+
+-- what is left of the lists once those before a macro came to the back, over it
+pub covered_stored : {from ahead : ℕ} (bytes : List ℕ) (entries rest : List Entry) (entry : Entry) (ms : List Macro) (place size marks : ℕ) (bytes' : List ℕ) (entries' : List Entry) → IsStored from ahead bytes entries ms → Taken from ahead entries rest entry ms place size marks → place < length ms → drop (from + size) bytes' ≡ slice_range bytes from entry.start ++ drop (entry.start + size) bytes → length bytes' ≡ length bytes → entries' ≡ map (moved_up size marks) (take place rest) ++ drop place rest → IsStored (from + size) (ahead + marks) bytes' entries' (remove ms place)
+covered_stored {from = from} {ahead = ahead} bytes entries rest entry ms place size marks bytes' entries' s t h b l e =
+    let xs : List Macro = take place ms in
+    let m : Macro = macro_at ms place in
+    let ys : List Macro = drop (place + 1) ms in
+    let before : List ℕ = take from bytes in
+    let long : length before ≡ from = length-take-le from bytes s.inside in
+    let till : length (before ++ table_bytes xs) ≡ entry.start = omega (arith, length-append before (table_bytes xs), length_table_bytes xs, t.start) in
+    let round : bytes ≡ (before ++ table_bytes xs) ++ (macro_bytes m ++ table_bytes ys) = bytes_round from bytes ms place (whole_bytes bytes entries ms s) h in
+    let past : length ((before ++ table_bytes xs) ++ macro_bytes m) ≡ entry.start + size = omega (arith, till, length-append (before ++ table_bytes xs) (macro_bytes m), length_macro_bytes m, t.size_is) in
+    let all : length bytes ≡ entry.start + size + length (table_bytes ys) = omega (arith, ap (length {A = ℕ}) round, till, length-append (before ++ table_bytes xs) (macro_bytes m ++ table_bytes ys), length-append (macro_bytes m) (table_bytes ys), length_macro_bytes m, t.size_is) in
+    let moved : slice_range bytes from entry.start ≡ table_bytes xs =
+    ap (λ (bs : List ℕ). slice_range bs from entry.start) (round ∙ append_assoc before (table_bytes xs) _)
+    ∙ between_parts before (table_bytes xs) _ from entry.start long (omega (arith, t.start, length_table_bytes xs)) in
+    let behind : drop (entry.start + size) bytes ≡ table_bytes ys =
+    ap (drop (entry.start + size)) (round ∙ sym (append_assoc (before ++ table_bytes xs) (macro_bytes m) (table_bytes ys)))
+    ∙ drop_at ((before ++ table_bytes xs) ++ macro_bytes m) (table_bytes ys) _ past in
+    let k : ℕ = ahead + marks + length (table_marks xs) in
+    let raised : map (moved_up size marks) (take place rest) ≡ entries_of (from + size) (ahead + marks) xs =
+    ap (map (moved_up size marks)) t.front ∙ raised_entries from size ahead marks xs in
+    let stay : drop place rest ≡ entries_of (from + size + table_size xs) k ys =
+    t.back
+    ∙ (ap (λ (i : ℕ). entries_of i (ahead + length (table_marks xs) + length (macro_marks m)) ys) (omega (arith, t.size_is))
+    ∙ ap (λ (i : ℕ). entries_of (from + size + table_size xs) i ys) (omega (arith, t.marks_are))) in
+    record {
+      inside = omega (arith, l, all, t.start);
+      few = omega (arith, s.few, few_marks_in m, t.size_is, t.marks_are);
+      bytes_are =
+          b
+          ∙ (ap (λ (bs : List ℕ). bs ++ drop (entry.start + size) bytes) moved
+          ∙ (ap (λ (bs : List ℕ). table_bytes xs ++ bs) behind
+          ∙ (sym (table_bytes-append xs ys) ∙ ap table_bytes (sym (removed_parts ms place)))));
+      entries_are =
+          e
+          ∙ (ap (λ (es : List Entry). es ++ drop place rest) raised
+          ∙ (ap (λ (es : List Entry). entries_of (from + size) (ahead + marks) xs ++ es) stay
+          ∙ (sym (entries_of-append (from + size) (ahead + marks) xs ys) ∙ ap (entries_of (from + size) (ahead + marks)) (sym (removed_parts ms place)))));
+      plain = ap (list_all is_plain_macro) (removed_parts ms place) ∙ plain_left ms place h s.plain;
+    }
+
+-- what is left of the lists once all came to the front
+pub settled_stored : {from ahead : ℕ} (bytes : List ℕ) (entries : List Entry) (ms : List Macro) (bytes' : List ℕ) (entries' : List Entry) → IsStored from ahead bytes entries ms → bytes' ≡ remove_range bytes 0 from → entries' ≡ map (moved_down from ahead) entries → IsStored 0 0 bytes' entries' ms
+settled_stored {from = from} {ahead = ahead} bytes entries ms bytes' entries' s b e =
+    record {
+      inside = omega arith;
+      few = omega arith;
+      bytes_are = b ∙ s.bytes_are;
+      entries_are =
+          e
+          ∙ (ap (map (moved_down from ahead)) s.entries_are
+          ∙ (ap (λ (i : ℕ). map (moved_down from ahead) (entries_of i ahead ms)) (sym (zero-add from))
+          ∙ (ap (λ (i : ℕ). map (moved_down from ahead) (entries_of (0 + from) i ms)) (sym (zero-add ahead))
+          ∙ moved_entries 0 from 0 ahead ms)));
+      plain = s.plain;
+    }
+
+-- each entry lies behind what is given up
+pub stored_behind : {from ahead : ℕ} (bytes : List ℕ) (entries : List Entry) (ms : List Macro) → IsStored from ahead bytes entries ms → AreBehind from ahead entries
+stored_behind {from = from} {ahead = ahead} bytes entries ms s =
+    let P : List Entry → Type 0 = λ l. AreBehind from ahead l in
+    subst P (sym s.entries_are) (starts_behind from ahead from ahead ms (omega arith) (omega arith))
+
+pub taken_behind : {from ahead : ℕ} (entries rest : List Entry) (entry : Entry) (ms : List Macro) (place size marks : ℕ) → Taken from ahead entries rest entry ms place size marks → AreBehind size marks (drop place rest)
 taken_behind entries rest entry ms place size marks t =
     rw (t.back, t.size_is, t.marks_are) (starts_behind (macro_size (macro_at ms place)) (length (macro_marks (macro_at ms place))) _ _ _ (omega arith) (omega arith))
 
+low_entries : (n k last most : ℕ) (ms : List Macro) → n + table_size ms ≤ last → k + length (table_marks ms) ≤ most → All (λ e. (e.start ≤ last) × (e.marks ≤ most)) (entries_of n k ms)
+unfolding entries_of
+low_entries n k last most [] h g = All-nil _
+low_entries n k last most (m ∷ ms) h g =
+    All-cons (λ e. (e.start ≤ last) × (e.marks ≤ most)) _ _
+    (omega (arith, start_of n k m, h), omega (arith, marks_at n k m, g))
+    (low_entries (n + macro_size m) (k + length (macro_marks m)) last most ms (omega (arith, h, table_size-cons m ms)) (omega (arith, g, length_marks-cons m ms)))
+
+pub end_within : {from ahead : ℕ} (bytes : List ℕ) (entries : List Entry) (ms : List Macro) (place : ℕ) (entry : Entry) → IsStored from ahead bytes entries ms → place < length entries → entry ≡ get_or entries place entry → entry.start + (entry.name_len + entry.list_len + entry.body_len) ≤ length bytes
+unfolding entry_end body_start list_start
+end_within bytes entries ms place entry s h q =
+    let P : Entry → Type 0 = λ e. entry_end e ≤ length bytes in
+    let end : entry_end entry ≤ length bytes = subst P (sym q) (stored_within bytes entries ms s place entry h) in
+    omega (arith, end)
+
+-- the macro at a place behind what is given up
+pub taken_live : {from ahead : ℕ} (bytes : List ℕ) (items : List Entry) (front place : ℕ) (entry : Entry) (size marks : ℕ) → IsStored from ahead bytes (drop front items) (macros_in bytes (drop front items)) → place < length (drop front items) → entry ≡ get_or items (front + place) entry → size ≡ entry.name_len + entry.list_len + entry.body_len → marks ≡ marks_len entry → Taken from ahead (drop front items) (remove (drop front items) place) entry (macros_in bytes (drop front items)) place size marks
+taken_live {from = from} {ahead = ahead} bytes items front place entry size marks s h q z f =
+    taken from ahead (drop front items) _ entry _ place size marks s.entries_are (omega (arith, h, length_macros_in bytes (drop front items))) (q ∙ sym (get_or-drop front items place entry)) refl z f
+
+-- what its numbers are between
+pub record IsRanged (from ahead len : ℕ) (entry : Entry) (size marks : ℕ) : Type 0 where
+  pub start : from ≤ entry.start
+  pub end : entry.start + size ≤ len
+  pub behind : ahead ≤ entry.marks
+  pub few : entry.marks + marks ≤ entry.start + size
+
+pub taken_range : {from ahead : ℕ} (bytes : List ℕ) (items : List Entry) (front place : ℕ) (entry : Entry) (size marks : ℕ) → IsStored from ahead bytes (drop front items) (macros_in bytes (drop front items)) → place < length (drop front items) → entry ≡ get_or items (front + place) entry → size ≡ entry.name_len + entry.list_len + entry.body_len → marks ≡ marks_len entry → IsRanged from ahead (length bytes) entry size marks
+taken_range {from = from} bytes items front place entry size marks s h q z f =
+    let ms : List Macro = macros_in bytes (drop front items) in
+    let t = taken_live bytes items front place entry size marks s h q z f in
+    let inside : place < length ms = omega (arith, h, length_macros_in bytes (drop front items)) in
+    record {
+      start = omega (arith, t.start);
+      end = omega (arith, z, end_within bytes (drop front items) ms place entry s h (q ∙ sym (get_or-drop front items place entry)));
+      behind = omega (arith, t.marks_from);
+      few = omega (arith, t.start, t.marks_from, s.few, few_marks (take place ms), few_marks_in (macro_at ms place), t.size_is, t.marks_are);
+    }
+
+-- the entries before it can be moved up
+pub taken_low : {from ahead : ℕ} (bytes : List ℕ) (items : List Entry) (front place : ℕ) (entry : Entry) (size marks : ℕ) → IsStored from ahead bytes (drop front items) (macros_in bytes (drop front items)) → place < length (drop front items) → entry ≡ get_or items (front + place) entry → size ≡ entry.name_len + entry.list_len + entry.body_len → marks ≡ marks_len entry → length bytes < 2 ^ 32 → AreLow size marks (take place (remove (drop front items) place))
+taken_low {from = from} {ahead = ahead} bytes items front place entry size marks s h q z f n =
+    let ms : List Macro = macros_in bytes (drop front items) in
+    let t = taken_live bytes items front place entry size marks s h q z f in
+    let r = taken_range bytes items front place entry size marks s h q z f in
+    let P : List Entry → Type 0 = λ l. AreLow size marks l in
+    let low : All (λ e. (e.start ≤ entry.start) × (e.marks ≤ entry.marks)) (entries_of from ahead (take place ms)) =
+    low_entries from ahead entry.start entry.marks (take place ms) (omega (arith, t.start)) (omega (arith, t.marks_from)) in
+    subst P (sym t.front) (λ k d g. (omega (arith, low k d g, r.end, n), omega (arith, low k d g, r.few, r.end, n)))
+
 -- the marks of the macros that stay, behind an index of so many places
-pub taken_marks : (order : List ℕ) (entries rest : List Entry) (entry : Entry) (ms : List Macro) (place size marks n : ℕ) (order' : List ℕ) → n ≤ length order → drop n order ≡ table_marks ms → Taken entries rest entry ms place size marks → place < length ms → order' ≡ remove_range order (n + entry.marks) (n + entry.marks + marks) → (take n order' ≡ take n order) × (drop n order' ≡ table_marks (remove ms place))
-taken_marks order entries rest entry ms place size marks n order' l d t h o =
+pub taken_marks : {from ahead : ℕ} (order : List ℕ) (entries rest : List Entry) (entry : Entry) (ms : List Macro) (place size marks n : ℕ) (order' : List ℕ) → n ≤ length order → drop n order ≡ table_marks ms → Taken from ahead entries rest entry ms place size marks → place < length ms → order' ≡ remove_range order (n + (entry.marks - ahead)) (n + (entry.marks - ahead) + marks) → (take n order' ≡ take n order) × (drop n order' ≡ table_marks (remove ms place))
+taken_marks {ahead = ahead} order entries rest entry ms place size marks n order' l d t h o =
     let xs : List Macro = take place ms in
     let m : Macro = macro_at ms place in
     let ys : List Macro = drop (place + 1) ms in
@@ -344,30 +487,23 @@ taken_marks order entries rest entry ms place size marks n order' l d t h o =
     ∙ sym (append_assoc front (table_marks xs) _)) in
     let left : order' ≡ front ++ table_marks (remove ms place) =
     o
-    ∙ (ap (λ (x : List ℕ). remove_range x (n + entry.marks) (n + entry.marks + marks)) whole
+    ∙ (ap (λ (x : List ℕ). remove_range x (n + (entry.marks - ahead)) (n + (entry.marks - ahead) + marks)) whole
     ∙ (cut_middle (front ++ table_marks xs) (macro_marks m) (table_marks ys) _ _ (omega (arith, length-append front (table_marks xs), t.marks_from)) (omega (arith, t.marks_are))
     ∙ (append_assoc front (table_marks xs) (table_marks ys)
     ∙ ap (λ (x : List ℕ). front ++ x) (sym (table_marks-append xs ys) ∙ ap (λ (k : ℕ). table_marks (xs ++ drop k ms)) (add-one place))))) in
     (ap (take n) left ∙ take_at front _ n long, ap (drop n) left ∙ drop_at front _ n long)
 
 -- the marks of an entry lie among those of all
-pub marks_within : (entries rest : List Entry) (entry : Entry) (ms : List Macro) (place size marks : ℕ) → Taken entries rest entry ms place size marks → place < length ms → entry.marks + marks ≤ length (table_marks ms)
+pub marks_within : {from ahead : ℕ} (entries rest : List Entry) (entry : Entry) (ms : List Macro) (place size marks : ℕ) → Taken from ahead entries rest entry ms place size marks → place < length ms → entry.marks - ahead + marks ≤ length (table_marks ms)
 marks_within entries rest entry ms place size marks t h =
     omega (arith, t.marks_from, t.marks_are, ap (λ (l : List Macro). length (table_marks l)) (split_at ms place h), ap (length {A = ℕ}) (table_marks-append (take place ms) (macro_at ms place ∷ drop (place + 1) ms)), length-append (table_marks (take place ms)) (table_marks (macro_at ms place ∷ drop (place + 1) ms)), length_marks-cons (macro_at ms place) (drop (place + 1) ms))
 
-pub marks_end : (order : List ℕ) (entries rest : List Entry) (entry : Entry) (ms : List Macro) (place size marks n : ℕ) → n ≤ length order → drop n order ≡ table_marks ms → Taken entries rest entry ms place size marks → place < length ms → n + entry.marks + marks ≤ length order
+pub marks_end : {from ahead : ℕ} (order : List ℕ) (entries rest : List Entry) (entry : Entry) (ms : List Macro) (place size marks n : ℕ) → n ≤ length order → drop n order ≡ table_marks ms → Taken from ahead entries rest entry ms place size marks → place < length ms → n + (entry.marks - ahead) + marks ≤ length order
 marks_end order entries rest entry ms place size marks n l d t h =
     omega (arith, marks_within entries rest entry ms place size marks t h, ap (length {A = ℕ}) d, length-drop n order)
 
 pub bytes_fit : (v : Vec ℕ Global) → length v.items < 2 ^ 63
 bytes_fit v = omega (arith, v.ok.0, v.ok.1, v.small)
-
-pub end_within : (bytes : List ℕ) (entries : List Entry) (ms : List Macro) (place : ℕ) (entry : Entry) → IsStored bytes entries ms → place < length entries → entry ≡ get_or entries place entry → entry.start + (entry.name_len + entry.list_len + entry.body_len) ≤ length bytes
-unfolding entry_end body_start list_start
-end_within bytes entries ms place entry s h q =
-    let P : Entry → Type 0 = λ e. entry_end e ≤ length bytes in
-    let end : entry_end entry ≤ length bytes = subst P (sym q) (stored_within bytes entries ms s place entry h) in
-    omega (arith, end)
 
 pub capacity_small : (v : Vec ℕ Global) → vec_capacity v < 2 ^ 63
 capacity_small v = omega (arith, v.small)

@@ -1,6 +1,6 @@
 -- What holds of entries and the bytes that they point into.
 -- A definition that names no source is this project's own.
-use Rattle.std.specs.Prelude.{ℕ, ◌-◌, ◌≤◌, List, All, unwrap_or, if◌then◌else◌}
+use Rattle.std.specs.Prelude.{ℕ, ◌+◌, ◌-◌, ◌<◌, ◌≤◌, ◌^◌, List, All, unwrap_or, if◌then◌else◌}
 use Rattle.rdlpp_table.specs.declared.entry.Entry.{Entry}
 use Rattle.rdlpp_table.specs.Marks.{is_marked}
 use Rattle.rdlpp_table.specs.Store.{entry_end}
@@ -12,6 +12,14 @@ AreWithin n entries = All (λ e. entry_end e ≤ n) entries
 -- an entry whose bytes lie so much further to the front, and its marks as much as another number says
 unfoldable pub moved_down : ℕ → ℕ → Entry → Entry
 moved_down size marks e = record { start = e.start - size; name_len = e.name_len; list_len = e.list_len; body_len = e.body_len; arity = e.arity; marks = e.marks - marks; stops = e.stops }
+
+-- an entry whose bytes lie so much further to the back, and its marks as much as another number says
+unfoldable pub moved_up : ℕ → ℕ → Entry → Entry
+moved_up size marks e = record { start = e.start + size; name_len = e.name_len; list_len = e.list_len; body_len = e.body_len; arity = e.arity; marks = e.marks + marks; stops = e.stops }
+
+-- each entry can be moved up so much
+abbrev pub AreLow : ℕ → ℕ → List Entry → Type 0
+AreLow n k entries = All (λ e. (e.start + n < 2 ^ 32) × (e.marks + k < 2 ^ 32)) entries
 
 -- each entry's bytes lie behind so many, and its marks behind as many as another number says
 abbrev pub AreBehind : ℕ → ℕ → List Entry → Type 0

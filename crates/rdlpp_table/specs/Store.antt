@@ -1,6 +1,6 @@
 -- How a table lies in its two lists: the bytes of its macros one after another, and an entry for each.
 -- A definition that names no source is this project's own.
-use Rattle.std.specs.Prelude.{◌≡◌, ℕ, zero, suc, ◌+◌, ◌-◌, Bool, true, not, ◌&&◌, ◌||◌, ◌==◌, List, [], ◌∷◌, length, take, drop, map, slice_index, slice_range, sum_by, Some, option_map, unwrap_or, is_none, if◌then◌else◌}
+use Rattle.std.specs.Prelude.{◌≡◌, ℕ, zero, suc, ◌+◌, ◌-◌, ◌≤◌, Bool, true, not, ◌&&◌, ◌||◌, ◌==◌, List, [], ◌∷◌, length, take, drop, map, slice_index, slice_range, sum_by, Some, option_map, unwrap_or, is_none, if◌then◌else◌}
 use Rattle.std.specs.List.{flat_map, prefix_len, list_all}
 use Rattle.rdlpp_scan.specs.declared.token.Mode.TheVariants.{Plain}
 use Rattle.rdlpp_scan.specs.declared.token.Token.{Token}
@@ -109,10 +109,16 @@ is_plain_formal f = list_all is_name_byte f.name && is_default f.text
 unfoldable pub is_plain_macro : Macro → Bool
 is_plain_macro m = list_all is_plain_formal (unwrap_or m.formals [])
 
--- the bytes and the entries of macros
-pub record IsStored (bytes : List ℕ) (entries : List Entry) (macros : List Macro) : Type 0 where
-  pub bytes_are : bytes ≡ table_bytes macros
-  pub entries_are : entries ≡ entries_of 0 0 macros
+-- the entries that aren't given up, where so many at the front are
+abbrev pub live : ℕ → List Entry → List Entry
+live front entries = drop front entries
+
+-- the bytes and the entries of macros behind so many bytes that are given up, where the entries count so many marks that aren't there
+pub record IsStored (from marks : ℕ) (bytes : List ℕ) (entries : List Entry) (macros : List Macro) : Type 0 where
+  pub inside : from ≤ length bytes
+  pub few : marks ≤ from
+  pub bytes_are : drop from bytes ≡ table_bytes macros
+  pub entries_are : entries ≡ entries_of from marks macros
   pub plain : list_all is_plain_macro macros ≡ true
 
 -- bytes are those of so many formals, and marks are those of these

@@ -1,5 +1,5 @@
 // Where the parts of one definition lie in a table's bytes.
-ghost use Rattle.std.specs.Prelude.{◌≡◌, ◌≤◌, ◌+◌, length, slice_range, unwrap_or};
+ghost use Rattle.std.specs.Prelude.{◌≡◌, ◌≤◌, ◌+◌, ◌-◌, length, slice_range, unwrap_or};
 ghost use Rattle.rdlpp_table.specs.Entries.{marks_len};
 ghost use Rattle.rdlpp_table.specs.Store.{body_of, entry_end, list_of, name_of};
 
@@ -12,7 +12,7 @@ pub(crate) struct Entry {
     pub(crate) start: u32,
     pub(crate) list_len: u32,
     pub(crate) body_len: u32,
-    // Where its marks begin.
+    // Where its marks begin, counted with those that are given up.
     pub(crate) marks: u32,
     pub(crate) name_len: u8,
     // How many formals it has, where it has a list.
@@ -21,8 +21,10 @@ pub(crate) struct Entry {
     pub(crate) stops: FirstStops,
 }
 
-// The numbers of an entry are small ones, so that ten stops have room beside them.
-const _: () = prove!(size_of::<Entry>() == 80);
+// How many bytes an entry takes: its numbers are small ones, so that ten stops have room beside them.
+pub(crate) const ENTRY_BYTES: usize = 80;
+
+const _: () = prove!(size_of::<Entry>() == ENTRY_BYTES);
 
 // The name of a definition.
 #[tactic(auto, unfolding(crate::specs::Store::name_of, crate::specs::Store::entry_end, crate::specs::Store::body_start, crate::specs::Store::list_start))]
@@ -67,15 +69,22 @@ pub(crate) fn marks_len(entry: &Entry) -> usize
     }
 }
 
-// The formals of a definition as they lie in a table, and their marks among those of all macros.
-pub(crate) fn listed_in<'a>(bytes: &'a [u8], marks: &'a [u32], entry: &Entry) -> Listed<'a>
+// The formals of a definition as they lie in a table, and their marks among those of all macros, where so many that the entry counts
+// are given up.
+pub(crate) fn listed_in<'a>(
+    bytes: &'a [u8],
+    marks: &'a [u32],
+    given_up: usize,
+    entry: &Entry,
+) -> Listed<'a>
     requires bytes { entry_end entry.now ≤ length bytes.now }
-    requires marks { entry.now.marks + marks_len entry.now ≤ length marks.now }
+    requires given_up { given_up ≤ entry.now.marks }
+    requires marks { entry.now.marks - given_up + marks_len entry.now ≤ length marks.now }
     ensures list { result.list.now ≡ list_of bytes.now entry.now }
     ensures count { result.count ≡ unwrap_or entry.now.arity 0 }
-    ensures marks { result.marks.now ≡ slice_range marks.now entry.now.marks (entry.now.marks + marks_len entry.now) }
+    ensures marks { result.marks.now ≡ slice_range marks.now (entry.now.marks - given_up) (entry.now.marks - given_up + marks_len entry.now) }
 {
-    let first = entry.marks as usize;
+    let first = entry.marks as usize - given_up;
     let end = first + marks_len(entry);
     Listed {
         list: list_in(bytes, entry),

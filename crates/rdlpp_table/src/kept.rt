@@ -206,8 +206,8 @@ struct Candidate<'a> {
     kept: &'a Kept,
 }
 
-// The first of the stops that are kept that doesn't end in front of a place, or at it; or else the last of them. The first
-// one that is known not to end is the last one that tells anything, so that places behind 65,534 count as this one.
+// The first of the stops that are kept that ends behind a place, or else the last of them. One whose end isn't known is kept with the
+// end 65,535, and those after it tell nothing: so a place from 65,535 on is sought as 65,534, which finds that one.
 fn candidate_at(stops: &FirstStops, from: usize) -> Candidate<'_>
     ensures order { result.start ≤ from }
     ensures kept { (formals : List Formal) (text : List ℕ) → stops.now ≡ first_stops formals text → result.kept.now ≡ kept_from formals text result.start }

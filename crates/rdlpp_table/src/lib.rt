@@ -4,6 +4,7 @@
 mod entry;
 mod fault;
 mod formals;
+mod front;
 mod header;
 mod index;
 mod kept;

@@ -1,13 +1,14 @@
 // A definition is taken out of a table's lists, which close up.
-ghost use Rattle.std.specs.Prelude.{◌≡◌, ◌+◌, ◌-◌, ◌<◌, ◌≤◌, ◌++◌, drop, length, map, remove, take, vec_len, vec_capacity, bytes_eq, is_some};
+ghost use Rattle.std.specs.Prelude.{◌≡◌, ◌+◌, ◌-◌, ◌*◌, ◌<◌, ◌≤◌, ◌++◌, ◌^◌, drop, length, map, remove, slice_range, take, vec_len, vec_capacity, bytes_eq, is_some, nat_le, nat_lt, ◌&&◌, ◌||◌};
 ghost use Rattle.rdlpp_table.specs.Table.{macro_named, without};
 ghost use Rattle.std.specs.List.{remove_range, IsDistinct};
-ghost use Rattle.rdlpp_table.specs.Entries.{moved_down, AreBehind};
+ghost use Rattle.rdlpp_table.specs.Entries.{moved_down, moved_up, AreBehind, AreLow};
 ghost use Rattle.rdlpp_table.specs.Index.{names_of, IsGap, IsIndexed};
 ghost use Rattle.rdlpp_table.specs.Marks.{table_marks};
-ghost use Rattle.rdlpp_table.specs.Store.{IsStored, macros_in};
+ghost use Rattle.rdlpp_table.specs.Store.{live, macros_in, IsStored};
 
-use crate::entry::{Entry, marks_len};
+use crate::entry::{ENTRY_BYTES, Entry, marks_len};
+use crate::front::{Front, live};
 use crate::index::{leave, seek};
 use crate::parts::{begin_sooner, part_of};
 use crate::sought::{Sought, Steps};
@@ -23,15 +24,15 @@ fn move_down(entry: &mut Entry, size: usize, marks: usize)
     entry.marks = (entry.marks as usize - marks) as u32;
 }
 
-// The entries behind the first one come a place to the front, and their bytes and marks were moved. One pass does both: a long
+// The entries behind the first ones, so many, come to the front, and their bytes and marks were moved. One pass does both: a long
 // list of entries is read once.
-fn draw_down(entries: &mut [Entry], size: usize, marks: usize)
-    requires some { 0 < length entries.old }
-    requires behind { AreBehind size marks (drop 1 entries.old) }
-    ensures { entries.new ≡ map (moved_down size marks) (drop 1 entries.old) ++ drop (length entries.old - 1) entries.old }
+fn draw_down(entries: &mut [Entry], by: usize, size: usize, marks: usize)
+    requires some { by ≤ length entries.old }
+    requires behind { AreBehind size marks (drop by entries.old) }
+    ensures { entries.new ≡ map (moved_down size marks) (drop by entries.old) ++ drop (length entries.old - by) entries.old }
 {
-    for at in 0..entries.len() - 1 {
-        entries[at] = entries[at + 1];
+    for at in 0..entries.len() - by {
+        entries[at] = entries[at + by];
         move_down(&mut entries[at], size, marks);
     }
 }
@@ -44,8 +45,45 @@ fn take_entry(entries: &mut Vec<Entry>, place: usize, size: usize, marks: usize)
     ensures len { vec_len entries.new + 1 ≡ vec_len entries.old }
     ensures capacity { vec_capacity entries.new ≡ vec_capacity entries.old }
 {
-    draw_down(&mut entries[place..], size, marks);
+    draw_down(&mut entries[place..], 1, size, marks);
     entries.truncate(entries.len() - 1);
+}
+
+// The bytes of an entry are moved so much further to the back, and its marks count as many more as another number says.
+#[inline(always)]
+#[tactic(auto, unfolding(crate::specs::Entries::moved_up))]
+fn move_up(entry: &mut Entry, size: usize, marks: usize)
+    requires { (entry.old.start + size < 2 ^ 32) × (entry.old.marks + marks < 2 ^ 32) }
+    ensures { entry.new ≡ moved_up size marks entry.old }
+{
+    entry.start = (entry.start as usize + size) as u32;
+    entry.marks = (entry.marks as usize + marks) as u32;
+}
+
+// The entries before the last one come a place to the back, and their bytes are moved.
+fn draw_up(entries: &mut [Entry], size: usize, marks: usize)
+    requires some { 0 < length entries.old }
+    requires low { AreLow size marks (take (length entries.old - 1) entries.old) }
+    ensures { entries.new ≡ take 1 entries.old ++ map (moved_up size marks) (take (length entries.old - 1) entries.old) }
+{
+    let mut at = entries.len() - 1;
+    while at > 0 {
+        entries[at] = entries[at - 1];
+        move_up(&mut entries[at], size, marks);
+        at -= 1;
+    }
+}
+
+// Takes out the entry at a place behind so many that are given up, of which one more is given up; the bytes of those before it are
+// moved so much further to the back.
+fn cover_entry(entries: &mut Vec<Entry>, front: usize, place: usize, size: usize, marks: usize)
+    requires place { front + place < vec_len entries.old }
+    requires low { AreLow size marks (take place (remove (drop front entries.old.items) place)) }
+    ensures items { drop (front + 1) entries.new.items ≡ map (moved_up size marks) (take place (remove (drop front entries.old.items) place)) ++ drop place (remove (drop front entries.old.items) place) }
+    ensures len { vec_len entries.new ≡ vec_len entries.old }
+    ensures capacity { vec_capacity entries.new ≡ vec_capacity entries.old }
+{
+    draw_up(&mut entries[front..front + place + 1], size, marks);
 }
 
 // Takes bytes out of the middle: those behind move to the front as one block.
@@ -59,6 +97,16 @@ fn cut(bytes: &mut Vec<u8>, from: usize, to: usize)
     bytes.truncate(count - (to - from));
 }
 
+// Moves the bytes between two places so much further to the back, over those behind them.
+fn cover(bytes: &mut Vec<u8>, from: usize, to: usize, size: usize)
+    requires { (from ≤ to) × (to + size ≤ vec_len bytes.old) }
+    ensures items { drop (from + size) bytes.new.items ≡ slice_range bytes.old.items from to ++ drop (to + size) bytes.old.items }
+    ensures len { vec_len bytes.new ≡ vec_len bytes.old }
+    ensures capacity { vec_capacity bytes.new ≡ vec_capacity bytes.old }
+{
+    bytes.copy_within(from..to, from + size);
+}
+
 // Takes marks out of the middle: those behind move to the front as one block.
 fn cut_marks(order: &mut Vec<u32>, from: usize, to: usize)
     requires { (from ≤ to) × (to ≤ vec_len order.old) }
@@ -70,25 +118,101 @@ fn cut_marks(order: &mut Vec<u32>, from: usize, to: usize)
     order.truncate(count - (to - from));
 }
 
+// How many bytes a definition has.
+pub(crate) fn size_of_entry(entry: &Entry) -> usize
+    ensures { result ≡ entry.now.name_len + entry.now.list_len + entry.now.body_len }
+{
+    entry.name_len as usize + entry.list_len as usize + entry.body_len as usize
+}
+
+// Whether there is room behind for one more macro of so many bytes, or room at the front that a move of all would bring there.
+fn has_room(bytes: &Vec<u8>, entries: &Vec<Entry>, front: &Front, size: usize) -> bool
+    ensures { result ≡ (nat_lt 0 front.now.entries || nat_le size (vec_capacity bytes.now - vec_len bytes.now) && nat_lt (vec_len entries.now) (vec_capacity entries.now)) }
+{
+    front.entries > 0
+        || size <= bytes.capacity() - bytes.len() && entries.len() < entries.capacity()
+}
+
+// Takes the bytes and the entry of the macro at a place out of those of a table. What stands behind them comes to the front; or,
+// where that is less than a third of it, what stands before them goes to the back, and their room at the front is given up. Two such
+// moves or more save what is moved once there is no room left behind, when all comes to the front.
+fn take_stored(bytes: &mut Vec<u8>, entries: &mut Vec<Entry>, front: &mut Front, place: usize)
+    requires stored { IsStored front.old.bytes front.old.marks bytes.old.items (live front.old.entries entries.old.items) (macros_in bytes.old.items (live front.old.entries entries.old.items)) }
+    requires narrow { vec_capacity bytes.old < 2 ^ 32 }
+    requires given_up { front.old.entries ≤ vec_len entries.old }
+    requires place { place < length (live front.old.entries entries.old.items) }
+    requires few { length (live front.old.entries entries.old.items) ≤ 65536 }
+    ensures stored { IsStored front.new.bytes front.new.marks bytes.new.items (live front.new.entries entries.new.items) (remove (macros_in bytes.old.items (live front.old.entries entries.old.items)) place) }
+    ensures given_up { front.new.entries ≤ vec_len entries.new }
+    ensures capacity { (vec_capacity bytes.new ≡ vec_capacity bytes.old) × (vec_capacity entries.new ≡ vec_capacity entries.old) }
+{
+    let at = front.entries + place;
+    let entry = entries[at];
+    let size = size_of_entry(&entry);
+    let marks = marks_len(&entry);
+    let start = entry.start as usize;
+    let before = (start - front.bytes) + ENTRY_BYTES * place;
+    let behind = (bytes.len() - (start + size)) + ENTRY_BYTES * (entries.len() - (at + 1));
+    if before < behind / 3 && has_room(bytes, entries, front, size) {
+        cover(bytes, front.bytes, start, size);
+        cover_entry(entries, front.entries, place, size, marks);
+        front.bytes += size;
+        front.entries += 1;
+        front.marks += marks;
+    } else {
+        cut(bytes, start, start + size);
+        take_entry(entries, at, size, marks);
+    }
+}
+
 // Takes out the macro at a place, of which the index has no place any more.
-fn take_out(bytes: &mut Vec<u8>, entries: &mut Vec<Entry>, order: &mut Vec<u32>, place: usize)
-    requires stored { IsStored bytes.old.items entries.old.items (macros_in bytes.old.items entries.old.items) }
-    requires place { place < vec_len entries.old }
-    requires index { vec_len entries.old ≤ vec_len order.old + 1 }
-    requires marked { drop (vec_len entries.old - 1) order.old.items ≡ table_marks (macros_in bytes.old.items entries.old.items) }
-    ensures stored { IsStored bytes.new.items entries.new.items (remove (macros_in bytes.old.items entries.old.items) place) }
-    ensures index { take (vec_len entries.new) order.new.items ≡ take (vec_len entries.old - 1) order.old.items }
-    ensures marked { drop (vec_len entries.new) order.new.items ≡ table_marks (remove (macros_in bytes.old.items entries.old.items) place) }
+fn take_out(
+    bytes: &mut Vec<u8>,
+    entries: &mut Vec<Entry>,
+    front: &mut Front,
+    order: &mut Vec<u32>,
+    place: usize,
+)
+    requires stored { IsStored front.old.bytes front.old.marks bytes.old.items (live front.old.entries entries.old.items) (macros_in bytes.old.items (live front.old.entries entries.old.items)) }
+    requires narrow { vec_capacity bytes.old < 2 ^ 32 }
+    requires given_up { front.old.entries ≤ vec_len entries.old }
+    requires place { place < length (live front.old.entries entries.old.items) }
+    requires few { length (live front.old.entries entries.old.items) ≤ 65536 }
+    requires index { length (live front.old.entries entries.old.items) ≤ vec_len order.old + 1 }
+    requires marked { drop (length (live front.old.entries entries.old.items) - 1) order.old.items ≡ table_marks (macros_in bytes.old.items (live front.old.entries entries.old.items)) }
+    ensures stored { IsStored front.new.bytes front.new.marks bytes.new.items (live front.new.entries entries.new.items) (remove (macros_in bytes.old.items (live front.old.entries entries.old.items)) place) }
+    ensures given_up { front.new.entries ≤ vec_len entries.new }
+    ensures index { take (length (live front.new.entries entries.new.items)) order.new.items ≡ take (length (live front.old.entries entries.old.items) - 1) order.old.items }
+    ensures marked { drop (length (live front.new.entries entries.new.items)) order.new.items ≡ table_marks (remove (macros_in bytes.old.items (live front.old.entries entries.old.items)) place) }
     ensures capacity { (vec_capacity bytes.new ≡ vec_capacity bytes.old) × (vec_capacity entries.new ≡ vec_capacity entries.old) × (vec_capacity order.new ≡ vec_capacity order.old) }
 {
-    let entry = entries[place];
-    let size = entry.name_len as usize + entry.list_len as usize + entry.body_len as usize;
-    let marks = marks_len(&entry);
-    let first = entries.len() - 1 + entry.marks as usize;
-    let start = entry.start as usize;
-    cut(bytes, start, start + size);
-    cut_marks(order, first, first + marks);
-    take_entry(entries, place, size, marks);
+    let entry = live(entries, front)[place];
+    let first = entries.len() - front.entries - 1 + (entry.marks as usize - front.marks);
+    cut_marks(order, first, first + marks_len(&entry));
+    take_stored(bytes, entries, front, place);
+}
+
+// Moves all that isn't given up to the fronts of the lists, so that the room of what is given up lies behind it.
+pub(crate) fn settle(bytes: &mut Vec<u8>, entries: &mut Vec<Entry>, front: &mut Front)
+    requires stored { IsStored front.old.bytes front.old.marks bytes.old.items (live front.old.entries entries.old.items) (macros_in bytes.old.items (live front.old.entries entries.old.items)) }
+    requires given_up { front.old.entries ≤ vec_len entries.old }
+    ensures stored { IsStored 0 0 bytes.new.items (live front.new.entries entries.new.items) (macros_in bytes.old.items (live front.old.entries entries.old.items)) }
+    ensures front { front.new ≡ record { bytes = 0; entries = 0; marks = 0 } }
+    ensures capacity { (vec_capacity bytes.new ≡ vec_capacity bytes.old) × (vec_capacity entries.new ≡ vec_capacity entries.old) }
+{
+    cut(bytes, 0, front.bytes);
+    draw_down(
+        entries.as_mut_slice(),
+        front.entries,
+        front.bytes,
+        front.marks,
+    );
+    entries.truncate(entries.len() - front.entries);
+    *front = Front {
+        bytes: 0,
+        entries: 0,
+        marks: 0,
+    };
 }
 
 // Takes out the macro of a name, and answers whether there was one, and where the name would stand in the index now: where the
@@ -96,26 +220,30 @@ fn take_out(bytes: &mut Vec<u8>, entries: &mut Vec<Entry>, order: &mut Vec<u32>,
 pub(crate) fn take_out_named(
     bytes: &mut Vec<u8>,
     entries: &mut Vec<Entry>,
+    front: &mut Front,
     order: &mut Vec<u32>,
     starts: &mut [u32],
     name: &[u8],
 ) -> (bool, usize)
-    requires stored { IsStored bytes.old.items entries.old.items (macros_in bytes.old.items entries.old.items) }
-    requires distinct { IsDistinct bytes_eq (map (λ m. m.name) (macros_in bytes.old.items entries.old.items)) }
-    requires indexed { IsIndexed (names_of (macros_in bytes.old.items entries.old.items)) (take (vec_len entries.old) order.old.items) starts.old }
-    requires marked { drop (vec_len entries.old) order.old.items ≡ table_marks (macros_in bytes.old.items entries.old.items) }
-    requires few { vec_len entries.old ≤ 65536 }
-    ensures value { result.0 ≡ is_some (macro_named (macros_in bytes.old.items entries.old.items) name.now) }
-    ensures gap { IsGap (names_of (macros_in bytes.new.items entries.new.items)) (take (vec_len entries.new) order.new.items) name.now result.1 }
-    ensures stored { IsStored bytes.new.items entries.new.items (without name.now (macros_in bytes.old.items entries.old.items)) }
-    ensures indexed { IsIndexed (names_of (without name.now (macros_in bytes.old.items entries.old.items))) (take (vec_len entries.new) order.new.items) starts.new }
-    ensures marked { drop (vec_len entries.new) order.new.items ≡ table_marks (without name.now (macros_in bytes.old.items entries.old.items)) }
+    requires stored { IsStored front.old.bytes front.old.marks bytes.old.items (live front.old.entries entries.old.items) (macros_in bytes.old.items (live front.old.entries entries.old.items)) }
+    requires narrow { vec_capacity bytes.old < 2 ^ 32 }
+    requires given_up { front.old.entries ≤ vec_len entries.old }
+    requires distinct { IsDistinct bytes_eq (map (λ m. m.name) (macros_in bytes.old.items (live front.old.entries entries.old.items))) }
+    requires indexed { IsIndexed (names_of (macros_in bytes.old.items (live front.old.entries entries.old.items))) (take (length (live front.old.entries entries.old.items)) order.old.items) starts.old }
+    requires marked { drop (length (live front.old.entries entries.old.items)) order.old.items ≡ table_marks (macros_in bytes.old.items (live front.old.entries entries.old.items)) }
+    requires few { length (live front.old.entries entries.old.items) ≤ 65536 }
+    ensures value { result.0 ≡ is_some (macro_named (macros_in bytes.old.items (live front.old.entries entries.old.items)) name.now) }
+    ensures gap { IsGap (names_of (macros_in bytes.new.items (live front.new.entries entries.new.items))) (take (length (live front.new.entries entries.new.items)) order.new.items) name.now result.1 }
+    ensures stored { IsStored front.new.bytes front.new.marks bytes.new.items (live front.new.entries entries.new.items) (without name.now (macros_in bytes.old.items (live front.old.entries entries.old.items))) }
+    ensures given_up { front.new.entries ≤ vec_len entries.new }
+    ensures indexed { IsIndexed (names_of (without name.now (macros_in bytes.old.items (live front.old.entries entries.old.items)))) (take (length (live front.new.entries entries.new.items)) order.new.items) starts.new }
+    ensures marked { drop (length (live front.new.entries entries.new.items)) order.new.items ≡ table_marks (without name.now (macros_in bytes.old.items (live front.old.entries entries.old.items))) }
     ensures capacity { (vec_capacity bytes.new ≡ vec_capacity bytes.old) × (vec_capacity entries.new ≡ vec_capacity entries.old) × (vec_capacity order.new ≡ vec_capacity order.old) }
 {
-    let count = entries.len();
+    let count = entries.len() - front.entries;
     match seek(
         bytes,
-        entries,
+        live(entries, front),
         &order[..count],
         starts,
         &Sought::new(name),
@@ -124,7 +252,7 @@ pub(crate) fn take_out_named(
         Ok(at) => {
             let place = leave(order, count, at);
             begin_sooner(starts, part_of(name));
-            take_out(bytes, entries, order, place);
+            take_out(bytes, entries, front, order, place);
             (true, at)
         }
         Err(gap) => (false, gap),

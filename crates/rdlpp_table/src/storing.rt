@@ -26,17 +26,18 @@ ghost use Rattle.std.specs.Prelude.{
 ghost use Rattle.std.specs.List.{flat_map, IsDistinct};
 ghost use Rattle.rdlpp_table.specs.Index.{names_of, IsIndexed};
 ghost use Rattle.rdlpp_table.specs.Marks.{table_marks};
-ghost use Rattle.rdlpp_table.specs.Store.{macros_in, IsListed, IsStored};
+ghost use Rattle.rdlpp_table.specs.Store.{live, macros_in, IsListed, IsStored};
 ghost use Rattle.rdlpp_table.specs.Table.{formal_bytes, table_size, without};
 ghost use Rattle.rdlpp_table.specs.New.{list_formals, new_macro, stops_told, IsList, IsNew};
 
 use crate::entry::Entry;
 use crate::formals::append_list;
+use crate::front::{Front, live};
 use crate::index::{enter, place_in};
 use crate::kept::{FirstStops, first_stops};
 use crate::marks::{Listed, push_marks};
 use crate::parts::{begin_later, part_of};
-use crate::removal::take_out_named;
+use crate::removal::{settle, size_of_entry, take_out_named};
 use crate::sought::Steps;
 use rdlpp_lines::{append_part, append_trimmed};
 
@@ -92,21 +93,29 @@ fn small_arity(arity: Option<usize>) -> Option<u8>
 }
 
 // Puts a macro behind the others, of which the index has a place already.
-fn put(bytes: &mut Vec<u8>, entries: &mut Vec<Entry>, order: &mut Vec<u32>, new: &New)
-    requires stored { IsStored bytes.old.items entries.old.items (macros_in bytes.old.items entries.old.items) }
+fn put(
+    bytes: &mut Vec<u8>,
+    entries: &mut Vec<Entry>,
+    front: &Front,
+    order: &mut Vec<u32>,
+    new: &New,
+)
+    requires stored { IsStored front.now.bytes front.now.marks bytes.old.items (live front.now.entries entries.old.items) (macros_in bytes.old.items (live front.now.entries entries.old.items)) }
+    requires given_up { front.now.entries ≤ vec_len entries.old }
     requires counted { IsNew new.now.name.now new.now.arity new.now.list.now new.now.list_len new.now.is_logical new.now.text.now new.now.body_len }
-    requires index { vec_len entries.old < vec_len order.old }
-    requires marked { drop (vec_len entries.old + 1) order.old.items ≡ table_marks (macros_in bytes.old.items entries.old.items) }
+    requires index { length (live front.now.entries entries.old.items) < vec_len order.old }
+    requires marked { drop (length (live front.now.entries entries.old.items) + 1) order.old.items ≡ table_marks (macros_in bytes.old.items (live front.now.entries entries.old.items)) }
     requires room { vec_len bytes.old + (length new.now.name.now + (new.now.list_len + new.now.body_len)) ≤ vec_capacity bytes.old }
     requires entry_room { vec_len entries.old < vec_capacity entries.old }
     requires mark_room { vec_len order.old + new.now.list_len / 8 ≤ vec_capacity order.old }
     requires small { new.now.list_len < 2 ^ 32 }
-    requires narrow { (vec_capacity bytes.old < 2 ^ 32) × (vec_capacity order.old < 2 ^ 32) }
+    requires narrow { vec_capacity bytes.old < 2 ^ 32 }
     requires short { length new.now.name.now < 256 }
     requires few_formals { unwrap_or new.now.arity 0 < 256 }
-    ensures stored { IsStored bytes.new.items entries.new.items (macros_in bytes.old.items entries.old.items ++ new_macro new.now.name.now new.now.arity new.now.list.now new.now.is_logical new.now.text.now ∷ []) }
-    ensures index { take (vec_len entries.new) order.new.items ≡ take (vec_len entries.old + 1) order.old.items }
-    ensures marked { drop (vec_len entries.new) order.new.items ≡ table_marks (macros_in bytes.old.items entries.old.items ++ new_macro new.now.name.now new.now.arity new.now.list.now new.now.is_logical new.now.text.now ∷ []) }
+    ensures stored { IsStored front.now.bytes front.now.marks bytes.new.items (live front.now.entries entries.new.items) (macros_in bytes.old.items (live front.now.entries entries.old.items) ++ new_macro new.now.name.now new.now.arity new.now.list.now new.now.is_logical new.now.text.now ∷ []) }
+    ensures given_up { front.now.entries ≤ vec_len entries.new }
+    ensures index { take (length (live front.now.entries entries.new.items)) order.new.items ≡ take (length (live front.now.entries entries.old.items) + 1) order.old.items }
+    ensures marked { drop (length (live front.now.entries entries.new.items)) order.new.items ≡ table_marks (macros_in bytes.old.items (live front.now.entries entries.old.items) ++ new_macro new.now.name.now new.now.arity new.now.list.now new.now.is_logical new.now.text.now ∷ []) }
     ensures capacity { (vec_capacity bytes.new ≡ vec_capacity bytes.old) × (vec_capacity entries.new ≡ vec_capacity entries.old) × (vec_capacity order.new ≡ vec_capacity order.old) }
 {
     let start = bytes.len();
@@ -119,7 +128,7 @@ fn put(bytes: &mut Vec<u8>, entries: &mut Vec<Entry>, order: &mut Vec<u32>, new:
     push_marks(order, &bytes[list..], count);
     append_trimmed(bytes, new.text, new.is_logical, false, new.body_len);
     let stops = stops_at(bytes.as_slice(), list, body, count, &order[first..]);
-    let marks = first - (entries.len() + 1);
+    let marks = first - (entries.len() - front.entries + 1) + front.marks;
     entries.push_reserved(Entry {
         start: start as u32,
         list_len: new.list_len as u32,
@@ -142,30 +151,48 @@ pub(crate) struct Rest {
 pub(crate) fn beside(
     bytes: &[u8],
     entries: &[Entry],
+    front: &Front,
     order: &[u32],
     starts: &[u32],
     name: &[u8],
 ) -> Rest
-    requires stored { IsStored bytes.now entries.now (macros_in bytes.now entries.now) }
-    requires distinct { IsDistinct bytes_eq (map (λ m. m.name) (macros_in bytes.now entries.now)) }
-    requires indexed { IsIndexed (names_of (macros_in bytes.now entries.now)) order.now starts.now }
-    requires few { length entries.now ≤ 65536 }
-    ensures size { result.size ≡ table_size (without name.now (macros_in bytes.now entries.now)) }
-    ensures count { result.count ≡ length (without name.now (macros_in bytes.now entries.now)) }
+    requires stored { IsStored front.now.bytes front.now.marks bytes.now (live front.now.entries entries.now) (macros_in bytes.now (live front.now.entries entries.now)) }
+    requires given_up { front.now.entries ≤ length entries.now }
+    requires distinct { IsDistinct bytes_eq (map (λ m. m.name) (macros_in bytes.now (live front.now.entries entries.now))) }
+    requires indexed { IsIndexed (names_of (macros_in bytes.now (live front.now.entries entries.now))) order.now starts.now }
+    requires few { length (live front.now.entries entries.now) ≤ 65536 }
+    ensures size { result.size ≡ table_size (without name.now (macros_in bytes.now (live front.now.entries entries.now))) }
+    ensures count { result.count ≡ length (without name.now (macros_in bytes.now (live front.now.entries entries.now))) }
 {
+    let entries = live(entries, front);
+    let size = bytes.len() - front.bytes;
     match place_in(bytes, entries, order, starts, name, &mut Steps::new()) {
-        Some(place) => {
-            let entry = entries[place];
-            let front = entry.name_len as usize + entry.list_len as usize;
-            Rest {
-                size: bytes.len() - (front + entry.body_len as usize),
-                count: entries.len() - 1,
-            }
-        }
+        Some(place) => Rest {
+            size: size - size_of_entry(&entries[place]),
+            count: entries.len() - 1,
+        },
         None => Rest {
-            size: bytes.len(),
+            size,
             count: entries.len(),
         },
+    }
+}
+
+// Where there is no room behind for so many bytes or for one more entry, all moves to the front: room that was given up there becomes
+// room behind.
+fn make_room(bytes: &mut Vec<u8>, entries: &mut Vec<Entry>, front: &mut Front, size: usize)
+    requires stored { IsStored front.old.bytes front.old.marks bytes.old.items (live front.old.entries entries.old.items) (macros_in bytes.old.items (live front.old.entries entries.old.items)) }
+    requires given_up { front.old.entries ≤ vec_len entries.old }
+    requires room { table_size (macros_in bytes.old.items (live front.old.entries entries.old.items)) + size ≤ vec_capacity bytes.old }
+    requires entry_room { length (live front.old.entries entries.old.items) < vec_capacity entries.old }
+    ensures stored { IsStored front.new.bytes front.new.marks bytes.new.items (live front.new.entries entries.new.items) (macros_in bytes.old.items (live front.old.entries entries.old.items)) }
+    ensures given_up { front.new.entries ≤ vec_len entries.new }
+    ensures room { vec_len bytes.new + size ≤ vec_capacity bytes.new }
+    ensures entry_room { vec_len entries.new < vec_capacity entries.new }
+    ensures capacity { (vec_capacity bytes.new ≡ vec_capacity bytes.old) × (vec_capacity entries.new ≡ vec_capacity entries.old) }
+{
+    if bytes.capacity() - bytes.len() < size || entries.len() == entries.capacity() {
+        settle(bytes, entries, front);
     }
 }
 
@@ -173,30 +200,39 @@ pub(crate) fn beside(
 pub(crate) fn replace(
     bytes: &mut Vec<u8>,
     entries: &mut Vec<Entry>,
+    front: &mut Front,
     order: &mut Vec<u32>,
     starts: &mut [u32],
     new: &New,
 )
-    requires stored { IsStored bytes.old.items entries.old.items (macros_in bytes.old.items entries.old.items) }
-    requires distinct { IsDistinct bytes_eq (map (λ m. m.name) (macros_in bytes.old.items entries.old.items)) }
-    requires indexed { IsIndexed (names_of (macros_in bytes.old.items entries.old.items)) (take (vec_len entries.old) order.old.items) starts.old }
-    requires marked { drop (vec_len entries.old) order.old.items ≡ table_marks (macros_in bytes.old.items entries.old.items) }
-    requires few { vec_len entries.old ≤ 65536 }
+    requires stored { IsStored front.old.bytes front.old.marks bytes.old.items (live front.old.entries entries.old.items) (macros_in bytes.old.items (live front.old.entries entries.old.items)) }
+    requires given_up { front.old.entries ≤ vec_len entries.old }
+    requires distinct { IsDistinct bytes_eq (map (λ m. m.name) (macros_in bytes.old.items (live front.old.entries entries.old.items))) }
+    requires indexed { IsIndexed (names_of (macros_in bytes.old.items (live front.old.entries entries.old.items))) (take (length (live front.old.entries entries.old.items)) order.old.items) starts.old }
+    requires marked { drop (length (live front.old.entries entries.old.items)) order.old.items ≡ table_marks (macros_in bytes.old.items (live front.old.entries entries.old.items)) }
+    requires few { length (live front.old.entries entries.old.items) ≤ 65536 }
     requires small { new.now.list_len < 2 ^ 32 }
-    requires narrow { (vec_capacity bytes.old < 2 ^ 32) × (vec_capacity order.old < 2 ^ 32) }
+    requires narrow { vec_capacity bytes.old < 2 ^ 32 }
     requires short { length new.now.name.now < 256 }
     requires few_formals { unwrap_or new.now.arity 0 < 256 }
     requires counted { IsNew new.now.name.now new.now.arity new.now.list.now new.now.list_len new.now.is_logical new.now.text.now new.now.body_len }
-    requires room { table_size (without new.now.name.now (macros_in bytes.old.items entries.old.items)) + (length new.now.name.now + (new.now.list_len + new.now.body_len)) ≤ vec_capacity bytes.old }
-    requires entry_room { length (without new.now.name.now (macros_in bytes.old.items entries.old.items)) < vec_capacity entries.old }
-    requires index_room { length (without new.now.name.now (macros_in bytes.old.items entries.old.items)) + (table_size (without new.now.name.now (macros_in bytes.old.items entries.old.items)) + new.now.list_len) / 8 < vec_capacity order.old }
-    ensures stored { IsStored bytes.new.items entries.new.items (without new.now.name.now (macros_in bytes.old.items entries.old.items) ++ new_macro new.now.name.now new.now.arity new.now.list.now new.now.is_logical new.now.text.now ∷ []) }
-    ensures indexed { IsIndexed (names_of (without new.now.name.now (macros_in bytes.old.items entries.old.items) ++ new_macro new.now.name.now new.now.arity new.now.list.now new.now.is_logical new.now.text.now ∷ [])) (take (vec_len entries.new) order.new.items) starts.new }
-    ensures marked { drop (vec_len entries.new) order.new.items ≡ table_marks (without new.now.name.now (macros_in bytes.old.items entries.old.items) ++ new_macro new.now.name.now new.now.arity new.now.list.now new.now.is_logical new.now.text.now ∷ []) }
+    requires room { table_size (without new.now.name.now (macros_in bytes.old.items (live front.old.entries entries.old.items))) + (length new.now.name.now + (new.now.list_len + new.now.body_len)) ≤ vec_capacity bytes.old }
+    requires entry_room { length (without new.now.name.now (macros_in bytes.old.items (live front.old.entries entries.old.items))) < vec_capacity entries.old }
+    requires index_room { length (without new.now.name.now (macros_in bytes.old.items (live front.old.entries entries.old.items))) + (table_size (without new.now.name.now (macros_in bytes.old.items (live front.old.entries entries.old.items))) + new.now.list_len) / 8 < vec_capacity order.old }
+    ensures stored { IsStored front.new.bytes front.new.marks bytes.new.items (live front.new.entries entries.new.items) (without new.now.name.now (macros_in bytes.old.items (live front.old.entries entries.old.items)) ++ new_macro new.now.name.now new.now.arity new.now.list.now new.now.is_logical new.now.text.now ∷ []) }
+    ensures given_up { front.new.entries ≤ vec_len entries.new }
+    ensures indexed { IsIndexed (names_of (without new.now.name.now (macros_in bytes.old.items (live front.old.entries entries.old.items)) ++ new_macro new.now.name.now new.now.arity new.now.list.now new.now.is_logical new.now.text.now ∷ [])) (take (length (live front.new.entries entries.new.items)) order.new.items) starts.new }
+    ensures marked { drop (length (live front.new.entries entries.new.items)) order.new.items ≡ table_marks (without new.now.name.now (macros_in bytes.old.items (live front.old.entries entries.old.items)) ++ new_macro new.now.name.now new.now.arity new.now.list.now new.now.is_logical new.now.text.now ∷ []) }
     ensures capacity { (vec_capacity bytes.new ≡ vec_capacity bytes.old) × (vec_capacity entries.new ≡ vec_capacity entries.old) × (vec_capacity order.new ≡ vec_capacity order.old) }
 {
-    let (_, gap) = take_out_named(bytes, entries, order, starts, new.name);
-    enter(order, gap, entries.len());
+    let (_, gap) = take_out_named(bytes, entries, front, order, starts, new.name);
+    enter(order, gap, entries.len() - front.entries);
     begin_later(starts, part_of(new.name));
-    put(bytes, entries, order, new);
+    make_room(
+        bytes,
+        entries,
+        front,
+        new.name.len() + (new.list_len + new.body_len),
+    );
+    put(bytes, entries, front, order, new);
 }

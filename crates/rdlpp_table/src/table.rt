@@ -14,6 +14,7 @@ ghost use Rattle.rdlpp_table.specs.View.{TableView, AreSoundFormals, IsSound, Is
 use crate::entry::{Entry, arity_in, body_in, listed_in, name_in};
 use crate::fault::{DefineFault, DefineKind, NoMemory, lexical, refusal};
 use crate::formals::read_list;
+use crate::front::{Front, live};
 use crate::header::{after_space, leading_name, list_behind, unended};
 use crate::index::place_in;
 use crate::kept::known_stop;
@@ -37,6 +38,8 @@ use std::marker::Model;
 pub struct Table {
     bytes: Vec<u8>,
     entries: Vec<Entry>,
+    // What is given up at the fronts of the bytes and of the entries.
+    front: Front,
     // The places of the entries, sorted by the parts in which their names stand, and then by name; and behind them where
     // the formals of each macro begin among their bytes, where these are long.
     order: Vec<u32>,
@@ -108,6 +111,11 @@ impl Table {
         Ok(Table {
             bytes,
             entries,
+            front: Front {
+                bytes: 0,
+                entries: 0,
+                marks: 0,
+            },
             order,
             starts: [0; STARTS],
             most_bytes: limits.definition_bytes,
@@ -120,7 +128,7 @@ impl Table {
         ensures value { result ≡ length self.now.macros }
         ensures sound { IsSound self.now }
     {
-        self.entries.len()
+        self.entries.len() - self.front.entries
     }
 
     /// How many bytes of macros there is memory for: as many as the table takes, however many are taken.
@@ -143,7 +151,7 @@ impl Table {
         ensures value { result.now ≡ table_bytes self.now.macros }
         ensures sound { IsSound self.now }
     {
-        self.bytes.as_slice()
+        &self.bytes[self.front.bytes..]
     }
 
     /// The macro of a name; `None` where there is none.
@@ -165,10 +173,11 @@ impl Table {
         ensures sound { IsSound self.now }
         ensures steps { IsCounted steps.old steps.new }
     {
+        let entries = live(&self.entries, &self.front);
         let index = place_in(
             &self.bytes,
-            &self.entries,
-            &self.order[..self.entries.len()],
+            entries,
+            &self.order[..entries.len()],
             &self.starts,
             name,
             steps,
@@ -196,7 +205,10 @@ impl Table {
         requires { id < length self.now.macros }
         ensures { result.now ≡ (macro_at self.now.macros id).name }
     {
-        name_in(self.bytes.as_slice(), &self.entries[id.index])
+        name_in(
+            self.bytes.as_slice(),
+            &live(&self.entries, &self.front)[id.index],
+        )
     }
 
     /// The body of a macro.
@@ -204,7 +216,10 @@ impl Table {
         requires { id < length self.now.macros }
         ensures { result.now ≡ (macro_at self.now.macros id).body }
     {
-        body_in(self.bytes.as_slice(), &self.entries[id.index])
+        body_in(
+            self.bytes.as_slice(),
+            &live(&self.entries, &self.front)[id.index],
+        )
     }
 
     /// How many formals a macro has; `None` where it has no list.
@@ -212,7 +227,7 @@ impl Table {
         requires { id < length self.now.macros }
         ensures { result ≡ option_map length (macro_at self.now.macros id).formals }
     {
-        arity_in(&self.entries[id.index])
+        arity_in(&live(&self.entries, &self.front)[id.index])
     }
 
     /// The first place, from `from` on and before `to`, of the body of a macro that isn't copied as it stands:
@@ -229,7 +244,7 @@ impl Table {
         requires inside { to ≤ length (macro_at self.now.macros id).body }
         ensures { result ≡ stop_in (macro_at self.now.macros id) from to }
     {
-        let entry = &self.entries[id.index];
+        let entry = &live(&self.entries, &self.front)[id.index];
         let body = body_in(self.bytes.as_slice(), entry);
         match known_stop(&entry.stops, body.len(), from, to) {
             Some(stop) => stop,
@@ -273,8 +288,14 @@ impl Table {
         ensures formals { formals_read result.count result.list.now ≡ formals_of (macro_at self.now.macros id) }
         ensures listed { IsListed result.count result.list.now result.marks.now }
     {
-        let (_, marks) = self.order.split_at(self.entries.len());
-        listed_in(self.bytes.as_slice(), marks, &self.entries[id.index])
+        let entries = live(&self.entries, &self.front);
+        let (_, marks) = self.order.split_at(entries.len());
+        listed_in(
+            self.bytes.as_slice(),
+            marks,
+            self.front.marks,
+            &entries[id.index],
+        )
     }
 
     /// Takes out the macro of a name, and answers whether there was one.
@@ -285,6 +306,7 @@ impl Table {
         take_out_named(
             &mut self.bytes,
             &mut self.entries,
+            &mut self.front,
             &mut self.order,
             &mut self.starts,
             name,
@@ -350,7 +372,8 @@ impl Table {
         beside(
             &self.bytes,
             &self.entries,
-            &self.order[..self.entries.len()],
+            &self.front,
+            &self.order[..self.entries.len() - self.front.entries],
             &self.starts,
             name,
         )
@@ -427,6 +450,7 @@ impl Table {
         replace(
             &mut self.bytes,
             &mut self.entries,
+            &mut self.front,
             &mut self.order,
             &mut self.starts,
             new,

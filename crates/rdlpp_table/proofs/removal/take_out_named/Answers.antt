@@ -1,7 +1,7 @@
-use Rattle.std.proofs.Common.{◌≡◌, ◌-◌, ◌∙◌, ℕ, Some, None, ap, arith, drop, get_or, length, map, remove, sym, take, vec_len}
+use Rattle.std.proofs.Common.{◌≡◌, ◌-◌, ◌∙◌, ℕ, Some, None, ap, arith, drop, get_or, length, map, remove, sym, take}
 use Rattle.std.proofs.lemmas.List.{length-take-le}
 use Rattle.rdlpp_table.specs.Index.{closed}
-use Rattle.rdlpp_table.proofs.Sizes.{count_items, is_named, stored_slices_within}
+use Rattle.rdlpp_table.proofs.Sizes.{count_items, live_count, is_named, stored_slices_within}
 use Rattle.rdlpp_table.proofs.RoundTrip.{stored_without, stored_nowhere}
 use Rattle.rdlpp_table.proofs.Keyed.{entry_inside, gapped, index_front, left_nowhere, left_without, gap_without, marks_nowhere, length_front, marks_without, placed}
 use Rattle.rdlpp_table.proofs.Indexed.{sooner_is, sooner_more}
@@ -10,100 +10,116 @@ use Rattle.rdlpp_table.proofs.removal.take_out_named.Goals as goal
 
 pub slice_bounds-seek-end : goal.slice_bounds-seek-end
 slice_bounds-seek-end c =
-    sym (length-take-le c.len-count.result c.deref-3.result.now (omega (arith, index_front c.args.bytes.now.items c.args.entries.now c.args.order.now.items c.requires.indexed.index, c.len-count.ensures, ap (length {A = ℕ}) c.deref-3.ensures.value)))
+    let n : c.len.result - c.args.front.now.entries ≡ length (drop c.args.front.now.entries c.args.entries.now.items) = omega (arith, c.len.ensures, live_count c.args.front.now.entries c.args.entries.now) in
+    sym (length-take-le (c.len.result - c.args.front.now.entries) c.deref-3.result.now (omega (arith, index_front c.args.bytes.now.items (drop c.args.front.now.entries c.args.entries.now.items) c.args.order.now.items c.requires.indexed.index, n, ap (length {A = ℕ}) c.deref-3.ensures.value)))
 
 pub seek-requires-clause-within : goal.seek-requires-clause-within
 seek-requires-clause-within c =
-    stored_slices_within _ _ _ _ _ c.deref.ensures.value c.deref-2.ensures.value c.requires.stored
+    stored_slices_within _ _ _ _ _ c.deref.ensures.value (c.live.ensures ∙ ap (drop c.args.front.now.entries) c.deref-2.ensures.value) c.requires.stored
 
 pub leave-place-requires-clause-at : goal.leave-place-requires-clause-at
 leave-place-requires-clause-at c =
-    let p = placed _ _ _ _ _ _ _ _ _ c.deref.ensures.value c.deref-2.ensures.value (ap (take c.len-count.result) c.deref-3.ensures.value ∙ ap (λ (n : ℕ). take n c.args.order.now.items) c.len-count.ensures) c.new.ensures c.in-Ok.ensures.found in
-    omega (arith, p.inside, index_front c.args.bytes.now.items c.args.entries.now c.args.order.now.items c.requires.indexed.index, length_front c.args.order.now.items (vec_len c.args.entries.now), c.len-count.ensures)
+    let n : c.len.result - c.args.front.now.entries ≡ length (drop c.args.front.now.entries c.args.entries.now.items) = omega (arith, c.len.ensures, live_count c.args.front.now.entries c.args.entries.now) in
+    let p = placed _ _ _ _ _ _ _ _ _ c.deref.ensures.value (c.live.ensures ∙ ap (drop c.args.front.now.entries) c.deref-2.ensures.value) (ap (take (c.len.result - c.args.front.now.entries)) c.deref-3.ensures.value ∙ ap (λ (n : ℕ). take n c.args.order.now.items) n) c.new.ensures c.in-Ok.ensures.found in
+    omega (arith, p.inside, index_front c.args.bytes.now.items (drop c.args.front.now.entries c.args.entries.now.items) c.args.order.now.items c.requires.indexed.index, length_front c.args.order.now.items (length (drop c.args.front.now.entries c.args.entries.now.items)), n)
 
 pub leave-place-requires-clause-count : goal.leave-place-requires-clause-count
 leave-place-requires-clause-count c =
-    omega (arith, index_front c.args.bytes.now.items c.args.entries.now c.args.order.now.items c.requires.indexed.index, c.len-count.ensures, count_items c.args.order.now)
+    let n : c.len.result - c.args.front.now.entries ≡ length (drop c.args.front.now.entries c.args.entries.now.items) = omega (arith, c.len.ensures, live_count c.args.front.now.entries c.args.entries.now) in
+    omega (arith, index_front c.args.bytes.now.items (drop c.args.front.now.entries c.args.entries.now.items) c.args.order.now.items c.requires.indexed.index, n, count_items c.args.order.now)
 
 pub begin_sooner-requires-clause-more : goal.begin_sooner-requires-clause-more
 begin_sooner-requires-clause-more c =
-    let p = placed _ _ _ _ _ _ _ _ _ c.deref.ensures.value c.deref-2.ensures.value (ap (take c.len-count.result) c.deref-3.ensures.value ∙ ap (λ (n : ℕ). take n c.args.order.now.items) c.len-count.ensures) c.new.ensures c.in-Ok.ensures.found in
+    let n : c.len.result - c.args.front.now.entries ≡ length (drop c.args.front.now.entries c.args.entries.now.items) = omega (arith, c.len.ensures, live_count c.args.front.now.entries c.args.entries.now) in
+    let p = placed _ _ _ _ _ _ _ _ _ c.deref.ensures.value (c.live.ensures ∙ ap (drop c.args.front.now.entries) c.deref-2.ensures.value) (ap (take (c.len.result - c.args.front.now.entries)) c.deref-3.ensures.value ∙ ap (λ (n : ℕ). take n c.args.order.now.items) n) c.new.ensures c.in-Ok.ensures.found in
     sooner_more _ _ _ _ _ _ c.requires.indexed.divided p c.part_of.ensures.value
 
 pub take_out-requires-clause-place : goal.take_out-requires-clause-place
 take_out-requires-clause-place c =
-    let p = placed _ _ _ _ _ _ _ _ _ c.deref.ensures.value c.deref-2.ensures.value (ap (take c.len-count.result) c.deref-3.ensures.value ∙ ap (λ (n : ℕ). take n c.args.order.now.items) c.len-count.ensures) c.new.ensures c.in-Ok.ensures.found in
-    let value : c.leave-place.result ≡ get_or (take (vec_len c.args.entries.now) c.args.order.now.items) c.in-Ok.at 0 = c.leave-place.ensures.value ∙ ap (λ (n : ℕ). get_or (take n c.args.order.now.items) c.in-Ok.at 0) c.len-count.ensures in
+    let n : c.len.result - c.args.front.now.entries ≡ length (drop c.args.front.now.entries c.args.entries.now.items) = omega (arith, c.len.ensures, live_count c.args.front.now.entries c.args.entries.now) in
+    let p = placed _ _ _ _ _ _ _ _ _ c.deref.ensures.value (c.live.ensures ∙ ap (drop c.args.front.now.entries) c.deref-2.ensures.value) (ap (take (c.len.result - c.args.front.now.entries)) c.deref-3.ensures.value ∙ ap (λ (n : ℕ). take n c.args.order.now.items) n) c.new.ensures c.in-Ok.ensures.found in
+    let value : c.leave-place.result ≡ get_or (take (length (drop c.args.front.now.entries c.args.entries.now.items)) c.args.order.now.items) c.in-Ok.at 0 = c.leave-place.ensures.value ∙ ap (λ (n : ℕ). get_or (take n c.args.order.now.items) c.in-Ok.at 0) n in
     omega (arith, value, entry_inside _ _ _ _ c.requires.indexed.index p.inside, count_items c.args.entries.now)
 
 pub take_out-requires-clause-index : goal.take_out-requires-clause-index
 take_out-requires-clause-index c =
-    omega (arith, index_front c.args.bytes.now.items c.args.entries.now c.args.order.now.items c.requires.indexed.index, count_items c.args.order.now, c.leave-place.ensures.len)
+    omega (arith, index_front c.args.bytes.now.items (drop c.args.front.now.entries c.args.entries.now.items) c.args.order.now.items c.requires.indexed.index, count_items c.args.order.now, c.leave-place.ensures.len)
 
 pub take_out-requires-clause-marked : goal.take_out-requires-clause-marked
 take_out-requires-clause-marked c =
-    ap (λ (n : ℕ). drop (n - 1) c.leave-place.new.order.items) (sym c.len-count.ensures) ∙ (c.leave-place.ensures.marks ∙ (ap (λ (n : ℕ). drop n c.args.order.now.items) c.len-count.ensures ∙ c.requires.marked))
+    let n : c.len.result - c.args.front.now.entries ≡ length (drop c.args.front.now.entries c.args.entries.now.items) = omega (arith, c.len.ensures, live_count c.args.front.now.entries c.args.entries.now) in
+    ap (λ (n : ℕ). drop (n - 1) c.leave-place.new.order.items) (sym n) ∙ (c.leave-place.ensures.marks ∙ (ap (λ (n : ℕ). drop n c.args.order.now.items) n ∙ c.requires.marked))
 
 pub returns-in-Ok-clause-value : goal.returns-in-Ok-clause-value
 returns-in-Ok-clause-value c =
-    let p = placed _ _ _ _ _ _ _ _ _ c.deref.ensures.value c.deref-2.ensures.value (ap (take c.len-count.result) c.deref-3.ensures.value ∙ ap (λ (n : ℕ). take n c.args.order.now.items) c.len-count.ensures) c.new.ensures c.in-Ok.ensures.found in
+    let n : c.len.result - c.args.front.now.entries ≡ length (drop c.args.front.now.entries c.args.entries.now.items) = omega (arith, c.len.ensures, live_count c.args.front.now.entries c.args.entries.now) in
+    let p = placed _ _ _ _ _ _ _ _ _ c.deref.ensures.value (c.live.ensures ∙ ap (drop c.args.front.now.entries) c.deref-2.ensures.value) (ap (take (c.len.result - c.args.front.now.entries)) c.deref-3.ensures.value ∙ ap (λ (n : ℕ). take n c.args.order.now.items) n) c.new.ensures c.in-Ok.ensures.found in
     is_named _ _ (Some _) (sym (indexed_place _ _ _ _ c.requires.indexed.index p))
 
 pub returns-in-Ok-clause-stored : goal.returns-in-Ok-clause-stored
 returns-in-Ok-clause-stored c =
-    let p = placed _ _ _ _ _ _ _ _ _ c.deref.ensures.value c.deref-2.ensures.value (ap (take c.len-count.result) c.deref-3.ensures.value ∙ ap (λ (n : ℕ). take n c.args.order.now.items) c.len-count.ensures) c.new.ensures c.in-Ok.ensures.found in
-    let value : c.leave-place.result ≡ get_or (take (vec_len c.args.entries.now) c.args.order.now.items) c.in-Ok.at 0 = c.leave-place.ensures.value ∙ ap (λ (n : ℕ). get_or (take n c.args.order.now.items) c.in-Ok.at 0) c.len-count.ensures in
+    let n : c.len.result - c.args.front.now.entries ≡ length (drop c.args.front.now.entries c.args.entries.now.items) = omega (arith, c.len.ensures, live_count c.args.front.now.entries c.args.entries.now) in
+    let p = placed _ _ _ _ _ _ _ _ _ c.deref.ensures.value (c.live.ensures ∙ ap (drop c.args.front.now.entries) c.deref-2.ensures.value) (ap (take (c.len.result - c.args.front.now.entries)) c.deref-3.ensures.value ∙ ap (λ (n : ℕ). take n c.args.order.now.items) n) c.new.ensures c.in-Ok.ensures.found in
+    let value : c.leave-place.result ≡ get_or (take (length (drop c.args.front.now.entries c.args.entries.now.items)) c.args.order.now.items) c.in-Ok.at 0 = c.leave-place.ensures.value ∙ ap (λ (n : ℕ). get_or (take n c.args.order.now.items) c.in-Ok.at 0) n in
     stored_without _ _ _ _ _ c.requires.distinct (indexed_place _ _ _ _ c.requires.indexed.index p ∙ ap Some (sym value)) c.take_out.ensures.stored
 
 pub returns-in-Ok-clause-indexed : goal.returns-in-Ok-clause-indexed
 returns-in-Ok-clause-indexed c =
-    let p = placed _ _ _ _ _ _ _ _ _ c.deref.ensures.value c.deref-2.ensures.value (ap (take c.len-count.result) c.deref-3.ensures.value ∙ ap (λ (n : ℕ). take n c.args.order.now.items) c.len-count.ensures) c.new.ensures c.in-Ok.ensures.found in
-    let value : c.leave-place.result ≡ get_or (take (vec_len c.args.entries.now) c.args.order.now.items) c.in-Ok.at 0 = c.leave-place.ensures.value ∙ ap (λ (n : ℕ). get_or (take n c.args.order.now.items) c.in-Ok.at 0) c.len-count.ensures in
-    let left : take (vec_len c.take_out.new.entries) c.take_out.new.order.items ≡ map (closed c.leave-place.result) (remove (take (vec_len c.args.entries.now) c.args.order.now.items) c.in-Ok.at) =
+    let n : c.len.result - c.args.front.now.entries ≡ length (drop c.args.front.now.entries c.args.entries.now.items) = omega (arith, c.len.ensures, live_count c.args.front.now.entries c.args.entries.now) in
+    let p = placed _ _ _ _ _ _ _ _ _ c.deref.ensures.value (c.live.ensures ∙ ap (drop c.args.front.now.entries) c.deref-2.ensures.value) (ap (take (c.len.result - c.args.front.now.entries)) c.deref-3.ensures.value ∙ ap (λ (n : ℕ). take n c.args.order.now.items) n) c.new.ensures c.in-Ok.ensures.found in
+    let value : c.leave-place.result ≡ get_or (take (length (drop c.args.front.now.entries c.args.entries.now.items)) c.args.order.now.items) c.in-Ok.at 0 = c.leave-place.ensures.value ∙ ap (λ (n : ℕ). get_or (take n c.args.order.now.items) c.in-Ok.at 0) n in
+    let left : take (length (drop c.take_out.new.front.entries c.take_out.new.entries.items)) c.take_out.new.order.items ≡ map (closed c.leave-place.result) (remove (take (length (drop c.args.front.now.entries c.args.entries.now.items)) c.args.order.now.items) c.in-Ok.at) =
     c.take_out.ensures.index
-    ∙ (ap (λ (n : ℕ). take (n - 1) c.leave-place.new.order.items) (sym c.len-count.ensures)
+    ∙ (ap (λ (n : ℕ). take (n - 1) c.leave-place.new.order.items) (sym n)
     ∙ (c.leave-place.ensures.index
-    ∙ ap (λ (n : ℕ). map (closed c.leave-place.result) (remove (take n c.args.order.now.items) c.in-Ok.at)) c.len-count.ensures)) in
+    ∙ ap (λ (n : ℕ). map (closed c.leave-place.result) (remove (take n c.args.order.now.items) c.in-Ok.at)) n)) in
     left_without _ _ _ _ _ _ _ _ _ c.requires.distinct c.requires.indexed p value left c.part_of.ensures.value (sooner_is _ _ _ (omega (arith, c.part_of.ensures.small, c.requires.indexed.divided.long)) c.begin_sooner.ensures)
 
 pub returns-in-Ok-clause-gap : goal.returns-in-Ok-clause-gap
 returns-in-Ok-clause-gap c =
-    let p = placed _ _ _ _ _ _ _ _ _ c.deref.ensures.value c.deref-2.ensures.value (ap (take c.len-count.result) c.deref-3.ensures.value ∙ ap (λ (n : ℕ). take n c.args.order.now.items) c.len-count.ensures) c.new.ensures c.in-Ok.ensures.found in
-    let value : c.leave-place.result ≡ get_or (take (vec_len c.args.entries.now) c.args.order.now.items) c.in-Ok.at 0 = c.leave-place.ensures.value ∙ ap (λ (n : ℕ). get_or (take n c.args.order.now.items) c.in-Ok.at 0) c.len-count.ensures in
-    let left : take (vec_len c.take_out.new.entries) c.take_out.new.order.items ≡ map (closed c.leave-place.result) (remove (take (vec_len c.args.entries.now) c.args.order.now.items) c.in-Ok.at) =
+    let n : c.len.result - c.args.front.now.entries ≡ length (drop c.args.front.now.entries c.args.entries.now.items) = omega (arith, c.len.ensures, live_count c.args.front.now.entries c.args.entries.now) in
+    let p = placed _ _ _ _ _ _ _ _ _ c.deref.ensures.value (c.live.ensures ∙ ap (drop c.args.front.now.entries) c.deref-2.ensures.value) (ap (take (c.len.result - c.args.front.now.entries)) c.deref-3.ensures.value ∙ ap (λ (n : ℕ). take n c.args.order.now.items) n) c.new.ensures c.in-Ok.ensures.found in
+    let value : c.leave-place.result ≡ get_or (take (length (drop c.args.front.now.entries c.args.entries.now.items)) c.args.order.now.items) c.in-Ok.at 0 = c.leave-place.ensures.value ∙ ap (λ (n : ℕ). get_or (take n c.args.order.now.items) c.in-Ok.at 0) n in
+    let left : take (length (drop c.take_out.new.front.entries c.take_out.new.entries.items)) c.take_out.new.order.items ≡ map (closed c.leave-place.result) (remove (take (length (drop c.args.front.now.entries c.args.entries.now.items)) c.args.order.now.items) c.in-Ok.at) =
     c.take_out.ensures.index
-    ∙ (ap (λ (n : ℕ). take (n - 1) c.leave-place.new.order.items) (sym c.len-count.ensures)
+    ∙ (ap (λ (n : ℕ). take (n - 1) c.leave-place.new.order.items) (sym n)
     ∙ (c.leave-place.ensures.index
-    ∙ ap (λ (n : ℕ). map (closed c.leave-place.result) (remove (take n c.args.order.now.items) c.in-Ok.at)) c.len-count.ensures)) in
+    ∙ ap (λ (n : ℕ). map (closed c.leave-place.result) (remove (take n c.args.order.now.items) c.in-Ok.at)) n)) in
     gap_without _ _ _ _ _ _ _ _ c.requires.distinct c.requires.indexed.index p value left
     (stored_without _ _ _ _ _ c.requires.distinct (indexed_place _ _ _ _ c.requires.indexed.index p ∙ ap Some (sym value)) c.take_out.ensures.stored)
 
 pub returns-in-Ok-clause-marked : goal.returns-in-Ok-clause-marked
 returns-in-Ok-clause-marked c =
-    let p = placed _ _ _ _ _ _ _ _ _ c.deref.ensures.value c.deref-2.ensures.value (ap (take c.len-count.result) c.deref-3.ensures.value ∙ ap (λ (n : ℕ). take n c.args.order.now.items) c.len-count.ensures) c.new.ensures c.in-Ok.ensures.found in
-    let value : c.leave-place.result ≡ get_or (take (vec_len c.args.entries.now) c.args.order.now.items) c.in-Ok.at 0 = c.leave-place.ensures.value ∙ ap (λ (n : ℕ). get_or (take n c.args.order.now.items) c.in-Ok.at 0) c.len-count.ensures in
+    let n : c.len.result - c.args.front.now.entries ≡ length (drop c.args.front.now.entries c.args.entries.now.items) = omega (arith, c.len.ensures, live_count c.args.front.now.entries c.args.entries.now) in
+    let p = placed _ _ _ _ _ _ _ _ _ c.deref.ensures.value (c.live.ensures ∙ ap (drop c.args.front.now.entries) c.deref-2.ensures.value) (ap (take (c.len.result - c.args.front.now.entries)) c.deref-3.ensures.value ∙ ap (λ (n : ℕ). take n c.args.order.now.items) n) c.new.ensures c.in-Ok.ensures.found in
+    let value : c.leave-place.result ≡ get_or (take (length (drop c.args.front.now.entries c.args.entries.now.items)) c.args.order.now.items) c.in-Ok.at 0 = c.leave-place.ensures.value ∙ ap (λ (n : ℕ). get_or (take n c.args.order.now.items) c.in-Ok.at 0) n in
     c.take_out.ensures.marked ∙ marks_without _ _ _ c.requires.distinct (indexed_place _ _ _ _ c.requires.indexed.index p ∙ ap Some (sym value))
 
 pub returns-clause-value : goal.returns-clause-value
 returns-clause-value c =
-    let g = gapped _ _ _ _ _ _ _ _ _ c.deref.ensures.value c.deref-2.ensures.value (ap (take c.len-count.result) c.deref-3.ensures.value ∙ ap (λ (n : ℕ). take n c.args.order.now.items) c.len-count.ensures) c.new.ensures c.in-Err.ensures.found in
+    let n : c.len.result - c.args.front.now.entries ≡ length (drop c.args.front.now.entries c.args.entries.now.items) = omega (arith, c.len.ensures, live_count c.args.front.now.entries c.args.entries.now) in
+    let g = gapped _ _ _ _ _ _ _ _ _ c.deref.ensures.value (c.live.ensures ∙ ap (drop c.args.front.now.entries) c.deref-2.ensures.value) (ap (take (c.len.result - c.args.front.now.entries)) c.deref-3.ensures.value ∙ ap (λ (n : ℕ). take n c.args.order.now.items) n) c.new.ensures c.in-Err.ensures.found in
     is_named _ _ None (sym (indexed_gap _ _ _ _ c.requires.indexed.index g))
 
 pub returns-clause-stored : goal.returns-clause-stored
 returns-clause-stored c =
-    let g = gapped _ _ _ _ _ _ _ _ _ c.deref.ensures.value c.deref-2.ensures.value (ap (take c.len-count.result) c.deref-3.ensures.value ∙ ap (λ (n : ℕ). take n c.args.order.now.items) c.len-count.ensures) c.new.ensures c.in-Err.ensures.found in
+    let n : c.len.result - c.args.front.now.entries ≡ length (drop c.args.front.now.entries c.args.entries.now.items) = omega (arith, c.len.ensures, live_count c.args.front.now.entries c.args.entries.now) in
+    let g = gapped _ _ _ _ _ _ _ _ _ c.deref.ensures.value (c.live.ensures ∙ ap (drop c.args.front.now.entries) c.deref-2.ensures.value) (ap (take (c.len.result - c.args.front.now.entries)) c.deref-3.ensures.value ∙ ap (λ (n : ℕ). take n c.args.order.now.items) n) c.new.ensures c.in-Err.ensures.found in
     stored_nowhere _ _ _ _ (indexed_gap _ _ _ _ c.requires.indexed.index g) c.requires.stored
 
 pub returns-clause-indexed : goal.returns-clause-indexed
 returns-clause-indexed c =
-    let g = gapped _ _ _ _ _ _ _ _ _ c.deref.ensures.value c.deref-2.ensures.value (ap (take c.len-count.result) c.deref-3.ensures.value ∙ ap (λ (n : ℕ). take n c.args.order.now.items) c.len-count.ensures) c.new.ensures c.in-Err.ensures.found in
+    let n : c.len.result - c.args.front.now.entries ≡ length (drop c.args.front.now.entries c.args.entries.now.items) = omega (arith, c.len.ensures, live_count c.args.front.now.entries c.args.entries.now) in
+    let g = gapped _ _ _ _ _ _ _ _ _ c.deref.ensures.value (c.live.ensures ∙ ap (drop c.args.front.now.entries) c.deref-2.ensures.value) (ap (take (c.len.result - c.args.front.now.entries)) c.deref-3.ensures.value ∙ ap (λ (n : ℕ). take n c.args.order.now.items) n) c.new.ensures c.in-Err.ensures.found in
     left_nowhere _ _ _ _ (indexed_gap _ _ _ _ c.requires.indexed.index g) c.requires.indexed
 
 pub returns-clause-marked : goal.returns-clause-marked
 returns-clause-marked c =
-    let g = gapped _ _ _ _ _ _ _ _ _ c.deref.ensures.value c.deref-2.ensures.value (ap (take c.len-count.result) c.deref-3.ensures.value ∙ ap (λ (n : ℕ). take n c.args.order.now.items) c.len-count.ensures) c.new.ensures c.in-Err.ensures.found in
+    let n : c.len.result - c.args.front.now.entries ≡ length (drop c.args.front.now.entries c.args.entries.now.items) = omega (arith, c.len.ensures, live_count c.args.front.now.entries c.args.entries.now) in
+    let g = gapped _ _ _ _ _ _ _ _ _ c.deref.ensures.value (c.live.ensures ∙ ap (drop c.args.front.now.entries) c.deref-2.ensures.value) (ap (take (c.len.result - c.args.front.now.entries)) c.deref-3.ensures.value ∙ ap (λ (n : ℕ). take n c.args.order.now.items) n) c.new.ensures c.in-Err.ensures.found in
     c.requires.marked ∙ marks_nowhere _ _ (indexed_gap _ _ _ _ c.requires.indexed.index g)
 
 pub returns-clause-gap : goal.returns-clause-gap
 returns-clause-gap c =
-    gapped _ _ _ _ _ _ _ _ _ c.deref.ensures.value c.deref-2.ensures.value (ap (take c.len-count.result) c.deref-3.ensures.value ∙ ap (λ (n : ℕ). take n c.args.order.now.items) c.len-count.ensures) c.new.ensures c.in-Err.ensures.found
+    let n : c.len.result - c.args.front.now.entries ≡ length (drop c.args.front.now.entries c.args.entries.now.items) = omega (arith, c.len.ensures, live_count c.args.front.now.entries c.args.entries.now) in
+    gapped _ _ _ _ _ _ _ _ _ c.deref.ensures.value (c.live.ensures ∙ ap (drop c.args.front.now.entries) c.deref-2.ensures.value) (ap (take (c.len.result - c.args.front.now.entries)) c.deref-3.ensures.value ∙ ap (λ (n : ℕ). take n c.args.order.now.items) n) c.new.ensures c.in-Err.ensures.found

@@ -1,14 +1,14 @@
-use Rattle.std.proofs.Common.{Option, ◌≡◌, ◌+◌, ◌-◌, ◌∙◌, ◌++◌, drop, take, vec_len, ◌∷◌, [], ap, arith, length, length-append, unwrap_or, List, ℕ}
+use Rattle.std.proofs.Common.{Option, ◌≡◌, ◌+◌, ◌-◌, ◌∙◌, ◌++◌, drop, take, ◌∷◌, [], ap, arith, length, length-append, unwrap_or, List, ℕ}
 use Rattle.std.specs.List.{flat_map}
 use Rattle.rdlpp_lines.specs.Texts.{start_level}
 use Rattle.rdlpp_table.specs.Table.{Formal, formal_bytes}
-use Rattle.rdlpp_table.proofs.Sizes.{count_items, length_list_bytes}
+use Rattle.rdlpp_table.proofs.Sizes.{count_items, few_marks, length_list_bytes, live_count}
 use Rattle.rdlpp_table.specs.declared.entry.Entry.{Entry}
 use Rattle.rdlpp_table.specs.New.{list_formals, new_macro}
-use Rattle.std.proofs.lemmas.List.{length-drop, take-append-le}
-use Rattle.rdlpp_table.specs.Marks.{marks_of}
+use Rattle.std.proofs.lemmas.List.{drop-append-le, length-drop, take-append-le}
+use Rattle.rdlpp_table.specs.Marks.{marks_of, table_marks}
 use Rattle.rdlpp_table.specs.Store.{macros_in}
-use Rattle.rdlpp_table.proofs.RoundTrip.{put_marks, put_stored}
+use Rattle.rdlpp_table.proofs.RoundTrip.{put_marks, put_stored, stored_length}
 use Rattle.rdlpp_table.proofs.News.{appended_between, appended_few, appended_last, appended_listed, appended_marks, body_is, new_bytes, new_stops, new_entry, new_plain}
 use Rattle.rdlpp_table.specs.New.{stops_told}
 use Rattle.rdlpp_table.proofs.storing.put.Goals as goal
@@ -52,24 +52,31 @@ stops_at-stops-requires-clause-listed c =
 
 pub returns-clause-stored : goal.returns-clause-stored
 returns-clause-stored c =
-    put_stored _ _ _ (new_macro c.args.new.now.name.now c.args.new.now.arity c.args.new.now.list.now c.args.new.now.is_logical c.args.new.now.text.now) c.len-start.result (c.len-first.result - (c.len.result + 1)) _ _
+    put_stored _ _ _ (new_macro c.args.new.now.name.now c.args.new.now.arity c.args.new.now.list.now c.args.new.now.is_logical c.args.new.now.text.now) c.len-start.result (c.len-first.result - (c.len.result - c.args.front.now.entries + 1) + c.args.front.now.marks) _ _
     c.requires.stored
     (new_plain _ _ _ _ _ _ c.requires.counted.listed)
     (c.len-start.ensures ∙ count_items c.args.bytes.now)
-    (omega (arith, c.len-first.ensures, count_items c.args.order.now, c.len.ensures, length-drop (vec_len c.args.entries.now + 1) c.args.order.now.items, ap (length {A = ℕ}) c.requires.marked))
+    (omega (arith, c.requires.index, c.len-first.ensures, count_items c.args.order.now, c.len.ensures, live_count c.args.front.now.entries c.args.entries.now, length-drop (length (drop c.args.front.now.entries c.args.entries.now.items) + 1) c.args.order.now.items, ap (length {A = ℕ}) c.requires.marked))
     (new_bytes _ _ _ _ _ _ _ _ _ c.append_part.ensures.items c.append_formals.ensures.items (c.append_trimmed.ensures.items ∙ ap (λ (l : List ℕ). c.append_formals.new.bytes.items ++ l) (body_is _ _)))
-    (c.push_reserved.ensures.items ∙ ap (λ (e : Entry). c.args.entries.now.items ++ e ∷ []) (ap (λ (a : Option ℕ). let e : Entry = record { start = c.len-start.result; name_len = length c.args.new.now.name.now; list_len = c.args.new.now.list_len; body_len = c.args.new.now.body_len; arity = a; marks = c.len-first.result - (c.len.result + 1); stops = c.stops_at-stops.result } in e) c.small_arity.ensures ∙ new_entry c.len-start.result (c.len-first.result - (c.len.result + 1)) _ _ _ _ _ _ _ _ c.requires.counted
+    (ap (drop c.args.front.now.entries) c.push_reserved.ensures.items
+    ∙ (drop-append-le c.args.front.now.entries c.args.entries.now.items _ (omega (arith, c.requires.given_up, count_items c.args.entries.now))
+    ∙ ap (λ (e : Entry). (drop c.args.front.now.entries c.args.entries.now.items) ++ e ∷ []) (ap (λ (a : Option ℕ). let e : Entry = record { start = c.len-start.result; name_len = length c.args.new.now.name.now; list_len = c.args.new.now.list_len; body_len = c.args.new.now.body_len; arity = a; marks = c.len-first.result - (c.len.result - c.args.front.now.entries + 1) + c.args.front.now.marks; stops = c.stops_at-stops.result } in e) c.small_arity.ensures ∙ new_entry c.len-start.result (c.len-first.result - (c.len.result - c.args.front.now.entries + 1) + c.args.front.now.marks) _ _ _ _ _ _ _ _ c.requires.counted
     (new_stops c.args.new.now.name.now _ _ _ _ _ _ _ _ _ _ _ _ c.requires.counted.listed c.append_formals.ensures.items (c.append_trimmed.ensures.items ∙ ap (λ (l : List ℕ). c.append_formals.new.bytes.items ++ l) (body_is _ _))
-    (c.len-list.ensures ∙ count_items c.append_part.new.to) (c.len-body.ensures ∙ count_items c.append_formals.new.bytes) c.unwrap_or-count.ensures (c.stops_at-stops.ensures ∙ ap (λ (x : List ℕ). stops_told x c.len-list.result c.len-body.result c.unwrap_or-count.result) c.as_slice.ensures.value))))
+    (c.len-list.ensures ∙ count_items c.append_part.new.to) (c.len-body.ensures ∙ count_items c.append_formals.new.bytes) c.unwrap_or-count.ensures (c.stops_at-stops.ensures ∙ ap (λ (x : List ℕ). stops_told x c.len-list.result c.len-body.result c.unwrap_or-count.result) c.as_slice.ensures.value)))))
 
 pub returns-clause-marked : goal.returns-clause-marked
 returns-clause-marked c =
     let a = appended_last c.append_part.new.to.items _ c.deref.result.now _ _ _ c.unwrap_or-count.result c.len-list.result c.requires.counted.listed c.append_formals.ensures.items (c.len-list.ensures ∙ count_items c.append_part.new.to) c.unwrap_or-count.ensures c.deref.ensures.value in
-    let n : vec_len c.push_reserved.new.self ≡ vec_len c.args.entries.now + 1 = omega (arith, c.push_reserved.ensures.len) in
-    let m = put_marks c.args.order.now.items (marks_of _) c.push_marks.new.marks.items (macros_in c.args.bytes.now.items c.args.entries.now.items) (new_macro c.args.new.now.name.now c.args.new.now.arity c.args.new.now.list.now c.args.new.now.is_logical c.args.new.now.text.now) (vec_len c.args.entries.now + 1) (omega (arith, c.requires.index, count_items c.args.order.now)) c.requires.marked (appended_marks _ _ _ _ _ _ _ _ a) c.push_marks.ensures.items in
+    let n : length (drop c.args.front.now.entries c.push_reserved.new.self.items) ≡ length (drop c.args.front.now.entries c.args.entries.now.items) + 1 = omega (arith, c.requires.given_up, c.push_reserved.ensures.len, live_count c.args.front.now.entries c.push_reserved.new.self, live_count c.args.front.now.entries c.args.entries.now) in
+    let m = put_marks c.args.order.now.items (marks_of _) c.push_marks.new.marks.items (macros_in c.args.bytes.now.items (drop c.args.front.now.entries c.args.entries.now.items)) (new_macro c.args.new.now.name.now c.args.new.now.arity c.args.new.now.list.now c.args.new.now.is_logical c.args.new.now.text.now) (length (drop c.args.front.now.entries c.args.entries.now.items) + 1) (omega (arith, c.requires.index, count_items c.args.order.now)) c.requires.marked (appended_marks _ _ _ _ _ _ _ _ a) c.push_marks.ensures.items in
     ap (λ (k : ℕ). drop k c.push_marks.new.marks.items) n ∙ m.1
 
 pub returns-clause-index : goal.returns-clause-index
 returns-clause-index c =
-    let n : vec_len c.push_reserved.new.self ≡ vec_len c.args.entries.now + 1 = omega (arith, c.push_reserved.ensures.len) in
-    ap (λ (k : ℕ). take k c.push_marks.new.marks.items) n ∙ (ap (take (vec_len c.args.entries.now + 1)) c.push_marks.ensures.items ∙ take-append-le (vec_len c.args.entries.now + 1) c.args.order.now.items _ (omega (arith, c.requires.index, count_items c.args.order.now)))
+    let n : length (drop c.args.front.now.entries c.push_reserved.new.self.items) ≡ length (drop c.args.front.now.entries c.args.entries.now.items) + 1 = omega (arith, c.requires.given_up, c.push_reserved.ensures.len, live_count c.args.front.now.entries c.push_reserved.new.self, live_count c.args.front.now.entries c.args.entries.now) in
+    ap (λ (k : ℕ). take k c.push_marks.new.marks.items) n ∙ (ap (take (length (drop c.args.front.now.entries c.args.entries.now.items) + 1)) c.push_marks.ensures.items ∙ take-append-le (length (drop c.args.front.now.entries c.args.entries.now.items) + 1) c.args.order.now.items _ (omega (arith, c.requires.index, count_items c.args.order.now)))
+
+pub overflow_cast-marks : goal.overflow_cast-marks
+overflow_cast-marks c =
+    let many : c.len-first.result ≡ length (drop c.args.front.now.entries c.args.entries.now.items) + 1 + length (table_marks (macros_in c.args.bytes.now.items (drop c.args.front.now.entries c.args.entries.now.items))) = omega (arith, c.requires.index, c.len-first.ensures, count_items c.args.order.now, length-drop (length (drop c.args.front.now.entries c.args.entries.now.items) + 1) c.args.order.now.items, ap (length {A = ℕ}) c.requires.marked) in
+    omega (arith, many, c.len.ensures, live_count c.args.front.now.entries c.args.entries.now, c.requires.stored.few, few_marks (macros_in c.args.bytes.now.items (drop c.args.front.now.entries c.args.entries.now.items)), stored_length _ _ _ c.requires.stored, count_items c.args.bytes.now, c.args.bytes.now.ok.0, c.requires.narrow)

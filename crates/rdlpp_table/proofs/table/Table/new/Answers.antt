@@ -1,4 +1,4 @@
-use Rattle.std.proofs.Common.{refl}
+use Rattle.std.proofs.Common.{arith, refl}
 use Rattle.std.proofs.lemmas.List.{get_or-replicate}
 use Rattle.rdlpp_table.proofs.Sizes.{held_when_empty, empty_view}
 use Rattle.rdlpp_table.proofs.Keyed.{index_of_nothing, nothing_front, nothing_marked}
@@ -7,6 +7,7 @@ use Rattle.rdlpp_table.proofs.table.Table.new.Goals as goal
 pub invariant_of-result : goal.invariant_of-result
 invariant_of-result c = record {
   held = held_when_empty _ _ _ _ c.in-Ok.ensures.items c.in-Ok-with_capacity.ensures.items;
+  given_up = omega arith;
   room = c.in-Ok.ensures.exact;
   entry_room = c.in-Ok-with_capacity.ensures.exact;
   indexed = index_of_nothing _ _ _ _ c.in-Ok-with_capacity.ensures.items (nothing_front _ _ c.in-Ok-with_capacity-2.ensures.items) refl (λ p h. get_or-replicate 1025 p 0 0 h);

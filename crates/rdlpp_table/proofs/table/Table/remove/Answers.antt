@@ -1,4 +1,4 @@
-use Rattle.std.proofs.Common.{◌∙◌, ap, arith, is_some}
+use Rattle.std.proofs.Common.{◌∙◌, ap, arith, drop, is_some}
 use Rattle.rdlpp_table.specs.Table.{macro_named, without}
 use Rattle.rdlpp_table.specs.View.{TableView}
 use Rattle.rdlpp_table.specs.Layout.{view_of}
@@ -19,7 +19,8 @@ take_out_named-requires-clause-few c =
 
 pub invariant_of-self : goal.invariant_of-self
 invariant_of-self c = record {
-  held = held_of _ _ _ _ _ c.take_out_named.ensures.stored (sound_without c.args.name.now (view_of c.self.inside.bytes.items c.self.inside.entries.items c.self.inside.most_bytes c.self.inside.most_macros) c.self.invariant.held.sound);
+  held = held_of _ _ _ _ _ c.take_out_named.ensures.stored (sound_without c.args.name.now (view_of c.self.inside.bytes.items (drop c.self.inside.front.entries c.self.inside.entries.items) c.self.inside.most_bytes c.self.inside.most_macros) c.self.invariant.held.sound);
+  given_up = c.take_out_named.ensures.given_up;
   room = omega (arith, c.take_out_named.ensures.capacity.0, c.self.invariant.room);
   entry_room = omega (arith, c.take_out_named.ensures.capacity.1, c.self.invariant.entry_room);
   indexed = indexed_after _ _ _ _ _ c.take_out_named.ensures.stored c.take_out_named.ensures.indexed;

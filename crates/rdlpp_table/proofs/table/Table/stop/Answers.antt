@@ -1,27 +1,24 @@
-use Rattle.std.proofs.Common.{◌≡◌, ◌<◌, ap, length, sym, arith}
+use Rattle.std.proofs.Common.{◌≡◌, ◌<◌, ◌∙◌, ap, drop, length, sym, arith}
 use Rattle.rdlpp_table.specs.Stops.{stop_in}
 use Rattle.rdlpp_table.specs.View.{macro_at}
-use Rattle.rdlpp_table.proofs.Sizes.{count_items, entry_within, len_of_view, stops_at}
+use Rattle.rdlpp_table.proofs.Sizes.{entry_within, len_of_view, live_read, stops_at}
 use Rattle.rdlpp_table.proofs.FirstStops.{body_here}
 use Rattle.rdlpp_table.proofs.table.Table.stop.Goals as goal
 
-pub index-entry-requires : goal.index-entry-requires
-index-entry-requires c = omega (arith, c.requires.id, len_of_view _ _ _ _ _ c.self.view_is, count_items c.self.inside.entries, c.id.view_is)
-
 pub body_in-body-requires : goal.body_in-body-requires
 body_in-body-requires c =
-    let h : c.id.inside.index < length c.self.inside.entries.items = omega (arith, c.requires.id, len_of_view _ _ _ _ _ c.self.view_is, c.id.view_is) in
-    entry_within _ _ _ _ _ _ _ c.as_slice.ensures.value c.self.invariant.held h c.index-entry.ensures
+    let h : c.id.inside.index < length (drop c.self.inside.front.entries c.self.inside.entries.items) = omega (arith, c.requires.id, len_of_view _ _ _ _ _ c.self.view_is, c.id.view_is) in
+    entry_within _ _ _ _ _ _ _ c.as_slice.ensures.value c.self.invariant.held h (live_read c.live.result.now (drop c.self.inside.front.entries c.self.inside.entries.items) _ (c.live.ensures ∙ ap (drop c.self.inside.front.entries) c.deref.ensures.value) h)
 
 pub known_stop-requires-clause-inside : goal.known_stop-requires-clause-inside
 known_stop-requires-clause-inside c =
-    let h : c.id.inside.index < length c.self.inside.entries.items = omega (arith, c.requires.id, len_of_view _ _ _ _ _ c.self.view_is, c.id.view_is) in
-    let b : c.body_in-body.result.now ≡ (macro_at c.args.self.now.macros c.args.id).body = body_here _ _ _ _ _ _ _ _ _ _ c.as_slice.ensures.value c.self.view_is c.id.view_is h c.index-entry.ensures c.body_in-body.ensures in
+    let h : c.id.inside.index < length (drop c.self.inside.front.entries c.self.inside.entries.items) = omega (arith, c.requires.id, len_of_view _ _ _ _ _ c.self.view_is, c.id.view_is) in
+    let b : c.body_in-body.result.now ≡ (macro_at c.args.self.now.macros c.args.id).body = body_here _ _ _ _ _ _ _ _ _ _ c.as_slice.ensures.value c.self.view_is c.id.view_is h (live_read c.live.result.now (drop c.self.inside.front.entries c.self.inside.entries.items) _ (c.live.ensures ∙ ap (drop c.self.inside.front.entries) c.deref.ensures.value) h) c.body_in-body.ensures in
     omega (arith, ap length b, c.requires.inside)
 
 pub returns-in-Some : goal.returns-in-Some
 unfolding stop_in
 returns-in-Some c =
-    let h : c.id.inside.index < length c.self.inside.entries.items = omega (arith, c.requires.id, len_of_view _ _ _ _ _ c.self.view_is, c.id.view_is) in
-    let b : c.body_in-body.result.now ≡ (macro_at c.args.self.now.macros c.args.id).body = body_here _ _ _ _ _ _ _ _ _ _ c.as_slice.ensures.value c.self.view_is c.id.view_is h c.index-entry.ensures c.body_in-body.ensures in
-    c.in-Some.ensures _ _ (ap length (sym b)) (stops_at _ _ _ _ _ _ _ _ c.self.view_is c.self.invariant.held c.id.view_is h c.index-entry.ensures)
+    let h : c.id.inside.index < length (drop c.self.inside.front.entries c.self.inside.entries.items) = omega (arith, c.requires.id, len_of_view _ _ _ _ _ c.self.view_is, c.id.view_is) in
+    let b : c.body_in-body.result.now ≡ (macro_at c.args.self.now.macros c.args.id).body = body_here _ _ _ _ _ _ _ _ _ _ c.as_slice.ensures.value c.self.view_is c.id.view_is h (live_read c.live.result.now (drop c.self.inside.front.entries c.self.inside.entries.items) _ (c.live.ensures ∙ ap (drop c.self.inside.front.entries) c.deref.ensures.value) h) c.body_in-body.ensures in
+    c.in-Some.ensures _ _ (ap length (sym b)) (stops_at _ _ _ _ _ _ _ _ c.self.view_is c.self.invariant.held c.id.view_is h (live_read c.live.result.now (drop c.self.inside.front.entries c.self.inside.entries.items) _ (c.live.ensures ∙ ap (drop c.self.inside.front.entries) c.deref.ensures.value) h))

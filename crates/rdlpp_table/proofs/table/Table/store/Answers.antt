@@ -1,4 +1,4 @@
-use Rattle.std.proofs.Common.{◌≡◌, ◌≤◌, ◌+◌, ◌∷◌, ◌++◌, [], ap, sym, ◌∙◌, arith, length}
+use Rattle.std.proofs.Common.{◌≡◌, ◌≤◌, ◌+◌, ◌∷◌, ◌++◌, [], ap, sym, ◌∙◌, arith, drop, length}
 use Rattle.rdlpp_table.specs.Table.{Macro, without, table_size, macro_size}
 use Rattle.rdlpp_table.specs.View.{TableView}
 use Rattle.rdlpp_table.specs.Define.{Accepted}
@@ -39,7 +39,7 @@ replace-requires-clause-few c =
 
 pub replace-requires-clause-room : goal.replace-requires-clause-room
 replace-requires-clause-room c =
-    let same : table_size (without c.args.new.now.name.now (macros_in c.self.inside.bytes.items c.self.inside.entries.items)) ≡ table_size (without c.args.new.now.name.now c.args.self.now.macros) = ap (λ (v : TableView). table_size (without c.args.new.now.name.now v.macros)) c.self.view_is in
+    let same : table_size (without c.args.new.now.name.now (macros_in c.self.inside.bytes.items (drop c.self.inside.front.entries c.self.inside.entries.items))) ≡ table_size (without c.args.new.now.name.now c.args.self.now.macros) = ap (λ (v : TableView). table_size (without c.args.new.now.name.now v.macros)) c.self.view_is in
     let small : table_size (without c.args.new.now.name.now c.args.self.now.macros) ≤ c.args.self.now.most_bytes = omega (arith, without_size c.args.new.now.name.now c.args.self.now.macros, c.rest-rest.ensures.sound.bytes_fit) in
     omega (arith, c.rest-rest.ensures.size, c.saturating_add.ensures, c.saturating_add-size.ensures, c.self.invariant.room, capacity_small c.self.inside.bytes, ap (λ (v : TableView). v.most_bytes) c.self.view_is)
 
@@ -49,8 +49,8 @@ replace-requires-clause-small c =
 
 pub replace-requires-clause-index_room : goal.replace-requires-clause-index_room
 replace-requires-clause-index_room c =
-    let same : table_size (without c.args.new.now.name.now (macros_in c.self.inside.bytes.items c.self.inside.entries.items)) ≡ table_size (without c.args.new.now.name.now c.args.self.now.macros) = ap (λ (v : TableView). table_size (without c.args.new.now.name.now v.macros)) c.self.view_is in
-    let count : length (without c.args.new.now.name.now (macros_in c.self.inside.bytes.items c.self.inside.entries.items)) ≡ length (without c.args.new.now.name.now c.args.self.now.macros) = ap (λ (v : TableView). length (without c.args.new.now.name.now v.macros)) c.self.view_is in
+    let same : table_size (without c.args.new.now.name.now (macros_in c.self.inside.bytes.items (drop c.self.inside.front.entries c.self.inside.entries.items))) ≡ table_size (without c.args.new.now.name.now c.args.self.now.macros) = ap (λ (v : TableView). table_size (without c.args.new.now.name.now v.macros)) c.self.view_is in
+    let count : length (without c.args.new.now.name.now (macros_in c.self.inside.bytes.items (drop c.self.inside.front.entries c.self.inside.entries.items))) ≡ length (without c.args.new.now.name.now c.args.self.now.macros) = ap (λ (v : TableView). length (without c.args.new.now.name.now v.macros)) c.self.view_is in
     let small : table_size (without c.args.new.now.name.now c.args.self.now.macros) ≤ c.args.self.now.most_bytes = omega (arith, without_size c.args.new.now.name.now c.args.self.now.macros, c.rest-rest.ensures.sound.bytes_fit) in
     omega (arith, c.rest-rest.ensures.size, c.rest-rest.ensures.count, c.saturating_add.ensures, c.saturating_add-size.ensures, c.self.invariant.small, c.self.invariant.index_room, ap (λ (v : TableView). v.most_bytes) c.self.view_is, ap (λ (v : TableView). v.most_macros) c.self.view_is)
 
@@ -58,7 +58,7 @@ pub invariant_of-self : goal.invariant_of-self
 invariant_of-self c =
     let m : Macro = new_macro c.args.new.now.name.now c.args.new.now.arity c.args.new.now.list.now c.args.new.now.is_logical c.args.new.now.text.now in
     let size : macro_size m ≡ length c.args.new.now.name.now + (c.args.new.now.list_len + c.args.new.now.body_len) = new_size _ _ _ _ _ _ _ c.requires.counted in
-    let view : TableView = view_of c.self.inside.bytes.items c.self.inside.entries.items c.self.inside.most_bytes c.self.inside.most_macros in
+    let view : TableView = view_of c.self.inside.bytes.items (drop c.self.inside.front.entries c.self.inside.entries.items) c.self.inside.most_bytes c.self.inside.most_macros in
     let same : table_size (without c.args.new.now.name.now view.macros) ≡ table_size (without c.args.new.now.name.now c.args.self.now.macros) = ap (λ (v : TableView). table_size (without c.args.new.now.name.now v.macros)) c.self.view_is in
     let count : length (without c.args.new.now.name.now view.macros) ≡ length (without c.args.new.now.name.now c.args.self.now.macros) = ap (λ (v : TableView). length (without c.args.new.now.name.now v.macros)) c.self.view_is in
     let small : table_size (without c.args.new.now.name.now c.args.self.now.macros) ≤ c.args.self.now.most_bytes = omega (arith, without_size c.args.new.now.name.now c.args.self.now.macros, c.rest-rest.ensures.sound.bytes_fit) in
@@ -66,6 +66,7 @@ invariant_of-self c =
     let k : length (without c.args.new.now.name.now view.macros) + 1 ≤ view.most_macros = omega (arith, c.rest-rest.ensures.count) in
     record {
       held = held_of _ _ _ _ _ c.replace.ensures.stored (sound_with view m c.self.invariant.held.sound c.requires.sound h k);
+      given_up = c.replace.ensures.given_up;
       room = omega (arith, c.replace.ensures.capacity.0, c.self.invariant.room);
       entry_room = omega (arith, c.replace.ensures.capacity.1, c.self.invariant.entry_room);
       indexed = indexed_after _ _ _ _ _ c.replace.ensures.stored c.replace.ensures.indexed;

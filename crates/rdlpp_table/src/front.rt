@@ -1,0 +1,23 @@
+// What is given up at the fronts of a table's lists: the places of macros that were taken out near the front.
+ghost use Rattle.std.specs.Prelude.{length, ◌≡◌, ◌≤◌};
+ghost use Rattle.rdlpp_table.specs.Store.{live};
+
+use crate::entry::Entry;
+
+// How many bytes and how many entries are given up, and how many marks the entries count that aren't there any more. An entry
+// counts its bytes and its marks from the front of all that was there, so that those behind stay as they are when a front is given up.
+#[derive(Clone, Copy, Drop)]
+pub(crate) struct Front {
+    pub(crate) bytes: usize,
+    pub(crate) entries: usize,
+    pub(crate) marks: usize,
+}
+
+// The entries that aren't given up.
+#[inline(always)]
+pub(crate) fn live<'a>(entries: &'a [Entry], front: &Front) -> &'a [Entry]
+    requires { front.now.entries ≤ length entries.now }
+    ensures { result.now ≡ live front.now.entries entries.now }
+{
+    &entries[front.entries..]
+}
