@@ -1,5 +1,5 @@
 -- Steps over open texts, and what is known between them.
-use Rattle.std.proofs.Common.{◌≡◌, ℕ, ◌+◌, ◌-◌, ◌≤◌, ◌<◌, Bool, true, false, List, [], length, Option, None, Some, Ok, Err, refl, sym, ap, subst, arith}
+use Rattle.std.proofs.Common.{◌≡◌, ℕ, ◌+◌, ◌-◌, ◌≤◌, ◌<◌, Bool, true, false, List, [], ◌∷◌, length, ◌==◌, Option, None, Some, Ok, Err, refl, sym, ap, subst, arith}
 use Rattle.std.specs.Prelude.{◌↔◌, IsTrue, is_some}
 use Rattle.std.proofs.lemmas.Bool.{true≢false}
 use Rattle.rdlpp_source.specs.declared.sources.Sources.{Ghosts}
@@ -21,6 +21,11 @@ use Rattle.rdlpp_state.proofs.EngineSteps.{follows}
 use Rattle.rdlpp_expand.specs.Texts.{IsInTexts, LeavesTexts, StaysUnowed, further_parts, place_of}
 use Rattle.rdlpp_expand.specs.declared.engine.texts.TextStep.{TextStep}
 use Rattle.rdlpp_expand.specs.declared.engine.texts.TextStep.TheVariants.{Lent, Silent, Kept}
+
+-- a list that isn't empty has an element
+pub some_in : {A : Type 0} (xs : List A) → (length xs == 0) ≡ false → 0 < length xs
+some_in [] e = absurd (true≢false e)
+some_in (x ∷ xs) e = omega arith
 
 -- where bytes are lent, the main text is open
 pub open-lent : {S R : Type 0} (g : Ghosts S R) (n : ℕ) (old new : EngineView S R) (place : Place) (lent : List ℕ) → WalksOver g n old new (lent_answer new place)

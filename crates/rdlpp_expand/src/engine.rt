@@ -15,7 +15,7 @@ ghost use Rattle.rdlpp_read.specs.Filling.{Fills, is_failed};
 ghost use Rattle.rdlpp_read.specs.LogicalLines.{HoldsLine, is_failed_line};
 ghost use Rattle.rdlpp_texts.specs.Places.{IsPlaced as IsTextPlaced, place_bytes};
 ghost use Rattle.rdlpp_front.specs.Names.{IsWordBytes};
-ghost use Rattle.rdlpp_front.specs.Fronts.{IsDirective, IsNamed, IsText, IsUsage, usage_name};
+ghost use Rattle.rdlpp_front.specs.Fronts.{IsDirective, IsNamed, IsUsage, usage_name};
 ghost use Rattle.rdlpp_usages.specs.Usages.{IsRoomy};
 ghost use Rattle.rdlpp_state.specs.Conditionals.{unclosed_fault};
 ghost use Rattle.rdlpp_state.specs.Engine.{AreOpenTexts, EngineView, IsSoundEngine};
@@ -34,6 +34,7 @@ ghost use Rattle.rdlpp_expand.specs.contracts.engine.Engine.{the_row};
 
 mod asking;
 mod conditional;
+mod fronts;
 mod include;
 mod line;
 mod looking;
@@ -203,7 +204,7 @@ impl<S: Sources> Engine<S> {
         ensures place { IfSome result (IsPlaced self.new) }
         ensures steps { Steps S.Sources self.old self.new (step_answer self.new result) }
     {
-        match self.step_outside() {
+        match self.step_held() {
             Some(place) => Some(self.cut(place)),
             None => None,
         }
@@ -304,6 +305,7 @@ impl<S: Sources> Engine<S> {
     }
 
     // Takes one step that is none over the open texts of a usage.
+    #[inline(never)]
     fn step_outside(&mut self) -> Option<Place>
         requires started { IsStarted self.old }
         requires outside { IsUnowed self.old → self.old.expansion.opens ≡ [] }
@@ -395,23 +397,6 @@ impl<S: Sources> Engine<S> {
             Front::Line => self.take_line(),
             Front::Refused(kind) => Some(self.refuse(kind, ArrayString::new())),
         }
-    }
-
-    // Lends `len` bytes of text that are copied, behind which the text stands in a mode.
-    fn lend_text(&mut self, len: usize, next: Mode) -> Place
-        requires ready { IsReady self.old }
-        requires live { self.old.conditions.skipped ≡ None }
-        requires some { 0 < length (held_of (inner_buffer self.old.files.nest)) }
-        requires text { IsText (inner_buffer self.old.files.nest).mode (held_of (inner_buffer self.old.files.nest)) len next }
-        ensures place { IsPlaced self.new result }
-        ensures walks { IsBounded self.new → Walks S.Sources self.old self.new (lent_answer self.new result) }
-    {
-        let lines = line_ends_in(&self.files.file().buffer.held()[..len]);
-        let line = self.files.file().buffer.line();
-        self.enter_mode(next);
-        let start = self.consume(len, lines);
-        self.marks.lend_line(line);
-        Place::Source(start, start + len)
     }
 
     // Takes in the logical line of the `define` with which the held bytes begin, and reads it.

@@ -1,4 +1,5 @@
 pub mod Insides
+pub mod PassedText
 pub mod SourcePassages
 pub mod TextLeft
 pub mod DefineLeft

@@ -1,3 +1,4 @@
 pub mod Names
 pub mod Fronts
+pub mod Copied
 pub mod SourceLeft

@@ -1,6 +1,8 @@
 //! What the held bytes of the innermost open source begin with, and what each front does to what remains.
 #![tactic(auto)]
 
+mod copied;
 mod front;
 
+pub use copied::{Copied, copied_text};
 pub use front::{Argument, Front, front_of};

@@ -33,3 +33,5 @@ mod sources;
 mod table_tests;
 #[cfg(test)]
 mod word_tests;
+#[cfg(test)]
+mod writing_tests;

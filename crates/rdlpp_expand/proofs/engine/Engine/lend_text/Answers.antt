@@ -1,14 +1,9 @@
-use Rattle.std.proofs.Common.{◌≡◌, ◌+◌, length, take, sym, ap, ◌∙◌, refl, arith}
+use Rattle.std.proofs.Common.{◌≡◌, take, sym, ap, ◌∙◌}
 use Rattle.std.proofs.lemmas.List.{length-take-le}
 use Rattle.rdlpp_scan.specs.SourceTokens.{line_ends}
 use Rattle.rdlpp_read.specs.Buffer.{held_of}
-use Rattle.rdlpp_read.specs.Files.{consumed_file, inner_buffer, with_inner}
-use Rattle.rdlpp_read.proofs.Slices.{line_ends_le}
+use Rattle.rdlpp_read.specs.Files.{inner_buffer}
 use Rattle.rdlpp_front.proofs.Insides.{text_inside}
-use Rattle.rdlpp_state.specs.Marks.{lends_line}
-use Rattle.rdlpp_state.proofs.PlaceFacts.{marking}
-use Rattle.rdlpp_state.proofs.Soundness.{inner_facts}
-use Rattle.rdlpp_state.proofs.FrontSteps.{entered_at, entered_holds, room_of, take_text, text_placed}
 use Rattle.rdlpp_expand.proofs.engine.Engine.lend_text.Goals as goal
 
 pub slice_bounds-line_ends_in-end : goal.slice_bounds-line_ends_in-end
@@ -16,47 +11,7 @@ slice_bounds-line_ends_in-end g c =
     let held : c.held.result.now ≡ held_of (inner_buffer c.args.self.now.files.nest) = c.held.ensures.value ∙ ap held_of (c.file.ensures.buffer ∙ ap (λ e. inner_buffer e.files.nest) c.self.view_is) in
     sym (length-take-le c.args.len c.held.result.now (rw held ((text_inside _ _ _ _ c.requires.some c.requires.text).1)))
 
-pub consume-start-requires-clause-inside : goal.consume-start-requires-clause-inside
-consume-start-requires-clause-inside g c =
-    let same : held_of (inner_buffer c.enter_mode.new.self.files.nest) ≡ held_of (inner_buffer c.args.self.now.files.nest) =
-    ap (λ e. held_of (inner_buffer e.files.nest)) c.enter_mode.ensures ∙ entered_holds _ _ in
-    rw same ((text_inside _ _ _ _ c.requires.some c.requires.text).1)
-
-pub consume-start-requires-clause-lines : goal.consume-start-requires-clause-lines
-consume-start-requires-clause-lines g c =
+pub lend_copied-requires-clause-lines : goal.lend_copied-requires-clause-lines
+lend_copied-requires-clause-lines g c =
     let held : c.held.result.now ≡ held_of (inner_buffer c.args.self.now.files.nest) = c.held.ensures.value ∙ ap held_of (c.file.ensures.buffer ∙ ap (λ e. inner_buffer e.files.nest) c.self.view_is) in
-    let few : length (take c.args.len c.held.result.now) ≡ c.args.len = length-take-le c.args.len c.held.result.now (rw held ((text_inside _ _ _ _ c.requires.some c.requires.text).1)) in
-    let most = line_ends_le (take c.args.len c.held.result.now) in
-    let count = c.line_ends_in-lines.ensures in
-    omega arith
-
-pub overflow_add-result : goal.overflow_add-result
-overflow_add-result g c =
-    let begins : c.consume-start.result ≡ (inner_buffer c.args.self.now.files.nest).at = c.consume-start.ensures.start ∙ (ap (λ e. (inner_buffer e.files.nest).at) c.enter_mode.ensures ∙ entered_at _ _) in
-    let few = (room_of c.args.self.now c.args.len c.consume-start.result c.requires.ready ((text_inside _ _ _ _ c.requires.some c.requires.text).1) begins).few in
-    omega arith
-
-pub returns-clause-place : goal.returns-clause-place
-returns-clause-place g c =
-    let begins : c.consume-start.result ≡ (inner_buffer c.args.self.now.files.nest).at = c.consume-start.ensures.start ∙ (ap (λ e. (inner_buffer e.files.nest).at) c.enter_mode.ensures ∙ entered_at _ _) in
-    text_placed c.args.self.now c.enter_mode.new.self _ c.args.len c.line_ends_in-lines.result c.consume-start.result c.args.next c.requires.ready
-    (room_of c.args.self.now c.args.len c.consume-start.result c.requires.ready ((text_inside _ _ _ _ c.requires.some c.requires.text).1) begins) c.enter_mode.ensures (lends_line c.line-line.result c.enter_mode.new.self.marks)
-    (marking _ c.consume-start.new.self _ c.lend_line.new.self (lends_line c.line-line.result) c.self-2.view_is c.consume-start.ensures.used c.lend_line.ensures)
-
-pub returns-clause-walks : goal.returns-clause-walks
-returns-clause-walks g c = λ bounded.
-    let held : c.held.result.now ≡ held_of (inner_buffer c.args.self.now.files.nest) = c.held.ensures.value ∙ ap held_of (c.file.ensures.buffer ∙ ap (λ e. inner_buffer e.files.nest) c.self.view_is) in
-    let counted : c.line_ends_in-lines.result ≡ line_ends (take c.args.len (held_of (inner_buffer c.args.self.now.files.nest))) =
-    c.line_ends_in-lines.ensures ∙ ap (λ h. line_ends (take c.args.len h)) held in
-    let begins : c.consume-start.result ≡ (inner_buffer c.args.self.now.files.nest).at = c.consume-start.ensures.start ∙ (ap (λ e. (inner_buffer e.files.nest).at) c.enter_mode.ensures ∙ entered_at _ _) in
-    let here : c.line-line.result ≡ (inner_buffer c.args.self.now.files.nest).line = c.line-line.ensures ∙ (ap (λ b. b.line) c.file-2.ensures.buffer ∙ ap (λ e. (inner_buffer e.files.nest).line) c.self.view_is) in
-    let marked = marking _ c.consume-start.new.self _ c.lend_line.new.self (lends_line c.line-line.result) c.self-2.view_is c.consume-start.ensures.used c.lend_line.ensures in
-    take_text g.S.Sources c.args.self.now c.enter_mode.new.self _ c.args.len c.line_ends_in-lines.result c.consume-start.result (c.consume-start.result + c.args.len) c.args.next
-    c.requires.ready c.requires.live bounded c.requires.some c.requires.text counted c.enter_mode.ensures
-    (marked ∙ ap (λ n. record c.enter_mode.new.self { files = record c.enter_mode.new.self.files { nest = with_inner (consumed_file c.args.len c.line_ends_in-lines.result) c.enter_mode.new.self.files.nest }; marks = lends_line n c.enter_mode.new.self.marks }) here) begins refl
-
-pub lend_line-requires : goal.lend_line-requires
-lend_line-requires g c =
-    let counts = (inner_facts c.args.self.now.files c.requires.ready.nest c.requires.ready.files).buffer.counts in
-    let line : c.line-line.result ≡ (inner_buffer c.args.self.now.files.nest).line = c.line-line.ensures ∙ (ap (λ b. b.line) c.file-2.ensures.buffer ∙ ap (λ e. (inner_buffer e.files.nest).line) c.self.view_is) in
-    omega arith
+    c.line_ends_in-lines.ensures ∙ ap (λ h. line_ends (take c.args.len h)) held

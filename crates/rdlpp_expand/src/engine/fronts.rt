@@ -1,0 +1,109 @@
+// Steps of a run that take what is held of a source, and the lending of text that is copied.
+ghost use Rattle.std.specs.Prelude.{◌≡◌, ◌↔◌, ◌<◌, [], IfSome, IsTrue, None, length, take};
+ghost use Rattle.rdlpp_scan.specs.SourceTokens.{line_ends};
+ghost use Rattle.rdlpp_read.specs.Buffer.{held_of};
+ghost use Rattle.rdlpp_read.specs.Files.{inner_buffer};
+ghost use Rattle.rdlpp_front.specs.Fronts.{IsText};
+ghost use Rattle.rdlpp_state.specs.Held.{IsBounded};
+ghost use Rattle.rdlpp_state.specs.Moves.{IsReady, IsUnowed};
+ghost use Rattle.rdlpp_state.specs.Pieces.{IsPlaced, lent_answer, step_answer};
+ghost use Rattle.rdlpp_state.specs.Steps.{IsStarted, Walks, WalksOver};
+ghost use Rattle.rdlpp_expand.specs.Texts.{IsHolding};
+
+use crate::engine::Engine;
+use rdlpp_front::{Copied, copied_text};
+use rdlpp_scan::{Mode, line_ends_in};
+use rdlpp_source::Sources;
+use rdlpp_state::{Phase, Place};
+
+impl<S: Sources> Engine<S> {
+    // Takes one step that is none over the open texts of a usage, as `step_outside` does. Where bytes of a source are held and nothing
+    // is owed, which is known at once, it takes them: most steps over a source are such ones.
+    #[inline(always)]
+    pub(super) fn step_held(&mut self) -> Option<Place>
+        requires started { IsStarted self.old }
+        requires outside { IsUnowed self.old → self.old.expansion.opens ≡ [] }
+        ensures place { IfSome result (IsPlaced self.new) }
+        ensures walks { WalksOver S.Sources 1 self.old self.new (step_answer self.new result) }
+    {
+        if !self.is_holding() {
+            return self.step_outside();
+        }
+        let place = self.take_holding();
+        self.facts();
+        place
+    }
+
+    // Whether the next step takes what is held of a source.
+    #[inline(always)]
+    fn is_holding(&self) -> bool
+        requires { IsUnowed self.now → self.now.expansion.opens ≡ [] }
+        ensures { IsTrue result → IsHolding self.now }
+    {
+        self.facts();
+        if !self.is_unowed() {
+            return false;
+        }
+        let held = self.files.file().buffer.held();
+        if held.is_empty() {
+            return false;
+        }
+        true
+    }
+
+    // Whether the engine goes on in its open main text: it keeps no fault and owes nothing.
+    fn is_unowed(&self) -> bool
+        ensures { IsTrue result ↔ IsUnowed self.now }
+    {
+        self.kept.is_none() && self.phase == Phase::Open && self.owed.is_nothing()
+    }
+
+    // Takes what the held bytes begin with, or passes skipped text. Text that is copied, which is most of a source, is found and its
+    // line ends are counted in one pass.
+    #[inline(always)]
+    fn take_holding(&mut self) -> Option<Place>
+        requires { IsHolding self.old }
+        ensures place { IfSome result (IsPlaced self.new) }
+        ensures walks { IsBounded self.new → Walks S.Sources self.old self.new (step_answer self.new result) }
+    {
+        if !self.conditions.is_live() {
+            return self.skip_front();
+        }
+        let buffer = &self.files.file().buffer;
+        match copied_text(buffer.mode(), buffer.held()) {
+            Some(copied) => Some(self.lend_copied(copied)),
+            None => self.take_front(),
+        }
+    }
+
+    // Lends `len` bytes of text that are copied, behind which the text stands in a mode.
+    pub(super) fn lend_text(&mut self, len: usize, next: Mode) -> Place
+        requires ready { IsReady self.old }
+        requires live { self.old.conditions.skipped ≡ None }
+        requires some { 0 < length (held_of (inner_buffer self.old.files.nest)) }
+        requires text { IsText (inner_buffer self.old.files.nest).mode (held_of (inner_buffer self.old.files.nest)) len next }
+        ensures place { IsPlaced self.new result }
+        ensures walks { IsBounded self.new → Walks S.Sources self.old self.new (lent_answer self.new result) }
+    {
+        let lines = line_ends_in(&self.files.file().buffer.held()[..len]);
+        self.lend_copied(Copied { len, lines, next })
+    }
+
+    // Lends text that is copied, whose line ends are counted.
+    fn lend_copied(&mut self, copied: Copied) -> Place
+        requires ready { IsReady self.old }
+        requires live { self.old.conditions.skipped ≡ None }
+        requires some { 0 < length (held_of (inner_buffer self.old.files.nest)) }
+        requires text { IsText (inner_buffer self.old.files.nest).mode (held_of (inner_buffer self.old.files.nest)) copied.len copied.next }
+        requires lines { copied.lines ≡ line_ends (take copied.len (held_of (inner_buffer self.old.files.nest))) }
+        ensures place { IsPlaced self.new result }
+        ensures walks { IsBounded self.new → Walks S.Sources self.old self.new (lent_answer self.new result) }
+    {
+        let Copied { len, lines, next } = copied;
+        let line = self.files.file().buffer.line();
+        self.enter_mode(next);
+        let start = self.consume(len, lines);
+        self.marks.lend_line(line);
+        Place::Source(start, start + len)
+    }
+}
