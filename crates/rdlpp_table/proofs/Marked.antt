@@ -1,18 +1,18 @@
 -- The formals of a macro, read from a table's bytes, and the marks of where they begin.
-use Rattle.std.proofs.Common.{◌≡◌, ℕ, ◌+◌, ◌-◌, ◌≤◌, Bool, true, false, not, eqb, nat_eq, inl, inr, List, [], ◌∷◌, ◌++◌, bytes_eq, length, take, drop, get_or, refl, ap, sym, ◌∙◌, arith, rules, length-append, length-drop, eq-eqb, suc, ◌<◌, cond, Option, Some, None, option_map, zero, sum_by, subst, append_assoc, length-take, add-zero}
+use Rattle.std.proofs.Common.{◌≡◌, ℕ, ◌+◌, ◌-◌, ◌*◌, ◌/◌, ◌%◌, ◌≤◌, Bool, true, false, not, eqb, nat_eq, inl, inr, List, [], ◌∷◌, ◌++◌, bytes_eq, length, take, drop, get_or, refl, ap, sym, ◌∙◌, arith, rules, length-append, length-drop, eq-eqb, suc, ◌<◌, cond, Option, Some, None, option_map, zero, sum_by, subst, append_assoc, length-take, add-zero}
 use Rattle.std.specs.List.{prefix_len, starts_with, flat_map, list_all}
 use Rattle.std.specs.Cmp.{unsigned_Decides}
-use Rattle.std.proofs.lemmas.Bool.{cases_Bool, eqb-true, false≢true, cond-true, cond-false, and_parts}
+use Rattle.std.proofs.lemmas.Bool.{lt-ltb, le-ltb, cases_Bool, eqb-true, false≢true, cond-true, cond-false, and_parts}
 use Rattle.std.proofs.lemmas.Bool.Decides.{leb_tells}
-use Rattle.std.proofs.lemmas.List.{drop_at, drop-drop, get_or-drop, get_or_past, length-take-le, take_at, take-append-drop, take_all, take_more, drop_more, append-nil, get_or_default}
+use Rattle.std.proofs.lemmas.List.{drop_at, drop-drop, get_or-drop, get_or_past, length-take-le, take_at, take-append-drop, take_all, take_more, drop_more, append-nil}
 use Rattle.std.proofs.lemmas.List.Sums.{prefix_len-le-length, prefix_len_stops, sum_by-cons, sum_by-append, sum_by-take-drop}
 use Rattle.std.proofs.lemmas.Slice.Eq.{bytes_eq-Decides, starts_is}
 use Rattle.std.proofs.lemmas.Grind.{flat_map-append}
 use Rattle.rdlpp_table.specs.Table.{Formal, default_bytes, formal_bytes, formal_size}
 use Rattle.rdlpp_table.specs.Store.{formal_behind, formal_read, is_name_byte, formals_read, StoredFormal, is_plain_formal, IsListed}
 use Rattle.rdlpp_table.specs.View.{formal_at, formal_named}
-use Rattle.rdlpp_table.proofs.Sizes.{position_first, length_formal_bytes, length_list_bytes, length_starts}
-use Rattle.rdlpp_table.specs.Marks.{is_marked, marks_of, starts_of}
+use Rattle.rdlpp_table.proofs.Sizes.{position_first, length_formal_bytes, length_list_bytes, length_halves, length_start_halves, length_starts}
+use Rattle.rdlpp_table.specs.Marks.{end_in, halves, is_marked, mark_in, marks_of, starts_of}
 use Rattle.rdlpp_table.proofs.RoundTrip.{read_formal}
 
 -- What is told of the formal with which bytes begin, from the bytes of its name and from its size.
@@ -219,14 +219,35 @@ count_read zero bytes = refl
 count_read (suc n) bytes = ap suc (count_read n (formal_read bytes).behind)
 
 -- what is kept of formals that were read, by whether anything is
-pub marks_by : (b : Bool) (count : ℕ) (list : List ℕ) → flat_map formal_bytes (formals_read count list) ≡ list → b ≡ is_marked count (length list) → marks_of (formals_read count list) ≡ cond b (starts_of 0 (formals_read count list)) []
+pub marks_by : (b : Bool) (count : ℕ) (list : List ℕ) → flat_map formal_bytes (formals_read count list) ≡ list → b ≡ is_marked count (length list) → marks_of (formals_read count list) ≡ cond b (halves (starts_of 0 (formals_read count list))) []
 unfolding marks_of
 marks_by b count list h e =
     let fs : List Formal = formals_read count list in
     let n : sum_by formal_size fs ≡ length list = sym (length_list_bytes fs) ∙ ap length h in
-    ap (λ (k : ℕ). cond (is_marked k (sum_by formal_size fs)) (starts_of 0 fs) []) (count_read count list)
-    ∙ (ap (λ (k : ℕ). cond (is_marked count k) (starts_of 0 fs) []) n
-    ∙ ap (λ (x : Bool). cond x (starts_of 0 fs) []) (sym e))
+    ap (λ (k : ℕ). cond (is_marked k (sum_by formal_size fs)) (halves (starts_of 0 fs)) []) (count_read count list)
+    ∙ (ap (λ (k : ℕ). cond (is_marked count k) (halves (starts_of 0 fs)) []) n
+    ∙ ap (λ (x : Bool). cond x (halves (starts_of 0 fs)) []) (sym e))
+
+-- the halves of numbers behind other numbers
+halves-append : (xs ys : List ℕ) → halves (xs ++ ys) ≡ halves xs ++ halves ys
+unfolding halves
+halves-append [] ys = refl
+halves-append (x ∷ xs) ys = ap (λ (l : List ℕ). x % 65536 ∷ x / 65536 ∷ l) (halves-append xs ys)
+
+-- the halves of a number give it back
+whole_from : (ns : List ℕ) (i : ℕ) → i < length ns → get_or (halves ns) (2 * i) 0 + 65536 * get_or (halves ns) (2 * i + 1) 0 ≡ get_or ns i 0
+unfolding halves
+whole_from [] i h = absurd (omega arith)
+whole_from (n ∷ ns) zero h = omega arith
+whole_from (n ∷ ns) (suc i) h =
+    let low : 2 * suc i ≡ suc (suc (2 * i)) = omega arith in
+    let high : 2 * suc i + 1 ≡ suc (suc (2 * i + 1)) = omega arith in
+    omega (arith, ap (λ (k : ℕ). get_or (halves (n ∷ ns)) k 0) low, ap (λ (k : ℕ). get_or (halves (n ∷ ns)) k 0) high, whole_from ns i (omega arith))
+
+-- a number is read back from the halves that are kept
+mark_is : (marks ns : List ℕ) (i : ℕ) → marks ≡ halves ns → i < length ns → mark_in marks i ≡ get_or ns i 0
+unfolding mark_in
+mark_is marks ns i e h = ap (λ (l : List ℕ). get_or l (2 * i) 0 + 65536 * get_or l (2 * i + 1) 0) e ∙ whole_from ns i h
 
 -- a formal begins behind what those before it take, and behind where the first one begins
 start_from : (at : ℕ) (fs : List Formal) (i : ℕ) → i < length fs → get_or (starts_of at fs) i 0 ≡ at + sum_by formal_size (take i fs)
@@ -272,10 +293,11 @@ size_more fs i h =
 -- formals, of which where they begin was kept up to a place, and the bytes from there on
 pub record IsMarking (formals : List Formal) (rest before marks : List ℕ) (passed : ℕ) : Type 0 where
   pub left : rest ≡ flat_map formal_bytes (drop passed formals)
-  pub marks_are : marks ≡ before ++ take passed (starts_of 0 formals)
+  pub marks_are : marks ≡ before ++ halves (take passed (starts_of 0 formals))
 
 -- nothing is kept at first
 pub marking_start : (fs : List Formal) (list before : List ℕ) → flat_map formal_bytes fs ≡ list → IsMarking fs list before before 0
+unfolding halves
 marking_start fs list before h = record { left = sym h; marks_are = sym (append-nil before) }
 
 -- how many bytes are behind a place
@@ -288,7 +310,7 @@ pub marking_at : (fs : List Formal) (list rest before marks : List ℕ) (i : ℕ
 marking_at fs list rest before marks i h m = rest_size fs rest before marks i m ∙ (sym (length_list_bytes fs) ∙ ap length h)
 
 -- one more place is kept
-pub marking_more : (fs : List Formal) (list rest behind before marks more : List ℕ) (i start : ℕ) → flat_map formal_bytes fs ≡ list → list_all is_plain_formal fs ≡ true → i < length fs → IsMarking fs rest before marks i → start ≡ length list - length rest → more ≡ marks ++ start ∷ [] → behind ≡ (formal_read rest).behind → IsMarking fs behind before more (i + 1)
+pub marking_more : (fs : List Formal) (list rest behind before marks more : List ℕ) (i start : ℕ) → flat_map formal_bytes fs ≡ list → list_all is_plain_formal fs ≡ true → i < length fs → IsMarking fs rest before marks i → start ≡ length list - length rest → more ≡ marks ++ halves (start ∷ []) → behind ≡ (formal_read rest).behind → IsMarking fs behind before more (i + 1)
 marking_more fs list rest behind before marks more i start h p k m s e b =
     let at : start ≡ get_or (starts_of 0 fs) i 0 = omega (arith, marking_at fs list rest before marks i h m, start_at fs i k) in
     let some : i < length (starts_of 0 fs) = omega (arith, length_starts 0 fs) in
@@ -296,67 +318,75 @@ marking_more fs list rest behind before marks more i start h p k m s e b =
       left = b ∙ (ap (λ (l : List ℕ). (formal_read l).behind) m.left ∙ ap (λ (r : StoredFormal). r.behind) (read_at fs i p k));
       marks_are =
           e
-          ∙ (ap (λ (l : List ℕ). l ++ start ∷ []) m.marks_are
-          ∙ (append_assoc before (take i (starts_of 0 fs)) (start ∷ [])
-          ∙ ap (λ (l : List ℕ). before ++ l) (ap (λ (n : ℕ). take i (starts_of 0 fs) ++ n ∷ []) at ∙ sym (take_more (starts_of 0 fs) i 0 some))));
+          ∙ (ap (λ (l : List ℕ). l ++ halves (start ∷ [])) m.marks_are
+          ∙ (append_assoc before (halves (take i (starts_of 0 fs))) (halves (start ∷ []))
+          ∙ ap (λ (l : List ℕ). before ++ l)
+          (sym (halves-append (take i (starts_of 0 fs)) (start ∷ []))
+          ∙ ap halves (ap (λ (n : ℕ). take i (starts_of 0 fs) ++ n ∷ []) at ∙ sym (take_more (starts_of 0 fs) i 0 some)))));
     }
 
 -- how many marks there are then
-pub marking_count : (fs : List Formal) (rest before marks : List ℕ) (i : ℕ) → i ≤ length fs → IsMarking fs rest before marks i → length marks ≡ length before + i
+pub marking_count : (fs : List Formal) (rest before marks : List ℕ) (i : ℕ) → i ≤ length fs → IsMarking fs rest before marks i → length marks ≡ length before + 2 * i
 marking_count fs rest before marks i h m =
-    omega (arith, ap length m.marks_are, length-append before (take i (starts_of 0 fs)), length-take i (starts_of 0 fs), length_starts 0 fs)
+    omega (arith, ap length m.marks_are, length-append before (halves (take i (starts_of 0 fs))), length_halves (take i (starts_of 0 fs)), length-take i (starts_of 0 fs), length_starts 0 fs)
 
 -- at last each place is kept
-pub marking_end : (fs : List Formal) (rest before marks : List ℕ) (i : ℕ) → length fs ≤ i → IsMarking fs rest before marks i → marks ≡ before ++ starts_of 0 fs
+pub marking_end : (fs : List Formal) (rest before marks : List ℕ) (i : ℕ) → length fs ≤ i → IsMarking fs rest before marks i → marks ≡ before ++ halves (starts_of 0 fs)
 marking_end fs rest before marks i h m =
-    m.marks_are ∙ ap (λ (l : List ℕ). before ++ l) (take_all i (starts_of 0 fs) (omega (arith, length_starts 0 fs)))
+    m.marks_are ∙ ap (λ (l : List ℕ). before ++ halves l) (take_all i (starts_of 0 fs) (omega (arith, length_starts 0 fs)))
 
 -- bytes are those of formals, and it is kept where each of these begins
 pub record AreMarked (formals : List Formal) (list marks : List ℕ) : Type 0 where
   pub whole : flat_map formal_bytes formals ≡ list
   pub plain : list_all is_plain_formal formals ≡ true
-  pub starts : marks ≡ starts_of 0 formals
+  pub starts : marks ≡ halves (starts_of 0 formals)
 
 -- where marks are kept, they are those of the formals that are read
 pub listed_marks : (count : ℕ) (list marks : List ℕ) → IsListed count list marks → is_marked count (length list) ≡ true → AreMarked (formals_read count list) list marks
 listed_marks count list marks l h =
     record { whole = l.whole; plain = l.plain; starts = l.marked ∙ marks_by true count list l.whole (sym h) }
 
--- there are as many marks as formals
-pub marks_count : (fs : List Formal) (list marks : List ℕ) → AreMarked fs list marks → length marks ≡ length fs
-marks_count fs list marks a = ap length a.starts ∙ length_starts 0 fs
+-- there are two marks for each formal
+pub marks_count : (fs : List Formal) (list marks : List ℕ) → AreMarked fs list marks → length marks ≡ 2 * length fs
+marks_count fs list marks a = ap length a.starts ∙ length_start_halves fs
 
 -- a mark is where its formal begins
-pub mark_at : (fs : List Formal) (list marks : List ℕ) (i : ℕ) → AreMarked fs list marks → i < length fs → get_or marks i 0 ≡ sum_by formal_size (take i fs)
-mark_at fs list marks i a h = ap (λ (l : List ℕ). get_or l i 0) a.starts ∙ start_at fs i h
+pub mark_at : (fs : List Formal) (list marks : List ℕ) (i : ℕ) → AreMarked fs list marks → i < length fs → mark_in marks i ≡ sum_by formal_size (take i fs)
+mark_at fs list marks i a h = mark_is marks (starts_of 0 fs) i a.starts (omega (arith, length_starts 0 fs)) ∙ start_at fs i h
 
 -- and there its bytes are
-pub behind_mark : (fs : List Formal) (list marks : List ℕ) (i : ℕ) → AreMarked fs list marks → i < length fs → drop (get_or marks i 0) list ≡ flat_map formal_bytes (drop i fs)
+pub behind_mark : (fs : List Formal) (list marks : List ℕ) (i : ℕ) → AreMarked fs list marks → i < length fs → drop (mark_in marks i) list ≡ flat_map formal_bytes (drop i fs)
 behind_mark fs list marks i a h =
     ap (λ (n : ℕ). drop n list) (mark_at fs list marks i a h)
     ∙ (ap (drop (sum_by formal_size (take i fs))) (sym a.whole) ∙ list_behind fs i)
 
+-- where the formal at a place ends, by the number of formals and of their bytes
+end_by : (count size : ℕ) (marks : List ℕ) (i : ℕ) → (i + 1 < count → end_in count size marks i ≡ mark_in marks (i + 1)) × (count ≤ i + 1 → end_in count size marks i ≡ size)
+unfolding end_in
+end_by count size marks i = (
+  λ h. cond-true _ (mark_in marks (i + 1)) size (lt-ltb (i + 1) count h),
+  λ h. cond-false _ (mark_in marks (i + 1)) size (le-ltb (i + 1) count h),
+)
+
 -- a formal ends where the next one begins, or where the list ends
-pub end_at : (fs : List Formal) (list marks : List ℕ) (i : ℕ) → AreMarked fs list marks → i < length fs → get_or marks (i + 1) (length list) ≡ get_or marks i 0 + formal_size (formal_at fs i)
-end_at fs list marks i a h =
-    let here : get_or marks i 0 + formal_size (formal_at fs i) ≡ sum_by formal_size (take (i + 1) fs) = omega (arith, mark_at fs list marks i a h, size_more fs i h) in
-    let n : length marks ≡ length fs = marks_count fs list marks a in
-    elim (leb_tells (length fs) (i + 1)) [
+pub end_at : (fs : List Formal) (count : ℕ) (list marks : List ℕ) (i : ℕ) → length fs ≡ count → AreMarked fs list marks → i < count → end_in count (length list) marks i ≡ mark_in marks i + formal_size (formal_at fs i)
+end_at fs count list marks i n a h =
+    let here : mark_in marks i + formal_size (formal_at fs i) ≡ sum_by formal_size (take (i + 1) fs) = omega (arith, mark_at fs list marks i a (omega (arith, n, h)), size_more fs i (omega (arith, n, h))) in
+    let end = end_by count (length list) marks i in
+    elim (leb_tells count (i + 1)) [
       | inl e ↦
-          let past : get_or marks (i + 1) (length list) ≡ length list = get_or_past marks (i + 1) (length list) (omega (arith, n, e.1)) in
-          let all : sum_by formal_size (take (i + 1) fs) ≡ sum_by formal_size fs = ap (sum_by formal_size) (take_all (i + 1) fs e.1) in
-          omega (arith, past, all, here, length_list_bytes fs, ap length a.whole)
-      | inr e ↦
-          let within : get_or marks (i + 1) (length list) ≡ get_or marks (i + 1) 0 = get_or_default marks (i + 1) (length list) 0 (omega (arith, n, e.1)) in
-          omega (arith, within, here, mark_at fs list marks (i + 1) a e.1)
+          let all : sum_by formal_size (take (i + 1) fs) ≡ sum_by formal_size fs = ap (sum_by formal_size) (take_all (i + 1) fs (omega (arith, n, e.1))) in
+          omega (arith, end.1 e.1, all, here, length_list_bytes fs, ap length a.whole)
+      | inr e ↦ omega (arith, end.0 e.1, here, mark_at fs list marks (i + 1) a (omega (arith, n, e.1)))
     ]
 
 -- so its bytes are known
-pub bytes_at : (fs : List Formal) (list marks : List ℕ) (i : ℕ) → AreMarked fs list marks → i < length fs → take (get_or marks (i + 1) (length list) - get_or marks i 0) (drop (get_or marks i 0) list) ≡ formal_bytes (formal_at fs i)
-bytes_at fs list marks i a h =
-    let n : length (formal_bytes (formal_at fs i)) ≡ get_or marks (i + 1) (length list) - get_or marks i 0 = omega (arith, end_at fs list marks i a h, length_formal_bytes (formal_at fs i)) in
-    ap (take (get_or marks (i + 1) (length list) - get_or marks i 0)) (behind_mark fs list marks i a h ∙ first_behind fs i h)
-    ∙ take_at (formal_bytes (formal_at fs i)) (flat_map formal_bytes (drop (i + 1) fs)) _ n
+pub bytes_at : (fs : List Formal) (count : ℕ) (list marks : List ℕ) (i : ℕ) → length fs ≡ count → AreMarked fs list marks → i < count → take (end_in count (length list) marks i - mark_in marks i) (drop (mark_in marks i) list) ≡ formal_bytes (formal_at fs i)
+bytes_at fs count list marks i n a h =
+    let some : i < length fs = omega (arith, n, h) in
+    let size : length (formal_bytes (formal_at fs i)) ≡ end_in count (length list) marks i - mark_in marks i = omega (arith, end_at fs count list marks i n a h, length_formal_bytes (formal_at fs i)) in
+    ap (take (end_in count (length list) marks i - mark_in marks i)) (behind_mark fs list marks i a some ∙ first_behind fs i some)
+    ∙ take_at (formal_bytes (formal_at fs i)) (flat_map formal_bytes (drop (i + 1) fs)) _ size
 
 -- and a plain formal is read from its own bytes
 pub read_alone : (f : Formal) → is_plain_formal f ≡ true → (formal_read (formal_bytes f)).formal ≡ f
@@ -364,25 +394,25 @@ read_alone f h =
     ap (λ (l : List ℕ). (formal_read l).formal) (sym (append-nil (formal_bytes f))) ∙ ap (λ (r : StoredFormal). r.formal) (read_formal f [] h)
 
 -- a mark lies among the bytes
-pub mark_inside : (count : ℕ) (list marks : List ℕ) (i : ℕ) → IsListed count list marks → is_marked count (length list) ≡ true → i < length marks → get_or marks i 0 ≤ length list
+pub mark_inside : (count : ℕ) (list marks : List ℕ) (i : ℕ) → IsListed count list marks → is_marked count (length list) ≡ true → i < count → mark_in marks i ≤ length list
 mark_inside count list marks i l m h =
     let fs : List Formal = formals_read count list in
     let a : AreMarked fs list marks = listed_marks count list marks l m in
-    omega (arith, mark_at fs list marks i a (omega (arith, marks_count fs list marks a)), sum_by-take-drop formal_size fs i, length_list_bytes fs, ap length l.whole)
+    omega (arith, mark_at fs list marks i a (omega (arith, h, count_read count list)), sum_by-take-drop formal_size fs i, length_list_bytes fs, ap length l.whole)
 
 -- the formal of a name is sought from the first one on
 pub start_listed : (count : ℕ) (list marks name : List ℕ) → IsListed count list marks → IsReached list name (flat_map formal_bytes (drop 0 (formals_read count list))) count 0
 start_listed count list marks name l = subst (λ (x : List ℕ). IsReached list name x count 0) (sym l.whole) (reached_start list name count)
 
 -- the formal with which the bytes at a mark begin
-pub bytes_from : (count : ℕ) (list marks bytes : List ℕ) (i : ℕ) → IsListed count list marks → is_marked count (length list) ≡ true → i < length marks → bytes ≡ drop (get_or marks i 0) list → bytes ≡ flat_map formal_bytes (drop i (formals_read count list))
+pub bytes_from : (count : ℕ) (list marks bytes : List ℕ) (i : ℕ) → IsListed count list marks → is_marked count (length list) ≡ true → i < count → bytes ≡ drop (mark_in marks i) list → bytes ≡ flat_map formal_bytes (drop i (formals_read count list))
 bytes_from count list marks bytes i l m h e =
-    let a : AreMarked (formals_read count list) list marks = listed_marks count list marks l m in
-    e ∙ behind_mark (formals_read count list) list marks i a (omega (arith, marks_count (formals_read count list) list marks a))
+    e ∙ behind_mark (formals_read count list) list marks i (listed_marks count list marks l m) (omega (arith, h, count_read count list))
 
--- there are as many marks as formals
-pub count_marks : (count : ℕ) (list marks : List ℕ) → IsListed count list marks → is_marked count (length list) ≡ true → length marks ≡ count
-count_marks count list marks l m = marks_count (formals_read count list) list marks (listed_marks count list marks l m) ∙ count_read count list
+-- there are two marks for each formal
+pub count_marks : (count : ℕ) (list marks : List ℕ) → IsListed count list marks → is_marked count (length list) ≡ true → length marks ≡ 2 * count
+count_marks count list marks l m =
+    omega (arith, marks_count (formals_read count list) list marks (listed_marks count list marks l m), count_read count list)
 
 -- a formal that was passed isn't the one that is sought
 pub passed_at : (count : ℕ) (list marks name : List ℕ) (i : ℕ) → IsListed count list marks → i < count → IsReached list name (flat_map formal_bytes (drop i (formals_read count list))) count i → bytes_eq (formal_read (flat_map formal_bytes (drop i (formals_read count list)))).formal.name name ≡ false → IsReached list name (flat_map formal_bytes (drop (i + 1) (formals_read count list))) count (i + 1)
@@ -393,32 +423,35 @@ passed_at count list marks name i l h r other =
     reached_more list name rest (flat_map formal_bytes (drop (i + 1) fs)) (formal_read rest).formal.name count i h r refl other behind
 
 -- a formal ends behind where it begins
-pub end_ordered : (count : ℕ) (list marks : List ℕ) (i : ℕ) → IsListed count list marks → is_marked count (length list) ≡ true → i < count → get_or marks i 0 ≤ get_or marks (i + 1) (length list)
+pub end_ordered : (count : ℕ) (list marks : List ℕ) (i : ℕ) → IsListed count list marks → is_marked count (length list) ≡ true → i < count → mark_in marks i ≤ end_in count (length list) marks i
 end_ordered count list marks i l m h =
-    let fs : List Formal = formals_read count list in
-    omega (arith, end_at fs list marks i (listed_marks count list marks l m) (omega (arith, count_read count list)))
+    omega (arith, end_at (formals_read count list) count list marks i (count_read count list) (listed_marks count list marks l m) h)
 
 -- and within the bytes
-pub end_inside : (count : ℕ) (list marks : List ℕ) (i : ℕ) → IsListed count list marks → is_marked count (length list) ≡ true → i < count → get_or marks (i + 1) (length list) ≤ length list
+pub end_inside : (count : ℕ) (list marks : List ℕ) (i : ℕ) → IsListed count list marks → is_marked count (length list) ≡ true → i < count → end_in count (length list) marks i ≤ length list
 end_inside count list marks i l m h =
     let fs : List Formal = formals_read count list in
     let a : AreMarked fs list marks = listed_marks count list marks l m in
     let some : i < length fs = omega (arith, count_read count list) in
-    omega (arith, end_at fs list marks i a some, mark_at fs list marks i a some, size_more fs i some, sum_by-take-drop formal_size fs (i + 1), length_list_bytes fs, ap length l.whole)
+    omega (arith, end_at fs count list marks i (count_read count list) a h, mark_at fs list marks i a some, size_more fs i some, sum_by-take-drop formal_size fs (i + 1), length_list_bytes fs, ap length l.whole)
 
 -- the bytes between two marks are those of the formal there
-alone_bytes : (count : ℕ) (list marks bytes : List ℕ) (i : ℕ) → IsListed count list marks → is_marked count (length list) ≡ true → i < count → bytes ≡ take (get_or marks (i + 1) (length list) - get_or marks i 0) (drop (get_or marks i 0) list) → bytes ≡ formal_bytes (formal_at (formals_read count list) i)
+alone_bytes : (count : ℕ) (list marks bytes : List ℕ) (i : ℕ) → IsListed count list marks → is_marked count (length list) ≡ true → i < count → bytes ≡ take (end_in count (length list) marks i - mark_in marks i) (drop (mark_in marks i) list) → bytes ≡ formal_bytes (formal_at (formals_read count list) i)
 alone_bytes count list marks bytes i l m h e =
-    e ∙ bytes_at (formals_read count list) list marks i (listed_marks count list marks l m) (omega (arith, count_read count list))
+    e ∙ bytes_at (formals_read count list) count list marks i (count_read count list) (listed_marks count list marks l m) h
 
 -- which is read from them
-pub alone_is : (count : ℕ) (list marks bytes : List ℕ) (i : ℕ) → IsListed count list marks → is_marked count (length list) ≡ true → i < count → bytes ≡ take (get_or marks (i + 1) (length list) - get_or marks i 0) (drop (get_or marks i 0) list) → (formal_read bytes).formal ≡ formal_at (formals_read count list) i
+pub alone_is : (count : ℕ) (list marks bytes : List ℕ) (i : ℕ) → IsListed count list marks → is_marked count (length list) ≡ true → i < count → bytes ≡ take (end_in count (length list) marks i - mark_in marks i) (drop (mark_in marks i) list) → (formal_read bytes).formal ≡ formal_at (formals_read count list) i
 alone_is count list marks bytes i l m h e =
     let fs : List Formal = formals_read count list in
     ap (λ (x : List ℕ). (formal_read x).formal) (alone_bytes count list marks bytes i l m h e)
     ∙ read_alone (formal_at fs i) (plain_at fs i _ l.plain (omega (arith, count_read count list)))
 
 -- with nothing left of them
-pub alone_whole : (count : ℕ) (list marks bytes : List ℕ) (i : ℕ) → IsListed count list marks → is_marked count (length list) ≡ true → i < count → bytes ≡ take (get_or marks (i + 1) (length list) - get_or marks i 0) (drop (get_or marks i 0) list) → formal_bytes (formal_read bytes).formal ≡ bytes
+pub alone_whole : (count : ℕ) (list marks bytes : List ℕ) (i : ℕ) → IsListed count list marks → is_marked count (length list) ≡ true → i < count → bytes ≡ take (end_in count (length list) marks i - mark_in marks i) (drop (mark_in marks i) list) → formal_bytes (formal_read bytes).formal ≡ bytes
 alone_whole count list marks bytes i l m h e =
     ap formal_bytes (alone_is count list marks bytes i l m h e) ∙ sym (alone_bytes count list marks bytes i l m h e)
+
+-- the bytes between two places that were read
+pub sliced : (list : List ℕ) (start end from to : ℕ) → start ≡ from → end ≡ to → take (end - start) (drop start list) ≡ take (to - from) (drop from list)
+sliced list start end from to p q = rw (p, q) refl

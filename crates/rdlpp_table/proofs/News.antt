@@ -1,5 +1,5 @@
 -- A macro that is to be stored: its body, its formals, and the lists of a table with it.
-use Rattle.std.proofs.Common.{◌≡◌, ℕ, true, false, List, [], ◌∷◌, ◌++◌, take, drop, Option, Some, None, Ok, Err, refl, ap, sym, ◌∙◌, inl, inr, zero, suc, ◌+◌, ◌<◌, ◌≤◌, Bool, cond, ◌||◌, eqb, ltb, length, get_or, map, bytes_eq, unwrap_or, subst, arith, length-append, ◌-◌, ◌*◌, slice_range, is_some, option_map, sum_by, append_assoc, append-nil}
+use Rattle.std.proofs.Common.{◌≡◌, ℕ, true, false, List, [], ◌∷◌, ◌++◌, take, drop, Option, Some, None, Ok, Err, refl, ap, sym, ◌∙◌, inl, inr, zero, suc, ◌+◌, ◌<◌, ◌≤◌, Bool, cond, ◌||◌, eqb, ltb, length, get_or, map, bytes_eq, unwrap_or, subst, arith, length-append, ◌-◌, ◌*◌, ◌/◌, slice_range, is_some, option_map, sum_by, append_assoc, append-nil}
 use Rattle.std.proofs.lemmas.Bool.{cases_Bool, cond-true, cond-false, eqb-false, ltb-false}
 use Rattle.std.specs.List.{IsDistinct, list_any, flat_map, list_all}
 use Rattle.std.proofs.lemmas.List.{map-append, drop_at, nil_from_length}
@@ -351,7 +351,7 @@ unfolding macro_marks
 appended_marks name arity list size is_logical text count last a = ap marks_of a.read
 
 -- they are few
-pub appended_few : (arity : Option ℕ) (list : List ℕ) (size count : ℕ) (last : List ℕ) → IsList arity list size → IsAppended arity list size count last → 8 * length (marks_of (formals_read count last)) ≤ size
+pub appended_few : (arity : Option ℕ) (list : List ℕ) (size count : ℕ) (last : List ℕ) → IsList arity list size → IsAppended arity list size count last → length (marks_of (formals_read count last)) ≤ 2 * (size / 8)
 appended_few arity list size count last l a =
     omega (arith, ap (λ (fs : List Formal). length (marks_of fs)) a.read, few_marks_of (unwrap_or (list_formals arity list) []), l.size_is)
 

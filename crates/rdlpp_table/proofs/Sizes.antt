@@ -1,5 +1,5 @@
 -- Sizes are lengths, entries lie among the bytes, and what follows from how a table lies in its lists.
-use Rattle.std.proofs.Common.{◌≡◌, ℕ, zero, suc, ◌+◌, ◌-◌, ◌≤◌, Bool, cond, not, ltb, one-add, List, [], ◌∷◌, length, get_or, Option, Some, None, option_map, refl, ap, sym, ◌∙◌, arith, inl, inr, ◌*◌, true, false, Vec, Global, vec_len, rules, ◌<◌, ◌++◌, take, unwrap_or, sum_by, length-append, add-zero, is_some, subst, drop}
+use Rattle.std.proofs.Common.{◌≡◌, ℕ, zero, suc, ◌+◌, ◌-◌, ◌≤◌, Bool, cond, not, ltb, one-add, List, [], ◌∷◌, length, get_or, Option, Some, None, option_map, refl, ap, sym, ◌∙◌, arith, inl, inr, ◌*◌, ◌/◌, true, false, Vec, Global, vec_len, rules, ◌<◌, ◌++◌, take, unwrap_or, sum_by, length-append, add-zero, is_some, subst, drop}
 use Rattle.std.specs.List.{prefix_len, position_or_len, position, find, slice_get, All, flat_map, IsDistinct}
 use Rattle.std.proofs.lemmas.List.Folds.{find_at}
 use Rattle.std.proofs.lemmas.Option.{slice_get-get_or}
@@ -13,7 +13,7 @@ use Rattle.rdlpp_table.specs.declared.entry.Entry.{Entry}
 use Rattle.rdlpp_table.specs.Table.{Formal, Macro, default_bytes, default_size, formal_size, macro_size, table_size, formal_bytes, macro_bytes, table_bytes, macro_named}
 use Rattle.rdlpp_table.specs.View.{macro_at, TableView, formals_of, no_macro, place_named}
 use Rattle.rdlpp_table.specs.Store.{entry_of, entries_of, entry_end, body_start, list_start, list_size, IsStored, macros_in, macro_in, body_of, name_of}
-use Rattle.rdlpp_table.specs.Marks.{is_marked, macro_marks, marks_of, starts_of, table_marks}
+use Rattle.rdlpp_table.specs.Marks.{halves, is_marked, macro_marks, marks_of, starts_of, table_marks}
 use Rattle.rdlpp_table.specs.Entries.{marks_len, AreWithin}
 use Rattle.rdlpp_table.specs.Kept.{first_stops}
 use Rattle.rdlpp_table.specs.Layout.{view_of, IsHeld}
@@ -159,11 +159,21 @@ unfolding starts_of
 length_starts at [] = refl
 length_starts at (f ∷ fs) = ap suc (length_starts (at + formal_size f) fs)
 
+-- each number has two halves
+pub length_halves : (ns : List ℕ) → length (halves ns) ≡ 2 * length ns
+unfolding halves
+length_halves [] = refl
+length_halves (n ∷ ns) = omega (arith, length_halves ns)
+
+-- how many halves are kept of where formals begin
+pub length_start_halves : (fs : List Formal) → length (halves (starts_of 0 fs)) ≡ 2 * length fs
+length_start_halves fs = omega (arith, length_halves (starts_of 0 fs), length_starts 0 fs)
+
 -- how many marks formals have
-pub length_marks_of : (fs : List Formal) → length (marks_of fs) ≡ cond (is_marked (length fs) (sum_by formal_size fs)) (length fs) 0
+pub length_marks_of : (fs : List Formal) → length (marks_of fs) ≡ cond (is_marked (length fs) (sum_by formal_size fs)) (2 * length fs) 0
 unfolding marks_of
-length_marks_of fs = elim (is_marked (length fs) (sum_by formal_size fs)) as (λ b. length (cond b (starts_of 0 fs) []) ≡ cond b (length fs) 0) [
-  | true ↦ length_starts 0 fs
+length_marks_of fs = elim (is_marked (length fs) (sum_by formal_size fs)) as (λ b. length (cond b (halves (starts_of 0 fs)) []) ≡ cond b (2 * length fs) 0) [
+  | true ↦ length_start_halves fs
   | false ↦ refl
 ]
 
@@ -171,23 +181,23 @@ length_marks_of fs = elim (is_marked (length fs) (sum_by formal_size fs)) as (λ
 pub marks_len_of : (start marks : ℕ) (m : Macro) → marks_len (entry_of start marks m) ≡ length (macro_marks m)
 unfolding marks_len entry_of list_size macro_marks
 marks_len_of start marks m =
-    ap (λ (n : ℕ). cond (is_marked n (sum_by formal_size (unwrap_or m.formals []))) n 0) (count_of m.formals)
+    ap (λ (n : ℕ). cond (is_marked n (sum_by formal_size (unwrap_or m.formals []))) (2 * n) 0) (count_of m.formals)
     ∙ sym (length_marks_of (unwrap_or m.formals []))
 
--- formals have at most one mark for eight bytes
-pub few_marks_of : (fs : List Formal) → 8 * length (marks_of fs) ≤ sum_by formal_size fs
+-- formals have at most two marks for eight bytes
+pub few_marks_of : (fs : List Formal) → length (marks_of fs) ≤ 2 * (sum_by formal_size fs / 8)
 unfolding is_marked
 few_marks_of fs = elim (leb_tells (8 * length fs) (sum_by formal_size fs)) [
-  | inl e ↦ omega (arith, length_marks_of fs ∙ cond-true _ (length fs) 0 e.0, e.1)
-  | inr e ↦ omega (arith, length_marks_of fs ∙ cond-false _ (length fs) 0 e.0)
+  | inl e ↦ omega (arith, length_marks_of fs ∙ cond-true _ (2 * length fs) 0 e.0, e.1)
+  | inr e ↦ omega (arith, length_marks_of fs ∙ cond-false _ (2 * length fs) 0 e.0)
 ]
 
-pub few_marks_in : (m : Macro) → 8 * length (macro_marks m) ≤ macro_size m
+pub few_marks_in : (m : Macro) → length (macro_marks m) ≤ 2 * (macro_size m / 8)
 unfolding macro_marks macro_size
 few_marks_in m = omega (arith, few_marks_of (unwrap_or m.formals []))
 
--- macros have at most one mark for eight bytes
-pub few_marks : (ms : List Macro) → 8 * length (table_marks ms) ≤ table_size ms
+-- macros have at most two marks for eight bytes
+pub few_marks : (ms : List Macro) → length (table_marks ms) ≤ 2 * (table_size ms / 8)
 few_marks [] = omega (arith, no_marks)
 few_marks (m ∷ ms) = omega (arith, length_marks-cons m ms, table_size-cons m ms, few_marks_in m, few_marks ms)
 

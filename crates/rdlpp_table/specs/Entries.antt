@@ -1,6 +1,6 @@
 -- What holds of entries and the bytes that they point into.
 -- A definition that names no source is this project's own.
-use Rattle.std.specs.Prelude.{ℕ, ◌+◌, ◌-◌, ◌<◌, ◌≤◌, ◌^◌, List, All, unwrap_or, if◌then◌else◌}
+use Rattle.std.specs.Prelude.{ℕ, ◌+◌, ◌-◌, ◌*◌, ◌<◌, ◌≤◌, ◌^◌, List, All, unwrap_or, if◌then◌else◌}
 use Rattle.rdlpp_table.specs.declared.entry.Entry.{Entry}
 use Rattle.rdlpp_table.specs.Marks.{is_marked}
 use Rattle.rdlpp_table.specs.Store.{entry_end}
@@ -27,4 +27,4 @@ AreBehind n k entries = All (λ e. (n ≤ e.start) × (k ≤ e.marks)) entries
 
 -- how many marks an entry has
 unfoldable pub marks_len : Entry → ℕ
-marks_len e = if is_marked (unwrap_or e.arity 0) e.list_len then unwrap_or e.arity 0 else 0
+marks_len e = if is_marked (unwrap_or e.arity 0) e.list_len then 2 * unwrap_or e.arity 0 else 0

@@ -1,6 +1,6 @@
 -- The fields of a table, and the table that they stand for.
 -- A definition that names no source is this project's own.
-use Rattle.std.specs.Prelude.{◌≡◌, ℕ, ◌+◌, ◌/◌, ◌≤◌, List, drop, length, take, vec_capacity, vec_len}
+use Rattle.std.specs.Prelude.{◌≡◌, ℕ, ◌+◌, ◌*◌, ◌/◌, ◌≤◌, List, drop, length, take, vec_capacity, vec_len}
 use Rattle.rdlpp_table.specs.View.{TableView, IsSound}
 use Rattle.rdlpp_table.specs.Marks.{table_marks}
 use Rattle.rdlpp_table.specs.Index.{IsIndexed, names_of}
@@ -29,6 +29,6 @@ pub record IsLaidOut (t : Inside) : Type 0 where
   pub entry_room : vec_capacity t.entries ≡ t.most_macros
   pub indexed : IsIndexed (names_of (macros_in t.bytes.items (live t.front.entries t.entries.items))) (take (length (live t.front.entries t.entries.items)) t.order.items) t.starts
   pub marked : drop (length (live t.front.entries t.entries.items)) t.order.items ≡ table_marks (macros_in t.bytes.items (live t.front.entries t.entries.items))
-  pub index_room : vec_capacity t.order ≡ t.most_macros + t.most_bytes / 8
+  pub index_room : vec_capacity t.order ≡ 2 * (t.most_macros + t.most_bytes / 8)
   pub few : t.most_macros ≤ 65536
   pub small : t.most_bytes ≤ 16777216

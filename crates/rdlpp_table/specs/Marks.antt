@@ -1,6 +1,6 @@
 -- Where the formals of a macro begin among their bytes, kept where those bytes are many.
 -- A definition that names no source is this project's own.
-use Rattle.std.specs.Prelude.{ℕ, ◌+◌, ◌*◌, Bool, List, [], ◌∷◌, length, nat_le, sum_by, if◌then◌else◌}
+use Rattle.std.specs.Prelude.{ℕ, ◌+◌, ◌*◌, ◌/◌, ◌%◌, Bool, List, [], ◌∷◌, length, nat_le, nat_lt, slice_index, sum_by, if◌then◌else◌}
 use Rattle.std.specs.List.{flat_map}
 use Rattle.rdlpp_table.specs.Table.{Formal, Macro, formal_size}
 use Rattle.rdlpp_table.specs.View.{formals_of}
@@ -10,13 +10,18 @@ unfoldable pub starts_of : ℕ → List Formal → List ℕ
 starts_of at [] = []
 starts_of at (f ∷ fs) = at ∷ starts_of (at + formal_size f) fs
 
+-- two numbers below 65,536 in the place of each number below 2 ^ 32: its low half, and then its high half
+unfoldable pub halves : List ℕ → List ℕ
+halves [] = []
+halves (n ∷ ns) = n % 65536 ∷ n / 65536 ∷ halves ns
+
 -- whether it is kept where so many formals begin, which take so many bytes: where they take eight each, or more
 unfoldable pub is_marked : ℕ → ℕ → Bool
 is_marked count size = nat_le (8 * count) size
 
 -- what is kept of where formals begin
 unfoldable pub marks_of : List Formal → List ℕ
-marks_of formals = if is_marked (length formals) (sum_by formal_size formals) then starts_of 0 formals else []
+marks_of formals = if is_marked (length formals) (sum_by formal_size formals) then halves (starts_of 0 formals) else []
 
 -- what is kept of where the formals of a macro begin
 unfoldable pub macro_marks : Macro → List ℕ
@@ -25,3 +30,11 @@ macro_marks m = marks_of (formals_of m)
 -- what is kept of where the formals of macros begin
 unfoldable pub table_marks : List Macro → List ℕ
 table_marks macros = flat_map macro_marks macros
+
+-- the number at a place among those of which the halves are kept
+unfoldable pub mark_in : List ℕ → ℕ → ℕ
+mark_in marks place = slice_index marks (2 * place) + 65536 * slice_index marks (2 * place + 1)
+
+-- where the formal at a place ends, of so many with so many bytes: where the next one begins, or where the last one ends
+unfoldable pub end_in : ℕ → ℕ → List ℕ → ℕ → ℕ
+end_in count size marks place = if nat_lt (place + 1) count then mark_in marks (place + 1) else size

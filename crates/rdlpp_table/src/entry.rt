@@ -56,14 +56,14 @@ pub(crate) fn arity_in(entry: &Entry) -> Option<usize>
     }
 }
 
-// How many marks a definition has.
-#[tactic(auto, unfolding(crate::specs::Entries::marks_len))]
+// How many marks a definition has: two for each formal, where any are kept.
+#[tactic(auto, unfolding(crate::specs::Entries::marks_len, crate::specs::Marks::is_marked))]
 pub(crate) fn marks_len(entry: &Entry) -> usize
     ensures { result ≡ marks_len entry.now }
 {
     let count = arity_in(entry).unwrap_or(0);
     if is_marked(count, entry.list_len as usize) {
-        count
+        2 * count
     } else {
         0
     }
@@ -73,7 +73,7 @@ pub(crate) fn marks_len(entry: &Entry) -> usize
 // are given up.
 pub(crate) fn listed_in<'a>(
     bytes: &'a [u8],
-    marks: &'a [u32],
+    marks: &'a [u16],
     given_up: usize,
     entry: &Entry,
 ) -> Listed<'a>

@@ -1,5 +1,6 @@
-// The index of a table: the places of its entries, sorted by the parts in which their names stand, and then by name. Behind it, in
-// the same list, lie the marks of its macros.
+// The index of a table: the places of its entries, sorted by the parts in which their names stand, and then by name. A table has at
+// most 65,536 macros, so that two bytes are enough for a place, and a definition moves few bytes. Behind it, in the same list, lie the
+// marks of its macros.
 ghost use Rattle.std.specs.Prelude.{◌≡◌, ◌+◌, ◌<◌, ◌≤◌, ◌^◌, ◌-◌, ◌++◌, MatchResult, drop, insert, length, map, remove, slice_index, take, vec_capacity, vec_len};
 ghost use Rattle.rdlpp_table.specs.Entries.{AreWithin};
 ghost use Rattle.rdlpp_table.specs.Index.{closed, names_of, IsCounted, IsGap, IsIndexed, IsMiddle, IsPlace};
@@ -23,7 +24,7 @@ fn middle_of(low: usize, high: usize) -> usize
 pub(crate) fn seek(
     bytes: &[u8],
     entries: &[Entry],
-    order: &[u32],
+    order: &[u16],
     starts: &[u32],
     sought: &Sought,
     steps: &mut Steps,
@@ -53,7 +54,7 @@ pub(crate) fn seek(
 pub(crate) fn place_in(
     bytes: &[u8],
     entries: &[Entry],
-    order: &[u32],
+    order: &[u16],
     starts: &[u32],
     name: &[u8],
     steps: &mut Steps,
@@ -72,14 +73,14 @@ pub(crate) fn place_in(
 
 // Where a place lies once another one was taken out.
 #[tactic(auto, unfolding(crate::specs::Index::closed))]
-fn closed(taken: u32, place: u32) -> u32
+fn closed(taken: u16, place: u16) -> u16
     ensures { result ≡ closed taken place }
 {
     if taken < place { place - 1 } else { place }
 }
 
 // The first places, so many of them, lie closer, once one was taken out.
-fn close_up(order: &mut [u32], count: usize, taken: u32)
+fn close_up(order: &mut [u16], count: usize, taken: u16)
     requires { count ≤ length order.old }
     ensures { order.new ≡ map (closed taken) (take count order.old) ++ drop count order.old }
 {
@@ -89,7 +90,7 @@ fn close_up(order: &mut [u32], count: usize, taken: u32)
 }
 
 // Takes a place out of the index, which has so many, and answers it.
-pub(crate) fn leave(order: &mut Vec<u32>, count: usize, at: usize) -> usize
+pub(crate) fn leave(order: &mut Vec<u16>, count: usize, at: usize) -> usize
     requires at { at < count }
     requires count { count ≤ vec_len order.old }
     ensures value { result ≡ slice_index (take count order.old.items) at }
@@ -104,13 +105,13 @@ pub(crate) fn leave(order: &mut Vec<u32>, count: usize, at: usize) -> usize
 }
 
 // Puts a place into the index.
-pub(crate) fn enter(order: &mut Vec<u32>, gap: usize, place: usize)
+pub(crate) fn enter(order: &mut Vec<u16>, gap: usize, place: usize)
     requires gap { gap ≤ vec_len order.old }
     requires room { vec_len order.old < vec_capacity order.old }
-    requires place { place < 2 ^ 32 }
+    requires place { place < 2 ^ 16 }
     ensures items { order.new.items ≡ insert order.old.items gap place }
     ensures len { vec_len order.new ≡ vec_len order.old + 1 }
     ensures capacity { vec_capacity order.new ≡ vec_capacity order.old }
 {
-    let _ = order.insert(gap, place as u32);
+    let _ = order.insert(gap, place as u16);
 }

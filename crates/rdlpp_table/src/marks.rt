@@ -1,7 +1,7 @@
 // The formals of a macro in a table's bytes, and where each of them begins, which is kept where they are long.
-ghost use Rattle.std.specs.Prelude.{bytes_eq, length, not, slice_index_or, true, vec_capacity, vec_len, ◌+◌, ◌++◌, ◌<◌, ◌≡◌, ◌≤◌, ◌^◌};
+ghost use Rattle.std.specs.Prelude.{[], bytes_eq, length, not, slice_index_or, true, vec_capacity, vec_len, ◌*◌, ◌+◌, ◌++◌, ◌<◌, ◌≡◌, ◌≤◌, ◌^◌, ◌∷◌};
 ghost use Rattle.std.specs.List.{flat_map, list_all};
-ghost use Rattle.rdlpp_table.specs.Marks.{is_marked, marks_of};
+ghost use Rattle.rdlpp_table.specs.Marks.{end_in, halves, is_marked, mark_in, marks_of};
 ghost use Rattle.rdlpp_table.specs.Store.{formal_read, formals_read, is_name_byte, is_plain_formal, IsListed};
 ghost use Rattle.rdlpp_table.specs.Table.{formal_bytes};
 ghost use Rattle.rdlpp_table.specs.View.{formal_at, formal_named};
@@ -11,12 +11,12 @@ use crate::stored::{behind_formal, default_in_list, formal_name, name_len, place
 // How many bytes each formal takes, on average, where it is kept where they begin.
 pub(crate) const LONG_FORMAL: usize = 8;
 
-// So many formals as they lie in a table, and where each of them begins, or nothing where they are short.
+// So many formals as they lie in a table, and where each of them begins, as two halves, or nothing where they are short.
 #[derive(Clone, Copy, Drop)]
 pub(crate) struct Listed<'a> {
     pub(crate) list: &'a [u8],
     pub(crate) count: usize,
-    pub(crate) marks: &'a [u32],
+    pub(crate) marks: &'a [u16],
 }
 
 // Whether it is kept where so many formals begin, which take so many bytes.
@@ -27,8 +27,20 @@ pub(crate) fn is_marked(count: usize, size: usize) -> bool
     count <= size / LONG_FORMAL
 }
 
+// Keeps where a formal begins: the low half of that number, and then its high half.
+#[tactic(auto, unfolding(crate::specs::Marks::halves))]
+fn push_mark(marks: &mut Vec<u16>, start: usize)
+    requires small { start < 2 ^ 32 }
+    requires room { vec_len marks.old + 2 ≤ vec_capacity marks.old }
+    ensures items { marks.new.items ≡ marks.old.items ++ halves (start ∷ []) }
+    ensures capacity { vec_capacity marks.new ≡ vec_capacity marks.old }
+{
+    marks.push_reserved((start % 65_536) as u16);
+    marks.push_reserved((start / 65_536) as u16);
+}
+
 // Keeps where so many formals begin, where they are long.
-pub(crate) fn push_marks(marks: &mut Vec<u32>, list: &[u8], count: usize)
+pub(crate) fn push_marks(marks: &mut Vec<u16>, list: &[u8], count: usize)
     requires whole { flat_map formal_bytes (formals_read count list.now) ≡ list.now }
     requires plain { list_all is_plain_formal (formals_read count list.now) ≡ true }
     requires short { length list.now < 2 ^ 32 }
@@ -41,7 +53,7 @@ pub(crate) fn push_marks(marks: &mut Vec<u32>, list: &[u8], count: usize)
     }
     let mut rest = list;
     for _ in 0..count {
-        marks.push_reserved((list.len() - rest.len()) as u32);
+        push_mark(marks, list.len() - rest.len());
         rest = behind_formal(rest, name_len(rest));
     }
 }
@@ -96,14 +108,25 @@ fn is_named(bytes: &[u8], name: &[u8]) -> bool
         && formal_name(bytes).len() == name.len()
 }
 
+// Where the formal at a place begins, from the two halves of that number.
+#[tactic(auto, unfolding(crate::specs::Marks::mark_in))]
+fn mark_at(marks: &[u16], place: usize) -> usize
+    requires { 2 * place + 1 < length marks.now }
+    ensures { result ≡ mark_in marks.now place }
+{
+    let low = marks[2 * place] as usize;
+    let high = marks[2 * place + 1] as usize;
+    low + 65_536 * high
+}
+
 // The place of the formal of a name, by where each formal begins.
-fn place_by_marks(list: &[u8], count: usize, marks: &[u32], name: &[u8]) -> Option<usize>
+fn place_by_marks(list: &[u8], count: usize, marks: &[u16], name: &[u8]) -> Option<usize>
     requires listed { IsListed count list.now marks.now }
     requires marked { is_marked count (length list.now) ≡ true }
     ensures { result ≡ formal_named (formals_read count list.now) name.now }
 {
-    for (place, start) in marks.iter().enumerate() {
-        if is_named(&list[*start as usize..], name) {
+    for place in 0..count {
+        if is_named(&list[mark_at(marks, place)..], name) {
             return Some(place);
         }
     }
@@ -123,24 +146,27 @@ fn default_in(bytes: &[u8]) -> &[u8]
     }
 }
 
-// Where the formal at a place ends: where the next one begins, or where the list ends.
-fn end_by_marks(list: &[u8], marks: &[u32], place: usize) -> usize
-    requires { place < length marks.now }
-    ensures { result ≡ slice_index_or marks.now (place + 1) (length list.now) }
+// Where the formal at a place ends, of so many with so many bytes: where the next one begins, or where the last one ends.
+#[tactic(auto, unfolding(crate::specs::Marks::end_in))]
+fn end_by_marks(count: usize, size: usize, marks: &[u16], place: usize) -> usize
+    requires whole { length marks.now ≡ 2 * count }
+    requires place { place < count }
+    ensures { result ≡ end_in count size marks.now place }
 {
-    match marks.get(place + 1) {
-        Some(next) => *next as usize,
-        None => list.len(),
+    if place + 1 < count {
+        mark_at(marks, place + 1)
+    } else {
+        size
     }
 }
 
 // The default text of the formal at a place, by where each formal begins.
-fn default_by_marks<'a>(list: &'a [u8], count: usize, marks: &[u32], place: usize) -> &'a [u8]
+fn default_by_marks<'a>(list: &'a [u8], count: usize, marks: &[u16], place: usize) -> &'a [u8]
     requires listed { IsListed count list.now marks.now }
     requires marked { is_marked count (length list.now) ≡ true }
     requires place { place < count }
     ensures { result.now ≡ (formal_at (formals_read count list.now) place).text }
 {
-    let start = marks[place] as usize;
-    default_in(&list[start..end_by_marks(list, marks, place)])
+    let start = mark_at(marks, place);
+    default_in(&list[start..end_by_marks(count, list.len(), marks, place)])
 }

@@ -24,8 +24,8 @@ fn move_down(entry: &mut Entry, size: usize, marks: usize)
     entry.marks = (entry.marks as usize - marks) as u32;
 }
 
-// The entries behind the first ones, so many, come to the front, and their bytes and marks were moved. One pass does both: a long
-// list of entries is read once.
+// The entries behind the first `by` ones come to the front, and their bytes and marks were moved. One pass does both: a long list of
+// entries is read once.
 fn draw_down(entries: &mut [Entry], by: usize, size: usize, marks: usize)
     requires some { by ≤ length entries.old }
     requires behind { AreBehind size marks (drop by entries.old) }
@@ -108,7 +108,7 @@ fn cover(bytes: &mut Vec<u8>, from: usize, to: usize, size: usize)
 }
 
 // Takes marks out of the middle: those behind move to the front as one block.
-fn cut_marks(order: &mut Vec<u32>, from: usize, to: usize)
+fn cut_marks(order: &mut Vec<u16>, from: usize, to: usize)
     requires { (from ≤ to) × (to ≤ vec_len order.old) }
     ensures items { order.new.items ≡ remove_range order.old.items from to }
     ensures capacity { vec_capacity order.new ≡ vec_capacity order.old }
@@ -133,9 +133,9 @@ fn has_room(bytes: &Vec<u8>, entries: &Vec<Entry>, front: &Front, size: usize) -
         || size <= bytes.capacity() - bytes.len() && entries.len() < entries.capacity()
 }
 
-// Takes the bytes and the entry of the macro at a place out of those of a table. What stands behind them comes to the front; or,
-// where that is less than a third of it, what stands before them goes to the back, and their room at the front is given up. Two such
-// moves or more save what is moved once there is no room left behind, when all comes to the front.
+// Takes the bytes and the entry of the macro at a place out of those of a table. Where what stands before it is less than a third of
+// what stands behind it, and a place for one more macro is left, that goes to the back, and its room at the front is given up; else
+// what stands behind it comes to the front.
 fn take_stored(bytes: &mut Vec<u8>, entries: &mut Vec<Entry>, front: &mut Front, place: usize)
     requires stored { IsStored front.old.bytes front.old.marks bytes.old.items (live front.old.entries entries.old.items) (macros_in bytes.old.items (live front.old.entries entries.old.items)) }
     requires narrow { vec_capacity bytes.old < 2 ^ 32 }
@@ -170,7 +170,7 @@ fn take_out(
     bytes: &mut Vec<u8>,
     entries: &mut Vec<Entry>,
     front: &mut Front,
-    order: &mut Vec<u32>,
+    order: &mut Vec<u16>,
     place: usize,
 )
     requires stored { IsStored front.old.bytes front.old.marks bytes.old.items (live front.old.entries entries.old.items) (macros_in bytes.old.items (live front.old.entries entries.old.items)) }
@@ -221,7 +221,7 @@ pub(crate) fn take_out_named(
     bytes: &mut Vec<u8>,
     entries: &mut Vec<Entry>,
     front: &mut Front,
-    order: &mut Vec<u32>,
+    order: &mut Vec<u16>,
     starts: &mut [u32],
     name: &[u8],
 ) -> (bool, usize)

@@ -13,6 +13,7 @@ ghost use Rattle.std.specs.Prelude.{
   List,
   None,
   Some,
+  ◌*◌,
   ◌+◌,
   ◌++◌,
   ◌-◌,
@@ -67,7 +68,7 @@ fn append_formals(bytes: &mut Vec<u8>, new: &New)
 }
 
 // The first stops of the body behind a place, by the formals between two places and their marks.
-fn stops_at(bytes: &[u8], list: usize, body: usize, count: usize, marks: &[u32]) -> FirstStops
+fn stops_at(bytes: &[u8], list: usize, body: usize, count: usize, marks: &[u16]) -> FirstStops
     requires order { (list ≤ body) × (body ≤ length bytes.now) }
     requires short { length bytes.now < 2 ^ 64 }
     requires listed { IsListed count (slice_range bytes.now list body) marks.now }
@@ -97,7 +98,7 @@ fn put(
     bytes: &mut Vec<u8>,
     entries: &mut Vec<Entry>,
     front: &Front,
-    order: &mut Vec<u32>,
+    order: &mut Vec<u16>,
     new: &New,
 )
     requires stored { IsStored front.now.bytes front.now.marks bytes.old.items (live front.now.entries entries.old.items) (macros_in bytes.old.items (live front.now.entries entries.old.items)) }
@@ -107,7 +108,7 @@ fn put(
     requires marked { drop (length (live front.now.entries entries.old.items) + 1) order.old.items ≡ table_marks (macros_in bytes.old.items (live front.now.entries entries.old.items)) }
     requires room { vec_len bytes.old + (length new.now.name.now + (new.now.list_len + new.now.body_len)) ≤ vec_capacity bytes.old }
     requires entry_room { vec_len entries.old < vec_capacity entries.old }
-    requires mark_room { vec_len order.old + new.now.list_len / 8 ≤ vec_capacity order.old }
+    requires mark_room { vec_len order.old + 2 * (new.now.list_len / 8) ≤ vec_capacity order.old }
     requires small { new.now.list_len < 2 ^ 32 }
     requires narrow { vec_capacity bytes.old < 2 ^ 32 }
     requires short { length new.now.name.now < 256 }
@@ -152,7 +153,7 @@ pub(crate) fn beside(
     bytes: &[u8],
     entries: &[Entry],
     front: &Front,
-    order: &[u32],
+    order: &[u16],
     starts: &[u32],
     name: &[u8],
 ) -> Rest
@@ -201,7 +202,7 @@ pub(crate) fn replace(
     bytes: &mut Vec<u8>,
     entries: &mut Vec<Entry>,
     front: &mut Front,
-    order: &mut Vec<u32>,
+    order: &mut Vec<u16>,
     starts: &mut [u32],
     new: &New,
 )
@@ -218,7 +219,8 @@ pub(crate) fn replace(
     requires counted { IsNew new.now.name.now new.now.arity new.now.list.now new.now.list_len new.now.is_logical new.now.text.now new.now.body_len }
     requires room { table_size (without new.now.name.now (macros_in bytes.old.items (live front.old.entries entries.old.items))) + (length new.now.name.now + (new.now.list_len + new.now.body_len)) ≤ vec_capacity bytes.old }
     requires entry_room { length (without new.now.name.now (macros_in bytes.old.items (live front.old.entries entries.old.items))) < vec_capacity entries.old }
-    requires index_room { length (without new.now.name.now (macros_in bytes.old.items (live front.old.entries entries.old.items))) + (table_size (without new.now.name.now (macros_in bytes.old.items (live front.old.entries entries.old.items))) + new.now.list_len) / 8 < vec_capacity order.old }
+    requires places { vec_capacity entries.old ≤ 65536 }
+    requires index_room { length (without new.now.name.now (macros_in bytes.old.items (live front.old.entries entries.old.items))) + 2 * ((table_size (without new.now.name.now (macros_in bytes.old.items (live front.old.entries entries.old.items))) + new.now.list_len) / 8) < vec_capacity order.old }
     ensures stored { IsStored front.new.bytes front.new.marks bytes.new.items (live front.new.entries entries.new.items) (without new.now.name.now (macros_in bytes.old.items (live front.old.entries entries.old.items)) ++ new_macro new.now.name.now new.now.arity new.now.list.now new.now.is_logical new.now.text.now ∷ []) }
     ensures given_up { front.new.entries ≤ vec_len entries.new }
     ensures indexed { IsIndexed (names_of (without new.now.name.now (macros_in bytes.old.items (live front.old.entries entries.old.items)) ++ new_macro new.now.name.now new.now.arity new.now.list.now new.now.is_logical new.now.text.now ∷ [])) (take (length (live front.new.entries entries.new.items)) order.new.items) starts.new }

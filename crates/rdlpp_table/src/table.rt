@@ -41,8 +41,8 @@ pub struct Table {
     // What is given up at the fronts of the bytes and of the entries.
     front: Front,
     // The places of the entries, sorted by the parts in which their names stand, and then by name; and behind them where
-    // the formals of each macro begin among their bytes, where these are long.
-    order: Vec<u32>,
+    // the formals of each macro begin among their bytes, where these are long: two numbers for each formal.
+    order: Vec<u16>,
     // Where each part of the index begins, and where the last one ends.
     starts: [u32; STARTS],
     most_bytes: usize,
@@ -103,8 +103,10 @@ impl Table {
             Ok(entries) => entries,
             Err(_) => return Err(NoMemory),
         };
+        // A mark takes two items, and a place in the index one: the other is spare, so that an engine asks for as many bytes as
+        // its limits have always come to.
         let marks = limits.definition_bytes / LONG_FORMAL;
-        let order = match Vec::with_capacity(alloc, limits.definitions + marks) {
+        let order = match Vec::with_capacity(alloc, 2 * (limits.definitions + marks)) {
             Ok(order) => order,
             Err(_) => return Err(NoMemory),
         };

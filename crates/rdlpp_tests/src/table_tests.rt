@@ -114,7 +114,7 @@ fn append_body(bytes: &mut Vec<u8>, made: Made) -> Result<(), AllocError> {
     Ok(())
 }
 
-// Appends the formals of a made macro, each behind the one before and a text between them, and a text behind the last one.
+// Appends formals, each a name, `=` and a default text where it has one, and a comma; behind the last one only where that is wanted.
 fn append_formals(
     bytes: &mut Vec<u8>,
     formals: &[MadeFormal],
@@ -294,5 +294,109 @@ fn a_table_is_a_list_of_macros(rt: HostRuntime) -> Result<(), Fail> {
     for (bytes, count) in [(1_024, 64), (16_384, 12), (1_024, 1), (16_384, 100)] {
         change(&rt, bytes, count)?;
     }
+    Ok(())
+}
+
+// How many macros a table has at most.
+const MOST: usize = 65_536;
+
+#[test]
+fn as_many_macros_as_there_are_places_are_found(rt: HostRuntime) -> Result<(), Fail> {
+    let mut table = table(&rt, 1_048_576, MOST);
+    for number in 0..MOST {
+        let name = name_of(rt.alloc(), number)?;
+        assert_eq!(rt; kind(table.set(name.as_bytes(), b"".as_slice())), None);
+    }
+    assert_eq!(rt;
+        kind(table.set(b"A".as_slice(), b"".as_slice())),
+        Some(DefineKind::TooManyDefinitions)
+    );
+    for number in 0..MOST {
+        let name = name_of(rt.alloc(), number)?;
+        assert_eq!(rt;
+            table.find(name.as_bytes()).map(|id| id.index()),
+            Some(number)
+        );
+    }
+    assert!(rt; table.remove(b"N0".as_slice()));
+    for number in 1..MOST {
+        let name = name_of(rt.alloc(), number)?;
+        assert_eq!(rt;
+            table.find(name.as_bytes()).map(|id| id.index()),
+            Some(number - 1)
+        );
+    }
+    Ok(())
+}
+
+// How many formals a macro has of which these have more than 65,536 bytes.
+const WIDE: usize = 100;
+
+// The default text of the formal of a number, in the macro of a number: about 1,000 bytes.
+fn wide_text(alloc: Global, made: usize, number: usize) -> Result<String, AllocError> {
+    format!(in alloc; "{made}.{number}.{made:0>990}")
+}
+
+// Defines the macro of a number, with formals that have more than 65,536 bytes.
+fn define_wide<R: Abort + AllocGlobal>(
+    rt: &R,
+    table: &mut Table,
+    made: usize,
+) -> Result<(), AllocError> {
+    let mut text = Vec::from_slice(rt.alloc(), name_of(rt.alloc(), made)?.as_bytes())?;
+    for number in 0..WIDE {
+        text.push(if number == 0 { b'(' } else { b',' })?;
+        text.extend_from_slice(name_of(rt.alloc(), number)?.as_bytes())?;
+        text.push(b'=')?;
+        text.extend_from_slice(wide_text(rt.alloc(), made, number)?.as_bytes())?;
+    }
+    text.push(b')')?;
+    match logical_line(&text) {
+        None => assert_eq!(rt; kind(table.read_define(&text)), None),
+        Some(_) => panic!(rt; "a line ends"),
+    }
+    Ok(())
+}
+
+// Each formal of the macro of a number is found, with its default text.
+fn expect_wide<R: Abort + AllocGlobal>(
+    rt: &R,
+    table: &Table,
+    made: usize,
+) -> Result<(), AllocError> {
+    let Some(id) = table.find(name_of(rt.alloc(), made)?.as_bytes()) else {
+        panic!(rt; "no macro of the number {made}");
+    };
+    for number in 0..WIDE {
+        let name = name_of(rt.alloc(), number)?;
+        assert_eq!(rt; table.formal(id, name.as_bytes()), Some(number));
+        if number < table.arity(id).unwrap_or(0) {
+            assert_eq!(rt;
+                table.default_text(id, number),
+                wide_text(rt.alloc(), made, number)?.as_bytes()
+            );
+        }
+    }
+    assert_eq!(rt; table.arity(id), Some(WIDE));
+    Ok(())
+}
+
+#[test]
+fn formals_of_many_bytes_are_found_where_they_begin(rt: HostRuntime) -> Result<(), Fail> {
+    let mut table = table(&rt, 1_048_576, 8);
+    for made in 0..8 {
+        define_wide(&rt, &mut table, made)?;
+    }
+    for gone in [3, 0, 7] {
+        assert!(rt; table.remove(name_of(rt.alloc(), gone)?.as_bytes()));
+        for made in 0..8 {
+            if table.find(name_of(rt.alloc(), made)?.as_bytes()).is_some() {
+                expect_wide(&rt, &table, made)?;
+            }
+        }
+        define_wide(&rt, &mut table, gone)?;
+        expect_wide(&rt, &table, gone)?;
+    }
+    assert_eq!(rt; table.len(), 8);
     Ok(())
 }

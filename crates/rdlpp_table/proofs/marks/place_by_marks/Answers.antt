@@ -1,4 +1,4 @@
-use Rattle.std.proofs.Common.{◌<◌, ◌≤◌, ◌∙◌, List, ℕ, bytes_eq, length, drop, get_or, ap, sym, arith, rules, refl}
+use Rattle.std.proofs.Common.{◌≤◌, ◌∙◌, List, ℕ, bytes_eq, length, drop, ap, sym, arith, rules, refl}
 use Rattle.std.specs.List.{flat_map}
 use Rattle.std.proofs.lemmas.List.{take_rest}
 use Rattle.rdlpp_table.specs.Table.{formal_bytes}
@@ -9,26 +9,27 @@ use Rattle.rdlpp_table.proofs.marks.place_by_marks.Goals as goal
 pub loop-place-init : goal.loop-place-init
 loop-place-init c = start_listed _ _ _ _ c.requires.listed
 
+pub mark_at-requires : goal.mark_at-requires
+mark_at-requires c = omega (arith, count_marks _ _ _ c.requires.listed c.requires.marked)
+
 pub slice_bounds-is_named-count : goal.slice_bounds-is_named-count
-slice_bounds-is_named-count c = mark_inside _ _ _ c.loop-place.place c.requires.listed c.requires.marked (omega arith)
+slice_bounds-is_named-count c = omega (arith, c.mark_at.ensures, mark_inside _ _ _ c.loop-place.place c.requires.listed c.requires.marked (omega arith))
 
 pub slice_bounds-is_named-start : goal.slice_bounds-is_named-start
 slice_bounds-is_named-start c =
-    let h : get_or c.args.marks.now c.loop-place.place 0 ≤ length c.args.list.now = mark_inside _ _ _ c.loop-place.place c.requires.listed c.requires.marked (omega arith) in
+    let h : c.mark_at.result ≤ length c.args.list.now = omega (arith, c.mark_at.ensures, mark_inside _ _ _ c.loop-place.place c.requires.listed c.requires.marked (omega arith)) in
     search rules
 
 pub returns-then-is_named : goal.returns-then-is_named
 returns-then-is_named c =
     let rest : List ℕ = flat_map formal_bytes (drop c.loop-place.place (formals_read c.args.count c.args.list.now)) in
-    let place : c.loop-place.place < c.args.count = omega (arith, count_marks _ _ _ c.requires.listed c.requires.marked) in
-    let here = bytes_from _ _ _ _ c.loop-place.place c.requires.listed c.requires.marked (omega arith) (take_rest c.args.list.now (get_or c.args.marks.now c.loop-place.place 0)) in
-    reached_found _ _ rest _ c.args.count c.loop-place.place place c.loop-place.invariant refl (ap (λ (l : List ℕ). bytes_eq (formal_read l).formal.name c.args.name.now) (sym here) ∙ (sym c.is_named.ensures ∙ c.if-is_named.true))
+    let here = bytes_from _ _ _ _ c.loop-place.place c.requires.listed c.requires.marked (omega arith) (take_rest c.args.list.now c.mark_at.result ∙ ap (λ (n : ℕ). drop n c.args.list.now) c.mark_at.ensures) in
+    reached_found _ _ rest _ c.args.count c.loop-place.place (omega arith) c.loop-place.invariant refl (ap (λ (l : List ℕ). bytes_eq (formal_read l).formal.name c.args.name.now) (sym here) ∙ (sym c.is_named.ensures ∙ c.if-is_named.true))
 
 pub loop-place-preserved : goal.loop-place-preserved
 loop-place-preserved c =
-    let place : c.loop-place.place < c.args.count = omega (arith, count_marks _ _ _ c.requires.listed c.requires.marked) in
-    let here = bytes_from _ _ _ _ c.loop-place.place c.requires.listed c.requires.marked (omega arith) (take_rest c.args.list.now (get_or c.args.marks.now c.loop-place.place 0)) in
-    passed_at _ _ _ _ c.loop-place.place c.requires.listed place c.loop-place.invariant (ap (λ (l : List ℕ). bytes_eq (formal_read l).formal.name c.args.name.now) (sym here) ∙ (sym c.is_named.ensures ∙ c.if-is_named.false))
+    let here = bytes_from _ _ _ _ c.loop-place.place c.requires.listed c.requires.marked (omega arith) (take_rest c.args.list.now c.mark_at.result ∙ ap (λ (n : ℕ). drop n c.args.list.now) c.mark_at.ensures) in
+    passed_at _ _ _ _ c.loop-place.place c.requires.listed (omega arith) c.loop-place.invariant (ap (λ (l : List ℕ). bytes_eq (formal_read l).formal.name c.args.name.now) (sym here) ∙ (sym c.is_named.ensures ∙ c.if-is_named.false))
 
 pub returns : goal.returns
-returns c = reached_none _ _ _ c.args.count c.loop-place.place (omega (arith, count_marks _ _ _ c.requires.listed c.requires.marked)) c.loop-place.invariant
+returns c = reached_none _ _ _ c.args.count c.loop-place.place (omega arith) c.loop-place.invariant

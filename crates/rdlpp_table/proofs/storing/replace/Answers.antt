@@ -26,7 +26,7 @@ enter-requires-clause-room c =
 pub enter-requires-clause-place : goal.enter-requires-clause-place
 enter-requires-clause-place c =
     let n : c.len.result - c.take_out_named-gap.new.front.entries ≡ length (drop c.take_out_named-gap.new.front.entries c.take_out_named-gap.new.entries.items) = omega (arith, c.len.ensures, live_count c.take_out_named-gap.new.front.entries c.take_out_named-gap.new.entries) in
-    omega (arith, n, few_left _ _ (drop c.args.front.now.entries c.args.entries.now.items) _ _ c.take_out_named-gap.ensures.stored c.requires.few)
+    omega (arith, n, stored_count _ _ _ c.take_out_named-gap.ensures.stored, c.requires.entry_room, c.requires.places)
 
 pub begin_later-requires-clause-few : goal.begin_later-requires-clause-few
 begin_later-requires-clause-few c =

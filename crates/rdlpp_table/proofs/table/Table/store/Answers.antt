@@ -47,6 +47,9 @@ pub replace-requires-clause-small : goal.replace-requires-clause-small
 replace-requires-clause-small c =
     omega (arith, c.rest-rest.ensures.size, c.saturating_add.ensures, c.saturating_add-size.ensures, c.self.invariant.small, ap (λ (v : TableView). v.most_bytes) c.self.view_is)
 
+pub replace-requires-clause-places : goal.replace-requires-clause-places
+replace-requires-clause-places c = omega (arith, c.self.invariant.entry_room, c.self.invariant.few)
+
 pub replace-requires-clause-index_room : goal.replace-requires-clause-index_room
 replace-requires-clause-index_room c =
     let same : table_size (without c.args.new.now.name.now (macros_in c.self.inside.bytes.items (drop c.self.inside.front.entries c.self.inside.entries.items))) ≡ table_size (without c.args.new.now.name.now c.args.self.now.macros) = ap (λ (v : TableView). table_size (without c.args.new.now.name.now v.macros)) c.self.view_is in
