@@ -1,5 +1,5 @@
 -- The slots of open texts and the ranges that they have bound, as a call is bound and its body opens.
-use Rattle.std.proofs.Common.{◌≡◌, ℕ, ◌+◌, ◌-◌, ◌*◌, ◌<◌, ◌≤◌, List, [], ◌∷◌, ◌++◌, map, length, take, drop, get_or, refl, sym, ap, subst, ◌∙◌, arith, Global, Option, None, Some, unwrap_or, Ok, Err}
+use Rattle.std.proofs.Common.{◌≡◌, ℕ, ◌+◌, ◌*◌, ◌<◌, ◌≤◌, List, [], ◌∷◌, ◌++◌, map, length, take, drop, get_or, refl, sym, ap, subst, ◌∙◌, arith, Global, Option, None, Some, unwrap_or, Ok, Err}
 use Rattle.std.specs.Prelude.{vec_capacity, vec_len, Vec, Result}
 use Rattle.std.specs.Option.{option_map}
 use Rattle.std.proofs.lemmas.List.{length-append, length-drop}
@@ -19,10 +19,10 @@ use Rattle.rdlpp_texts.specs.declared.slot.Slot.{Slot}
 use Rattle.rdlpp_texts.specs.declared.slot.SlotKind.TheVariants as slot
 use Rattle.rdlpp_texts.specs.declared.cursors.call.Opening.TheVariants.{Opened, Refused, Deep}
 use Rattle.rdlpp_texts.specs.Calls.{IsCallBound, IsOpening}
-use Rattle.rdlpp_texts.specs.Opened.{opens_of, AreBounded, AreLaid, IsStack, moved_to, CursorsView}
+use Rattle.rdlpp_texts.specs.Opened.{opens_of, AreBounded, AreLaid, IsFree, IsStack, moved_to, CursorsView}
 use Rattle.rdlpp_texts.proofs.Bounding.{more-bounded, moved-on, IsBoundedOn}
 use Rattle.rdlpp_texts.proofs.Keeping.{at-each}
-use Rattle.rdlpp_texts.proofs.Stacking.{entered, laid-few, moved-opens, open-count, stack-moved}
+use Rattle.rdlpp_texts.proofs.Stacking.{entered, laid-few, moved-opens, stack-moved}
 
 -- how many formals a macro has, whether it has a list or not
 pub arity-count : (formals : Option (List Formal)) → unwrap_or (option_map (λ (fs : List Formal). length fs) formals) 0 ≡ length (unwrap_or formals [])
@@ -39,49 +39,56 @@ drop-few : (slots : List Slot) (first : ℕ) (size : ℕ) → size ≤ 255 * len
 drop-few slots first size h inside = let n = length-drop first slots in omega (arith, h, n, inside)
 
 -- there is room for the ranges of one call more
-pub call-room : (slots : List Slot) (first n : ℕ) (bindings : Vec Range Global) → IsStack slots first bindings → n ≤ 255
+pub call-room : (slots : List Slot) (memory depth first n : ℕ) (bindings : Vec Range Global) → IsStack slots memory depth first bindings → n ≤ 255
     → vec_len bindings + n ≤ vec_capacity bindings
-call-room slots first n bindings h few =
+call-room slots memory depth first n bindings h few =
     let room = h.room in
+    let most = h.few in
     let size = count_items bindings in
     let all = drop-few slots first (length bindings.items) (laid-few (drop first slots) bindings.items h.laid) h.inside in
-    omega (arith, room, size, all, few)
+    omega (arith, room, most, size, all, few)
 
 -- a slot for the body of a macro whose ranges stand behind so many
 abbrev pub body-slot : ℕ → ℕ → ℕ → ℕ → Bounds → Slot
 body-slot id end home n bounds = record { from = 0; end = end; home = home; kind = slot.Body id n; bounds = bounds }
 
 -- the open texts where a body is opened whose call has bound ranges
-pub entered-opens : (slots : List Slot) (first : ℕ) (bindings more new : List Range) (id end home n : ℕ) (bounds : Bounds) → 0 < first → first ≤ length slots → n ≡ length bindings → new ≡ bindings ++ more
-    → opens_of (drop (first - 1) (set slots (first - 1) (body-slot id end home n bounds))) new
+pub entered-opens : (slots wide : List Slot) (depth first place : ℕ) (bindings more new : List Range) (id end home n : ℕ) (bounds : Bounds) → IsFree slots wide depth first place
+    → n ≡ length bindings → new ≡ bindings ++ more
+    → opens_of (drop place (set wide place (body-slot id end home n bounds))) new
     ≡ record { part = record { from = 0; end = end; mode = Plain }; home = home; kind = OpenBody id (map range_part more) } ∷ opens_of (drop first slots) bindings
 unfolding opens_of
-entered-opens slots first bindings more new id end home n bounds some inside is whole =
+entered-opens slots wide depth first place bindings more new id end home n bounds free is whole =
     let body : List Range → List Open → List Open = λ bs os. record { part = record { from = 0; end = end; mode = Plain }; home = home; kind = OpenBody id (map range_part bs) } ∷ os in
-    ap (λ (bs : List Range). opens_of (drop (first - 1) (set slots (first - 1) (body-slot id end home n bounds))) bs) whole
-    ∙ ap (λ (s : List Slot). opens_of s (bindings ++ more)) (entered slots first (body-slot id end home n bounds) some inside)
+    ap (λ (bs : List Range). opens_of (drop place (set wide place (body-slot id end home n bounds))) bs) whole
+    ∙ ap (λ (s : List Slot). opens_of s (bindings ++ more)) (entered slots wide depth first place (body-slot id end home n bounds) free)
     ∙ ap (λ (k : ℕ). body (drop k (bindings ++ more)) (opens_of (drop first slots) (take k (bindings ++ more)))) is
     ∙ ap (λ (bs : List Range). body bs (opens_of (drop first slots) (take (length bindings) (bindings ++ more)))) (drop-append_seam bindings more)
     ∙ ap (λ (bs : List Range). body more (opens_of (drop first slots) bs)) (take-append_seam bindings more)
 
 -- they lie as slots do
-entered-laid : (slots : List Slot) (first : ℕ) (bindings more : List Range) (id end home n : ℕ) (bounds : Bounds) → 0 < first → first ≤ length slots → n ≡ length bindings → length more ≤ 255
-    → AreLaid (drop first slots) bindings → AreLaid (drop (first - 1) (set slots (first - 1) (body-slot id end home n bounds))) (bindings ++ more)
+entered-laid : (slots wide : List Slot) (depth first place : ℕ) (bindings more : List Range) (id end home n : ℕ) (bounds : Bounds) → IsFree slots wide depth first place
+    → n ≡ length bindings → length more ≤ 255
+    → AreLaid (drop first slots) bindings → AreLaid (drop place (set wide place (body-slot id end home n bounds))) (bindings ++ more)
 unfolding AreLaid
-entered-laid slots first bindings more id end home n bounds some inside is few laid =
+entered-laid slots wide depth first place bindings more id end home n bounds free is few laid =
     let less = laid-few (drop first slots) bindings laid in
     let both = length-append bindings more in
     let front : take n (bindings ++ more) ≡ bindings = ap (λ (k : ℕ). take k (bindings ++ more)) is ∙ take-append_seam bindings more in
-    subst (λ (s : List Slot). AreLaid s (bindings ++ more)) (sym (entered slots first (body-slot id end home n bounds) some inside))
+    subst (λ (s : List Slot). AreLaid s (bindings ++ more)) (sym (entered slots wide depth first place (body-slot id end home n bounds) free))
     (omega (arith, less, both, few), subst (λ (bs : List Range). AreLaid (drop first slots) bs) (sym front) laid)
 
 -- and are so with their room
-pub stack-entered : (slots : List Slot) (first : ℕ) (bindings new : Vec Range Global) (more : List Range) (id end home n m : ℕ) (bounds : Bounds) → 0 < first → n ≡ vec_len bindings → m ≤ 255
+pub stack-entered : (slots wide : List Slot) (memory same_memory depth first place : ℕ) (bindings new : Vec Range Global) (more : List Range) (id end home n m : ℕ) (bounds : Bounds)
+    → IsFree slots wide depth first place → same_memory ≡ memory → n ≡ vec_len bindings → m ≤ 255
     → vec_len new ≤ vec_len bindings + m → new.items ≡ bindings.items ++ more → vec_capacity new ≡ vec_capacity bindings
-    → IsBoundedOn (body-slot id end home n bounds) (drop first slots) → IsStack slots first bindings → IsStack (set slots (first - 1) (body-slot id end home n bounds)) (first - 1) new
-stack-entered slots first bindings new more id end home n m bounds some is few size whole same own h =
-    let one = length-set slots (first - 1) (body-slot id end home n bounds) in
-    let inside = h.inside in
+    → IsBoundedOn (body-slot id end home n bounds) (drop first slots) → IsStack slots memory depth first bindings
+    → IsStack (set wide place (body-slot id end home n bounds)) same_memory depth place new
+stack-entered slots wide memory same_memory depth first place bindings new more id end home n m bounds free kept is few size whole same own h =
+    let one = length-set wide place (body-slot id end home n bounds) in
+    let inside = free.inside in
+    let wide_few = free.few in
+    let reserved = h.reserved in
     let room = h.room in
     let old_n = count_items bindings in
     let new_n = count_items new in
@@ -90,36 +97,39 @@ stack-entered slots first bindings new more id end home n m bounds some is few s
     let most : length more ≤ 255 = omega (arith, old_n, new_n, both, all, size, few) in
     record {
       inside = omega (arith, one, inside);
-      laid = subst (λ (bs : List Range). AreLaid (drop (first - 1) (set slots (first - 1) (body-slot id end home n bounds))) bs) (sym whole)
-          (entered-laid slots first bindings.items more id end home n bounds some inside (is ∙ old_n) most h.laid);
-      bounded = subst (λ (s : List Slot). AreBounded s) (sym (entered slots first (body-slot id end home n bounds) some inside)) (more-bounded (body-slot id end home n bounds) (drop first slots) own h.bounded);
-      room = omega (arith, one, room, same);
+      few = omega (arith, one, wide_few);
+      reserved = omega (arith, kept, reserved);
+      laid = subst (λ (bs : List Range). AreLaid (drop place (set wide place (body-slot id end home n bounds))) bs) (sym whole)
+          (entered-laid slots wide depth first place bindings.items more id end home n bounds free (is ∙ old_n) most h.laid);
+      bounded = subst (λ (s : List Slot). AreBounded s) (sym (entered slots wide depth first place (body-slot id end home n bounds) free)) (more-bounded (body-slot id end home n bounds) (drop first slots) own h.bounded);
+      room = omega (arith, room, same);
     }
 
--- the slots where the innermost goes on at a place and the body of a call is opened
-abbrev pub called : List Slot → ℕ → ℕ → Slot → Slot → List Slot
-called slots first behind own new = set (set slots first (record own { from = behind })) (first - 1) new
+-- the slots where the innermost goes on at a place
+abbrev pub moved : List Slot → ℕ → ℕ → Slot → List Slot
+moved slots first behind own = set slots first (record own { from = behind })
 
--- the open texts then
-pub called-opens : (slots : List Slot) (first behind : ℕ) (bindings more new : List Range) (own : Slot) (id end home n : ℕ) (bounds : Bounds) → 0 < first → first < length slots
+-- the open texts where the body of a call is opened then
+pub called-opens : (slots wide : List Slot) (depth first place behind : ℕ) (bindings more new : List Range) (own : Slot) (id end home n : ℕ) (bounds : Bounds)
+    → IsFree (moved slots first behind own) wide depth first place → first < length slots
     → own ≡ get_or slots first own → n ≡ length bindings → new ≡ bindings ++ more
-    → opens_of (drop (first - 1) (called slots first behind own (body-slot id end home n bounds))) new
+    → opens_of (drop place (set wide place (body-slot id end home n bounds))) new
     ≡ record { part = record { from = 0; end = end; mode = Plain }; home = home; kind = OpenBody id (map range_part more) } ∷ moved_to behind (opens_of (drop first slots) bindings)
-called-opens slots first behind bindings more new own id end home n bounds some inside e is whole =
-    let moved = set slots first (record own { from = behind }) in
-    let size = length-set slots first (record own { from = behind }) in
-    entered-opens moved first bindings more new id end home n bounds some (omega (arith, size, inside)) is whole
+called-opens slots wide depth first place behind bindings more new own id end home n bounds free inside e is whole =
+    entered-opens (moved slots first behind own) wide depth first place bindings more new id end home n bounds free is whole
     ∙ ap (λ (os : List Open). record { part = record { from = 0; end = end; mode = Plain }; home = home; kind = OpenBody id (map range_part more) } ∷ os)
     (moved-opens slots first behind bindings own inside e)
 
 -- they lie as slots do, with their room
-pub stack-called : (slots : List Slot) (first behind : ℕ) (bindings new : Vec Range Global) (more : List Range) (own : Slot) (id end home n m : ℕ) (bounds : Bounds) → (first ≡ 0 → ⊥) → first < length slots
+pub stack-called : (slots wide : List Slot) (memory same_memory depth first place behind : ℕ) (bindings new : Vec Range Global) (more : List Range) (own : Slot) (id end home n m : ℕ) (bounds : Bounds)
+    → IsFree (moved slots first behind own) wide depth first place → same_memory ≡ memory → first < length slots
     → own ≡ get_or slots first own → n ≡ vec_len bindings → m ≤ 255 → vec_len new ≤ vec_len bindings + m
     → new.items ≡ bindings.items ++ more → vec_capacity new ≡ vec_capacity bindings
-    → IsBoundedOn (body-slot id end home n bounds) (drop first slots) → IsStack slots first bindings → IsStack (called slots first behind own (body-slot id end home n bounds)) (first - 1) new
-stack-called slots first behind bindings new more own id end home n m bounds some inside e is few size whole same on h =
-    stack-entered (set slots first (record own { from = behind })) first bindings new more id end home n m bounds (omega (arith, some)) is few size whole same
-    (moved-on (body-slot id end home n bounds) slots first behind own inside e on) (stack-moved slots first behind bindings own inside e h)
+    → IsBoundedOn (body-slot id end home n bounds) (drop first slots) → IsStack slots memory depth first bindings
+    → IsStack (set wide place (body-slot id end home n bounds)) same_memory depth place new
+stack-called slots wide memory same_memory depth first place behind bindings new more own id end home n m bounds free kept inside e is few size whole same on h =
+    stack-entered (moved slots first behind own) wide memory same_memory depth first place bindings new more id end home n m bounds free kept is few size whole same
+    (moved-on (body-slot id end home n bounds) slots first behind own inside e on) (stack-moved slots memory depth first behind bindings own inside e h)
 
 -- a call that is refused
 pub opening-refused : (macros : List Macro) (text : List ℕ) (at end id home n : ℕ) (old new : CursorsView) (ranges : List Range) (kind : FaultKind) (r : Result ℕ FaultKind)
@@ -146,20 +156,6 @@ pub opening-deep : (macros : List Macro) (text : List ℕ) (at end id home : ℕ
     → IsOpening macros text at end id home old Deep new
 unfolding IsOpening
 opening-deep macros text at end id home old new call is deep = (is, (deep, call))
-
--- no further text may be open where the first slot is
-pub all-open : (v : Vec Slot Global) (first : ℕ) (bindings : List Range) → first ≡ 0 → vec_len v ≤ length (opens_of (drop first v.items) bindings)
-all-open v first bindings none =
-    let n = count_items v in
-    let h = open-count v.items first bindings in
-    omega (arith, n, h, none)
-
--- one more may be where another slot is in front
-pub room-open : (v : Vec Slot Global) (first : ℕ) (bindings : List Range) → (first ≡ 0 → ⊥) → first < length v.items → length (opens_of (drop first v.items) bindings) < vec_len v
-room-open v first bindings some inside =
-    let n = count_items v in
-    let h = open-count v.items first bindings in
-    omega (arith, n, h, some, inside)
 
 -- a call that is bound opens its body
 pub opening-opened : (macros : List Macro) (text body : List ℕ) (at end id home n : ℕ) (old new : CursorsView) (ranges : List Range) (behind : ℕ) (r : Result ℕ FaultKind)

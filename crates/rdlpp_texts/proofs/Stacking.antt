@@ -12,7 +12,7 @@ use Rattle.rdlpp_table.proofs.Sizes.{count_items}
 use Rattle.rdlpp_texts.specs.declared.slot.Slot.{Slot}
 use Rattle.rdlpp_texts.specs.declared.slot.SlotKind.{SlotKind}
 use Rattle.rdlpp_texts.specs.declared.slot.SlotKind.TheVariants as slot
-use Rattle.rdlpp_texts.specs.Opened.{bindings_below, open_of, opens_of, AreLaid, IsStack, bound_by, moved_to, kept_by, IsNoBody, CursorsView, AreBounded}
+use Rattle.rdlpp_texts.specs.Opened.{bindings_below, open_of, opens_of, AreLaid, IsFree, IsStack, bound_by, moved_to, kept_by, IsNoBody, CursorsView, AreBounded}
 use Rattle.rdlpp_texts.specs.declared.slot.Bounds.{Bounds}
 use Rattle.rdlpp_texts.proofs.Bounding.{closed-bounded, more-bounded, moved-bounded, none-bounded, slots-at, IsBoundedOn}
 use Rattle.rdlpp_texts.proofs.Scoping.{opens-length}
@@ -55,15 +55,14 @@ laid-bound (y ∷ ys) bindings h = by y.kind (laid-bound ys (bindings_below y.ki
     by slot.Actual e = omega (arith, e)
     by (slot.Default id place) e = omega (arith, e)
 
--- no more ranges are bound than the slots have room for
-pub bound-few : (v : Vec Slot Global) (first : ℕ) (bindings : List Range) → AreLaid (drop first v.items) bindings
-    → bound_by (opens_of (drop first v.items) bindings) ≤ vec_len v * 255
-bound-few v first bindings laid =
-    let n = count_items v in
-    let few = laid-few (drop first v.items) bindings laid in
-    let bound = laid-bound (drop first v.items) bindings laid in
-    let short = length-drop first v.items in
-    omega (arith, n, few, bound, short)
+-- no more ranges are bound than there is room for
+pub bound-few : (slots : List Slot) (depth first : ℕ) (bindings : List Range) → length slots ≤ depth → AreLaid (drop first slots) bindings
+    → bound_by (opens_of (drop first slots) bindings) ≤ depth * 255
+bound-few slots depth first bindings most laid =
+    let few = laid-few (drop first slots) bindings laid in
+    let bound = laid-bound (drop first slots) bindings laid in
+    let short = length-drop first slots in
+    omega (arith, most, few, bound, short)
 
 -- the ranges that are kept where a slot is closed
 pub kept-below : (kind : SlotKind) (bindings : List Range) → take (kept_by kind (length bindings)) bindings ≡ bindings_below kind bindings
@@ -106,18 +105,15 @@ moved-laid slots first at bindings own inside e laid =
     subst (λ (s : List Slot). AreLaid s bindings) (sym (drop-set slots first (record own { from = at }) inside)) both
 
 -- the slots where one more is opened
-pub entered : (slots : List Slot) (first : ℕ) (new : Slot) → 0 < first → first ≤ length slots → drop (first - 1) (set slots (first - 1) new) ≡ new ∷ drop first slots
-entered slots first new some inside =
-    let more : first - 1 < length slots = omega (arith, some, inside) in
-    let back : first - 1 + 1 ≡ first = omega (arith, some) in
-    drop-set slots (first - 1) new more ∙ ap (λ k. new ∷ drop k slots) back
+pub entered : (slots wide : List Slot) (depth first place : ℕ) (new : Slot) → IsFree slots wide depth first place → drop place (set wide place new) ≡ new ∷ drop first slots
+entered slots wide depth first place new free = drop-set wide place new free.inside ∙ ap (λ (s : List Slot). new ∷ s) free.kept
 
 -- the open texts where one more is opened that is no body
-pub pushed-opens : (slots : List Slot) (first : ℕ) (bindings : List Range) (new : Slot) → 0 < first → first ≤ length slots → IsNoBody new.kind
-    → opens_of (drop (first - 1) (set slots (first - 1) new)) bindings ≡ open_of new [] ∷ opens_of (drop first slots) bindings
+pub pushed-opens : (slots wide : List Slot) (depth first place : ℕ) (bindings : List Range) (new : Slot) → IsFree slots wide depth first place → IsNoBody new.kind
+    → opens_of (drop place (set wide place new)) bindings ≡ open_of new [] ∷ opens_of (drop first slots) bindings
 unfolding opens_of
-pushed-opens slots first bindings new some inside nobody =
-    ap (λ (s : List Slot). opens_of s bindings) (entered slots first new some inside) ∙ by new.kind nobody
+pushed-opens slots wide depth first place bindings new free nobody =
+    ap (λ (s : List Slot). opens_of s bindings) (entered slots wide depth first place new free) ∙ by new.kind nobody
   where
     by : (kind : SlotKind) → IsNoBody kind
         → open_of (record new { kind = kind }) bindings ∷ opens_of (drop first slots) (bindings_below kind bindings)
@@ -127,13 +123,13 @@ pushed-opens slots first bindings new some inside nobody =
     by (slot.Default id place) nobody = refl
 
 -- a text that is opened and binds nothing
-pub pushed-laid : (slots : List Slot) (first : ℕ) (bindings : List Range) (new : Slot) → 0 < first → first ≤ length slots
+pub pushed-laid : (slots wide : List Slot) (depth first place : ℕ) (bindings : List Range) (new : Slot) → IsFree slots wide depth first place
     → bindings_below new.kind bindings ≡ bindings → AreLaid (drop first slots) bindings
-    → AreLaid (drop (first - 1) (set slots (first - 1) new)) bindings
+    → AreLaid (drop place (set wide place new)) bindings
 unfolding AreLaid
-pushed-laid slots first bindings new some inside same laid =
+pushed-laid slots wide depth first place bindings new free same laid =
     let few = laid-few (drop first slots) bindings laid in
-    subst (λ (s : List Slot). AreLaid s bindings) (sym (entered slots first new some inside))
+    subst (λ (s : List Slot). AreLaid s bindings) (sym (entered slots wide depth first place new free))
     (omega (arith, few), subst (λ (bs : List Range). AreLaid (drop first slots) bs) (sym same) laid)
 
 -- what is no body binds nothing
@@ -143,12 +139,12 @@ no-body_below slot.Actual bindings nobody = refl
 no-body_below (slot.Default id place) bindings nobody = refl
 
 -- the open texts where a body is opened whose call binds nothing
-pub body-opens : (slots : List Slot) (first : ℕ) (bindings : List Range) (id end home n : ℕ) (bounds : Bounds) → 0 < first → first ≤ length slots → n ≡ length bindings
-    → opens_of (drop (first - 1) (set slots (first - 1) (record { from = 0; end = end; home = home; kind = slot.Body id n; bounds = bounds }))) bindings
+pub body-opens : (slots wide : List Slot) (depth first place : ℕ) (bindings : List Range) (id end home n : ℕ) (bounds : Bounds) → IsFree slots wide depth first place → n ≡ length bindings
+    → opens_of (drop place (set wide place (record { from = 0; end = end; home = home; kind = slot.Body id n; bounds = bounds }))) bindings
     ≡ record { part = record { from = 0; end = end; mode = Plain }; home = home; kind = OpenBody id [] } ∷ opens_of (drop first slots) bindings
 unfolding opens_of
-body-opens slots first bindings id end home n bounds some inside e =
-    ap (λ (s : List Slot). opens_of s bindings) (entered slots first (record { from = 0; end = end; home = home; kind = slot.Body id n; bounds = bounds }) some inside)
+body-opens slots wide depth first place bindings id end home n bounds free e =
+    ap (λ (s : List Slot). opens_of s bindings) (entered slots wide depth first place (record { from = 0; end = end; home = home; kind = slot.Body id n; bounds = bounds }) free)
     ∙ ap (λ (bs : List Range). record { part = record { from = 0; end = end; mode = Plain }; home = home; kind = OpenBody id (map range_part bs) } ∷ opens_of (drop first slots) (take n bindings))
     (drop_all n bindings (omega (arith, e)))
     ∙ ap (λ (bs : List Range). record { part = record { from = 0; end = end; mode = Plain }; home = home; kind = OpenBody id [] } ∷ opens_of (drop first slots) bs)
@@ -166,85 +162,87 @@ view-is xs ys line depth own e d = ap (λ (o : List Open). made_view o line dept
 pub first-inside : (v : Vec Slot Global) (first : ℕ) (bindings : List Range) → 0 < length (opens_of (drop first v.items) bindings) → first < vec_len v
 first-inside v first bindings some = let n = count_items v in let h = some-open v.items first bindings some in omega (arith, n, h)
 
--- where there is room some slot stands in front of the open ones
-pub room-first : (v : Vec Slot Global) (first : ℕ) (bindings : List Range) → first ≤ length v.items → length (opens_of (drop first v.items) bindings) < vec_len v → 0 < first
-room-first v first bindings inside room =
+-- where fewer texts are open than may be there is room
+pub room-first : (v : Vec Slot Global) (depth first : ℕ) (bindings : List Range) → length (opens_of (drop first v.items) bindings) < depth → vec_len v < first + depth
+room-first v depth first bindings room =
     let n = count_items v in
     let h = open-count v.items first bindings in
-    omega (arith, n, h, inside, room)
+    omega (arith, n, h, room)
 
 -- slots of which none is open
-pub stack-made : (v : Vec Slot Global) (first : ℕ) (bindings : Vec Range Global) → vec_len v ≡ first → bindings.items ≡ [] → vec_capacity bindings ≡ (first + 1) * 255
-    → IsStack v.items first bindings
+pub stack-made : (v : Vec Slot Global) (depth first : ℕ) (bindings : Vec Range Global) → vec_len v ≡ first → first ≤ depth → depth ≤ vec_capacity v → bindings.items ≡ []
+    → vec_capacity bindings ≡ (depth + 1) * 255 → IsStack v.items (vec_capacity v) depth first bindings
 unfolding AreLaid
-stack-made v first bindings size none room =
+stack-made v depth first bindings size few memory none room =
     let n = count_items v in
     record {
       inside = omega (arith, n, size);
+      few = omega (arith, n, size, few);
+      reserved = memory;
       laid = subst (λ (s : List Slot). AreLaid s bindings.items) (sym (drop_all first v.items (omega (arith, n, size)))) (ap (λ (bs : List Range). length bs) none);
       bounded = subst (λ (s : List Slot). AreBounded s) (sym (drop_all first v.items (omega (arith, n, size)))) none-bounded;
-      room = omega (arith, n, size, room);
+      room = omega (arith, room);
     }
 
 -- the slots where the innermost goes on at a place
-pub stack-moved : (slots : List Slot) (first at : ℕ) (bindings : Vec Range Global) (own : Slot) → first < length slots → own ≡ get_or slots first own
-    → IsStack slots first bindings → IsStack (set slots first (record own { from = at })) first bindings
-stack-moved slots first at bindings own inside e h =
+pub stack-moved : (slots : List Slot) (memory depth first at : ℕ) (bindings : Vec Range Global) (own : Slot) → first < length slots → own ≡ get_or slots first own
+    → IsStack slots memory depth first bindings → IsStack (set slots first (record own { from = at })) memory depth first bindings
+stack-moved slots memory depth first at bindings own inside e h =
     let n = length-set slots first (record own { from = at }) in
-    let room = h.room in
+    let few = h.few in
     record {
       inside = omega (arith, n, inside);
+      few = omega (arith, n, few);
+      reserved = h.reserved;
       laid = moved-laid slots first at bindings.items own inside e h.laid;
       bounded = moved-bounded slots first at own inside e h.bounded;
-      room = omega (arith, n, room);
+      room = h.room;
     }
 
 -- where it is closed
-pub stack-closed : (slots : List Slot) (first : ℕ) (bindings new : Vec Range Global) (own : Slot) (kept : ℕ) → first < length slots → own ≡ get_or slots first own
+pub stack-closed : (slots : List Slot) (memory depth first : ℕ) (bindings new : Vec Range Global) (own : Slot) (kept : ℕ) → first < length slots → own ≡ get_or slots first own
     → kept ≡ kept_by own.kind (length bindings.items) → new.items ≡ take kept bindings.items → vec_capacity new ≡ vec_capacity bindings
-    → IsStack slots first bindings → IsStack slots (first + 1) new
-stack-closed slots first bindings new own kept inside e k is more h =
+    → IsStack slots memory depth first bindings → IsStack slots memory depth (first + 1) new
+stack-closed slots memory depth first bindings new own kept inside e k is more h =
     let room = h.room in
     record {
       inside = omega (arith, inside);
+      few = h.few;
+      reserved = h.reserved;
       laid = subst (λ (bs : List Range). AreLaid (drop (first + 1) slots) bs) (sym is) (closed-laid slots first bindings.items own kept inside e k h.laid);
       bounded = closed-bounded slots first own inside e h.bounded;
       room = omega (arith, room, more);
     }
 
 -- where one more is opened that binds nothing
-pub stack-pushed : (slots : List Slot) (first : ℕ) (bindings : Vec Range Global) (new : Slot) → 0 < first → bindings_below new.kind bindings.items ≡ bindings.items
-    → IsBoundedOn new (drop first slots) → IsStack slots first bindings → IsStack (set slots (first - 1) new) (first - 1) bindings
-stack-pushed slots first bindings new some same own h =
-    let n = length-set slots (first - 1) new in
-    let inside = h.inside in
-    let room = h.room in
+pub stack-pushed : (slots wide : List Slot) (memory same_memory depth first place : ℕ) (bindings : Vec Range Global) (new : Slot) → IsFree slots wide depth first place → same_memory ≡ memory
+    → bindings_below new.kind bindings.items ≡ bindings.items → IsBoundedOn new (drop first slots) → IsStack slots memory depth first bindings
+    → IsStack (set wide place new) same_memory depth place bindings
+stack-pushed slots wide memory same_memory depth first place bindings new free m same own h =
+    let n = length-set wide place new in
+    let inside = free.inside in
+    let few = free.few in
+    let reserved = h.reserved in
     record {
       inside = omega (arith, n, inside);
-      laid = pushed-laid slots first bindings.items new some inside same h.laid;
-      bounded = subst (λ (s : List Slot). AreBounded s) (sym (entered slots first new some inside)) (more-bounded new (drop first slots) own h.bounded);
-      room = omega (arith, n, room);
+      few = omega (arith, n, few);
+      reserved = omega (arith, m, reserved);
+      laid = pushed-laid slots wide depth first place bindings.items new free same h.laid;
+      bounded = subst (λ (s : List Slot). AreBounded s) (sym (entered slots wide depth first place new free)) (more-bounded new (drop first slots) own h.bounded);
+      room = h.room;
     }
 
--- as many texts are open as there are slots where none is in front of the open ones
-pub full-first : (v : Vec Slot Global) (first : ℕ) (bindings : List Range) → first ≤ length v.items
-    → (first == 0) ≡ nat_le (vec_len v) (length (opens_of (drop first v.items) bindings))
-full-first v first bindings inside =
-    by (first == 0) refl
+-- as many texts are open as may be where no fewer are
+pub full-is : (count depth : ℕ) → count ≤ depth → (count == depth) ≡ nat_le depth count
+full-is count depth few = by (count == depth) refl
   where
-    n : vec_len v ≡ length v.items
-    n = count_items v
-
-    h : length (opens_of (drop first v.items) bindings) ≡ length v.items - first
-    h = open-count v.items first bindings
-
-    by : (none : Bool) → (first == 0) ≡ none → (first == 0) ≡ nat_le (vec_len v) (length (opens_of (drop first v.items) bindings))
+    by : (full : Bool) → (count == depth) ≡ full → (count == depth) ≡ nat_le depth count
     by true e =
-        let zeroth : first ≡ 0 = eqb-true first 0 e in
-        e ∙ sym (le-leb (vec_len v) (length (opens_of (drop first v.items) bindings)) (omega (arith, n, h, zeroth)))
+        let same : count ≡ depth = eqb-true count depth e in
+        e ∙ sym (le-leb depth count (omega (arith, same)))
     by false e =
-        let some : first ≡ 0 → ⊥ = eqb-false first 0 e in
-        e ∙ sym (lt-leb (vec_len v) (length (opens_of (drop first v.items) bindings)) (omega (arith, n, h, some, inside)))
+        let apart : count ≡ depth → ⊥ = eqb-false count depth e in
+        e ∙ sym (lt-leb depth count (omega (arith, apart, few)))
 
 -- the slots from a place on
 pub tail-is : (part items : List Slot) (first : ℕ) → part ≡ items → take (length part - first) (drop first part) ≡ drop first items

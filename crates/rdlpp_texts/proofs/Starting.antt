@@ -1,6 +1,6 @@
 -- A call in a source, whose kept text is bound, opens the body of its macro.
 use Rattle.rdlpp_meaning.specs.Expansion.{is_count, bound_parts}
-use Rattle.std.proofs.Common.{◌≡◌, ℕ, ◌<◌, ◌≤◌, true, false, true≢false, List, [], ◌∷◌, map, length, drop, refl, sym, ap, subst, ◌∙◌, arith, Global}
+use Rattle.std.proofs.Common.{◌≡◌, ℕ, ◌+◌, ◌<◌, true, false, true≢false, List, [], ◌∷◌, map, length, drop, refl, sym, ap, subst, ◌∙◌, arith, Global}
 use Rattle.std.specs.Prelude.{vec_len, Vec}
 use Rattle.std.specs.List.{AllByRecursion}
 use Rattle.std.proofs.lemmas.List.{length-map}
@@ -75,11 +75,11 @@ pub call-dropped : (table : TableView) (arguments : List ℕ) (id : ℕ) (kind :
 call-dropped table arguments id kind old new k dropped same =
     record { kind_is = k; same = same; counted = λ keeps. absurd (true≢false (sym (kept_each (body_tokens arguments) keeps) ∙ dropped)) }
 
--- a slot is in front where none is open and there is room
-pub room-closed : (v : Vec Slot Global) (first : ℕ) (bindings : List Range) → first ≤ length v.items → opens_of (drop first v.items) bindings ≡ [] → 0 < vec_len v → 0 < first
-room-closed v first bindings inside none room =
+-- there is room where no text is open
+pub room-closed : (v : Vec Slot Global) (depth first : ℕ) (bindings : List Range) → opens_of (drop first v.items) bindings ≡ [] → 0 < depth → vec_len v < first + depth
+room-closed v depth first bindings none room =
     let size = ap (λ (os : List Open). length os) none in
-    room-first v first bindings inside (omega (arith, size, room))
+    room-first v depth first bindings (omega (arith, size, room))
 
 -- the body that a call opens where no text was open
 pub started-opens : (table : TableView) (arguments : List ℕ) (id : ℕ) (ranges : List Range) (body : List ℕ) (opens : List Open) → body ≡ (macro_at table.macros id).body → opens ≡ []

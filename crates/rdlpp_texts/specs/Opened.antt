@@ -93,13 +93,22 @@ AreBounded [] = Unit
 AreBounded (slot ∷ below) =
     AllByRecursion (IsWithin slot.bounds) (own_ids (kind_of slot.kind []) (writer_ids (opens_of below []) slot.home)) × AreBounded below
 
--- how the slots and the ranges lie: the open texts stand from `first` on, and there is room for the ranges of one body more than
--- there are slots, since a call is bound before a slot is sought (source: this project's profile)
-pub record IsStack {A : Type 0} (slots : List Slot) (first : ℕ) (bindings : Vec Range A) : Type 0 where
+-- how the slots and the ranges lie: the open texts stand from `first` on, no more slots are made than texts may be open, and there
+-- is memory for so many; and for the ranges of one body more, since a call is bound before a slot is sought (source: this
+-- project's profile)
+pub record IsStack {A : Type 0} (slots : List Slot) (memory depth first : ℕ) (bindings : Vec Range A) : Type 0 where
   pub inside : first ≤ length slots
+  pub few : length slots ≤ depth
+  pub reserved : depth ≤ memory
   pub laid : AreLaid (drop first slots) bindings.items
   pub bounded : AreBounded (drop first slots)
-  pub room : vec_capacity bindings ≡ 255 * (length slots + 1)
+  pub room : vec_capacity bindings ≡ 255 * (depth + 1)
+
+-- a slot may be opened at a place, behind which the slots that are open stand as they did
+pub record IsFree (slots wide : List Slot) (depth first place : ℕ) : Type 0 where
+  pub kept : drop (place + 1) wide ≡ drop first slots
+  pub inside : place < length wide
+  pub few : length wide ≤ depth
 
 -- what is no body
 abbrev pub IsNoBody : SlotKind → Type 0

@@ -21,7 +21,8 @@ use crate::front::{Sight, look_at};
 use crate::guesses::Guesses;
 use crate::place::{TextPlace, TextSource};
 use crate::scopes::{body_bounds, is_spent, scope_bounds};
-use crate::slot::{NO_BOUNDS, Slot, SlotKind};
+use crate::slot::{Slot, SlotKind};
+use crate::slots::{FIRST_SLOTS, free_slot, push_closed};
 use crate::step::CursorStep;
 use rdlpp_table::{MacroId, Table};
 use std::alloc::{AllocError, Global};
@@ -39,9 +40,13 @@ const MOST_BINDINGS: usize = 255;
 // No call but `new` takes memory.
 #[derive(Drop)]
 pub struct Cursors {
+    // the open texts stand at the back, the innermost first; a few slots are made at first, and more where texts need them, in
+    // the memory that is reserved for `depth` of them
     slots: Vec<Slot>,
-    // the open texts stand from here on, the innermost first
+    // the open texts stand from here on
     first: usize,
+    // so many texts may be open
+    depth: usize,
     // the ranges that the calls of the open bodies have bound, those of the innermost last
     bindings: Vec<Range>,
     line: u64,
@@ -49,7 +54,7 @@ pub struct Cursors {
 }
 
 impl Model for Cursors {
-    ghost use Rattle.std.specs.Prelude.{drop, vec_len};
+    ghost use Rattle.std.specs.Prelude.{drop, vec_capacity};
     ghost use Rattle.rdlpp_texts.specs.Opened.{opens_of, CursorsView, IsStack};
 
     ghost Value = { CursorsView };
@@ -57,10 +62,10 @@ impl Model for Cursors {
     ghost view = { λ c. record {
       opens = opens_of (drop c.first c.slots.items) c.bindings.items;
       line = c.line;
-      depth = vec_len c.slots;
+      depth = c.depth;
     } };
 
-    ghost invariant = { λ c. IsStack c.slots.items c.first c.bindings };
+    ghost invariant = { λ c. IsStack c.slots.items (vec_capacity c.slots) c.depth c.first c.bindings };
 }
 
 // How many of so many ranges are kept where a slot is closed.
@@ -79,18 +84,14 @@ impl Cursors {
         requires { depth ≤ 1024 }
         ensures { IfOk result (λ c. c ≡ record { opens = []; line = 0; depth = depth }) }
     {
-        let closed = Slot {
-            from: 0,
-            end: 0,
-            home: 0,
-            kind: SlotKind::Actual,
-            bounds: NO_BOUNDS,
-        };
-        let slots = vec![in alloc; closed; depth]?;
+        let mut slots = Vec::with_capacity(alloc, depth)?;
         let bindings = Vec::with_capacity(alloc, (depth + 1) * MOST_BINDINGS)?;
+        let first = depth.min(FIRST_SLOTS);
+        push_closed(&mut slots, first);
         Ok(Cursors {
             slots,
-            first: depth,
+            first,
+            depth,
             bindings,
             line: 0,
             guesses: Guesses::new(),
@@ -129,11 +130,11 @@ impl Cursors {
         self.bindings.len()
     }
 
-    // Whether as many texts are open as there are slots.
+    // Whether as many texts are open as may be.
     fn is_full(&self) -> bool
         ensures { result ≡ nat_le self.now.depth (length self.now.opens) }
     {
-        self.first == 0
+        self.len() == self.depth
     }
 
     // Closes the innermost text, with the ranges that its call has bound.
@@ -186,8 +187,8 @@ impl Cursors {
         requires room { length self.old.opens < self.old.depth }
         ensures { self.new ≡ record self.old { opens = open_of new [] ∷ self.old.opens } }
     {
-        let first = self.first - 1;
         new.bounds = scope_bounds(&self.slots.as_slice()[self.first..], new.home);
+        let first = free_slot(&mut self.slots, self.first, self.depth);
         self.slots[first] = new;
         self.first = first;
     }
@@ -198,8 +199,8 @@ impl Cursors {
         ensures { self.new ≡ record self.old { opens = record { part = record { from = 0; end = end; mode = Plain }; home = home; kind = OpenBody id [] } ∷ self.old.opens } }
     {
         let bound = self.bindings.len();
-        let first = self.first - 1;
         let bounds = body_bounds(&self.slots.as_slice()[self.first..], home, id);
+        let first = free_slot(&mut self.slots, self.first, self.depth);
         self.slots[first] = Slot {
             from: 0,
             end,

@@ -11,6 +11,7 @@ mod parts;
 mod place;
 mod scopes;
 mod slot;
+mod slots;
 mod step;
 mod tokens;
 

@@ -181,8 +181,8 @@ fn part_by_tokens(text: &[u8], from: usize, closes: bool) -> Part
     }
 }
 
-// Where the last byte that isn't white space ends, of bytes that stand at a place, where such a byte ended at `before` in front of
-// them. It is told from their end: white space there is short.
+// Where the last byte that isn't white space ends, of bytes that stand from a place on; `before` where all of them are white
+// space. They are read from their end, since white space there is short.
 fn last_end(run: &[u8], at: usize, before: usize) -> usize
     requires { at + length run.now < 2 ^ 64 }
     ensures { result ≡ last_end at before run.now }

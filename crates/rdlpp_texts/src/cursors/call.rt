@@ -16,6 +16,7 @@ use crate::cursors::usage::word_of;
 use crate::front::{Front, Look};
 use crate::scopes::body_bounds;
 use crate::slot::{Slot, SlotKind};
+use crate::slots::free_slot;
 use crate::step::{CursorFault, CursorStep, wordless};
 use crate::{bind_call, bind_parts, keeps_each};
 use rdlpp_meaning::FaultKind;
@@ -55,7 +56,7 @@ impl Cursors {
             return Err(FaultKind::ArgumentCount);
         }
         bind_parts(arguments, formals, &mut self.bindings)?;
-        let first = self.first - 1;
+        let first = free_slot(&mut self.slots, self.first, self.depth);
         self.slots[first] = Slot {
             from: 0,
             end: table.body(id).len(),
@@ -134,25 +135,27 @@ impl Cursors {
         let _macros = table.len();
         let formals = table.arity(id).unwrap_or(0);
         let first = self.first;
+        let full = self.is_full();
         let bound = self.bindings.len();
         let bounds = body_bounds(&self.slots.as_slice()[first..], home, id);
         let behind = match bind_call(text, at, end, formals, &mut self.bindings) {
             Ok(behind) => behind,
             Err(kind) => return Opening::Refused(kind),
         };
-        if first == 0 {
+        if full {
             self.bindings.truncate(bound);
             return Opening::Deep;
         }
         self.slots[first].from = behind;
-        self.slots[first - 1] = Slot {
+        let place = free_slot(&mut self.slots, first, self.depth);
+        self.slots[place] = Slot {
             from: 0,
             end: table.body(id).len(),
             home,
             kind: SlotKind::Body { id, first: bound },
             bounds,
         };
-        self.first = first - 1;
+        self.first = place;
         Opening::Opened
     }
 }

@@ -11,7 +11,7 @@ index-requires c = first-inside c.self.inside.slots c.self.inside.first c.self.i
 pub invariant_of-self : goal.invariant_of-self
 invariant_of-self c =
     let some : c.self.inside.first < length c.self.inside.slots.items = some-open c.self.inside.slots.items c.self.inside.first c.self.inside.bindings.items (rw (← c.self.view_is) at c.requires) in
-    stack-closed c.self.inside.slots.items c.self.inside.first c.self.inside.bindings c.truncate.new.self c.index.result.now _ some c.index.ensures
+    stack-closed c.self.inside.slots.items _ _ c.self.inside.first c.self.inside.bindings c.truncate.new.self c.index.result.now _ some c.index.ensures
     (c.kept_by-kept.ensures ∙ ap (λ (n : ℕ). kept_by c.index.result.now.kind n) (c.len.ensures ∙ count_items c.self.inside.bindings))
     c.truncate.ensures.items c.truncate.ensures.capacity c.self.invariant
 

@@ -8,7 +8,7 @@ index_mut-requires c = first-inside c.self.inside.slots c.self.inside.first c.se
 pub invariant_of-self : goal.invariant_of-self
 invariant_of-self c =
     let some : c.self.inside.first < length c.self.inside.slots.items = some-open c.self.inside.slots.items c.self.inside.first c.self.inside.bindings.items (rw (← c.self.view_is) at c.requires) in
-    stack-moved c.self.inside.slots.items c.self.inside.first c.args.at c.self.inside.bindings c.index_mut.result.now some c.index_mut.ensures.value c.self.invariant
+    stack-moved c.self.inside.slots.items _ _ c.self.inside.first c.args.at c.self.inside.bindings c.index_mut.result.now some c.index_mut.ensures.value c.self.invariant
 
 pub returns : goal.returns
 returns c =
