@@ -1,18 +1,11 @@
 -- Steps through skipped text.
-use Rattle.std.proofs.Common.{◌≡◌, ℕ, ◌+◌, ◌-◌, ◌<◌, Bool, true, false, List, [], ◌∷◌, refl, arith, length, take, drop, sym, ap, subst, ◌∙◌}
+use Rattle.std.proofs.Common.{◌≡◌, ℕ, ◌+◌, ◌-◌, ◌<◌, Bool, false, List, length, take, drop, sym, ap, subst, ◌∙◌}
 use Rattle.std.proofs.lemmas.List.{take_rest}
 use Rattle.rdlpp_scan.specs.declared.token.Mode.{Mode}
 use Rattle.rdlpp_scan.specs.declared.token.Mode.TheVariants.{Plain}
 use Rattle.rdlpp_scan.specs.declared.token.Token.{Token}
-use Rattle.rdlpp_scan.specs.Tokens.{first_place, plain_len, stops_plain_text, token_of}
-use Rattle.rdlpp_scan.proofs.Searches.{plain_len-found}
+use Rattle.rdlpp_scan.specs.Tokens.{plain_len, token_of}
 use Rattle.rdlpp_conditions.specs.SkippedText.{IsPassed, IsPassedOnce, OneToken, Onward, stops_at, stops_skipping}
-
--- where plain text stops in front, there is none
-pub stopped_front : (bytes : List ℕ) → stops_plain_text bytes ≡ true → plain_len bytes ≡ 0
-unfolding plain_len first_place
-stopped_front [] stop = refl
-stopped_front (b ∷ bytes) stop = sym (plain_len-found (b ∷ bytes) 0 (omega arith) (λ j lt. absurd (omega (arith, lt))) stop)
 
 -- whether a stretch stops, by the first token
 pub stops_by : (mode : Mode) (bytes : List ℕ) (token : Token) (stops : Bool) → token ≡ token_of mode bytes → stops ≡ stops_skipping token (take token.len bytes) → stops ≡ stops_at mode bytes

@@ -1,7 +1,7 @@
 // The passing of skipped text.
-ghost use Rattle.std.specs.Prelude.{◌≡◌, ◌≤◌, ◌<◌, length, take, drop, true, None, IfSome, IsTrue};
+ghost use Rattle.std.specs.Prelude.{◌≡◌, ◌≤◌, ◌<◌, length, take, drop, true, None, IfSome};
 ghost use Rattle.rdlpp_scan.specs.SourceTokens.{line_ends};
-ghost use Rattle.rdlpp_scan.specs.Tokens.{plain_len, stops_plain_text};
+ghost use Rattle.rdlpp_scan.specs.Tokens.{plain_len};
 ghost use Rattle.rdlpp_conditions.specs.SkippedText.{
   IsPassed,
   IsPassedOnce,
@@ -11,7 +11,7 @@ ghost use Rattle.rdlpp_conditions.specs.SkippedText.{
   stops_skipping,
 };
 
-use rdlpp_scan::{Kind, Mode, Token, byte_at, first_token, line_ends_in, plain_text_len};
+use rdlpp_scan::{Kind, Mode, Token, first_token, line_ends_in, plain_text_len};
 
 /// How much of skipped text was passed.
 #[derive(Clone, Copy, Debug, PartialEq, Eq)]
@@ -99,19 +99,9 @@ fn ordinary_len(mode: Mode, bytes: &[u8]) -> usize
     ensures inside { result ≤ length bytes.now }
 {
     match mode {
-        Mode::Plain if begins_marked(bytes) => 0,
         Mode::Plain => plain_text_len(bytes),
         _ => 0,
     }
-}
-
-// Whether a backquote or a quote stands in front: no ordinary text begins there, which is seen without a search for its end.
-#[tactic(auto, unfolding(rdlpp_scan::specs::Tokens::stops_plain_text))]
-fn begins_marked(bytes: &[u8]) -> bool
-    ensures { IsTrue result → stops_plain_text bytes.now ≡ true }
-{
-    let b = byte_at(bytes, 0);
-    b == b'`' || b == b'"'
 }
 
 // Whether a token with these bytes ends a stretch of skipped text.
