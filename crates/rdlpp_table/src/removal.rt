@@ -107,15 +107,17 @@ fn cover(bytes: &mut Vec<u8>, from: usize, to: usize, size: usize)
     bytes.copy_within(from..to, from + size);
 }
 
-// Takes marks out of the middle: those behind move to the front as one block.
+// Takes marks out of the middle: those behind move to the front as one block. Most macros have none, and then nothing moves.
 fn cut_marks(order: &mut Vec<u16>, from: usize, to: usize)
     requires { (from ≤ to) × (to ≤ vec_len order.old) }
     ensures items { order.new.items ≡ remove_range order.old.items from to }
     ensures capacity { vec_capacity order.new ≡ vec_capacity order.old }
 {
-    let count = order.len();
-    order.copy_within(to..count, from);
-    order.truncate(count - (to - from));
+    if from < to {
+        let count = order.len();
+        order.copy_within(to..count, from);
+        order.truncate(count - (to - from));
+    }
 }
 
 // How many bytes a definition has.
