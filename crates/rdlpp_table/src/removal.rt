@@ -1,4 +1,4 @@
-// A definition is taken out of a table's lists, which close up.
+// A definition is taken out of a table's lists, which close up or give up their front.
 ghost use Rattle.std.specs.Prelude.{◌≡◌, ◌+◌, ◌-◌, ◌*◌, ◌<◌, ◌≤◌, ◌++◌, ◌^◌, drop, length, map, remove, slice_range, take, vec_len, vec_capacity, bytes_eq, is_some, nat_le, nat_lt, ◌&&◌, ◌||◌};
 ghost use Rattle.rdlpp_table.specs.Table.{macro_named, without};
 ghost use Rattle.std.specs.List.{remove_range, IsDistinct};
@@ -74,8 +74,9 @@ fn draw_up(entries: &mut [Entry], size: usize, marks: usize)
     }
 }
 
-// Takes out the entry at a place behind so many that are given up, of which one more is given up; the bytes of those before it are
-// moved so much further to the back.
+// Takes out the entry at a place, counted behind the first `front` ones, which are given up: the entries between these and the place
+// move one place to the back, over the entry that is taken out, and the first place of theirs is given up too. Those behind stay where
+// they are. The bytes of the moved ones were moved so much further to the back.
 fn cover_entry(entries: &mut Vec<Entry>, front: usize, place: usize, size: usize, marks: usize)
     requires place { front + place < vec_len entries.old }
     requires low { AreLow size marks (take place (remove (drop front entries.old.items) place)) }
@@ -127,17 +128,19 @@ pub(crate) fn size_of_entry(entry: &Entry) -> usize
     entry.name_len as usize + entry.list_len as usize + entry.body_len as usize
 }
 
-// Whether there is room behind for one more macro of so many bytes, or room at the front that a move of all would bring there.
+// Whether there is room behind for one more macro of so many bytes, or something is given up already, so that a move of all to the
+// front is due in any case.
 fn has_room(bytes: &Vec<u8>, entries: &Vec<Entry>, front: &Front, size: usize) -> bool
     ensures { result ≡ (nat_lt 0 front.now.entries || nat_le size (vec_capacity bytes.now - vec_len bytes.now) && nat_lt (vec_len entries.now) (vec_capacity entries.now)) }
 {
     front.entries > 0
-        || size <= bytes.capacity() - bytes.len() && entries.len() < entries.capacity()
+        || (size <= bytes.capacity() - bytes.len() && entries.len() < entries.capacity())
 }
 
-// Takes the bytes and the entry of the macro at a place out of those of a table. Where what stands before it is less than a third of
-// what stands behind it, and a place for one more macro is left, that goes to the back, and its room at the front is given up; else
-// what stands behind it comes to the front.
+// Takes the bytes and the entry of the macro at a place out of those of a table. Where what stands before the macro is less than a
+// third of what stands behind it, it is moved to the back, over the macro, and its old room at the front is given up; else what stands
+// behind the macro is moved to the front, and so it is where nothing is given up yet and there is no room for one more macro of this
+// size, which the next definition would have to make by a move of all.
 fn take_stored(bytes: &mut Vec<u8>, entries: &mut Vec<Entry>, front: &mut Front, place: usize)
     requires stored { IsStored front.old.bytes front.old.marks bytes.old.items (live front.old.entries entries.old.items) (macros_in bytes.old.items (live front.old.entries entries.old.items)) }
     requires narrow { vec_capacity bytes.old < 2 ^ 32 }

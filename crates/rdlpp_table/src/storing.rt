@@ -5,6 +5,7 @@ ghost use Rattle.std.specs.Prelude.{
   drop,
   length,
   map,
+  nat_lt,
   slice_range,
   take,
   unwrap_or,
@@ -22,6 +23,7 @@ ghost use Rattle.std.specs.Prelude.{
   ◌≡◌,
   ◌≤◌,
   ◌^◌,
+  ◌||◌,
   ◌∷◌,
 };
 ghost use Rattle.std.specs.List.{flat_map, IsDistinct};
@@ -179,8 +181,17 @@ pub(crate) fn beside(
     }
 }
 
-// Where there is no room behind for so many bytes or for one more entry, all moves to the front: room that was given up there becomes
-// room behind.
+// Whether more bytes or more entries are given up at the fronts of a table's lists than are there.
+fn is_sparse(bytes: &Vec<u8>, entries: &Vec<Entry>, front: &Front) -> bool
+    requires { (front.now.bytes ≤ vec_len bytes.now) × (front.now.entries ≤ vec_len entries.now) }
+    ensures { result ≡ (nat_lt (vec_len bytes.now - front.now.bytes) front.now.bytes || nat_lt (vec_len entries.now - front.now.entries) front.now.entries) }
+{
+    front.bytes > bytes.len() - front.bytes || front.entries > entries.len() - front.entries
+}
+
+// Where there is no room behind for so many bytes or for one more entry, or more is given up than is there, all moves to the front:
+// room that was given up there becomes room behind. A move is paid for by the last removal that gave up room, which left in place three
+// quarters or more of what there was, and by the definitions since.
 fn make_room(bytes: &mut Vec<u8>, entries: &mut Vec<Entry>, front: &mut Front, size: usize)
     requires stored { IsStored front.old.bytes front.old.marks bytes.old.items (live front.old.entries entries.old.items) (macros_in bytes.old.items (live front.old.entries entries.old.items)) }
     requires given_up { front.old.entries ≤ vec_len entries.old }
@@ -192,7 +203,10 @@ fn make_room(bytes: &mut Vec<u8>, entries: &mut Vec<Entry>, front: &mut Front, s
     ensures entry_room { vec_len entries.new < vec_capacity entries.new }
     ensures capacity { (vec_capacity bytes.new ≡ vec_capacity bytes.old) × (vec_capacity entries.new ≡ vec_capacity entries.old) }
 {
-    if bytes.capacity() - bytes.len() < size || entries.len() == entries.capacity() {
+    if bytes.capacity() - bytes.len() < size
+        || entries.len() == entries.capacity()
+        || is_sparse(bytes, entries, front)
+    {
         settle(bytes, entries, front);
     }
 }

@@ -103,8 +103,8 @@ impl Table {
             Ok(entries) => entries,
             Err(_) => return Err(NoMemory),
         };
-        // A mark takes two items, and a place in the index one: the other is spare, so that an engine asks for as many bytes as
-        // its limits have always come to.
+        // A mark takes two items, and a place in the index one: the other is spare. What an engine asks for by its limits is a
+        // stated number, which stays.
         let marks = limits.definition_bytes / LONG_FORMAL;
         let order = match Vec::with_capacity(alloc, 2 * (limits.definitions + marks)) {
             Ok(order) => order,

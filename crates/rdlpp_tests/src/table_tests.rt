@@ -297,6 +297,24 @@ fn a_table_is_a_list_of_macros(rt: HostRuntime) -> Result<(), Fail> {
     Ok(())
 }
 
+// Two macros replace themselves again and again: where the table is full, and where it has room for many more.
+#[test]
+fn two_macros_are_replaced_again_and_again(rt: HostRuntime) -> Result<(), Fail> {
+    for (bytes, count) in [(1_024, 2), (16_384, 1_000)] {
+        let mut table = table(&rt, bytes, count);
+        let mut all: Vec<Made> = Vec::new(rt.alloc());
+        for step in 0..1_000 {
+            let made = Made {
+                number: step % 2,
+                kind: step / 2,
+            };
+            define(&rt, &mut table, &mut all, (bytes, count), made)?;
+            expect_all(&rt, &table, &all)?;
+        }
+    }
+    Ok(())
+}
+
 // How many macros a table has at most.
 const MOST: usize = 65_536;
 
