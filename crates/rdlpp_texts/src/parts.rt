@@ -154,11 +154,7 @@ fn part_by_tokens(text: &[u8], from: usize, closes: bool) -> Part
         }
         let token = token_in_call(mode, &text[at..]);
         if ends_text(closes, token.role, level) {
-            return Part {
-                from,
-                to,
-                end: PartEnd::Last(at),
-            };
+            break;
         }
         at += token.len;
         if ends_part(token.role, level) {

@@ -146,7 +146,8 @@ pub(crate) fn calm_len(mode: Mode, level: usize, text: &[u8]) -> usize
     }
 }
 
-// The same in plain text: within further openers a comma cuts nothing.
+// How many such bytes stand at the front of plain text: at level 0 a comma cuts, and at any other level, within further openers, it
+// cuts nothing.
 fn calm_bytes(level: usize, text: &[u8]) -> usize
     ensures value { result ≡ prefix_len (is_calm_at level) text.now }
     ensures inside { result ≤ length text.now }
@@ -158,7 +159,7 @@ fn calm_bytes(level: usize, text: &[u8]) -> usize
     }
 }
 
-// The same within no further opener.
+// How many such bytes stand at the front of plain text at level 0.
 fn outer_bytes(text: &[u8]) -> usize
     ensures value { result ≡ prefix_len is_calm text.now }
     ensures inside { result ≤ length text.now }
@@ -166,7 +167,7 @@ fn outer_bytes(text: &[u8]) -> usize
     text.iter().take_while(|b| is_calm(**b)).count()
 }
 
-// The same within one.
+// How many such bytes stand at the front of plain text at any other level.
 fn inner_bytes(text: &[u8]) -> usize
     ensures value { result ≡ prefix_len is_inner text.now }
     ensures inside { result ≤ length text.now }
@@ -174,7 +175,8 @@ fn inner_bytes(text: &[u8]) -> usize
     text.iter().take_while(|b| is_inner(**b)).count()
 }
 
-// Whether a byte is such a one within an opener.
+// Whether a byte of plain text within a further opener opens, closes and cuts nothing, and begins no string, no comment and no `<%`. It
+// answers as `is_calm` but for a comma, which cuts nothing there.
 fn is_inner(b: u8) -> bool
     ensures { result ≡ is_inner b }
 {
@@ -185,7 +187,9 @@ fn is_inner(b: u8) -> bool
     }
 }
 
-// Whether a byte is one within no opener. Each half of the bytes is asked for its own, which is a mask of bits, and no jump.
+// Whether a byte of plain text within no further opener, where a comma cuts, opens, closes and cuts nothing, and begins no string, no
+// comment and no `<%`. A byte below 64 is compared with the marks below 64 alone, and any other byte with the others: the compiler
+// makes of either comparison a mask of bits, without a jump for each mark.
 fn is_calm(b: u8) -> bool
     ensures { result ≡ is_calm b }
 {
@@ -196,14 +200,14 @@ fn is_calm(b: u8) -> bool
     }
 }
 
-// The same of a byte below 64.
+// What `is_calm` answers for a byte below 64: whether it is no round bracket, no comma, no `"`, no `/` and no `<`.
 fn is_calm_mark(b: u8) -> bool
     ensures { result ≡ (not (b == 40) && (not (b == 41) && (not (b == 44) && (not (b == 34) && (not (b == 47) && not (b == 60)))))) }
 {
     b != b'(' && b != b')' && b != b',' && b != b'"' && b != b'/' && b != b'<'
 }
 
-// The same of any other byte.
+// What `is_calm` and `is_inner` both answer for any other byte: whether it is no square bracket and no brace.
 fn is_calm_letter(b: u8) -> bool
     ensures { result ≡ (not (b == 91) && (not (b == 123) && (not (b == 93) && not (b == 125)))) }
 {

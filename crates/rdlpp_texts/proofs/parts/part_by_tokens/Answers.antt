@@ -102,9 +102,9 @@ loop-at-preserved c =
           ∙ c.loop-at.invariant.found;
     }
 
-pub returns : goal.returns
+pub returns-after-loop-at : goal.returns-after-loop-at
 unfolding part_from
-returns c =
+returns-after-loop-at c =
     let start = c.args.from in
     let text = c.args.text.now in
     sym (sym c.loop-at.invariant.found ∙ ap (part_from c.args.closes start c.loop-at.at c.loop-at.level c.loop-at.to) (none_left c.loop-at.mode text c.loop-at.at (omega arith)))
