@@ -1,8 +1,7 @@
--- Ordinary text that is passed byte by byte and block by block, and fronts where no text is copied.
-use Rattle.std.proofs.Common.{◌≡◌, ℕ, ◌+◌, ◌-◌, ◌<◌, ◌≤◌, Bool, true, false, cond, ◌||◌, eqb, List, [], ◌∷◌, suc, not, ◌&&◌, ◌==◌, length, take, drop, slice_index, get_or, refl, sym, ap, ◌∙◌, ⊎_elim, arith}
-use Rattle.std.proofs.lemmas.Bool.{cases_lt, cond_both, false≢true, or_parts}
+-- Fronts where no text is copied.
+use Rattle.std.proofs.Common.{◌≡◌, ℕ, ◌+◌, ◌<◌, Bool, true, false, cond, List, [], ◌∷◌, suc, not, ◌&&◌, ◌==◌, length, take, slice_index, refl, sym, ap, ◌∙◌, arith}
+use Rattle.std.proofs.lemmas.Bool.{cond_both, false≢true}
 use Rattle.std.specs.List.{prefix_len}
-use Rattle.std.proofs.lemmas.List.{get_or-take, get_or-drop}
 use Rattle.rdlpp_scan.specs.declared.token.Kind.TheVariants.{Back, BareBackquote, LineComment, Perl}
 use Rattle.rdlpp_scan.specs.declared.token.Mode.{Mode}
 use Rattle.rdlpp_scan.specs.declared.token.Mode.TheVariants.{InBlock, InStr, Plain}
@@ -10,43 +9,11 @@ use Rattle.rdlpp_scan.specs.declared.token.Token.{Token}
 use Rattle.rdlpp_scan.specs.Bytes.{begins_block_comment, begins_line_comment, begins_perl, is_blank, is_closer, is_digit, is_letter, is_line_end, is_opener, is_word, takes_word}
 use Rattle.rdlpp_scan.specs.SourceTokens.{line_ends}
 use Rattle.rdlpp_scan.specs.Tokens.{plain_len, stops_plain_text, token_of, whole, first_place, plain_token}
-use Rattle.rdlpp_scan.proofs.Searches.{quiet_at, no_perl, plain_len-found}
+use Rattle.rdlpp_scan.proofs.Searches.{plain_len-found}
 use Rattle.rdlpp_scan.proofs.StopKinds.{string_token-kind, block_token-kind}
-use Rattle.rdlpp_scan.proofs.SourceLaws.{line_ends-cons, line_ends-part}
-use Rattle.rdlpp_front.specs.Copied.{IsPassed, is_mark}
+use Rattle.rdlpp_scan.proofs.SourceLaws.{line_ends-cons}
 use Rattle.rdlpp_front.specs.Fronts.{AtOrdinary, AtToken, IsText, is_text_kind}
 use Rattle.rdlpp_front.proofs.Insides.{token_at_backquote}
-
--- ordinary text goes on at a byte where it can't stop
-pub quiet_byte : (held : List ℕ) (at : ℕ) → is_mark (slice_index held at) ≡ false → stops_plain_text (drop at held) ≡ false
-unfolding is_mark
-quiet_byte held at h =
-    let b = slice_index held at in
-    let p = or_parts (eqb b 96 || eqb b 34 || eqb b 47) (eqb b 60) h in
-    quiet_at held at p.0 (no_perl held at p.1)
-
--- a byte of a part
-read_part : (held : List ℕ) (at more j : ℕ) → at ≤ j → j < at + more → slice_index (take (at + more - at) (drop at held)) (j - at) ≡ slice_index held j
-read_part held at more j low high =
-    let n : at + (j - at) ≡ j = omega arith in
-    get_or-take (at + more - at) (drop at held) (j - at) 0 (omega arith) ∙ get_or-drop at held (j - at) 0 ∙ ap (λ i. get_or held i 0) n
-
--- no text has been passed yet
-pub passed_none : (held : List ℕ) → IsPassed held 0 0
-unfolding line_ends
-passed_none held = record { inside = omega arith; plain = λ j lt. absurd (omega arith); ends = refl }
-
--- a block further, in which ordinary text can't stop
-pub passed_block : (held : List ℕ) (at count more lines : ℕ) → IsPassed held at count → at + more ≤ length held
-    → ((j : ℕ) → j < more → is_mark (slice_index (take (at + more - at) (drop at held)) j) ≡ false)
-    → lines ≡ line_ends (take (at + more - at) (drop at held)) → IsPassed held (at + more) (count + lines)
-passed_block held at count more lines before fits quiet is = record {
-  inside = fits;
-  plain = λ j lt.
-      ⊎_elim (λ less. before.plain j less)
-      (λ past. quiet_byte held j (sym (ap is_mark (read_part held at more j past lt)) ∙ quiet (j - at) (omega arith))) (cases_lt j at);
-  ends = ap (λ n. n + lines) before.ends ∙ ap (λ n. line_ends (take at held) + n) is ∙ line_ends-part held at more;
-}
 
 -- where ordinary text stops at the front, there is none
 stopped_front : (held : List ℕ) → 0 < length held → stops_plain_text held ≡ true → 0 ≡ plain_len held

@@ -1,4 +1,3 @@
 pub mod Names
 pub mod Fronts
-pub mod Copied
 pub mod SourceLeft

@@ -1,4 +1,5 @@
 pub mod Searches
+pub mod PlainBlocks
 pub mod TokenLens
 pub mod TokenParts
 pub mod LineLaws

@@ -1,11 +1,10 @@
 -- What a search's answer says of the definitions that walk over a text.
-use Rattle.std.proofs.Common.{◌≡◌, ℕ, zero, suc, ◌<◌, Bool, true, false, not, cond, List, [], ◌∷◌, Option, Some, None, length, get_or, refl, sym, ap, ◌∙◌, arith, ◌+◌, ◌≤◌, eqb, one-add, take, drop, ⊎_elim, ◌-◌, ◌||◌, ◌&&◌, subst, ◌≢◌, min}
+use Rattle.std.proofs.Common.{◌≡◌, ℕ, zero, suc, ◌<◌, Bool, true, false, not, cond, List, [], ◌∷◌, Option, Some, None, length, get_or, refl, sym, ap, ◌∙◌, arith, ◌+◌, ◌≤◌, eqb, one-add, take, drop, ⊎_elim, ◌||◌, ◌&&◌, subst, ◌≢◌, min}
 use Rattle.std.specs.List.{prefix_len, list_all}
 use Rattle.std.specs.Option.{option_map, unwrap_or}
 use Rattle.std.proofs.lemmas.List.Sums.{prefix_len_is}
 use Rattle.std.proofs.lemmas.Bool.{eqb-true, eq-eqb, and_parts, and_from, cases_lt, or_parts, ne_eqb, false≢true}
-use Rattle.std.proofs.lemmas.List.{get_or-drop, get_or_past, get_or-take, length-drop, length-take, drop_more, drop-drop, drop_all}
-use Rattle.std.proofs.Math.Bool.{or-true}
+use Rattle.std.proofs.lemmas.List.{get_or-drop, get_or_past, length-drop, drop_more, drop-drop, drop_all}
 use Rattle.memchr.specs.Find.{IsFirstByte, IsLastByte, is_byte, FindsNeedle, OccursAt, is_byte3}
 use Rattle.rdlpp_scan.specs.Bytes.{is_line_end, ends_block_comment, begins_perl, begins_line_comment, begins_block_comment}
 use Rattle.rdlpp_scan.specs.Lines.{ended_line_len, whole_lines_len, onto_whole_lines}
@@ -160,56 +159,12 @@ list_all-prefix p (b ∷ bs) = elim (p b) as (λ v. p b ≡ v → list_all p (ta
   | false ↦ λ e. refl
 ] refl
 
--- Where ordinary text stops, by a search for the bytes that matter to it.
-
--- what a search in a range says of the places before the one that it found
-pub record IsFoundIn (test : ℕ → Bool) (bs : List ℕ) (at place : ℕ) : Type 0 where
-  pub before : (i : ℕ) → at ≤ i → i < place → test (get_or bs i 0) ≡ false
-
-read_in : (bs : List ℕ) (at end i : ℕ) → at ≤ i → i < end → get_or (take (end - at) (drop at bs)) (i - at) 0 ≡ get_or bs i 0
-read_in bs at end i low lt =
-    let n : at + (i - at) ≡ i = omega arith in
-    get_or-take (end - at) (drop at bs) (i - at) 0 (omega arith) ∙ get_or-drop at bs (i - at) 0 ∙ ap (λ j. get_or bs j 0) n
-
--- a search in a range that found a byte
-pub range-some : (test : ℕ → Bool) (bs : List ℕ) (at end k : ℕ) → end ≤ length bs → IsFirstByte test (take (end - at) (drop at bs)) (Some k) → (at + k < end) × IsFoundIn test bs at (at + k)
-range-some test bs at end k fits h =
-    let size = length-take (end - at) (drop at bs) in
-    let dropped = length-drop at bs in
-    let inside : at + k < end = omega (arith, h.0.high) in (
-      inside,
-      record {
-        before = λ i low lt.
-            ap test (sym (read_in bs at end i low (omega arith))) ∙ false_since (test (get_or (take (end - at) (drop at bs)) (i - at) 0)) (h.0.before (i - at) (omega arith) (omega arith));
-      },
-    )
-
--- a search in a range that found nothing
-pub range-none : (test : ℕ → Bool) (bs : List ℕ) (at end : ℕ) → end ≤ length bs → IsFirstByte test (take (end - at) (drop at bs)) None → IsFoundIn test bs at end
-range-none test bs at end fits h =
-    let size = length-take (end - at) (drop at bs) in
-    let dropped = length-drop at bs in
-    record {
-      before = λ i low lt.
-          ap test (sym (read_in bs at end i low lt)) ∙ false_since (test (get_or (take (end - at) (drop at bs)) (i - at) 0)) (h (i - at) (omega arith) (omega arith));
-    }
+-- Where ordinary text stops, by the bytes that matter to it.
 
 -- `<%` doesn't begin at another byte
 pub no_perl : (bs : List ℕ) (i : ℕ) → eqb (get_or bs i 0) 60 ≡ false → begins_perl (drop i bs) ≡ false
 unfolding begins_perl
 no_perl bs i h = ap (λ n. eqb n 60 && eqb (get_or (drop i bs) 1 0) 37) (at_zero bs i) ∙ ap (λ t. t && eqb (get_or (drop i bs) 1 0) 37) h
-
--- no `<%` from a place on, as far as a search for its first byte went
-pub no_perl_before : (bs : List ℕ) (from at place : ℕ) → IsFoundIn (is_byte 60) bs at place → ((j : ℕ) → from ≤ j → j < at → begins_perl (drop j bs) ≡ false) → (j : ℕ) → from ≤ j → j < place → begins_perl (drop j bs) ≡ false
-no_perl_before bs from at place found before j low lt =
-    ⊎_elim (λ here. before j low here) (λ past. no_perl bs j (found.before j past lt)) (cases_lt j at)
-
--- a place further, where no `<%` begins
-pub no_perl_through : (bs : List ℕ) (from at place : ℕ) → IsFoundIn (is_byte 60) bs at place → ((j : ℕ) → from ≤ j → j < at → begins_perl (drop j bs) ≡ false) → begins_perl (drop place bs) ≡ false
-    → (j : ℕ) → from ≤ j → j < place + 1 → begins_perl (drop j bs) ≡ false
-no_perl_through bs from at place found before here j low lt =
-    ⊎_elim (λ less. no_perl_before bs from at place found before j low less)
-    (λ past. let e : place ≡ j = omega arith in subst (λ i. begins_perl (drop i bs) ≡ false) e here) (cases_lt j place)
 
 -- ordinary text goes on at a byte that doesn't matter, where no `<%` begins
 pub quiet_at : (bs : List ℕ) (i : ℕ) → is_byte3 96 34 47 (get_or bs i 0) ≡ false → begins_perl (drop i bs) ≡ false → stops_plain_text (drop i bs) ≡ false
@@ -224,19 +179,6 @@ quiet_at bs i h perl =
     ∙ ap (λ t. t || (eqb b 47 && eqb c 47) || (eqb b 47 && eqb c 42) || begins_perl (drop i bs)) q.1
     ∙ ap (λ t. (t && eqb c 47) || (t && eqb c 42) || begins_perl (drop i bs)) p.1 ∙ perl
 
--- ordinary text stops at `<%`
-pub perl_stops : (xs : List ℕ) → begins_perl xs ≡ true → stops_plain_text xs ≡ true
-unfolding stops_plain_text
-perl_stops xs h =
-    let q = eqb (get_or xs 0 0) 96 || eqb (get_or xs 0 0) 34 || begins_line_comment xs || begins_block_comment xs in
-    ap (λ t. q || t) h ∙ or-true q
-
--- ordinary text goes on from a place on, as far as both searches went
-pub quiet_before : (bs : List ℕ) (at place perl : ℕ) → perl ≤ place → IsFoundIn (is_byte3 96 34 47) bs at place → ((j : ℕ) → at ≤ j → j < perl → begins_perl (drop j bs) ≡ false)
-    → ((j : ℕ) → j < at → stops_plain_text (drop j bs) ≡ false) → (j : ℕ) → j < perl → stops_plain_text (drop j bs) ≡ false
-quiet_before bs at place perl le found none before j lt =
-    ⊎_elim (λ here. before j here) (λ past. quiet_at bs j (found.before j past (omega arith)) (none j past lt)) (cases_lt j at)
-
 -- a place further, where it goes on
 pub quiet_through : (bs : List ℕ) (place : ℕ) → ((j : ℕ) → j < place → stops_plain_text (drop j bs) ≡ false) → stops_plain_text (drop place bs) ≡ false → (j : ℕ) → j < place + 1 → stops_plain_text (drop j bs) ≡ false
 quiet_through bs place before here j lt =
@@ -247,12 +189,12 @@ pub plain_len-found : (bs : List ℕ) (i : ℕ) → i < length bs → ((j : ℕ)
 unfolding plain_len
 plain_len-found bs i lt before here = first_place-found stops_plain_text bs i lt before here
 
--- ordinary text to its end, or to a `<%`
-pub plain_len-to_end : (bs : List ℕ) (i : ℕ) → i ≤ length bs → ((j : ℕ) → j < i → stops_plain_text (drop j bs) ≡ false) → (i < length bs → begins_perl (drop i bs) ≡ true) → i ≡ plain_len bs
+-- ordinary text to the end of all
+pub plain_len-to_end : (bs : List ℕ) (i : ℕ) → i ≤ length bs → ((j : ℕ) → j < i → stops_plain_text (drop j bs) ≡ false) → length bs ≤ i → i ≡ plain_len bs
 unfolding plain_len
-plain_len-to_end bs i le before perl =
-    ⊎_elim (λ lt. first_place-found stops_plain_text bs i lt before (perl_stops (drop i bs) (perl lt)))
-    (λ ge. let e : i ≡ length bs = omega arith in e ∙ first_place-none stops_plain_text bs (λ j lt. before j (omega arith))) (cases_lt i (length bs))
+plain_len-to_end bs i le before end =
+    let e : i ≡ length bs = omega arith in
+    e ∙ first_place-none stops_plain_text bs (λ j lt. before j (omega arith))
 
 -- Where a string stops, by a search for the bytes that matter to it.
 

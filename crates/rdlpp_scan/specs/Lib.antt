@@ -14,3 +14,4 @@ pub mod Defines
 pub mod Comments
 pub mod TokenKinds
 pub mod CleanTexts
+pub mod PlainTexts

@@ -9,4 +9,4 @@ returns-then-held-eq96-clause-none c = no_text_at_backquote c.args.held.now c.re
 pub returns-clause-text : goal.returns-clause-text
 returns-clause-text c =
     let some = plain_some c.args.held.now c.requires (sym c.if-stops_plain_text.ensures) in
-    AtOrdinary refl refl (omega (arith, some, c.plain_run-run.ensures.len)) c.plain_run-run.ensures.len
+    AtOrdinary refl refl (omega (arith, some, c.plain_text-text.ensures.len)) c.plain_text-text.ensures.len

@@ -1,4 +1,4 @@
--- How far ordinary text at the front of held bytes is passed.
+-- How far ordinary text at the front of bytes is passed.
 -- A definition that names no source is this project's own.
 use Rattle.std.specs.Prelude.{◌≡◌, ℕ, ◌<◌, ◌≤◌, Bool, false, ◌||◌, ◌==◌, List, length, take, drop}
 use Rattle.rdlpp_scan.specs.SourceTokens.{line_ends}
@@ -9,7 +9,7 @@ unfoldable pub is_mark : ℕ → Bool
 is_mark b = b == 96 || b == 34 || b == 47 || b == 60
 
 -- so many bytes of ordinary text, of which so many are LF
-pub record IsPassed (held : List ℕ) (len count : ℕ) : Type 0 where
-  pub inside : len ≤ length held
-  pub plain : (j : ℕ) → j < len → stops_plain_text (drop j held) ≡ false
-  pub ends : count ≡ line_ends (take len held)
+pub record IsPassed (bytes : List ℕ) (len count : ℕ) : Type 0 where
+  pub inside : len ≤ length bytes
+  pub plain : (j : ℕ) → j < len → stops_plain_text (drop j bytes) ≡ false
+  pub ends : count ≡ line_ends (take len bytes)

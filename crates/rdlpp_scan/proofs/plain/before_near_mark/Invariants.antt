@@ -1,0 +1,9 @@
+use Rattle.std.proofs.Common.{◌-◌, ◌≤◌, length}
+use Rattle.rdlpp_scan.specs.PlainTexts.{IsPassed}
+use Rattle.rdlpp_scan.proofs.plain.before_near_mark.Given as goal
+
+abbrev pub invariant-loop-run : goal.invariant-loop-run
+invariant-loop-run l = IsPassed l.bytes l.run.len l.run.lines × (l.fn.from.len ≤ l.run.len)
+
+abbrev pub decreases-loop-run : goal.decreases-loop-run
+decreases-loop-run l = length l.bytes - l.run.len
