@@ -1,6 +1,6 @@
 // The index of a table: the places of its entries, sorted by the parts in which their names stand, and then by name. A table has at
-// most 65,536 macros, so that two bytes are enough for a place, and a definition moves two bytes for each place behind. Behind it, in
-// the same list, lie the marks of its macros.
+// most 65,536 macros, so that two bytes are enough for a place. Behind it, in the same list, lie the marks of its macros; a definition
+// moves two bytes for each place behind its own, and the marks.
 ghost use Rattle.std.specs.Prelude.{◌≡◌, ◌+◌, ◌<◌, ◌≤◌, ◌^◌, ◌-◌, ◌++◌, MatchResult, drop, insert, length, map, remove, slice_index, take, vec_capacity, vec_len};
 ghost use Rattle.rdlpp_table.specs.Entries.{AreWithin};
 ghost use Rattle.rdlpp_table.specs.Index.{closed, names_of, IsCounted, IsGap, IsIndexed, IsMiddle, IsPlace};

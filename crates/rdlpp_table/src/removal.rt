@@ -129,7 +129,7 @@ pub(crate) fn size_of_entry(entry: &Entry) -> usize
 }
 
 // Whether there is room behind for one more macro of so many bytes, or something is given up already, so that a move of all to the
-// front is due in any case.
+// front is due once the room behind is used up.
 fn has_room(bytes: &Vec<u8>, entries: &Vec<Entry>, front: &Front, size: usize) -> bool
     ensures { result ≡ (nat_lt 0 front.now.entries || nat_le size (vec_capacity bytes.now - vec_len bytes.now) && nat_lt (vec_len entries.now) (vec_capacity entries.now)) }
 {
