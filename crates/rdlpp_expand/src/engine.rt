@@ -98,7 +98,7 @@ pub struct Engine<S: Sources> {
     conditions: Conditions,
     sources: S,
     expansion: Expansion,
-    // Dropped last: its buffers lie between the other memory, so that an allocator doesn't give all of that back at once.
+    // Dropped last, and made first: `Engine::new` says why.
     files: Files<S::Reader>,
 }
 

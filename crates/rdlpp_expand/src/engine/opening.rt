@@ -43,16 +43,18 @@ impl<S: Sources> Engine<S> {
         if let Err(fault) = limits.check() {
             return Err(NewFault::BadLimits(fault));
         }
-        let Ok(table) = Table::new(alloc, &limits) else {
-            return Err(NewFault::NoMemory);
-        };
-        let Ok(conditions) = Conditions::new(alloc, limits.conditions) else {
-            return Err(NewFault::NoMemory);
-        };
+        // The sources' buffers are asked for first, and given back last: so they lie in front, and stay with the process. Of the large
+        // blocks behind them, which an allocator may hand back to the system, a short run touches little.
         let Ok(files) = Files::new(alloc, limits.includes + 1, limits.line_bytes) else {
             return Err(NewFault::NoMemory);
         };
+        let Ok(table) = Table::new(alloc, &limits) else {
+            return Err(NewFault::NoMemory);
+        };
         let Ok(expansion) = Expansion::new(alloc, limits.depth, limits.argument_bytes) else {
+            return Err(NewFault::NoMemory);
+        };
+        let Ok(conditions) = Conditions::new(alloc, limits.conditions) else {
             return Err(NewFault::NoMemory);
         };
         Ok(Engine {
