@@ -11,7 +11,7 @@ const SOURCES: u64 = 400;
 const PARTS: usize = 24;
 
 // What sources are made of: texts around the length of a block, what may end one, and what stands between them.
-const PIECES: [&[u8]; 35] = [
+const PIECES: [&[u8]; 36] = [
     b"a",
     b" = 1;\n",
     b"\n",
@@ -44,10 +44,14 @@ const PIECES: [&[u8]; 35] = [
     b"`ifndef D // n\n`endif/",
     b"`ifdef D `D \" ` \" <`endif <",
     b"`C`C",
+    b"\n`include \"i\" // i\n",
     b"a <% b",
     b"a ` b",
     b"\"open",
 ];
+
+// An included source, which ends within a line.
+const INCLUDED: &[u8] = b"// i\n `A \"i\"\n`B(1)\n/* i */ `C i";
 
 // What was lent or written: the bytes, and how many of them each part has.
 #[derive(Drop)]
@@ -118,13 +122,18 @@ fn made<R: AllocGlobal>(rt: &R, number: u64) -> Result<Vec<u8>, Fail> {
 type Ended = (Parts, Option<(FaultKind, u64)>);
 
 // The pieces with bytes that an engine lends.
-fn lent<R: AllocGlobal>(rt: &R, limits: Limits, source: &[u8]) -> Result<Ended, Fail> {
-    let files = [("m", source)];
+fn lent<R: AllocGlobal>(
+    rt: &R,
+    limits: Limits,
+    source: &[u8],
+    origins: bool,
+) -> Result<Ended, Fail> {
+    let files = [("m", source), ("i", INCLUDED)];
     let texts = Texts {
         files: &files,
         folders: &[],
     };
-    let mut engine = Engine::new(rt.alloc(), limits, texts, false)?;
+    let mut engine = Engine::new(rt.alloc(), limits, texts, origins)?;
     let mut parts = no_parts(rt);
     if engine.is_fresh() && engine.start("m").is_err() {
         return Ok((parts, None));
@@ -151,13 +160,18 @@ fn lent<R: AllocGlobal>(rt: &R, limits: Limits, source: &[u8]) -> Result<Ended, 
 }
 
 // The parts that a run writes.
-fn written<R: AllocGlobal>(rt: &R, limits: Limits, source: &[u8]) -> Result<Ended, Fail> {
-    let files = [("m", source)];
+fn written<R: AllocGlobal>(
+    rt: &R,
+    limits: Limits,
+    source: &[u8],
+    origins: bool,
+) -> Result<Ended, Fail> {
+    let files = [("m", source), ("i", INCLUDED)];
     let texts = Texts {
         files: &files,
         folders: &[],
     };
-    let mut engine = Engine::new(rt.alloc(), limits, texts, false)?;
+    let mut engine = Engine::new(rt.alloc(), limits, texts, origins)?;
     let mut parts = no_parts(rt);
     if engine.is_fresh() && engine.start("m").is_err() {
         return Ok((parts, None));
@@ -179,14 +193,15 @@ fn writes_what_is_lent(rt: HostRuntime) -> Result<(), Fail> {
     let mut whole = 0_u64;
     for number in 0..SOURCES {
         let source = made(&rt, number)?;
+        let origins = number % 2 == 1;
         for (output_bytes, line_bytes) in [(u64::MAX, 65_536), (100, 65_536), (u64::MAX, 256)] {
             let limits = Limits {
                 output_bytes,
                 line_bytes,
                 ..STANDARD
             };
-            let (pieces, lending) = lent(&rt, limits, source.as_slice())?;
-            let (parts, writing) = written(&rt, limits, source.as_slice())?;
+            let (pieces, lending) = lent(&rt, limits, source.as_slice(), origins)?;
+            let (parts, writing) = written(&rt, limits, source.as_slice(), origins)?;
             assert!(rt;
                 parts.bytes.as_slice() == pieces.bytes.as_slice(),
                 "bytes of {number}"
