@@ -1,8 +1,8 @@
 -- The first stop of a text and of a range of it, and the first stops that an entry keeps.
-use Rattle.std.proofs.Common.{◌≡◌, ℕ, zero, suc, ◌+◌, ◌-◌, ◌<◌, ◌≤◌, Bool, true, false, cond, List, [], ◌∷◌, ⊎_elim, length, take, drop, Option, Some, None, refl, ap, sym, ◌∙◌, arith, ◌++◌, inl, slice_range, subst, if◌then◌else◌, ◌&&◌, leb, eqb, ltb, IfSome, get_or, set, append_assoc, replicate, ◌⊎◌}
+use Rattle.std.proofs.Common.{◌≡◌, ℕ, zero, suc, ◌+◌, ◌-◌, ◌<◌, ◌≤◌, Bool, true, false, cond, List, [], ◌∷◌, ⊎_elim, length, take, drop, Option, Some, None, refl, ap, sym, ◌∙◌, arith, ◌++◌, inl, slice_range, subst, if◌then◌else◌, IfSome, get_or, set, append_assoc, replicate, ◌⊎◌}
 use Rattle.std.specs.List.{prefix_len}
-use Rattle.std.proofs.lemmas.Bool.{le-ltb, cases_Bool, false≢true, cond-false, cond-true, and_parts, eqb-true, leb-true, ltb-false, or_cases}
-use Rattle.std.proofs.lemmas.List.{drop_more, take_more_set, drop-set-lt, drop-replicate, length-drop, nil_from_length, take_all, drop-drop, drop-take, length-take, take-append-drop}
+use Rattle.std.proofs.lemmas.Bool.{le-ltb, cases_Bool, false≢true, cond-false, cond-true}
+use Rattle.std.proofs.lemmas.List.{drop_more, take_more_set, drop-set-lt, drop-replicate, length-drop, nil_from_length, take_all, drop-drop, length-take, take-append-drop}
 use Rattle.rdlpp_scan.specs.Bytes.{is_blank, is_quiet}
 use Rattle.rdlpp_scan.specs.declared.token.Kind.{Kind}
 use Rattle.rdlpp_scan.specs.declared.token.Kind.TheVariants.{Name, Word, Back, Blank, LineEnd, Str, LineComment, BlockComment, Opener, Closer, Comma, Other, Perl, BareBackquote}
@@ -21,7 +21,7 @@ use Rattle.rdlpp_scan.specs.Ordinary.{is_plain_kind}
 use Rattle.rdlpp_scan.proofs.FirstTokens.{plain_token-run, IsRun}
 use Rattle.rdlpp_scan.proofs.RangeLaws.{token_of-front, EndsIn}
 use Rattle.rdlpp_scan.proofs.StopKinds.{Row, AtPerl, AtLineComment, AtBlockComment, AtString, AtBack, AtBare, AtPlain, token_of-row}
-use Rattle.rdlpp_table.specs.Kept.{stop_end, endless, first_stops, is_behind_quiet, is_known, kept_from, kept_of, placed, quiet_kept, stop_by, stop_kept, stops_behind}
+use Rattle.rdlpp_table.specs.Kept.{stop_end, endless, first_stops, kept_from, kept_of, kept_stop, placed, stop_by, stop_kept, stops_behind}
 use Rattle.rdlpp_table.specs.declared.kept.FirstStops.{FirstStops}
 use Rattle.rdlpp_table.specs.declared.kept.Kept.{Kept}
 use Rattle.rdlpp_table.specs.declared.kept.KeptKind.{KeptKind}
@@ -160,7 +160,7 @@ blank_run formals at (b ∷ bs) =
     (cases_Bool (is_blank b))
 
 -- a quiet byte is passed
-quiet_one : (formals : List Formal) (at b : ℕ) (bs : List ℕ) → is_quiet b ≡ true
+pub quiet_one : (formals : List Formal) (at b : ℕ) (bs : List ℕ) → is_quiet b ≡ true
     → first_stop formals at (tokens_from Plain 0 (b ∷ bs)) (b ∷ bs) ≡ first_stop formals (at + 1) (tokens_from Plain 0 bs) bs
 quiet_one formals at b bs q =
     let k = prefix_len is_blank bs in
@@ -198,7 +198,7 @@ begins (stop.Usage at len) = at
 begins (stop.Bare at) = at
 
 -- a stop ends no nearer than it begins
-begins_end : (s : Stop) → is_none s ≡ false → begins s ≤ stop_end s
+pub begins_end : (s : Stop) → is_none s ≡ false → begins s ≤ stop_end s
 unfolding begins stop_end
 begins_end stop.None h = omega arith
 begins_end (stop.Formal at len place) h = omega arith
@@ -206,7 +206,7 @@ begins_end (stop.Usage at len) h = omega arith
 begins_end (stop.Bare at) h = omega arith
 
 -- a stop that is none, or begins no nearer than at a place
-IsFrom : ℕ → Stop → Type 0
+unfoldable pub IsFrom : ℕ → Stop → Type 0
 IsFrom at s = is_none s ≡ false → at ≤ begins s
 
 name_from : (at len : ℕ) (o : Option ℕ) → IsFrom at (stop_name at len o)
@@ -239,7 +239,7 @@ or_from at (stop.Usage x len) other a b = a
 or_from at (stop.Bare x) other a b = a
 
 -- the first stop of a text stands in it
-tokens_within : (formals : List Formal) (at : ℕ) (ts : List Token) (text : List ℕ) → IsFrom at (first_stop formals at ts text)
+pub tokens_within : (formals : List Formal) (at : ℕ) (ts : List Token) (text : List ℕ) → IsFrom at (first_stop formals at ts text)
 unfolding first_stop is_none IsFrom
 tokens_within formals at [] text h = absurd (cc)
 tokens_within formals at (t ∷ ts) text h =
@@ -301,7 +301,7 @@ stop_token formals at bs bytes h =
     stop_kind formals at t.len t.kind t.next_mode bs bytes (token_of-row bs, plain_token-run bs) h
 
 -- the first token of a text stays so where the text is cut behind it
-cut_token : (k : ℕ) (bs : List ℕ) → (let t = token_of Plain bs in 0 < t.len → t.len ≤ k → t.len ≤ length bs → t.next_mode ≡ Plain → token_of Plain (take k bs) ≡ t)
+pub cut_token : (k : ℕ) (bs : List ℕ) → (let t = token_of Plain bs in 0 < t.len → t.len ≤ k → t.len ≤ length bs → t.next_mode ≡ Plain → token_of Plain (take k bs) ≡ t)
 cut_token k bs some le inside closed =
     let xs = take k bs in
     let e : xs ++ drop k bs ≡ bs = take-append-drop k bs in
@@ -310,14 +310,14 @@ cut_token k bs some le inside closed =
     let ends : EndsIn t xs = record { inside = room; last = inl closed } in
     token_of-front Plain xs (drop k bs) (omega arith) (subst (λ (l : List ℕ). EndsIn (token_of Plain l) xs) (sym e) ends) ∙ ap (token_of Plain) e
 
-cut_more : (n k : ℕ) (bs : List ℕ) → n ≤ k → take n (take k bs) ≡ take n bs
+pub cut_more : (n k : ℕ) (bs : List ℕ) → n ≤ k → take n (take k bs) ≡ take n bs
 cut_more zero k bs h = refl
 cut_more (suc n) zero bs h = absurd (omega arith)
 cut_more (suc n) (suc k) [] h = refl
 cut_more (suc n) (suc k) (b ∷ bs) h = ap (λ (l : List ℕ). b ∷ l) (cut_more n k bs (omega arith))
 
 -- the stop at the front of a text is that of the text which is cut behind it
-front_first : (formals : List Formal) (at k : ℕ) (bs : List ℕ) → (let t = token_of Plain bs in 0 < length bs → is_none (stop_at formals at t (take t.len bs)) ≡ false → stop_end (stop_at formals at t (take t.len bs)) ≤ at + k → stop_of formals at (take k bs) ≡ stop_at formals at t (take t.len bs))
+pub front_first : (formals : List Formal) (at k : ℕ) (bs : List ℕ) → (let t = token_of Plain bs in 0 < length bs → is_none (stop_at formals at t (take t.len bs)) ≡ false → stop_end (stop_at formals at t (take t.len bs)) ≤ at + k → stop_of formals at (take k bs) ≡ stop_at formals at t (take t.len bs))
 unfolding stop_of
 front_first formals at k bs some h inside =
     let t = token_of Plain bs in
@@ -334,29 +334,7 @@ front_first formals at k bs some h inside =
     one_token formals at Plain xs long (omega (arith, ap (λ (u : Token). u.len) same, part.not_empty))
     ∙ (ap (λ (s : Stop). or_stop s later) front ∙ or_some here later h)
 
-cut_some : (formals : List Formal) (at k : ℕ) (bs : List ℕ) (s : Stop) → 0 < length bs → s ≡ stop_of formals at bs → is_none s ≡ false → begins s ≡ at → stop_end s ≤ at + k → stop_of formals at (take k bs) ≡ s
-unfolding stop_of IsFrom
-cut_some formals at k bs s some e h there inside =
-    let t = token_of Plain bs in
-    let part = token_of-part Plain bs some in
-    let here : Stop = stop_at formals at t (take t.len bs) in
-    let later : Stop = first_stop formals (at + t.len) (tokens_from t.next_mode 0 (drop t.len bs)) (drop t.len bs) in
-    let step : s ≡ or_stop here later = e ∙ one_token formals at Plain bs some part.not_empty in
-    ⊎_elim
-    (λ none. let is : s ≡ later = step ∙ or_none here later none in
-    let behind : at + t.len ≤ begins later = tokens_within formals (at + t.len) _ _ (sym (ap is_none is) ∙ h) in
-    absurd (omega (arith, ap begins is, part.not_empty)))
-    (λ found. let is : s ≡ here = step ∙ or_some here later found in
-    front_first formals at k bs some found (omega (arith, ap stop_end is)) ∙ sym is)
-    (cases_Bool (is_none here))
-
--- a stop at the front of a text is the first one of each front of the text that has it
-cut_first : (formals : List Formal) (at k : ℕ) (bs : List ℕ) (s : Stop) → s ≡ stop_of formals at bs → is_none s ≡ false → begins s ≡ at → stop_end s ≤ at + k → stop_of formals at (take k bs) ≡ s
-unfolding stop_of first_stop tokens_from is_none
-cut_first formals at k [] s e h there inside = absurd (false≢true (sym h ∙ ap is_none e))
-cut_first formals at k (b ∷ bs) s e h there inside = cut_some formals at k (b ∷ bs) s (omega arith) e h there inside
-
-run_drop : (p : ℕ → Bool) (n m : ℕ) (xs : List ℕ) → n + m ≤ prefix_len p xs → m ≤ prefix_len p (drop n xs)
+pub run_drop : (p : ℕ → Bool) (n m : ℕ) (xs : List ℕ) → n + m ≤ prefix_len p xs → m ≤ prefix_len p (drop n xs)
 run_drop p zero m xs h = omega arith
 run_drop p (suc n) m [] h = absurd (omega arith)
 run_drop p (suc n) m (x ∷ xs) h =
@@ -365,71 +343,26 @@ run_drop p (suc n) m (x ∷ xs) h =
     (λ q. absurd (omega (arith, cond-false (p x) (1 + prefix_len p xs) 0 q)))
     (cases_Bool (p x))
 
-run_take : (p : ℕ → Bool) (n k : ℕ) (xs : List ℕ) → n ≤ prefix_len p xs → n ≤ k → n ≤ prefix_len p (take k xs)
-run_take p zero k xs h g = omega arith
-run_take p (suc n) zero xs h g = absurd (omega arith)
-run_take p (suc n) (suc k) [] h g = absurd (omega arith)
-run_take p (suc n) (suc k) (x ∷ xs) h g =
-    ⊎_elim
-    (λ q. omega (arith, cond-true (p x) (1 + prefix_len p (take k xs)) 0 q, run_take p n k xs (omega (arith, cond-true (p x) (1 + prefix_len p xs) 0 q)) (omega arith)))
-    (λ q. absurd (omega (arith, cond-false (p x) (1 + prefix_len p xs) 0 q)))
-    (cases_Bool (p x))
-
--- the first stop of a text from a place on is that from behind quiet bytes on
-quiet_behind : (formals : List Formal) (text : List ℕ) (start n : ℕ) → n ≤ prefix_len is_quiet (drop start text) → stop_of formals (start + n) (drop (start + n) text) ≡ stop_of formals start (drop start text)
-unfolding stop_of
-quiet_behind formals text start n h =
-    ap (λ (l : List ℕ). stop_of formals (start + n) l) (sym (drop-drop n start text)) ∙ quiet_some formals start n (drop start text) h
-
-pub whole_same : (formals : List Formal) (text : List ℕ) (start from to : ℕ) → to ≡ length text → start ≤ from → from - start ≤ prefix_len is_quiet (drop start text) → stop_of formals start (drop start text) ≡ stop_of formals from (slice_range text from to)
-whole_same formals text start from to e low h =
-    let there : start + (from - start) ≡ from = omega arith in
-    sym (quiet_behind formals text start (from - start) h)
-    ∙ (ap (λ (n : ℕ). stop_of formals n (drop n text)) there
-    ∙ ap (stop_of formals from) (sym (behind_place from text) ∙ ap (λ (n : ℕ). slice_range text from n) (sym e)))
-
--- a stop behind quiet bytes alone is the first one of each range that begins among these and has it
-pub front_same : (formals : List Formal) (text : List ℕ) (start quiet from to : ℕ) (s : Stop) → s ≡ stop_of formals start (drop start text) → is_none s ≡ false → begins s ≡ start + quiet → stop_end s ≤ to → quiet ≤ prefix_len is_quiet (drop start text) → start ≤ from → from ≤ start + quiet → from ≤ to → to ≤ length text → s ≡ stop_of formals from (slice_range text from to)
-unfolding stop_of
-front_same formals text start quiet from to s e some there inside run low near order high =
-    let at = start + quiet in
-    let n = at - from in
-    let k = to - at in
-    let rest = drop from text in
-    let z = slice_range text from to in
-    let e1 : s ≡ stop_of formals at (drop at text) = e ∙ sym (quiet_behind formals text start quiet run) in
-    let left : from - start + n ≤ prefix_len is_quiet (drop start text) = omega arith in
-    let same_rest : drop (from - start) (drop start text) ≡ rest = drop-drop (from - start) start text ∙ ap (λ (m : ℕ). drop m text) (let q : start + (from - start) ≡ from = omega arith in q) in
-    let quiet_rest : n ≤ prefix_len is_quiet rest = subst (λ (l : List ℕ). n ≤ prefix_len is_quiet l) same_rest (run_drop is_quiet (from - start) n (drop start text) left) in
-    let le : at ≤ to = omega (arith, begins_end s some) in
-    let quiet_z : n ≤ prefix_len is_quiet z = run_take is_quiet n (to - from) rest quiet_rest (omega arith) in
-    let z_is : drop n z ≡ take k (drop at text) =
-    ap (λ (m : ℕ). drop n (take m rest)) (let q : to - from ≡ n + k = omega arith in q) ∙ (drop-take n k rest ∙ ap (take k) (drop-drop n from text ∙ ap (λ (m : ℕ). drop m text) (let q : from + n ≡ at = omega arith in q))) in
-    let room : stop_end s ≤ at + k = omega arith in
-    sym (cut_first formals at k (drop at text) s e1 some there room)
-    ∙ (ap (stop_of formals at) (sym z_is)
-    ∙ (ap (λ (m : ℕ). stop_of formals m (drop n z)) (let q : at ≡ from + n = omega arith in q) ∙ quiet_some formals from n z quiet_z))
-
 -- The first stops of a text, as they are kept.
 
 -- a stop as it is kept by its numbers, where these are small enough
-abbrev when : Bool → KeptKind → ℕ → ℕ → ℕ → ℕ → Kept
-when b kind at len place quiet = if b then record { end = at + len; len = len; place = place; quiet = quiet; kind = kind } else endless kept.Unknown 0
+abbrev pub when : Bool → KeptKind → ℕ → ℕ → ℕ → ℕ → Kept
+when b kind at len place calm = if b then record { end = at + len; len = len; place = place; calm = calm; kind = kind } else endless kept.Unknown 0
 
-back_when : (b : Bool) (kind : KeptKind) (at len place quiet : ℕ) (s : Stop) → stop_by kind at len place ≡ Some s → IfSome (stop_kept (when b kind at len place quiet)) (λ x. x ≡ s)
+pub back_when : (b : Bool) (kind : KeptKind) (at len place calm : ℕ) (s : Stop) → stop_by kind at len place ≡ Some s → IfSome (stop_kept (when b kind at len place calm)) (λ x. x ≡ s)
 unfolding stop_kept stop_by endless
-back_when true kind at len place quiet s e =
+back_when true kind at len place calm s e =
     let there : at + len - len ≡ at = omega arith in
     subst (λ (x : Option Stop). IfSome x (λ y. y ≡ s)) (sym (ap (λ (n : ℕ). stop_by kind n len place) there ∙ e)) refl
-back_when false kind at len place quiet s e = tt
+back_when false kind at len place calm s e = tt
 
 -- a stop that is kept is that stop, where it is known
-pub kept_back : (s : Stop) (quiet : ℕ) → IfSome (stop_kept (kept_of s quiet)) (λ x. x ≡ s)
+pub kept_back : (s : Stop) (calm : ℕ) → IfSome (stop_kept (kept_of s calm)) (λ x. x ≡ s)
 unfolding stop_kept kept_of stop_by endless placed
-kept_back stop.None quiet = refl
-kept_back (stop.Formal at len place) quiet = back_when _ kept.Formal at len place quiet _ refl
-kept_back (stop.Usage at len) quiet = back_when _ kept.Usage at len 0 quiet _ refl
-kept_back (stop.Bare at) quiet = back_when _ kept.Bare at 1 0 quiet _ refl
+kept_back stop.None calm = refl
+kept_back (stop.Formal at len place) calm = back_when _ kept.Formal at len place calm _ refl
+kept_back (stop.Usage at len) calm = back_when _ kept.Usage at len 0 calm _ refl
+kept_back (stop.Bare at) calm = back_when _ kept.Bare at 1 0 calm _ refl
 
 pub none_end : stop_end stop.None ≡ 0
 unfolding stop_end
@@ -461,75 +394,6 @@ kind_end formals at len Perl mode bytes h = omega arith
 pub token_end : (formals : List Formal) (at : ℕ) (t : Token) (bytes : List ℕ) → 0 < t.len → stop_end (stop_at formals at t bytes) ≤ at + t.len
 token_end formals at t bytes h = kind_end formals at t.len t.kind t.next_mode bytes h
 
-quiet_when : (b : Bool) (kind : KeptKind) (at len place quiet : ℕ) → (when b kind at len place quiet).quiet ≤ quiet
-unfolding endless
-quiet_when true kind at len place quiet = omega arith
-quiet_when false kind at len place quiet = omega arith
-
--- no more quiet bytes are kept than there are
-kept_quiet : (s : Stop) (quiet : ℕ) → (kept_of s quiet).quiet ≤ quiet
-unfolding kept_of placed endless
-kept_quiet stop.None quiet = omega arith
-kept_quiet (stop.Formal at len place) quiet = quiet_when _ kept.Formal at len place quiet
-kept_quiet (stop.Usage at len) quiet = quiet_when _ kept.Usage at len 0 quiet
-kept_quiet (stop.Bare at) quiet = quiet_when _ kept.Bare at 1 0 quiet
-
-quiet_text : (text : List ℕ) → quiet_kept text ≤ prefix_len is_quiet text
-unfolding quiet_kept
-quiet_text text =
-    let n = prefix_len is_quiet text in
-    ⊎_elim (λ h. omega (arith, cond-true (ltb n 255) n 255 h)) (λ h. omega (arith, cond-false (ltb n 255) n 255 h, ltb-false n 255 h)) (cases_Bool (ltb n 255))
-
--- what is told of a stop that is kept behind quiet bytes alone
-record IsBehind (s : Stop) (at to : ℕ) : Type 0 where
-  some : is_none s ≡ false
-  there : begins s ≡ at
-  inside : stop_end s ≤ to
-
-behind_when : (b : Bool) (kind : KeptKind) (at len place quiet start to : ℕ) → is_behind_quiet start (when b kind at len place quiet) to ≡ true → (at ≡ start + (when b kind at len place quiet).quiet) × (at + len ≤ to)
-unfolding is_behind_quiet endless
-behind_when true kind at len place quiet start to h =
-    let two = and_parts (ltb 0 len) (eqb (start + quiet + len) (at + len) && leb (at + len) to) h in
-    let ends = and_parts (eqb (start + quiet + len) (at + len)) (leb (at + len) to) two.1 in
-    let same : start + quiet + len ≡ at + len = eqb-true _ _ ends.0 in
-    let inside : at + len ≤ to = leb-true _ _ ends.1 in
-    (omega (arith, same), inside)
-behind_when false kind at len place quiet start to h = absurd (cc)
-
-behind_of : (s : Stop) (quiet start to : ℕ) → is_behind_quiet start (kept_of s quiet) to ≡ true → IsBehind s (start + (kept_of s quiet).quiet) to
-unfolding kept_of placed endless is_behind_quiet is_none begins stop_end
-behind_of stop.None quiet start to h = absurd (cc)
-behind_of (stop.Formal at len place) quiet start to h = let e = behind_when _ kept.Formal at len place quiet start to h in record { some = refl; there = e.0; inside = e.1 }
-behind_of (stop.Usage at len) quiet start to h = let e = behind_when _ kept.Usage at len 0 quiet start to h in record { some = refl; there = e.0; inside = e.1 }
-behind_of (stop.Bare at) quiet start to h = let e = behind_when _ kept.Bare at 1 0 quiet start to h in record { some = refl; there = e.0; inside = e.1 }
-
--- a stop that is kept as the first one from a place on is that of a range, where it is known to be
-known_same : (formals : List Formal) (text : List ℕ) (size start from to : ℕ) (s : Stop) (quiet : ℕ) → s ≡ stop_of formals start (drop start text) → quiet ≤ prefix_len is_quiet (drop start text) → length text ≡ size → start ≤ from → from ≤ to → to ≤ size → is_known size start (kept_of s quiet) from to ≡ true → s ≡ stop_of formals from (slice_range text from to)
-unfolding is_known
-known_same formals text size start from to s quiet e q l low order high h =
-    let k = kept_of s quiet in
-    let two = and_parts (leb from (start + k.quiet)) _ h in
-    let near : from ≤ start + k.quiet = leb-true _ _ two.0 in
-    let less : k.quiet ≤ prefix_len is_quiet (drop start text) = omega (arith, kept_quiet s quiet) in
-    ⊎_elim
-    (λ (w : eqb to size ≡ true). e ∙ whole_same formals text start from to (omega (arith, eqb-true to size w)) low (omega arith))
-    (λ f. let b = behind_of s quiet start to f in front_same formals text start k.quiet from to s e b.some b.there b.inside less low near order (omega arith))
-    (or_cases _ _ two.1)
-
-known_when : (b : Bool) (formals : List Formal) (text : List ℕ) (size start from to : ℕ) (s : Stop) (quiet : ℕ) → s ≡ stop_of formals start (drop start text) → quiet ≤ prefix_len is_quiet (drop start text) → length text ≡ size → start ≤ from → from ≤ to → to ≤ size → is_known size start (if b then kept_of s quiet else endless kept.Unknown 0) from to ≡ true → IfSome (stop_kept (if b then kept_of s quiet else endless kept.Unknown 0)) (λ x. x ≡ stop_of formals from (slice_range text from to))
-unfolding stop_kept stop_by endless
-known_when true formals text size start from to s quiet e q l low order high h =
-    subst (λ (x : Stop). IfSome (stop_kept (kept_of s quiet)) (λ y. y ≡ x)) (known_same formals text size start from to s quiet e q l low order high h) (kept_back s quiet)
-known_when false formals text size start from to s quiet e q l low order high h = tt
-
-pub known_range : (formals : List Formal) (text : List ℕ) (size start : ℕ) (k : Kept) (from to : ℕ) (known : Bool) (r : Option Stop) → length text ≡ size → k ≡ kept_from formals text start → (start ≤ from) × (from ≤ to) → to ≤ size → known ≡ is_known size start k from to → known ≡ true → r ≡ stop_kept k → IfSome r (λ s. s ≡ stop_of formals from (slice_range text from to))
-unfolding kept_from
-known_range formals text size start k from to known r l e order high n h q =
-    let S : Stop = stop_of formals from (slice_range text from to) in
-    let here : is_known size start (kept_from formals text start) from to ≡ true = ap (λ (x : Kept). is_known size start x from to) (sym e) ∙ (sym n ∙ h) in
-    subst (λ (x : Option Stop). IfSome x (λ y. y ≡ S)) (sym (q ∙ ap stop_kept e))
-    (known_when (ltb start 65535) formals text size start from to _ _ refl (quiet_text (drop start text)) l order.0 order.1 high here)
-
 -- The first stops of a text, one behind another.
 
 -- a stop that is found behind others is one more of them
@@ -552,7 +416,7 @@ stops_beyond : (formals : List Formal) (text : List ℕ) (n from : ℕ) → 6553
 unfolding stops_behind kept_from endless
 stops_beyond formals text zero from h = refl
 stops_beyond formals text (suc n) from h =
-    let here : kept_from formals text from ≡ unknown = ap (λ (b : Bool). if b then kept_of (stop_of formals from (drop from text)) (quiet_kept (drop from text)) else unknown) (le-ltb from 65535 h) in
+    let here : kept_from formals text from ≡ unknown = ap (λ (b : Bool). if b then kept_stop (stop_of formals from (drop from text)) from (drop from text) else unknown) (le-ltb from 65535 h) in
     ap (λ (k : Kept). k ∷ stops_behind n formals text k.end) here ∙ ap (λ (l : List Kept). unknown ∷ l) (stops_beyond formals text n 65535 (omega arith))
 
 -- what is not written yet is unknown
@@ -581,7 +445,7 @@ all_stops formals text stops e = ap (λ (x : FirstStops). x.all) e
 
 -- a stop without anything
 abbrev pub no_stop : Kept
-no_stop = record { end = 0; len = 0; place = 0; quiet = 0; kind = kept.Unknown }
+no_stop = record { end = 0; len = 0; place = 0; calm = 0; kind = kept.Unknown }
 
 -- the stop at a place among them is the first one from the end of the one before, and those behind it come from its own end on
 pub stop_next : (formals : List Formal) (text : List ℕ) (all : List Kept) (d k : Kept) (i start : ℕ) → length all ≡ 10 → i < 10 → drop i all ≡ stops_behind (10 - i) formals text start → k ≡ get_or all i d → (k ≡ kept_from formals text start) × (drop (i + 1) all ≡ stops_behind (10 - (i + 1)) formals text k.end)

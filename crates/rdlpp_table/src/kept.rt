@@ -1,17 +1,23 @@
 // The first stops of a body, which are looked for once and kept in its entry.
-ghost use Rattle.std.specs.Prelude.{drop, length, slice_range, IfSome, List, ℕ, ◌+◌, ◌<◌, ◌≡◌, ◌≤◌, ◌^◌};
+ghost use Rattle.std.specs.Prelude.{drop, length, slice_index, slice_range, IfSome, List, ℕ, ◌+◌, ◌<◌, ◌≡◌, ◌≤◌, ◌^◌};
+ghost use Rattle.std.specs.List.{prefix_len};
+ghost use Rattle.rdlpp_scan.specs.Bytes.{is_word};
 ghost use Rattle.rdlpp_table.specs.Kept.{
+  before_stop,
+  calm_kept,
   endless,
   first_stops,
-  is_behind_quiet,
-  is_known,
+  is_calm,
+  is_cut,
   kept_from,
   kept_of,
+  kept_stop,
   placed,
-  quiet_kept,
   stop_by,
   stop_end,
   stop_kept,
+  stop_known,
+  stop_within,
 };
 ghost use Rattle.rdlpp_table.specs.Stops.{stop_of};
 ghost use Rattle.rdlpp_table.specs.Store.{formals_read, IsListed};
@@ -19,7 +25,7 @@ ghost use Rattle.rdlpp_table.specs.Table.{Formal};
 
 use crate::marks::Listed;
 use crate::stop::{Stop, first_stop};
-use rdlpp_scan::quiet_bytes;
+use rdlpp_scan::{quiet_bytes, word_bytes};
 
 // What a stop is that is kept: unknown, where its numbers are too large.
 #[derive(Clone, Copy, Drop)]
@@ -39,8 +45,8 @@ pub(crate) struct Kept {
     pub(crate) len: u8,
     // Which formal it is.
     pub(crate) place: u8,
-    // How many quiet bytes stand first in the text of which it is the first stop: 255, where there are more.
-    pub(crate) quiet: u8,
+    // How many calm bytes stand first in the text of which it is the first stop, and before it: 255, where there are more.
+    pub(crate) calm: u8,
     pub(crate) kind: KeptKind,
 }
 
@@ -55,22 +61,22 @@ pub(crate) struct FirstStops {
 
 // What is kept where no stop is known to end.
 #[tactic(auto, unfolding(crate::specs::Kept::endless))]
-fn endless(kind: KeptKind, quiet: u8) -> Kept
-    ensures { result ≡ endless kind quiet }
+fn endless(kind: KeptKind, calm: u8) -> Kept
+    ensures { result ≡ endless kind calm }
 {
     Kept {
         end: 65535,
         len: 0,
         place: 0,
-        quiet,
+        calm,
         kind,
     }
 }
 
 // What is kept of a stop by its numbers.
 #[tactic(auto, unfolding(crate::specs::Kept::placed, crate::specs::Kept::endless))]
-fn placed(kind: KeptKind, at: usize, len: usize, place: usize, quiet: u8) -> Kept
-    ensures value { result ≡ placed kind at len place quiet }
+fn placed(kind: KeptKind, at: usize, len: usize, place: usize, calm: u8) -> Kept
+    ensures value { result ≡ placed kind at len place calm }
     ensures end { result.end < 65535 → result.end ≡ at + len }
 {
     if at < 65535 && len < 256 && place < 256 && at + len < 65535 {
@@ -78,7 +84,7 @@ fn placed(kind: KeptKind, at: usize, len: usize, place: usize, quiet: u8) -> Kep
             end: (at + len) as u16,
             len: len as u8,
             place: place as u8,
-            quiet,
+            calm,
             kind,
         }
     } else {
@@ -86,17 +92,17 @@ fn placed(kind: KeptKind, at: usize, len: usize, place: usize, quiet: u8) -> Kep
     }
 }
 
-// A stop as it is kept, with how many quiet bytes stand first in its text.
+// A stop as it is kept, with how many calm bytes stand first in its text.
 #[tactic(auto, unfolding(crate::specs::Kept::kept_of, crate::specs::Kept::endless, crate::specs::Kept::stop_end))]
-fn kept_of(stop: Stop, quiet: u8) -> Kept
-    ensures value { result ≡ kept_of stop quiet }
+fn kept_of(stop: Stop, calm: u8) -> Kept
+    ensures value { result ≡ kept_of stop calm }
     ensures end { result.end < 65535 → result.end ≡ stop_end stop }
 {
     match stop {
-        Stop::None => endless(KeptKind::None, quiet),
-        Stop::Formal { at, len, place } => placed(KeptKind::Formal, at, len, place, quiet),
-        Stop::Usage { at, len } => placed(KeptKind::Usage, at, len, 0, quiet),
-        Stop::Bare { at } => placed(KeptKind::Bare, at, 1, 0, quiet),
+        Stop::None => endless(KeptKind::None, calm),
+        Stop::Formal { at, len, place } => placed(KeptKind::Formal, at, len, place, calm),
+        Stop::Usage { at, len } => placed(KeptKind::Usage, at, len, 0, calm),
+        Stop::Bare { at } => placed(KeptKind::Bare, at, 1, 0, calm),
     }
 }
 
@@ -124,13 +130,53 @@ fn stop_kept(kept: Kept) -> Option<Stop>
     stop_by(kept.kind, at, len, kept.place as usize)
 }
 
-// How many quiet bytes a text begins with, as they are kept.
-#[tactic(auto, unfolding(crate::specs::Kept::quiet_kept))]
-fn quiet_kept(text: &[u8]) -> u8
-    ensures { result ≡ quiet_kept text.now }
+// Whether a byte outside strings and comments can begin neither one: it is no `"`, no `/` and no `<`.
+#[tactic(auto, unfolding(crate::specs::Kept::is_calm))]
+fn is_calm(b: u8) -> bool
+    ensures { result ≡ is_calm b }
 {
-    let quiet = quiet_bytes(text);
-    if quiet < 255 { quiet as u8 } else { 255 }
+    !(b == b'"' || (b == b'/' || b == b'<'))
+}
+
+// A text that begins at a place, up to its first stop.
+#[tactic(auto, unfolding(crate::specs::Kept::before_stop, crate::specs::Kept::stop_end))]
+fn before_stop(stop: Stop, from: usize, text: &[u8]) -> &[u8]
+    requires { stop_end stop ≤ from + length text.now }
+    ensures { result.now ≡ before_stop stop from text.now }
+{
+    match stop {
+        Stop::None => text,
+        Stop::Formal { at, .. } | Stop::Usage { at, .. } | Stop::Bare { at } => {
+            &text[..at.saturating_sub(from)]
+        }
+    }
+}
+
+// How many calm bytes a text begins with.
+fn calm_bytes(text: &[u8]) -> usize
+    ensures value { result ≡ prefix_len is_calm text.now }
+    ensures inside { result ≤ length text.now }
+{
+    text.iter().take_while(|b| is_calm(**b)).count()
+}
+
+// How many calm bytes a text begins with, as they are kept.
+#[tactic(auto, unfolding(crate::specs::Kept::calm_kept))]
+fn calm_kept(text: &[u8]) -> u8
+    ensures { result ≡ calm_kept text.now }
+{
+    let near = text.len().min(255);
+    calm_bytes(&text[..near]) as u8
+}
+
+// A stop of a text that begins at a place, as it is kept.
+#[tactic(auto, unfolding(crate::specs::Kept::kept_stop))]
+fn kept_stop(stop: Stop, from: usize, text: &[u8]) -> Kept
+    requires { stop_end stop ≤ from + length text.now }
+    ensures value { result ≡ kept_stop stop from text.now }
+    ensures end { result.end < 65535 → result.end ≡ stop_end stop }
+{
+    kept_of(stop, calm_kept(before_stop(stop, from, text)))
 }
 
 // The first stop of a body from a place on.
@@ -145,7 +191,7 @@ fn kept_from(formals: &Listed, body: &[u8], from: u16) -> Kept
     if from < 65535 {
         let from = from as usize;
         let text = &body[from..];
-        kept_of(first_stop(formals, text, from), quiet_kept(text))
+        kept_stop(first_stop(formals, text, from), from, text)
     } else {
         endless(KeptKind::Unknown, 0)
     }
@@ -169,31 +215,54 @@ pub(crate) fn first_stops(formals: &Listed, body: &[u8]) -> FirstStops
     FirstStops { all }
 }
 
-// Whether a stop that is kept as the first one from a place on stands behind quiet bytes alone, and ends in a range.
-#[tactic(auto, unfolding(crate::specs::Kept::is_behind_quiet))]
-fn is_behind_quiet(start: u16, kept: Kept, to: usize) -> bool
-    ensures { result ≡ is_behind_quiet start kept to }
+// Whether no token goes on at a place of a body that is read from another one on, behind calm bytes: it is that place, or a quiet byte
+// stands before it.
+#[tactic(auto, unfolding(crate::specs::Kept::is_cut))]
+fn is_cut(body: &[u8], start: usize, from: usize) -> bool
+    requires order { start ≤ from }
+    requires inside { from ≤ length body.now }
+    ensures { result ≡ is_cut body.now start from }
+{
+    from == start || quiet_bytes(&body[from - 1..from]) == 1
+}
+
+// Whether a word may go on at a place of a body.
+fn is_word_at(body: &[u8], place: usize) -> bool
+    requires { place < length body.now }
+    ensures { result ≡ is_word (slice_index body.now place) }
+{
+    word_bytes(&body[place..place + 1]) == 1
+}
+
+// The first stop of a range of a body, behind whose front no token goes on, where the stop that is kept as the first one from a place
+// on tells it.
+#[tactic(auto, unfolding(crate::specs::Kept::stop_within))]
+fn stop_within(body: &[u8], reach: usize, kept: Kept, to: usize) -> Option<Stop>
+    requires { to ≤ length body.now }
+    ensures { result ≡ stop_within body.now reach kept to }
 {
     let end = kept.end as usize;
-    kept.len > 0 && start as usize + kept.quiet as usize + kept.len as usize == end && end <= to
+    let at = end.saturating_sub(kept.len as usize);
+    if to == body.len() || (kept.len > 0 && (end <= to && at <= reach)) {
+        return stop_kept(kept);
+    }
+    if to <= at && (to <= reach && !is_word_at(body, to)) {
+        return Some(Stop::None);
+    }
+    None
 }
 
-// Whether the stop that is kept as the first one of a body from a place on is known to be that of a range further on.
-#[tactic(auto, unfolding(crate::specs::Kept::is_known))]
-fn is_known(size: usize, start: u16, kept: Kept, from: usize, to: usize) -> bool
-    ensures { result ≡ is_known size start kept from to }
-{
-    from <= start as usize + kept.quiet as usize && (to == size || is_behind_quiet(start, kept, to))
-}
-
-// A stop that is kept as the first one of a body from a place on, where it is known to be the first one of a range.
-fn known_behind(size: usize, start: u16, kept: Kept, from: usize, to: usize) -> Option<Stop>
+// The first stop of a range of a body, where the one that is kept as the first one from a place on tells it.
+#[tactic(auto, unfolding(crate::specs::Kept::stop_known))]
+fn stop_known(body: &[u8], start: u16, kept: Kept, from: usize, to: usize) -> Option<Stop>
     requires order { (start ≤ from) × (from ≤ to) }
-    requires inside { to ≤ size }
-    ensures { (formals : List Formal) (text : List ℕ) → length text ≡ size → kept ≡ kept_from formals text start → IfSome result (λ stop. stop ≡ stop_of formals from (slice_range text from to)) }
+    requires inside { to ≤ length body.now }
+    ensures { result ≡ stop_known body.now start kept from to }
 {
-    if is_known(size, start, kept, from, to) {
-        stop_kept(kept)
+    let start = start as usize;
+    let reach = start + kept.calm as usize;
+    if from <= reach && is_cut(body, start, from) {
+        stop_within(body, reach, kept, to)
     } else {
         None
     }
@@ -226,12 +295,12 @@ fn candidate_at(stops: &FirstStops, from: usize) -> Candidate<'_>
     }
 }
 
-// The first stop of a range of a body of so many bytes, where one that is kept is known to be it.
-pub(crate) fn known_stop(stops: &FirstStops, size: usize, from: usize, to: usize) -> Option<Stop>
+// The first stop of a range of a body, where one that is kept tells it.
+pub(crate) fn known_stop(stops: &FirstStops, body: &[u8], from: usize, to: usize) -> Option<Stop>
     requires order { from ≤ to }
-    requires inside { to ≤ size }
-    ensures { (formals : List Formal) (text : List ℕ) → length text ≡ size → stops.now ≡ first_stops formals text → IfSome result (λ stop. stop ≡ stop_of formals from (slice_range text from to)) }
+    requires inside { to ≤ length body.now }
+    ensures { (formals : List Formal) → stops.now ≡ first_stops formals body.now → IfSome result (λ stop. stop ≡ stop_of formals from (slice_range body.now from to)) }
 {
     let found = candidate_at(stops, from);
-    known_behind(size, found.start, *found.kept, from, to)
+    stop_known(body, found.start, *found.kept, from, to)
 }

@@ -236,10 +236,11 @@ impl Table {
     /// a usage, a lone backquote or a formal of the macro. The bytes of the range are read as a text of their own,
     /// from plain text on. `from` and `to` are counted in bytes from the front of the body.
     ///
-    /// Takes time linear in the distance to that place, but where one of the first ten stops of the body is known to be
-    /// it: then no byte is read. It is where `from` lies among the blanks and the bytes that are tokens by themselves with
-    /// which the body begins, or the text behind the stop before that one, or right behind them (255 of them count at most);
-    /// and `to` is the end of the body, or the stop follows these bytes at once and ends at `to` or before it.
+    /// Takes time linear in the distance to that place, or to `to` where there is none, but where the first ten stops of the body
+    /// tell it: then at most two bytes are read. They do where `from` is the front of the body or the end of the stop before it, or
+    /// stands behind a blank or a byte that is a token by itself, at most 255 bytes further on, none of which is `"`, `/` or `<`; and
+    /// `to` is the end of the body, or at most so many such bytes lie before the stop, which ends at `to` or before it, or before
+    /// `to`, where no word goes on and which the stop is behind.
     pub fn stop(&self, id: MacroId, from: usize, to: usize) -> Stop
         requires id { id < length self.now.macros }
         requires order { from ≤ to }
@@ -248,7 +249,7 @@ impl Table {
     {
         let entry = &live(&self.entries, &self.front)[id.index];
         let body = body_in(self.bytes.as_slice(), entry);
-        match known_stop(&entry.stops, body.len(), from, to) {
+        match known_stop(&entry.stops, body, from, to) {
             Some(stop) => stop,
             None => self.sought_stop(id, from, to),
         }

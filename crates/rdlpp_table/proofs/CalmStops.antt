@@ -1,0 +1,457 @@
+-- Stops behind calm bytes: those from a place on at which no token goes on, and those of the front of a text.
+use Rattle.std.proofs.Common.{◌≡◌, ℕ, zero, suc, ◌+◌, ◌-◌, ◌<◌, ◌≤◌, Bool, true, false, List, [], ◌∷◌, ⊎_elim, length, take, drop, refl, ap, sym, ◌∙◌, arith, inl, inr, eqb, not, ◌&&◌, ◌||◌, get_or, subst, Option, Some, None, ◌⊎◌, IfSome, slice_range, leb, ltb, if◌then◌else◌}
+use Rattle.std.specs.List.{prefix_len}
+use Rattle.std.proofs.lemmas.Bool.{cases_Bool, false≢true, cond_both, cond-true, cond-false, eqb-true, leb-true, ltb-true, or_cases, and_parts, cases_lt}
+use Rattle.std.proofs.lemmas.List.{get_or-drop, length-drop, length-take, drop-drop, drop-take, take_all}
+use Rattle.rdlpp_scan.specs.Bytes.{begins_block_comment, begins_line_comment, begins_perl, is_blank, is_closer, is_digit, is_letter, is_line_end, is_opener, is_quiet, is_word, takes_word}
+use Rattle.rdlpp_scan.specs.declared.token.Kind.{Kind}
+use Rattle.rdlpp_scan.specs.declared.token.Kind.TheVariants.{Name, Word, Back, Blank, LineEnd, Str, LineComment, BlockComment, Opener, Closer, Comma, Other, Perl, BareBackquote}
+use Rattle.rdlpp_scan.specs.declared.token.Mode.{Mode}
+use Rattle.rdlpp_scan.specs.declared.token.Mode.TheVariants.{Plain}
+use Rattle.rdlpp_scan.specs.declared.token.Token.{Token}
+use Rattle.rdlpp_scan.specs.Tokens.{plain_token, token_of, tokens_from, whole}
+use Rattle.rdlpp_scan.proofs.TokenLens.{token_of-part}
+use Rattle.rdlpp_table.specs.declared.stop.Stop.{Stop}
+use Rattle.rdlpp_table.specs.declared.stop.Stop.TheVariants as stop
+use Rattle.rdlpp_table.specs.Kept.{before_stop, calm_kept, endless, is_calm, is_cut, kept_from, kept_of, kept_stop, placed, stop_by, stop_end, stop_kept, stop_known, stop_within}
+use Rattle.rdlpp_table.specs.declared.kept.Kept.{Kept}
+use Rattle.rdlpp_table.specs.declared.kept.KeptKind.{KeptKind}
+use Rattle.rdlpp_table.specs.declared.kept.KeptKind.TheVariants as kept
+use Rattle.rdlpp_table.specs.Stops.{first_stop, is_none, or_stop, stop_at, stop_name, stop_of}
+use Rattle.rdlpp_table.specs.Table.{Formal}
+use Rattle.rdlpp_table.specs.View.{formal_named}
+use Rattle.rdlpp_table.proofs.FirstStops.{IsFrom, back_when, begins, begins_end, behind_place, when, cut_more, cut_token, front_first, one_token, or_none, or_some, quiet_one, run_drop, tokens_within}
+
+-- The first token of a text that begins with a calm byte.
+
+-- such a token leaves plain text plain; and one that isn't white space goes no further than the word behind its first byte
+record IsCalmToken (b : ℕ) (bs : List ℕ) (t : Token) : Type 0 where
+  next : t.next_mode ≡ Plain
+  short : is_blank b ≡ false → t.len ≤ 1 + prefix_len is_word bs
+
+-- a byte that can begin a string, a comment or `<%` isn't calm
+no_calm : (b n : ℕ) → is_calm b ≡ true → is_calm n ≡ false → eqb b n ≡ true → ⊥
+no_calm b n s f e = false≢true (sym f ∙ subst (λ (k : ℕ). is_calm k ≡ true) (eqb-true b n e) s)
+
+both_first : (p q : Bool) → (p && q) ≡ true → p ≡ true
+both_first true q h = refl
+both_first false q h = absurd (false≢true h)
+
+word_run : (b : ℕ) (bs : List ℕ) → prefix_len is_word (b ∷ bs) ≤ 1 + prefix_len is_word bs
+word_run b bs =
+    ⊎_elim
+    (λ h. omega (arith, cond-true (is_word b) (1 + prefix_len is_word bs) 0 h))
+    (λ h. omega (arith, cond-false (is_word b) (1 + prefix_len is_word bs) 0 h))
+    (cases_Bool (is_word b))
+
+calm_token : (b : ℕ) (bs : List ℕ) → is_calm b ≡ true → IsCalmToken b bs (token_of Plain (b ∷ bs))
+unfolding token_of plain_token whole begins_perl begins_line_comment begins_block_comment is_calm
+calm_token b bs s =
+    let c = get_or (b ∷ bs) 1 0 in
+    let P : Token → Type 0 = λ t. IsCalmToken b bs t in
+    let one : (k : Kind) → P (whole k 1) = λ k. record { next = refl; short = λ _. omega arith } in
+    let word : (k : Kind) → P (whole k (prefix_len is_word (b ∷ bs))) = λ k. record { next = refl; short = λ _. word_run b bs } in
+    cond_both (begins_perl (b ∷ bs)) _ _ P (λ h. absurd (no_calm b 60 s refl (both_first _ _ h))) (λ _.
+    cond_both (is_line_end b) _ _ P (λ _. one LineEnd) (λ _.
+    cond_both (is_blank b) _ _ P (λ h. record { next = refl; short = λ f. absurd (false≢true (sym f ∙ h)) }) (λ _.
+    cond_both (begins_line_comment (b ∷ bs)) _ _ P (λ h. absurd (no_calm b 47 s refl (both_first _ _ h))) (λ _.
+    cond_both (begins_block_comment (b ∷ bs)) _ _ P (λ h. absurd (no_calm b 47 s refl (both_first _ _ h))) (λ _.
+    cond_both (eqb b 34) _ _ P (λ h. absurd (no_calm b 34 s refl h)) (λ _.
+    cond_both (is_letter b) _ _ P (λ _. word Name) (λ _.
+    cond_both (is_digit b) _ _ P (λ _. word Word) (λ _.
+    cond_both (takes_word b && is_word c) _ _ P (λ _. record { next = refl; short = λ _. omega arith }) (λ _.
+    cond_both (eqb b 96 && is_letter c) _ _ P (λ _. record { next = refl; short = λ _. omega arith }) (λ _.
+    cond_both (eqb b 96) _ _ P (λ _. one BareBackquote) (λ _.
+    cond_both (is_opener b) _ _ P (λ _. one Opener) (λ _.
+    cond_both (is_closer b) _ _ P (λ _. one Closer) (λ _.
+    cond_both (eqb b 44) _ _ P (λ _. one Comma) (λ _. one Other))))))))))))))
+
+-- a blank is quiet
+blank_quiet : (b : ℕ) → is_blank b ≡ true → is_quiet b ≡ true
+unfolding is_blank is_quiet is_letter is_digit takes_word
+blank_quiet b h =
+    let P : ℕ → Type 0 = λ n. is_quiet n ≡ true in
+    let at : (n : ℕ) → is_quiet n ≡ true → eqb b n ≡ true → P b = λ n q e. subst P (sym (eqb-true b n e)) q in
+    ⊎_elim (λ h4. ⊎_elim (λ h3. ⊎_elim (λ h2. ⊎_elim (at 32 refl) (at 9 refl) (or_cases _ _ h2)) (at 13 refl) (or_cases _ _ h3)) (at 11 refl) (or_cases _ _ h4)) (at 12 refl) (or_cases _ _ h)
+
+no_blank : (b : ℕ) → is_quiet b ≡ false → is_blank b ≡ false
+no_blank b q = ⊎_elim (λ h. absurd (false≢true (sym q ∙ blank_quiet b h))) (λ h. h) (cases_Bool (is_blank b))
+
+not_false : (p : Bool) → not p ≡ true → p ≡ false
+not_false true h = absurd (false≢true h)
+not_false false h = refl
+
+-- a quiet byte is none of a word
+quiet_apart : (b : ℕ) → is_quiet b ≡ true → is_word b ≡ false
+unfolding is_quiet is_word
+quiet_apart b q =
+    let letter = and_parts (not (is_letter b)) _ q in
+    let digit = and_parts (not (is_digit b)) _ letter.1 in
+    ap (λ (t : Bool). t || is_digit b) (not_false (is_letter b) letter.0) ∙ not_false (is_digit b) digit.0
+
+-- a run ends where a byte isn't of it
+run_stops : (p : ℕ → Bool) (k : ℕ) (bs : List ℕ) → p (get_or bs k 0) ≡ false → prefix_len p bs ≤ k
+run_stops p k [] h = omega arith
+run_stops p zero (b ∷ bs) h = omega (arith, cond-false (p b) (1 + prefix_len p bs) 0 h)
+run_stops p (suc k) (b ∷ bs) h =
+    ⊎_elim
+    (λ q. omega (arith, cond-true (p b) (1 + prefix_len p bs) 0 q, run_stops p k bs h))
+    (λ q. omega (arith, cond-false (p b) (1 + prefix_len p bs) 0 q))
+    (cases_Bool (p b))
+
+run_one : (p : ℕ → Bool) (n : ℕ) (b : ℕ) (bs : List ℕ) → suc n ≤ prefix_len p (b ∷ bs) → (p b ≡ true) × (n ≤ prefix_len p bs)
+run_one p n b bs h =
+    ⊎_elim
+    (λ q. (q, omega (arith, cond-true (p b) (1 + prefix_len p bs) 0 q, h)))
+    (λ q. absurd (omega (arith, cond-false (p b) (1 + prefix_len p bs) 0 q, h)))
+    (cases_Bool (p b))
+
+-- where a stop that a token is begins
+name_begins : (at len : ℕ) (o : Option ℕ) → begins (stop_name at len o) ≤ at
+unfolding stop_name begins
+name_begins at len (Some place) = omega arith
+name_begins at len None = omega arith
+
+kind_begins : (formals : List Formal) (at len : ℕ) (k : Kind) (mode : Mode) (bytes : List ℕ) → begins (stop_at formals at (record { kind = k; next_mode = mode; len = len }) bytes) ≤ at
+unfolding stop_at begins
+kind_begins formals at len Name mode bytes = name_begins at len (formal_named formals bytes)
+kind_begins formals at len Back mode bytes = omega arith
+kind_begins formals at len BareBackquote mode bytes = omega arith
+kind_begins formals at len Word mode bytes = omega arith
+kind_begins formals at len Blank mode bytes = omega arith
+kind_begins formals at len LineEnd mode bytes = omega arith
+kind_begins formals at len Str mode bytes = omega arith
+kind_begins formals at len LineComment mode bytes = omega arith
+kind_begins formals at len BlockComment mode bytes = omega arith
+kind_begins formals at len Opener mode bytes = omega arith
+kind_begins formals at len Closer mode bytes = omega arith
+kind_begins formals at len Comma mode bytes = omega arith
+kind_begins formals at len Other mode bytes = omega arith
+kind_begins formals at len Perl mode bytes = omega arith
+
+-- One token.
+
+-- what stands behind the first token of a text, if that is none of the stops
+abbrev behind : List Formal → ℕ → List ℕ → Stop
+behind formals at u = let t = token_of Plain u in first_stop formals (at + t.len) (tokens_from Plain 0 (drop t.len u)) (drop t.len u)
+
+abbrev here : List Formal → ℕ → List ℕ → Stop
+here formals at u = let t = token_of Plain u in stop_at formals at t (take t.len u)
+
+text_step : (formals : List Formal) (at : ℕ) (u : List ℕ) → 0 < length u → (token_of Plain u).next_mode ≡ Plain → is_none (here formals at u) ≡ true
+    → first_stop formals at (tokens_from Plain 0 u) u ≡ behind formals at u
+text_step formals at u some next none =
+    let t = token_of Plain u in
+    one_token formals at Plain u some (token_of-part Plain u some).not_empty
+    ∙ (or_none (here formals at u) _ none
+    ∙ ap (λ (m : Mode). first_stop formals (at + t.len) (tokens_from m 0 (drop t.len u)) (drop t.len u)) next)
+
+-- the first token of a text isn't a stop, where the first stop is none, or begins behind its front
+passed_here : (formals : List Formal) (at : ℕ) (u : List ℕ) (s : Stop) → 0 < length u → s ≡ first_stop formals at (tokens_from Plain 0 u) u → (is_none s ≡ false → at < begins s) → is_none (here formals at u) ≡ true
+passed_here formals at u s some e far =
+    let t = token_of Plain u in
+    ⊎_elim
+    (λ h. h)
+    (λ h.
+    let is : s ≡ here formals at u = e ∙ (one_token formals at Plain u some (token_of-part Plain u some).not_empty ∙ or_some (here formals at u) _ h) in
+    absurd (omega (arith, far (ap is_none is ∙ h), ap begins is, kind_begins formals at t.len t.kind t.next_mode (take t.len u))))
+    (cases_Bool (is_none (here formals at u)))
+
+-- the same of the front of a text, which has that token
+cut_step : (formals : List Formal) (at m : ℕ) (u : List ℕ) → 0 < length u → (token_of Plain u).next_mode ≡ Plain → (token_of Plain u).len ≤ m → is_none (here formals at u) ≡ true
+    → (let t = token_of Plain u in first_stop formals at (tokens_from Plain 0 (take m u)) (take m u) ≡ first_stop formals (at + t.len) (tokens_from Plain 0 (take (m - t.len) (drop t.len u))) (take (m - t.len) (drop t.len u)))
+cut_step formals at m u some next le none =
+    let t = token_of Plain u in
+    let part = token_of-part Plain u some in
+    let xs = take m u in
+    let same : token_of Plain xs ≡ t = cut_token m u part.not_empty le part.inside next in
+    let long : 0 < length xs = omega (arith, length-take m u, part.not_empty, part.inside) in
+    let bytes : take t.len xs ≡ take t.len u = cut_more t.len m u le in
+    let front : here formals at xs ≡ here formals at u = ap (λ (w : Token). stop_at formals at w (take w.len xs)) same ∙ ap (stop_at formals at t) bytes in
+    let sum : t.len + (m - t.len) ≡ m = omega (arith, le) in
+    let rest : drop t.len xs ≡ take (m - t.len) (drop t.len u) = ap (λ (n : ℕ). drop t.len (take n u)) (sym sum) ∙ drop-take t.len (m - t.len) u in
+    text_step formals at xs long (ap (λ (w : Token). w.next_mode) same ∙ next) (ap is_none front ∙ none)
+    ∙ (ap (λ (w : Token). first_stop formals (at + w.len) (tokens_from Plain 0 (drop w.len xs)) (drop w.len xs)) same
+    ∙ ap (λ (l : List ℕ). first_stop formals (at + t.len) (tokens_from Plain 0 l) l) rest)
+
+-- From a place on.
+
+-- whether no token goes on at a place of a text: it is the front, or a quiet byte stands before it
+abbrev IsCut : List ℕ → ℕ → Type 0
+IsCut u n = (n ≡ 0) ⊎ (is_quiet (get_or u (n - 1) 0) ≡ true)
+
+-- a cut further on is one of what is left of the text
+cut_left : (k n : ℕ) (u : List ℕ) → k < n → IsCut u n → IsCut (drop k u) (n - k)
+cut_left k n u lt (inl none) = absurd (omega arith)
+cut_left k n u lt (inr q) =
+    let there : k + (n - k - 1) ≡ n - 1 = omega arith in
+    inr (ap is_quiet (get_or-drop k u (n - k - 1) 0 ∙ ap (λ (m : ℕ). get_or u m 0) there) ∙ q)
+
+-- the first token of a text isn't white space and ends before a quiet byte further on
+token_before : (b n : ℕ) (bs : List ℕ) → is_calm b ≡ true → is_quiet b ≡ false → is_quiet (get_or (b ∷ bs) n 0) ≡ true → (token_of Plain (b ∷ bs)).len ≤ n
+token_before b zero bs calm dark q = absurd (false≢true (sym dark ∙ q))
+token_before b (suc n) bs calm dark q =
+    omega (arith, (calm_token b bs calm).short (no_blank b dark), run_stops is_word n bs (quiet_apart (get_or bs n 0) q))
+
+-- a first stop that is none, or begins no nearer than a cut among the calm bytes, is the first one from there on
+stop_from : (fuel : ℕ) (formals : List Formal) (at n : ℕ) (u : List ℕ) (s : Stop) → length u ≤ fuel → n ≤ prefix_len is_calm u → IsCut u n → s ≡ first_stop formals at (tokens_from Plain 0 u) u → (is_none s ≡ false → at + n ≤ begins s)
+    → s ≡ first_stop formals (at + n) (tokens_from Plain 0 (drop n u)) (drop n u)
+stop_from fuel formals at zero u s room run cut e far = e ∙ ap (λ (m : ℕ). first_stop formals m (tokens_from Plain 0 u) u) (omega arith)
+stop_from fuel formals at (suc n) [] s room run cut e far = absurd (omega arith)
+stop_from zero formals at (suc n) (b ∷ bs) s room run cut e far = absurd (omega arith)
+stop_from (suc fuel) formals at (suc n) (b ∷ bs) s room run cut e far =
+    let u = b ∷ bs in
+    let t = token_of Plain u in
+    let one = run_one is_calm n b bs run in
+    let calm = calm_token b bs one.0 in
+    let some : 0 < length u = omega arith in
+    ⊎_elim
+    (λ q.
+    let next : IsCut bs n = cut_left_one n cut in
+    stop_from fuel formals (at + 1) n bs s (omega arith) one.1 next (e ∙ quiet_one formals at b bs q) (λ h. omega (arith, far h))
+    ∙ ap (λ (m : ℕ). first_stop formals m (tokens_from Plain 0 (drop n bs)) (drop n bs)) (omega arith))
+    (λ dark.
+    let before : t.len ≤ n = token_before b n bs one.0 dark (quiet_there cut) in
+    let none = passed_here formals at u s some e (λ h. omega (arith, far h)) in
+    let not_empty : 0 < t.len = (token_of-part Plain u some).not_empty in
+    let left : suc n - t.len ≤ prefix_len is_calm (drop t.len u) = run_drop is_calm t.len (suc n - t.len) u (omega arith) in
+    let sum : t.len + (suc n - t.len) ≡ suc n = omega arith in
+    let place : at + t.len + (suc n - t.len) ≡ at + suc n = omega arith in
+    stop_from fuel formals (at + t.len) (suc n - t.len) (drop t.len u) s (omega (arith, length-drop t.len u)) left (cut_left t.len (suc n) u (omega arith) cut) (e ∙ text_step formals at u some calm.next none) (λ h. omega (arith, far h))
+    ∙ (ap (λ (l : List ℕ). first_stop formals (at + t.len + (suc n - t.len)) (tokens_from Plain 0 l) l) (drop-drop (suc n - t.len) t.len u ∙ ap (λ (m : ℕ). drop m u) sum)
+    ∙ ap (λ (m : ℕ). first_stop formals m (tokens_from Plain 0 (drop (suc n) u)) (drop (suc n) u)) place))
+    (cases_Bool (is_quiet b))
+  where
+    quiet_there : IsCut (b ∷ bs) (suc n) → is_quiet (get_or (b ∷ bs) n 0) ≡ true
+    quiet_there (inl none) = absurd (omega (arith, none))
+    quiet_there (inr q) = let there : n ≡ suc n - 1 = omega arith in ap (λ (m : ℕ). is_quiet (get_or (b ∷ bs) m 0)) there ∙ q
+
+    cut_left_one : (k : ℕ) → IsCut (b ∷ bs) (suc k) → IsCut bs k
+    cut_left_one zero c = inl refl
+    cut_left_one (suc k) (inl none) = absurd (omega (arith, none))
+    cut_left_one (suc k) (inr q) =
+        let less : suc k - 1 ≡ k = omega arith in
+        let there : suc k ≡ suc (suc k) - 1 = omega arith in
+        inr (ap (λ (m : ℕ). is_quiet (get_or bs m 0)) less ∙ (ap (λ (m : ℕ). is_quiet (get_or (b ∷ bs) m 0)) there ∙ q))
+
+-- The front of a text.
+
+-- a front of calm bytes has no stop, where the first stop of the text begins no nearer than at its end, and no word goes on there
+stop_behind : (fuel : ℕ) (formals : List Formal) (at m : ℕ) (u : List ℕ) (s : Stop) → length u ≤ fuel → m ≤ prefix_len is_calm u → is_word (get_or u m 0) ≡ false → s ≡ first_stop formals at (tokens_from Plain 0 u) u → (is_none s ≡ false → at + m ≤ begins s)
+    → first_stop formals at (tokens_from Plain 0 (take m u)) (take m u) ≡ stop.None
+unfolding first_stop tokens_from
+stop_behind fuel formals at zero u s room run ends e far = refl
+stop_behind fuel formals at (suc m) [] s room run ends e far = absurd (omega arith)
+stop_behind zero formals at (suc m) (b ∷ bs) s room run ends e far = absurd (omega arith)
+stop_behind (suc fuel) formals at (suc m) (b ∷ bs) s room run ends e far =
+    let u = b ∷ bs in
+    let t = token_of Plain u in
+    let one = run_one is_calm m b bs run in
+    let calm = calm_token b bs one.0 in
+    let some : 0 < length u = omega arith in
+    ⊎_elim
+    (λ q. quiet_one formals at b (take m bs) q ∙ stop_behind fuel formals (at + 1) m bs s (omega arith) one.1 ends (e ∙ quiet_one formals at b bs q) (λ h. omega (arith, far h)))
+    (λ dark.
+    let inside : t.len ≤ suc m = omega (arith, calm.short (no_blank b dark), run_stops is_word m bs ends) in
+    let none = passed_here formals at u s some e (λ h. omega (arith, far h)) in
+    let not_empty : 0 < t.len = (token_of-part Plain u some).not_empty in
+    let left : suc m - t.len ≤ prefix_len is_calm (drop t.len u) = run_drop is_calm t.len (suc m - t.len) u (omega arith) in
+    let sum : t.len + (suc m - t.len) ≡ suc m = omega arith in
+    let still : is_word (get_or (drop t.len u) (suc m - t.len) 0) ≡ false = ap is_word (get_or-drop t.len u (suc m - t.len) 0 ∙ ap (λ (k : ℕ). get_or u k 0) sum) ∙ ends in
+    cut_step formals at (suc m) u some calm.next inside none
+    ∙ stop_behind fuel formals (at + t.len) (suc m - t.len) (drop t.len u) s (omega (arith, length-drop t.len u)) left still (e ∙ text_step formals at u some calm.next none) (λ h. omega (arith, far h)))
+    (cases_Bool (is_quiet b))
+
+-- a stop behind calm bytes alone is the first one of each front of the text that has it
+stop_inside : (fuel : ℕ) (formals : List Formal) (at m : ℕ) (u : List ℕ) (s : Stop) → length u ≤ fuel → s ≡ first_stop formals at (tokens_from Plain 0 u) u → is_none s ≡ false → begins s ≤ at + prefix_len is_calm u → begins s ≤ stop_end s → stop_end s ≤ at + m
+    → first_stop formals at (tokens_from Plain 0 (take m u)) (take m u) ≡ s
+unfolding first_stop tokens_from is_none IsFrom stop_of
+stop_inside fuel formals at m [] s room e found run order inside = absurd (false≢true (sym found ∙ ap is_none e))
+stop_inside zero formals at m (b ∷ bs) s room e found run order inside = absurd (omega arith)
+stop_inside (suc fuel) formals at m (b ∷ bs) s room e found run order inside =
+    let u = b ∷ bs in
+    let t = token_of Plain u in
+    let some : 0 < length u = omega arith in
+    let part = token_of-part Plain u some in
+    let later : Stop = first_stop formals (at + t.len) (tokens_from t.next_mode 0 (drop t.len u)) (drop t.len u) in
+    let step : s ≡ or_stop (here formals at u) later = e ∙ one_token formals at Plain u some part.not_empty in
+    ⊎_elim
+    (λ none.
+    let is : s ≡ later = step ∙ or_none (here formals at u) later none in
+    let far : at + t.len ≤ begins s = omega (arith, tokens_within formals (at + t.len) (tokens_from t.next_mode 0 (drop t.len u)) (drop t.len u) (ap is_none (sym is) ∙ found), ap begins is) in
+    let one = run_one is_calm 0 b bs (omega (arith, far, run, part.not_empty)) in
+    let calm = calm_token b bs one.0 in
+    let left : begins s - (at + t.len) ≤ prefix_len is_calm (drop t.len u) = run_drop is_calm t.len (begins s - (at + t.len)) u (omega (arith, far, run)) in
+    cut_step formals at m u some calm.next (omega (arith, far, order, inside)) none
+    ∙ stop_inside fuel formals (at + t.len) (m - t.len) (drop t.len u) s (omega (arith, length-drop t.len u, part.not_empty)) (e ∙ text_step formals at u some calm.next none) found (omega (arith, far, left)) order (omega (arith, far, order, inside)))
+    (λ h.
+    let is : s ≡ here formals at u = step ∙ or_some (here formals at u) later h in
+    front_first formals at m u some h (omega (arith, ap stop_end is, inside)) ∙ sym is)
+    (cases_Bool (is_none (here formals at u)))
+
+-- What a stop that is kept tells.
+
+run_front : (p : ℕ → Bool) (k : ℕ) (xs : List ℕ) → prefix_len p (take k xs) ≤ prefix_len p xs
+run_front p zero xs = omega arith
+run_front p (suc k) [] = omega arith
+run_front p (suc k) (x ∷ xs) =
+    ⊎_elim
+    (λ q. omega (arith, cond-true (p x) (1 + prefix_len p (take k xs)) 0 q, cond-true (p x) (1 + prefix_len p xs) 0 q, run_front p k xs))
+    (λ q. omega (arith, cond-false (p x) (1 + prefix_len p (take k xs)) 0 q))
+    (cases_Bool (p x))
+
+run_most : (p : ℕ → Bool) (xs : List ℕ) → prefix_len p xs ≤ length xs
+run_most p [] = omega arith
+run_most p (x ∷ xs) =
+    ⊎_elim
+    (λ q. omega (arith, cond-true (p x) (1 + prefix_len p xs) 0 q, run_most p xs))
+    (λ q. omega (arith, cond-false (p x) (1 + prefix_len p xs) 0 q))
+    (cases_Bool (p x))
+
+-- the calm bytes that are kept with the first stop of a text are calm bytes of it
+calm_few : (s : Stop) (from : ℕ) (text : List ℕ) → calm_kept (before_stop s from text) ≤ prefix_len is_calm text
+unfolding calm_kept before_stop
+calm_few stop.None from text = run_front is_calm 255 text
+calm_few (stop.Formal at len place) from text = omega (arith, run_front is_calm 255 (take (at - from) text), run_front is_calm (at - from) text)
+calm_few (stop.Usage at len) from text = omega (arith, run_front is_calm 255 (take (at - from) text), run_front is_calm (at - from) text)
+calm_few (stop.Bare at) from text = omega (arith, run_front is_calm 255 (take (at - from) text), run_front is_calm (at - from) text)
+
+-- and stand before it
+calm_front : (at from : ℕ) (text : List ℕ) → from ≤ at → from + prefix_len is_calm (take 255 (take (at - from) text)) ≤ at
+calm_front at from text h = omega (arith, run_front is_calm 255 (take (at - from) text), run_most is_calm (take (at - from) text), length-take (at - from) text)
+
+calm_before : (s : Stop) (from : ℕ) (text : List ℕ) → is_none s ≡ false → from ≤ begins s → from + calm_kept (before_stop s from text) ≤ begins s
+unfolding calm_kept before_stop begins is_none
+calm_before stop.None from text h low = absurd (cc)
+calm_before (stop.Formal at len place) from text h low = calm_front at from text low
+calm_before (stop.Usage at len) from text h low = calm_front at from text low
+calm_before (stop.Bare at) from text h low = calm_front at from text low
+
+-- what is kept of the first stop of a text from a place on
+record IsKeptStop (s : Stop) (start : ℕ) (rest : List ℕ) (k : Kept) : Type 0 where
+  back : IfSome (stop_kept k) (λ x. x ≡ s)
+  few : k.calm ≤ prefix_len is_calm rest
+  before : is_none s ≡ false → start + k.calm ≤ begins s
+  place : is_none s ≡ false → (k.end - k.len ≡ begins s) ⊎ (k.calm ≡ 0)
+  some : 0 < k.len → (is_none s ≡ false) × ((begins s ≡ k.end - k.len) × (stop_end s ≡ k.end))
+
+none_kept : (s : Stop) (start : ℕ) (rest : List ℕ) → (is_none s ≡ false → start ≤ begins s) → IsKeptStop s start rest (endless kept.Unknown 0)
+unfolding stop_kept stop_by endless
+none_kept s start rest low = record { back = tt; few = omega arith; before = λ h. omega (arith, low h); place = λ _. inr refl; some = λ h. absurd (omega (arith, h)) }
+
+when_kept : (b : Bool) (kind : KeptKind) (at len place calm : ℕ) (s : Stop) (start : ℕ) (rest : List ℕ) → stop_by kind at len place ≡ Some s → is_none s ≡ false → begins s ≡ at → stop_end s ≡ at + len → calm ≤ prefix_len is_calm rest → start + calm ≤ at → IsKeptStop s start rest (when b kind at len place calm)
+when_kept true kind at len place calm s start rest e found there ends few before =
+    let back : at + len - len ≡ at = omega arith in
+    record {
+      back = back_when true kind at len place calm s e;
+      few = few;
+      before = λ _. omega (arith, there, before);
+      place = λ _. inl (back ∙ sym there);
+      some = λ _. (found, (there ∙ sym back, ends));
+    }
+when_kept false kind at len place calm s start rest e found there ends few before = none_kept s start rest (λ _. omega (arith, there, before))
+
+of_kept : (s : Stop) (calm start : ℕ) (rest : List ℕ) → calm ≤ prefix_len is_calm rest → (is_none s ≡ false → start + calm ≤ begins s) → IsKeptStop s start rest (kept_of s calm)
+unfolding kept_of placed endless stop_kept stop_by is_none begins stop_end
+of_kept stop.None calm start rest few before = record { back = refl; few = few; before = λ h. absurd (cc); place = λ h. absurd (cc); some = λ h. absurd (omega (arith, h)) }
+of_kept (stop.Formal at len place) calm start rest few before = when_kept _ kept.Formal at len place calm _ start rest refl refl refl refl few (before refl)
+of_kept (stop.Usage at len) calm start rest few before = when_kept _ kept.Usage at len 0 calm _ start rest refl refl refl refl few (before refl)
+of_kept (stop.Bare at) calm start rest few before = when_kept _ kept.Bare at 1 0 calm _ start rest refl refl refl refl few (before refl)
+
+-- a cut of a text, counted from the place from which on it is read
+cut_place : (text : List ℕ) (start from : ℕ) → start ≤ from → is_cut text start from ≡ true → IsCut (drop start text) (from - start)
+unfolding is_cut
+cut_place text start from low h =
+    elim (cases_lt start from) [
+      | inl lt ↦ ⊎_elim
+          (λ (e : eqb from start ≡ true). absurd (omega (arith, lt, eqb-true from start e)))
+          (λ q.
+          let there : start + (from - start - 1) ≡ from - 1 = omega (arith, lt) in
+          inr (ap is_quiet (get_or-drop start text (from - start - 1) 0 ∙ ap (λ (m : ℕ). get_or text m 0) there) ∙ q))
+          (or_cases _ _ h)
+      | inr past ↦ inl (omega (arith, past))
+    ]
+
+-- the first stop of a text from a place on is that from a cut among the calm bytes on
+stop_further : (formals : List Formal) (text : List ℕ) (start from : ℕ) (s : Stop) (k : Kept) → IsKeptStop s start (drop start text) k → s ≡ stop_of formals start (drop start text) → start ≤ from → from ≤ start + k.calm → is_cut text start from ≡ true → s ≡ first_stop formals from (tokens_from Plain 0 (drop from text)) (drop from text)
+unfolding stop_of
+stop_further formals text start from s k is e low near cut =
+    let n = from - start in
+    let there : start + n ≡ from = omega (arith, low) in
+    stop_from (length (drop start text)) formals start n (drop start text) s (omega arith) (omega (arith, near, is.few)) (cut_place text start from low cut) e (λ h. omega (arith, near, low, is.before h))
+    ∙ (ap (λ (l : List ℕ). first_stop formals (start + n) (tokens_from Plain 0 l) l) (drop-drop n start text)
+    ∙ ap (λ (m : ℕ). first_stop formals m (tokens_from Plain 0 (drop m text)) (drop m text)) there)
+
+-- calm bytes behind a place further on
+run_further : (text : List ℕ) (start from m : ℕ) → start ≤ from → from - start + m ≤ prefix_len is_calm (drop start text) → m ≤ prefix_len is_calm (drop from text)
+run_further text start from m low h =
+    let there : start + (from - start) ≡ from = omega (arith, low) in
+    subst (λ (l : List ℕ). m ≤ prefix_len is_calm l) (drop-drop (from - start) start text ∙ ap (λ (n : ℕ). drop n text) there) (run_drop is_calm (from - start) m (drop start text) h)
+
+-- a stop that is kept tells the first one of a range
+known_range : (formals : List Formal) (text : List ℕ) (start from to : ℕ) (s : Stop) (k : Kept) → IsKeptStop s start (drop start text) k → s ≡ stop_of formals start (drop start text) → start ≤ from → from ≤ to → to ≤ length text → IfSome (stop_known text start k from to) (λ x. x ≡ stop_of formals from (slice_range text from to))
+unfolding stop_known stop_within stop_of
+known_range formals text start from to s k is e low order high =
+    let u = drop from text in
+    let m = to - from in
+    let S : Stop = stop_of formals from (slice_range text from to) in
+    let P : Option Stop → Type 0 = λ r. IfSome r (λ x. x ≡ S) in
+    cond_both (leb from (start + k.calm) && is_cut text start from) _ None P
+    (λ h.
+    let two = and_parts (leb from (start + k.calm)) (is_cut text start from) h in
+    let near : from ≤ start + k.calm = leb-true _ _ two.0 in
+    let further : s ≡ first_stop formals from (tokens_from Plain 0 u) u = stop_further formals text start from s k is e low near two.1 in
+    cond_both (eqb to (length text) || (ltb 0 k.len && (leb k.end to && leb (k.end - k.len) (start + k.calm)))) (stop_kept k) _ P
+    (λ g. subst (λ (x : Stop). IfSome (stop_kept k) (λ y. y ≡ x)) (⊎_elim
+    (λ w. further ∙ ap (stop_of formals from) (sym (behind_place from text) ∙ ap (λ (n : ℕ). slice_range text from n) (sym (eqb-true to (length text) w))))
+    (λ w.
+    let a = and_parts (ltb 0 k.len) _ w in
+    let b = and_parts (leb k.end to) (leb (k.end - k.len) (start + k.calm)) a.1 in
+    let some = is.some (ltb-true 0 k.len a.0) in
+    let ends : k.end ≤ to = leb-true _ _ b.0 in
+    let reached : k.end - k.len ≤ start + k.calm = leb-true _ _ b.1 in
+    let after : from ≤ begins s = omega (arith, near, is.before some.0) in
+    let run : begins s - from ≤ prefix_len is_calm u = run_further text start from (begins s - from) low (omega (arith, after, low, some.1.0, reached, is.few)) in
+    sym (stop_inside (length u) formals from m u s (omega arith) further some.0 (omega (arith, after, run)) (begins_end s some.0) (omega (arith, order, some.1.1, ends))))
+    (or_cases _ _ g)) is.back)
+    (λ _.
+    cond_both (leb to (k.end - k.len) && (leb to (start + k.calm) && not (is_word (get_or text to 0)))) (Some stop.None) None P
+    (λ g.
+    let a = and_parts (leb to (k.end - k.len)) _ g in
+    let b = and_parts (leb to (start + k.calm)) (not (is_word (get_or text to 0))) a.1 in
+    let before : to ≤ k.end - k.len = leb-true _ _ a.0 in
+    let reached : to ≤ start + k.calm = leb-true _ _ b.0 in
+    let sum : from + m ≡ to = omega (arith, order) in
+    let ends : is_word (get_or u m 0) ≡ false = ap is_word (get_or-drop from text m 0 ∙ ap (λ (n : ℕ). get_or text n 0) sum) ∙ not_false (is_word (get_or text to 0)) b.1 in
+    let run : m ≤ prefix_len is_calm u = run_further text start from m low (omega (arith, order, low, reached, is.few)) in
+    let far : is_none s ≡ false → from + m ≤ begins s = λ h. ⊎_elim (λ p. omega (arith, order, before, p)) (λ z. omega (arith, order, reached, z, is.before h)) (is.place h) in
+    sym (stop_behind (length u) formals from m u s (omega arith) run ends further far))
+    (λ _. tt)))
+    (λ _. tt)
+
+when_range : (b : Bool) (formals : List Formal) (text : List ℕ) (start from to : ℕ) → start ≤ from → from ≤ to → to ≤ length text → (let s = stop_of formals start (drop start text) in IfSome (stop_known text start (if b then kept_stop s start (drop start text) else endless kept.Unknown 0) from to) (λ x. x ≡ stop_of formals from (slice_range text from to)))
+unfolding kept_stop stop_of IsFrom
+when_range true formals text start from to low order high =
+    let rest = drop start text in
+    let s = stop_of formals start rest in
+    let at : is_none s ≡ false → start ≤ begins s = tokens_within formals start (tokens_from Plain 0 rest) rest in
+    known_range formals text start from to s (kept_of s (calm_kept (before_stop s start rest)))
+    (of_kept s (calm_kept (before_stop s start rest)) start rest (calm_few s start rest) (λ h. calm_before s start rest h (at h))) refl low order high
+when_range false formals text start from to low order high =
+    let rest = drop start text in
+    let s = stop_of formals start rest in
+    known_range formals text start from to s (endless kept.Unknown 0) (none_kept s start rest (tokens_within formals start (tokens_from Plain 0 rest) rest)) refl low order high
+
+pub range_told : (formals : List Formal) (text : List ℕ) (start from to : ℕ) (k : Kept) (r : Option Stop) → k ≡ kept_from formals text start → (start ≤ from) × (from ≤ to) → to ≤ length text → r ≡ stop_known text start k from to → IfSome r (λ x. x ≡ stop_of formals from (slice_range text from to))
+unfolding kept_from
+range_told formals text start from to k r e order high q =
+    subst (λ (x : Option Stop). IfSome x (λ y. y ≡ stop_of formals from (slice_range text from to))) (sym (q ∙ ap (λ (x : Kept). stop_known text start x from to) e))
+    (when_range (ltb start 65535) formals text start from to order.0 order.1 high)
+
+-- the first bytes of a text, of which so many are looked at as there are
+pub near_bytes : (n : ℕ) (xs : List ℕ) → n ≤ 255 → (n < 255 → n ≡ length xs) → take n xs ≡ take 255 xs
+near_bytes n xs le short =
+    elim (cases_lt n 255) as (λ _. take n xs ≡ take 255 xs) [
+      | inl less ↦ take_all n xs (omega (arith, short less)) ∙ sym (take_all 255 xs (omega (arith, short less, le)))
+      | inr past ↦ let whole : n ≡ 255 = omega (arith, le, past) in ap (λ (m : ℕ). take m xs) whole
+    ]
