@@ -1,6 +1,8 @@
 -- Steps through skipped text.
-use Rattle.std.proofs.Common.{◌≡◌, ℕ, ◌+◌, ◌-◌, ◌<◌, Bool, false, List, length, take, drop, sym, ap, subst, ◌∙◌}
+use Rattle.std.proofs.Common.{◌≡◌, ℕ, ◌+◌, ◌-◌, ◌<◌, Bool, false, List, length, take, drop, sym, ap, subst, arith, ◌∙◌}
 use Rattle.std.proofs.lemmas.List.{take_rest}
+use Rattle.rdlpp_scan.specs.SourceTokens.{line_ends}
+use Rattle.rdlpp_scan.proofs.SourceLaws.{line_ends-part}
 use Rattle.rdlpp_scan.specs.declared.token.Mode.{Mode}
 use Rattle.rdlpp_scan.specs.declared.token.Mode.TheVariants.{Plain}
 use Rattle.rdlpp_scan.specs.declared.token.Token.{Token}
@@ -22,3 +24,11 @@ passes_token mode bytes token stops none is tells goes =
 pub passes_onward : (mode mid next : Mode) (held : List ℕ) (from len : ℕ) → IsPassed mode held from mid → from < length held → IsPassedOnce mid (take (length held - from) (drop from held)) len next → IsPassed mode held (from + len) next
 passes_onward mode mid next held from len before more once =
     Onward from len mid next before more (subst (λ (x : List ℕ). IsPassedOnce mid x len next) (take_rest held from) once)
+
+-- the line ends of what was passed, and of one step more
+pub lines_onward : (held : List ℕ) (len step lines more : ℕ) → lines ≡ line_ends (take len held) → more ≡ line_ends (take step (take (length held - len) (drop len held))) → lines + more ≡ line_ends (take (len + step) held)
+lines_onward held len step lines more e f =
+    let same : len + step - len ≡ step = omega arith in
+    let rest : take (length held - len) (drop len held) ≡ drop len held = take_rest held len in
+    let behind : more ≡ line_ends (take (len + step - len) (drop len held)) = f ∙ (ap (λ (l : List ℕ). line_ends (take step l)) rest ∙ ap (λ (n : ℕ). line_ends (take n (drop len held))) (sym same)) in
+    ap (λ (n : ℕ). n + more) e ∙ (ap (λ (n : ℕ). line_ends (take len held) + n) behind ∙ line_ends-part held len step)

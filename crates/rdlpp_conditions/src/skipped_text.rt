@@ -11,7 +11,7 @@ ghost use Rattle.rdlpp_conditions.specs.SkippedText.{
   stops_skipping,
 };
 
-use rdlpp_scan::{Kind, Mode, Token, first_token, line_ends_in, plain_text_len};
+use rdlpp_scan::{Kind, Mode, PlainText, Token, first_token, line_ends_in, plain_text};
 
 /// How much of skipped text was passed.
 #[derive(Clone, Copy, Debug, PartialEq, Eq)]
@@ -40,67 +40,63 @@ pub fn skip_text(mode: Mode, held: &[u8]) -> SkippedText
     ensures stop { result.len < length held.now → stops_at result.mode (drop result.len held.now) ≡ true }
     ensures line_ends { result.line_ends ≡ line_ends (take result.len held.now) }
 {
-    let mut len = 0;
-    let mut next = mode;
-    while len < held.len() {
-        let Some(step) = pass_once(next, &held[len..]) else {
-            return passed(held, len, next);
-        };
-        len += step.len;
-        next = step.mode;
-    }
-    passed(held, len, next)
-}
-
-// What was passed, with its LF bytes.
-fn passed(held: &[u8], len: usize, mode: Mode) -> SkippedText
-    requires { len ≤ length held.now }
-    ensures { result ≡ record { len = len; mode = mode; line_ends = line_ends (take len held.now) } }
-{
-    SkippedText {
-        len,
+    let mut stretch = SkippedText {
+        len: 0,
         mode,
-        line_ends: line_ends_in(&held[..len]),
+        line_ends: 0,
+    };
+    while stretch.len < held.len() {
+        let Some(step) = pass_once(stretch.mode, &held[stretch.len..]) else {
+            return stretch;
+        };
+        stretch = SkippedText {
+            len: stretch.len + step.len,
+            mode: step.mode,
+            line_ends: stretch.line_ends + step.line_ends,
+        };
     }
-}
-
-// One step through skipped text.
-#[derive(Clone, Copy)]
-struct Step {
-    len: usize,
-    mode: Mode,
+    stretch
 }
 
 // Passes ordinary text as far as it goes, or one token; `None` where the first token stops it.
-fn pass_once(mode: Mode, bytes: &[u8]) -> Option<Step>
+fn pass_once(mode: Mode, bytes: &[u8]) -> Option<SkippedText>
     requires { 0 < length bytes.now }
     ensures none { result ≡ None → stops_at mode bytes.now ≡ true }
     ensures some { IfSome result (λ step. IsPassedOnce mode bytes.now step.len step.mode) }
     ensures inside { IfSome result (λ step. (0 < step.len) × (step.len ≤ length bytes.now)) }
+    ensures line_ends { IfSome result (λ step. step.line_ends ≡ line_ends (take step.len bytes.now)) }
 {
-    let len = ordinary_len(mode, bytes);
-    if 0 < len {
-        return Some(Step { len, mode });
+    let text = ordinary_text(mode, bytes);
+    if 0 < text.len {
+        return Some(SkippedText {
+            len: text.len,
+            mode,
+            line_ends: text.lines,
+        });
     }
     let token = first_token(mode, bytes);
-    if stops_skipping(token, &bytes[..token.len]) {
+    let word = &bytes[..token.len];
+    if stops_skipping(token, word) {
         return None;
     }
-    Some(Step {
+    Some(SkippedText {
         len: token.len,
         mode: token.next_mode,
+        line_ends: line_ends_in(word),
     })
 }
 
-// How many bytes of ordinary text a text begins with that stands in `mode`.
-fn ordinary_len(mode: Mode, bytes: &[u8]) -> usize
-    ensures plain { mode ≡ Mode.Plain → result ≡ plain_len bytes.now }
-    ensures some { 0 < result → mode ≡ Mode.Plain }
-    ensures inside { result ≤ length bytes.now }
+// The ordinary text that a text begins with that stands in `mode`.
+#[tactic(auto, unfolding(rdlpp_scan::specs::SourceTokens::line_ends))]
+fn ordinary_text(mode: Mode, bytes: &[u8]) -> PlainText
+    ensures plain { mode ≡ Mode.Plain → result.len ≡ plain_len bytes.now }
+    ensures some { 0 < result.len → mode ≡ Mode.Plain }
+    ensures inside { result.len ≤ length bytes.now }
+    ensures lines { result.lines ≡ line_ends (take result.len bytes.now) }
 {
     match mode {
-        Mode::Plain => plain_text_len(bytes),
-        _ => 0,
+        Mode::Plain => plain_text(bytes),
+        _ => PlainText { len: 0, lines: 0 },
     }
 }
 

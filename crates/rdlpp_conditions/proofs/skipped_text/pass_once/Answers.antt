@@ -8,4 +8,4 @@ returns-then-stops_skipping-clause-none c =
 
 pub returns-clause-some : goal.returns-clause-some
 returns-clause-some c =
-    passes_token c.args.mode c.args.bytes.now c.first_token-token.result c.stops_skipping.result (λ e. let same = c.ordinary_len-len.ensures.plain e in omega arith) c.first_token-token.ensures.value c.stops_skipping.ensures c.if-stops_skipping.false
+    passes_token c.args.mode c.args.bytes.now c.first_token-token.result c.stops_skipping.result (λ e. let same = c.ordinary_text-text.ensures.plain e in omega arith) c.first_token-token.ensures.value c.stops_skipping.ensures c.if-stops_skipping.false

@@ -1,9 +1,10 @@
-use Rattle.std.proofs.Common.{◌≤◌, ◌-◌, length}
+use Rattle.std.proofs.Common.{◌≡◌, ◌≤◌, ◌-◌, length, take}
+use Rattle.rdlpp_scan.specs.SourceTokens.{line_ends}
 use Rattle.rdlpp_conditions.specs.SkippedText.{IsPassed}
 use Rattle.rdlpp_conditions.proofs.skipped_text.skip_text.Given as goal
 
-abbrev pub invariant-loop-len : goal.invariant-loop-len
-invariant-loop-len l = IsPassed l.fn.mode l.held l.len l.next × (l.len ≤ length l.held)
+abbrev pub invariant-loop-stretch : goal.invariant-loop-stretch
+invariant-loop-stretch l = IsPassed l.fn.mode l.held l.stretch.len l.stretch.mode × ((l.stretch.len ≤ length l.held) × (l.stretch.line_ends ≡ line_ends (take l.stretch.len l.held)))
 
-abbrev pub decreases-loop-len : goal.decreases-loop-len
-decreases-loop-len l = length l.held - l.len
+abbrev pub decreases-loop-stretch : goal.decreases-loop-stretch
+decreases-loop-stretch l = length l.held - l.stretch.len
