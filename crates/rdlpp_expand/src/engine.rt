@@ -360,20 +360,6 @@ impl<S: Sources> Engine<S> {
         }
     }
 
-    // Takes what the held bytes begin with, or passes skipped text.
-    fn take_held(&mut self) -> Option<Place>
-        requires ready { IsReady self.old }
-        requires some { 0 < length (held_of (inner_buffer self.old.files.nest)) }
-        ensures place { IfSome result (IsPlaced self.new) }
-        ensures walks { IsBounded self.new → Walks S.Sources self.old self.new (step_answer self.new result) }
-    {
-        if self.conditions.is_live() {
-            self.take_front()
-        } else {
-            self.skip_front()
-        }
-    }
-
     // Takes what the held bytes begin with.
     fn take_front(&mut self) -> Option<Place>
         requires ready { IsReady self.old }

@@ -29,7 +29,7 @@ impl<S: Sources> Engine<S> {
         if !self.is_holding() {
             return self.step_outside();
         }
-        let place = self.take_holding();
+        let place = self.take_held();
         self.facts();
         place
     }
@@ -61,8 +61,9 @@ impl<S: Sources> Engine<S> {
     // Takes what the held bytes begin with, or passes skipped text. Text that is copied, which is most of a source, is found and its
     // line ends are counted in one pass.
     #[inline(always)]
-    fn take_holding(&mut self) -> Option<Place>
-        requires { IsHolding self.old }
+    pub(super) fn take_held(&mut self) -> Option<Place>
+        requires ready { IsReady self.old }
+        requires some { 0 < length (held_of (inner_buffer self.old.files.nest)) }
         ensures place { IfSome result (IsPlaced self.new) }
         ensures walks { IsBounded self.new → Walks S.Sources self.old self.new (step_answer self.new result) }
     {

@@ -3,4 +3,4 @@ use Rattle.rdlpp_state.proofs.EngineSteps.{wider}
 use Rattle.rdlpp_expand.proofs.engine.Engine.step_held.Goals as goal
 
 pub returns-clause-walks : goal.returns-clause-walks
-returns-clause-walks g c = wider g.S.Sources 0 1 _ _ _ (omega arith) (c.take_holding-place.ensures.walks c.facts.ensures.bounded)
+returns-clause-walks g c = wider g.S.Sources 0 1 _ _ _ (omega arith) (c.take_held-place.ensures.walks c.facts.ensures.bounded)
