@@ -29,7 +29,7 @@ out/rdlpp: $(call sources,rdlpp_cli)
 run: ## show the worked examples with their output, in two minutes: by out/rdlpp, or by a program without a proof where that isn't built
 	@if $(MAKE) --silent --question out/rdlpp; then examples/show; else examples/show --unproved; fi
 
-test: ## the gate (every proof from nothing, the must-fail edits, the tests, the stored runs), and then the checks over what it built
+test: ## the gate (every proof, the must-fail edits, the tests, the stored runs), and then the checks over what it built
 	@rt ci
 	@checks/from_gate
 	@checks/all
