@@ -15,3 +15,4 @@ pub mod CleanTexts
 pub mod FirstTokens
 pub mod TokenEnds
 pub mod QuietTokens
+pub mod CalmFaults

@@ -1,6 +1,7 @@
 -- What is wrong with a whole text, as tokens.
 -- A definition that names no source is this project's own.
-use Rattle.std.specs.Prelude.{ℕ, Bool, true, false, List, [], ◌∷◌, Option, None, Some, if◌then◌else◌}
+use Rattle.std.specs.Prelude.{ℕ, Bool, true, false, not, ◌||◌, ◌==◌, List, [], ◌∷◌, Option, None, Some, if◌then◌else◌}
+use Rattle.std.specs.List.{prefix_len}
 use Rattle.rdlpp_scan.specs.declared.token.Kind.{Kind}
 use Rattle.rdlpp_scan.specs.declared.token.Kind.TheVariants.{Perl}
 use Rattle.rdlpp_scan.specs.declared.token.Mode.{Mode}
@@ -29,3 +30,12 @@ fault_of_tokens mode (t ∷ ts) = if is_perl t.kind then Some PerlFault else fau
 -- the first fault of a text from a mode on (this project's profile)
 unfoldable pub lex_fault_from : Mode → List ℕ → Option LexFault
 lex_fault_from mode bytes = fault_of_tokens mode (tokens_from mode 0 bytes)
+
+-- a byte that begins no string, no comment and no `<%`, whatever stands behind it
+unfoldable pub is_calm : ℕ → Bool
+is_calm b = not (b == 34 || b == 47 || b == 60)
+
+-- how many such bytes stand at the front of a text from a mode on: none in a string or a block comment
+unfoldable pub calm_len : Mode → List ℕ → ℕ
+calm_len Plain bytes = prefix_len is_calm bytes
+calm_len mode bytes = 0

@@ -1,10 +1,12 @@
 // What is wrong with a whole text, as tokens.
-ghost use Rattle.std.specs.Prelude.{◌≡◌};
-ghost use Rattle.rdlpp_scan.specs.LexFaults.{is_perl, lex_fault_from, open_fault};
+ghost use Rattle.std.specs.Prelude.{length, ◌≡◌, ◌≤◌};
+ghost use Rattle.std.specs.List.{prefix_len};
+ghost use Rattle.rdlpp_scan.specs.LexFaults.{calm_len, is_calm, is_perl, lex_fault_from, open_fault};
 ghost use Rattle.rdlpp_scan.specs.declared.token.Mode.TheVariants.{Plain};
 
 use crate::scan::first_token;
 use crate::token::{Kind, LexFault, Mode};
+use memchr::memchr3;
 
 /// The first fault of a whole text, as tokens: `Perl` where `<%` stands outside comments,
 /// `OpenString` and `OpenComment` where the text ends in a string or in a block comment.
@@ -13,8 +15,9 @@ use crate::token::{Kind, LexFault, Mode};
 pub fn lex_fault(bytes: &[u8]) -> Option<LexFault>
     ensures { result ≡ lex_fault_from Plain bytes.now }
 {
+    // Whatever tokens calm bytes are, none of them has a fault: one search finds where the next string, comment or `<%` may begin.
     let mut mode = Mode::Plain;
-    let mut at = 0;
+    let mut at = calm_bytes(bytes);
     while at < bytes.len() {
         let token = first_token(mode, &bytes[at..]);
         if is_perl(token.kind) {
@@ -22,8 +25,29 @@ pub fn lex_fault(bytes: &[u8]) -> Option<LexFault>
         }
         mode = token.next_mode;
         at += token.len;
+        at += calm_len(mode, &bytes[at..]);
     }
     open_fault(mode)
+}
+
+// How many calm bytes stand at the front of a text from a mode on.
+#[tactic(auto, unfolding(crate::specs::LexFaults::calm_len))]
+fn calm_len(mode: Mode, bytes: &[u8]) -> usize
+    ensures value { result ≡ calm_len mode bytes.now }
+    ensures inside { result ≤ length bytes.now }
+{
+    match mode {
+        Mode::Plain => calm_bytes(bytes),
+        _ => 0,
+    }
+}
+
+// How many bytes a text begins with that begin no string, no comment and no `<%`.
+fn calm_bytes(bytes: &[u8]) -> usize
+    ensures value { result ≡ prefix_len is_calm bytes.now }
+    ensures inside { result ≤ length bytes.now }
+{
+    memchr3(b'"', b'/', b'<', bytes).unwrap_or(bytes.len())
 }
 
 /// Whether a token is `<%`, which begins embedded Perl (SystemRDL 2.0, preprocessor clause).

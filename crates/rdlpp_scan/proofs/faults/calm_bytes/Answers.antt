@@ -1,0 +1,9 @@
+use Rattle.std.proofs.Common.{◌∙◌}
+use Rattle.memchr.specs.Find.{is_byte3}
+use Rattle.rdlpp_scan.specs.LexFaults.{is_calm}
+use Rattle.rdlpp_scan.proofs.Searches.{prefix_len-search}
+use Rattle.rdlpp_scan.proofs.faults.calm_bytes.Goals as goal
+
+pub returns-clause-value : goal.returns-clause-value
+unfolding is_calm
+returns-clause-value c = c.unwrap_or.ensures ∙ prefix_len-search (is_byte3 34 47 60) _ _ c.memchr3.ensures
