@@ -1,7 +1,6 @@
 -- A text without formals is copied up to its first backquote, where no string and no comment begins before that.
-use Rattle.std.proofs.Common.{◌≡◌, inl, inr, ◌≤◌, ◌<◌, ℕ, zero, suc, ◌+◌, ◌&&◌, ◌||◌, ◌==◌, Bool, true, false, true≢false, cond, List, [], ◌∷◌, length, take, drop, get_or, Option, Some, None, one-add, refl, sym, ap, ◌∙◌, arith}
+use Rattle.std.proofs.Common.{◌≡◌, inl, inr, ◌≤◌, ◌<◌, ℕ, zero, suc, ◌+◌, ◌&&◌, ◌||◌, ◌==◌, Bool, true, false, cond, List, [], ◌∷◌, length, take, drop, get_or, Option, Some, None, one-add, refl, sym, ap, ◌∙◌, arith}
 use Rattle.std.specs.List.{prefix_len}
-use Rattle.std.specs.Option.{is_some}
 use Rattle.std.proofs.lemmas.Bool.{false≢true, cases_Bool, cond_both, eqb-true, and_parts}
 use Rattle.std.proofs.lemmas.List.{get_or-drop, get_or-take, length-take-le}
 use Rattle.memchr.specs.Find.{IsFirstByte, is_byte, is_byte2}
@@ -167,21 +166,39 @@ back_first bs e =
     ∙ ap (λ (n : ℕ). is_back (plain_kind n (get_or bs 1 0))) e
     ∙ cond_both (is_letter (get_or bs 1 0)) Back BareBackquote (λ (k : Kind). is_back k ≡ true) (λ _. refl) (λ _. refl)
 
+-- the bytes in front of a place at or before the first backquote, where neither `"` nor `/` stands before it
+quiet_before : (text : List ℕ) (at k : ℕ) → IsFirstByte (is_byte 96) text (Some at) → k ≤ at → ((i : ℕ) → i < k → is_byte2 34 47 (get_or (take at text) i 0) ≡ true → ⊥)
+    → (i : ℕ) → i < k → ((get_or text i 0 == 96) ≡ false) × ((get_or text i 0 == 34) ≡ false) × ((get_or text i 0 == 47) ≡ false)
+quiet_before text at k first few h i l =
+    let same : get_or (take at text) i 0 ≡ get_or text i 0 = get_or-take at text i 0 (omega (arith, l, few)) in
+    let back = not_true (get_or text i 0 == 96) (λ b. first.0.before i (omega arith) (omega (arith, l, few)) b) in
+    let marks = not_true (get_or text i 0 == 34 || get_or text i 0 == 47) (λ b. h i l (ap (λ (n : ℕ). n == 34 || n == 47) same ∙ b)) in
+    let m = two (get_or text i 0 == 34) (get_or text i 0 == 47) marks in
+    (back, m.0, m.1)
+
 -- so the run ends at the first backquote, where neither `"` nor `/` stands before it
-pub run_found : (text : List ℕ) (at : ℕ) (marks : Option ℕ) → IsFirstByte (is_byte 96) text (Some at) → is_some marks ≡ false
+pub run_found : (text : List ℕ) (at : ℕ) (marks : Option ℕ) → IsFirstByte (is_byte 96) text (Some at) → marks ≡ None
     → IsFirstByte (is_byte2 34 47) (take at text) marks → at ≡ run_len [] (tokens_from Plain 0 text) text
 unfolding run
-run_found text at (Some k) first e h = absurd (true≢false e)
+run_found text at (Some k) first e h = absurd (cc)
 run_found text at None first e h =
     let inside : at < length text = first.0.high in
     let size : length (take at text) ≡ at = length-take-le at text (omega arith) in
-    let quiet : (i : ℕ) → i < at → ((get_or text i 0 == 96) ≡ false) × ((get_or text i 0 == 34) ≡ false) × ((get_or text i 0 == 47) ≡ false) = λ i l.
-    (let same : get_or (take at text) i 0 ≡ get_or text i 0 = get_or-take at text i 0 l in
-    let back = not_true (get_or text i 0 == 96) (λ b. first.0.before i (omega arith) l b) in
-    let marks = not_true (get_or text i 0 == 34 || get_or text i 0 == 47) (λ b. h i (omega arith) (omega (arith, size, l)) (ap (λ (n : ℕ). n == 34 || n == 47) same ∙ b)) in
-    let m = two (get_or text i 0 == 34) (get_or text i 0 == 47) marks in
-    (back, m.0, m.1)) in
+    let quiet = quiet_before text at at first (omega arith) (λ i l. h i (omega arith) (omega (arith, size, l))) in
     let whole : at + run (drop at text) ≡ run text = sym (quiet_run text at (omega arith) quiet) in
     let zero_behind : at + 0 ≡ at = omega arith in
     let here : get_or (drop at text) 0 0 ≡ 96 = get_or-drop at text 0 0 ∙ ap (λ (k : ℕ). get_or text k 0) zero_behind ∙ eqb-true (get_or text at 0) 96 first.1 in
     running-stop text Plain at (token_of Plain (drop at text)) (record { inside = omega arith; same = whole }) inside refl (back_first (drop at text) here)
+
+-- and else goes on at the first of these, as in a text that begins there
+pub run_behind : (text : List ℕ) (at near : ℕ) (marks : Option ℕ) → IsFirstByte (is_byte 96) text (Some at) → marks ≡ Some near
+    → IsFirstByte (is_byte2 34 47) (take at text) marks → (near < length text) × (run_len [] (tokens_from Plain 0 text) text ≡ near + run_len [] (tokens_from Plain 0 (drop near text)) (drop near text))
+unfolding run
+run_behind text at near None first e h = absurd (cc)
+run_behind text at near (Some k) first e h =
+    let same : k ≡ near = cc in
+    let inside : at < length text = first.0.high in
+    let size : length (take at text) ≡ at = length-take-le at text (omega arith) in
+    let few : near < at = omega (arith, same, size, h.0.high) in
+    let quiet = quiet_before text at near first (omega (arith, few)) (λ i l. h.0.before i (omega arith) (omega (arith, same, l))) in
+    (omega (arith, few, inside), quiet_run text near (omega (arith, few, inside)) quiet)

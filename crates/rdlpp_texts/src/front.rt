@@ -174,16 +174,17 @@ fn run_len(text: &[u8]) -> usize
     }
 }
 
-// The same where the first backquote stands at a place: the run ends there, if no string and no comment can begin before it.
+// The same where the first backquote stands at a place: the run ends there, if no string and no comment can begin before it. Else all
+// up to where one may begin is passed at once, whatever tokens it has.
 fn run_up_to(text: &[u8], at: usize) -> usize
     requires { IsFirstByte (is_byte 96) text.now (Some at) }
     ensures value { result ≡ run_len [] (tokens_from Mode.Plain 0 text.now) text.now }
     ensures inside { result ≤ length text.now }
 {
-    if memchr2(b'"', b'/', &text[..at]).is_none() {
-        return at;
+    match memchr2(b'"', b'/', &text[..at]) {
+        None => at,
+        Some(near) => near + run_by_tokens(&text[near..]),
     }
-    run_by_tokens(text)
 }
 
 // The same, token by token.
