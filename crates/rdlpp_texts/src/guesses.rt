@@ -1,5 +1,5 @@
 // Where the macros of names were found last.
-ghost use Rattle.std.specs.Prelude.{length, slice_index, IfSome, ◌<◌, ◌≡◌};
+ghost use Rattle.std.specs.Prelude.{length, min, slice_index, IfSome, ◌<◌, ◌≡◌};
 ghost use Rattle.std.specs.Option.{option_map};
 ghost use Rattle.rdlpp_table.specs.Table.{macro_named};
 ghost use Rattle.rdlpp_table.specs.View.{macro_at, place_named, IsSound};
@@ -7,14 +7,23 @@ ghost use Rattle.rdlpp_texts.specs.Guesses.{key_of};
 
 use rdlpp_table::{MacroId, Table};
 
+// How many keys the last byte and the length of a name give.
+const ENDS: usize = 64;
+
+// How many keys each of these has by the byte before the last.
+const WAYS: usize = 8;
+
 // How many places are kept.
-const GUESSES: usize = 64;
+const GUESSES: usize = ENDS * WAYS;
+
+// The largest place that is kept: the last of a table with the largest limits.
+const MOST: usize = 65535;
 
 // The place of the macro that was found last among those whose names have one key: a guess, since a later name of that key may
 // be another one, and a place may have another macro by then.
 #[derive(Clone, Copy)]
 pub(crate) struct Guesses {
-    pub(crate) places: [usize; GUESSES],
+    pub(crate) places: [u16; GUESSES],
 }
 
 impl Guesses {
@@ -31,29 +40,30 @@ impl Guesses {
         ensures inside { IfSome result (λ id. id < length table.now.macros) }
         ensures named { macro_named table.now.macros name.now ≡ option_map (macro_at table.now.macros) result }
         ensures sound { IsSound table.now }
-        ensures kept { IfSome result (λ id. slice_index self.new.places (key_of name.now) ≡ id) }
+        ensures kept { IfSome result (λ id. slice_index self.new.places (key_of name.now) ≡ min id 65535) }
     {
         let key = key_of(name);
         let guess = self.places[key];
-        let id = table.find_near(guess, name)?;
-        if id.index() != guess {
-            self.places[key] = id.index();
+        let id = table.find_near(guess as usize, name)?;
+        let place = id.index().min(MOST) as u16;
+        if place != guess {
+            self.places[key] = place;
         }
         Some(id)
     }
 }
 
-// The key of a name: its last two bytes and its length tell most names apart that are used near each other, as those that end in
-// a number of two digits.
+// The key of a name: its last two bytes and its length tell most names apart that are used near each other. Names of one length that end
+// in different digits have different keys.
 #[tactic(auto, unfolding(crate::specs::Guesses::key_of))]
 fn key_of(name: &[u8]) -> usize
     ensures value { result ≡ key_of name.now }
-    ensures inside { result < 64 }
+    ensures inside { result < 512 }
 {
     let len = name.len();
     if len == 0 {
         return 0;
     }
-    let before = name[len.saturating_sub(2)] as usize;
-    (before * 10 + name[len - 1] as usize + len) % GUESSES
+    let end = (name[len - 1] as usize + len) % ENDS;
+    end * WAYS + name[len.saturating_sub(2)] as usize % WAYS
 }
