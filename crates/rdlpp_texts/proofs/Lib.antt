@@ -38,3 +38,4 @@ pub mod QuickTokens
 mod CalmRuns
 mod QuietFronts
 mod CalmBytes
+mod DarkTokens

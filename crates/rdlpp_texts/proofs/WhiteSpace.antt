@@ -61,7 +61,7 @@ plain_role b c bytes blank line =
     cond_both (is_digit b) _ _ P (λ _. refl) (λ _. mark_role b c bytes line)))
 
 -- the first token of such a text
-first_role : (b : ℕ) (bs : List ℕ) → is_blank b ≡ false → is_line_end b ≡ false → is_space (token_role (first_spelled Plain (b ∷ bs))) ≡ false
+pub first_role : (b : ℕ) (bs : List ℕ) → is_blank b ≡ false → is_line_end b ≡ false → is_space (token_role (first_spelled Plain (b ∷ bs))) ≡ false
 unfolding first_spelled token_role kind_of parts
 first_role b bs blank line =
     let T = b ∷ bs in

@@ -5,9 +5,7 @@ ghost use Rattle.rdlpp_meaning.specs.Substitution.{body_tokens};
 ghost use Rattle.rdlpp_texts.specs.CallParts.{IsNextPart, ends_text, is_white, last_end, opener_from, part_from, space_from};
 ghost use Rattle.rdlpp_texts.specs.CallTokens.{role_meant};
 
-use crate::tokens::{
-    CallRole, calm_len, ends_call, ends_part, is_space, level_behind, token_in_call,
-};
+use crate::tokens::{CallRole, calm_len, ends_call, ends_part, level_behind, token_in_call};
 use rdlpp_scan::{Mode, byte_at, is_blank, word_bytes};
 
 /// Where a part of a call ends.
@@ -142,13 +140,13 @@ fn part_by_tokens(text: &[u8], from: usize, closes: bool) -> Part
     ensures { result ≡ part_from closes from from 0 from (body_tokens (drop from text.now)) }
 {
     let mut at = from;
-    let mut to = from;
+    // Where the last token ends that isn't calm: it is no white space, and behind it all is calm.
+    let mut behind = from;
     let mut level = 0;
     let mut mode = Mode::Plain;
     while at < text.len() {
         let calm = calm_len(mode, level, &text[at..]);
         if calm > 0 {
-            to = last_end(&text[at..at + calm], at, to);
             at += calm;
             continue;
         }
@@ -156,23 +154,21 @@ fn part_by_tokens(text: &[u8], from: usize, closes: bool) -> Part
         if ends_text(closes, token.role, level) {
             break;
         }
-        at += token.len;
         if ends_part(token.role, level) {
             return Part {
                 from,
-                to,
-                end: PartEnd::Comma(at),
+                to: last_end(&text[behind..at], behind, behind),
+                end: PartEnd::Comma(at + token.len),
             };
         }
-        if !is_space(token.role) {
-            to = at;
-        }
+        at += token.len;
+        behind = at;
         level = level_behind(token.role, level);
         mode = token.next_mode;
     }
     Part {
         from,
-        to,
+        to: last_end(&text[behind..at], behind, behind),
         end: PartEnd::Last(at),
     }
 }

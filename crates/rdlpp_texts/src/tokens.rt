@@ -3,7 +3,7 @@ ghost use Rattle.std.specs.Prelude.{◌≡◌, ◌+◌, ◌-◌, ◌<◌, ◌∷
 ghost use Rattle.std.specs.List.{prefix_len};
 ghost use Rattle.rdlpp_scan.specs.Bytes.{is_closer, is_opener};
 ghost use Rattle.rdlpp_scan.specs.declared.token.Mode.TheVariants.{Plain};
-ghost use Rattle.rdlpp_meaning.specs.Actuals.{is_space, kind_role, level_behind};
+ghost use Rattle.rdlpp_meaning.specs.Actuals.{kind_role, level_behind};
 ghost use Rattle.rdlpp_texts.specs.CallParts.{ends_call, ends_part};
 ghost use Rattle.rdlpp_texts.specs.CallTokens.{calm_len, is_calm, is_calm_at, is_inner, plain_token, quick_role, role_meant, IsFirstToken};
 
@@ -276,12 +276,4 @@ pub(crate) fn ends_part(role: CallRole, level: usize) -> bool
         CallRole::Comma => level == 0,
         _ => false,
     }
-}
-
-// Whether a token is white space.
-#[tactic(auto, unfolding(crate::specs::CallTokens::role_meant, rdlpp_meaning::specs::Actuals::is_space))]
-pub(crate) fn is_space(role: CallRole) -> bool
-    ensures { result ≡ is_space (role_meant role) }
-{
-    matches!(role, CallRole::Space)
 }
