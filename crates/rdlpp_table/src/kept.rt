@@ -18,6 +18,7 @@ ghost use Rattle.rdlpp_table.specs.Kept.{
   stop_kept,
   stop_known,
   stop_within,
+  stops_behind,
 };
 ghost use Rattle.rdlpp_table.specs.Stops.{stop_of};
 ghost use Rattle.rdlpp_table.specs.Store.{formals_read, IsListed};
@@ -52,6 +53,9 @@ pub(crate) struct Kept {
 
 // How many stops of a body are kept.
 pub(crate) const KEPT: usize = 10;
+
+// How many of them are asked one after another: most bodies have no more.
+const NEAR: usize = 4;
 
 // The first stops of a body, each of them the first one behind the one before.
 #[derive(Clone, Copy, Drop)]
@@ -130,7 +134,7 @@ fn stop_kept(kept: Kept) -> Option<Stop>
     stop_by(kept.kind, at, len, kept.place as usize)
 }
 
-// Whether a byte outside strings and comments can begin neither one: it is no `"`, no `/` and no `<`.
+// Whether a byte outside strings and comments can begin neither one, nor `<%`: it is no `"`, no `/` and no `<`.
 #[tactic(auto, unfolding(crate::specs::Kept::is_calm))]
 fn is_calm(b: u8) -> bool
     ensures { result ≡ is_calm b }
@@ -215,8 +219,8 @@ pub(crate) fn first_stops(formals: &Listed, body: &[u8]) -> FirstStops
     FirstStops { all }
 }
 
-// Whether no token goes on at a place of a body that is read from another one on, behind calm bytes: it is that place, or a quiet byte
-// stands before it.
+// Whether it is known that no token goes on at a place of a body that is read from another one on, behind calm bytes: it is that place,
+// or a quiet byte stands before it.
 #[tactic(auto, unfolding(crate::specs::Kept::is_cut))]
 fn is_cut(body: &[u8], start: usize, from: usize) -> bool
     requires order { start ≤ from }
@@ -283,15 +287,40 @@ fn candidate_at(stops: &FirstStops, from: usize) -> Candidate<'_>
 {
     let place = from.min(65534);
     let mut start = 0;
-    for kept in &stops.all[..KEPT - 1] {
+    for kept in &stops.all[..NEAR] {
         if place < kept.end as usize {
             return Candidate { start, kept };
         }
         start = kept.end;
     }
+    far_candidate(stops, start, place)
+}
+
+// The same behind the first few of them, where most bodies have no more. All but the last are asked at once: behind them stand most
+// places of a long body.
+#[inline(never)]
+fn far_candidate(stops: &FirstStops, near: u16, place: usize) -> Candidate<'_>
+    requires order { near ≤ place }
+    requires near { (formals : List Formal) (text : List ℕ) → stops.now ≡ first_stops formals text → drop 4 stops.now.all ≡ stops_behind 6 formals text near }
+    ensures order { result.start ≤ place }
+    ensures kept { (formals : List Formal) (text : List ℕ) → stops.now ≡ first_stops formals text → result.kept.now ≡ kept_from formals text result.start }
+{
+    let before = stops.all[KEPT - 2].end;
+    if before as usize <= place {
+        return Candidate {
+            start: before,
+            kept: &stops.all[KEPT - 1],
+        };
+    }
+    let mut start = near;
+    let mut at = NEAR;
+    while at < KEPT - 2 && stops.all[at].end as usize <= place {
+        start = stops.all[at].end;
+        at += 1;
+    }
     Candidate {
         start,
-        kept: &stops.all[KEPT - 1],
+        kept: &stops.all[at],
     }
 }
 
