@@ -127,7 +127,7 @@ one_shift : (place : ℕ) (o : Option ℕ) → option_map (λ i. place + i) (opt
 one_shift place None = refl
 one_shift place (Some n) = let e : place + suc n ≡ place + 1 + n = omega arith in ap Some e
 
-read_first : (n : ℕ) (bytes : List ℕ) → formals_read (suc n) bytes ≡ (formal_read bytes).formal ∷ formals_read n (formal_read bytes).behind
+pub read_first : (n : ℕ) (bytes : List ℕ) → formals_read (suc n) bytes ≡ (formal_read bytes).formal ∷ formals_read n (formal_read bytes).behind
 unfolding formals_read
 read_first n bytes = refl
 

@@ -82,8 +82,8 @@ stops_behind (suc n) formals text from = kept_from formals text from ∷ stops_b
 unfoldable pub first_stops : List Formal → List ℕ → FirstStops
 first_stops formals text = record { all = stops_behind 10 formals text 0 }
 
--- whether no token goes on at a place of a text that is read from another one on, behind calm bytes: it is that place, or a quiet byte
--- stands before it
+-- whether it is known that no token goes on at a place of a text that is read from another one on, behind calm bytes: it is that place,
+-- or a quiet byte stands before it
 unfoldable pub is_cut : List ℕ → ℕ → ℕ → Bool
 is_cut text start from = from == start || is_quiet (slice_index text (from - 1))
 

@@ -20,12 +20,14 @@ ghost use Rattle.rdlpp_table.specs.Kept.{
   stop_within,
   stops_behind,
 };
+ghost use Rattle.rdlpp_table.specs.Initials.{AreInitials};
 ghost use Rattle.rdlpp_table.specs.Stops.{stop_of};
 ghost use Rattle.rdlpp_table.specs.Store.{formals_read, IsListed};
 ghost use Rattle.rdlpp_table.specs.Table.{Formal};
 
 use crate::marks::Listed;
 use crate::stop::{Stop, first_stop};
+use crate::stored::initials;
 use rdlpp_scan::{quiet_bytes, word_bytes};
 
 // What a stop is that is kept: unknown, where its numbers are too large.
@@ -185,8 +187,9 @@ fn kept_stop(stop: Stop, from: usize, text: &[u8]) -> Kept
 
 // The first stop of a body from a place on.
 #[tactic(auto, unfolding(crate::specs::Kept::kept_from, crate::specs::Kept::endless))]
-fn kept_from(formals: &Listed, body: &[u8], from: u16) -> Kept
+fn kept_from(formals: &Listed, initials: &[bool], body: &[u8], from: u16) -> Kept
     requires listed { IsListed formals.now.count formals.now.list.now formals.now.marks.now }
+    requires told { AreInitials (formals_read formals.now.count formals.now.list.now) initials.now }
     requires short { length body.now < 2 ^ 64 }
     requires inside { from < 65535 → from ≤ length body.now }
     ensures value { result ≡ kept_from (formals_read formals.now.count formals.now.list.now) body.now from }
@@ -195,7 +198,7 @@ fn kept_from(formals: &Listed, body: &[u8], from: u16) -> Kept
     if from < 65535 {
         let from = from as usize;
         let text = &body[from..];
-        kept_stop(first_stop(formals, text, from), from, text)
+        kept_stop(first_stop(formals, initials, text, from), from, text)
     } else {
         endless(KeptKind::Unknown, 0)
     }
@@ -207,11 +210,12 @@ pub(crate) fn first_stops(formals: &Listed, body: &[u8]) -> FirstStops
     requires short { length body.now < 2 ^ 64 }
     ensures { result ≡ first_stops (formals_read formals.now.count formals.now.list.now) body.now }
 {
+    let initials = initials(formals.list, formals.count);
     let mut all = [endless(KeptKind::Unknown, 0); KEPT];
     let mut count = 0;
     let mut from = 0;
     while count < KEPT && from < 65535 {
-        let next = kept_from(formals, body, from);
+        let next = kept_from(formals, &initials, body, from);
         all[count] = next;
         from = next.end;
         count += 1;

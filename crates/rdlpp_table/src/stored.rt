@@ -1,10 +1,15 @@
 // Formals as they lie in a table's bytes: a name, `=` and a default text where there is one, and a comma.
-ghost use Rattle.std.specs.Prelude.{drop, length, ◌<◌, ◌≡◌, ◌≤◌};
+ghost use Rattle.std.specs.Prelude.{drop, false, length, replicate, ◌<◌, ◌≡◌, ◌≤◌};
 ghost use Rattle.std.specs.List.{prefix_len};
+ghost use Rattle.rdlpp_table.specs.Initials.{initials_of};
 ghost use Rattle.rdlpp_table.specs.Store.{formal_read, formals_read, is_name_byte};
 ghost use Rattle.rdlpp_table.specs.View.{formal_at, formal_named};
 
 use rdlpp_lines::behind_default;
+use rdlpp_scan::byte_at;
+
+// How many bytes there are.
+const BYTES: usize = 256;
 
 // How many bytes of a formal's name bytes begin with.
 #[tactic(auto, unfolding(crate::specs::Store::is_name_byte))]
@@ -93,4 +98,18 @@ pub(crate) fn default_in_list(bytes: &[u8], count: usize, place: usize) -> &[u8]
         rest = behind_formal(rest, name_len(rest));
     }
     formal_text(rest)
+}
+
+// Of each byte whether the name of one of so many formals begins with it: no other word of a body is one of them.
+pub(crate) fn initials(bytes: &[u8], count: usize) -> [bool; BYTES]
+    ensures { result ≡ initials_of (formals_read count bytes.now) (replicate 256 false) }
+{
+    let mut told = [false; BYTES];
+    let mut rest = bytes;
+    for _ in 0..count {
+        let name = formal_name(rest);
+        told[byte_at(name, 0) as usize] = true;
+        rest = behind_formal(rest, name.len());
+    }
+    told
 }

@@ -264,7 +264,7 @@ impl Table {
         ensures { result ≡ stop_in (macro_at self.now.macros id) from to }
     {
         let body = self.body(id);
-        first_stop(&self.formals(id), &body[from..to], from)
+        first_stop(&self.formals(id), &[], &body[from..to], from)
     }
 
     /// The place of a formal among a macro's formals, counted from 0; `None` where the macro has no list,
