@@ -370,6 +370,7 @@ impl<S: Sources> Engine<S> {
     {
         let buffer = &self.files.file().buffer;
         match front_of(buffer.mode(), buffer.held()) {
+            // Text is lent before anything else is asked (`take_held`).
             Front::Text(len, next) => Some(self.lend_text(len, next)),
             Front::Usage(len) => self.expand(len),
             Front::Define => self.define_line(),

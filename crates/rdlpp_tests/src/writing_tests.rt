@@ -1,5 +1,5 @@
-// The writes of a run beside the pieces that an engine lends one by one: text that is held has a way of its own in a run, and
-// both ways have to cut it alike.
+// The writes of a run beside the pieces that an engine lends one by one: where bytes are held and nothing is owed, a run takes them
+// without the questions that `next` asks first, and both have to cut them alike.
 use crate::runs::STANDARD;
 use rdlpp::{FaultKind, Limits, Sink, SinkFault, Texts};
 use rdlpp_expand::{Engine, Piece, run};

@@ -1,4 +1,4 @@
-// Steps of a run that take what is held of a source, and the lending of text that is copied.
+// Steps that take what is held of a source, and the lending of text that is copied.
 ghost use Rattle.std.specs.Prelude.{◌≡◌, ◌↔◌, ◌<◌, [], IfSome, IsTrue, None, length, take};
 ghost use Rattle.rdlpp_scan.specs.SourceTokens.{line_ends};
 ghost use Rattle.rdlpp_read.specs.Buffer.{held_of};
