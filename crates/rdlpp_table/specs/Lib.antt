@@ -1,7 +1,7 @@
 pub mod Table
 pub mod View
 pub mod Stops
-pub mod Initials
+pub mod Shapes
 pub mod Kept
 pub mod Limits
 pub mod Marks

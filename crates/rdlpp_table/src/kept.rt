@@ -20,14 +20,14 @@ ghost use Rattle.rdlpp_table.specs.Kept.{
   stop_within,
   stops_behind,
 };
-ghost use Rattle.rdlpp_table.specs.Initials.{AreInitials};
+ghost use Rattle.rdlpp_table.specs.Shapes.{AreShapes};
 ghost use Rattle.rdlpp_table.specs.Stops.{stop_of};
 ghost use Rattle.rdlpp_table.specs.Store.{formals_read, IsListed};
 ghost use Rattle.rdlpp_table.specs.Table.{Formal};
 
 use crate::marks::Listed;
 use crate::stop::{Stop, first_stop};
-use crate::stored::initials;
+use crate::stored::shapes;
 use rdlpp_scan::{quiet_bytes, word_bytes};
 
 // What a stop is that is kept: unknown, where its numbers are too large.
@@ -187,9 +187,9 @@ fn kept_stop(stop: Stop, from: usize, text: &[u8]) -> Kept
 
 // The first stop of a body from a place on.
 #[tactic(auto, unfolding(crate::specs::Kept::kept_from, crate::specs::Kept::endless))]
-fn kept_from(formals: &Listed, initials: &[bool], body: &[u8], from: u16) -> Kept
+fn kept_from(formals: &Listed, shapes: &[bool], body: &[u8], from: u16) -> Kept
     requires listed { IsListed formals.now.count formals.now.list.now formals.now.marks.now }
-    requires told { AreInitials (formals_read formals.now.count formals.now.list.now) initials.now }
+    requires told { AreShapes (formals_read formals.now.count formals.now.list.now) shapes.now }
     requires short { length body.now < 2 ^ 64 }
     requires inside { from < 65535 → from ≤ length body.now }
     ensures value { result ≡ kept_from (formals_read formals.now.count formals.now.list.now) body.now from }
@@ -198,7 +198,7 @@ fn kept_from(formals: &Listed, initials: &[bool], body: &[u8], from: u16) -> Kep
     if from < 65535 {
         let from = from as usize;
         let text = &body[from..];
-        kept_stop(first_stop(formals, initials, text, from), from, text)
+        kept_stop(first_stop(formals, shapes, text, from), from, text)
     } else {
         endless(KeptKind::Unknown, 0)
     }
@@ -210,12 +210,12 @@ pub(crate) fn first_stops(formals: &Listed, body: &[u8]) -> FirstStops
     requires short { length body.now < 2 ^ 64 }
     ensures { result ≡ first_stops (formals_read formals.now.count formals.now.list.now) body.now }
 {
-    let initials = initials(formals.list, formals.count);
+    let shapes = shapes(formals.list, formals.count);
     let mut all = [endless(KeptKind::Unknown, 0); KEPT];
     let mut count = 0;
     let mut from = 0;
     while count < KEPT && from < 65535 {
-        let next = kept_from(formals, &initials, body, from);
+        let next = kept_from(formals, &shapes, body, from);
         all[count] = next;
         from = next.end;
         count += 1;
@@ -284,33 +284,32 @@ struct Candidate<'a> {
 }
 
 // The first of the stops that are kept that ends behind a place, or else the last of them. One whose end isn't known is kept with the
-// end 65,535, and those after it tell nothing: so a place from 65,535 on is sought as 65,534, which finds that one.
+// end 65,535, and those after it tell nothing.
 fn candidate_at(stops: &FirstStops, from: usize) -> Candidate<'_>
     ensures order { result.start ≤ from }
     ensures kept { (formals : List Formal) (text : List ℕ) → stops.now ≡ first_stops formals text → result.kept.now ≡ kept_from formals text result.start }
 {
-    let place = from.min(65534);
     let mut start = 0;
     for kept in &stops.all[..NEAR] {
-        if place < kept.end as usize {
+        if from < kept.end as usize {
             return Candidate { start, kept };
         }
         start = kept.end;
     }
-    far_candidate(stops, start, place)
+    far_candidate(stops, start, from)
 }
 
 // The same behind the first few of them, where most bodies have no more. All but the last are asked at once: behind them stand most
 // places of a long body.
 #[inline(never)]
-fn far_candidate(stops: &FirstStops, near: u16, place: usize) -> Candidate<'_>
-    requires order { near ≤ place }
+fn far_candidate(stops: &FirstStops, near: u16, from: usize) -> Candidate<'_>
+    requires order { near ≤ from }
     requires near { (formals : List Formal) (text : List ℕ) → stops.now ≡ first_stops formals text → drop 4 stops.now.all ≡ stops_behind 6 formals text near }
-    ensures order { result.start ≤ place }
+    ensures order { result.start ≤ from }
     ensures kept { (formals : List Formal) (text : List ℕ) → stops.now ≡ first_stops formals text → result.kept.now ≡ kept_from formals text result.start }
 {
     let before = stops.all[KEPT - 2].end;
-    if before as usize <= place {
+    if before as usize <= from {
         return Candidate {
             start: before,
             kept: &stops.all[KEPT - 1],
@@ -318,7 +317,7 @@ fn far_candidate(stops: &FirstStops, near: u16, place: usize) -> Candidate<'_>
     }
     let mut start = near;
     let mut at = NEAR;
-    while at < KEPT - 2 && stops.all[at].end as usize <= place {
+    while at < KEPT - 2 && stops.all[at].end as usize <= from {
         start = stops.all[at].end;
         at += 1;
     }

@@ -1,12 +1,13 @@
 // Where the text of a body isn't copied as it stands.
 ghost use Rattle.std.specs.Prelude.{[], length, slice_index, slice_index_or, true, ◌+◌, ◌<◌, ◌≡◌, ◌≤◌, ◌^◌};
-ghost use Rattle.rdlpp_table.specs.Initials.{AreInitials};
+ghost use Rattle.rdlpp_table.specs.Shapes.{AreShapes, shape};
 ghost use Rattle.rdlpp_table.specs.Kept.{stop_end};
 ghost use Rattle.rdlpp_table.specs.Stops.{is_none, stop_at, stop_of};
 ghost use Rattle.rdlpp_table.specs.Store.{formals_read, IsListed};
 
 use crate::marks::{Listed, place_of};
-use rdlpp_scan::{Kind, Mode, Token, byte_at, first_token};
+use crate::stored::shape;
+use rdlpp_scan::{Kind, Mode, Token, first_token};
 
 /// The first place of a range of a body that isn't copied as it stands.
 ///
@@ -46,24 +47,24 @@ fn is_none(stop: Stop) -> bool
     matches!(stop, Stop::None)
 }
 
-// Whether a name that begins with a byte may be a formal, where it is told with which bytes they begin.
-fn may_begin(initials: &[bool], b: u8) -> bool
-    ensures { result ≡ slice_index_or initials.now b true }
+// Whether a name may be a formal, where it is told of which shapes these are.
+fn has_shape(shapes: &[bool], name: &[u8]) -> bool
+    ensures { result ≡ slice_index_or shapes.now (shape name.now) true }
 {
-    initials.get(b as usize).copied().unwrap_or(true)
+    shapes.get(shape(name)).copied().unwrap_or(true)
 }
 
 // What a token at a place is, among formals as they lie in a table.
 #[tactic(auto, unfolding(crate::specs::Stops::stop_at))]
-fn stop_at(formals: &Listed, initials: &[bool], at: usize, token: Token, text: &[u8]) -> Stop
+fn stop_at(formals: &Listed, shapes: &[bool], at: usize, token: Token, text: &[u8]) -> Stop
     requires listed { IsListed formals.now.count formals.now.list.now formals.now.marks.now }
-    requires told { AreInitials (formals_read formals.now.count formals.now.list.now) initials.now }
+    requires told { AreShapes (formals_read formals.now.count formals.now.list.now) shapes.now }
     ensures { result ≡ stop_at (formals_read formals.now.count formals.now.list.now) at token text.now }
 {
     match token.kind {
         Kind::Back => Stop::Usage { at, len: token.len },
         Kind::BareBackquote => Stop::Bare { at },
-        Kind::Name if !may_begin(initials, byte_at(text, 0)) => Stop::None,
+        Kind::Name if !has_shape(shapes, text) => Stop::None,
         Kind::Name => match place_of(formals, text) {
             Some(place) => Stop::Formal {
                 at,
@@ -76,11 +77,11 @@ fn stop_at(formals: &Listed, initials: &[bool], at: usize, token: Token, text: &
     }
 }
 
-// The first stop of a text whose first byte stands at a place, among formals as they lie in a table. It may be told with which bytes
-// they begin, so that most other words are passed without a look at them.
-pub(crate) fn first_stop(formals: &Listed, initials: &[bool], text: &[u8], from: usize) -> Stop
+// The first stop of a text whose first byte stands at a place, among formals as they lie in a table. It may be told of which shapes
+// their names are, so that most other words are passed without a look at them.
+pub(crate) fn first_stop(formals: &Listed, shapes: &[bool], text: &[u8], from: usize) -> Stop
     requires listed { IsListed formals.now.count formals.now.list.now formals.now.marks.now }
-    requires told { AreInitials (formals_read formals.now.count formals.now.list.now) initials.now }
+    requires told { AreShapes (formals_read formals.now.count formals.now.list.now) shapes.now }
     requires short { from + length text.now < 2 ^ 64 }
     ensures value { result ≡ stop_of (formals_read formals.now.count formals.now.list.now) from text.now }
     ensures end { stop_end result ≤ from + length text.now }
@@ -91,7 +92,7 @@ pub(crate) fn first_stop(formals: &Listed, initials: &[bool], text: &[u8], from:
     while !rest.is_empty() {
         let token = first_token(mode, rest);
         let (here, after) = rest.split_at(token.len);
-        let stop = stop_at(formals, initials, at, token, here);
+        let stop = stop_at(formals, shapes, at, token, here);
         if !is_none(stop) {
             return stop;
         }

@@ -1,15 +1,15 @@
 // Formals as they lie in a table's bytes: a name, `=` and a default text where there is one, and a comma.
-ghost use Rattle.std.specs.Prelude.{drop, false, length, replicate, ◌<◌, ◌≡◌, ◌≤◌};
+ghost use Rattle.std.specs.Prelude.{drop, false, length, replicate, ◌%◌, ◌*◌, ◌+◌, ◌<◌, ◌≡◌, ◌≤◌};
 ghost use Rattle.std.specs.List.{prefix_len};
-ghost use Rattle.rdlpp_table.specs.Initials.{initials_of};
+ghost use Rattle.rdlpp_table.specs.Shapes.{shape, shapes_of};
 ghost use Rattle.rdlpp_table.specs.Store.{formal_read, formals_read, is_name_byte};
 ghost use Rattle.rdlpp_table.specs.View.{formal_at, formal_named};
 
 use rdlpp_lines::behind_default;
 use rdlpp_scan::byte_at;
 
-// How many bytes there are.
-const BYTES: usize = 256;
+// How many shapes names have.
+const SHAPES: usize = 256;
 
 // How many bytes of a formal's name bytes begin with.
 #[tactic(auto, unfolding(crate::specs::Store::is_name_byte))]
@@ -58,6 +58,7 @@ fn formal_text(bytes: &[u8]) -> &[u8]
 }
 
 // What stands behind the comma of the formal with which bytes begin, whose name has so many bytes.
+#[inline(always)]
 #[tactic(auto, unfolding(crate::specs::Store::formal_read, crate::specs::Store::formal_behind, crate::specs::Store::behind_stored))]
 pub(crate) fn behind_formal(bytes: &[u8], name_len: usize) -> &[u8]
     requires len { name_len ≡ prefix_len is_name_byte bytes.now }
@@ -100,15 +101,24 @@ pub(crate) fn default_in_list(bytes: &[u8], count: usize, place: usize) -> &[u8]
     formal_text(rest)
 }
 
-// Of each byte whether the name of one of so many formals begins with it: no other word of a body is one of them.
-pub(crate) fn initials(bytes: &[u8], count: usize) -> [bool; BYTES]
-    ensures { result ≡ initials_of (formals_read count bytes.now) (replicate 256 false) }
+// The shape of a name: the low bits of its first byte and of its length. Most words of a body have that of no formal.
+#[tactic(auto, unfolding(crate::specs::Shapes::shape))]
+pub(crate) fn shape(name: &[u8]) -> usize
+    ensures value { result ≡ shape name.now }
+    ensures inside { result < 256 }
 {
-    let mut told = [false; BYTES];
+    byte_at(name, 0) as usize % 32 + 32 * (name.len() % 8)
+}
+
+// Of each shape whether the name of one of so many formals has it: a word of another shape is none of them.
+pub(crate) fn shapes(bytes: &[u8], count: usize) -> [bool; SHAPES]
+    ensures { result ≡ shapes_of (formals_read count bytes.now) (replicate 256 false) }
+{
+    let mut told = [false; SHAPES];
     let mut rest = bytes;
     for _ in 0..count {
         let name = formal_name(rest);
-        told[byte_at(name, 0) as usize] = true;
+        told[shape(name)] = true;
         rest = behind_formal(rest, name.len());
     }
     told

@@ -6,8 +6,8 @@ use Rattle.rdlpp_table.proofs.kept.candidate_at.Goals as goal
 pub loop-kept-init : goal.loop-kept-init
 loop-kept-init c = (omega arith, λ formals text e. all_stops formals text _ e)
 
-pub returns-then-place-kept-clause-kept : goal.returns-then-place-kept-clause-kept
-returns-then-place-kept-clause-kept c formals text e =
+pub returns-then-from-kept-clause-kept : goal.returns-then-from-kept-clause-kept
+returns-then-from-kept-clause-kept c formals text e =
     let i : ℕ = c.loop-kept.kept-index in
     let h : i < 4 = omega arith in
     (stop_next formals text c.args.stops.now.all no_stop _ i _ (omega arith) (omega (arith, h)) (c.loop-kept.invariant.1 formals text e) (get_or-take 4 c.args.stops.now.all i no_stop h)).0
@@ -16,4 +16,4 @@ pub loop-kept-preserved : goal.loop-kept-preserved
 loop-kept-preserved c =
     let i : ℕ = c.loop-kept.kept-index in
     let h : i < 4 = omega arith in
-    (omega (arith, c.if-place-kept.false, c.min-place.ensures), λ formals text e. (stop_next formals text c.args.stops.now.all no_stop _ i _ (omega arith) (omega (arith, h)) (c.loop-kept.invariant.1 formals text e) (get_or-take 4 c.args.stops.now.all i no_stop h)).1)
+    (omega (arith, c.if-from-kept.false), λ formals text e. (stop_next formals text c.args.stops.now.all no_stop _ i _ (omega arith) (omega (arith, h)) (c.loop-kept.invariant.1 formals text e) (get_or-take 4 c.args.stops.now.all i no_stop h)).1)

@@ -2,8 +2,8 @@ use Rattle.std.proofs.Common.{arith, ℕ, ◌<◌, refl}
 use Rattle.rdlpp_table.proofs.FirstStops.{last_stop, no_stop, stop_next}
 use Rattle.rdlpp_table.proofs.kept.far_candidate.Goals as goal
 
-pub returns-then-before-place-clause-kept : goal.returns-then-before-place-clause-kept
-returns-then-before-place-clause-kept c formals text e = last_stop formals text c.args.stops.now no_stop e
+pub returns-then-before-from-clause-kept : goal.returns-then-before-from-clause-kept
+returns-then-before-from-clause-kept c formals text e = last_stop formals text c.args.stops.now no_stop e
 
 pub loop-at-preserved : goal.loop-at-preserved
 loop-at-preserved c =

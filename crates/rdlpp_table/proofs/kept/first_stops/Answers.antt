@@ -1,8 +1,8 @@
 use Rattle.std.proofs.Common.{rules, arith, inl, inr, false, replicate, subst, sym}
-use Rattle.rdlpp_table.specs.Initials.{AreInitials}
+use Rattle.rdlpp_table.specs.Shapes.{AreShapes}
 use Rattle.rdlpp_table.specs.Store.{formals_read}
 use Rattle.rdlpp_table.proofs.FirstStops.{rest_unknown, stops_more, stops_whole}
-use Rattle.rdlpp_table.proofs.Initials.{initials_told}
+use Rattle.rdlpp_table.proofs.Shapes.{shapes_told}
 use Rattle.rdlpp_table.proofs.kept.first_stops.Goals as goal
 
 pub loop-count-preserved : goal.loop-count-preserved
@@ -18,4 +18,4 @@ returns-after-loop-count c = stops_whole _ _ c.loop-count.all c.loop-count.count
 pub kept_from-next-requires-clause-told : goal.kept_from-next-requires-clause-told
 kept_from-next-requires-clause-told c =
     let formals = formals_read c.args.formals.now.count c.args.formals.now.list.now in
-    subst (AreInitials formals) (sym c.initials-initials.ensures) (initials_told formals (replicate 256 false))
+    subst (AreShapes formals) (sym c.shapes-shapes.ensures) (shapes_told formals (replicate 256 false))

@@ -1,7 +1,8 @@
 use Rattle.std.proofs.Common.{◌∙◌, ◌≡◌, true, false, get_or, ℕ, ap, sym}
+use Rattle.rdlpp_table.specs.Shapes.{shape}
 use Rattle.rdlpp_table.specs.Store.{formals_read}
 use Rattle.rdlpp_table.proofs.FirstStops.{name_stop, none_stop, some_stop}
-use Rattle.rdlpp_table.proofs.Initials.{no_initial}
+use Rattle.rdlpp_table.proofs.Shapes.{no_shape}
 use Rattle.rdlpp_table.proofs.stop.stop_at.Goals as goal
 
 pub returns-in-Some : goal.returns-in-Some
@@ -14,6 +15,5 @@ pub returns-in-Name : goal.returns-in-Name
 returns-in-Name c =
     let formals = formals_read c.args.formals.now.count c.args.formals.now.list.now in
     let text = c.args.text.now in
-    let other : get_or c.args.initials.now (get_or text 0 0) true ≡ false =
-    sym (ap (λ (b : ℕ). get_or c.args.initials.now b true) c.byte_at.ensures.value) ∙ sym c.may_begin.ensures ∙ c.if-not-may_begin.true in
-    sym (none_stop c.args.at c.args.token.len) ∙ name_stop formals c.args.at c.args.token text _ c.in-Name.is (no_initial formals c.args.initials.now text c.requires.told other)
+    let other : get_or c.args.shapes.now (shape text) true ≡ false = sym c.has_shape.ensures ∙ c.if-not-has_shape.true in
+    sym (none_stop c.args.at c.args.token.len) ∙ name_stop formals c.args.at c.args.token text _ c.in-Name.is (no_shape formals c.args.shapes.now text c.requires.told other)
