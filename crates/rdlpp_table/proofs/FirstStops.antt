@@ -473,7 +473,7 @@ last_stop formals text stops d e =
 -- The stops of the body of a macro in a table.
 
 -- the macro of an entry that was read
-macro_here : (bs bytes : List ℕ) (entries : List Entry) (a b : ℕ) (view : TableView) (i j : ℕ) (entry : Entry) → bs ≡ bytes → view_of bytes entries a b ≡ view → i ≡ j → i < length entries → entry ≡ get_or entries i entry → macro_in bs entry ≡ macro_at view.macros j
+pub macro_here : (bs bytes : List ℕ) (entries : List Entry) (a b : ℕ) (view : TableView) (i j : ℕ) (entry : Entry) → bs ≡ bytes → view_of bytes entries a b ≡ view → i ≡ j → i < length entries → entry ≡ get_or entries i entry → macro_in bs entry ≡ macro_at view.macros j
 macro_here bs bytes entries a b view i j entry p e s h q =
     ap (λ (x : List ℕ). macro_in x entry) p ∙ (ap (macro_in bytes) q ∙ (sym (macro_at_entry bytes entries a b view i entry e h) ∙ ap (macro_at view.macros) s))
 

@@ -8,7 +8,8 @@ ghost use Rattle.rdlpp_table.specs.Stops.{stop_in};
 ghost use Rattle.rdlpp_table.specs.Table.{macro_named, table_bytes, table_size, without};
 ghost use Rattle.rdlpp_scan.specs.SourceTokens.{logical_len};
 ghost use Rattle.rdlpp_table.specs.Define.{define_of, name_fault, observed, set_of, stored, stored_draft, with_body, with_list};
-ghost use Rattle.rdlpp_table.specs.Store.{formals_read, IsListed};
+ghost use Rattle.rdlpp_table.specs.Kept.{first_stops};
+ghost use Rattle.rdlpp_table.specs.Store.{entry_end, formals_read, macro_in, IsListed};
 ghost use Rattle.rdlpp_table.specs.View.{TableView, AreSoundFormals, IsSound, IsSoundMacro, formal_at, formal_named, formals_of, macro_at, place_named};
 
 use crate::entry::{Entry, arity_in, body_in, listed_in, name_in};
@@ -84,6 +85,13 @@ impl MacroId {
     {
         self.index
     }
+}
+
+// The entry of a macro, with the bytes into which it points.
+#[derive(Clone, Copy, Drop)]
+struct Stored<'a> {
+    bytes: &'a [u8],
+    entry: &'a Entry,
 }
 
 impl Table {
@@ -207,10 +215,8 @@ impl Table {
         requires { id < length self.now.macros }
         ensures { result.now ≡ (macro_at self.now.macros id).name }
     {
-        name_in(
-            self.bytes.as_slice(),
-            &live(&self.entries, &self.front)[id.index],
-        )
+        let found = self.stored(id);
+        name_in(found.bytes, found.entry)
     }
 
     /// The body of a macro.
@@ -218,10 +224,8 @@ impl Table {
         requires { id < length self.now.macros }
         ensures { result.now ≡ (macro_at self.now.macros id).body }
     {
-        body_in(
-            self.bytes.as_slice(),
-            &live(&self.entries, &self.front)[id.index],
-        )
+        let found = self.stored(id);
+        body_in(found.bytes, found.entry)
     }
 
     /// How many formals a macro has; `None` where it has no list.
@@ -229,7 +233,7 @@ impl Table {
         requires { id < length self.now.macros }
         ensures { result ≡ option_map length (macro_at self.now.macros id).formals }
     {
-        arity_in(&live(&self.entries, &self.front)[id.index])
+        arity_in(self.stored(id).entry)
     }
 
     /// The first place, from `from` on and before `to`, of the body of a macro that isn't copied as it stands:
@@ -247,11 +251,26 @@ impl Table {
         requires inside { to ≤ length (macro_at self.now.macros id).body }
         ensures { result ≡ stop_in (macro_at self.now.macros id) from to }
     {
-        let entry = &live(&self.entries, &self.front)[id.index];
-        let body = body_in(self.bytes.as_slice(), entry);
-        match known_stop(&entry.stops, body, from, to) {
+        let found = self.stored(id);
+        let body = body_in(found.bytes, found.entry);
+        match known_stop(&found.entry.stops, body, from, to) {
             Some(stop) => stop,
             None => self.sought_stop(id, from, to),
+        }
+    }
+
+    // The entry of a macro, with the bytes into which it points.
+    #[inline(always)]
+    fn stored(&self, id: MacroId) -> Stored<'_>
+        requires { id < length self.now.macros }
+        ensures within { entry_end result.entry.now ≤ length result.bytes.now }
+        ensures value { macro_in result.bytes.now result.entry.now ≡ macro_at self.now.macros id }
+        ensures arity { result.entry.now.arity ≡ option_map length (macro_at self.now.macros id).formals }
+        ensures stops { result.entry.now.stops ≡ first_stops (formals_of (macro_at self.now.macros id)) (macro_at self.now.macros id).body }
+    {
+        Stored {
+            bytes: self.bytes.as_slice(),
+            entry: &self.entries[self.front.entries + id.index],
         }
     }
 

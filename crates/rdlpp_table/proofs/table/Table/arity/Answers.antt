@@ -1,13 +1,5 @@
-use Rattle.std.proofs.Common.{◌<◌, ◌∙◌, ap, drop, length, arith}
-use Rattle.rdlpp_table.proofs.Sizes.{len_of_view, live_read, arity_at}
+use Rattle.std.proofs.Common.{◌∙◌}
 use Rattle.rdlpp_table.proofs.table.Table.arity.Goals as goal
 
-pub bounds-live-id-inside : goal.bounds-live-id-inside
-bounds-live-id-inside c =
-    let h : c.id.inside.index < length (drop c.self.inside.front.entries c.self.inside.entries.items) = omega (arith, c.requires, len_of_view _ _ _ _ _ c.self.view_is, c.id.view_is) in
-    omega (arith, h, ap length (c.live.ensures ∙ ap (drop c.self.inside.front.entries) c.deref.ensures.value))
-
 pub returns : goal.returns
-returns c =
-    let h : c.id.inside.index < length (drop c.self.inside.front.entries c.self.inside.entries.items) = omega (arith, c.requires, len_of_view _ _ _ _ _ c.self.view_is, c.id.view_is) in
-    c.arity_in.ensures ∙ arity_at _ _ _ _ _ _ _ _ c.self.view_is c.self.invariant.held c.id.view_is h (live_read c.live.result.now (drop c.self.inside.front.entries c.self.inside.entries.items) _ (c.live.ensures ∙ ap (drop c.self.inside.front.entries) c.deref.ensures.value) h)
+returns c = c.arity_in.ensures ∙ c.stored.ensures.arity
