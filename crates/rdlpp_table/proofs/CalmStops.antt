@@ -372,6 +372,15 @@ cut_place text start from low h =
       | inr past ↦ inl (omega (arith, past))
     ]
 
+-- a place at which a stop is kept is a cut among the calm bytes, however many these are
+cut_near : (text : List ℕ) (start from calm : ℕ) → (eqb from start || (leb from (start + calm) && is_cut text start from)) ≡ true → (from ≤ start + calm) × (is_cut text start from ≡ true)
+unfolding is_cut
+cut_near text start from calm h =
+    ⊎_elim
+    (λ (e : eqb from start ≡ true). (omega (arith, eqb-true from start e), ap (λ (t : Bool). t || is_quiet (get_or text (from - 1) 0)) e))
+    (λ w. let two = and_parts (leb from (start + calm)) _ w in (leb-true _ _ two.0, two.1))
+    (or_cases _ _ h)
+
 -- the first stop of a text from a place on is that from a cut among the calm bytes on
 stop_further : (formals : List Formal) (text : List ℕ) (start from : ℕ) (s : Stop) (k : Kept) → IsKeptStop s start (drop start text) k → s ≡ stop_of formals start (drop start text) → start ≤ from → from ≤ start + k.calm → is_cut text start from ≡ true → s ≡ first_stop formals from (tokens_from Plain 0 (drop from text)) (drop from text)
 unfolding stop_of
@@ -396,10 +405,10 @@ known_range formals text start from to s k is e low order high =
     let m = to - from in
     let S : Stop = stop_of formals from (slice_range text from to) in
     let P : Option Stop → Type 0 = λ r. IfSome r (λ x. x ≡ S) in
-    cond_both (leb from (start + k.calm) && is_cut text start from) _ None P
+    cond_both (eqb from start || (leb from (start + k.calm) && is_cut text start from)) _ None P
     (λ h.
-    let two = and_parts (leb from (start + k.calm)) (is_cut text start from) h in
-    let near : from ≤ start + k.calm = leb-true _ _ two.0 in
+    let two = cut_near text start from k.calm h in
+    let near : from ≤ start + k.calm = two.0 in
     let further : s ≡ first_stop formals from (tokens_from Plain 0 u) u = stop_further formals text start from s k is e low near two.1 in
     cond_both (eqb to (length text) || (ltb 0 k.len && (leb k.end to && leb (k.end - k.len) (start + k.calm)))) (stop_kept k) _ P
     (λ g. subst (λ (x : Stop). IfSome (stop_kept k) (λ y. y ≡ x)) (⊎_elim

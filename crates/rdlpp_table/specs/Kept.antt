@@ -99,4 +99,4 @@ stop_within text reach k to =
 -- the first stop of a range of a text, where the one that is kept as the first one from a place on tells it
 unfoldable pub stop_known : List ℕ → ℕ → Kept → ℕ → ℕ → Option Stop
 stop_known text start k from to =
-    if nat_le from (start + k.calm) && is_cut text start from then stop_within text (start + k.calm) k to else None
+    if from == start || (nat_le from (start + k.calm) && is_cut text start from) then stop_within text (start + k.calm) k to else None

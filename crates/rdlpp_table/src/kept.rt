@@ -269,7 +269,7 @@ fn stop_known(body: &[u8], start: u16, kept: Kept, from: usize, to: usize) -> Op
 {
     let start = start as usize;
     let reach = start + kept.calm as usize;
-    if from <= reach && is_cut(body, start, from) {
+    if from == start || (from <= reach && is_cut(body, start, from)) {
         stop_within(body, reach, kept, to)
     } else {
         None
