@@ -149,6 +149,7 @@ fn take_stored(bytes: &mut Vec<u8>, entries: &mut Vec<Entry>, front: &mut Front,
     requires few { length (live front.old.entries entries.old.items) ≤ 65536 }
     ensures stored { IsStored front.new.bytes front.new.marks bytes.new.items (live front.new.entries entries.new.items) (remove (macros_in bytes.old.items (live front.old.entries entries.old.items)) place) }
     ensures given_up { front.new.entries ≤ vec_len entries.new }
+    ensures no_longer { (vec_len bytes.new ≤ vec_len bytes.old) × (vec_len entries.new ≤ vec_len entries.old) }
     ensures capacity { (vec_capacity bytes.new ≡ vec_capacity bytes.old) × (vec_capacity entries.new ≡ vec_capacity entries.old) }
 {
     let at = front.entries + place;
@@ -187,6 +188,7 @@ fn take_out(
     requires marked { drop (length (live front.old.entries entries.old.items) - 1) order.old.items ≡ table_marks (macros_in bytes.old.items (live front.old.entries entries.old.items)) }
     ensures stored { IsStored front.new.bytes front.new.marks bytes.new.items (live front.new.entries entries.new.items) (remove (macros_in bytes.old.items (live front.old.entries entries.old.items)) place) }
     ensures given_up { front.new.entries ≤ vec_len entries.new }
+    ensures no_longer { (vec_len bytes.new ≤ vec_len bytes.old) × (vec_len entries.new ≤ vec_len entries.old) }
     ensures index { take (length (live front.new.entries entries.new.items)) order.new.items ≡ take (length (live front.old.entries entries.old.items) - 1) order.old.items }
     ensures marked { drop (length (live front.new.entries entries.new.items)) order.new.items ≡ table_marks (remove (macros_in bytes.old.items (live front.old.entries entries.old.items)) place) }
     ensures capacity { (vec_capacity bytes.new ≡ vec_capacity bytes.old) × (vec_capacity entries.new ≡ vec_capacity entries.old) × (vec_capacity order.new ≡ vec_capacity order.old) }
@@ -241,6 +243,7 @@ pub(crate) fn take_out_named(
     ensures gap { IsGap (names_of (macros_in bytes.new.items (live front.new.entries entries.new.items))) (take (length (live front.new.entries entries.new.items)) order.new.items) name.now result.1 }
     ensures stored { IsStored front.new.bytes front.new.marks bytes.new.items (live front.new.entries entries.new.items) (without name.now (macros_in bytes.old.items (live front.old.entries entries.old.items))) }
     ensures given_up { front.new.entries ≤ vec_len entries.new }
+    ensures no_longer { (vec_len bytes.new ≤ vec_len bytes.old) × (vec_len entries.new ≤ vec_len entries.old) }
     ensures indexed { IsIndexed (names_of (without name.now (macros_in bytes.old.items (live front.old.entries entries.old.items)))) (take (length (live front.new.entries entries.new.items)) order.new.items) starts.new }
     ensures marked { drop (length (live front.new.entries entries.new.items)) order.new.items ≡ table_marks (without name.now (macros_in bytes.old.items (live front.old.entries entries.old.items))) }
     ensures capacity { (vec_capacity bytes.new ≡ vec_capacity bytes.old) × (vec_capacity entries.new ≡ vec_capacity entries.old) × (vec_capacity order.new ≡ vec_capacity order.old) }

@@ -117,6 +117,7 @@ fn put(
     requires few_formals { unwrap_or new.now.arity 0 < 256 }
     ensures stored { IsStored front.now.bytes front.now.marks bytes.new.items (live front.now.entries entries.new.items) (macros_in bytes.old.items (live front.now.entries entries.old.items) ++ new_macro new.now.name.now new.now.arity new.now.list.now new.now.is_logical new.now.text.now ∷ []) }
     ensures given_up { front.now.entries ≤ vec_len entries.new }
+    ensures longer { (vec_len bytes.old ≤ vec_len bytes.new) × (vec_len entries.old ≤ vec_len entries.new) }
     ensures index { take (length (live front.now.entries entries.new.items)) order.new.items ≡ take (length (live front.now.entries entries.old.items) + 1) order.old.items }
     ensures marked { drop (length (live front.now.entries entries.new.items)) order.new.items ≡ table_marks (macros_in bytes.old.items (live front.now.entries entries.old.items) ++ new_macro new.now.name.now new.now.arity new.now.list.now new.now.is_logical new.now.text.now ∷ []) }
     ensures capacity { (vec_capacity bytes.new ≡ vec_capacity bytes.old) × (vec_capacity entries.new ≡ vec_capacity entries.old) × (vec_capacity order.new ≡ vec_capacity order.old) }
@@ -190,8 +191,8 @@ fn is_sparse(bytes: &Vec<u8>, entries: &Vec<Entry>, front: &Front) -> bool
 }
 
 // Where there is no room behind for so many bytes or for one more entry, or more is given up than is there, all moves to the front:
-// room that was given up there becomes room behind. A move is paid for by the last removal that gave up room, which left in place three
-// quarters or more of what there was, and by the definitions since.
+// room that was given up there becomes room behind. So no more is given up then than is there. A move is paid for by the last removal
+// that gave up room, which left in place three quarters or more of what there was, and by the definitions since.
 fn make_room(bytes: &mut Vec<u8>, entries: &mut Vec<Entry>, front: &mut Front, size: usize)
     requires stored { IsStored front.old.bytes front.old.marks bytes.old.items (live front.old.entries entries.old.items) (macros_in bytes.old.items (live front.old.entries entries.old.items)) }
     requires given_up { front.old.entries ≤ vec_len entries.old }
@@ -199,6 +200,7 @@ fn make_room(bytes: &mut Vec<u8>, entries: &mut Vec<Entry>, front: &mut Front, s
     requires entry_room { length (live front.old.entries entries.old.items) < vec_capacity entries.old }
     ensures stored { IsStored front.new.bytes front.new.marks bytes.new.items (live front.new.entries entries.new.items) (macros_in bytes.old.items (live front.old.entries entries.old.items)) }
     ensures given_up { front.new.entries ≤ vec_len entries.new }
+    ensures few_given_up { (front.new.bytes ≤ vec_len bytes.new - front.new.bytes) × (front.new.entries ≤ vec_len entries.new - front.new.entries) }
     ensures room { vec_len bytes.new + size ≤ vec_capacity bytes.new }
     ensures entry_room { vec_len entries.new < vec_capacity entries.new }
     ensures capacity { (vec_capacity bytes.new ≡ vec_capacity bytes.old) × (vec_capacity entries.new ≡ vec_capacity entries.old) }
@@ -211,7 +213,7 @@ fn make_room(bytes: &mut Vec<u8>, entries: &mut Vec<Entry>, front: &mut Front, s
     }
 }
 
-// Puts a macro behind the others, in the place of one of its name.
+// Puts a macro behind the others, in the place of one of its name. No more is given up then than is there.
 pub(crate) fn replace(
     bytes: &mut Vec<u8>,
     entries: &mut Vec<Entry>,
@@ -237,6 +239,7 @@ pub(crate) fn replace(
     requires index_room { length (without new.now.name.now (macros_in bytes.old.items (live front.old.entries entries.old.items))) + 2 * ((table_size (without new.now.name.now (macros_in bytes.old.items (live front.old.entries entries.old.items))) + new.now.list_len) / 8) < vec_capacity order.old }
     ensures stored { IsStored front.new.bytes front.new.marks bytes.new.items (live front.new.entries entries.new.items) (without new.now.name.now (macros_in bytes.old.items (live front.old.entries entries.old.items)) ++ new_macro new.now.name.now new.now.arity new.now.list.now new.now.is_logical new.now.text.now ∷ []) }
     ensures given_up { front.new.entries ≤ vec_len entries.new }
+    ensures few_given_up { (front.new.bytes ≤ vec_len bytes.new - front.new.bytes) × (front.new.entries ≤ vec_len entries.new - front.new.entries) }
     ensures indexed { IsIndexed (names_of (without new.now.name.now (macros_in bytes.old.items (live front.old.entries entries.old.items)) ++ new_macro new.now.name.now new.now.arity new.now.list.now new.now.is_logical new.now.text.now ∷ [])) (take (length (live front.new.entries entries.new.items)) order.new.items) starts.new }
     ensures marked { drop (length (live front.new.entries entries.new.items)) order.new.items ≡ table_marks (without new.now.name.now (macros_in bytes.old.items (live front.old.entries entries.old.items)) ++ new_macro new.now.name.now new.now.arity new.now.list.now new.now.is_logical new.now.text.now ∷ []) }
     ensures capacity { (vec_capacity bytes.new ≡ vec_capacity bytes.old) × (vec_capacity entries.new ≡ vec_capacity entries.old) × (vec_capacity order.new ≡ vec_capacity order.old) }
