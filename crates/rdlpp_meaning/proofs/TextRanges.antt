@@ -106,12 +106,6 @@ spelled_cut (u ∷ us) vs (t ∷ ts) bs e =
       front = ap (λ (xs : List SourceToken). own ∷ xs) c.front ∙ ap (λ (x : SourceToken). x ∷ us) (first_is own u (spelled ts (drop t.len bs)) (us ++ vs) e);
       back = ap (λ (x : List ℕ). spelled c.behind x) (sym (drop-drop (tokens_len c.before) t.len bs)) ∙ c.back;
     }
-  where
-    heads : (x y : SourceToken) (xs ys : List SourceToken) → x ∷ xs ≡ y ∷ ys → x ≡ y
-    heads x y xs ys h = cc
-
-    tails : (x y : SourceToken) (xs ys : List SourceToken) → x ∷ xs ≡ y ∷ ys → xs ≡ ys
-    tails x y xs ys h = cc
 
 -- how a text is cut at a boundary of its tokens: the bytes before the cut, the tokens that they have, and those of what is
 -- behind it, from some mode on

@@ -24,15 +24,6 @@ use Rattle.rdlpp_state.specs.Remaining.{file_state, nest_state}
 use Rattle.rdlpp_state.specs.declared.phase.Phase.{Phase}
 use Rattle.rdlpp_state.proofs.ConditionalPlaces.{Deep, Inside, Outside, Standing, place_inside, place_outside, place_skipped, standing}
 
--- whether text is live
-pub live_is : (skipped : Option ℕ) → is_none skipped ≡ true → skipped ≡ None
-live_is None e = refl
-live_is (Some n) e = cc e
-
-pub skipped_is : (skipped : Option ℕ) → is_none skipped ≡ false → skipped ≡ None → ⊥
-skipped_is None e same = cc e
-skipped_is (Some n) e same = cc same
-
 -- no more are open around the innermost source than are open
 pub inner_most : {R : Type 0} (limits : Limits) (v : ConditionsView) (nest : List (File R)) → AreConditions limits v nest → inner_below nest ≤ length v.open_now
 inner_most limits v [] s = omega arith

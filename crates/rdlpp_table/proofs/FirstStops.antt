@@ -21,7 +21,7 @@ use Rattle.rdlpp_scan.specs.Ordinary.{is_plain_kind}
 use Rattle.rdlpp_scan.proofs.FirstTokens.{plain_token-run, IsRun}
 use Rattle.rdlpp_scan.proofs.RangeLaws.{token_of-front, EndsIn}
 use Rattle.rdlpp_scan.proofs.StopKinds.{Row, AtPerl, AtLineComment, AtBlockComment, AtString, AtBack, AtBare, AtPlain, token_of-row}
-use Rattle.rdlpp_table.specs.Kept.{stop_end, endless, first_stops, kept_from, kept_of, kept_stop, placed, stop_by, stop_kept, stops_behind}
+use Rattle.rdlpp_table.specs.Kept.{stop_end, endless, first_stops, kept_from, kept_stop, stop_by, stop_kept, stops_behind}
 use Rattle.rdlpp_table.specs.declared.kept.FirstStops.{FirstStops}
 use Rattle.rdlpp_table.specs.declared.kept.Kept.{Kept}
 use Rattle.rdlpp_table.specs.declared.kept.KeptKind.{KeptKind}
@@ -171,18 +171,6 @@ quiet_one formals at b bs q =
     ∙ sym (blank_run formals (at + 1) bs))))
     (λ h. quiet_mark formals at b bs (quiet_first b bs q h))
     (cases_Bool (is_blank b))
-
--- quiet bytes are passed
-pub quiet_some : (formals : List Formal) (at n : ℕ) (bs : List ℕ) → n ≤ prefix_len is_quiet bs
-    → first_stop formals (at + n) (tokens_from Plain 0 (drop n bs)) (drop n bs) ≡ first_stop formals at (tokens_from Plain 0 bs) bs
-quiet_some formals at zero bs h = ap (λ (m : ℕ). first_stop formals m (tokens_from Plain 0 bs) bs) (omega arith)
-quiet_some formals at (suc n) [] h = absurd (omega arith)
-quiet_some formals at (suc n) (b ∷ bs) h =
-    ⊎_elim
-    (λ q. ap (λ (m : ℕ). first_stop formals m (tokens_from Plain 0 (drop n bs)) (drop n bs)) (omega arith)
-    ∙ (quiet_some formals (at + 1) n bs (omega (arith, prefix_more is_quiet b bs q)) ∙ sym (quiet_one formals at b bs q)))
-    (λ q. absurd (omega (arith, prefix_none is_quiet b bs q)))
-    (cases_Bool (is_quiet b))
 
 -- what stands behind a place, as a range up to the end
 pub behind_place : (n : ℕ) (xs : List ℕ) → take (length xs - n) (drop n xs) ≡ drop n xs
@@ -355,14 +343,6 @@ back_when true kind at len place calm s e =
     let there : at + len - len ≡ at = omega arith in
     subst (λ (x : Option Stop). IfSome x (λ y. y ≡ s)) (sym (ap (λ (n : ℕ). stop_by kind n len place) there ∙ e)) refl
 back_when false kind at len place calm s e = tt
-
--- a stop that is kept is that stop, where it is known
-pub kept_back : (s : Stop) (calm : ℕ) → IfSome (stop_kept (kept_of s calm)) (λ x. x ≡ s)
-unfolding stop_kept kept_of stop_by endless placed
-kept_back stop.None calm = refl
-kept_back (stop.Formal at len place) calm = back_when _ kept.Formal at len place calm _ refl
-kept_back (stop.Usage at len) calm = back_when _ kept.Usage at len 0 calm _ refl
-kept_back (stop.Bare at) calm = back_when _ kept.Bare at 1 0 calm _ refl
 
 pub none_end : stop_end stop.None ≡ 0
 unfolding stop_end

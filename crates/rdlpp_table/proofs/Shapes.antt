@@ -58,10 +58,6 @@ no_shape formals told name h f = by (formal_named formals name) refl
     by None e = sym e
     by (Some n) e = absurd (false≢true (sym f ∙ h name (ap is_some e)))
 
--- nothing is told by an empty list
-pub untold : (formals : List Formal) → AreShapes formals []
-untold formals name h = refl
-
 -- so many formals are told as they are read
 pub told_more : (rest : List ℕ) (count place : ℕ) (told : List Bool) (name behind : List ℕ) → place < count → name ≡ (formal_read rest).formal.name → behind ≡ (formal_read rest).behind
     → shapes_of (formals_read (count - place) rest) told ≡ shapes_of (formals_read (count - (place + 1)) behind) (set told (shape name) true)
