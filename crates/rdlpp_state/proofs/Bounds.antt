@@ -1,5 +1,5 @@
 -- The bytes that are held are within their bound.
-use Rattle.std.proofs.Common.{◌≡◌, inl, ℕ, ◌+◌, ◌*◌, ◌^◌, ◌≤◌, ◌<◌, List, [], None, length, map, reverse, sum_by, ap, ◌∙◌, subst, arith}
+use Rattle.std.proofs.Common.{◌≡◌, inl, ℕ, ◌+◌, ◌*◌, ◌^◌, ◌≤◌, ◌<◌, [], None, length, map, reverse, sum_by, ap, ◌∙◌, subst, arith}
 use Rattle.std.proofs.Math.Nat.{mul-le-mul_right}
 use Rattle.rdlpp_table.proofs.Sizes.{length_table_bytes}
 use Rattle.rdlpp_table.specs.Limits.{AreInRange}

@@ -4,7 +4,6 @@ use Rattle.std.proofs.Common.{◌≡◌, ℕ, ◌-◌, ◌≤◌, ◌<◌, true,
 use Rattle.rdlpp_scan.specs.Front.{Breach, PerlFound}
 use Rattle.rdlpp_scan.specs.Front as breach
 use Rattle.rdlpp_scan.specs.SourceTokens.{line_ends, line_len}
-use Rattle.rdlpp_scan.specs.declared.token.Directive.{Directive}
 use Rattle.rdlpp_scan.specs.declared.token.Directive.TheVariants.{Define, Include, Line, Undef}
 use Rattle.rdlpp_scan.specs.declared.token.Kind.TheVariants.{Perl}
 use Rattle.rdlpp_scan.specs.declared.token.Mode.{Mode}

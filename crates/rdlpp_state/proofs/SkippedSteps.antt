@@ -1,7 +1,6 @@
 -- What remains of the open sources, as skipped text of the innermost one is passed, and where it ends with a conditional open.
 use Rattle.std.proofs.Common.{◌≡◌, ℕ, ◌-◌, ◌≤◌, ◌<◌, Bool, true, false, List, [], ◌∷◌, length, take, Some, refl, sym, ap, ◌∙◌}
 use Rattle.rdlpp_scan.specs.SourceTokens.{line_ends}
-use Rattle.rdlpp_scan.specs.declared.token.Directive.{Directive}
 use Rattle.rdlpp_scan.specs.declared.token.Mode.{Mode}
 use Rattle.rdlpp_scan.specs.declared.token.Mode.TheVariants.{Plain}
 use Rattle.rdlpp_table.specs.Table.{Macro}
@@ -14,14 +13,11 @@ use Rattle.rdlpp_meaning.specs.Parts.{line_ends_of}
 use Rattle.rdlpp_meaning.specs.Resumed.{Place, Skipped}
 use Rattle.rdlpp_meaning.specs.State.{Rules, State}
 use Rattle.rdlpp_meaning.proofs.ConditionalMoves.{in_branch}
-use Rattle.rdlpp_meaning.proofs.DirectiveWords.{has_own_token}
-use Rattle.rdlpp_meaning.proofs.SkippedStretches.{stands_by_itself}
 use Rattle.rdlpp_read.specs.Buffer.{BufferView, entered_mode, held_of}
 use Rattle.rdlpp_read.specs.Files.{consumed_file, torn_after}
 use Rattle.rdlpp_read.specs.Filling.{Fills}
 use Rattle.rdlpp_read.specs.declared.buffer.filling.Fill.TheVariants as fill
 use Rattle.rdlpp_read.specs.declared.files.File.{File}
-use Rattle.rdlpp_front.specs.Fronts.{IsDirective}
 use Rattle.rdlpp_front.specs.SourceLeft.{HoldsFront, source_left, with_file_buffer}
 use Rattle.rdlpp_front.proofs.EndLeft.{unclosed_left}
 use Rattle.rdlpp_front.proofs.SkippedWords.{skipped_unclosed_left}
