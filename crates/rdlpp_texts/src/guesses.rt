@@ -7,14 +7,8 @@ ghost use Rattle.rdlpp_texts.specs.Guesses.{key_of};
 
 use rdlpp_table::{MacroId, Table};
 
-// How many keys the last byte and the length of a name give.
-const ENDS: usize = 64;
-
-// How many keys each of these has by the byte before the last.
-const WAYS: usize = 8;
-
 // How many places are kept.
-const GUESSES: usize = ENDS * WAYS;
+const GUESSES: usize = 512;
 
 // The largest place that is kept: the last of a table with the largest limits.
 const MOST: usize = 65535;
@@ -64,6 +58,6 @@ fn key_of(name: &[u8]) -> usize
     if len == 0 {
         return 0;
     }
-    let end = (name[len - 1] as usize + len) % ENDS;
-    end * WAYS + name[len.saturating_sub(2)] as usize % WAYS
+    let before = name[len.saturating_sub(2)] as usize;
+    (name[len - 1] as usize + len + 64 * before) % GUESSES
 }
