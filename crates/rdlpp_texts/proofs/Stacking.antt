@@ -244,6 +244,26 @@ full-is count depth few = by (count == depth) refl
         let apart : count ≡ depth → ⊥ = eqb-false count depth e in
         e ∙ sym (lt-leb depth count (omega (arith, apart, few)))
 
+-- where no slot is left in front of the open texts, as many are open as may be if no more slots can be made
+pub full-first : (slots : List Slot) (first depth len : ℕ) (bindings : List Range) → first ≡ 0 → len ≡ length slots → length slots ≤ depth
+    → (len == depth) ≡ nat_le depth (length (opens_of (drop first slots) bindings))
+full-first slots first depth len bindings z e few =
+    let n = open-count slots first bindings in
+    let count : len ≡ length (opens_of (drop first slots) bindings) = omega (arith, n, z, e) in
+    full-is len depth (omega (arith, e, few)) ∙ ap (nat_le depth) count
+
+-- where a slot is left, more texts may be open
+pub full-some : (slots : List Slot) (first depth : ℕ) (bindings : List Range) → (first ≡ 0 → ⊥) → first ≤ length slots → length slots ≤ depth
+    → (first == 0) ≡ nat_le depth (length (opens_of (drop first slots) bindings))
+full-some slots first depth bindings some inside few =
+    let n = open-count slots first bindings in
+    let none : (first == 0) ≡ false = by (first == 0) refl in
+    none ∙ sym (lt-leb depth _ (omega (arith, n, some, inside, few)))
+  where
+    by : (zero : Bool) → (first == 0) ≡ zero → (first == 0) ≡ false
+    by true e = absurd (some (eqb-true first 0 e))
+    by false e = e
+
 -- the slots from a place on
 pub tail-is : (part items : List Slot) (first : ℕ) → part ≡ items → take (length part - first) (drop first part) ≡ drop first items
 tail-is part items first e = take_rest part first ∙ ap (λ (slots : List Slot). drop first slots) e

@@ -134,7 +134,7 @@ impl Cursors {
     fn is_full(&self) -> bool
         ensures { result ≡ nat_le self.now.depth (length self.now.opens) }
     {
-        self.len() == self.depth
+        self.first == 0 && self.slots.len() == self.depth
     }
 
     // Closes the innermost text, with the ranges that its call has bound.
@@ -209,6 +209,27 @@ impl Cursors {
             bounds,
         };
         self.first = first;
+    }
+
+    // Goes on at a place of the innermost text, and opens the body of a macro whose call is written in a scope and binds nothing.
+    fn push_behind(&mut self, at: usize, id: MacroId, end: usize, home: usize)
+        requires some { 0 < length self.old.opens }
+        requires room { length self.old.opens < self.old.depth }
+        ensures { self.new ≡ record self.old { opens = record { part = record { from = 0; end = end; mode = Plain }; home = home; kind = OpenBody id [] } ∷ moved_to at self.old.opens } }
+    {
+        let first = self.first;
+        let bound = self.bindings.len();
+        let bounds = body_bounds(&self.slots.as_slice()[first..], home, id);
+        self.slots[first].from = at;
+        let place = free_slot(&mut self.slots, first, self.depth);
+        self.slots[place] = Slot {
+            from: 0,
+            end,
+            home,
+            kind: SlotKind::Body { id, first: bound },
+            bounds,
+        };
+        self.first = place;
     }
 
     // Where the innermost text lies, where it goes on and ends, up to where it is copied, and what stands there, with the bytes of

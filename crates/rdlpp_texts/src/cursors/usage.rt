@@ -118,8 +118,7 @@ impl Cursors {
         ensures { self.new ≡ record self.old { opens = open_body (texts_of table.now.macros []) id [] (front_scope self.old.opens) ∷ moved_to at self.old.opens } }
     {
         let home = self.scope();
-        self.move_to(at);
-        self.push_body(id, table.body(id).len(), home);
+        self.push_behind(at, id, table.body(id).len(), home);
     }
 
     // The scope of the innermost text.
