@@ -175,6 +175,14 @@ simple_passed (b ∷ bs) = elim (cases_Bool (is_simple b)) [
       ap (λ (k : ℕ). text_behind (left_in (Some 0) Plain (drop k (b ∷ bs)))) (sym none)
 ]
 
+-- what stands behind the rest of a text, behind its simple bytes, stands behind all of it
+pub behind_rest : (text : List ℕ) (n : ℕ) → n ≡ prefix_len is_simple text
+    → text_behind (cleared (Some 0) (take (length text - n) (drop n text))) ≡ text_behind (cleared (Some 0) text)
+unfolding cleared
+behind_rest text n e =
+    ap (λ (l : List ℕ). text_behind (left_in (Some 0) Plain l)) (between_to_end text n (length text) (omega arith))
+    ∙ sym (simple_passed text ∙ ap (λ (k : ℕ). text_behind (left_in (Some 0) Plain (drop k text))) (sym e))
+
 -- a comma or a `)` ends a default text
 ends_here : (text : List ℕ) (n : ℕ) → 0 < n → get_or text 0 0 ≡ n
     → ((bs : List ℕ) → text_behind (left_in (Some 0) Plain (n ∷ bs)) ≡ n ∷ bs)

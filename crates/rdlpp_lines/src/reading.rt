@@ -375,7 +375,7 @@ pub fn behind_default(bytes: &[u8]) -> &[u8]
     if next == b',' || next == b')' {
         return &bytes[len..];
     }
-    behind_by_tokens(bytes)
+    behind_by_tokens(&bytes[len..])
 }
 
 // How many simple bytes a text begins with.
