@@ -1,26 +1,25 @@
 -- The search for the end of a part passes what opens, closes and cuts nothing byte by byte, whatever tokens it has.
-use Rattle.std.proofs.Common.{◌≡◌, ◌⊎◌, ⊎_elim, inl, inr, ◌≤◌, ◌<◌, ℕ, zero, suc, ◌+◌, ◌-◌, ◌&&◌, ◌||◌, ◌==◌, not, Bool, true, false, cond, List, [], ◌∷◌, ◌++◌, length, take, drop, get_or, one-add, refl, sym, ap, ◌∙◌, subst, arith}
+use Rattle.std.proofs.Common.{◌≡◌, ◌⊎◌, ⊎_elim, inl, inr, ◌≤◌, ◌<◌, ℕ, zero, suc, ◌+◌, ◌&&◌, ◌||◌, ◌==◌, not, Bool, true, false, cond, List, [], ◌∷◌, nat_lt, length, drop, get_or, one-add, refl, sym, ap, ◌∙◌, subst, arith}
 use Rattle.std.specs.List.{prefix_len}
 use Rattle.std.proofs.lemmas.Bool.{false≢true, cases_Bool, cond_both, eqb-true, or_cases}
-use Rattle.std.proofs.lemmas.List.{drop-drop, length-take-le}
-use Rattle.std.proofs.lemmas.Slice.{between_to_end}
-use Rattle.std.proofs.Math.Seq.{take-suc}
+use Rattle.std.proofs.lemmas.List.{drop_more}
 use Rattle.std.proofs.lemmas.List.Sums.{prefix_len-le-length}
 use Rattle.rdlpp_scan.specs.declared.token.Kind.{Kind}
 use Rattle.rdlpp_scan.specs.declared.token.Kind.TheVariants.{Word, Back, BareBackquote, Blank, LineEnd, Other}
-use Rattle.rdlpp_scan.specs.declared.token.Mode.{Mode}
-use Rattle.rdlpp_scan.specs.declared.token.Mode.TheVariants.{Plain, InStr, InBlock}
+use Rattle.rdlpp_scan.specs.declared.token.Mode.TheVariants.{Plain}
 use Rattle.rdlpp_scan.specs.Bytes.{begins_perl, is_blank, is_line_end, is_letter, is_digit, is_word, is_opener, is_closer, takes_word}
 use Rattle.rdlpp_scan.specs.Tokens.{plain_token, token_of, whole}
 use Rattle.rdlpp_scan.specs.TokenParts.{kind_of, len_of, mark_kind, mode_behind, plain_kind, stop_of}
 use Rattle.rdlpp_scan.proofs.TokenParts.{parts, token_parts}
 use Rattle.rdlpp_meaning.specs.Actuals.{is_space, kind_role, level_behind}
 use Rattle.rdlpp_meaning.specs.TextTokens.{text_tokens}
-use Rattle.rdlpp_texts.specs.CallParts.{ends_call, ends_part, ends_text, is_white, last_end, part_from}
+use Rattle.rdlpp_texts.specs.CallParts.{ends_call, ends_part, ends_text, is_white, part_from}
+use Rattle.rdlpp_texts.specs.CalmBytes.{byte_class, is_calm, is_calm_at}
+use Rattle.rdlpp_texts.specs.declared.calm.ByteClass.TheVariants.{White, Calm}
 use Rattle.rdlpp_texts.specs.CallTokens as call
-use Rattle.rdlpp_texts.specs.CallTokens.{calm_len, is_calm, is_calm_at, is_inner, role_meant, IsFirstToken}
-use Rattle.rdlpp_texts.specs.declared.parts.Part.{Part}
+use Rattle.rdlpp_texts.specs.CallTokens.{role_meant, IsFirstToken}
 use Rattle.rdlpp_texts.specs.declared.tokens.CallRole.TheVariants as role
+use Rattle.rdlpp_texts.proofs.CalmBytes.{class_calm, class_white, white_calm}
 use Rattle.rdlpp_texts.proofs.QuickTokens.{blank_token, comma_here, named, word_text}
 use Rattle.rdlpp_texts.proofs.Searches.{rest_turn}
 
@@ -218,92 +217,47 @@ unfolding role_meant ends_text ends_call ends_part level_behind is_space
 comma_turn true start at k end bs = rest_turn true Plain (44 ∷ bs) start at (suc k) end (call.plain_token role.Comma 1) (comma_here bs)
 comma_turn false start at k end bs = rest_turn false Plain (44 ∷ bs) start at (suc k) end (call.plain_token role.Comma 1) (comma_here bs)
 
-comma_step : (closes : Bool) (start at k end b : ℕ) (bs : List ℕ) → (b == 44) ≡ true
-    → part_from closes start at (suc k) end (text_tokens Plain (b ∷ bs)) ≡ part_from closes start (at + 1) (suc k) (cond (is_white b) end (at + 1)) (text_tokens Plain bs)
+comma_step : (closes : Bool) (start at level end b : ℕ) (bs : List ℕ) → (b == 44) ≡ true → nat_lt 0 level ≡ true
+    → part_from closes start at level end (text_tokens Plain (b ∷ bs)) ≡ part_from closes start (at + 1) level (cond (is_white b) end (at + 1)) (text_tokens Plain bs)
 unfolding is_white is_blank is_line_end
-comma_step closes start at k end b bs e =
+comma_step closes start at zero end b bs e within = absurd (false≢true within)
+comma_step closes start at (suc k) end b bs e within =
     let G : ℕ → Type 0 = λ n. part_from closes start at (suc k) end (text_tokens Plain (n ∷ bs)) ≡ part_from closes start (at + 1) (suc k) (cond (is_white n) end (at + 1)) (text_tokens Plain bs) in
     subst G (sym (eqb-true b 44 e)) (comma_turn closes start at k end bs)
 
--- any other byte that passes within an opener passes within none
-still_calm : (b : ℕ) → (b == 44) ≡ false → is_inner b ≡ true → is_calm b ≡ true
-unfolding is_inner is_calm
-still_calm b h e = rw h e
+both_last : (p q : Bool) → (p && q) ≡ true → q ≡ true
+both_last true q h = h
+both_last false q h = absurd (false≢true h)
 
 -- the search passes a calm byte at its level
 level_step : (closes : Bool) (start at level end b : ℕ) (bs : List ℕ) → is_calm_at level b ≡ true
     → part_from closes start at level end (text_tokens Plain (b ∷ bs)) ≡ part_from closes start (at + 1) level (cond (is_white b) end (at + 1)) (text_tokens Plain bs)
 unfolding is_calm_at
-level_step closes start at zero end b bs e = calm_step closes start at 0 end b bs e
-level_step closes start at (suc k) end b bs e = elim (cases_Bool (b == 44)) [
-  | inl h ↦ comma_step closes start at k end b bs h
-  | inr h ↦ calm_step closes start at (suc k) end b bs (still_calm b h e)
-]
+level_step closes start at level end b bs e =
+    ⊎_elim (calm_step closes start at level end b bs) (λ h. comma_step closes start at level end b bs (both_first _ _ h) (both_last _ _ h)) (or_cases _ _ e)
 
--- and so all of them
-calm_run : (closes : Bool) (start at level end : ℕ) (bs : List ℕ) (n : ℕ) → n ≤ prefix_len (is_calm_at level) bs
-    → part_from closes start at level end (text_tokens Plain bs) ≡ part_from closes start (at + n) level (last_end at end (take n bs)) (text_tokens Plain (drop n bs))
-unfolding last_end
-calm_run closes start at level end bs zero few =
-    let same : at ≡ at + 0 = omega arith in
-    ap (λ (k : ℕ). part_from closes start k level end (text_tokens Plain bs)) same
-calm_run closes start at level end [] (suc n) few = absurd (omega (arith, few))
-calm_run closes start at level end (b ∷ bs) (suc n) few = elim (cases_Bool (is_calm_at level b)) [
-  | inl e ↦
-      let first : prefix_len (is_calm_at level) (b ∷ bs) ≡ 1 + prefix_len (is_calm_at level) bs = ap (λ (t : Bool). cond t (1 + prefix_len (is_calm_at level) bs) 0) e in
-      let next = cond (is_white b) end (at + 1) in
-      let same : (at + 1) + n ≡ at + suc n = omega arith in
-      level_step closes start at level end b bs e
-      ∙ calm_run closes start (at + 1) level next bs n (omega (arith, first, few))
-      ∙ ap (λ (k : ℕ). part_from closes start k level (last_end (at + 1) next (take n bs)) (text_tokens Plain (drop n bs))) same
-  | inr e ↦
-      let none : prefix_len (is_calm_at level) (b ∷ bs) ≡ 0 = ap (λ (t : Bool). cond t (1 + prefix_len (is_calm_at level) bs) 0) e in
-      absurd (omega (arith, none, few))
-]
+-- so of a text at a place
+byte_passed : (closes : Bool) (text : List ℕ) (start at level end : ℕ) → at < length text → is_calm_at level (get_or text at 0) ≡ true
+    → part_from closes start (at + 1) level (cond (is_white (get_or text at 0)) end (at + 1)) (text_tokens Plain (drop (at + 1) text))
+    ≡ part_from closes start at level end (text_tokens Plain (drop at text))
+byte_passed closes text start at level end inside calm =
+    let b = get_or text at 0 in
+    sym (ap (λ (l : List ℕ). part_from closes start at level end (text_tokens Plain l)) (drop_more text at 0 inside)
+    ∙ level_step closes start at level end b (drop (at + 1) text) calm)
 
--- of a text from a mode on, which is plain text where there are some
-calm_turn : (closes : Bool) (mode : Mode) (start at level end : ℕ) (bs : List ℕ) (n : ℕ) → n ≡ calm_len mode level bs → 0 < n
-    → part_from closes start at level end (text_tokens mode bs) ≡ part_from closes start (at + n) level (last_end at end (take n bs)) (text_tokens mode (drop n bs))
-unfolding calm_len
-calm_turn closes Plain start at level end bs n e some = calm_run closes start at level end bs n (omega (arith, e))
-calm_turn closes InStr start at level end bs n e some = absurd (omega (arith, e, some))
-calm_turn closes InBlock start at level end bs n e some = absurd (omega (arith, e, some))
+-- white space leaves where the part ends, and any other calm byte moves it
+pub white_passed : (closes : Bool) (text : List ℕ) (start at level end : ℕ) → at < length text → White ≡ byte_class level (get_or text at 0)
+    → part_from closes start (at + 1) level end (text_tokens Plain (drop (at + 1) text)) ≡ part_from closes start at level end (text_tokens Plain (drop at text))
+white_passed closes text start at level end inside is =
+    let b = get_or text at 0 in
+    let white = class_white level b is in
+    ap (λ (t : Bool). part_from closes start (at + 1) level (cond t end (at + 1)) (text_tokens Plain (drop (at + 1) text))) (sym white)
+    ∙ byte_passed closes text start at level end inside (white_calm level b white)
 
--- where the last byte that isn't white space ends, by the last byte
-last_of : (at end : ℕ) (bs : List ℕ) (b : ℕ) → last_end at end (bs ++ b ∷ []) ≡ cond (is_white b) (last_end at end bs) (at + length bs + 1)
-unfolding last_end
-last_of at end [] b = let same : at + 1 ≡ at + 0 + 1 = omega arith in ap (λ (n : ℕ). cond (is_white b) end n) same
-last_of at end (x ∷ bs) b =
-    let next = cond (is_white x) end (at + 1) in
-    let same : (at + 1) + length bs + 1 ≡ at + suc (length bs) + 1 = omega arith in
-    last_of (at + 1) next bs b ∙ ap (λ (n : ℕ). cond (is_white b) (last_end (at + 1) next bs) n) same
-
--- so of the front of bytes
-last_front : (at end : ℕ) (run : List ℕ) (n : ℕ) → n < length run
-    → last_end at end (take (suc n) run) ≡ cond (is_white (get_or run n 0)) (last_end at end (take n run)) (at + suc n)
-last_front at end run n inside =
-    let size : length (take n run) ≡ n = length-take-le n run (omega arith) in
-    let same : at + length (take n run) + 1 ≡ at + suc n = omega arith in
-    ap (last_end at end) (take-suc run n 0 inside)
-    ∙ last_of at end (take n run) (get_or run n 0)
-    ∙ ap (λ (k : ℕ). cond (is_white (get_or run n 0)) (last_end at end (take n run)) k) same
-
--- by how many bytes it has
-pub last_step : (at end : ℕ) (run : List ℕ) (len : ℕ) → 0 < len → len ≤ length run
-    → last_end at end (take len run) ≡ cond (is_white (get_or run (len - 1) 0)) (last_end at end (take (len - 1) run)) (at + len)
-last_step at end run len some inside =
-    let n = len - 1 in
-    let one : suc n ≡ len = omega arith in
-    subst (λ (k : ℕ). last_end at end (take k run) ≡ cond (is_white (get_or run n 0)) (last_end at end (take n run)) (at + k)) one (last_front at end run n (omega arith))
-
--- the search for the end of a part of a text passes those that stand at a place of it
-pub calm_at : (closes : Bool) (mode : Mode) (text : List ℕ) (start at level end n to : ℕ) → at ≤ length text
-    → n ≡ calm_len mode level (take (length text - at) (drop at text)) → 0 < n → to ≡ last_end at end (take ((at + n) - at) (drop at text))
-    → part_from closes start (at + n) level to (text_tokens mode (drop (at + n) text)) ≡ part_from closes start at level end (text_tokens mode (drop at text))
-calm_at closes mode text start at level end n to inside is some last =
-    let rest = between_to_end text at (length text) (omega arith) in
-    let long : (at + n) - at ≡ n = omega arith in
-    let own : to ≡ last_end at end (take n (drop at text)) = last ∙ ap (λ (k : ℕ). last_end at end (take k (drop at text))) long in
-    let behind : List ℕ → Part = λ x. part_from closes start (at + n) level (last_end at end (take n (drop at text))) (text_tokens mode x) in
-    ap (λ (k : ℕ). part_from closes start (at + n) level k (text_tokens mode (drop (at + n) text))) own
-    ∙ sym (calm_turn closes mode start at level end (drop at text) n (is ∙ ap (calm_len mode level) rest) some ∙ ap behind (drop-drop n at text))
+pub calm_passed : (closes : Bool) (text : List ℕ) (start at level end : ℕ) → at < length text → Calm ≡ byte_class level (get_or text at 0)
+    → part_from closes start (at + 1) level (at + 1) (text_tokens Plain (drop (at + 1) text)) ≡ part_from closes start at level end (text_tokens Plain (drop at text))
+calm_passed closes text start at level end inside is =
+    let b = get_or text at 0 in
+    let c = class_calm level b is in
+    ap (λ (t : Bool). part_from closes start (at + 1) level (cond t end (at + 1)) (text_tokens Plain (drop (at + 1) text))) (sym c.0)
+    ∙ byte_passed closes text start at level end inside c.1

@@ -48,11 +48,6 @@ space_from at (t ∷ ts) = if is_space (token_role t) then space_from (at + leng
 unfoldable pub is_white : ℕ → Bool
 is_white b = is_blank b || is_line_end b
 
--- where the last byte that isn't white space ends, of bytes that stand from a place on, where such a byte ended at `end` before them
-unfoldable pub last_end : ℕ → ℕ → List ℕ → ℕ
-last_end at end [] = end
-last_end at end (b ∷ bs) = last_end (at + 1) (if is_white b then end else at + 1) bs
-
 -- the tokens of a call from a level of openers on: those in front of its `)`, or all where there is none; all of what is kept
 -- of a call (source: this project's profile)
 unfoldable pub inner_tokens : Bool → ℕ → List SourceToken → List SourceToken

@@ -1,7 +1,6 @@
 -- The tokens of a text by the role that each has in a call.
 -- A definition that names no source is this project's own.
-use Rattle.std.specs.Prelude.{◌≡◌, ℕ, zero, suc, ◌<◌, ◌≤◌, Bool, not, ◌&&◌, List, ◌∷◌, ◌==◌, length, drop, if◌then◌else◌}
-use Rattle.std.specs.List.{prefix_len}
+use Rattle.std.specs.Prelude.{◌≡◌, ℕ, ◌<◌, ◌≤◌, List, ◌∷◌, ◌==◌, length, drop, if◌then◌else◌}
 use Rattle.rdlpp_scan.specs.declared.token.Mode.{Mode}
 use Rattle.rdlpp_scan.specs.declared.token.Mode.TheVariants.{Plain}
 use Rattle.rdlpp_scan.specs.Bytes.{is_opener, is_closer}
@@ -47,24 +46,3 @@ quick_role b =
 -- a token of a role and a size with plain text behind it
 abbrev pub plain_token : CallRole → ℕ → CallToken
 plain_token r n = record { role = r; len = n; next_mode = Plain }
-
--- a byte that in plain text opens, closes and cuts nothing, and begins no string, no comment and no `<%` (source: this project's
--- profile)
-unfoldable pub is_calm : ℕ → Bool
-is_calm b =
-    not (is_opener b) && (not (is_closer b) && (not (b == 44) && (not (b == 34) && (not (b == 47) && not (b == 60)))))
-
--- the same within further openers, where a comma cuts nothing either (source: this project's profile)
-unfoldable pub is_inner : ℕ → Bool
-is_inner b =
-    not (is_opener b) && (not (is_closer b) && (not (b == 34) && (not (b == 47) && not (b == 60))))
-
--- the same at a level of openers
-unfoldable pub is_calm_at : ℕ → ℕ → Bool
-is_calm_at zero = is_calm
-is_calm_at (suc k) = is_inner
-
--- how many such bytes stand at the front of a text from a mode on: none where it isn't plain text
-unfoldable pub calm_len : Mode → ℕ → List ℕ → ℕ
-calm_len Plain level text = prefix_len (is_calm_at level) text
-calm_len mode level text = 0

@@ -10,6 +10,7 @@ pub mod Taking
 pub mod Guesses
 pub mod CallTokens
 pub mod CallParts
+pub mod CalmBytes
 pub mod BoundCalls
 pub mod SourceBound
 pub mod KeptTexts

@@ -3,6 +3,7 @@
 #![tactic(auto)]
 
 mod bindings;
+mod calm;
 mod cursors;
 mod front;
 mod guesses;

@@ -1,12 +1,13 @@
 // The `(` of a call in a text, and the parts after it.
-ghost use Rattle.std.specs.Prelude.{◌≡◌, ◌+◌, ◌^◌, ◌<◌, ◌≤◌, IfSome, length, drop, nat_lt};
+ghost use Rattle.std.specs.Prelude.{◌≡◌, ◌≤◌, IfSome, length, drop, nat_lt};
 ghost use Rattle.std.specs.List.{prefix_len};
 ghost use Rattle.rdlpp_meaning.specs.Substitution.{body_tokens};
-ghost use Rattle.rdlpp_texts.specs.CallParts.{IsNextPart, ends_text, is_white, last_end, opener_from, part_from, space_from};
+ghost use Rattle.rdlpp_texts.specs.CallParts.{IsNextPart, ends_text, is_white, opener_from, part_from, space_from};
 ghost use Rattle.rdlpp_texts.specs.CallTokens.{role_meant};
 
-use crate::tokens::{CallRole, calm_len, ends_call, ends_part, level_behind, token_in_call};
-use rdlpp_scan::{Mode, byte_at, is_blank, word_bytes};
+use crate::calm::{Passed, is_white, pass_calm};
+use crate::tokens::{CallRole, ends_call, ends_part, level_behind, mark_in_call, token_in_call};
+use rdlpp_scan::{Mode, byte_at, word_bytes};
 
 /// Where a part of a call ends.
 #[derive(Clone, Copy, Debug, PartialEq, Eq)]
@@ -101,14 +102,6 @@ fn white_bytes(text: &[u8]) -> usize
     text.iter().take_while(|b| is_white(**b)).count()
 }
 
-// Whether a byte is white space: a blank or LF.
-#[tactic(auto, unfolding(crate::specs::CallParts::is_white, rdlpp_scan::specs::Bytes::is_line_end))]
-fn is_white(b: u8) -> bool
-    ensures { result ≡ is_white b }
-{
-    is_blank(b) || b == b'\n'
-}
-
 // The part that begins at a place of a text. Most parts are one word, or nothing.
 fn part_at(text: &[u8], from: usize, closes: bool) -> Part
     requires { from ≤ length text.now }
@@ -133,60 +126,45 @@ fn part_at(text: &[u8], from: usize, closes: bool) -> Part
     part_by_tokens(text, from, closes)
 }
 
-// The same, token by token, where what opens, closes and cuts nothing is passed at once.
+// The same, token by token, where white space and calm bytes are passed at once.
 #[inline(never)]
 fn part_by_tokens(text: &[u8], from: usize, closes: bool) -> Part
     requires { from ≤ length text.now }
     ensures { result ≡ part_from closes from from 0 from (body_tokens (drop from text.now)) }
 {
-    let mut at = from;
-    // Where the last token ends that isn't calm: it is no white space, and behind it all is calm.
-    let mut behind = from;
+    let mut passed = Passed { at: from, to: from };
     let mut level = 0;
     let mut mode = Mode::Plain;
-    while at < text.len() {
-        let calm = calm_len(mode, level, &text[at..]);
-        if calm > 0 {
-            at += calm;
-            continue;
+    loop {
+        passed = pass_calm(mode, level, text, passed);
+        if passed.at >= text.len() {
+            break;
         }
-        let token = token_in_call(mode, &text[at..]);
+        // It is no white space, all of which has been passed in front of it.
+        let token = mark_in_call(mode, &text[passed.at..]);
         if ends_text(closes, token.role, level) {
             break;
         }
+        let behind = passed.at + token.len;
         if ends_part(token.role, level) {
             return Part {
                 from,
-                to: last_end(&text[behind..at], behind, behind),
-                end: PartEnd::Comma(at + token.len),
+                to: passed.to,
+                end: PartEnd::Comma(behind),
             };
         }
-        at += token.len;
-        behind = at;
+        passed = Passed {
+            at: behind,
+            to: behind,
+        };
         level = level_behind(token.role, level);
         mode = token.next_mode;
     }
     Part {
         from,
-        to: last_end(&text[behind..at], behind, behind),
-        end: PartEnd::Last(at),
+        to: passed.to,
+        end: PartEnd::Last(passed.at),
     }
-}
-
-// Where the last byte that isn't white space ends, of bytes that stand from a place on; `before` where all of them are white
-// space. They are read from their end, since white space there is short.
-fn last_end(run: &[u8], at: usize, before: usize) -> usize
-    requires { at + length run.now < 2 ^ 64 }
-    ensures { result ≡ last_end at before run.now }
-{
-    let mut len = run.len();
-    while len > 0 {
-        if !is_white(run[len - 1]) {
-            return at + len;
-        }
-        len -= 1;
-    }
-    before
 }
 
 // Whether a token at a level of openers is the `)` of a call, where one may end it.

@@ -1,11 +1,10 @@
 // The tokens of a text by the role that each has in a call.
-ghost use Rattle.std.specs.Prelude.{◌≡◌, ◌+◌, ◌-◌, ◌<◌, ◌∷◌, ◌==◌, ◌&&◌, ◌||◌, not, ◌≤◌, [], length, slice_index};
-ghost use Rattle.std.specs.List.{prefix_len};
+ghost use Rattle.std.specs.Prelude.{◌≡◌, ◌+◌, ◌-◌, ◌<◌, ◌∷◌, ◌==◌, ◌||◌, [], length, slice_index};
 ghost use Rattle.rdlpp_scan.specs.Bytes.{is_closer, is_opener};
 ghost use Rattle.rdlpp_scan.specs.declared.token.Mode.TheVariants.{Plain};
 ghost use Rattle.rdlpp_meaning.specs.Actuals.{kind_role, level_behind};
 ghost use Rattle.rdlpp_texts.specs.CallParts.{ends_call, ends_part};
-ghost use Rattle.rdlpp_texts.specs.CallTokens.{calm_len, is_calm, is_calm_at, is_inner, plain_token, quick_role, role_meant, IsFirstToken};
+ghost use Rattle.rdlpp_texts.specs.CallTokens.{plain_token, quick_role, role_meant, IsFirstToken};
 
 use rdlpp_scan::{Kind, Mode, first_token, word_bytes};
 
@@ -55,6 +54,22 @@ pub(crate) fn token_in_call(mode: Mode, text: &[u8]) -> CallToken
         };
     }
     other_token(mode, text)
+}
+
+// The same, where it is most likely no word, and isn't asked whether it is one: a comma or a bracket, or any other by its kind.
+#[inline(always)]
+pub(crate) fn mark_in_call(mode: Mode, text: &[u8]) -> CallToken
+    requires { 0 < length text.now }
+    ensures { IsFirstToken mode text.now result }
+{
+    match mode {
+        Mode::Plain if is_mark(text[0]) => CallToken {
+            role: quick_role(text[0]),
+            len: 1,
+            next_mode: Mode::Plain,
+        },
+        _ => other_token(mode, text),
+    }
 }
 
 // The first token of a text that isn't empty, by its kind.
@@ -131,87 +146,6 @@ fn quick_role(b: u8) -> CallRole
         b']' | b'}' => CallRole::Closer,
         _ => CallRole::Text,
     }
-}
-
-// How many bytes at the front of a text at a level of openers open, close and cut nothing, and begin no string, no comment and no
-// `<%`: whatever tokens they are, only white space among them counts. None stand in a string or in a comment.
-#[tactic(auto, unfolding(crate::specs::CallTokens::calm_len))]
-pub(crate) fn calm_len(mode: Mode, level: usize, text: &[u8]) -> usize
-    ensures value { result ≡ calm_len mode level text.now }
-    ensures inside { result ≤ length text.now }
-{
-    match mode {
-        Mode::Plain => calm_bytes(level, text),
-        _ => 0,
-    }
-}
-
-// How many such bytes stand at the front of plain text: at level 0 a comma cuts, and at any other level, within further openers, it
-// cuts nothing.
-fn calm_bytes(level: usize, text: &[u8]) -> usize
-    ensures value { result ≡ prefix_len (is_calm_at level) text.now }
-    ensures inside { result ≤ length text.now }
-{
-    if level == 0 {
-        outer_bytes(text)
-    } else {
-        inner_bytes(text)
-    }
-}
-
-// How many such bytes stand at the front of plain text at level 0.
-fn outer_bytes(text: &[u8]) -> usize
-    ensures value { result ≡ prefix_len is_calm text.now }
-    ensures inside { result ≤ length text.now }
-{
-    text.iter().take_while(|b| is_calm(**b)).count()
-}
-
-// How many such bytes stand at the front of plain text at any other level.
-fn inner_bytes(text: &[u8]) -> usize
-    ensures value { result ≡ prefix_len is_inner text.now }
-    ensures inside { result ≤ length text.now }
-{
-    text.iter().take_while(|b| is_inner(**b)).count()
-}
-
-// Whether a byte of plain text within a further opener opens, closes and cuts nothing, and begins no string, no comment and no `<%`. It
-// answers as `is_calm` but for a comma, which cuts nothing there.
-fn is_inner(b: u8) -> bool
-    ensures { result ≡ is_inner b }
-{
-    if b < 64 {
-        b == b',' || is_calm_mark(b)
-    } else {
-        is_calm_letter(b)
-    }
-}
-
-// Whether a byte of plain text within no further opener, where a comma cuts, opens, closes and cuts nothing, and begins no string, no
-// comment and no `<%`. A byte below 64 is compared with the marks below 64 alone, and any other byte with the others: the compiler
-// makes of either comparison a mask of bits, without a jump for each mark.
-fn is_calm(b: u8) -> bool
-    ensures { result ≡ is_calm b }
-{
-    if b < 64 {
-        is_calm_mark(b)
-    } else {
-        is_calm_letter(b)
-    }
-}
-
-// What `is_calm` answers for a byte below 64: whether it is no round bracket, no comma, no `"`, no `/` and no `<`.
-fn is_calm_mark(b: u8) -> bool
-    ensures { result ≡ (not (b == 40) && (not (b == 41) && (not (b == 44) && (not (b == 34) && (not (b == 47) && not (b == 60)))))) }
-{
-    b != b'(' && b != b')' && b != b',' && b != b'"' && b != b'/' && b != b'<'
-}
-
-// What `is_calm` and `is_inner` both answer for any other byte: whether it is no square bracket and no brace.
-fn is_calm_letter(b: u8) -> bool
-    ensures { result ≡ (not (b == 91) && (not (b == 123) && (not (b == 93) && not (b == 125)))) }
-{
-    b != b'[' && b != b'{' && b != b']' && b != b'}'
 }
 
 /// The role of a token of a kind with this first byte.
