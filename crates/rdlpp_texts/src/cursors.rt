@@ -84,8 +84,10 @@ impl Cursors {
         requires { depth ≤ 1024 }
         ensures { IfOk result (λ c. c ≡ record { opens = []; line = 0; depth = depth }) }
     {
-        let mut slots = Vec::with_capacity(alloc, depth)?;
+        // The list of slots is asked for last: where it is small, an allocator may keep it for the next that asks for one, and then
+        // gives nothing back of what lies before it.
         let bindings = Vec::with_capacity(alloc, (depth + 1) * MOST_BINDINGS)?;
+        let mut slots = Vec::with_capacity(alloc, depth)?;
         let first = depth.min(FIRST_SLOTS);
         push_closed(&mut slots, first);
         Ok(Cursors {
