@@ -305,7 +305,6 @@ impl<S: Sources> Engine<S> {
     }
 
     // Takes one step that is none over the open texts of a usage.
-    #[inline(never)]
     fn step_outside(&mut self) -> Option<Place>
         requires started { IsStarted self.old }
         requires outside { IsUnowed self.old → self.old.expansion.opens ≡ [] }
@@ -342,7 +341,8 @@ impl<S: Sources> Engine<S> {
         }
     }
 
-    // Takes one step over the open sources.
+    // Takes one step over the open sources. It stands apart, so that a step over what is owed is no call more.
+    #[inline(never)]
     fn step_sources(&mut self) -> Option<Place>
         requires { IsReady self.old }
         ensures place { IfSome result (IsPlaced self.new) }
