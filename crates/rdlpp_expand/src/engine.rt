@@ -15,7 +15,7 @@ ghost use Rattle.rdlpp_read.specs.Filling.{Fills, is_failed};
 ghost use Rattle.rdlpp_read.specs.LogicalLines.{HoldsLine, is_failed_line};
 ghost use Rattle.rdlpp_texts.specs.Places.{IsPlaced as IsTextPlaced, place_bytes};
 ghost use Rattle.rdlpp_front.specs.Names.{IsWordBytes};
-ghost use Rattle.rdlpp_front.specs.Fronts.{IsDirective, IsNamed, IsUsage, usage_name};
+ghost use Rattle.rdlpp_front.specs.Fronts.{IsDirective, IsNamed, IsText, IsUsage, usage_name};
 ghost use Rattle.rdlpp_usages.specs.Usages.{IsRoomy};
 ghost use Rattle.rdlpp_state.specs.Conditionals.{unclosed_fault};
 ghost use Rattle.rdlpp_state.specs.Engine.{AreOpenTexts, EngineView, IsSoundEngine};
@@ -360,18 +360,18 @@ impl<S: Sources> Engine<S> {
         }
     }
 
-    // Takes what the held bytes begin with.
+    // Takes what the held bytes begin with, which is no text that is copied.
     fn take_front(&mut self) -> Option<Place>
         requires ready { IsReady self.old }
         requires live { self.old.conditions.skipped ≡ None }
         requires some { 0 < length (held_of (inner_buffer self.old.files.nest)) }
+        requires none { (len : ℕ) → (next : Mode) → IsText (inner_buffer self.old.files.nest).mode (held_of (inner_buffer self.old.files.nest)) len next → ⊥ }
         ensures place { IfSome result (IsPlaced self.new) }
         ensures walks { IsBounded self.new → Walks S.Sources self.old self.new (step_answer self.new result) }
     {
         let buffer = &self.files.file().buffer;
         match front_of(buffer.mode(), buffer.held()) {
-            // Text is lent before anything else is asked (`take_held`).
-            Front::Text(len, next) => Some(self.lend_text(len, next)),
+            Front::Text(..) => unreachable!(),
             Front::Usage(len) => self.expand(len),
             Front::Define => self.define_line(),
             Front::Undef(argument) => self.undefine(argument),

@@ -12,7 +12,6 @@ ghost use Rattle.rdlpp_expand.specs.Texts.{IsHolding};
 
 use crate::engine::Engine;
 use rdlpp_front::{Copied, copied_text};
-use rdlpp_scan::{Mode, line_ends_in};
 use rdlpp_source::Sources;
 use rdlpp_state::{Phase, Place};
 
@@ -75,19 +74,6 @@ impl<S: Sources> Engine<S> {
             Some(copied) => Some(self.lend_copied(copied)),
             None => self.take_front(),
         }
-    }
-
-    // Lends `len` bytes of text that are copied, behind which the text stands in a mode.
-    pub(super) fn lend_text(&mut self, len: usize, next: Mode) -> Place
-        requires ready { IsReady self.old }
-        requires live { self.old.conditions.skipped ≡ None }
-        requires some { 0 < length (held_of (inner_buffer self.old.files.nest)) }
-        requires text { IsText (inner_buffer self.old.files.nest).mode (held_of (inner_buffer self.old.files.nest)) len next }
-        ensures place { IsPlaced self.new result }
-        ensures walks { IsBounded self.new → Walks S.Sources self.old self.new (lent_answer self.new result) }
-    {
-        let lines = line_ends_in(&self.files.file().buffer.held()[..len]);
-        self.lend_copied(Copied { len, lines, next })
     }
 
     // Lends text that is copied, whose line ends are counted.

@@ -16,3 +16,11 @@ returns-in-Refused-clause-walks g c = λ bounded.
     refuses g.S.Sources e e c.refuse.new.self c.refuse.result c.in-Refused.kind _ [] c.requires.ready (read_nothing e) bounded c.refuse.ensures.place (rw c.new.ensures at c.refuse.ensures.kept)
     (refused_kind _ _ _ refused) (not_called g.S.Sources e.sources)
     (λ t. left_refused g.S.Sources e c.in-Refused.kind c.requires.ready c.requires.live c.requires.some refused)
+
+pub unreachable-requires : goal.unreachable-requires
+unreachable-requires g c =
+    let e = c.args.self.now in
+    let same = c.file.ensures.buffer ∙ ap (λ e. inner_buffer e.files.nest) c.self.view_is in
+    let held : c.held.result.now ≡ held_of (inner_buffer e.files.nest) = c.held.ensures.value ∙ ap held_of same in
+    let mode : c.mode.result ≡ (inner_buffer e.files.nest).mode = c.mode.ensures ∙ ap (λ b. b.mode) same in
+    c.requires.none _ _ (rw (mode, held) at c.in-Text.ensures)
