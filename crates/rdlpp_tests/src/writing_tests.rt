@@ -1,8 +1,11 @@
-// The writes of a run beside the pieces that an engine lends one by one: where bytes are held and nothing is owed, a run takes them
-// without the questions that `next` asks first, and both have to cut them alike.
+// The pieces that an engine lends one by one beside those that a source is to be lent in, and the writes of a run beside them: where
+// bytes are held and nothing is owed, a run takes them without the questions that `next` asks first, and both have to cut them alike.
 use crate::runs::STANDARD;
-use rdlpp::{FaultKind, Limits, Sink, SinkFault, Texts};
+use rdlpp::{FaultKind, Limits, Sink, SinkFault, Sources, Texts};
 use rdlpp_expand::{Engine, Piece, run};
+use rdlpp_front::{Front, front_of};
+use rdlpp_read::{Files, Fill, LogicalLine};
+use rdlpp_scan::{Mode, line_ends_in};
 use std::test::Fail;
 
 // How many sources are made, and of how many parts each.
@@ -11,7 +14,7 @@ const SOURCES: u64 = 400;
 const PARTS: usize = 24;
 
 // What sources are made of: texts around the length of a block, what may end one, and what stands between them.
-const PIECES: [&[u8]; 36] = [
+const PIECES: [&[u8]; 38] = [
     b"a",
     b" = 1;\n",
     b"\n",
@@ -34,24 +37,37 @@ const PIECES: [&[u8]; 36] = [
     b"/**/",
     b"/* two\n * lines */\n",
     b"`A",
+    b"`C`C",
+    b"`define E e \\\n e\n",
+    b"`undef D\n",
+    b"\n`include \"j\" // j\n",
+    b"a <% b",
+    b"a ` b",
+    b"\"open",
     b"`B(1, 2)",
     b"`B(/* c */\n1,)",
     b"`define A a\n",
     b"`define C c \\\n d\n",
-    b"`undef D\n",
     b"`ifdef A\n \"x\" `else `D /* */ `endif\n",
     b"`ifdef D\n `define A b\n x `else y // z\n`endif",
     b"`ifndef D // n\n`endif/",
     b"`ifdef D `D \" ` \" <`endif <",
-    b"`C`C",
     b"\n`include \"i\" // i\n",
-    b"a <% b",
-    b"a ` b",
-    b"\"open",
 ];
 
-// An included source, which ends within a line.
-const INCLUDED: &[u8] = b"// i\n `A \"i\"\n`B(1)\n/* i */ `C i";
+// So many of these are known to `wanted`: in front of the calls, the macros that are defined anew, and the conditionals.
+const KNOWN: usize = 29;
+
+// Included sources, which end within a line; what stands in the second is known.
+const INCLUDED: &[u8] = b"// i\n `A \"i\"\n`B(1,)\n/* i */ `C i";
+
+const KNOWN_INCLUDED: &[u8] = b"// j\n `A \"j\"\n\n/* j */ `C j";
+
+// What is written where a source goes on behind the first of them.
+const BEHIND_INCLUDED: &[u8] = b" i\n // i\n";
+
+// The most bytes of a source here.
+const SOURCE_BYTES: usize = 1_048_576;
 
 // What was lent or written: the bytes, and how many of them each part has.
 #[derive(Drop)]
@@ -104,8 +120,8 @@ fn following(number: u64) -> u64 {
         .wrapping_add(1_442_695_040_888_963_407)
 }
 
-// A source of a number.
-fn made<R: AllocGlobal>(rt: &R, number: u64) -> Result<Vec<u8>, Fail> {
+// A source of a number, made of some of the pieces.
+fn made<R: AllocGlobal>(rt: &R, number: u64, pieces: &[&[u8]]) -> Result<Vec<u8>, Fail> {
     let mut source = Vec::from_slice(
         rt.alloc(),
         b"`define A 1\n`define B(x, y=`A) x y\n`define C \"c\"\n",
@@ -113,9 +129,17 @@ fn made<R: AllocGlobal>(rt: &R, number: u64) -> Result<Vec<u8>, Fail> {
     let mut state = following(number);
     for _ in 0..PARTS {
         state = following(state);
-        source.extend_from_slice(PIECES[(state >> 33) as usize % PIECES.len()])?;
+        let place = (state >> 33) as usize % pieces.len().max(1);
+        if let Some(piece) = pieces.get(place) {
+            source.extend_from_slice(piece)?;
+        }
     }
     Ok(source)
+}
+
+// A main text, and the sources that it may include.
+fn files_of(source: &[u8]) -> [(&str, &[u8]); 3] {
+    [("m", source), ("i", INCLUDED), ("j", KNOWN_INCLUDED)]
 }
 
 // What was lent or written, and the kind and the line of the fault that ended it, if one did.
@@ -128,7 +152,7 @@ fn lent<R: AllocGlobal>(
     source: &[u8],
     origins: bool,
 ) -> Result<Ended, Fail> {
-    let files = [("m", source), ("i", INCLUDED)];
+    let files = files_of(source);
     let texts = Texts {
         files: &files,
         folders: &[],
@@ -166,7 +190,7 @@ fn written<R: AllocGlobal>(
     source: &[u8],
     origins: bool,
 ) -> Result<Ended, Fail> {
-    let files = [("m", source), ("i", INCLUDED)];
+    let files = files_of(source);
     let texts = Texts {
         files: &files,
         folders: &[],
@@ -186,13 +210,207 @@ fn written<R: AllocGlobal>(
     Ok((parts, ended))
 }
 
+// Adds a piece.
+fn put(parts: &mut Parts, piece: &[u8]) -> Result<(), Fail> {
+    parts.bytes.extend_from_slice(piece)?;
+    parts.lens.push(piece.len())?;
+    Ok(())
+}
+
+// Uses so many held bytes, and counts their line ends; answers whether they are held.
+fn pass<R: Drop>(nest: &mut Files<R>, len: usize) -> bool {
+    if nest.len() == 0 {
+        return false;
+    }
+    let Some(passed) = nest.file().buffer.held().get(..len) else {
+        return false;
+    };
+    let lines = line_ends_in(passed);
+    if len < lines {
+        return false;
+    }
+    nest.consume(len, lines);
+    true
+}
+
+// Opens the source at a path; answers whether it could.
+fn open<S: Sources>(nest: &mut Files<S::Reader>, sources: &mut S, path: &str) -> bool {
+    if nest.is_full() {
+        return false;
+    }
+    let Ok(found) = sources.top(path) else {
+        return false;
+    };
+    nest.enter(found, SOURCE_BYTES, 0, 0);
+    true
+}
+
+// Leaves the innermost source, which has ended; answers whether no string and no comment is open there.
+fn leave<R: Drop>(nest: &mut Files<R>, parts: &mut Parts) -> Result<bool, Fail> {
+    if nest.len() == 0 || nest.file().buffer.mode() != Mode::Plain {
+        return Ok(false);
+    }
+    let torn = nest.file().torn;
+    nest.leave();
+    if torn && nest.len() > 0 {
+        put(parts, b"\n")?;
+    }
+    Ok(true)
+}
+
+// Takes the text that is copied with which the held bytes begin, of so many bytes.
+fn lend_text<R: Drop>(
+    nest: &mut Files<R>,
+    parts: &mut Parts,
+    len: usize,
+    next: Mode,
+) -> Result<bool, Fail> {
+    if nest.len() == 0 {
+        return Ok(false);
+    }
+    let Some(text) = nest.file().buffer.held().get(..len) else {
+        return Ok(false);
+    };
+    put(parts, text)?;
+    nest.enter_mode(next);
+    Ok(pass(nest, len))
+}
+
+// Takes a usage of one of the macros that are known, of so many bytes.
+fn lend_usage<R: Drop>(nest: &mut Files<R>, parts: &mut Parts, len: usize) -> Result<bool, Fail> {
+    if nest.len() == 0 {
+        return Ok(false);
+    }
+    let usage = nest.file().buffer.held().get(..len).unwrap_or(&[]);
+    if usage == b"`A".as_slice() {
+        put(parts, b"1")?;
+    } else if usage == b"`C".as_slice() {
+        put(parts, b"\"c\"")?;
+    } else {
+        return Ok(false);
+    }
+    Ok(pass(nest, len))
+}
+
+// Takes a `define`, which leaves its line ends.
+fn pass_define<S: Sources>(
+    nest: &mut Files<S::Reader>,
+    sources: &mut S,
+    parts: &mut Parts,
+) -> Result<bool, Fail> {
+    if nest.len() == 0 {
+        return Ok(false);
+    }
+    let LogicalLine::Whole(len) = nest.hold_line(sources) else {
+        return Ok(false);
+    };
+    if nest.len() == 0 {
+        return Ok(false);
+    }
+    let line = nest.file().buffer.held().get(..len).unwrap_or(&[]);
+    let lines = line_ends_in(line);
+    put(parts, b"\n\n\n\n".get(..lines).unwrap_or(&[]))?;
+    Ok(pass(nest, len))
+}
+
+// Takes what the held bytes begin with; answers whether it is known.
+fn take_front<S: Sources>(
+    nest: &mut Files<S::Reader>,
+    sources: &mut S,
+    parts: &mut Parts,
+) -> Result<bool, Fail> {
+    if nest.len() == 0 {
+        return Ok(false);
+    }
+    let buffer = &nest.file().buffer;
+    if buffer.held().is_empty() {
+        return Ok(false);
+    }
+    match front_of(buffer.mode(), buffer.held()) {
+        Front::Text(len, next) => lend_text(nest, parts, len, next),
+        Front::Usage(len) => lend_usage(nest, parts, len),
+        Front::Define => pass_define(nest, sources, parts),
+        Front::Undef(Some(argument)) => Ok(pass(nest, argument.stop)),
+        Front::Include(Some(argument)) => {
+            Ok(pass(nest, argument.stop) && open(nest, sources, "j"))
+        }
+        _ => Ok(false),
+    }
+}
+
+// The pieces that a source of known pieces is to be lent in, up to its end or its fault: what is held begins with what `front_of`
+// says, and the line ends of text that is copied are counted behind it, as in an engine that doesn't ask `copied_text`.
+fn wanted<R: AllocGlobal>(rt: &R, limits: Limits, source: &[u8]) -> Result<Parts, Fail> {
+    let files = files_of(source);
+    let mut texts = Texts {
+        files: &files,
+        folders: &[],
+    };
+    let mut parts = no_parts(rt);
+    let mut nest = Files::new(rt.alloc(), 2, limits.line_bytes)?;
+    let mut goes_on = open(&mut nest, &mut texts, "m");
+    for _ in 0..10_000 {
+        if !goes_on || nest.len() == 0 {
+            break;
+        }
+        goes_on = match nest.fill(&mut texts) {
+            Fill::Held => take_front(&mut nest, &mut texts, &mut parts)?,
+            Fill::End => leave(&mut nest, &mut parts)?,
+            _ => false,
+        };
+    }
+    Ok(parts)
+}
+
+// Whether some bytes have a part.
+fn has_part(bytes: &[u8], part: &[u8]) -> bool {
+    for at in 0..bytes.len() {
+        if bytes[at..].starts_with(part) {
+            return true;
+        }
+    }
+    false
+}
+
+// An engine lends a source of known pieces as `front_of` cuts it. A short line is read in more than one part, so that strings and
+// comments are lent in parts too.
+#[test]
+fn lends_what_is_wanted(rt: HostRuntime) -> Result<(), Fail> {
+    let mut whole = 0_u64;
+    for number in 0..SOURCES {
+        let source = made(&rt, number, &PIECES[..KNOWN])?;
+        for line_bytes in [65_536, 256] {
+            let limits = Limits {
+                line_bytes,
+                ..STANDARD
+            };
+            let (pieces, ending) = lent(&rt, limits, source.as_slice(), false)?;
+            let parts = wanted(&rt, limits, source.as_slice())?;
+            assert!(rt;
+                parts.bytes.as_slice() == pieces.bytes.as_slice(),
+                "bytes of {number}"
+            );
+            assert!(rt;
+                parts.lens.as_slice() == pieces.lens.as_slice(),
+                "pieces of {number}"
+            );
+            if ending.is_none() {
+                whole = whole.saturating_add(1);
+            }
+        }
+    }
+    assert!(rt; whole > 40);
+    Ok(())
+}
+
 // A run writes each piece in one part, where the sink takes all of it: the pieces are those that the engine lends one by one. A
 // short line is read in more than one part, so that strings and comments are lent in parts too.
 #[test]
 fn writes_what_is_lent(rt: HostRuntime) -> Result<(), Fail> {
     let mut whole = 0_u64;
+    let mut gone_back = 0_u64;
     for number in 0..SOURCES {
-        let source = made(&rt, number)?;
+        let source = made(&rt, number, &PIECES)?;
         let origins = number % 2 == 1;
         for (output_bytes, line_bytes) in [(u64::MAX, 65_536), (100, 65_536), (u64::MAX, 256)] {
             let limits = Limits {
@@ -214,8 +432,12 @@ fn writes_what_is_lent(rt: HostRuntime) -> Result<(), Fail> {
             if writing.is_none() {
                 whole = whole.saturating_add(1);
             }
+            if has_part(parts.bytes.as_slice(), BEHIND_INCLUDED) {
+                gone_back = gone_back.saturating_add(1);
+            }
         }
     }
     assert!(rt; whole > 40);
+    assert!(rt; gone_back > 20);
     Ok(())
 }
