@@ -79,6 +79,7 @@ fn stop_at(formals: &Listed, shapes: &[bool], at: usize, token: Token, text: &[u
 
 // The first stop of a text whose first byte stands at a place, among formals as they lie in a table. It may be told of which shapes
 // their names are, so that most other words are passed without a look at them.
+#[inline(always)]
 pub(crate) fn first_stop(formals: &Listed, shapes: &[bool], text: &[u8], from: usize) -> Stop
     requires listed { IsListed formals.now.count formals.now.list.now formals.now.marks.now }
     requires told { AreShapes (formals_read formals.now.count formals.now.list.now) shapes.now }
