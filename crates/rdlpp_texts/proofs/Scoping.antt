@@ -119,6 +119,20 @@ unfolding opens_of
 opens-length [] bindings = refl
 opens-length (slot ∷ below) bindings = ap (λ (n : ℕ). suc n) (opens-length below (bindings_below slot.kind bindings))
 
+-- the scope of the innermost of them is one of them
+pub front-within : (slots : List Slot) (bindings : List Range) → AreHomedSlots slots → front_scope (opens_of slots bindings) ≤ length slots
+unfolding opens_of front_scope open_scope
+front-within [] bindings h = omega arith
+front-within (y ∷ below) bindings h = by y.kind
+  where
+    n : length (opens_of below (bindings_below y.kind bindings)) ≡ length below
+    n = opens-length below (bindings_below y.kind bindings)
+
+    by : (kind : SlotKind) → elim (kind_of kind bindings) [ OpenActual ↦ y.home | _ ↦ suc (length (opens_of below (bindings_below y.kind bindings))) ] ≤ suc (length below)
+    by (slot.Body id first) = omega (arith, n)
+    by slot.Actual = let home = h.0 in omega (arith, home)
+    by (slot.Default id place) = omega (arith, n)
+
 -- the first ones of the first ones are some first ones
 pub record IsFirst {A : Type 0} (xs : List A) (n m : ℕ) : Type 0 where
   pub kept : ℕ

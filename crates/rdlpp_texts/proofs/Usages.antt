@@ -499,13 +499,6 @@ pub moved-room : (view new : CursorsView) (at : ℕ) → new ≡ record { opens 
 moved-room view new at e room =
     subst (λ (v : CursorsView). length v.opens < v.depth) (sym e) (let n = moved-length view.opens at in omega (arith, n, room))
 
--- the scope of the innermost open text is one of the slots
-pub rest-scope : (part items : List Slot) (first scope : ℕ) (bindings : List Range) → part ≡ items → AreFurtherOut (opens_of (drop first items) bindings)
-    → scope ≡ front_scope (opens_of (drop first items) bindings) → scope ≤ length (take (length part - first) (drop first part))
-rest-scope part items first scope bindings e homed is =
-    subst (λ (slots : List Slot). scope ≤ length slots) (sym (tail-is part items first e))
-    (let n = opens-length (drop first items) bindings in let inside = scope-inside (opens_of (drop first items) bindings) homed in omega (arith, n, inside, is))
-
 -- the homes of the slots are further out
 pub rest-homed : (part items : List Slot) (first : ℕ) (bindings : List Range) → part ≡ items → AreFurtherOut (opens_of (drop first items) bindings)
     → AreHomedSlots (take (length part - first) (drop first part))

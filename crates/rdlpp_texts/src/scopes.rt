@@ -216,7 +216,7 @@ fn outer_of(slot: &Slot) -> usize
 }
 
 // Whether a scope is in the text of a macro: its own, or that of a home further out.
-pub(crate) fn is_written_in(slots: &[Slot], scope: usize, id: MacroId) -> bool
+fn is_written_in(slots: &[Slot], scope: usize, id: MacroId) -> bool
     requires homed { AreHomedSlots slots.now }
     requires bounded { AreBounded slots.now }
     requires inside { scope ≤ length slots.now }
@@ -234,4 +234,20 @@ pub(crate) fn is_written_in(slots: &[Slot], scope: usize, id: MacroId) -> bool
         at = outer_of(slot);
     }
     false
+}
+
+// Whether what is written in the innermost open text is in the text of a macro. Most macros that are used there are outside the bounds
+// of that text, which tells it at once.
+pub(crate) fn is_front_in(slots: &[Slot], id: MacroId) -> bool
+    requires some { 0 < length slots.now }
+    requires homed { AreHomedSlots slots.now }
+    requires bounded { AreBounded slots.now }
+    ensures { (bindings : List Bound) → result ≡ list_any (λ own. id == own) (writer_ids (opens_of slots.now bindings) (front_scope (opens_of slots.now bindings))) }
+{
+    let scope = front_scope(slots);
+    let slot = &slots[0];
+    if scope == slots.len() && is_excluded(slot.bounds, id) {
+        return false;
+    }
+    is_written_in(slots, scope, id)
 }

@@ -16,7 +16,7 @@ ghost use Rattle.rdlpp_texts.specs.Usages.{front_name, is_text_fault, unknown_ki
 use crate::cursors::Cursors;
 use crate::front::{Front, Look};
 use crate::place::TextPlace;
-use crate::scopes::{front_scope, is_written_in};
+use crate::scopes::{front_scope, is_front_in};
 use crate::step::{CursorFault, CursorStep, wordless};
 use rdlpp_meaning::FaultKind;
 use rdlpp_scan::reserved;
@@ -105,9 +105,8 @@ impl Cursors {
         requires homed { AreFurtherOut self.now.opens }
         ensures { result ≡ list_any (λ own. id == own) (writer_ids self.now.opens (front_scope self.now.opens)) }
     {
-        let scope = self.scope();
         let slots = self.slots.as_slice();
-        is_written_in(&slots[self.first..], scope, id)
+        is_front_in(&slots[self.first..], id)
     }
 
     // Opens the body of a macro without a list in front of the innermost text, which goes on at a place.
