@@ -34,7 +34,10 @@ test: ## the gate (every proof, the must-fail edits, the tests, the stored runs)
 	@checks/from_gate
 	@checks/all
 
-check: out/rdlpp out/librdlpp_c.a crates/rdlpp_refusals/out/rdlpp_refusals ## run the built program over files, streams, examples, refused command lines and refused memory
+# The library for C, where the tools for it are there: without them the checks over it are skipped.
+library := $(if $(shell checks/c/missing_tools),,out/librdlpp_c.a)
+
+check: out/rdlpp $(library) crates/rdlpp_refusals/out/rdlpp_refusals ## run the built program over files, streams, examples, refused command lines and refused memory
 	@checks/all
 
 crates/rdlpp_refusals/out/rdlpp_refusals: $(call sources,rdlpp_refusals)
@@ -44,7 +47,6 @@ crates/rdlpp_refusals/out/rdlpp_refusals: $(call sources,rdlpp_refusals)
 c: out/librdlpp_c.a ## prove and build the library for C, which becomes out/librdlpp_c.a and out/librdlpp_c.so
 
 out/librdlpp_c.a: $(call sources,rdlpp_c) checks/c/library VERSION
-	@cd crates/rdlpp_c && rt lib
 	@checks/c/library
 
 python: out/rdlpp out/librdlpp_c.a ## build the program, the library for C and the wheel of the Python package, which goes to out/
