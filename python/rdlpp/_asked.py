@@ -8,7 +8,7 @@ import ctypes
 import errno
 import os
 import stat
-from typing import Callable, List, Mapping, Optional, Union
+from typing import Any, Callable, List, Mapping, Optional, Union
 
 from ._written import Part, Written, roomy
 
@@ -121,25 +121,36 @@ class Disk:
         return Part(written.end(0), length)
 
 
-def entries(files: Mapping[str, Bytes]) -> Asked:
-    """The entries of a mapping."""
+def entries(files: Mapping[Any, Bytes], objects: Mapping[str, Any]) -> Asked:
+    """The entries of a mapping, each looked up when it is asked for.
 
-    def entry(path: str, _written: Written) -> Optional[Bytes]:
+    Args:
+        objects: the keys that are path objects, by their paths. A key that is the path itself goes first.
+    """
+
+    def entry(path: str) -> Optional[Bytes]:
         text = files.get(path)
-        if text is None or isinstance(text, (bytes, bytearray, memoryview)):
-            return text
-        raise TypeError(f"files[{path!r}] must be bytes, not {type(text).__name__}")
+        return files.get(objects[path]) if text is None and path in objects else text
 
-    return entry
+    return _checked(entry, "files[{!r}]", "be bytes")
 
 
 def given(read: Callable[[str], Optional[Bytes]]) -> Asked:
     """What a callable gives."""
+    return _checked(read, "read({!r})", "give bytes, or None where nothing is there")
 
-    def text_of(path: str, _written: Written) -> Optional[Bytes]:
-        text = read(path)
+
+def _checked(text_at: Callable[[str], Any], name: str, wanted: str) -> Asked:
+    """What a user's object tells of a path, if it is a text or None. What it raises comes out, but for what would end a
+    loop over a stream as if the output were whole: that becomes a RuntimeError, as where a generator raises it."""
+
+    def asked(path: str, _written: Written) -> Optional[Bytes]:
+        try:
+            text = text_at(path)
+        except (StopIteration, StopAsyncIteration) as error:
+            raise RuntimeError(f"{name.format(path)} raised {type(error).__name__}") from error
         if text is None or isinstance(text, (bytes, bytearray, memoryview)):
             return text
-        raise TypeError(f"read({path!r}) must give bytes, or None where nothing is there, not {type(text).__name__}")
+        raise TypeError(f"{name.format(path)} must {wanted}, not {type(text).__name__}")
 
-    return text_of
+    return asked

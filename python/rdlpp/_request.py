@@ -3,12 +3,14 @@
 import os
 from collections.abc import Iterable as AnyIterable
 from collections.abc import Mapping as AnyMapping
-from typing import Any, Callable, Iterable, List, Mapping, NamedTuple, Optional, Tuple, Union
+from typing import Any, Callable, Dict, Iterable, List, Mapping, NamedTuple, Optional, Tuple, TypeVar, Union
 
 from ._asked import Asked, Bytes, Disk, entries, given
 from ._limits import Limits
 
 Path = Union[str, "os.PathLike[str]"]
+# The keys of one mapping: texts, path objects, or both.
+Key = TypeVar("Key", bound=Path)
 Source = Union[Bytes, Path]
 Read = Callable[[str], Optional[Bytes]]
 
@@ -38,12 +40,17 @@ def _utf_8(name: str, text: str) -> bytes:
         raise UnicodeError(f"{name} must be text that UTF-8 can write, and {text!r} isn't") from error
 
 
-def _path(name: str, value: Any) -> bytes:
-    """A path, as UTF-8."""
+def _path_text(name: str, value: Any) -> str:
+    """A path, as a text."""
     path = os.fspath(value) if isinstance(value, os.PathLike) else value
     if not isinstance(path, str):
         raise _wrong(name, "a path (str or os.PathLike of str)", value)
-    return _utf_8(name, path)
+    return path
+
+
+def _path(name: str, value: Any) -> bytes:
+    """A path, as UTF-8."""
+    return _utf_8(name, _path_text(name, value))
 
 
 def _main(source: Any) -> Tuple[bytes, List[Tuple[bytes, bytes]]]:
@@ -79,6 +86,11 @@ def _definitions(defines: Any) -> List[Tuple[bytes, bytes]]:
     return made
 
 
+def _path_objects(files: Mapping[Any, Bytes]) -> Dict[str, Any]:
+    """The keys of a mapping that are path objects, by their paths. A key that is no path is refused."""
+    return {_path_text("a key of files", key): key for key in list(files) if not isinstance(key, str)}
+
+
 def _asked(files: Any, read: Any, limits: Limits) -> Asked:
     """Where the sources come from."""
     if files is not None and read is not None:
@@ -86,7 +98,7 @@ def _asked(files: Any, read: Any, limits: Limits) -> Asked:
     if files is not None:
         if not isinstance(files, AnyMapping):
             raise _wrong("files", "a mapping from paths to bytes", files)
-        return entries(files)
+        return entries(files, _path_objects(files))
     if read is not None:
         if not callable(read):
             raise _wrong("read", "a callable from a path to bytes or None", read)
@@ -100,7 +112,7 @@ def request_of(
     defines: Optional[Mapping[str, str]],
     limits: Optional[Limits],
     origins: bool,
-    files: Optional[Mapping[str, Bytes]],
+    files: Optional[Mapping[Key, Bytes]],
     read: Optional[Read],
 ) -> Request:
     """What these arguments ask for.

@@ -6,7 +6,7 @@ from ._asked import Bytes
 from ._limits import Limits
 from ._output import Lines, Output
 from ._reading import Reading
-from ._request import Path, Read, Source, request_of
+from ._request import Key, Path, Read, Source, request_of
 from ._written import Written, roomy
 
 # How much one read asks for: it comes back soon, mostly in milliseconds, so that a signal is seen.
@@ -44,7 +44,7 @@ def preprocess(
     limits: Optional[Limits] = None,
     origins: bool = False,
     *,
-    files: Optional[Mapping[str, Bytes]] = None,
+    files: Optional[Mapping[Key, Bytes]] = None,
     read: Optional[Read] = None,
 ) -> bytes:
     """Preprocesses a text and answers the output.
@@ -63,8 +63,9 @@ def preprocess(
         defines: macros without a formal list that are defined first, each name with its body.
         limits: how much of each thing the run may use; the standard limits where it is None.
         origins: whether lines `// origin: NAME:LINE` are written.
-        files: the sources by their paths.
-        read: gives the source of a path, or None where nothing is there. What it raises comes out of the call.
+        files: the sources by their paths, which are texts or path objects.
+        read: gives the source of a path, or None where nothing is there. What it raises comes out of the call, but for
+            StopIteration, of which a RuntimeError is made, as of one in a generator.
             Where neither `files` nor `read` is given, the sources are files.
 
     Raises:
@@ -86,7 +87,7 @@ def run(
     defines: Optional[Mapping[str, str]] = None,
     limits: Optional[Limits] = None,
     origins: bool = False,
-    files: Optional[Mapping[str, Bytes]] = None,
+    files: Optional[Mapping[Key, Bytes]] = None,
     read: Optional[Read] = None,
 ) -> Output:
     """Preprocesses a text and answers the output with its lines, sources and definitions.

@@ -8,7 +8,7 @@ from ._asked import Bytes
 from ._limits import Limits
 from ._output import Position
 from ._reading import Reading
-from ._request import Path, Read, Source, request_of
+from ._request import Key, Path, Read, Source, request_of
 from ._written import Written
 
 # How much one read asks for: it comes back soon, mostly in milliseconds.
@@ -142,7 +142,7 @@ def stream(
     limits: Optional[Limits] = None,
     origins: bool = False,
     *,
-    files: Optional[Mapping[str, Bytes]] = None,
+    files: Optional[Mapping[Key, Bytes]] = None,
     read: Optional[Read] = None,
     room: int = PART,
     positions: bool = False,

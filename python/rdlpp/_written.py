@@ -5,7 +5,11 @@ else has it, and gives it another length by `_PyBytes_Resize`; so it is here, by
 """
 
 import ctypes
+import sys
 from typing import NamedTuple, cast
+
+if sys.implementation.name != "cpython":
+    raise ImportError(f"rdlpp needs CPython, whose bytes objects it writes to, and this is {sys.implementation.name}")
 
 _new = ctypes.pythonapi.PyBytes_FromStringAndSize
 _new.restype = ctypes.c_void_p

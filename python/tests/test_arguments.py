@@ -1,6 +1,9 @@
 """Arguments that are none: each is told by its name, with what is wanted in its place."""
 
 import os
+import pathlib
+import subprocess
+import sys
 import unittest
 
 import rdlpp
@@ -54,11 +57,17 @@ class Arguments(unittest.TestCase):
         self.check(TypeError, "read must be a callable from a path to bytes or None, not dict", read={})
         self.check(ValueError, "files and read can't both be given", files={}, read=lambda path: None)
 
+    def test_keys_of_files(self):
+        wanted = "a key of files must be a path (str or os.PathLike of str), not "
+        for key in (b"m", 1, None, ("m",), BytesPath()):
+            self.check(TypeError, wanted + type(key).__name__, files={"m": b"a", key: b"a"})
+
     def test_texts_of_sources(self):
         for text in ("text", 1, ["text"]):
             for call in (rdlpp.preprocess, rdlpp.run, lambda *given, **named: list(rdlpp.stream(*given, **named))):
-                with self.assertRaisesRegex(TypeError, r"files\['m'\] must be bytes, not "):
-                    call("m", files={"m": text})
+                for key in ("m", pathlib.Path("m")):
+                    with self.assertRaisesRegex(TypeError, r"files\['m'\] must be bytes, not "):
+                        call("m", files={key: text})
                 with self.assertRaisesRegex(TypeError, r"read\('m'\) must give bytes, or None .*, not "):
                     call("m", read=lambda path: text)
 
@@ -81,6 +90,14 @@ class Arguments(unittest.TestCase):
 
     def test_a_name_that_is_no_argument(self):
         self.check(TypeError, "include_dir", include_dir=["inc"])
+
+
+class Interpreters(unittest.TestCase):
+    def test_another_interpreter(self):
+        code = "import sys; sys.implementation.name = 'pypy'; import rdlpp"
+        done = subprocess.run([sys.executable, "-c", code], capture_output=True, text=True, timeout=60)
+        told = "ImportError: rdlpp needs CPython, whose bytes objects it writes to, and this is pypy"
+        self.assertEqual((done.returncode, done.stderr.splitlines()[-1]), (1, told))
 
 
 if __name__ == "__main__":

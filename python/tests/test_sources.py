@@ -63,6 +63,19 @@ class Callables(Sources):
                     call("m", read=read)
                 self.assertIs(caught.exception, error)
 
+    def test_a_callable_that_raises_what_ends_a_loop(self):
+        for error in (StopIteration("x"), StopAsyncIteration()):
+            def read(path):
+                if path == "i":
+                    raise error
+                return b'a\n`include "i"\nb\n'
+
+            for call in (rdlpp.preprocess, rdlpp.run, lambda path, read: list(rdlpp.stream(path, read=read))):
+                with self.assertRaises(RuntimeError) as caught:
+                    call("m", read=read)
+                self.assertEqual(str(caught.exception), f"read('i') raised {type(error).__name__}")
+                self.assertIs(caught.exception.__cause__, error)
+
     def test_texts_of_other_types(self):
         for text in (bytearray(b"ab"), memoryview(b"abc")[:2], memoryview(b"axbx")[::2]):
             self.assertEqual(rdlpp.preprocess("m", read=lambda path: text), b"ab")
@@ -93,6 +106,29 @@ class Mappings(Sources):
 
     def test_a_path_object(self):
         self.assertEqual(rdlpp.preprocess(pathlib.Path("d/m"), files={"d/m": b"a"}), b"a")
+
+    def test_path_objects_as_keys(self):
+        class Given:
+            def __fspath__(self):
+                return "./inc/j"
+
+        files = {pathlib.Path("a/m"): b'`include "i"\n', pathlib.PurePath("inc/i"): b'`include "j"\n', Given(): b"q\n"}
+        output = rdlpp.run("a/m", include_dirs=["inc", "./inc"], files={**files, "inc/k": b""})
+        self.assertEqual((output.text, output.sources), (b"q\n\n\n", ("a/m", "inc/i", "./inc/j")))
+
+    def test_a_text_goes_before_a_path_object(self):
+        files = {"m": b"text", pathlib.Path("m"): b"object", pathlib.Path("n"): b"object"}
+        self.assertEqual([rdlpp.preprocess(path, files=files) for path in ("m", "n")], [b"text", b"object"])
+        files[pathlib.Path("n")] = None
+        self.assertEqual(str(self.fault("n", files=files)), "n:0: error F28: source not found")
+
+    def test_a_mapping_that_raises_what_ends_a_loop(self):
+        class Files(dict):
+            def get(self, path):
+                raise StopIteration
+
+        with rdlpp.stream("m", files=Files()) as pieces, self.assertRaisesRegex(RuntimeError, r"files\['m'\] raised Stop"):
+            list(pieces)
 
     def test_included_entries(self):
         files = {"a/m": b'`include "i"\n', "a/i": b'`include "j"\n', "inc/j": b"q\n"}
