@@ -13,11 +13,13 @@ import tempfile
 
 import rdlpp
 from random_sources import case
-from row_table import ROWS, Asked
+from row_table import ROWS, Asked, field_of
 from running import Tally, run
 
 MAIN = "main_text"
 NOTE = "rdlpp: note: "
+# The note on a limit, by the program's option.
+LIMIT = re.compile(r"(the limit is [0-9]+, set by )--max-([a-z-]+)")
 # What the program writes beside the output, each into a file of this name.
 WRITTEN = {"lines": "--line-map", "sources": "--deps", "definitions": "--definitions"}
 
@@ -37,13 +39,19 @@ def prerequisites(rule):
     return tuple(re.sub(r"\\([ #:\t])", r"\1", word).replace("$$", "$") for word in words[1:])
 
 
+def noted(note):
+    """A note of the program as the package has it, which names the argument of a limit in place of the option."""
+    told = LIMIT.fullmatch(note)
+    return told[1] + field_of(told[2]) if told else note
+
+
 def by_program(words, main, outside):
     """What the program tells of a source in the working folder; its files are written outside of it."""
     files = {name: outside / name for name in WRITTEN}
     options = [word for name, option in WRITTEN.items() for word in (option, str(files[name]))]
     got = run(["--notes", *options, *words, main], os.getcwd())
     lines = got.faults.decode("utf-8", "replace").split("\n")[:-1]
-    notes = [line[len(NOTE) :] for line in lines if line.startswith(NOTE)]
+    notes = [noted(line[len(NOTE) :]) for line in lines if line.startswith(NOTE)]
     lines = [line for line in lines if not line.startswith(NOTE)]
     written = {name: file.read_bytes() for name, file in files.items()}
     sources = prerequisites(written["sources"])

@@ -14,6 +14,12 @@ FIELDS = {"line": "line_bytes", "source": "source_bytes", "argument": "argument_
 REPORT = re.compile(rb"(.*):([0-9]+): error F([0-9]+): ([^']*?)(?: '(.*)')?", re.S)
 
 
+def field_of(limit):
+    """The field of a limit that an option sets, of which this is the rest behind `--max-`."""
+    field = limit.replace("-", "_")
+    return FIELDS.get(field, field)
+
+
 class Asked:
     """What the words of a row ask for: limits by their fields, definitions and folders in order."""
 
@@ -28,8 +34,7 @@ class Asked:
             elif option == "-I":
                 self.folders.append(value)
             else:
-                field = option[len("--max-") :].replace("-", "_")
-                self.limits[FIELDS.get(field, field)] = int(value)
+                self.limits[field_of(option[len("--max-") :])] = int(value)
 
 
 def numbered(text, number):

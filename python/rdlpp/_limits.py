@@ -17,6 +17,20 @@ RANGES = {
 }
 
 
+# The program's option of each limit, by which the library names it.
+OPTIONS = {
+    "depth": "--max-depth",
+    "includes": "--max-includes",
+    "line_bytes": "--max-line",
+    "source_bytes": "--max-source",
+    "argument_bytes": "--max-argument",
+    "definition_bytes": "--max-definition-bytes",
+    "definitions": "--max-definitions",
+    "conditions": "--max-conditions",
+    "output_bytes": "--max-output",
+}
+
+
 class _Fields(NamedTuple):
     depth: int
     includes: int

@@ -6,6 +6,7 @@ from typing import Any, List, Optional, Sequence, Tuple
 from . import _library as library
 from ._asked import Unreadable
 from ._faults import Fault, FaultKind
+from ._limits import OPTIONS, Limits
 from ._output import Position
 from ._request import Request
 from ._written import Written
@@ -34,6 +35,7 @@ class Reading:
         self.text_bytes = sum(len(text) for _, text in request.texts)
         self.runs: List[bytes] = []
         self._asked = request.asked
+        self._limits = request.limits
         self._unreadable: Optional[Tuple[str, Unreadable]] = None
         self._buffers = (ctypes.c_char * (library.NAME_ROOM + library.WORD_ROOM))()
         self._name = ctypes.addressof(self._buffers)
@@ -144,7 +146,8 @@ class Reading:
         """The fault that an outcome tells."""
         kind, line = FaultKind(outcome.number), outcome.line
         name, word = self._shown_name(outcome), ctypes.string_at(self._word, outcome.word_length).decode()
-        fault = Fault(kind, name, line, word, library.fault_text(kind), _notes(library.told(library.notes, self._at)))
+        notes = _notes(library.told(library.notes, self._at), self._limits)
+        fault = Fault(kind, name, line, word, library.fault_text(kind), notes)
         unreadable, self._unreadable = self._unreadable, None
         if kind == FaultKind.READ_FAILED and unreadable is not None:
             return _of_file(fault, *unreadable)
@@ -164,10 +167,13 @@ def _of_file(fault: Fault, path: str, unreadable: Unreadable) -> Fault:
     return made
 
 
-def _notes(told: bytes) -> Tuple[str, ...]:
-    """The notes on a fault, each without what a note begins with."""
+def _notes(told: bytes, limits: Limits) -> Tuple[str, ...]:
+    """The notes on a fault, each without what a note begins with. One on a limit names the field in the option's place."""
     lines = told.decode("utf-8", "replace").split("\n")[:-1]
-    return tuple(line[len(NOTE) :] if line.startswith(NOTE) else line for line in lines)
+    notes = [line[len(NOTE) :] if line.startswith(NOTE) else line for line in lines]
+    limit = "the limit is {:d}, set by {}"
+    named = {limit.format(value, OPTIONS[name]): limit.format(value, name) for name, value in zip(limits._fields, limits)}
+    return tuple(named.get(note, note) for note in notes)
 
 
 def _raise_refusal(status: int) -> None:

@@ -161,6 +161,24 @@ class Faults(unittest.TestCase):
         for path in ("a/no", "inc/no"):
             self.assertIn(path, notes)
 
+    def test_notes_on_limits_name_the_argument(self):
+        for limit, value, text in (
+            ("depth", 1, b"`define A `B\n`define B x\n`A"),
+            ("includes", 0, b'`include "i"\n'),
+            ("line_bytes", 256, b"x" * 257),
+            ("source_bytes", 1, b"ab"),
+            ("argument_bytes", 16, b"`define A(x) x\n`A(" + b"x" * 17 + b")"),
+            ("definition_bytes", 1024, b"`define A " + b"x" * 1024),
+            ("definitions", 1, b"`define A\n`define B\n"),
+            ("conditions", 1, b"`ifdef A\n`ifdef B\n"),
+            ("output_bytes", 2, b"abc"),
+        ):
+            with self.subTest(limit):
+                fault = self.fault(text, limits=rdlpp.Limits(**{limit: value}), files={"i": b""})
+                self.assertEqual(fault.notes[0], f"the limit is {value}, set by {limit}")
+        fault = self.fault("the limit is 16, set by --max-includes", files={})
+        self.assertEqual(fault.notes, ("asked for 'the limit is 16, set by --max-includes'",))
+
     def test_it_is_pickled(self):
         for copied in (lambda fault: pickle.loads(pickle.dumps(fault)), copy.copy):
             fault = copied(self.fault(b"a\n`Q"))
