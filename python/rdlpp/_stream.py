@@ -1,10 +1,12 @@
 """Outputs that are read piece by piece."""
 
 import warnings
+from contextvars import copy_context
 from threading import RLock
-from typing import Iterable, Iterator, Mapping, NoReturn, Optional, Tuple
+from typing import AsyncIterator, Iterable, Iterator, Mapping, NoReturn, Optional, Tuple
 
 from ._asked import Bytes
+from ._faults import Fault
 from ._limits import Limits
 from ._output import Position
 from ._reading import Reading
@@ -16,7 +18,7 @@ PART = 65_536
 MOST_ROOM = 1_073_741_824
 
 
-class Stream(Iterator[bytes]):
+class Stream(Iterator[bytes], AsyncIterator[bytes]):
     """The pieces of an output, in order; none is empty. `stream` makes it.
 
     It ends where the output ends, and raises the fault that ends it behind the pieces before it. It is read and
@@ -30,6 +32,17 @@ class Stream(Iterator[bytes]):
         ...         print(piece)
         b'reg['
         b'8];\\n'
+
+    A task reads it by `async for`: each piece is read in a thread, in which `read=` is called too, and the loop goes on
+    meanwhile. A task that is cancelled closes it. With `asyncio.to_thread` give `next` an answer for the end, as
+    `next(pieces, b"")`, since a StopIteration can't come out of a thread.
+
+        >>> import asyncio
+        >>> async def joined():
+        ...     with rdlpp.stream(b"reg[`W];\\n", defines={"W": "8"}, room=4) as pieces:
+        ...         return b"+".join([piece async for piece in pieces])
+        >>> asyncio.run(joined())
+        b'reg[+8];\\n'
     """
 
     def __init__(self, reading: Reading, room: int, positions: bool):
@@ -52,6 +65,22 @@ class Stream(Iterator[bytes]):
         if self._reading.fault is not None:
             raise self._reading.fault.with_traceback(None)
         raise StopIteration
+
+    async def __anext__(self) -> bytes:
+        # an import of it takes longer than that of all else here
+        from asyncio import get_running_loop
+
+        loop = get_running_loop()
+        try:
+            piece: bytes = await loop.run_in_executor(None, copy_context().run, next, self, b"")
+        except Fault:
+            raise
+        except BaseException:
+            self.close()
+            raise
+        if piece:
+            return piece
+        raise StopAsyncIteration
 
     def close(self) -> None:
         """Gives back what the stream owns; reading on is a ValueError. A call that runs meanwhile ends by one soon."""

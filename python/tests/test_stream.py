@@ -1,6 +1,7 @@
 """Outputs that are read piece by piece: what the pieces are, how they end, and who may read them."""
 
 import asyncio
+import contextvars
 import copy
 import gc
 import pickle
@@ -220,7 +221,7 @@ class Threads(unittest.TestCase):
         thread.join(10)
         self.assertEqual(caught, ["the stream was closed"])
 
-    def test_a_task(self):
+    def test_a_thread_of_asyncio(self):
         async def pieces():
             with rdlpp.stream(b"abc", room=1) as given:
                 return [await asyncio.to_thread(next, given, b"") for _ in range(4)]
@@ -228,7 +229,7 @@ class Threads(unittest.TestCase):
         if hasattr(asyncio, "to_thread"):
             self.assertEqual(asyncio.run(pieces()), [b"a", b"b", b"c", b""])
 
-    def test_a_task_that_is_cancelled(self):
+    def test_a_thread_whose_task_is_cancelled(self):
         async def read():
             with rdlpp.stream(NOTHING) as given:
                 while await asyncio.get_running_loop().run_in_executor(None, next, given, b""):
@@ -237,6 +238,96 @@ class Threads(unittest.TestCase):
         began = time.monotonic()
         with self.assertRaises(asyncio.TimeoutError):
             asyncio.run(asyncio.wait_for(read(), 0.2))
+        self.assertLess(time.monotonic() - began, 10)
+
+
+class Tasks(unittest.TestCase):
+    """Streams that a task reads by `async for`."""
+
+    def read(self, given, seconds=10):
+        """The pieces that a task reads, and what then ended them."""
+
+        async def read():
+            got = []
+            try:
+                async for piece in given:
+                    got.append(piece)
+            except Exception as error:
+                return got, error
+            return got, None
+
+        return asyncio.run(asyncio.wait_for(read(), seconds))
+
+    def test_every_room(self):
+        for room in range(1, 40):
+            words = ("m", ["inc"], {"W": "8"})
+            wanted = list(rdlpp.stream(*words, files=FILES, room=room))
+            self.assertEqual(self.read(rdlpp.stream(*words, files=FILES, room=room)), (wanted, None))
+
+    def test_an_empty_output(self):
+        given = rdlpp.stream(b"")
+        self.assertEqual([self.read(given), self.read(given)], [([], None)] * 2)
+
+    def test_both_ways(self):
+        async def read():
+            with rdlpp.stream(b"abcd", room=1, positions=True) as given:
+                return [next(given), await given.__anext__(), given.position.line, [piece async for piece in given]]
+
+        self.assertEqual(asyncio.run(read()), [b"a", b"b", 1, [b"c", b"d"]])
+
+    def test_a_fault_behind_its_pieces(self):
+        given = rdlpp.stream(b"a\n`Q", room=1)
+        got, fault = self.read(given)
+        self.assertEqual((got, str(fault)), ([b"a", b"\n"], "-:2: error F7: undefined macro 'Q'"))
+        self.assertIsInstance(fault, rdlpp.Fault)
+        self.assertEqual(self.read(given), ([], fault))
+
+    def test_what_a_callable_raises(self):
+        for error, wanted in ((KeyError("i"), KeyError), (StopIteration(), RuntimeError), (StopAsyncIteration(), RuntimeError)):
+            def read(path):
+                if path == "i":
+                    raise error
+                return b'a\n`include "i"\n'
+
+            given = rdlpp.stream("m", read=read, room=1)
+            got, caught = self.read(given)
+            self.assertEqual((got, type(caught)), ([b"a", b"\n"], wanted))
+            self.assertEqual(str(self.read(given)[1]), "the stream is closed")
+
+    def test_a_callable_sees_the_task_s_variables(self):
+        variable = contextvars.ContextVar("variable", default=b"other\n")
+
+        async def read():
+            variable.set(b"own\n")
+            return [piece async for piece in rdlpp.stream("m", read=lambda path: variable.get())]
+
+        self.assertEqual(asyncio.run(read()), [b"own\n"])
+
+    def test_a_closed_stream(self):
+        given = rdlpp.stream(b"a")
+        given.close()
+        self.assertEqual(str(self.read(given)[1]), "the stream is closed")
+
+    def test_a_task_that_is_cancelled(self):
+        given = rdlpp.stream(NOTHING)
+        began = time.monotonic()
+        with self.assertRaises(asyncio.TimeoutError):
+            self.read(given, 0.2)
+        with self.assertRaisesRegex(ValueError, "the stream is closed"):
+            next(given)
+        self.assertLess(time.monotonic() - began, 10)
+
+    def test_other_tasks_go_on(self):
+        async def read():
+            ticks, reading = 0, asyncio.ensure_future(rdlpp.stream(NOTHING).__anext__())
+            while ticks < 20:
+                await asyncio.sleep(0.005)
+                ticks += 1
+            self.assertFalse(reading.done())
+            reading.cancel()
+
+        began = time.monotonic()
+        asyncio.run(read())
         self.assertLess(time.monotonic() - began, 10)
 
 
