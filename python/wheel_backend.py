@@ -12,18 +12,23 @@ import sys
 import zipfile
 
 HERE = pathlib.Path(__file__).resolve().parent
-BUILT = HERE.parent / "out"
+ROOT = HERE.parent
+BUILT = ROOT / "out"
 LIBRARY = "librdlpp_c.so"
 PROGRAM = "rdlpp"
 NAME = "rdlpp"
-VERSION = (HERE.parent / "VERSION").read_text().strip()
+VERSION = (ROOT / "VERSION").read_text().strip()
+INFO = f"{NAME}-{VERSION}.dist-info"
+LICENSES = ("LICENSE-APACHE", "LICENSE-MIT")
 # The least C library that a wheel's platform names, where what is built would run with an older one too.
 LEAST_GLIBC = (2, 17)
-METADATA = f"""Metadata-Version: 2.1
+METADATA = f"""Metadata-Version: 2.4
 Name: {NAME}
 Version: {VERSION}
 Summary: The preprocessor for SystemRDL
-License: MIT OR Apache-2.0
+License-Expression: MIT OR Apache-2.0
+License-File: LICENSE-APACHE
+License-File: LICENSE-MIT
 Requires-Python: >=3.8
 Classifier: Programming Language :: Python :: Implementation :: CPython
 """
@@ -59,9 +64,11 @@ def _files(tag):
             yield f"{NAME}/{file.name}", file.read_bytes(), False
     yield f"{NAME}/{LIBRARY}", _built(LIBRARY), False
     yield f"{NAME}/bin/{PROGRAM}", _built(PROGRAM), True
-    yield f"{NAME}-{VERSION}.dist-info/METADATA", METADATA.encode(), False
-    yield f"{NAME}-{VERSION}.dist-info/WHEEL", f"{WHEEL}{tag}\n".encode(), False
-    yield f"{NAME}-{VERSION}.dist-info/entry_points.txt", ENTRY_POINTS.encode(), False
+    yield f"{INFO}/METADATA", METADATA.encode(), False
+    yield f"{INFO}/WHEEL", f"{WHEEL}{tag}\n".encode(), False
+    yield f"{INFO}/entry_points.txt", ENTRY_POINTS.encode(), False
+    for license in LICENSES:
+        yield f"{INFO}/licenses/{license}", (ROOT / license).read_bytes(), False
 
 
 def _entry(path, is_program=False):
@@ -80,7 +87,7 @@ def build_wheel(wheel_directory, config_settings=None, metadata_directory=None):
     """Writes the wheel into a folder and answers its file's name (PEP 517)."""
     tag = _tag()
     name = f"{NAME}-{VERSION}-{tag}.whl"
-    record = f"{NAME}-{VERSION}.dist-info/RECORD"
+    record = f"{INFO}/RECORD"
     lines = ""
     with zipfile.ZipFile(pathlib.Path(wheel_directory, name), "w", zipfile.ZIP_DEFLATED) as wheel:
         for path, held, is_program in _files(tag):
