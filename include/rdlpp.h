@@ -351,7 +351,7 @@ void rdlpp_close(rdlpp_handle *handle);
  */
 size_t rdlpp_fault_text(uint32_t number, char *out, size_t out_length);
 
-/* Writes the version of the library to `out`, as "0.1.0", and answers the whole length. */
+/* Writes the version of the library to `out`, three numbers with dots between them, and answers the whole length. */
 size_t rdlpp_version(char *out, size_t out_length);
 
 #ifdef __cplusplus

@@ -40,7 +40,7 @@ inline std::string text_of(fault_kind kind)
     return {text, rdlpp_fault_text(static_cast<std::uint32_t>(kind), text, sizeof text)};
 }
 
-/* The version of the library, as "0.1.0". */
+/* The version of the library: three numbers, with dots between them. */
 inline std::string version()
 {
     char text[64];

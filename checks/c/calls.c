@@ -218,7 +218,7 @@ static void tells_texts(void)
     check(rdlpp_fault_text(0, text, ROOM) == 0 && holds(text, ""), "no fault has the number 0");
     check(rdlpp_fault_text(36, text, ROOM) == 0 && holds(text, ""), "nor 36");
     check(rdlpp_fault_text(UINT32_MAX, text, ROOM) == 0 && holds(text, ""), "nor the largest number");
-    check(rdlpp_version(text, ROOM) == 5 && holds(text, "0.1.0"), "the version");
+    check(rdlpp_version(text, ROOM) == strlen(VERSION) && holds(text, VERSION), "the version");
 }
 
 int main(void)

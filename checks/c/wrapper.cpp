@@ -42,7 +42,7 @@ void gives_an_output()
     request.origins = true;
     check(rdlpp::preprocess(request) == "// origin: m:1\na\n", "origins");
     check(rdlpp::preprocess(rdlpp::request(asked(""))).empty(), "an empty output");
-    check(rdlpp::version() == "0.1.0", "the version");
+    check(rdlpp::version() == VERSION, "the version");
 }
 
 void tells_a_fault()
