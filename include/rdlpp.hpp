@@ -324,6 +324,8 @@ private:
     /* Gives the source that is asked for, where one is. Where its reader throws it is asked for again. */
     void give_wanted()
     {
+        /* what was moved from has neither a handle nor a reader, whatever it asked for */
+        rdlpp_handle *const open = handle();
         if (!wanted_) {
             return;
         }
@@ -331,10 +333,10 @@ private:
         rdlpp_outcome outcome{};
         try {
             const std::optional<std::string> text = read_(path);
-            outcome.status = text ? rdlpp_give(handle(), path.data(), path.size(), text->data(), text->size())
-                                  : rdlpp_give_absent(handle(), path.data(), path.size());
+            outcome.status = text ? rdlpp_give(open, path.data(), path.size(), text->data(), text->size())
+                                  : rdlpp_give_absent(open, path.data(), path.size());
         } catch (const unreadable &) {
-            outcome.status = rdlpp_give_failed(handle(), path.data(), path.size());
+            outcome.status = rdlpp_give_failed(open, path.data(), path.size());
         }
         detail::refuse(outcome);
         wanted_.reset();

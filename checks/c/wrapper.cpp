@@ -3,6 +3,8 @@
 
 #include <cstdio>
 #include <cstdlib>
+#include <fstream>
+#include <iterator>
 #include <map>
 #include <type_traits>
 
@@ -159,6 +161,66 @@ void moves_streams()
     }
 }
 
+// A stream whose source is asked for, moved on: it goes on, and the one it was moved from has nothing to ask.
+void moves_a_stream_that_asks()
+{
+    bool is_ready = false;
+    rdlpp::request request;
+    request.path = "top";
+    request.read = [&](std::string_view) -> std::optional<std::string> {
+        if (!is_ready) {
+            throw std::runtime_error("not yet");
+        }
+        return "ab";
+    };
+    rdlpp::stream first(request);
+    char part[2];
+    try {
+        first.read(part, 2); // keeps what is asked for
+        check(false, "what the callable throws");
+    } catch (const std::runtime_error &) {
+    }
+    rdlpp::stream second(std::move(first));
+    std::string text, map;
+    int refused = 0;
+    for (const std::function<void()> &read : {std::function<void()>([&] { first.read(part, 2); }),
+                                              std::function<void()>([&] { first.read(text); }),
+                                              std::function<void()>([&] { first.read_mapped(text, map); })}) {
+        try {
+            read();
+        } catch (const std::logic_error &) {
+            refused += 1;
+        } catch (const std::exception &) {
+        }
+    }
+    check(refused == 3 && text.empty(), "a stream that was moved from while it asked");
+    is_ready = true;
+    check(second.read(part, 2) == 2 && std::string(part, 2) == "ab", "the one that was made of it");
+}
+
+// The reader of files that the documents show, over a folder: a fault, and no exception of the file's.
+void reads_files()
+{
+    rdlpp::request request;
+    request.texts = {{"m", "a\n`include \"/\"\n"}};
+    request.path = "m";
+    request.read = [](std::string_view path) -> std::optional<std::string> {
+        std::ifstream file{std::string(path), std::ios::binary};
+        if (!file) {
+            return std::nullopt;
+        }
+        try {
+            return std::string(std::istreambuf_iterator<char>(file), {});
+        } catch (const std::ios_base::failure &error) { // a folder, say
+            throw rdlpp::unreadable(error.what());
+        }
+    };
+    const rdlpp::result made = rdlpp::run(request);
+    check(made.text == "a\n" && made.stopped && made.stopped->kind == RDLPP_FAULT_READ_FAILED, "a folder");
+    request.path = "/no such file";
+    check(rdlpp::run(request).stopped->kind == RDLPP_FAULT_SOURCE_NOT_FOUND, "no file");
+}
+
 void tells_places()
 {
     rdlpp::request request = asked("a\n`define A(x) <\\\nx>\n`A(1)\nb\n");
@@ -194,6 +256,8 @@ int main()
     asks_for_sources();
     goes_on_behind_an_exception();
     moves_streams();
+    moves_a_stream_that_asks();
+    reads_files();
     tells_places();
     return good ? EXIT_SUCCESS : EXIT_FAILURE;
 }
