@@ -8,7 +8,8 @@
     >>> list(rdlpp.stream(b"reg[`W];\\n", defines={"W": "8"}, room=4))
     [b'reg[', b'8];\\n']
 
-It is a layer by ctypes over the library for C, which is in the package. `python -m rdlpp` is the program.
+It is a layer by ctypes over the library for C, which is in the package. `python -m rdlpp` is the program. The source
+archive has a guide, `docs/GUIDE.md`, and larger examples, `python/examples`: one is put in front of a compiler.
 """
 
 from ._faults import Fault, FaultKind, LimitError
