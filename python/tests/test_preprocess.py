@@ -170,7 +170,7 @@ class Faults(unittest.TestCase):
             ("argument_bytes", 16, b"`define A(x) x\n`A(" + b"x" * 17 + b")"),
             ("definition_bytes", 1024, b"`define A " + b"x" * 1024),
             ("definitions", 1, b"`define A\n`define B\n"),
-            ("conditions", 1, b"`ifdef A\n`ifdef B\n"),
+            ("conditions", 1, b"`ifndef A\n`ifndef B\n"),
             ("output_bytes", 2, b"abc"),
         ):
             with self.subTest(limit):
