@@ -129,13 +129,22 @@ calm_low b low =
     rw (apart b 91 (λ e. omega (arith, e, low)), apart b 123 (λ e. omega (arith, e, low)), apart b 93 (λ e. omega (arith, e, low)), apart b 125 (λ e. omega (arith, e, low)))
     (low_is (b == 40) (b == 41) (not (b == 44) && (not (b == 34) && (not (b == 47) && not (b == 60)))))
 
--- one between the blank and 64
-pub low_class : (level b : ℕ) (calm : Bool) → b < 64 → 32 < b
-    → calm ≡ ((not (b == 40) && (not (b == 41) && (not (b == 44) && (not (b == 34) && (not (b == 47) && not (b == 60)))))) || (b == 44 && nat_lt 0 level))
+-- one between the blank and 64 that is no comma
+pub mark_class : (level b : ℕ) (calm : Bool) → b < 64 → 32 < b → (b ≡ 44 → ⊥)
+    → calm ≡ (not (b == 40) && (not (b == 41) && (not (b == 34) && (not (b == 47) && not (b == 60)))))
     → cond calm Calm Mark ≡ byte_class level b
 unfolding is_calm_at
-low_class level b calm low over is =
-    dark_class level b calm (dark_over b over) (is ∙ ap (λ (t : Bool). t || (b == 44 && nat_lt 0 level)) (calm_low b low))
+mark_class level b calm low over other is =
+    let none = apart b 44 other in
+    let rest = not (b == 34) && (not (b == 47) && not (b == 60)) in
+    dark_class level b calm (dark_over b over)
+    (is ∙ sym (ap (λ (t : Bool). not (b == 40) && (not (b == 41) && (not t && rest))) none) ∙ calm_low b low
+    ∙ or_none (is_calm b) ∙ sym (ap (λ (t : Bool). is_calm b || (t && nat_lt 0 level)) none))
+
+-- a comma, which is calm within further openers
+pub comma_class : (level b : ℕ) → b ≡ 44 → cond (nat_lt 0 level) Calm Mark ≡ byte_class level b
+unfolding byte_class is_white is_blank is_line_end is_calm_at is_calm is_opener is_closer
+comma_class level b e = subst (λ (n : ℕ). cond (nat_lt 0 level) Calm Mark ≡ byte_class level n) (sym e) refl
 
 -- the blank
 pub blank_class : (level b : ℕ) → b ≡ 32 → White ≡ byte_class level b

@@ -1,5 +1,5 @@
 // The white space and the calm bytes of a call, which the search for the end of a part passes byte by byte.
-ghost use Rattle.std.specs.Prelude.{◌≡◌, ◌≤◌, ◌==◌, ◌&&◌, ◌||◌, not, ℕ, false, Bool, nat_lt, length, drop, if◌then◌else◌};
+ghost use Rattle.std.specs.Prelude.{◌≡◌, ◌≤◌, ◌==◌, ◌&&◌, not, ℕ, false, Bool, length, drop, if◌then◌else◌};
 ghost use Rattle.rdlpp_scan.specs.declared.token.Mode.TheVariants.{Plain};
 ghost use Rattle.rdlpp_meaning.specs.TextTokens.{text_tokens};
 ghost use Rattle.rdlpp_texts.specs.CallParts.{is_white, part_from};
@@ -67,9 +67,9 @@ fn pass_plain(level: usize, text: &[u8], from: Passed) -> Passed
     Passed { at, to }
 }
 
-// What a byte of plain text at a level of openers is. Letters are told first and then the blank, since most bytes are one of them; and
-// of the marks those below 64 and the others are told apart: the compiler makes of either comparison a mask of bits, without a jump for
-// each mark.
+// What a byte of plain text at a level of openers is: a comma cuts nothing within further ones. Letters are told first and then the
+// blank, since most bytes are one of them; and of the marks those below 64 and the others are told apart: the compiler makes of either
+// comparison a mask of bits, without a jump for each mark.
 fn byte_class(level: usize, b: u8) -> ByteClass
     ensures { result ≡ byte_class level b }
 {
@@ -79,8 +79,10 @@ fn byte_class(level: usize, b: u8) -> ByteClass
         ByteClass::White
     } else if b < b' ' {
         control_class(b)
+    } else if b == b',' {
+        calm_or_mark(level > 0)
     } else {
-        calm_or_mark(is_calm_mark(level, b))
+        calm_or_mark(is_calm_mark(b))
     }
 }
 
@@ -114,16 +116,14 @@ pub(crate) fn is_white(b: u8) -> bool
     is_blank(b) || b == b'\n'
 }
 
-// Whether a byte below 64 is calm, unless it's white space: no round bracket, no `"`, no `/`, no `<`, and no comma but within further
-// openers, where a comma cuts nothing.
-fn is_calm_mark(level: usize, b: u8) -> bool
-    ensures { result ≡ ((not (b == 40) && (not (b == 41) && (not (b == 44) && (not (b == 34) && (not (b == 47) && not (b == 60)))))) || (b == 44 && nat_lt 0 level)) }
+// Whether a byte between the blank and 64 other than a comma is calm: no round bracket, no `"`, no `/` and no `<`.
+fn is_calm_mark(b: u8) -> bool
+    ensures { result ≡ (not (b == 40) && (not (b == 41) && (not (b == 34) && (not (b == 47) && not (b == 60))))) }
 {
-    b != b'(' && b != b')' && b != b',' && b != b'"' && b != b'/' && b != b'<'
-        || b == b',' && level > 0
+    b != b'(' && b != b')' && b != b'"' && b != b'/' && b != b'<'
 }
 
-// Whether any other byte is calm: no square bracket and no brace.
+// Whether a byte from 64 on is calm: no square bracket and no brace.
 fn is_calm_letter(b: u8) -> bool
     ensures { result ≡ (not (b == 91) && (not (b == 123) && (not (b == 93) && not (b == 125)))) }
 {

@@ -1,5 +1,5 @@
 use Rattle.std.proofs.Common.{◌∙◌, arith}
-use Rattle.rdlpp_texts.proofs.CalmBytes.{blank_class, control_class, high_class, low_class}
+use Rattle.rdlpp_texts.proofs.CalmBytes.{blank_class, comma_class, control_class, high_class, mark_class}
 use Rattle.rdlpp_texts.proofs.calm.byte_class.Goals as goal
 
 pub returns-then-b-ge64 : goal.returns-then-b-ge64
@@ -11,7 +11,10 @@ returns-then-b-eq32 c = blank_class c.args.level c.args.b c.if-b-eq32.true
 pub returns-then-b-lt32 : goal.returns-then-b-lt32
 returns-then-b-lt32 c = c.control_class.ensures ∙ control_class c.args.level c.args.b c.if-b-lt32.true
 
-pub returns-else-b-lt32 : goal.returns-else-b-lt32
-returns-else-b-lt32 c =
-    c.calm_or_mark-else-b-lt32.ensures
-    ∙ low_class c.args.level c.args.b c.is_calm_mark.result (omega (arith, c.if-b-ge64.false)) (omega (arith, c.if-b-lt32.false, c.if-b-eq32.false)) c.is_calm_mark.ensures
+pub returns-then-b-eq44 : goal.returns-then-b-eq44
+returns-then-b-eq44 c = c.calm_or_mark-then-b-eq44.ensures ∙ comma_class c.args.level c.args.b c.if-b-eq44.true
+
+pub returns-else-b-eq44 : goal.returns-else-b-eq44
+returns-else-b-eq44 c =
+    c.calm_or_mark-else-b-eq44.ensures
+    ∙ mark_class c.args.level c.args.b c.is_calm_mark.result (omega (arith, c.if-b-ge64.false)) (omega (arith, c.if-b-lt32.false, c.if-b-eq32.false)) c.if-b-eq44.false c.is_calm_mark.ensures
