@@ -176,6 +176,7 @@ fn write_part<W: Sink>(writer: &mut W, part: &[u8]) -> PartWritten
 }
 
 // Writes what a first write has left of a part, until the sink has taken all of it or fails.
+#[cold]
 #[inline(never)]
 fn write_rest<W: Sink>(writer: &mut W, part: &[u8]) -> PartWritten
     ensures inside { result.len ≤ length part.now }

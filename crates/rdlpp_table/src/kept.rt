@@ -301,6 +301,7 @@ fn candidate_at(stops: &FirstStops, from: usize) -> Candidate<'_>
 
 // The same behind the first few of them, where most bodies have no more. All but the last are asked at once: behind them stand most
 // places of a long body.
+#[cold]
 #[inline(never)]
 fn far_candidate(stops: &FirstStops, near: u16, from: usize) -> Candidate<'_>
     requires order { near ≤ from }

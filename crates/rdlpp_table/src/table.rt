@@ -207,6 +207,18 @@ impl Table {
         if guess < self.len() && self.name(MacroId { index: guess }) == name {
             return Some(MacroId { index: guess });
         }
+        self.find_anew(name)
+    }
+
+    // The same as `find`, behind a guess that was wrong. It stands apart, so that a right one keeps its values in registers.
+    #[cold]
+    #[inline(never)]
+    fn find_anew(&self, name: &[u8]) -> Option<MacroId>
+        ensures value { result ≡ place_named self.now.macros name.now }
+        ensures inside { IfSome result (λ id. id < length self.now.macros) }
+        ensures named { macro_named self.now.macros name.now ≡ option_map (macro_at self.now.macros) result }
+        ensures sound { IsSound self.now }
+    {
         self.find(name)
     }
 
@@ -275,6 +287,7 @@ impl Table {
     }
 
     // The first stop of a range of the body of a macro, which is looked for.
+    #[cold]
     #[inline(never)]
     fn sought_stop(&self, id: MacroId, from: usize, to: usize) -> Stop
         requires id { id < length self.now.macros }

@@ -31,6 +31,7 @@ pub(crate) fn push_closed(slots: &mut Vec<Slot>, count: usize)
 
 // Makes the list longer, by as many slots as there are, up to `depth`, and moves those that are there to its back. How many
 // stand in front of them then.
+#[cold]
 #[inline(never)]
 fn widen(slots: &mut Vec<Slot>, depth: usize) -> usize
     requires room { vec_len slots.old < depth }

@@ -131,6 +131,8 @@ impl Cursors {
 }
 
 // The fault of a usage whose name no macro has.
+#[cold]
+#[inline(never)]
 fn unknown_kind(name: &[u8]) -> FaultKind
     ensures { result ≡ unknown_kind (is_reserved name.now) }
 {
