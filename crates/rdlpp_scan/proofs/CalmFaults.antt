@@ -27,7 +27,7 @@ turn bs k n some is still =
     ∙ ap (λ (t : Token). fault_of_tokens t.next_mode (tokens_from t.next_mode 0 (drop t.len bs))) is
 
 -- the token of a word that begins with a letter
-letter_token : (b : ℕ) (bs : List ℕ) → is_letter b ≡ true → token_of Plain (b ∷ bs) ≡ whole Name (prefix_len is_word (b ∷ bs))
+pub letter_token : (b : ℕ) (bs : List ℕ) → is_letter b ≡ true → token_of Plain (b ∷ bs) ≡ whole Name (prefix_len is_word (b ∷ bs))
 unfolding kind_of parts stop_of mode_behind len_of plain_kind whole
 letter_token b bs e =
     let T = b ∷ bs in

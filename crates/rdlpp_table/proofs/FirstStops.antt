@@ -1,9 +1,10 @@
 -- The first stop of a text and of a range of it, and the first stops that an entry keeps.
-use Rattle.std.proofs.Common.{◌≡◌, ℕ, zero, suc, ◌+◌, ◌-◌, ◌<◌, ◌≤◌, Bool, true, false, cond, List, [], ◌∷◌, ⊎_elim, length, take, drop, Option, Some, None, refl, ap, sym, ◌∙◌, arith, ◌++◌, inl, slice_range, subst, if◌then◌else◌, IfSome, get_or, set, append_assoc, replicate, ◌⊎◌}
+use Rattle.std.proofs.Common.{◌≡◌, ℕ, zero, suc, ◌+◌, ◌-◌, ◌<◌, ◌≤◌, Bool, true, false, cond, List, [], ◌∷◌, ⊎_elim, length, take, drop, Option, Some, None, refl, ap, sym, ◌∙◌, arith, ◌++◌, inl, slice_range, subst, if◌then◌else◌, IfSome, get_or, set, append_assoc, replicate, ◌⊎◌, ◌||◌}
 use Rattle.std.specs.List.{prefix_len}
 use Rattle.std.proofs.lemmas.Bool.{le-ltb, cases_Bool, false≢true, cond-false, cond-true}
 use Rattle.std.proofs.lemmas.List.{drop_more, take_more_set, drop-set-lt, drop-replicate, length-drop, nil_from_length, take_all, drop-drop, length-take, take-append-drop}
-use Rattle.rdlpp_scan.specs.Bytes.{is_blank, is_quiet}
+use Rattle.rdlpp_scan.specs.Bytes.{is_blank, is_digit, is_letter, is_quiet, is_word}
+use Rattle.rdlpp_scan.proofs.CalmFaults.{letter_token}
 use Rattle.rdlpp_scan.specs.declared.token.Kind.{Kind}
 use Rattle.rdlpp_scan.specs.declared.token.Kind.TheVariants.{Name, Word, Back, Blank, LineEnd, Str, LineComment, BlockComment, Opener, Closer, Comma, Other, Perl, BareBackquote}
 use Rattle.rdlpp_scan.specs.declared.token.Mode.{Mode}
@@ -171,6 +172,43 @@ quiet_one formals at b bs q =
     ∙ sym (blank_run formals (at + 1) bs))))
     (λ h. quiet_mark formals at b bs (quiet_first b bs q h))
     (cases_Bool (is_blank b))
+
+-- quiet bytes are passed
+quiet_some : (formals : List Formal) (at n : ℕ) (bs : List ℕ) → n ≤ prefix_len is_quiet bs
+    → first_stop formals (at + n) (tokens_from Plain 0 (drop n bs)) (drop n bs) ≡ first_stop formals at (tokens_from Plain 0 bs) bs
+quiet_some formals at zero bs h = ap (λ (m : ℕ). first_stop formals m (tokens_from Plain 0 bs) bs) (omega arith)
+quiet_some formals at (suc n) [] h = absurd (omega arith)
+quiet_some formals at (suc n) (b ∷ bs) h =
+    ⊎_elim
+    (λ q. ap (λ (m : ℕ). first_stop formals m (tokens_from Plain 0 (drop n bs)) (drop n bs)) (omega arith)
+    ∙ (quiet_some formals (at + 1) n bs (omega (arith, prefix_more is_quiet b bs q)) ∙ sym (quiet_one formals at b bs q)))
+    (λ q. absurd (omega (arith, prefix_none is_quiet b bs q)))
+    (cases_Bool (is_quiet b))
+
+pub stopping_quiet : (formals : List Formal) (from : ℕ) (text : List ℕ) (mode : Mode) (at n : ℕ) (rest : List ℕ) → IsStopping formals from text mode at rest → mode ≡ Plain → n ≤ prefix_len is_quiet rest → n ≤ length rest
+    → IsStopping formals from text mode (at + n) (take (length rest - n) (drop n rest))
+stopping_quiet formals from text mode at n rest i plain h le =
+    let e : take (length rest - n) (drop n rest) ≡ drop n rest = take_all (length rest - n) (drop n rest) (omega (arith, length-drop n rest)) in
+    let here : first_stop formals at (tokens_from Plain 0 rest) rest ≡ first_stop formals at (tokens_from mode 0 rest) rest = ap (λ (m : Mode). first_stop formals at (tokens_from m 0 rest) rest) (sym plain) in
+    record {
+      same = ap (λ (m : Mode). first_stop formals (at + n) (tokens_from m 0 (take (length rest - n) (drop n rest))) (take (length rest - n) (drop n rest))) plain
+          ∙ (ap (λ (r : List ℕ). first_stop formals (at + n) (tokens_from Plain 0 r) r) e ∙ (quiet_some formals at n rest h ∙ (here ∙ i.same)));
+      place = omega (arith, ap length e, length-drop n rest, i.place, le);
+    }
+
+-- a name is told by its first byte
+pub letter_first : (text : List ℕ) (n : ℕ) → 0 < length text → is_letter (get_or text 0 0) ≡ true → n ≡ prefix_len is_word text
+    → (let t : Token = record { kind = Name; next_mode = Plain; len = n } in t) ≡ token_of Plain text
+unfolding whole
+letter_first [] n some h e = absurd (omega (arith, some))
+letter_first (b ∷ bs) n some h e = ap (λ (k : ℕ). let t : Token = record { kind = Name; next_mode = Plain; len = k } in t) e ∙ sym (letter_token b bs h)
+
+pub letter_some : (text : List ℕ) → 0 < length text → is_letter (get_or text 0 0) ≡ true → 0 < prefix_len is_word text
+unfolding is_word
+letter_some [] some h = absurd (omega (arith, some))
+letter_some (b ∷ bs) some h =
+    let more : prefix_len is_word (b ∷ bs) ≡ suc (prefix_len is_word bs) = prefix_more is_word b bs (ap (λ (t : Bool). t || is_digit b) h) in
+    omega (arith, more)
 
 -- what stands behind a place, as a range up to the end
 pub behind_place : (n : ℕ) (xs : List ℕ) → take (length xs - n) (drop n xs) ≡ drop n xs

@@ -1,5 +1,9 @@
 // Where the text of a body isn't copied as it stands.
 ghost use Rattle.std.specs.Prelude.{[], length, slice_index, slice_index_or, true, ◌+◌, ◌<◌, ◌≡◌, ◌≤◌, ◌^◌};
+ghost use Rattle.std.specs.List.{prefix_len};
+ghost use Rattle.rdlpp_scan.specs.Bytes.{is_quiet};
+ghost use Rattle.rdlpp_scan.specs.Tokens.{token_of};
+ghost use Rattle.rdlpp_scan.specs.declared.token.Mode.TheVariants.{Plain};
 ghost use Rattle.rdlpp_table.specs.Shapes.{AreShapes, shape};
 ghost use Rattle.rdlpp_table.specs.Kept.{stop_end};
 ghost use Rattle.rdlpp_table.specs.Stops.{is_none, stop_at, stop_of};
@@ -7,7 +11,7 @@ ghost use Rattle.rdlpp_table.specs.Store.{formals_read, IsListed};
 
 use crate::marks::{Listed, place_of};
 use crate::stored::shape;
-use rdlpp_scan::{Kind, Mode, Token, first_token};
+use rdlpp_scan::{Kind, Mode, Token, first_token, is_letter, quiet_bytes, word_bytes};
 
 /// The first place of a range of a body that isn't copied as it stands.
 ///
@@ -77,6 +81,51 @@ fn stop_at(formals: &Listed, shapes: &[bool], at: usize, token: Token, text: &[u
     }
 }
 
+// How many quiet bytes plain text begins with: none of them is a stop, whatever tokens they are.
+#[inline(always)]
+fn quiet_len(mode: Mode, text: &[u8]) -> usize
+    ensures plain { 0 < result → mode ≡ Plain }
+    ensures quiet { result ≤ prefix_len is_quiet text.now }
+    ensures inside { result ≤ length text.now }
+{
+    match mode {
+        Mode::Plain => quiet_bytes(text),
+        _ => 0,
+    }
+}
+
+// The first token of a text that isn't empty.
+#[inline(always)]
+fn token_in_body(mode: Mode, text: &[u8]) -> Token
+    requires { 0 < length text.now }
+    ensures value { result ≡ token_of mode text.now }
+    ensures not_empty { 0 < result.len }
+    ensures inside { result.len ≤ length text.now }
+{
+    match mode {
+        Mode::Plain => plain_token(text),
+        _ => first_token(mode, text),
+    }
+}
+
+// The same in plain text: most tokens are names, which are told by their first byte.
+#[inline(always)]
+fn plain_token(text: &[u8]) -> Token
+    requires { 0 < length text.now }
+    ensures value { result ≡ token_of Plain text.now }
+    ensures not_empty { 0 < result.len }
+    ensures inside { result.len ≤ length text.now }
+{
+    if is_letter(text[0]) {
+        return Token {
+            kind: Kind::Name,
+            next_mode: Mode::Plain,
+            len: word_bytes(text),
+        };
+    }
+    first_token(Mode::Plain, text)
+}
+
 // The first stop of a text whose first byte stands at a place, among formals as they lie in a table. It may be told of which shapes
 // their names are, so that most other words are passed without a look at them.
 #[inline(always)]
@@ -91,7 +140,13 @@ pub(crate) fn first_stop(formals: &Listed, shapes: &[bool], text: &[u8], from: u
     let mut rest = text;
     let mut at = from;
     while !rest.is_empty() {
-        let token = first_token(mode, rest);
+        let quiet = quiet_len(mode, rest);
+        if quiet > 0 {
+            at += quiet;
+            rest = &rest[quiet..];
+            continue;
+        }
+        let token = token_in_body(mode, rest);
         let (here, after) = rest.split_at(token.len);
         let stop = stop_at(formals, shapes, at, token, here);
         if !is_none(stop) {

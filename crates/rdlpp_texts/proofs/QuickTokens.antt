@@ -9,6 +9,7 @@ use Rattle.rdlpp_scan.specs.declared.token.Token.{Token}
 use Rattle.rdlpp_scan.specs.Bytes.{begins_perl, begins_line_comment, begins_block_comment, is_blank, is_line_end, is_letter, is_digit, is_word, is_opener, is_closer, takes_word}
 use Rattle.rdlpp_scan.specs.Tokens.{plain_token, token_of, whole}
 use Rattle.rdlpp_scan.specs.TokenParts.{kind_of, len_of, mark_kind, mode_behind, plain_kind, stop_of}
+use Rattle.rdlpp_scan.proofs.CalmFaults.{letter_token}
 use Rattle.rdlpp_scan.proofs.TokenParts.{parts, token_parts}
 use Rattle.rdlpp_meaning.specs.Actuals.{kind_role}
 use Rattle.rdlpp_texts.specs.CallTokens as call
@@ -17,17 +18,6 @@ use Rattle.rdlpp_texts.specs.declared.tokens.CallRole.{CallRole}
 use Rattle.rdlpp_texts.specs.declared.tokens.CallRole.TheVariants as role
 use Rattle.rdlpp_texts.specs.declared.tokens.CallToken.{CallToken}
 use Rattle.rdlpp_texts.proofs.FirstTokens.{first_token_is}
-
--- the token of a word that begins with a letter
-pub letter_token : (b : ℕ) (bs : List ℕ) → is_letter b ≡ true → token_of Plain (b ∷ bs) ≡ whole Name (prefix_len is_word (b ∷ bs))
-unfolding kind_of parts stop_of mode_behind len_of plain_kind whole
-letter_token b bs e =
-    let T = b ∷ bs in
-    token_parts Plain T
-    ∙ ap (λ (t : Bool). parts Plain (cond t Name (plain_kind_else b (get_or T 1 0))) T) e
-  where
-    plain_kind_else : ℕ → ℕ → Kind
-    plain_kind_else b c = cond (is_blank b) Blank (cond (is_digit b) Word (mark_kind b c))
 
 -- no digit is a blank
 digit_dark : (b : ℕ) → is_digit b ≡ true → is_blank b ≡ true → ⊥

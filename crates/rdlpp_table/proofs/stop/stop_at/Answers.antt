@@ -1,4 +1,4 @@
-use Rattle.std.proofs.Common.{◌∙◌, ◌≡◌, true, false, get_or, ℕ, ap, sym}
+use Rattle.std.proofs.Common.{◌∙◌, ◌≡◌, true, false, get_or, sym}
 use Rattle.rdlpp_table.specs.Shapes.{shape}
 use Rattle.rdlpp_table.specs.Store.{formals_read}
 use Rattle.rdlpp_table.proofs.FirstStops.{name_stop, none_stop, some_stop}
