@@ -8,7 +8,7 @@ use Rattle.rdlpp_scan.specs.declared.token.Mode.TheVariants.{Plain}
 use Rattle.rdlpp_scan.specs.declared.token.Token.{Token}
 use Rattle.rdlpp_scan.specs.Bytes.{begins_perl, begins_line_comment, begins_block_comment, is_blank, is_line_end, is_letter, is_digit, is_word, is_opener, is_closer, takes_word}
 use Rattle.rdlpp_scan.specs.Tokens.{plain_token, token_of, whole}
-use Rattle.rdlpp_scan.specs.TokenParts.{kind_of, len_of, mark_kind, mode_behind, plain_kind, stop_of}
+use Rattle.rdlpp_scan.specs.TokenParts.{kind_of, len_of, mode_behind, plain_kind, stop_of}
 use Rattle.rdlpp_scan.proofs.CalmFaults.{letter_token}
 use Rattle.rdlpp_scan.proofs.TokenParts.{parts, token_parts}
 use Rattle.rdlpp_meaning.specs.Actuals.{kind_role}

@@ -14,7 +14,8 @@ use Rattle.rdlpp_scan.specs.TokenParts.{kind_of, len_of, mark_kind, mode_behind,
 use Rattle.rdlpp_scan.proofs.TokenLens.{token_of-part, tokens_from-step}
 use Rattle.rdlpp_scan.proofs.TokenParts.{parts, token_parts}
 use Rattle.rdlpp_texts.specs.Fronts.{is_back, run_len}
-use Rattle.rdlpp_texts.proofs.QuickTokens.{blank_token, digit_token, letter_token}
+use Rattle.rdlpp_scan.proofs.CalmFaults.{letter_token}
+use Rattle.rdlpp_texts.proofs.QuickTokens.{blank_token, digit_token}
 use Rattle.rdlpp_texts.proofs.CalmRuns.{blank_dark}
 use Rattle.rdlpp_texts.proofs.Stopping.{running-stop}
 use Rattle.rdlpp_texts.proofs.Unquoted.{passed}

@@ -1,4 +1,4 @@
-use Rattle.std.proofs.Common.{◌≡◌, ◌<◌, ◌-◌, ℕ, [], ap, arith, get_or, length, sym, ◌∙◌}
+use Rattle.std.proofs.Common.{◌≡◌, ◌-◌, ℕ, [], ap, arith, get_or, length, sym, ◌∙◌}
 use Rattle.std.specs.List.{list_any}
 use Rattle.std.specs.Prelude.{◌==◌}
 use Rattle.rdlpp_texts.specs.Opened.{opens_of}
