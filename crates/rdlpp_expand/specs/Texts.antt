@@ -2,9 +2,7 @@
 -- A definition that names no source is this project's own.
 use Rattle.std.specs.Prelude.{◌≡◌, ℕ, ◌<◌, Bool, true, false, length, is_some, Option, None, Some}
 use Rattle.rdlpp_state.specs.Engine.{EngineView}
-use Rattle.rdlpp_read.specs.Buffer.{held_of}
-use Rattle.rdlpp_read.specs.Files.{inner_buffer}
-use Rattle.rdlpp_state.specs.Moves.{IsReady, IsUnowed}
+use Rattle.rdlpp_state.specs.Moves.{IsUnowed}
 use Rattle.rdlpp_state.specs.declared.phase.Phase.TheVariants.{Open}
 use Rattle.rdlpp_state.specs.declared.place.Place.{Place}
 use Rattle.rdlpp_state.specs.declared.place.Place.TheVariants as spot
@@ -39,8 +37,3 @@ LeavesTexts Kept e = is_some e.kept ≡ true
 abbrev pub further_parts : Bool → ℕ
 further_parts true = 0
 further_parts false = 1
-
--- an engine whose next step takes what is held of a source
-pub record IsHolding {S R : Type 0} (e : EngineView S R) : Type 0 where
-  pub ready : IsReady e
-  pub some : 0 < length (held_of (inner_buffer e.files.nest))

@@ -204,7 +204,7 @@ impl<S: Sources> Engine<S> {
         ensures place { IfSome result (IsPlaced self.new) }
         ensures steps { Steps S.Sources self.old self.new (step_answer self.new result) }
     {
-        match self.step_held() {
+        match self.step_outside() {
             Some(place) => Some(self.cut(place)),
             None => None,
         }
@@ -305,6 +305,7 @@ impl<S: Sources> Engine<S> {
     }
 
     // Takes one step that is none over the open texts of a usage.
+    #[inline(always)]
     fn step_outside(&mut self) -> Option<Place>
         requires started { IsStarted self.old }
         requires outside { IsUnowed self.old → self.old.expansion.opens ≡ [] }
@@ -327,6 +328,7 @@ impl<S: Sources> Engine<S> {
     }
 
     // Takes one step over what is owed and the open sources.
+    #[inline(always)]
     fn step_open(&mut self) -> Option<Place>
         requires open { self.old.phase ≡ Phase.Open }
         requires free { self.old.kept ≡ None }
@@ -341,9 +343,24 @@ impl<S: Sources> Engine<S> {
         }
     }
 
-    // Takes one step over the open sources. It stands apart, so that a step over what is owed is no call more.
-    #[inline(never)]
+    // Takes one step over the open sources: what is held, as most steps do.
+    #[inline(always)]
     fn step_sources(&mut self) -> Option<Place>
+        requires { IsReady self.old }
+        ensures place { IfSome result (IsPlaced self.new) }
+        ensures walks { IsBounded self.new → WalksOver S.Sources 1 self.old self.new (step_answer self.new result) }
+    {
+        let held = self.files.file().buffer.held();
+        if held.is_empty() {
+            return self.step_filled();
+        }
+        self.take_held()
+    }
+
+    // Sees to it that bytes of the innermost source are held, and takes one step over them; or ends that source, or refuses what breaks
+    // it. It stands apart, so that a step over what is held or owed has no more of it than the test.
+    #[inline(never)]
+    fn step_filled(&mut self) -> Option<Place>
         requires { IsReady self.old }
         ensures place { IfSome result (IsPlaced self.new) }
         ensures walks { IsBounded self.new → WalksOver S.Sources 1 self.old self.new (step_answer self.new result) }

@@ -37,11 +37,10 @@ impl Guesses {
         ensures kept { IfSome result (λ id. slice_index self.new.places (key_of name.now) ≡ min id 65535) }
     {
         let key = key_of(name);
-        let guess = self.places[key];
-        let id = table.find_near(guess as usize, name)?;
-        let place = id.index().min(MOST) as u16;
-        if place != guess {
-            self.places[key] = place;
+        let guess = self.places[key] as usize;
+        let id = table.find_near(guess, name)?;
+        if id.index() != guess {
+            self.places[key] = id.index().min(MOST) as u16;
         }
         Some(id)
     }

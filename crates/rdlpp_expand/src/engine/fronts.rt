@@ -8,7 +8,6 @@ ghost use Rattle.rdlpp_state.specs.Held.{IsBounded};
 ghost use Rattle.rdlpp_state.specs.Moves.{IsReady, IsUnowed};
 ghost use Rattle.rdlpp_state.specs.Pieces.{IsPlaced, lent_answer, step_answer};
 ghost use Rattle.rdlpp_state.specs.Steps.{IsStarted, Walks, WalksOver};
-ghost use Rattle.rdlpp_expand.specs.Texts.{IsHolding};
 
 use crate::engine::Engine;
 use rdlpp_front::{Copied, copied_text};
@@ -16,47 +15,6 @@ use rdlpp_source::Sources;
 use rdlpp_state::{Phase, Place};
 
 impl<S: Sources> Engine<S> {
-    // Takes one step that is none over the open texts of a usage, as `step_outside` does. Where bytes of a source are held and nothing
-    // is owed, which is known at once, it takes them: most steps over a source are such ones.
-    #[inline(always)]
-    pub(super) fn step_held(&mut self) -> Option<Place>
-        requires started { IsStarted self.old }
-        requires outside { IsUnowed self.old → self.old.expansion.opens ≡ [] }
-        ensures place { IfSome result (IsPlaced self.new) }
-        ensures walks { WalksOver S.Sources 1 self.old self.new (step_answer self.new result) }
-    {
-        if !self.is_holding() {
-            return self.step_outside();
-        }
-        let place = self.take_held();
-        self.facts();
-        place
-    }
-
-    // Whether the next step takes what is held of a source.
-    #[inline(always)]
-    fn is_holding(&self) -> bool
-        requires { IsUnowed self.now → self.now.expansion.opens ≡ [] }
-        ensures { IsTrue result → IsHolding self.now }
-    {
-        self.facts();
-        if !self.is_unowed() {
-            return false;
-        }
-        let held = self.files.file().buffer.held();
-        if held.is_empty() {
-            return false;
-        }
-        true
-    }
-
-    // Whether the engine goes on in its open main text: it keeps no fault and owes nothing.
-    fn is_unowed(&self) -> bool
-        ensures { IsTrue result ↔ IsUnowed self.now }
-    {
-        self.kept.is_none() && self.phase == Phase::Open && self.owed.is_nothing()
-    }
-
     // Takes what the held bytes begin with, or passes skipped text. Text that is copied, which is most of a source, is found and its
     // line ends are counted in one pass.
     #[inline(always)]

@@ -1,47 +1,18 @@
-use Rattle.std.proofs.Common.{false, true, [], inl, arith, refl}
-use Rattle.rdlpp_meaning.specs.declared.fault.FaultKind.TheVariants as fault
-use Rattle.rdlpp_state.proofs.EngineSteps.{called, silent_then, wider}
-use Rattle.rdlpp_state.proofs.EndSteps.{ended_placed, ended_steps}
-use Rattle.rdlpp_state.proofs.FrontSteps.{IsRead, fails_reading, left_long_line, left_long_source, left_unfilled, ready_filled, refuses, silent_fill, slid}
+use Rattle.std.proofs.Common.{◌≡◌, ap, arith, sym, ◌∙◌}
+use Rattle.rdlpp_read.specs.Buffer.{held_of}
+use Rattle.rdlpp_read.specs.Files.{inner_buffer}
+use Rattle.rdlpp_state.proofs.EngineSteps.{wider}
+use Rattle.rdlpp_expand.proofs.TextFacts.{some_in}
 use Rattle.rdlpp_expand.proofs.engine.Engine.step_sources.Goals as goal
-use Rattle.rdlpp_state.proofs.GoingOn.{own_kind}
+
+pub file-requires : goal.file-requires
+file-requires g c = rw (← c.self.view_is) at c.requires.nest
 
 pub take_held-requires : goal.take_held-requires
 take_held-requires g c =
-    let r : IsRead g.S.Sources c.args.self.now c.fill.new.self = record { becomes = c.in-Held.ensures.becomes; only = c.in-Held.ensures.only; moves = slid _ _ _ _ _ c.in-Held.ensures.fills.slides } in
-    record { ready = ready_filled _ _ c.requires r c.facts.ensures.sound c.facts.ensures.files; some = c.in-Held.ensures.fills.bytes }
+    let e = c.args.self.now in
+    let held : c.held-held.result.now ≡ held_of (inner_buffer e.files.nest) = c.held-held.ensures.value ∙ ap held_of (c.file.ensures.buffer ∙ ap (λ e. inner_buffer e.files.nest) c.self.view_is) in
+    record { ready = c.requires; some = rw (← held) (some_in _ (sym c.is_empty.ensures ∙ c.if-is_empty.false)) }
 
-pub returns-in-Held-clause-walks : goal.returns-in-Held-clause-walks
-returns-in-Held-clause-walks g c = λ bounded.
-    let r : IsRead g.S.Sources c.args.self.now c.fill.new.self = record { becomes = c.in-Held.ensures.becomes; only = c.in-Held.ensures.only; moves = slid _ _ _ _ _ c.in-Held.ensures.fills.slides } in
-    silent_then g.S.Sources 1 0 c.args.self.now c.fill.new.self c.take_held.new.self _
-    (silent_fill g.S.Sources _ _ c.requires r c.in-Held.ensures.fills (called g.S.Sources false _ _ c.in-Held.ensures.call)) (c.take_held.ensures.walks bounded)
-
-pub returns-in-End-clause-place : goal.returns-in-End-clause-place
-returns-in-End-clause-place g c = ended_placed c.fill.new.self c.end.new.self c.end.result c.end.ensures
-
-pub returns-in-End-clause-walks : goal.returns-in-End-clause-walks
-returns-in-End-clause-walks g c = λ bounded.
-    let r : IsRead g.S.Sources c.args.self.now c.fill.new.self = record { becomes = c.in-End.ensures.becomes; only = c.in-End.ensures.only; moves = slid _ _ _ _ _ c.in-End.ensures.fills.slides } in
-    wider g.S.Sources 0 1 _ _ _ (omega arith) (ended_steps g.S.Sources c.args.self.now c.fill.new.self c.end.new.self c.requires r bounded c.in-End.ensures.fills (called g.S.Sources false _ _ c.in-End.ensures.call) c.end.result c.end.ensures)
-
-pub returns-in-SourceLong-clause-walks : goal.returns-in-SourceLong-clause-walks
-returns-in-SourceLong-clause-walks g c = λ bounded.
-    let r : IsRead g.S.Sources c.args.self.now c.fill.new.self = record { becomes = c.in-SourceLong.ensures.becomes; only = c.in-SourceLong.ensures.only; moves = slid _ _ _ _ _ c.in-SourceLong.ensures.fills.slides } in
-    wider g.S.Sources 0 1 _ _ _ (omega arith) (refuses g.S.Sources c.args.self.now c.fill.new.self c.refuse.new.self c.refuse.result fault.SourceTooLong _ [] c.requires r bounded c.refuse.ensures.place
-    (rw c.new.ensures at c.refuse.ensures.kept) (own_kind _ refl) (called g.S.Sources false _ _ c.in-SourceLong.ensures.call)
-    (λ t. left_long_source g.S.Sources c.args.self.now c.fill.new.self c.requires t c.in-SourceLong.ensures.fills))
-
-pub returns-in-LineLong-clause-walks : goal.returns-in-LineLong-clause-walks
-returns-in-LineLong-clause-walks g c = λ bounded.
-    let r : IsRead g.S.Sources c.args.self.now c.fill.new.self = record { becomes = c.in-LineLong.ensures.becomes; only = c.in-LineLong.ensures.only; moves = slid _ _ _ _ _ c.in-LineLong.ensures.fills.slides } in
-    wider g.S.Sources 0 1 _ _ _ (omega arith) (refuses g.S.Sources c.args.self.now c.fill.new.self c.refuse-in-LineLong.new.self c.refuse-in-LineLong.result fault.LineTooLong _ [] c.requires r bounded c.refuse-in-LineLong.ensures.place
-    (rw c.new-in-LineLong.ensures at c.refuse-in-LineLong.ensures.kept) (own_kind _ refl) (called g.S.Sources false _ _ c.in-LineLong.ensures.call)
-    (λ t. left_long_line g.S.Sources c.args.self.now c.fill.new.self c.requires t c.in-LineLong.ensures.fills))
-
-pub returns-in-Failed-clause-walks : goal.returns-in-Failed-clause-walks
-returns-in-Failed-clause-walks g c = λ bounded.
-    let r : IsRead g.S.Sources c.args.self.now c.fill.new.self = record { becomes = c.in-Failed.ensures.becomes; only = c.in-Failed.ensures.only; moves = slid _ _ _ _ _ c.in-Failed.ensures.fills.slides } in
-    wider g.S.Sources 0 1 _ _ _ (omega arith) (fails_reading g.S.Sources c.args.self.now c.fill.new.self c.refuse_read.new.self c.refuse_read.result c.requires r (inl c.in-Failed.ensures.fills.bytes) bounded
-    c.refuse_read.ensures.place c.refuse_read.ensures.kept (called g.S.Sources true _ _ c.in-Failed.ensures.call)
-    (λ t. left_unfilled g.S.Sources c.args.self.now c.fill.new.self c.requires t c.in-Failed.ensures.fills))
+pub returns-clause-walks : goal.returns-clause-walks
+returns-clause-walks g c = λ bounded. wider g.S.Sources 0 1 _ _ _ (omega arith) (c.take_held.ensures.walks bounded)
