@@ -4,7 +4,7 @@
  * NAME
  *     rdlpp_standard_limits, rdlpp_standard_request, rdlpp_preprocess,
  *     rdlpp_open, rdlpp_read, rdlpp_read_mapped, rdlpp_position, rdlpp_definitions, rdlpp_notes, rdlpp_close,
- *     rdlpp_give, rdlpp_give_absent, rdlpp_give_failed,
+ *     rdlpp_give, rdlpp_give_once, rdlpp_give_absent, rdlpp_give_failed,
  *     rdlpp_fault_text, rdlpp_version
  *
  * LINKING
@@ -42,8 +42,9 @@
  *     handle owns. Beside lists as long as the arrays that were lent, and the definitions, it holds at most
  *     definition_bytes + argument_bytes + (includes + 1) * line_bytes bytes of text, and tables of fixed
  *     size; the output goes straight to `out`. An open handle holds copies of the arrays that were lent
- *     and of all that it was given, and that same text and those tables. rdlpp_read and rdlpp_read_mapped
- *     ask for no memory.
+ *     and of all that it was given, and that same text and those tables. Of what was given by rdlpp_give_once
+ *     it holds the texts that are being read, each as often as it is open, and the one that was given last.
+ *     rdlpp_read and rdlpp_read_mapped ask for no memory.
  */
 #ifndef RDLPP_H
 #define RDLPP_H
@@ -142,7 +143,8 @@ enum {
     RDLPP_MORE = 5,      /* a read: it ended before the output did, and more may follow */
     RDLPP_CLOSED = 6,    /* the handle is closed; nothing was written */
     RDLPP_WANTED = 7,    /* a read: a source is asked for, whose path is in `name` */
-    RDLPP_SHORT_MAP = 8  /* rdlpp_read_mapped: `map` is shorter than RDLPP_MAP_ROOM; nothing was written */
+    RDLPP_SHORT_MAP = 8, /* rdlpp_read_mapped: `map` is shorter than RDLPP_MAP_ROOM; nothing was written */
+    RDLPP_CHANGED = 9    /* rdlpp_give_once: the text isn't the one that was given of this path before */
 };
 
 /* How a call ended, in numbers; each that isn't named for a status is 0 there. */
@@ -258,7 +260,7 @@ rdlpp_outcome rdlpp_open(
  *
  * Where the request has `asks`, the answer is RDLPP_WANTED where a source is needed of which nothing is
  * known: its path is told in `name`, and its length in `name_length` of the answer. The caller tells what is
- * there by rdlpp_give, rdlpp_give_absent or rdlpp_give_failed, and reads on. Where it reads on without,
+ * there by rdlpp_give, rdlpp_give_once, rdlpp_give_absent or rdlpp_give_failed, and reads on. Where it reads on without,
  * the same source is asked for again, and nothing changes. The paths that are asked for are those that a
  * search tries, in order: the name in the folder of the including source, then in each include folder.
  */
@@ -277,6 +279,24 @@ rdlpp_outcome rdlpp_read(
  * refused, and RDLPP_CLOSED where the handle is closed: with these nothing changed.
  */
 uint32_t rdlpp_give(
+    rdlpp_handle *handle,
+    const char *path, size_t path_length,
+    const char *text, size_t text_length);
+
+/*
+ * Tells a handle the text of the source at `path`, as rdlpp_give does, but keeps it no longer than until the next
+ * text is given by this call: from then on only what reads it holds it, and it goes when that has ended. The same path is
+ * asked for again at a later search, and the caller gives the same text once more.
+ *
+ * Of each path a length and a digest of 64 bits are kept. Where a text has others than the one that was given of
+ * its path before, the answer is RDLPP_CHANGED, and the path is told as by rdlpp_give_failed: a search ends there,
+ * by the fault RDLPP_FAULT_READ_FAILED. The digest finds what changed by chance. It is no protection against
+ * someone who makes two texts of one digest.
+ *
+ * The other answers are those of rdlpp_give. With RDLPP_NO_MEMORY nothing is known of the path, as before, and the text
+ * that was given last by this call isn't kept any longer either.
+ */
+uint32_t rdlpp_give_once(
     rdlpp_handle *handle,
     const char *path, size_t path_length,
     const char *text, size_t text_length);

@@ -99,6 +99,11 @@ struct request {
     std::vector<std::pair<std::string, std::string>> definitions; /* each a name and its body */
     std::string path;
     reader read; /* asked for each source that isn't among `texts`, once; empty: there are no others */
+    /*
+     * Whether what `read` gives is held only while it is read, and until it gives the next one, as by rdlpp_give_once: it is
+     * asked again where a source is included again, and another text than before ends the output by RDLPP_FAULT_READ_FAILED.
+     */
+    bool reads_again = false;
 };
 
 /* The place of what a read gave. */
@@ -184,7 +189,8 @@ struct closes {
 class stream {
 public:
     /* Opens the main text of a request, all of which is copied. Throws rdlpp::error for a definition that is refused. */
-    explicit stream(const request &given) : handle_(new rdlpp_handle(RDLPP_CLOSED_HANDLE)), read_(given.read)
+    explicit stream(const request &given)
+        : handle_(new rdlpp_handle(RDLPP_CLOSED_HANDLE)), read_(given.read), reads_again_(given.reads_again)
     {
         const detail::lent_request lent(given);
         const rdlpp_outcome outcome =
@@ -303,8 +309,11 @@ private:
 
     rdlpp::fault fault_of(const rdlpp_outcome &outcome)
     {
-        return {static_cast<fault_kind>(outcome.number), {name_, outcome.name_length}, outcome.line,
-                {word_, outcome.word_length}, whole(rdlpp_notes)};
+        const auto kind = static_cast<fault_kind>(outcome.number);
+        const std::string changed = kind == RDLPP_FAULT_READ_FAILED && changed_
+            ? "rdlpp: note: " + *changed_ + ": its text has changed since it was read first\n" : "";
+        return {kind, {name_, outcome.name_length}, outcome.line, {word_, outcome.word_length},
+                changed + whole(rdlpp_notes)};
     }
 
     /* Takes what a read answered: keeps the path of a source that is asked for, or how the output ended. */
@@ -333,18 +342,24 @@ private:
         rdlpp_outcome outcome{};
         try {
             const std::optional<std::string> text = read_(path);
-            outcome.status = text ? rdlpp_give(open, path.data(), path.size(), text->data(), text->size())
+            const auto give = reads_again_ ? rdlpp_give_once : rdlpp_give;
+            outcome.status = text ? give(open, path.data(), path.size(), text->data(), text->size())
                                   : rdlpp_give_absent(open, path.data(), path.size());
         } catch (const unreadable &) {
             outcome.status = rdlpp_give_failed(open, path.data(), path.size());
         }
         detail::refuse(outcome);
+        if (outcome.status == RDLPP_CHANGED) {
+            changed_ = path;
+        }
         wanted_.reset();
     }
 
     std::unique_ptr<rdlpp_handle, detail::closes> handle_;
     reader read_;
+    bool reads_again_;
     std::optional<std::string> wanted_;
+    std::optional<std::string> changed_;
     bool is_done_ = false;
     std::optional<rdlpp::fault> stopped_;
     char name_[1024];

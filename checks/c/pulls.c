@@ -63,6 +63,11 @@ static uint32_t give(rdlpp_handle *handle, const char *path, const char *text)
     return rdlpp_give(handle, path, strlen(path), text, strlen(text));
 }
 
+static uint32_t give_once(rdlpp_handle *handle, const char *path, const char *text)
+{
+    return rdlpp_give_once(handle, path, strlen(path), text, strlen(text));
+}
+
 static uint32_t give_absent(rdlpp_handle *handle, const char *path)
 {
     return rdlpp_give_absent(handle, path, strlen(path));
@@ -196,6 +201,113 @@ static void changes_nothing_that_is_told(void)
     rdlpp_close(&handle);
 }
 
+/* A text that is given once is asked for again, but for the one that was given last. */
+static void asks_again(void)
+{
+    rdlpp_handle handle = RDLPP_CLOSED_HANDLE;
+    rdlpp_outcome outcome;
+    open_asking(&handle);
+    outcome = read_some(&handle);
+    check(give_once(&handle, "m", "`include \"i\"\n`include \"i\"\n`include \"j\"\n`include \"i\"\nend\n") == RDLPP_WHOLE,
+        "the main text");
+    outcome = read_some(&handle);
+    check(wants(&outcome, "i", 0), "an included source");
+    check(give_once(&handle, "i", "one") == RDLPP_WHOLE, "it is there");
+    outcome = read_some(&handle);
+    check(wants(&outcome, "j", 10) && gave(&outcome, "one\n\none\n\n"), "the one that was given last isn't asked for again");
+    check(give_once(&handle, "j", "two") == RDLPP_WHOLE, "the other one");
+    outcome = read_some(&handle);
+    check(wants(&outcome, "i", 5) && gave(&outcome, "two\n\n"), "one that went is asked for again");
+    check(give_once(&handle, "i", "one") == RDLPP_WHOLE, "the same text");
+    outcome = read_some(&handle);
+    check(outcome.status == RDLPP_WHOLE && gave(&outcome, "one\n\nend\n"), "the rest, of a main text that went from what is known");
+    rdlpp_close(&handle);
+}
+
+/* A text that reads otherwise at a later include ends the output there. */
+static void refuses_another_text(const char *other)
+{
+    rdlpp_handle handle = RDLPP_CLOSED_HANDLE;
+    rdlpp_outcome outcome;
+    open_asking(&handle);
+    check(give(&handle, "m", "`include \"i\"\n`include \"j\"\n`include \"i\"\nend\n") == RDLPP_WHOLE, "the main text");
+    outcome = read_some(&handle);
+    check(wants(&outcome, "i", 0) && give_once(&handle, "i", "a text of some length") == RDLPP_WHOLE, "an included source");
+    outcome = read_some(&handle);
+    check(wants(&outcome, "j", 23) && give_once(&handle, "j", "") == RDLPP_WHOLE, "an empty one");
+    outcome = read_some(&handle);
+    check(wants(&outcome, "i", 1), "the first one again");
+    check(give_once(&handle, "i", other) == RDLPP_CHANGED, "another text");
+    check(give_once(&handle, "i", "a text of some length") == RDLPP_WHOLE, "the first one comes too late");
+    outcome = read_some(&handle);
+    check(outcome.status == RDLPP_STOPPED && outcome.number == RDLPP_FAULT_READ_FAILED && outcome.line == 3, "its fault");
+    check(outcome.name_length == 1 && name[0] == 'm', "at its include");
+    outcome = read_some(&handle);
+    check(outcome.status == RDLPP_STOPPED && outcome.number == RDLPP_FAULT_READ_FAILED && outcome.length == 0, "told again");
+    rdlpp_close(&handle);
+}
+
+/* What is given once goes behind what is known, and is asked for again while it is open. */
+static void gives_once_what_is_known(void)
+{
+    static const char guarded[] = "`ifndef G\n`define G\n`include \"j\"\n`endif\n";
+    rdlpp_handle handle = RDLPP_CLOSED_HANDLE;
+    rdlpp_request request = asking();
+    rdlpp_outcome outcome;
+    open_asking(&handle);
+    check(give(&handle, "m", "`include \"i\"\n`include \"k\"\n`include \"i\"\n") == RDLPP_WHOLE, "the main text");
+    check(give_once(&handle, "m", "other") == RDLPP_WHOLE, "a path of which something is known");
+    outcome = read_some(&handle);
+    check(wants(&outcome, "i", 0) && give_once(&handle, "i", guarded) == RDLPP_WHOLE, "a guarded source");
+    outcome = read_some(&handle);
+    check(wants(&outcome, "j", 2) && give_once(&handle, "j", "`include \"i\"\n") == RDLPP_WHOLE, "one that includes it");
+    outcome = read_some(&handle);
+    check(wants(&outcome, "i", 0) && give_once(&handle, "i", guarded) == RDLPP_WHOLE, "it is asked for while it is open");
+    outcome = read_some(&handle);
+    check(wants(&outcome, "k", 9) && give_absent(&handle, "k") == RDLPP_WHOLE, "one that isn't there");
+    outcome = read_some(&handle);
+    check(wants(&outcome, "inc/k", 0) && give(&handle, "inc/k", "k") == RDLPP_WHOLE, "the next candidate");
+    outcome = read_some(&handle);
+    check(outcome.status == RDLPP_WHOLE && gave(&outcome, "k\n\n\n\n"), "the text that was given last by this call stays");
+    rdlpp_close(&handle);
+
+    open_asking(&handle);
+    check(give_once(&handle, "\xff", "x") == RDLPP_BAD_TEXT, "a path that isn't UTF-8");
+    check(give_once(&handle, "m", "\xff") == RDLPP_WHOLE, "a text that isn't UTF-8");
+    outcome = read_some(&handle);
+    check(outcome.status == RDLPP_WHOLE && gave(&outcome, "\xff"), "is the output");
+    rdlpp_close(&handle);
+    check(give_once(&handle, "m", "x") == RDLPP_CLOSED, "a closed handle");
+
+    request.asks = false;
+    check(rdlpp_open(&request, name, sizeof name, word, sizeof word, &handle).status == RDLPP_WHOLE, "it opens");
+    check(give_once(&handle, "m", "x") == RDLPP_WHOLE, "a give to a handle that doesn't ask");
+    outcome = read_some(&handle);
+    check(outcome.status == RDLPP_STOPPED && outcome.number == RDLPP_FAULT_SOURCE_NOT_FOUND, "changes nothing");
+    rdlpp_close(&handle);
+}
+
+/* Any byte of a text that changes is seen, and so is any length. */
+static void sees_each_change(size_t length)
+{
+    char *text = malloc(length + 1);
+    size_t at;
+    memset(text, 'a', length + 1);
+    for (at = 0; at <= length; at += 1) {
+        rdlpp_handle handle = RDLPP_CLOSED_HANDLE;
+        open_asking(&handle);
+        check(rdlpp_give_once(&handle, "i", 1, text, length) == RDLPP_WHOLE, "a text");
+        check(give_once(&handle, "j", "") == RDLPP_WHOLE, "another source");
+        check(rdlpp_give_once(&handle, "i", 1, text, length) == RDLPP_WHOLE, "the same text");
+        check(give_once(&handle, "j", "") == RDLPP_WHOLE, "the other source again");
+        text[at] = 'b';
+        check(rdlpp_give_once(&handle, "i", 1, text, at < length ? length : length + 1) == RDLPP_CHANGED, "a change");
+        text[at] = 'a';
+        rdlpp_close(&handle);
+    }
+    free(text);
+}
+
 /* A buffer of length 0 is full at once, also where a source is asked for. */
 static void asks_with_short_buffers(void)
 {
@@ -311,6 +423,12 @@ int main(int count, char **words)
     takes_the_first_of_a_path();
     refuses_what_is_given();
     changes_nothing_that_is_told();
+    asks_again();
+    refuses_another_text("a text of same length");
+    refuses_another_text("a text of some length, and more");
+    refuses_another_text("");
+    gives_once_what_is_known();
+    sees_each_change(is_short ? 9 : 67);
     asks_with_short_buffers();
     asks_many_times(is_short ? 100 : 10000);
     comes_back_from_nothing(is_short ? 2 : 200);

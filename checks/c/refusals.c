@@ -98,8 +98,11 @@ static rdlpp_outcome open_twice(char *out, size_t room)
     return outcome;
 }
 
-/* Opens an output whose sources are asked for, gives each, reads to the end and closes. */
-static rdlpp_outcome pull_all(char *out, size_t room)
+/* A call that gives a text. */
+typedef uint32_t give(rdlpp_handle *, const char *, size_t, const char *, size_t);
+
+/* Opens an output whose sources are asked for, gives each by a call, reads to the end and closes. */
+static rdlpp_outcome pull_by(give *given, char *out, size_t room)
 {
     rdlpp_request request = asked();
     rdlpp_handle handle = RDLPP_CLOSED_HANDLE;
@@ -118,11 +121,61 @@ static rdlpp_outcome pull_all(char *out, size_t room)
         if (outcome.status != RDLPP_WANTED) {
             break;
         }
-        outcome.status = rdlpp_give(&handle, name, outcome.name_length, "reg[`W];\n", 9);
+        outcome.status = given(&handle, name, outcome.name_length, "reg[`W];\n", 9);
         outcome.length = 0;
     }
     rdlpp_close(&handle);
     return outcome;
+}
+
+static rdlpp_outcome pull_all(char *out, size_t room)
+{
+    return pull_by(rdlpp_give, out, room);
+}
+
+static rdlpp_outcome pull_once(char *out, size_t room)
+{
+    return pull_by(rdlpp_give_once, out, room);
+}
+
+/* Gives two texts once each, and the second again until it is taken: a refusal leaves its path as it was, and keeps nothing. */
+static long give_again(void)
+{
+    long refused = 0;
+    for (;;) {
+        const rdlpp_request request = asked();
+        rdlpp_request asking = request;
+        rdlpp_handle handle = RDLPP_CLOSED_HANDLE;
+        char none[1] = {'#'};
+        uint32_t first, again, other;
+        long held;
+        asking.asks = true;
+        if (rdlpp_open(&asking, none, 0, none, 0, &handle).status != RDLPP_WHOLE
+            || rdlpp_give_once(&handle, "a", 1, "first", 5) != RDLPP_WHOLE) {
+            return -1;
+        }
+        held = blocks;
+        granted = refused;
+        first = rdlpp_give_once(&handle, "b", 1, "second", 6);
+        granted = -1;
+        if (first == RDLPP_WHOLE) {
+            rdlpp_close(&handle);
+            return blocks == 0 ? refused : -1;
+        }
+        /* what was given first went with the call, whose own blocks went too */
+        if (first != RDLPP_NO_MEMORY || blocks >= held) {
+            fprintf(stderr, "refusals.c: status %u, and %ld blocks of %ld\n", first, blocks, held);
+            return -1;
+        }
+        again = rdlpp_give_once(&handle, "b", 1, "another", 7);
+        other = rdlpp_give_once(&handle, "a", 1, "other", 5);
+        rdlpp_close(&handle);
+        if (again != RDLPP_WHOLE || other != RDLPP_CHANGED || blocks != 0) {
+            fprintf(stderr, "refusals.c: %u and %u behind refused allocation %ld\n", again, other, refused);
+            return -1;
+        }
+        refused += 1;
+    }
 }
 
 /* Refuses each allocation of one way in turn, and answers how many there were; -1 where something was wrong. */
@@ -154,6 +207,6 @@ static long refuse_each(rdlpp_outcome (*way)(char *, size_t))
 int main(void)
 {
     return refuse_each(call) > 8 && refuse_each(read_all) > 8 && refuse_each(pull_all) > 8
-            && refuse_each(open_twice) > 16
+            && refuse_each(pull_once) > 8 && refuse_each(open_twice) > 16 && give_again() > 4
         ? EXIT_SUCCESS : EXIT_FAILURE;
 }

@@ -143,6 +143,36 @@ void goes_on_behind_an_exception()
     check(thrown == 2 && out == "a\nb\n\nc\n" && !stream.stopped(), "the output behind two exceptions");
 }
 
+// A reader that is asked again where a source is included again: the same text, and then another one.
+void asks_again()
+{
+    std::vector<std::string> paths;
+    std::string included = "i\n";
+    rdlpp::request request;
+    request.texts = {{"m", "`include \"i\"\n`include \"j\"\n`include \"i\"\n"}};
+    request.path = "m";
+    request.reads_again = true;
+    request.read = [&](std::string_view path) -> std::optional<std::string> {
+        paths.emplace_back(path);
+        return path == "i" ? included : "j\n";
+    };
+    const rdlpp::result whole = rdlpp::run(request);
+    check(whole.text == "i\n\nj\n\ni\n\n" && !whole.stopped, "the same text");
+    check(paths == std::vector<std::string>{"i", "j", "i"}, "each include asks");
+    request.reads_again = false;
+    paths.clear();
+    check(rdlpp::run(request).text == whole.text && paths == std::vector<std::string>{"i", "j"}, "each path is asked for once");
+
+    request.reads_again = true;
+    request.read = [&](std::string_view path) -> std::optional<std::string> {
+        return path == "i" ? std::exchange(included, "x\n") : "j\n";
+    };
+    const rdlpp::result made = rdlpp::run(request);
+    check(made.text == "i\n\nj\n\n" && made.stopped && made.stopped->kind == RDLPP_FAULT_READ_FAILED, "another text");
+    check(made.stopped && made.stopped->message() == "m:3: error F32: read failed", "the line of its fault");
+    check(made.stopped && made.stopped->notes == "rdlpp: note: i: its text has changed since it was read first\n", "its note");
+}
+
 void moves_streams()
 {
     static_assert(!std::is_copy_constructible_v<rdlpp::stream> && !std::is_copy_assignable_v<rdlpp::stream>);
@@ -255,6 +285,7 @@ int main()
     refuses_what_is_asked();
     asks_for_sources();
     goes_on_behind_an_exception();
+    asks_again();
     moves_streams();
     moves_a_stream_that_asks();
     reads_files();

@@ -2,20 +2,20 @@
 
 Each is a callable from a path to its text, or to None where nothing is there. It raises `Unreadable` where
 something is there that can't be read; any other exception ends the run and comes out of it.
+
+A text that can be had again isn't kept while nobody reads it: where its path is included again it is asked for again.
 """
 
 import ctypes
 import errno
 import os
 import stat
-from typing import Any, Callable, List, Mapping, Optional, Union
+from typing import Any, Callable, List, Mapping, Optional, Protocol, Union
 
 from ._written import Part, Written, roomy
 
 # What a mapping and a callable may give as a text.
 Bytes = Union[bytes, bytearray, memoryview]
-# What tells a source: what it reads itself stands in the room that it is lent, behind what was written.
-Asked = Callable[[str, Written], Union[Bytes, Part, None]]
 
 NUL_IN_NAME = "file name contained an unexpected NUL byte"
 # How much is read at once: a signal is seen between two such parts.
@@ -30,8 +30,21 @@ _last.restype = ctypes.c_void_p
 _last.argtypes = [ctypes.c_void_p, ctypes.c_int, ctypes.c_size_t]
 
 
+class Asked(Protocol):
+    """What tells a source.
+
+    Attributes:
+        stays: whether the text that it told last is kept, so that its path isn't asked for again.
+    """
+
+    stays: bool
+
+    def __call__(self, path: str, written: Written) -> Union[Bytes, Part, None]:
+        """The text at a path. What it reads itself stands in the room that it is lent, behind what was written."""
+
+
 class Unreadable(Exception):
-    """A file can't be opened, or can't be read.
+    """A file can't be opened, or can't be read, or what it has isn't what it had.
 
     Attributes:
         error: what was raised.
@@ -56,9 +69,12 @@ class Disk:
     devices without an end are read to one.
 
     An error without a number isn't the system's: a signal's handler raised it, and it comes out.
+
+    The text of a pipe or a device stays, since it can't be read again.
     """
 
     def __init__(self, source_bytes: int, line_bytes: int) -> None:
+        self.stays = False
         # With so many bytes one line is whole that passes `source_bytes`, or one has more than `line_bytes`.
         self._most = source_bytes + line_bytes + 1
         self._line = line_bytes
@@ -88,7 +104,9 @@ class Disk:
     def _text(self, file: int, written: Written) -> Union[bytes, Part]:
         """What a run can use of an open file, which may grow meanwhile."""
         told = os.fstat(file)
-        if stat.S_ISREG(told.st_mode) and told.st_size < LARGE:
+        is_regular = stat.S_ISREG(told.st_mode)
+        self.stays = not is_regular
+        if is_regular and told.st_size < LARGE:
             return self._small_text(file, told.st_size)
         return self._large_text(file, told.st_size, written)
 
@@ -132,25 +150,27 @@ def entries(files: Mapping[Any, Bytes], objects: Mapping[str, Any]) -> Asked:
         text = files.get(path)
         return files.get(objects[path]) if text is None and path in objects else text
 
-    return _checked(entry, "files[{!r}]", "be bytes")
+    return Checked(entry, "files[{!r}]", "be bytes", stays=True)
 
 
 def given(read: Callable[[str], Optional[Bytes]]) -> Asked:
     """What a callable gives."""
-    return _checked(read, "read({!r})", "give bytes, or None where nothing is there")
+    return Checked(read, "read({!r})", "give bytes, or None where nothing is there", stays=False)
 
 
-def _checked(text_at: Callable[[str], Any], name: str, wanted: str) -> Asked:
+class Checked:
     """What a user's object tells of a path, if it is a text or None. What it raises comes out, but for what would end a
     loop over a stream as if the output were whole: that becomes a RuntimeError, as where a generator raises it."""
 
-    def asked(path: str, _written: Written) -> Optional[Bytes]:
+    def __init__(self, text_at: Callable[[str], Any], name: str, wanted: str, *, stays: bool):
+        self.stays = stays
+        self._text_at, self._name, self._wanted = text_at, name, wanted
+
+    def __call__(self, path: str, _written: Written) -> Optional[Bytes]:
         try:
-            text = text_at(path)
+            text = self._text_at(path)
         except (StopIteration, StopAsyncIteration) as error:
-            raise RuntimeError(f"{name.format(path)} raised {type(error).__name__}") from error
+            raise RuntimeError(f"{self._name.format(path)} raised {type(error).__name__}") from error
         if text is None or isinstance(text, (bytes, bytearray, memoryview)):
             return text
-        raise TypeError(f"{name.format(path)} must {wanted}, not {type(text).__name__}")
-
-    return asked
+        raise TypeError(f"{self._name.format(path)} must {self._wanted}, not {type(text).__name__}")

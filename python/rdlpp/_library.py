@@ -8,7 +8,7 @@ from ._asked import Bytes
 from ._limits import Limits
 from ._written import Part, Written
 
-WHOLE, STOPPED, BAD_LIMIT, BAD_TEXT, NO_MEMORY, MORE, CLOSED, WANTED, SHORT_MAP = range(9)
+WHOLE, STOPPED, BAD_LIMIT, BAD_TEXT, NO_MEMORY, MORE, CLOSED, WANTED, SHORT_MAP, CHANGED = range(10)
 NAME_ROOM = 1024
 WORD_ROOM = 128
 TEXT_ROOM = 64
@@ -104,6 +104,7 @@ open_handle = _declared("rdlpp_open", Outcome, ctypes.POINTER(Request), *_buffer
 read_handle = _declared("rdlpp_read", Outcome, _handle, *_buffer, *_buffer, *_buffer)
 read_mapped = _declared("rdlpp_read_mapped", Mapped, _handle, *_buffer, *_buffer, *_buffer, *_buffer)
 give = _declared("rdlpp_give", ctypes.c_uint32, _handle, *_text, *_text)
+give_once = _declared("rdlpp_give_once", ctypes.c_uint32, _handle, *_text, *_text)
 give_absent = _declared("rdlpp_give_absent", ctypes.c_uint32, _handle, *_text)
 give_failed = _declared("rdlpp_give_failed", ctypes.c_uint32, _handle, *_text)
 position = _declared("rdlpp_position", Outcome, _handle, *_buffer)

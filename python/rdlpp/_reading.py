@@ -1,7 +1,7 @@
 """An output that is read from the library, which asks for the sources that it needs."""
 
 import ctypes
-from typing import Any, List, Optional, Sequence, Tuple
+from typing import Any, Dict, List, Optional, Sequence, Tuple
 
 from . import _library as library
 from ._asked import Unreadable
@@ -13,6 +13,7 @@ from ._written import Written
 
 # What a note begins with where it is written.
 NOTE = "rdlpp: note: "
+CHANGED = "its text has changed since it was read first"
 
 
 class Reading:
@@ -21,8 +22,8 @@ class Reading:
     Attributes:
         has_ended: whether all of the output was read.
         fault: the fault that ended it, once it was read up to there.
-        sources: the path of each source that was opened, in order, once.
-        text_bytes: how many bytes the sources have that were given.
+        sources: the path of each source that was opened, in order, once, as the keys.
+        text_bytes: how many bytes the texts have that were given.
         runs: the lines of the line map for what `read_mapped` wrote.
     """
 
@@ -31,10 +32,10 @@ class Reading:
         self._at = ctypes.byref(self._handle)
         self.has_ended = False
         self.fault: Optional[Fault] = None
-        self.sources: List[str] = []
+        self.sources: Dict[str, None] = {}
         self.text_bytes = sum(len(text) for _, text in request.texts)
         self.runs: List[bytes] = []
-        self._asked = request.asked
+        self._asked, self._main = request.asked, request.path
         self._limits = request.limits
         self._unreadable: Optional[Tuple[str, Unreadable]] = None
         self._buffers = (ctypes.c_char * (library.NAME_ROOM + library.WORD_ROOM))()
@@ -130,14 +131,20 @@ class Reading:
         except Unreadable as unreadable:
             self._unreadable = shown, unreadable
             if unreadable.is_open:
-                self.sources.append(shown)
+                self.sources[shown] = None
             return _raise_refusal(library.give_failed(self._at, path, len(path)))
         if text is None:
             return _raise_refusal(library.give_absent(self._at, path, len(path)))
-        self.sources.append(shown)
+        self.sources[shown] = None
         place, length = library.lent(text)
         self.text_bytes += length
-        return _raise_refusal(library.give(self._at, path, len(path), place, length))
+        # the main text is open up to the end
+        give = library.give if self._asked.stays or path == self._main else library.give_once
+        status = give(self._at, path, len(path), place, length)
+        if status != library.CHANGED:
+            return _raise_refusal(status)
+        self._unreadable = shown, Unreadable(ValueError(CHANGED), False)
+        return None
 
     def _shown_name(self, outcome: library.Outcome) -> str:
         return ctypes.string_at(self._name, outcome.name_length).decode()

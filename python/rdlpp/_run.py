@@ -55,7 +55,11 @@ def preprocess(
         >>> rdlpp.preprocess("m", ["inc"], {"W": "8"}, files={"m": b'`include "w"', "inc/w": b"reg[`W];"})
         b'reg[8];\\n'
 
-    A source is asked for when the run needs it, once: what is skipped or stands in a comment includes nothing.
+    A source is asked for when the run needs it: what is skipped or stands in a comment includes nothing. An included text
+    is held while it is read, and until the next one comes. Where its path is included again it is read again; if another text
+    stands there then, the output ends by the fault READ_FAILED, with a note that says so. That is found by the length
+    and a digest of 64 bits, which is no protection against someone who makes two texts of one digest. The texts of
+    `files`, and those of pipes and devices, are asked for once, and held.
 
     Args:
         source: bytes are the text itself, whose shown name is `-`; anything else is its path.
@@ -64,8 +68,8 @@ def preprocess(
         limits: how much of each thing the run may use; the standard limits where it is None.
         origins: whether lines `// origin: NAME:LINE` are written.
         files: the sources by their paths, which are texts or path objects.
-        read: gives the source of a path, or None where nothing is there. What it raises comes out of the call, but for
-            StopIteration, of which a RuntimeError is made, as of one in a generator.
+        read: gives the source of a path, or None where nothing is there; of one path always the same. What it raises
+            comes out of the call, but for StopIteration, of which a RuntimeError is made, as of one in a generator.
             Where neither `files` nor `read` is given, the sources are files.
 
     Raises:

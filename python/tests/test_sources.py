@@ -37,7 +37,7 @@ class Callables(Sources):
         main = b'`include "i"\n`include "/r"\n`include "j"\n`include "i"\n'
         read = Asked({"a/m": main, "a/i": b"i", "/r": b"r", "more/j": b"j"})
         output = rdlpp.run("a/m", include_dirs=["inc", "more/", ""], read=read)
-        self.assertEqual(read.paths, ["a/m", "a/i", "/r", "a/j", "inc/j", "more/j"])
+        self.assertEqual(read.paths, ["a/m", "a/i", "/r", "a/j", "inc/j", "more/j", "a/i"])
         self.assertEqual(output.sources, ("a/m", "a/i", "/r", "more/j"))
 
     def test_what_is_skipped_is_not_asked_for(self):
@@ -94,6 +94,53 @@ class Callables(Sources):
         self.assertEqual(length, 13_000_003)
         self.assertLess(held[1] - held[0], 1_000_000)
 
+    def test_a_text_goes_when_it_was_read(self):
+        held = []
+
+        def read(path):
+            with open("/proc/self/statm") as sizes:
+                held.append(int(sizes.read().split()[1]) * os.sysconf("SC_PAGE_SIZE"))
+            if path == "m":
+                return b"".join(b'`include "i%d"\n' % number for number in range(100)) + b'`include "i0"\n'
+            return path.encode() + b"\n" + b"reg a @ 0x0;\n" * 40_000
+
+        with rdlpp.stream("m", read=read) as pieces:
+            self.assertEqual(sum(len(piece) for piece in pieces), 101 * 520_002 + 11 * 2 + 90 * 3)
+            self.assertEqual(len(pieces.sources), 101)
+        self.assertEqual(len(held), 102)
+        self.assertLess(max(held) - held[3], 5_000_000)
+
+    def test_a_text_that_is_included_again(self):
+        files = {"m": b'`include "i"\n`include "i"\n`include "j"\n`include "i"\n`include "m"\n', "i": b"i\n", "j": b"j\n"}
+        read = Asked({**files, "m": b"`ifndef G\n`define G\n" + files["m"] + b"`endif\n"})
+        output = rdlpp.run("m", read=read)
+        self.assertEqual(output.text.replace(b"\n", b""), b"iiji")
+        # of the text that came last, and of the main one, nothing is asked again
+        self.assertEqual((read.paths, output.sources), (["m", "i", "j", "i"], ("m", "i", "j")))
+
+    def test_a_text_that_is_included_while_it_is_open(self):
+        guarded = b'`ifndef G\n`define G\n`include "j"\n`endif\ni\n'
+        read = Asked({"m": b'`include "i"\n', "i": guarded, "j": b'`include "i"\n'})
+        self.assertEqual(rdlpp.preprocess("m", read=read).replace(b"\n", b""), b"ii")
+        self.assertEqual(read.paths, ["m", "i", "j", "i"])
+
+    def test_another_text_at_a_later_include(self):
+        main = b'`include "i"\n`include "j"\nx\n`include "i"\ny\n'
+        for first, other in ((b"1\n", b"2\n"), (b"", b"\n"), (b"x" * 99 + b"\n", b"x" * 98 + b"\n")):
+            for call in (rdlpp.preprocess, rdlpp.run, lambda path, read: b"".join(rdlpp.stream(path, read=read))):
+                texts = [other, first]
+                with self.assertRaises(rdlpp.Fault) as caught:
+                    call("m", read=lambda path: main if path == "m" else texts.pop() if path == "i" else b"")
+                self.assertEqual(str(caught.exception), "m:4: error F32: read failed")
+                self.assertEqual(caught.exception.notes[0], "i: its text has changed since it was read first")
+                self.assertEqual(texts, [])
+
+    def test_a_text_that_is_gone_at_a_later_include(self):
+        texts = [None, b"1\n"]
+        main = b'`include "i"\n`include "j"\n`include "i"\n'
+        fault = self.fault("m", read=lambda path: main if path == "m" else texts.pop() if path == "i" else b"")
+        self.assertEqual(str(fault), "m:3: error F28: source not found")
+
     def test_no_source(self):
         fault = self.fault("m", read=lambda path: None)
         self.assertEqual(str(fault), "m:0: error F28: source not found")
@@ -129,6 +176,17 @@ class Mappings(Sources):
 
         with rdlpp.stream("m", files=Files()) as pieces, self.assertRaisesRegex(RuntimeError, r"files\['m'\] raised Stop"):
             list(pieces)
+
+    def test_an_entry_is_asked_for_once(self):
+        asked = []
+
+        class Files(dict):
+            def get(self, path):
+                asked.append(path)
+                return super().get(path)
+
+        files = Files({"m": b'`include "i"\n`include "j"\n`include "i"\n', "i": b"i", "j": b"j"})
+        self.assertEqual((rdlpp.preprocess("m", files=files), asked), (b"i\nj\ni\n", ["m", "i", "j"]))
 
     def test_included_entries(self):
         files = {"a/m": b'`include "i"\n', "a/i": b'`include "j"\n', "inc/j": b"q\n"}
@@ -247,6 +305,33 @@ class Files(Sources):
         writer.start()
         self.assertEqual(rdlpp.preprocess("m"), b"q\n" * 100_000 + b"\n")
         writer.join()
+
+    def test_a_pipe_that_is_included_again(self):
+        self.write("m", b'`include "pipe"\n`include "i"\n`include "pipe"\n')
+        self.write("i", b"i\n")
+        os.mkfifo("pipe")
+        writer = threading.Thread(target=lambda: pathlib.Path("pipe").write_bytes(b"q\n"))
+        writer.start()
+        self.assertEqual(rdlpp.preprocess("m"), b"q\n\ni\n\nq\n\n")
+        writer.join()
+
+    def test_a_file_that_changes(self):
+        main = b'`include "i"\n`include "j"\n' + b"x\n" * 100_000 + b'`include "i"\n'
+        for first, other in ((b"1\n", b"2\n"), (b"1\n" * 1_000_000, b"1\n" * 999_999 + b"2\n")):
+            self.write("m", main)
+            self.write("i", first)
+            self.write("j", b"j\n")
+            with rdlpp.stream("m", limits=rdlpp.Limits(), room=65_536) as pieces:
+                got = [next(pieces)]
+                while b"j" not in got[-1]:
+                    got.append(next(pieces))
+                self.write("i", other)
+                with self.assertRaises(rdlpp.Fault) as caught:
+                    got.extend(pieces)
+            self.assertEqual(b"".join(got), first + b"\nj\n\n" + b"x\n" * 100_000)
+            self.assertEqual(str(caught.exception), "m:100003: error F32: read failed")
+            self.assertEqual(caught.exception.notes, ("i: its text has changed since it was read first",))
+            self.assertEqual(pieces.sources, ("m", "i", "j"))
 
     def test_a_pipe_that_is_not_asked_for(self):
         os.mkfifo("pipe")

@@ -4,5 +4,6 @@ pub mod Values
 pub mod FaultTexts
 pub mod Texts
 pub mod Handles
+pub mod Onces
 pub mod Quiet
 pub mod MappedReads

@@ -1,9 +1,14 @@
 -- What a caller tells of the sources that were asked for.
 -- A definition that names no source is this project's own.
-use Rattle.std.specs.Prelude.{◌≡◌, ℕ, ◌⊎◌, List, IsUtf8, Option, None, Some, Result, Ok, Err}
+use Rattle.std.specs.Prelude.{◌≡◌, ℕ, ◌⊎◌, Bool, List, IsUtf8, Option, None, Some, Result, Ok, Err}
+use Rattle.std.specs.declared.alloc.AllocError.{AllocError}
 use Rattle.rdlpp_source.specs.Asked.{Adds, Stays, standing_text}
 use Rattle.rdlpp_source.specs.declared.asked.AskedTexts.{AskedTexts}
 use Rattle.rdlpp_source.specs.declared.asked.Standing.{Standing}
+use Rattle.rdlpp_c.specs.Once.{GivenOnce, Stands, freed_at}
+use Rattle.rdlpp_c.specs.declared.once.Given.{Given}
+use Rattle.rdlpp_c.specs.declared.once.Given.TheVariants.{Known, Taken, Other}
+use Rattle.rdlpp_c.specs.declared.once.Once.{Once}
 use Rattle.rdlpp_c.specs.declared.stream.Stream.{Stream}
 use Rattle.rdlpp_c.specs.declared.asking.Refusal.{Refusal}
 use Rattle.rdlpp_c.specs.declared.asking.Refusal.TheVariants.{BadText, NoMemory}
@@ -41,6 +46,30 @@ pub record GivesStanding (path : List ℕ) (standing : Standing) (before after :
 abbrev pub GivesText : List ℕ → List ℕ → Stream → Stream → ℕ → Type 0
 GivesText path text before after status =
     ((standing : Standing) × (standing_text (Some standing) ≡ Some text) × GivesStanding path standing before after status) ⊎ ((after ≡ before) × (status ≡ 4))
+
+-- the status that tells what came of a text that is forgotten when the next one is given: 0 where it was taken, or something is known of its path; 9 where it is another one than before; 4 for want of memory
+abbrev pub once_status : Result Given AllocError → ℕ
+once_status (Ok Known) = 0
+once_status (Ok Taken) = 0
+once_status (Ok Other) = 9
+once_status (Err e) = 4
+
+-- what such a give comes to, by what was known of each path once the text that was given last is forgotten; where memory was refused that one is forgotten alone
+abbrev pub ComesOnce : (List ℕ → Option Standing) → Bool → List ℕ → List ℕ → Once → AskedTexts → Once → Result Given AllocError → Type 0
+ComesOnce at asks path text before new after (Ok given) = GivenOnce at asks path text before new after given
+ComesOnce at asks path text before new after (Err e) = Stands at before new after
+
+-- such a give to an open stream, and the status that tells it; nothing else of it changes
+pub record TellsOnce (path text : List ℕ) (before after : Stream) (status : ℕ) : Type 0 where
+  pub answer : Result Given AllocError
+  pub comes : ComesOnce (freed_at before.once before.reading.engine.sources) before.reading.engine.sources.asks path text before.once after.reading.engine.sources after.once answer
+  pub known : after.reading.engine.sources ≡ record before.reading.engine.sources { known = after.reading.engine.sources.known }
+  pub is : status ≡ once_status answer
+  pub only : after ≡ record before { reading = record before.reading { engine = record before.reading.engine { sources = after.reading.engine.sources } }; once = after.once }
+
+-- the same by bytes as the path: where they aren't UTF-8 nothing changes
+abbrev pub GivesOnce : List ℕ → List ℕ → Stream → Stream → ℕ → Type 0
+GivesOnce path text before after status = TellsOnce path text before after status ⊎ ((after ≡ before) × (status ≡ 3) × ¬ (IsUtf8 path))
 
 -- a give by a handle: of a closed one it only tells so, by status 6; else it is one of the stream
 abbrev pub Gives : (Stream → Stream → ℕ → Type 0) → Option Stream → Option Stream → ℕ → Type 0

@@ -6,6 +6,8 @@ pub mod Telling
 pub mod Faults
 pub mod Kept
 pub mod Knowing
+pub mod Digest
+pub mod Once
 pub mod Streaming
 pub mod Giving
 pub mod Placing

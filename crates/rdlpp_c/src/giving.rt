@@ -1,17 +1,18 @@
 // The calls by which a program in C tells what it was asked for.
 ghost use Rattle.std.specs.Prelude.{◌≡◌, IsUtf8, MatchResult};
 ghost use Rattle.std.specs.String.{string_bytes};
-ghost use Rattle.rdlpp_c.specs.Giving.{Gives, GivesStanding, GivesText, TellsPath, given_status};
+ghost use Rattle.rdlpp_c.specs.Giving.{Gives, GivesOnce, GivesStanding, GivesText, TellsOnce, TellsPath, given_status, once_status};
 ghost use Rattle.rdlpp_source.specs.declared.asked.Standing.TheVariants.{Absent as Gone, Failed};
 ghost use Rattle.rdlpp_c.specs.declared.asking.Refusal.TheVariants.{BadText};
 
 use crate::asking::{Refusal, text_of};
 use crate::handle::{Handle, put, take};
 use crate::knowing::shared_text;
+use crate::once::Given;
 use crate::stream::Stream;
-use crate::telling::{BAD_TEXT, CLOSED, NO_MEMORY, WHOLE};
+use crate::telling::{BAD_TEXT, CHANGED, CLOSED, NO_MEMORY, WHOLE};
 use rdlpp_source::{AskedTexts, Standing};
-use std::alloc::Global;
+use std::alloc::{AllocError, Global};
 
 /// Tells an open output the text of the source at `path`, which is copied. The first that is told of a
 /// path counts; of an output that doesn't ask all is told from the start.
@@ -26,6 +27,30 @@ pub extern "C" fn rdlpp_give(alloc: Global, handle: &mut Handle, path: &[u8], te
         return CLOSED;
     };
     let status = give_text(alloc, &mut stream, path, text);
+    put(handle, stream);
+    status
+}
+
+/// Tells an open output the text of the source at `path`, as `rdlpp_give` does, but forgets it when the next text is
+/// given by this call: from then on only those who read it hold it, and the next search for it asks again. Its path
+/// stays with the text's length and a digest. Another text that is given of the path later is refused: the path is
+/// told as by `rdlpp_give_failed`, and a search ends there by the fault of a device.
+///
+/// The answer is 9 where the text is refused, and else as of `rdlpp_give`; by 4 also the text that was given last by this
+/// call is forgotten.
+#[unsafe(no_mangle)]
+pub extern "C" fn rdlpp_give_once(
+    alloc: Global,
+    handle: &mut Handle,
+    path: &[u8],
+    text: &[u8],
+) -> u32
+    ensures { Gives (GivesOnce path.now text.now) handle.old.slot.value handle.new.slot.value result }
+{
+    let Some(mut stream) = take(alloc, handle) else {
+        return CLOSED;
+    };
+    let status = give_once(alloc, &mut stream, path, text);
     put(handle, stream);
     status
 }
@@ -63,6 +88,38 @@ fn give_text(alloc: Global, stream: &mut Stream, path: &[u8], text: &[u8]) -> u3
 {
     match shared_text(alloc, text) {
         Ok(shared) => give(alloc, stream, path, Standing::Text(shared)),
+        Err(_) => NO_MEMORY,
+    }
+}
+
+// Tells an output the text of a source that is forgotten when the next one is told so, and answers the status.
+fn give_once(alloc: Global, stream: &mut Stream, path: &[u8], text: &[u8]) -> u32
+    ensures { GivesOnce path.now text.now stream.old stream.new result }
+{
+    match text_of(path) {
+        Ok(path) => tell_once(alloc, stream, path, text),
+        Err(_) => BAD_TEXT,
+    }
+}
+
+// The same of a path that is a text.
+fn tell_once(alloc: Global, stream: &mut Stream, path: &str, text: &[u8]) -> u32
+    ensures { TellsOnce path.now text.now stream.old stream.new result }
+{
+    let mut sources = stream.reading.replace_sources(AskedTexts::empty(alloc));
+    let given = stream.once.give(alloc, &mut sources, path, text);
+    let _empty = stream.reading.replace_sources(sources);
+    once_status(given)
+}
+
+// The status of a text that was given once.
+fn once_status(given: Result<Given, AllocError>) -> u32
+    ensures { result ≡ once_status given }
+{
+    match given {
+        Ok(Given::Known) => WHOLE,
+        Ok(Given::Taken) => WHOLE,
+        Ok(Given::Other) => CHANGED,
         Err(_) => NO_MEMORY,
     }
 }

@@ -4,6 +4,7 @@
 
 mod arrays;
 mod asking;
+mod digest;
 mod exports;
 mod faults;
 mod giving;
@@ -11,6 +12,7 @@ mod handle;
 mod knowing;
 mod loose;
 mod mapping;
+mod once;
 mod opening;
 mod output;
 mod placing;
@@ -22,7 +24,7 @@ mod telling;
 
 pub use arrays::{Definition, Folder, Limits, Request, Text};
 pub use exports::{rdlpp_fault_text, rdlpp_preprocess, rdlpp_standard_limits, rdlpp_version};
-pub use giving::{rdlpp_give, rdlpp_give_absent, rdlpp_give_failed};
+pub use giving::{rdlpp_give, rdlpp_give_absent, rdlpp_give_failed, rdlpp_give_once};
 pub use handle::Handle;
 pub use loose::Loose;
 pub use mapping::{Mapped, rdlpp_read_mapped};

@@ -105,7 +105,7 @@ fn stream_of(alloc: Global, owned: Owned) -> Result<Box<Stream>, Answer>
         pieces,
     } = owned;
     match open_reading(alloc, &options, sources, path.as_str()) {
-        Ok(reading) => match Box::new(alloc, Stream::of(reading, path, pieces)) {
+        Ok(reading) => match Box::new(alloc, Stream::of(alloc, reading, path, pieces)) {
             Ok(stream) => Ok(stream),
             Err(_) => Err(Answer::NoMemory),
         },

@@ -11,12 +11,14 @@ ghost use Rattle.rdlpp_c.specs.Buffers.{overwritten};
 ghost use Rattle.rdlpp_c.specs.Placing.{part_position, stream_place};
 ghost use Rattle.rdlpp_c.specs.Streaming.{IsQuiet, ReadsBytes, ReadsPiece, ReadsStream, SearchesAgain, StaysQuiet, TakesUp, TellsRead, fault_name, fault_word, read_numbers, read_wanted, stream_fault, told_numbers, wanted_by};
 
+use crate::once::Once;
 use crate::telling::{MORE, Outcome, STOPPED, WANTED, WHOLE, numbered, tell_text};
 use arrayvec::ArrayString;
 use rdlpp::{Fault, FaultKind, ReadEnd, ReadPart, Reading};
 use rdlpp_expand::{LineStep, Position, READ_ALLOWANCE};
 use rdlpp_reports::MappedLines;
 use rdlpp_source::{AskedTexts, Sources};
+use std::alloc::Global;
 
 /// An output that is read piece by piece, over texts that it owns.
 #[derive(Drop)]
@@ -24,6 +26,8 @@ pub struct Stream {
     pub(crate) reading: Reading<AskedTexts>,
     // the path of the main text
     path: String,
+    // the marks of the texts that were given once
+    pub(crate) once: Once,
     // whether a read ends with its piece
     pieces: bool,
     // what the last read gave of its piece
@@ -45,7 +49,12 @@ pub(crate) struct Part {
 
 impl Stream {
     // An output of which nothing was read.
-    pub(crate) fn of(reading: Reading<AskedTexts>, path: String, pieces: bool) -> Stream
+    pub(crate) fn of(
+        alloc: Global,
+        reading: Reading<AskedTexts>,
+        path: String,
+        pieces: bool,
+    ) -> Stream
         ensures reading { result.reading ≡ reading }
         ensures path { result.path ≡ path }
         ensures pieces { result.pieces ≡ pieces }
@@ -53,6 +62,7 @@ impl Stream {
         Stream {
             reading,
             path,
+            once: Once::empty(alloc),
             pieces,
             part: Part {
                 lines_before: 0,

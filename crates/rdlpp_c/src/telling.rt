@@ -33,6 +33,9 @@ pub(crate) const WANTED: u32 = 7;
 // The buffer for a line map is too short.
 pub(crate) const SHORT_MAP: u32 = 8;
 
+// A text that is given isn't the one that was given of its path before.
+pub(crate) const CHANGED: u32 = 9;
+
 /// How a call ended, in numbers.
 #[repr(C)]
 #[derive(Clone, Copy, Debug, PartialEq, Eq)]

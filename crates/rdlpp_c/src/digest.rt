@@ -1,0 +1,56 @@
+// The digest by which a text is told from others. It is fast, and no protection against someone who makes two texts of one digest.
+ghost use Rattle.std.specs.Prelude.{◌≡◌, ◌+◌, ◌≤◌, length};
+ghost use Rattle.rdlpp_c.specs.Digest.{digest_of, digest_of_words, mixed, word_at};
+
+// An odd number, so that no two states are mixed into one.
+const FACTOR: u64 = 0x9fb2_1c65_1e98_df25;
+
+// A number mixed into another one.
+fn mixed(state: u64, number: u64) -> u64
+    ensures { result ≡ mixed state number }
+{
+    let product = (state ^ number).wrapping_mul(FACTOR);
+    product ^ (product >> 29)
+}
+
+// The eight bytes from a place on, as a number.
+fn word_at(text: &[u8], at: usize) -> u64
+    requires { at + 8 ≤ length text.now }
+    ensures { result ≡ word_at text.now at }
+{
+    u64::from_be_bytes([
+        text[at],
+        text[at + 1],
+        text[at + 2],
+        text[at + 3],
+        text[at + 4],
+        text[at + 5],
+        text[at + 6],
+        text[at + 7],
+    ])
+}
+
+// The digest of a text's whole words.
+#[tactic(auto, unfolding(crate::specs::Digest::mixed_all))]
+fn digest_of_words(text: &[u8]) -> u64
+    ensures { result ≡ digest_of_words text.now }
+{
+    let mut state = 1;
+    for place in 0..text.len() / 8 {
+        state = mixed(state, word_at(text, 8 * place));
+    }
+    state
+}
+
+// The digest of a text.
+#[tactic(auto, unfolding(crate::specs::Digest::mixed_all))]
+pub(crate) fn digest_of(text: &[u8]) -> u64
+    ensures { result ≡ digest_of text.now }
+{
+    let mut state = digest_of_words(text);
+    let from = 8 * (text.len() / 8);
+    for place in 0..text.len() % 8 {
+        state = mixed(state, u64::from(text[from + place]));
+    }
+    state
+}
