@@ -166,7 +166,7 @@ class Checked:
         self.stays = stays
         self._text_at, self._name, self._wanted = text_at, name, wanted
 
-    def __call__(self, path: str, _written: Written) -> Optional[Bytes]:
+    def __call__(self, path: str, written: Written) -> Optional[Bytes]:
         try:
             text = self._text_at(path)
         except (StopIteration, StopAsyncIteration) as error:
