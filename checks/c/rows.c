@@ -1,5 +1,5 @@
 /* The rows of crates/rdlpp_rows/data, in one call, by reads of one and of seven bytes, and with texts that are
-   asked for; `calls` writes rows.inc. */
+   asked for, once or at each include; `calls` writes rows.inc. */
 #include "row.h"
 
 #include <stdio.h>
@@ -51,26 +51,29 @@ static const rdlpp_text *find_text(const struct row *row, const char *path, size
     return NULL;
 }
 
-/* Gives what is asked for: the row's text, or that it is absent. */
-static void give(const struct row *row, rdlpp_handle *handle, const char *path, size_t length)
+/* A call that gives a text. */
+typedef uint32_t gives(rdlpp_handle *, const char *, size_t, const char *, size_t);
+
+/* Gives what is asked for, by a call: the row's text, or that it is absent. */
+static void give(gives *by, const struct row *row, rdlpp_handle *handle, const char *path, size_t length)
 {
     const rdlpp_text *text = find_text(row, path, length);
-    const uint32_t status = text != NULL ? rdlpp_give(handle, path, length, text->text, text->text_length)
+    const uint32_t status = text != NULL ? by(handle, path, length, text->text, text->text_length)
                                          : rdlpp_give_absent(handle, path, length);
     check(status == RDLPP_WHOLE, row, "what a give answers");
 }
 
-/* Reads so many bytes at a time; where `asks`, each text is given when it is asked for. */
-static void reads(const struct row *row, char *out, size_t room, bool asks, bool pieces)
+/* Reads so many bytes at a time; where there is a call that gives texts, each is given by it when it is asked for. */
+static void reads(const struct row *row, char *out, size_t room, gives *by, bool pieces)
 {
     char name[NAME_ROOM], word[WORD_ROOM];
     rdlpp_request request = asked(row);
     rdlpp_handle handle = RDLPP_CLOSED_HANDLE;
     size_t length = 0;
     rdlpp_outcome outcome;
-    request.asks = asks;
+    request.asks = by != NULL;
     request.pieces = pieces;
-    request.texts_length = asks ? 0 : request.texts_length;
+    request.texts_length = request.asks ? 0 : request.texts_length;
     outcome = rdlpp_open(&request, name, sizeof name, word, sizeof word, &handle);
     if (outcome.status == RDLPP_WHOLE) {
         do {
@@ -79,7 +82,7 @@ static void reads(const struct row *row, char *out, size_t room, bool asks, bool
             outcome = rdlpp_read(&handle, out + length, most, name, sizeof name, word, sizeof word);
             length += outcome.length;
             if (outcome.status == RDLPP_WANTED) {
-                give(row, &handle, name, outcome.name_length);
+                give(by, row, &handle, name, outcome.name_length);
             }
         } while ((outcome.status == RDLPP_MORE || outcome.status == RDLPP_WANTED) && length <= row->output_length);
     }
@@ -98,9 +101,10 @@ int main(void)
             return 2;
         }
         calls_once(row, out);
-        reads(row, out, 1, false, false);
-        reads(row, out, 7, false, true);
-        reads(row, out, 7, true, false);
+        reads(row, out, 1, NULL, false);
+        reads(row, out, 7, NULL, true);
+        reads(row, out, 7, rdlpp_give, false);
+        reads(row, out, 7, rdlpp_give_once, false);
         free(out);
     }
     return failures == 0 ? 0 : 1;
