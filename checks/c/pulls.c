@@ -264,11 +264,11 @@ static void gives_once_what_is_known(void)
     outcome = read_some(&handle);
     check(wants(&outcome, "i", 0) && give_once(&handle, "i", guarded) == RDLPP_WHOLE, "it is asked for while it is open");
     outcome = read_some(&handle);
-    check(wants(&outcome, "k", 9) && give_absent(&handle, "k") == RDLPP_WHOLE, "one that isn't there");
+    check(wants(&outcome, "k", 8) && give_absent(&handle, "k") == RDLPP_WHOLE, "one that isn't there");
     outcome = read_some(&handle);
     check(wants(&outcome, "inc/k", 0) && give(&handle, "inc/k", "k") == RDLPP_WHOLE, "the next candidate");
     outcome = read_some(&handle);
-    check(outcome.status == RDLPP_WHOLE && gave(&outcome, "k\n\n\n\n"), "the text that was given last by this call stays");
+    check(outcome.status == RDLPP_WHOLE && gave(&outcome, "k\n\n\n\n\n\n\n"), "the text that was given last by this call stays");
     rdlpp_close(&handle);
 
     open_asking(&handle);

@@ -186,7 +186,7 @@ class Mappings(Sources):
                 return super().get(path)
 
         files = Files({"m": b'`include "i"\n`include "j"\n`include "i"\n', "i": b"i", "j": b"j"})
-        self.assertEqual((rdlpp.preprocess("m", files=files), asked), (b"i\nj\ni\n", ["m", "i", "j"]))
+        self.assertEqual((rdlpp.preprocess("m", files=files), asked), (b"i\n\nj\n\ni\n\n", ["m", "i", "j"]))
 
     def test_included_entries(self):
         files = {"a/m": b'`include "i"\n', "a/i": b'`include "j"\n', "inc/j": b"q\n"}
