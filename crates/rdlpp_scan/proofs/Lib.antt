@@ -1,3 +1,4 @@
+pub mod Classes
 pub mod Searches
 pub mod PlainBlocks
 pub mod TokenLens

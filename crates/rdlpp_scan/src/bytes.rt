@@ -15,6 +15,23 @@ ghost use Rattle.rdlpp_scan.specs.Bytes.{
   takes_word,
 };
 
+// A class of bytes: those of names and numbers.
+const WORD: u8 = 1;
+
+// Another one: those that are blanks or tokens by themselves.
+const QUIET: u8 = 2;
+
+// Of each byte a digit, whose low two bits are its classes: most bytes of a text are asked for one of them.
+static CLASSES: [u8; 256] = *b"\
+    22222222222222222222222222222222\
+    22022220222222201111111111220222\
+    21111111111111111111111111120221\
+    01111111111111111111111111122222\
+    22222222222222222222222222222222\
+    22222222222222222222222222222222\
+    22222222222222222222222222222222\
+    22222222222222222222222222222222";
+
 /// The byte at a place, or 0 past the end.
 pub fn byte_at(bytes: &[u8], at: usize) -> u8
     ensures value { result ≡ slice_index bytes.now at }
@@ -61,17 +78,10 @@ pub fn quiet_bytes(bytes: &[u8]) -> usize
     bytes.iter().take_while(|b| is_quiet(**b)).count()
 }
 
-#[tactic(auto, unfolding(crate::specs::Bytes::is_quiet))]
 fn is_quiet(b: u8) -> bool
     ensures { result ≡ is_quiet b }
 {
-    !is_letter(b)
-        && !is_digit(b)
-        && !takes_word(b)
-        && b != b'`'
-        && b != b'"'
-        && b != b'/'
-        && b != b'<'
+    CLASSES[b as usize] & QUIET != 0
 }
 
 #[tactic(auto, unfolding(crate::specs::Bytes::is_digit))]
@@ -81,11 +91,10 @@ pub(crate) fn is_digit(b: u8) -> bool
     b'0' <= b && b <= b'9'
 }
 
-#[tactic(auto, unfolding(crate::specs::Bytes::is_word))]
 pub(crate) fn is_word(b: u8) -> bool
     ensures { result ≡ is_word b }
 {
-    is_letter(b) || is_digit(b)
+    CLASSES[b as usize] & WORD != 0
 }
 
 #[tactic(auto, unfolding(crate::specs::Bytes::is_opener))]
