@@ -1,12 +1,12 @@
 -- Of which shapes the names of formals are: of most words of a body it tells at once that they are no formals.
 -- A definition that names no source is this project's own.
-use Rattle.std.specs.Prelude.{◌≡◌, ◌+◌, ◌*◌, ◌%◌, ℕ, Bool, true, List, [], ◌∷◌, is_some, length, slice_index, slice_index_or, slice_set}
+use Rattle.std.specs.Prelude.{◌≡◌, ◌+◌, ◌-◌, ◌*◌, ◌%◌, ℕ, Bool, true, List, [], ◌∷◌, is_some, length, slice_index, slice_index_or, slice_set}
 use Rattle.rdlpp_table.specs.Table.{Formal}
 use Rattle.rdlpp_table.specs.View.{formal_named}
 
--- the shape of a name: the low bits of its first byte and of its length
+-- the shape of a name: the low bits of its first byte, and of its last byte and its length together
 unfoldable pub shape : List ℕ → ℕ
-shape name = slice_index name 0 % 32 + 32 * (length name % 8)
+shape name = slice_index name 0 % 32 + 32 * ((slice_index name (length name - 1) + length name) % 8)
 
 -- of each shape whether the name of one of these formals has it, or it is told of it before
 unfoldable pub shapes_of : List Formal → List Bool → List Bool

@@ -101,13 +101,15 @@ pub(crate) fn default_in_list(bytes: &[u8], count: usize, place: usize) -> &[u8]
     formal_text(rest)
 }
 
-// The shape of a name: the low bits of its first byte and of its length. Most words of a body have that of no formal.
+// The shape of a name: the low bits of its first byte, and of its last byte and its length together. Most words of a body have that of
+// no formal.
 #[tactic(auto, unfolding(crate::specs::Shapes::shape))]
 pub(crate) fn shape(name: &[u8]) -> usize
     ensures value { result ≡ shape name.now }
     ensures inside { result < 256 }
 {
-    byte_at(name, 0) as usize % 32 + 32 * (name.len() % 8)
+    let last = byte_at(name, name.len().saturating_sub(1)) as usize;
+    byte_at(name, 0) as usize % 32 + 32 * ((last + name.len()) % 8)
 }
 
 // Of each shape whether the name of one of so many formals has it: a word of another shape is none of them.

@@ -1,5 +1,5 @@
 // The table of macros: a list of bytes, one of entries and an index by name, all reserved when the table is made.
-ghost use Rattle.std.specs.Prelude.{◌≡◌, ◌<◌, ◌≤◌, ◌==◌, [], length, IfOk, IfSome, IfNone, OnOk, Some, None, is_some, option_map, OnErr, true, unwrap_or, ◌+◌};
+ghost use Rattle.std.specs.Prelude.{◌≡◌, ◌≢◌, ◌<◌, ◌≤◌, ◌==◌, [], length, IfOk, IfSome, IfNone, OnOk, Some, None, is_some, option_map, OnErr, true, unwrap_or, ◌+◌};
 ghost use Rattle.rdlpp_table.specs.New.{list_formals, new_macro, IsList, IsNew};
 ghost use Rattle.rdlpp_lines.specs.Continuations.{joined};
 ghost use Rattle.rdlpp_table.specs.Index.{IsCounted};
@@ -204,22 +204,27 @@ impl Table {
         ensures named { macro_named self.now.macros name.now ≡ option_map (macro_at self.now.macros) result }
         ensures sound { IsSound self.now }
     {
-        if guess < self.len() && self.name(MacroId { index: guess }) == name {
-            return Some(MacroId { index: guess });
+        match self.find_at(guess, name) {
+            Some(id) => Some(id),
+            None => self.find(name),
         }
-        self.find_anew(name)
     }
 
-    // The same as `find`, behind a guess that was wrong. It stands apart, so that a right one keeps its values in registers.
-    #[cold]
-    #[inline(never)]
-    fn find_anew(&self, name: &[u8]) -> Option<MacroId>
-        ensures value { result ≡ place_named self.now.macros name.now }
+    /// The macro at a place, if it is that of a name; `None` where another one stands there, or none. Any number may be asked for.
+    ///
+    /// Costs one comparison.
+    pub fn find_at(&self, place: usize, name: &[u8]) -> Option<MacroId>
+        ensures place { IfSome result (λ id. id ≡ place) }
+        ensures value { IfSome result (λ id. Some id ≡ place_named self.now.macros name.now) }
+        ensures other { IfNone result (place_named self.now.macros name.now ≢ Some place) }
         ensures inside { IfSome result (λ id. id < length self.now.macros) }
-        ensures named { macro_named self.now.macros name.now ≡ option_map (macro_at self.now.macros) result }
+        ensures named { IfSome result (λ id. macro_named self.now.macros name.now ≡ option_map (macro_at self.now.macros) (Some id)) }
         ensures sound { IsSound self.now }
     {
-        self.find(name)
+        if place < self.len() && self.name(MacroId { index: place }) == name {
+            return Some(MacroId { index: place });
+        }
+        None
     }
 
     /// The name of a macro.
@@ -263,12 +268,35 @@ impl Table {
         requires inside { to ≤ length (macro_at self.now.macros id).body }
         ensures { result ≡ stop_in (macro_at self.now.macros id) from to }
     {
+        match self.kept_stop(id, from, to) {
+            Some(stop) => stop,
+            None => self.seek_stop(id, from, to),
+        }
+    }
+
+    /// As `stop`, where the first ten stops of the body tell it; `None` where they don't. Reads at most two bytes of the body.
+    pub fn kept_stop(&self, id: MacroId, from: usize, to: usize) -> Option<Stop>
+        requires id { id < length self.now.macros }
+        requires order { from ≤ to }
+        requires inside { to ≤ length (macro_at self.now.macros id).body }
+        ensures { IfSome result (λ stop. stop ≡ stop_in (macro_at self.now.macros id) from to) }
+    {
         let found = self.stored(id);
         let body = body_in(found.bytes, found.entry);
-        match known_stop(&found.entry.stops, body, from, to) {
-            Some(stop) => stop,
-            None => self.sought_stop(id, from, to),
-        }
+        known_stop(&found.entry.stops, body, from, to)
+    }
+
+    /// As `stop`, by reading the range: takes time linear in the distance to the stop, or to `to`.
+    #[cold]
+    #[inline(never)]
+    pub fn seek_stop(&self, id: MacroId, from: usize, to: usize) -> Stop
+        requires id { id < length self.now.macros }
+        requires order { from ≤ to }
+        requires inside { to ≤ length (macro_at self.now.macros id).body }
+        ensures { result ≡ stop_in (macro_at self.now.macros id) from to }
+    {
+        let body = self.body(id);
+        first_stop(&self.formals(id), &[], &body[from..to], from)
     }
 
     // The entry of a macro, with the bytes into which it points.
@@ -284,19 +312,6 @@ impl Table {
             bytes: self.bytes.as_slice(),
             entry: &self.entries[self.front.entries + id.index],
         }
-    }
-
-    // The first stop of a range of the body of a macro, which is looked for.
-    #[cold]
-    #[inline(never)]
-    fn sought_stop(&self, id: MacroId, from: usize, to: usize) -> Stop
-        requires id { id < length self.now.macros }
-        requires order { from ≤ to }
-        requires inside { to ≤ length (macro_at self.now.macros id).body }
-        ensures { result ≡ stop_in (macro_at self.now.macros id) from to }
-    {
-        let body = self.body(id);
-        first_stop(&self.formals(id), &[], &body[from..to], from)
     }
 
     /// The place of a formal among a macro's formals, counted from 0; `None` where the macro has no list,

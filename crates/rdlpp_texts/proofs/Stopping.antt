@@ -10,7 +10,7 @@ use Rattle.rdlpp_scan.specs.declared.token.Token.{Token}
 use Rattle.rdlpp_scan.specs.Tokens.{token_of, tokens_from}
 use Rattle.rdlpp_scan.proofs.RangeLaws.{tokens_from-first}
 use Rattle.rdlpp_scan.proofs.TokenLens.{token_of-part, tokens_from-step}
-use Rattle.rdlpp_table.specs.Table.{Formal}
+use Rattle.rdlpp_table.specs.Table.{Formal, Macro}
 use Rattle.rdlpp_table.specs.View.{formal_named, formals_of, macro_at}
 use Rattle.rdlpp_table.specs.declared.stop.Stop.{Stop}
 use Rattle.rdlpp_table.specs.declared.stop.Stop.TheVariants as stop
@@ -453,18 +453,21 @@ ahead-ended formals text from end h =
         (omega arith, (omega (arith, zero, same), run-empty formals [] refl ∙ sym (same ∙ zero)), drop_all (from - from) [] (omega arith))
 
 -- what stands ahead in a range of a body, by its first stop
-pub ahead-body : (texts : Texts) (source : TextSource) (id from end : ℕ) (s : Stop) (f : Ahead) → source ≡ place_of.Body id → from < end
-    → end ≤ length (source_text texts source) → s ≡ stop_in (macro_at texts.macros id) from end
+pub ahead-range : (m : Macro) (from end : ℕ) (s : Stop) (f : Ahead) → from < end → end ≤ length m.body → s ≡ stop_in m from end
     → ((formals : List Formal) (from : ℕ) (text : List ℕ) → from + length text ≡ end → s ≡ stop_of formals from text → IsAhead formals text from f)
+    → IsAhead (formals_of m) (slice_range m.body from end) from f
+unfolding stop_in
+ahead-range m from end s f h within is each =
+    let size = length-take (end - from) (drop from m.body) in
+    let rest = length-drop from m.body in
+    each (formals_of m) from (slice_range m.body from end) (omega (arith, h, within, size, rest)) is
+
+-- and in a text that is that body
+pub ahead-body : (texts : Texts) (source : TextSource) (id from end : ℕ) (f : Ahead) → source ≡ place_of.Body id
+    → IsAhead (formals_of (macro_at texts.macros id)) (slice_range (macro_at texts.macros id).body from end) from f
     → IsAhead (source_formals texts source) (slice_range (source_text texts source) from end) from f
-unfolding source_formals source_text stop_in
-ahead-body texts source id from end s f e h inside is each =
-    let body = (macro_at texts.macros id).body in
-    let within : end ≤ length body = subst (λ (x : TextSource). end ≤ length (source_text texts x)) e inside in
-    let size = length-take (end - from) (drop from body) in
-    let rest = length-drop from body in
-    subst (λ (x : TextSource). IsAhead (source_formals texts x) (slice_range (source_text texts x) from end) from f) (sym e)
-    (each (formals_of (macro_at texts.macros id)) from (slice_range body from end) (omega (arith, h, within, size, rest)) is)
+unfolding source_formals source_text
+ahead-body texts source id from end f e h = subst (λ (x : TextSource). IsAhead (source_formals texts x) (slice_range (source_text texts x) from end) from f) (sym e) h
 
 -- a range of a body lies in it
 pub body-inside : (texts : Texts) (source : TextSource) (id end : ℕ) → source ≡ place_of.Body id → end ≤ length (source_text texts source)

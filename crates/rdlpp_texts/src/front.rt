@@ -4,6 +4,7 @@ ghost use Rattle.memchr.specs.Find.{is_byte, IsFirstByte};
 ghost use Rattle.rdlpp_scan.specs.Tokens.{tokens_from};
 ghost use Rattle.rdlpp_table.specs.Stops.{stop_of};
 ghost use Rattle.rdlpp_table.specs.Table.{Formal};
+ghost use Rattle.rdlpp_table.specs.View.{formals_of, macro_at};
 ghost use Rattle.rdlpp_texts.specs.Fronts.{is_back, run_len, IsAhead, IsFront, IsLookAhead};
 ghost use Rattle.rdlpp_texts.specs.Opened.{opens_of};
 ghost use Rattle.rdlpp_texts.specs.Places.{source_formals, source_text, texts_of, IsSource};
@@ -15,7 +16,7 @@ use crate::scopes::{front_source, text_of};
 use crate::slot::Slot;
 use memchr::{memchr, memchr2};
 use rdlpp_scan::{Kind, Mode, first_token};
-use rdlpp_table::{Stop, Table};
+use rdlpp_table::{MacroId, Stop, Table};
 
 // What stands at the front of an open text.
 #[derive(Clone, Copy)]
@@ -107,9 +108,38 @@ pub(crate) fn front_of(
         };
     }
     if let TextSource::Body(id) = *source {
-        return stop_front(table.stop(id, from, end), end);
+        return body_front(table, id, from, end);
     }
     plain_front(&text[from..end], from)
+}
+
+// What stands ahead in a range of the body of a macro.
+#[inline(always)]
+fn body_front(table: &Table, id: MacroId, from: usize, end: usize) -> Ahead
+    requires id { id < length table.now.macros }
+    requires order { from < end }
+    requires inside { end ≤ length (macro_at table.now.macros id).body }
+    ensures { IsAhead (formals_of (macro_at table.now.macros id)) (slice_range (macro_at table.now.macros id).body from end) from result }
+{
+    match table.kept_stop(id, from, end) {
+        Some(stop) => stop_front(stop, end),
+        None => sought_front(table, id, from, end),
+    }
+}
+
+// The same, where the range has to be read. In a body without formals it ends at a backquote.
+#[cold]
+#[inline(never)]
+fn sought_front(table: &Table, id: MacroId, from: usize, end: usize) -> Ahead
+    requires id { id < length table.now.macros }
+    requires order { from < end }
+    requires inside { end ≤ length (macro_at table.now.macros id).body }
+    ensures { IsAhead (formals_of (macro_at table.now.macros id)) (slice_range (macro_at table.now.macros id).body from end) from result }
+{
+    if table.arity(id).unwrap_or(0) == 0 {
+        return plain_front(&table.body(id)[from..end], from);
+    }
+    stop_front(table.seek_stop(id, from, end), end)
 }
 
 // What stands ahead in a text that ends at a place, by its first stop.

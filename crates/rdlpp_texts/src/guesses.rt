@@ -37,11 +37,26 @@ impl Guesses {
         ensures kept { IfSome result (λ id. slice_index self.new.places (key_of name.now) ≡ min id 65535) }
     {
         let key = key_of(name);
-        let guess = self.places[key] as usize;
-        let id = table.find_near(guess, name)?;
-        if id.index() != guess {
-            self.places[key] = id.index().min(MOST) as u16;
+        match table.find_at(self.places[key] as usize, name) {
+            Some(id) => Some(id),
+            None => self.find_anew(table, key, name),
         }
+    }
+
+    // The macro of a name that has a key, whose place is kept from then on. It stands apart, so that a right guess keeps its values in
+    // registers.
+    #[cold]
+    #[inline(never)]
+    fn find_anew(&mut self, table: &Table, key: usize, name: &[u8]) -> Option<MacroId>
+        requires { key < 512 }
+        ensures value { result ≡ place_named table.now.macros name.now }
+        ensures inside { IfSome result (λ id. id < length table.now.macros) }
+        ensures named { macro_named table.now.macros name.now ≡ option_map (macro_at table.now.macros) result }
+        ensures sound { IsSound table.now }
+        ensures kept { IfSome result (λ id. slice_index self.new.places key ≡ min id 65535) }
+    {
+        let id = table.find(name)?;
+        self.places[key] = id.index().min(MOST) as u16;
         Some(id)
     }
 }

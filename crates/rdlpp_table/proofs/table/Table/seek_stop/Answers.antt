@@ -1,6 +1,6 @@
 use Rattle.rdlpp_table.specs.View.{macro_at}
 use Rattle.rdlpp_table.proofs.FirstStops.{some_kept as some_stop}
-use Rattle.rdlpp_table.proofs.table.Table.sought_stop.Goals as goal
+use Rattle.rdlpp_table.proofs.table.Table.seek_stop.Goals as goal
 
 pub returns : goal.returns
 returns c =
