@@ -35,6 +35,7 @@ impl<S: Sources> Engine<S> {
     }
 
     // Lends text that is copied, whose line ends are counted.
+    #[inline(always)]
     fn lend_copied(&mut self, copied: Copied) -> Place
         requires ready { IsReady self.old }
         requires live { self.old.conditions.skipped ≡ None }
