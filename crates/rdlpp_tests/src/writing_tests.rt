@@ -1,7 +1,11 @@
-// The writes of a run beside the pieces that an engine lends one by one: both have to cut them alike.
+// The pieces that an engine lends one by one beside those that a source is to be lent in, and the writes of a run beside them: where
+// bytes are held and nothing is owed, a run takes them without the questions that `next` asks first, and both have to cut them alike.
 use crate::runs::STANDARD;
-use rdlpp::{FaultKind, Limits, Sink, SinkFault, Texts};
+use rdlpp::{FaultKind, Limits, Sink, SinkFault, Sources, Texts};
 use rdlpp_expand::{Engine, Piece, run};
+use rdlpp_front::{Front, front_of};
+use rdlpp_read::{Files, Fill, LogicalLine};
+use rdlpp_scan::{Mode, line_ends_in};
 use std::test::Fail;
 
 // How many sources are made, and of how many parts each.
@@ -51,13 +55,19 @@ const PIECES: [&[u8]; 38] = [
     b"\n`include \"i\" // i\n",
 ];
 
-// Included sources, which end within a line.
+// So many of these are known to `wanted`: in front of the calls, the macros that are defined anew, and the conditionals.
+const KNOWN: usize = 29;
+
+// Included sources, which end within a line; what stands in the second is known.
 const INCLUDED: &[u8] = b"// i\n `A \"i\"\n`B(1,)\n/* i */ `C i";
 
-const SHORT_INCLUDED: &[u8] = b"// j\n `A \"j\"\n\n/* j */ `C j";
+const KNOWN_INCLUDED: &[u8] = b"// j\n `A \"j\"\n\n/* j */ `C j";
 
 // What is written where a source goes on behind the first of them.
 const BEHIND_INCLUDED: &[u8] = b" i\n // i\n";
+
+// The most bytes of a source here.
+const SOURCE_BYTES: usize = 1_048_576;
 
 // What was lent or written: the bytes, and how many of them each part has.
 #[derive(Drop)]
@@ -129,7 +139,7 @@ fn made<R: AllocGlobal>(rt: &R, number: u64, pieces: &[&[u8]]) -> Result<Vec<u8>
 
 // A main text, and the sources that it may include.
 fn files_of(source: &[u8]) -> [(&str, &[u8]); 3] {
-    [("m", source), ("i", INCLUDED), ("j", SHORT_INCLUDED)]
+    [("m", source), ("i", INCLUDED), ("j", KNOWN_INCLUDED)]
 }
 
 // What was lent or written, and the kind and the line of the fault that ended it, if one did.
@@ -200,6 +210,157 @@ fn written<R: AllocGlobal>(
     Ok((parts, ended))
 }
 
+// Adds a piece.
+fn put(parts: &mut Parts, piece: &[u8]) -> Result<(), Fail> {
+    parts.bytes.extend_from_slice(piece)?;
+    parts.lens.push(piece.len())?;
+    Ok(())
+}
+
+// Uses so many held bytes, and counts their line ends; answers whether they are held.
+fn pass<R: Drop>(nest: &mut Files<R>, len: usize) -> bool {
+    if nest.len() == 0 {
+        return false;
+    }
+    let Some(passed) = nest.file().buffer.held().get(..len) else {
+        return false;
+    };
+    let lines = line_ends_in(passed);
+    if len < lines {
+        return false;
+    }
+    nest.consume(len, lines);
+    true
+}
+
+// Opens the source at a path; answers whether it could.
+fn open<S: Sources>(nest: &mut Files<S::Reader>, sources: &mut S, path: &str) -> bool {
+    if nest.is_full() {
+        return false;
+    }
+    let Ok(found) = sources.top(path) else {
+        return false;
+    };
+    nest.enter(found, SOURCE_BYTES, 0, 0);
+    true
+}
+
+// Leaves the innermost source, which has ended; answers whether no string and no comment is open there.
+fn leave<R: Drop>(nest: &mut Files<R>, parts: &mut Parts) -> Result<bool, Fail> {
+    if nest.len() == 0 || nest.file().buffer.mode() != Mode::Plain {
+        return Ok(false);
+    }
+    let torn = nest.file().torn;
+    nest.leave();
+    if torn && nest.len() > 0 {
+        put(parts, b"\n")?;
+    }
+    Ok(true)
+}
+
+// Takes the text that is copied with which the held bytes begin, of so many bytes.
+fn lend_text<R: Drop>(
+    nest: &mut Files<R>,
+    parts: &mut Parts,
+    len: usize,
+    next: Mode,
+) -> Result<bool, Fail> {
+    if nest.len() == 0 {
+        return Ok(false);
+    }
+    let Some(text) = nest.file().buffer.held().get(..len) else {
+        return Ok(false);
+    };
+    put(parts, text)?;
+    nest.enter_mode(next);
+    Ok(pass(nest, len))
+}
+
+// Takes a usage of one of the macros that are known, of so many bytes.
+fn lend_usage<R: Drop>(nest: &mut Files<R>, parts: &mut Parts, len: usize) -> Result<bool, Fail> {
+    if nest.len() == 0 {
+        return Ok(false);
+    }
+    let usage = nest.file().buffer.held().get(..len).unwrap_or(&[]);
+    if usage == b"`A".as_slice() {
+        put(parts, b"1")?;
+    } else if usage == b"`C".as_slice() {
+        put(parts, b"\"c\"")?;
+    } else {
+        return Ok(false);
+    }
+    Ok(pass(nest, len))
+}
+
+// Takes a `define`, which leaves its line ends.
+fn pass_define<S: Sources>(
+    nest: &mut Files<S::Reader>,
+    sources: &mut S,
+    parts: &mut Parts,
+) -> Result<bool, Fail> {
+    if nest.len() == 0 {
+        return Ok(false);
+    }
+    let LogicalLine::Whole(len) = nest.hold_line(sources) else {
+        return Ok(false);
+    };
+    if nest.len() == 0 {
+        return Ok(false);
+    }
+    let line = nest.file().buffer.held().get(..len).unwrap_or(&[]);
+    let lines = line_ends_in(line);
+    put(parts, b"\n\n\n\n".get(..lines).unwrap_or(&[]))?;
+    Ok(pass(nest, len))
+}
+
+// Takes what the held bytes begin with; answers whether it is known.
+fn take_front<S: Sources>(
+    nest: &mut Files<S::Reader>,
+    sources: &mut S,
+    parts: &mut Parts,
+) -> Result<bool, Fail> {
+    if nest.len() == 0 {
+        return Ok(false);
+    }
+    let buffer = &nest.file().buffer;
+    if buffer.held().is_empty() {
+        return Ok(false);
+    }
+    match front_of(buffer.mode(), buffer.held()) {
+        Front::Text(len, next) => lend_text(nest, parts, len, next),
+        Front::Usage(len) => lend_usage(nest, parts, len),
+        Front::Define => pass_define(nest, sources, parts),
+        Front::Undef(Some(argument)) => Ok(pass(nest, argument.stop)),
+        Front::Include(Some(argument)) => {
+            Ok(pass(nest, argument.stop) && open(nest, sources, "j"))
+        }
+        _ => Ok(false),
+    }
+}
+
+// The pieces that a source of known pieces is to be lent in, up to its end or its fault: what is held begins with what `front_of`
+// says, and the line ends of text that is copied are counted behind it, as in an engine that doesn't ask `copied_text`.
+fn wanted<R: AllocGlobal, S: Sources>(
+    rt: &R,
+    limits: Limits,
+    sources: &mut S,
+) -> Result<Parts, Fail> {
+    let mut parts = no_parts(rt);
+    let mut nest = Files::new(rt.alloc(), 2, limits.line_bytes)?;
+    let mut goes_on = open(&mut nest, sources, "m");
+    for _ in 0..10_000 {
+        if !goes_on || nest.len() == 0 {
+            break;
+        }
+        goes_on = match nest.fill(sources) {
+            Fill::Held => take_front(&mut nest, sources, &mut parts)?,
+            Fill::End => leave(&mut nest, &mut parts)?,
+            _ => false,
+        };
+    }
+    Ok(parts)
+}
+
 // Whether some bytes have a part.
 fn has_part(bytes: &[u8], part: &[u8]) -> bool {
     for at in 0..bytes.len() {
@@ -208,6 +369,42 @@ fn has_part(bytes: &[u8], part: &[u8]) -> bool {
         }
     }
     false
+}
+
+// An engine lends a source of known pieces as `front_of` cuts it. A short line is read in more than one part, so that strings and
+// comments are lent in parts too.
+#[test]
+fn lends_what_is_wanted(rt: HostRuntime) -> Result<(), Fail> {
+    let mut whole = 0_u64;
+    for number in 0..SOURCES {
+        let source = made(&rt, number, &PIECES[..KNOWN])?;
+        for line_bytes in [65_536, 256] {
+            let limits = Limits {
+                line_bytes,
+                ..STANDARD
+            };
+            let (pieces, ending) = lent(&rt, limits, source.as_slice(), false)?;
+            let files = files_of(source.as_slice());
+            let mut texts = Texts {
+                files: &files,
+                folders: &[],
+            };
+            let parts = wanted(&rt, limits, &mut texts)?;
+            assert!(rt;
+                parts.bytes.as_slice() == pieces.bytes.as_slice(),
+                "bytes of {number}"
+            );
+            assert!(rt;
+                parts.lens.as_slice() == pieces.lens.as_slice(),
+                "pieces of {number}"
+            );
+            if ending.is_none() {
+                whole = whole.saturating_add(1);
+            }
+        }
+    }
+    assert!(rt; whole > 40);
+    Ok(())
 }
 
 // A run writes each piece in one part, where the sink takes all of it: the pieces are those that the engine lends one by one. A
