@@ -11,3 +11,7 @@ Has pair file = (pair.first ≡ Some file) ⊎ (pair.second ≡ Some file)
 -- there is no file
 abbrev pub IsEmpty : FilePair → Type 0
 IsEmpty pair = (pair.first ≡ None) × (pair.second ≡ None)
+
+-- there is room for a file, or it is one of them
+abbrev pub HasRoom : FilePair → FileId → Type 0
+HasRoom pair file = (pair.first ≡ None) ⊎ (pair.second ≡ None) ⊎ Has pair file

@@ -1,6 +1,8 @@
 // Which files a run writes, and which of them it reads.
 ghost use Rattle.std.specs.Prelude.{◌≡◌, ◌↔◌, ◌⊎◌, IsTrue, None, Some};
-ghost use Rattle.rdlpp.specs.Written.{Has, IsEmpty};
+ghost use Rattle.std.specs.Fs.{file_type, IsFile};
+ghost use Rattle.std.specs.Option.{is_some};
+ghost use Rattle.rdlpp.specs.Written.{Has, HasRoom, IsEmpty};
 
 use std::fs::Metadata;
 use std::os::unix::fs::MetadataExt;
@@ -14,7 +16,9 @@ pub struct FileId {
 
 impl FileId {
     /// The regular file that has these metadata; none of a device, a folder or a pipe.
-    pub fn of(metadata: &Metadata) -> Option<FileId> {
+    pub fn of(metadata: &Metadata) -> Option<FileId>
+        ensures { IsTrue (is_some result) ↔ IsFile (file_type metadata.now) }
+    {
         if !metadata.is_file() {
             return None;
         }
@@ -54,10 +58,10 @@ impl FilePair {
         is_this(self.first, file) || is_this(self.second, file)
     }
 
-    /// These files and one more; where there are two, it stands in the place of the second one.
+    /// These files and one more; where there are two others, it stands in the place of the second one.
     pub fn with(self, file: FileId) -> FilePair
         ensures has { Has result file }
-        ensures keeps { (other : FileId) → self.second ≡ None → Has self other → Has result other }
+        ensures keeps { (other : FileId) → HasRoom self file → Has self other → Has result other }
         ensures only { (other : FileId) → Has result other → (Has self other) ⊎ (other ≡ file) }
     {
         if self.first.is_none() || is_this(self.first, file) {

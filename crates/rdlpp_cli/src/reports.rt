@@ -116,11 +116,7 @@ fn rest_status(
 }
 
 // Tells why a report isn't written, where it isn't, and answers the exit status that tells how that went.
-fn told_status(
-    rt: &HostRuntime,
-    path: Option<&String>,
-    written: &Result<(), WriteFault>,
-) -> u8
+fn told_status(rt: &HostRuntime, path: Option<&String>, written: &Result<(), WriteFault>) -> u8
     ensures { result ≡ report_status written.now }
 {
     let Err(fault) = written else {

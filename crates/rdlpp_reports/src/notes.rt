@@ -55,7 +55,10 @@ fn write_left_out<W: Write>(name: &[u8], writer: &mut W) -> io::Result<()> {
     if !is_left_out(name) {
         return Ok(());
     }
-    write_parts(&[NOTE, b"the directive '", name, b"' is left out\n"], writer)
+    write_parts(
+        &[NOTE, b"the directive '", name, b"' is left out\n"],
+        writer,
+    )
 }
 
 // Writes the value and the option of the limit that a kind of fault tells, if it does.
