@@ -148,7 +148,7 @@ impl<'r, R: Files + Input> Folders<'r, R> {
         self.read.get()
     }
 
-    // Whether the run writes the file of a source that was opened; and notes it where it is watched.
+    // Whether the run writes the file of a source that was opened; else notes it where it is watched.
     fn is_written(&self, file: &R::File) -> bool {
         let (written, watched) = (self.written.get(), self.watched.get());
         if written.is_empty() && watched.is_empty() {
@@ -160,10 +160,13 @@ impl<'r, R: Files + Input> Folders<'r, R> {
         let Some(id) = FileId::of(&metadata) else {
             return false;
         };
+        if written.has(id) {
+            return true;
+        }
         if watched.has(id) {
             self.read.set(self.read.get().with(id));
         }
-        written.has(id)
+        false
     }
 
     // Keeps why a file couldn't be opened.

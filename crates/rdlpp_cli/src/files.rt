@@ -13,7 +13,7 @@ const STANDARD_INPUT: &str = "/dev/stdin";
 const STANDARD_OUTPUT: &str = "/dev/stdout";
 
 /// Why a file isn't written.
-#[derive(Clone, Copy, Drop)]
+#[derive(Clone, Copy)]
 pub enum WriteFault {
     /// It can't be opened or written, or another output goes to it.
     Failed(io::Error),
@@ -89,19 +89,19 @@ impl RunFiles {
     /// Opens the file at `path`, which is made or emptied, for the text or for a report.
     ///
     /// # Errors
-    /// `Source` where the file is that of the main text, or one that `note_read` told. `Failed` with the error of the open; and
-    /// where the file was opened before, or is that of standard output. The file stays as it is then.
+    /// `Failed` with the error of the open; and where the file was opened before, or is that of standard output. Else `Source`
+    /// where it is that of the main text, or one that `note_read` told. The file stays as it is then.
     pub fn open(&mut self, rt: &HostRuntime, path: &str) -> Result<File, WriteFault> {
         let file = OpenOptions::new().write(true).create(true).open(rt, path)?;
         let Some(id) = FileId::of(&file.metadata()?) else {
             return Ok(file);
         };
-        if self.main == Some(id) || self.read.has(id) {
-            return Err(WriteFault::Source);
-        }
         if self.has(id) {
             let error = io::Error::new(ErrorKind::InvalidInput, "another output goes to this file");
             return Err(WriteFault::Failed(error));
+        }
+        if self.main == Some(id) || self.read.has(id) {
+            return Err(WriteFault::Source);
         }
         self.take(id);
         file.set_len(0)?;
