@@ -31,6 +31,13 @@ def run(words, folder, given=b"", **more):
     return Outcome(done.stdout, done.stderr, done.returncode)
 
 
+def run_from(words, folder, path):
+    """Runs the program in a folder, with a file of it as its standard input."""
+    with open(pathlib.Path(folder, path), "rb") as given:
+        done = subprocess.run([PROGRAM, *words], cwd=folder, stdin=given, capture_output=True, timeout=60)
+    return Outcome(done.stdout, done.stderr, done.returncode)
+
+
 def difference(wanted, got):
     """How two parts of an outcome differ; texts by what stands around their first difference."""
     if not isinstance(wanted, bytes):

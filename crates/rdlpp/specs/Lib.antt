@@ -6,3 +6,4 @@ pub mod Answers
 pub mod Folders
 pub mod Opening
 pub mod Running
+pub mod Written

@@ -31,7 +31,7 @@ const AFTER: &str = "\
 Exit status:
   0  the text went through
   1  the text has a fault: one line on standard error, and all before it is written
-  2  the command line isn't one, or a limit is out of its range
+  2  the command line isn't one, a limit is out of its range, or a file to be written is a source
   3  a file or a stream failed, or memory was refused
 
 Example:

@@ -7,24 +7,28 @@ ghost use Rattle.rdlpp_source.specs.Sources.{is_device, is_no_memory};
 ghost use Rattle.rdlpp_source.specs.Search.{candidates, joined_path};
 ghost use Rattle.rdlpp.specs.Answers.{is_absent};
 
+use crate::written::{FileId, FilePair};
 use arrayvec::ArrayString;
 use rdlpp_source::{Found, SourceFault, Sources, folder_of, joined_path};
 use rdlpp_table::NoMemory;
 use std::alloc::Global;
 use std::cell::Cell;
-use std::fs::File;
+use std::fs::{File, OpenFile};
 use std::io::{self, ErrorKind, Read};
 use std::rt::Files;
 
 // The main path that stands for standard input.
 const STANDARD_INPUT: &str = "-";
 
+// Why a source isn't read that lies in a file which the run writes.
+const WRITTEN: &str = "an output goes to this file";
+
 /// Sources over files, by this project's search rule; the main path `-` is standard input.
 ///
 /// They don't tell their texts: what a file holds, and which files there are, stands in no contract.
 /// An open that finds nothing at a candidate passes on to the next one; any other failed open ends
-/// the search, with `NoMemory` where memory was refused and else with `Device`. Reads go straight
-/// from the file into the bytes that are asked for.
+/// the search, with `NoMemory` where memory was refused and else with `Device`. So does a file that
+/// `guard` refuses, with `Device`. Reads go straight from the file into the bytes that are asked for.
 #[derive(Drop)]
 pub struct Folders<'r, R> {
     rt: &'r R,
@@ -34,6 +38,11 @@ pub struct Folders<'r, R> {
     refusals: u64,
     // the last file that failed, for whoever asks; no answer depends on it
     failed: Cell<Option<FileFailure>>,
+    // what the run writes while it reads: no source may lie there
+    written: Cell<FilePair>,
+    // what it writes when all is read, and which of these files were sources
+    watched: Cell<FilePair>,
+    read: Cell<FilePair>,
 }
 
 /// A file that couldn't be opened or read, and why.
@@ -121,7 +130,48 @@ impl<'r, R: Files + Input> Folders<'r, R> {
             failures: 0,
             refusals: 0,
             failed: Cell::new(None),
+            written: Cell::new(FilePair::of(None, None)),
+            watched: Cell::new(FilePair::of(None, None)),
+            read: Cell::new(FilePair::of(None, None)),
         })
+    }
+
+    /// Takes care of the files that the run writes: from now on no source is read that lies in one of `written`, as if the
+    /// device failed, and of those of `watched` it is noted which ones are read.
+    pub fn guard(&self, written: FilePair, watched: FilePair) {
+        self.written.set(written);
+        self.watched.set(watched);
+    }
+
+    /// Those of the watched files that were opened as sources.
+    pub fn read_files(&self) -> FilePair {
+        self.read.get()
+    }
+
+    // Whether the run writes the file of a source that was opened; else notes it where it is watched.
+    fn is_written(&self, file: &R::File) -> bool {
+        let (written, watched) = (self.written.get(), self.watched.get());
+        if written.is_empty() && watched.is_empty() {
+            return false;
+        }
+        let Ok(metadata) = file.metadata() else {
+            return false;
+        };
+        let Some(id) = FileId::of(&metadata) else {
+            return false;
+        };
+        if written.has(id) {
+            return true;
+        }
+        if watched.has(id) {
+            self.read.set(self.read.get().with(id));
+        }
+        false
+    }
+
+    // Keeps why a file couldn't be opened.
+    fn keep_failure(&self, path: ArrayString<1024>, error: io::Error) {
+        self.failed.set(Some(FileFailure { path, error }));
     }
 
     /// The last file that couldn't be opened or read, but for those that aren't there.
@@ -141,16 +191,23 @@ impl<'r, R: Files + Input> Folders<'r, R> {
             return Err(SourceFault::Absent);
         }
         let Ok(candidate) = String::from_str(self.alloc, path.as_str()) else {
+            self.keep_failure(path, io::Error::from(ErrorKind::OutOfMemory));
             return Err(SourceFault::NoMemory);
         };
         match File::open(self.rt, candidate.as_str()) {
-            Ok(file) => Ok(Found {
-                path,
-                reader: FolderReader::File(file),
-            }),
+            Ok(file) => {
+                if self.is_written(&file) {
+                    self.keep_failure(path, io::Error::new(ErrorKind::InvalidInput, WRITTEN));
+                    return Err(SourceFault::Device);
+                }
+                Ok(Found {
+                    path,
+                    reader: FolderReader::File(file),
+                })
+            }
             Err(error) => {
                 if error.kind() != ErrorKind::NotFound {
-                    self.failed.set(Some(FileFailure { path, error }));
+                    self.keep_failure(path, error);
                 }
                 Err(open_fault(error.kind()))
             }

@@ -13,6 +13,7 @@ mod preprocessing;
 mod reporting;
 mod running;
 mod status;
+mod written;
 
 pub use fault::PrepFault;
 pub use folders::{FileFailure, FolderReader, Folders};
@@ -32,3 +33,4 @@ pub use rdlpp_table::{LimitFault, Limits, NoMemory, Table};
 pub use reporting::report;
 pub use running::{new_engine, run_watched_from};
 pub use status::exit_status;
+pub use written::{FileId, FilePair};

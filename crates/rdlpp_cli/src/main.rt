@@ -10,6 +10,7 @@ mod reports;
 mod telling;
 mod words;
 
+use files::RunFiles;
 use output::open_output;
 use rdlpp::{Folders, Invocation, PrepFault, UsageFault};
 use reports::run_told;
@@ -38,14 +39,14 @@ fn main(rt: HostRuntime) -> ExitCode {
 
 // Does what a command line asks for, and answers the exit status.
 fn run_invocation(rt: &HostRuntime, invocation: &Invocation) -> u8 {
-    let mut output = match open_output(rt, invocation.output.as_ref()) {
-        Ok(output) => output,
-        Err(error) => {
-            tell_unopened(rt, invocation, &error);
-            return DEVICE_STATUS;
+    let mut files = RunFiles::of(rt, invocation);
+    match open_output(rt, &mut files, invocation.output.as_ref()) {
+        Ok(mut output) => run_told(rt, invocation, &mut files, &mut output),
+        Err(fault) => {
+            tell_unopened(rt, invocation, &fault);
+            fault.status()
         }
-    };
-    run_told(rt, invocation, &mut output)
+    }
 }
 
 // The sources of a command line.

@@ -1,15 +1,15 @@
 //! The line map of a run, where one is asked for.
 use crate::OUTPUT_BYTES;
-use crate::files::TakenFiles;
+use crate::files::{RunFiles, WriteFault};
 use rdlpp::{MapWriter, Position, Watcher};
 use std::fs::File;
-use std::io::{self, BufWriter};
+use std::io::BufWriter;
 
 /// The line map that is written, or none, or why it can't be.
 #[derive(Drop)]
 pub struct Mapping {
     map: Option<MapWriter<BufWriter<File>>>,
-    failure: Option<io::Error>,
+    failure: Option<WriteFault>,
 }
 
 impl Mapping {
@@ -17,14 +17,14 @@ impl Mapping {
     ///
     /// # Errors
     /// The first error of its file, also of its open.
-    pub fn finish(&mut self) -> io::Result<()> {
-        if let Some(error) = self.failure {
-            return Err(error);
+    pub fn finish(&mut self) -> Result<(), WriteFault> {
+        if let Some(fault) = self.failure {
+            return Err(fault);
         }
-        match &mut self.map {
-            Some(map) => map.finish(),
-            None => Ok(()),
+        if let Some(map) = &mut self.map {
+            map.finish()?;
         }
+        Ok(())
     }
 }
 
@@ -45,7 +45,7 @@ impl Watcher for Mapping {
 }
 
 /// Opens the line map at `path`, or none where there is no path.
-pub fn open_mapping(rt: &HostRuntime, files: &mut TakenFiles, path: Option<&String>) -> Mapping {
+pub fn open_mapping(rt: &HostRuntime, files: &mut RunFiles, path: Option<&String>) -> Mapping {
     let Some(path) = path else {
         return Mapping {
             map: None,
@@ -57,9 +57,9 @@ pub fn open_mapping(rt: &HostRuntime, files: &mut TakenFiles, path: Option<&Stri
             map: Some(map),
             failure: None,
         },
-        Err(error) => Mapping {
+        Err(fault) => Mapping {
             map: None,
-            failure: Some(error),
+            failure: Some(fault),
         },
     }
 }
@@ -67,9 +67,9 @@ pub fn open_mapping(rt: &HostRuntime, files: &mut TakenFiles, path: Option<&Stri
 // The line map at a path, begun.
 fn map_writer(
     rt: &HostRuntime,
-    files: &mut TakenFiles,
+    files: &mut RunFiles,
     path: &str,
-) -> io::Result<MapWriter<BufWriter<File>>> {
+) -> Result<MapWriter<BufWriter<File>>, WriteFault> {
     let file = files.open(rt, path)?;
     let writer = BufWriter::with_capacity(rt.alloc(), OUTPUT_BYTES, file)?;
     Ok(MapWriter::new(writer))

@@ -1,7 +1,8 @@
 //! Where the program's text goes.
+use crate::files::{RunFiles, WriteFault};
 use std::fs::File;
 use std::io::{self, Write};
-use std::rt::{Files, Stdout};
+use std::rt::Stdout;
 
 /// Standard output, or a file, and why it failed last.
 #[derive(Drop)]
@@ -51,10 +52,14 @@ impl Write for Output {
 /// Opens the file at `path`, which is made or emptied, or standard output where there is no path.
 ///
 /// # Errors
-/// The error of the open.
-pub fn open_output(rt: &HostRuntime, path: Option<&String>) -> io::Result<Output> {
+/// As of `RunFiles::open`.
+pub fn open_output(
+    rt: &HostRuntime,
+    files: &mut RunFiles,
+    path: Option<&String>,
+) -> Result<Output, WriteFault> {
     let to = match path {
-        Some(path) => Target::File(File::create(rt, path.as_str())?),
+        Some(path) => Target::File(files.open(rt, path.as_str())?),
         None => Target::Standard(rt.stdout()),
     };
     Ok(Output { to, failure: None })

@@ -1,11 +1,13 @@
 //! Runs, and what is told of them beside the text, where that is asked for.
+ghost use Rattle.std.specs.Prelude.{◌≡◌};
 ghost use Rattle.rdlpp.specs.Running.{IsFreshOf};
+ghost use Rattle.rdlpp_cli.specs.Statuses.{report_status};
 
-use crate::files::TakenFiles;
+use crate::files::{RunFiles, WriteFault};
 use crate::mapping::{Mapping, open_mapping};
 use crate::output::Output;
 use crate::telling::{tell_fault, tell_noted, tell_unwritten};
-use crate::{DEVICE_STATUS, OUTPUT_BYTES, folders_of};
+use crate::{OUTPUT_BYTES, folders_of};
 use rdlpp::{
     Buffered, Engine, Folders, Invocation, OpenedPaths, PrepFault, Recorded, Table, exit_status,
     new_engine, run_watched_from, write_definitions, write_dependencies,
@@ -16,7 +18,12 @@ use std::io::{self, BufWriter, ErrorKind, Write};
 pub type NotedEngine<'r> = Engine<Recorded<Folders<'r, HostRuntime>>>;
 
 /// Preprocesses the source of a command line, tells what else is asked for, and answers the exit status.
-pub fn run_told(rt: &HostRuntime, invocation: &Invocation, output: &mut Output) -> u8 {
+pub fn run_told(
+    rt: &HostRuntime,
+    invocation: &Invocation,
+    files: &mut RunFiles,
+    output: &mut Output,
+) -> u8 {
     let Ok(sources) = folders_of(rt, invocation) else {
         return tell_unmade(rt, PrepFault::NoMemory);
     };
@@ -25,7 +32,7 @@ pub fn run_told(rt: &HostRuntime, invocation: &Invocation, output: &mut Output) 
         None => Recorded::silent(rt.alloc(), sources),
     };
     match new_engine(rt.alloc(), &invocation.options, sources) {
-        Ok(mut engine) => run_noted(rt, invocation, &mut engine, output),
+        Ok(mut engine) => run_noted(rt, invocation, &mut engine, files, output),
         Err(fault) => tell_unmade(rt, fault),
     }
 }
@@ -41,12 +48,14 @@ fn run_noted(
     rt: &HostRuntime,
     invocation: &Invocation,
     engine: &mut NotedEngine<'_>,
+    files: &mut RunFiles,
     output: &mut Output,
 ) -> u8
     requires { IsFreshOf invocation.now.options engine.old }
 {
-    let mut files = TakenFiles::of(rt, invocation);
-    let mut mapping = open_mapping(rt, &mut files, invocation.reports.line_map.as_ref());
+    let mut mapping = open_mapping(rt, files, invocation.reports.line_map.as_ref());
+    let awaited = RunFiles::awaited(rt, invocation);
+    engine.sources().sources().guard(files.opened(), awaited);
     let outcome = run_mapped(rt, invocation, engine, output, &mut mapping);
     if let Err(fault) = &outcome {
         if invocation.reports.notes {
@@ -56,14 +65,11 @@ fn run_noted(
         }
     }
     let mapped = mapping.finish();
-    let is_mapped = is_written(rt, invocation.reports.line_map.as_ref(), &mapped);
+    let mapped = told_status(rt, invocation.reports.line_map.as_ref(), &mapped);
+    files.note_read(engine.sources().sources().read_files());
     let opened = engine.sources().opened();
-    let is_told = is_rest_told(rt, invocation, opened, engine.table(), &mut files);
-    if is_mapped && is_told {
-        exit_status(&outcome)
-    } else {
-        DEVICE_STATUS
-    }
+    let told = rest_status(rt, invocation, opened, engine.table(), files);
+    exit_status(&outcome).max(mapped).max(told)
 }
 
 // Preprocesses the source of a command line.
@@ -88,52 +94,54 @@ fn run_mapped(
     )
 }
 
-// Writes the rule for make and the macros, where they are asked for, and answers whether that succeeded.
-fn is_rest_told(
+// Writes the rule for make and the macros, where they are asked for, and answers the exit status that tells how that went.
+fn rest_status(
     rt: &HostRuntime,
     invocation: &Invocation,
     opened: &OpenedPaths,
     table: &Table,
-    files: &mut TakenFiles,
-) -> bool {
-    let mut is_told = true;
+    files: &mut RunFiles,
+) -> u8 {
+    let mut status = 0;
     if let Some(path) = &invocation.reports.deps {
         let target = invocation.output.as_ref().unwrap_or(&invocation.source);
         let written = write_deps(rt, files, path, target, opened);
-        is_told = is_written(rt, Some(path), &written);
+        status = told_status(rt, Some(path), &written);
     }
     if let Some(path) = &invocation.reports.definitions {
         let written = write_macros(rt, files, path, table);
-        is_told = is_written(rt, Some(path), &written) && is_told;
+        status = told_status(rt, Some(path), &written).max(status);
     }
-    is_told
+    status
 }
 
-// Whether a report was written; else it is told.
-fn is_written(rt: &HostRuntime, path: Option<&String>, written: &io::Result<()>) -> bool {
-    match (path, written) {
-        (Some(path), Err(error)) => {
-            tell_unwritten(rt, path.as_str(), error);
-            false
-        }
-        _ => true,
+// Tells why a report isn't written, where it isn't, and answers the exit status that tells how that went.
+fn told_status(rt: &HostRuntime, path: Option<&String>, written: &Result<(), WriteFault>) -> u8
+    ensures { result ≡ report_status written.now }
+{
+    let Err(fault) = written else {
+        return 0;
+    };
+    if let Some(path) = path {
+        tell_unwritten(rt, path.as_str(), &fault.reason());
     }
+    fault.status()
 }
 
 // Writes the rule for make to a file.
 fn write_deps(
     rt: &HostRuntime,
-    files: &mut TakenFiles,
+    files: &mut RunFiles,
     path: &String,
     target: &String,
     opened: &OpenedPaths,
-) -> io::Result<()> {
+) -> Result<(), WriteFault> {
     let file = files.open(rt, path.as_str())?;
     let mut writer = BufWriter::with_capacity(rt.alloc(), OUTPUT_BYTES, file)?;
     write_dependencies(target.as_str(), opened, &mut writer)?;
     writer.flush()?;
     if !opened.is_whole() {
-        return Err(io::Error::from(ErrorKind::OutOfMemory));
+        return Err(WriteFault::Failed(io::Error::from(ErrorKind::OutOfMemory)));
     }
     Ok(())
 }
@@ -141,12 +149,13 @@ fn write_deps(
 // Writes the macros to a file.
 fn write_macros(
     rt: &HostRuntime,
-    files: &mut TakenFiles,
+    files: &mut RunFiles,
     path: &String,
     table: &Table,
-) -> io::Result<()> {
+) -> Result<(), WriteFault> {
     let file = files.open(rt, path.as_str())?;
     let mut writer = BufWriter::with_capacity(rt.alloc(), OUTPUT_BYTES, file)?;
     write_definitions(table, &mut writer)?;
-    writer.flush()
+    writer.flush()?;
+    Ok(())
 }

@@ -1,4 +1,5 @@
 //! What is told on standard error.
+use crate::files::WriteFault;
 use crate::folders_in;
 use crate::reports::NotedEngine;
 use rdlpp::{Fault, FaultKind, Invocation, PrepFault, report, write_failure, write_notes};
@@ -72,13 +73,18 @@ fn write_reason<W: Write>(
     write_failure(failed.path.as_str(), &failed.error, lines)
 }
 
-/// Tells that the output can't be opened; with the file and the reason, where notes are asked for.
-pub fn tell_unopened(rt: &HostRuntime, invocation: &Invocation, error: &io::Error) {
+/// Tells that the output can't be opened; with the file and the reason, where notes are asked for, and where the file is a
+/// source.
+pub fn tell_unopened(rt: &HostRuntime, invocation: &Invocation, fault: &WriteFault) {
+    let path = invocation.output.as_ref();
+    if let (WriteFault::Source, Some(path)) = (fault, path) {
+        return tell_unwritten(rt, path.as_str(), &fault.reason());
+    }
     let _told = rt.stderr().write_all(b"rdlpp: error: cannot open output\n");
     if invocation.reports.notes
-        && let Some(path) = &invocation.output
+        && let Some(path) = path
     {
-        let _told = write_failure(path.as_str(), error, &mut rt.stderr());
+        let _told = write_failure(path.as_str(), &fault.reason(), &mut rt.stderr());
     }
 }
 

@@ -4,6 +4,7 @@
 
 mod definitions;
 mod dependencies;
+mod left_out;
 mod lines;
 mod map_writer;
 mod notes;

@@ -1,4 +1,5 @@
 // Notes on a fault.
+use crate::left_out::is_left_out;
 use crate::writing::{write_parts, write_whole};
 use itoa::Buffer;
 use rdlpp_expand::{Engine, Fault, FaultKind};
@@ -16,8 +17,9 @@ const NOTE: &[u8] = b"rdlpp: note: ";
 ///
 /// Of a source that wasn't found, or whose path is too long, the name that was asked for, and each path that was tried: `folders`
 /// are the include folders, in the order of the search. Of a limit that was passed its value and its option. Of a wrong number of
-/// arguments how many the macro takes, and how many there are. Of a backquote without a name what stands behind it. And the
-/// sources that include the one of the fault, the innermost first.
+/// arguments how many the macro takes, and how many there are. Of a backquote without a name what stands behind it. Of a macro
+/// that isn't defined that its name is a directive's which is left out, where it is. And the sources that include the one of the
+/// fault, the innermost first.
 ///
 /// # Errors
 /// As of `write_whole`; the first bytes of the notes, or none, are then written.
@@ -33,6 +35,7 @@ pub fn write_notes<S: Sources, W: Write>(
         }
         FaultKind::ArgumentCount => write_counts(fault, engine, writer)?,
         FaultKind::BareBackquote => write_behind(engine, writer)?,
+        FaultKind::UndefinedMacro => write_left_out(fault.word.as_bytes(), writer)?,
         _ => write_limit(fault.kind, engine.limits(), writer)?,
     }
     write_includers(engine, writer)
@@ -45,6 +48,17 @@ pub fn write_notes<S: Sources, W: Write>(
 pub fn write_failure<W: Write>(path: &str, error: &io::Error, writer: &mut W) -> io::Result<()> {
     write_parts(&[NOTE, path.as_bytes(), b": "], writer)?;
     writeln!(writer, "{error}")
+}
+
+// Writes that a name is a directive's which is left out, if it is.
+fn write_left_out<W: Write>(name: &[u8], writer: &mut W) -> io::Result<()> {
+    if !is_left_out(name) {
+        return Ok(());
+    }
+    write_parts(
+        &[NOTE, b"the directive '", name, b"' is left out\n"],
+        writer,
+    )
 }
 
 // Writes the value and the option of the limit that a kind of fault tells, if it does.
