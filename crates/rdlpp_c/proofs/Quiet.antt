@@ -22,7 +22,7 @@ use Rattle.rdlpp_expand.specs.declared.reading.ReadEnd.TheVariants.{Finished, St
 use Rattle.rdlpp.specs.Definitions.{Given, Taken, Declined}
 use Rattle.rdlpp.specs.Opening.{OpensGiven}
 use Rattle.rdlpp_c.specs.Faults.{kind_numbered}
-use Rattle.rdlpp_c.specs.Streaming.{FaultBuffers, IsQuiet, ReadsBytes, ReadsQuietly, SearchesAgain, StaysQuiet, TakesUp, TellsRead, owned_sources, read_wanted, told_numbers, wanted_by}
+use Rattle.rdlpp_c.specs.Streaming.{FaultBuffers, IsQuiet, ReadsBytes, ReadsQuietly, StaysQuiet, TakesUp, TellsRead, owned_sources, read_wanted, told_numbers, wanted_by}
 use Rattle.rdlpp_c.specs.declared.stream.Stream.{Stream}
 use Rattle.rdlpp_c.specs.declared.telling.Outcome.{Outcome as Numbers}
 use Rattle.rdlpp_c.proofs.FaultTexts.{own_kind}
