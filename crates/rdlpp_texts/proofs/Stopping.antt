@@ -1,7 +1,7 @@
 -- The first stop of a text, and what stands at its front.
-use Rattle.std.proofs.Common.{◌≡◌, ℕ, ◌+◌, ◌-◌, ◌<◌, ◌≤◌, Bool, true, false, true≢false, List, [], ◌∷◌, length, take, drop, refl, sym, ap, subst, ◌∙◌, arith, Option, None, Some}
+use Rattle.std.proofs.Common.{◌≡◌, ℕ, ◌+◌, ◌-◌, ◌<◌, ◌≤◌, Bool, true, false, true≢false, List, [], ◌∷◌, length, take, drop, refl, sym, ap, subst, ◌∙◌, arith, option_map, unwrap_or, Option, None, Some}
 use Rattle.std.specs.Prelude.{if◌then◌else◌, not, slice_range}
-use Rattle.std.proofs.lemmas.List.{length-drop, length-take, drop-drop, drop_all}
+use Rattle.std.proofs.lemmas.List.{length-drop, length-take, drop-drop, drop_all, nil_from_length}
 use Rattle.rdlpp_scan.specs.declared.token.Kind.{Kind}
 use Rattle.rdlpp_scan.specs.declared.token.Kind.TheVariants.{Name, Back, BareBackquote}
 use Rattle.rdlpp_scan.specs.declared.token.Mode.{Mode}
@@ -453,24 +453,100 @@ ahead-ended formals text from end h =
         (omega arith, (omega (arith, zero, same), run-empty formals [] refl ∙ sym (same ∙ zero)), drop_all (from - from) [] (omega arith))
 
 -- what stands ahead in a range of a body, by its first stop
-pub ahead-range : (m : Macro) (from end : ℕ) (s : Stop) (f : Ahead) → from < end → end ≤ length m.body → s ≡ stop_in m from end
+pub ahead-body : (texts : Texts) (source : TextSource) (id from end : ℕ) (s : Stop) (f : Ahead) → source ≡ place_of.Body id → from < end
+    → end ≤ length (source_text texts source) → s ≡ stop_in (macro_at texts.macros id) from end
     → ((formals : List Formal) (from : ℕ) (text : List ℕ) → from + length text ≡ end → s ≡ stop_of formals from text → IsAhead formals text from f)
-    → IsAhead (formals_of m) (slice_range m.body from end) from f
-unfolding stop_in
-ahead-range m from end s f h within is each =
-    let size = length-take (end - from) (drop from m.body) in
-    let rest = length-drop from m.body in
-    each (formals_of m) from (slice_range m.body from end) (omega (arith, h, within, size, rest)) is
-
--- and in a text that is that body
-pub ahead-body : (texts : Texts) (source : TextSource) (id from end : ℕ) (f : Ahead) → source ≡ place_of.Body id
-    → IsAhead (formals_of (macro_at texts.macros id)) (slice_range (macro_at texts.macros id).body from end) from f
     → IsAhead (source_formals texts source) (slice_range (source_text texts source) from end) from f
-unfolding source_formals source_text
-ahead-body texts source id from end f e h = subst (λ (x : TextSource). IsAhead (source_formals texts x) (slice_range (source_text texts x) from end) from f) (sym e) h
+unfolding source_formals source_text stop_in
+ahead-body texts source id from end s f e h inside is each =
+    let body = (macro_at texts.macros id).body in
+    let within : end ≤ length body = subst (λ (x : TextSource). end ≤ length (source_text texts x)) e inside in
+    let size = length-take (end - from) (drop from body) in
+    let rest = length-drop from body in
+    subst (λ (x : TextSource). IsAhead (source_formals texts x) (slice_range (source_text texts x) from end) from f) (sym e)
+    (each (formals_of (macro_at texts.macros id)) from (slice_range body from end) (omega (arith, h, within, size, rest)) is)
 
 -- a range of a body lies in it
 pub body-inside : (texts : Texts) (source : TextSource) (id end : ℕ) → source ≡ place_of.Body id → end ≤ length (source_text texts source)
     → end ≤ length (macro_at texts.macros id).body
 unfolding source_text
 body-inside texts source id end e inside = subst (λ (x : TextSource). end ≤ length (source_text texts x)) e inside
+
+-- The first stop of a text without formals, by its run and what stands behind that.
+
+place-none : (s : Stop) → stop_place s ≡ None → stop.None ≡ s
+place-none stop.None e = refl
+place-none (stop.Formal at len place) e = absurd (cc)
+place-none (stop.Usage at len) e = absurd (cc)
+place-none (stop.Bare at) e = absurd (cc)
+
+-- there is none, where nothing stands behind the run
+pub unlisted-none : (text : List ℕ) (from n : ℕ) → n ≡ run_len [] (tokens_from Plain 0 text) text → drop n text ≡ [] → stop.None ≡ stop_of [] from text
+unfolding stop_of PlaceTells
+unlisted-none text from n e none =
+    by (stop_place (stop_of [] from text)) refl (subst (λ (k : ℕ). PlaceTells from k (length text) (stop_place (stop_of [] from text))) (sym e) (stops-at [] from (tokens_from Plain 0 text) Plain text refl))
+  where
+    by : (place : Option ℕ) → stop_place (stop_of [] from text) ≡ place → PlaceTells from n (length text) place → stop.None ≡ stop_of [] from text
+    by None p h = place-none (stop_of [] from text) p
+    by (Some at) p h =
+        let less : n < length text = h.1 in
+        absurd (omega (arith, ap (length {A = ℕ}) none, length-drop n text, less))
+
+-- else it is the token behind the run
+unlisted-token : (text : List ℕ) (from n : ℕ) → n ≡ run_len [] (tokens_from Plain 0 text) text → 0 < length (drop n text)
+    → stop_at [] (from + n) (token_of Plain (drop n text)) (take (token_of Plain (drop n text)).len (drop n text)) ≡ stop_of [] from text
+unfolding stop_of PlaceTells
+unlisted-token text from n e some =
+    by (stop_place (stop_of [] from text)) refl (subst (λ (k : ℕ). PlaceTells from k (length text) (stop_place (stop_of [] from text))) (sym e) (stops-at [] from (tokens_from Plain 0 text) Plain text refl))
+  where
+    by : (place : Option ℕ) → stop_place (stop_of [] from text) ≡ place → PlaceTells from n (length text) place
+        → stop_at [] (from + n) (token_of Plain (drop n text)) (take (token_of Plain (drop n text)).len (drop n text)) ≡ stop_of [] from text
+    by None p h =
+        let all : n ≡ length text = h in
+        absurd (omega (arith, length-drop n text, some, all))
+    by (Some at) p h =
+        stop-token [] (from + n) Plain (drop n text) some (run-behind [] text n e)
+        ∙ (ap (λ (k : ℕ). first_stop [] (from + k) (tokens_from Plain 0 (drop k text)) (drop k text)) e
+        ∙ stop-behind [] from (tokens_from Plain 0 text) Plain text refl (place-some (stop_of [] from text) at p))
+
+usage-at : (at : ℕ) (t : Token) (bytes : List ℕ) → t.kind ≡ Back → stop.Usage at t.len ≡ stop_at [] at t bytes
+unfolding stop_at
+usage-at at t bytes e = sym (ap (λ (k : Kind). let u : Token = record { kind = k; len = t.len; next_mode = t.next_mode } in stop_at [] at u bytes) e)
+
+bare-at : (at : ℕ) (t : Token) (bytes : List ℕ) → t.kind ≡ BareBackquote → stop.Bare at ≡ stop_at [] at t bytes
+unfolding stop_at
+bare-at at t bytes e = sym (ap (λ (k : Kind). let u : Token = record { kind = k; len = t.len; next_mode = t.next_mode } in stop_at [] at u bytes) e)
+
+-- a usage, where one stands behind the run
+pub unlisted-usage : (text : List ℕ) (from n len : ℕ) → n ≡ run_len [] (tokens_from Plain 0 text) text → IsFront [] (drop n text) (front.Usage len) → stop.Usage (from + n) len ≡ stop_of [] from text
+unfolding IsFront
+unlisted-usage text from n len e f =
+    let t = token_of Plain (drop n text) in
+    ap (λ (k : ℕ). stop.Usage (from + n) k) (sym f.2) ∙ (usage-at (from + n) t (take t.len (drop n text)) f.1 ∙ unlisted-token text from n e f.0)
+
+-- or a lone backquote
+pub unlisted-bare : (text : List ℕ) (from n : ℕ) → n ≡ run_len [] (tokens_from Plain 0 text) text → IsFront [] (drop n text) front.Bare → stop.Bare (from + n) ≡ stop_of [] from text
+unfolding IsFront
+unlisted-bare text from n e f =
+    let t = token_of Plain (drop n text) in
+    bare-at (from + n) t (take t.len (drop n text)) f.1 ∙ unlisted-token text from n e f.0
+
+-- and no formal
+pub unlisted-formal : (text : List ℕ) (len place : ℕ) → IsFront [] text (front.Formal len place) → ⊥
+unfolding IsFront
+unlisted-formal text len place f =
+    let found : None ≡ Some place = f.3 in
+    absurd (cc)
+
+no_formals : (o : Option (List Formal)) (n : Option ℕ) → n ≡ option_map (length {A = Formal}) o → unwrap_or n 0 ≡ 0 → [] ≡ unwrap_or o []
+no_formals None n e z = refl
+no_formals (Some fs) n e z = sym (nil_from_length fs (sym (ap (λ (x : Option ℕ). unwrap_or x 0) e) ∙ z))
+
+-- a body without formals is such a text
+pub unlisted-body : (m : Macro) (from end : ℕ) (n : Option ℕ) (body : List ℕ) (s : Stop) → n ≡ option_map (length {A = Formal}) m.formals → unwrap_or n 0 ≡ 0 → body ≡ m.body
+    → s ≡ stop_of [] from (slice_range body from end) → s ≡ stop_in m from end
+unfolding stop_in
+unlisted-body m from end n body s e z b h =
+    h
+    ∙ (ap (λ (l : List ℕ). stop_of [] from (slice_range l from end)) b
+    ∙ ap (λ (fs : List Formal). stop_of fs from (slice_range m.body from end)) (no_formals m.formals n e z))

@@ -2,9 +2,9 @@
 ghost use Rattle.std.specs.Prelude.{[], length, slice_range, List, Some, ℕ, ◌+◌, ◌<◌, ◌≡◌, ◌≤◌, ◌^◌};
 ghost use Rattle.memchr.specs.Find.{is_byte, IsFirstByte};
 ghost use Rattle.rdlpp_scan.specs.Tokens.{tokens_from};
-ghost use Rattle.rdlpp_table.specs.Stops.{stop_of};
+ghost use Rattle.rdlpp_table.specs.Stops.{stop_in, stop_of};
 ghost use Rattle.rdlpp_table.specs.Table.{Formal};
-ghost use Rattle.rdlpp_table.specs.View.{formals_of, macro_at};
+ghost use Rattle.rdlpp_table.specs.View.{macro_at};
 ghost use Rattle.rdlpp_texts.specs.Fronts.{is_back, run_len, IsAhead, IsFront, IsLookAhead};
 ghost use Rattle.rdlpp_texts.specs.Opened.{opens_of};
 ghost use Rattle.rdlpp_texts.specs.Places.{source_formals, source_text, texts_of, IsSource};
@@ -108,38 +108,54 @@ pub(crate) fn front_of(
         };
     }
     if let TextSource::Body(id) = *source {
-        return body_front(table, id, from, end);
+        return stop_front(body_stop(table, id, from, end), end);
     }
     plain_front(&text[from..end], from)
 }
 
-// What stands ahead in a range of the body of a macro.
+// The first stop of a range of the body of a macro.
 #[inline(always)]
-fn body_front(table: &Table, id: MacroId, from: usize, end: usize) -> Ahead
+fn body_stop(table: &Table, id: MacroId, from: usize, end: usize) -> Stop
     requires id { id < length table.now.macros }
-    requires order { from < end }
+    requires order { from ≤ end }
     requires inside { end ≤ length (macro_at table.now.macros id).body }
-    ensures { IsAhead (formals_of (macro_at table.now.macros id)) (slice_range (macro_at table.now.macros id).body from end) from result }
+    ensures { result ≡ stop_in (macro_at table.now.macros id) from end }
 {
     match table.kept_stop(id, from, end) {
-        Some(stop) => stop_front(stop, end),
-        None => sought_front(table, id, from, end),
+        Some(stop) => stop,
+        None => sought_stop(table, id, from, end),
     }
 }
 
-// The same, where the range has to be read. In a body without formals it ends at a backquote.
+// The same, where the range has to be read. In a body without formals only a backquote is a stop.
 #[cold]
 #[inline(never)]
-fn sought_front(table: &Table, id: MacroId, from: usize, end: usize) -> Ahead
+fn sought_stop(table: &Table, id: MacroId, from: usize, end: usize) -> Stop
     requires id { id < length table.now.macros }
-    requires order { from < end }
+    requires order { from ≤ end }
     requires inside { end ≤ length (macro_at table.now.macros id).body }
-    ensures { IsAhead (formals_of (macro_at table.now.macros id)) (slice_range (macro_at table.now.macros id).body from end) from result }
+    ensures { result ≡ stop_in (macro_at table.now.macros id) from end }
 {
     if table.arity(id).unwrap_or(0) == 0 {
-        return plain_front(&table.body(id)[from..end], from);
+        return unlisted_stop(&table.body(id)[from..end], from);
     }
-    stop_front(table.seek_stop(id, from, end), end)
+    table.seek_stop(id, from, end)
+}
+
+// The first stop of a text without formals that begins at a place.
+fn unlisted_stop(text: &[u8], from: usize) -> Stop
+    requires { from + length text.now < 2 ^ 64 }
+    ensures { result ≡ stop_of [] from text.now }
+{
+    let len = run_len(text);
+    let at = from + len;
+    match plain_stop(&text[len..]) {
+        Front::Ended => Stop::None,
+        Front::Usage(len) => Stop::Usage { at, len },
+        Front::Bare => Stop::Bare { at },
+        // There is none.
+        Front::Formal { len, place } => Stop::Formal { at, len, place },
+    }
 }
 
 // What stands ahead in a text that ends at a place, by its first stop.

@@ -8,12 +8,13 @@ use Rattle.rdlpp_texts.proofs.front.front_of.Goals as goal
 pub returns-then-end-from : goal.returns-then-end-from
 returns-then-end-from c = ahead-ended _ _ c.args.from c.args.end c.if-end-from.true
 
-pub body_front-requires-clause-inside : goal.body_front-requires-clause-inside
-body_front-requires-clause-inside c = body-inside (texts_of c.args.table.now.macros c.args.arguments.now) c.args.source.now _ _ c.in-Body.is c.requires.inside
+pub body_stop-requires-clause-inside : goal.body_stop-requires-clause-inside
+body_stop-requires-clause-inside c = body-inside (texts_of c.args.table.now.macros c.args.arguments.now) c.args.source.now _ _ c.in-Body.is c.requires.inside
 
 pub returns-in-Body : goal.returns-in-Body
 returns-in-Body c =
-    ahead-body (texts_of c.args.table.now.macros c.args.arguments.now) c.args.source.now _ c.args.from c.args.end _ c.in-Body.is c.body_front.ensures
+    ahead-body (texts_of c.args.table.now.macros c.args.arguments.now) c.args.source.now _ c.args.from c.args.end _ _ c.in-Body.is c.if-end-from.false c.requires.inside
+    c.body_stop.ensures c.stop_front.ensures
 
 pub returns : goal.returns
 returns c =
