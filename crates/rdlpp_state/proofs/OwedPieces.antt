@@ -4,6 +4,7 @@ use Rattle.std.specs.Prelude.{decimal}
 use Rattle.std.proofs.lemmas.List.{length-replicate, replicate-append-replicate, take-replicate, take_all}
 use Rattle.rdlpp_state.specs.Owed.{OriginView, OwedView, TakesPiece, behind_piece, digits_of, first_piece, line_from, origin_bytes, origin_pieces, owed_bytes, owed_pieces, part_bytes, pieces_from}
 use Rattle.rdlpp_state.specs.declared.owed.OwedPart.{OwedPart}
+use Rattle.rdlpp_state.specs.declared.owed.OwedPiece.{OwedPiece}
 use Rattle.rdlpp_state.specs.declared.owed.OwedPart.TheVariants.{LineEnds, Label, Name, Colon, Digits}
 
 -- all of a list, and then another
@@ -39,8 +40,9 @@ takes_origin Colon name number = record { inside = omega arith; bytes = refl; fe
 takes_origin Digits name number = record { inside = omega arith; bytes = whole_behind (decimal number) _; fewer = omega arith }
 
 -- so it is where nothing stands before it
-pub takes_first : (name : List ℕ) (name_len lines : ℕ) (at : Option OriginView) (origin : OriginView) → length name ≡ name_len → lines ≤ 0 → at ≡ Some origin
-    → TakesPiece name (record { line_ends = lines; origin = at }) (record { line_ends = lines; origin = behind_piece origin }) (first_piece name_len origin)
-takes_first name name_len lines at origin size none is =
+pub takes_first : (name : List ℕ) (name_len lines : ℕ) (at behind : Option OriginView) (origin : OriginView) (piece : OwedPiece)
+    → length name ≡ name_len → lines ≤ 0 → at ≡ Some origin → behind_piece origin ≡ behind → piece ≡ first_piece name_len origin
+    → TakesPiece name (record { line_ends = lines; origin = at }) (record { line_ends = lines; origin = behind }) piece
+takes_first name name_len lines at behind origin piece size none is rest first =
     let zero : lines ≡ 0 = omega arith in
-    rw (← size, zero, is) (takes_origin origin.part name origin.number)
+    rw (first, ← rest, ← size, zero, is) (takes_origin origin.part name origin.number)

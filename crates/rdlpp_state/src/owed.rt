@@ -1,5 +1,5 @@
 // Texts that are owed: they are lent before anything that follows in the source.
-ghost use Rattle.std.specs.Prelude.{◌≡◌, ◌↔◌, ℕ, List, ◌+◌, ◌<◌, ◌≤◌, ◌^◌, IfNone, IfSome, IsTrue, decimal, length, take};
+ghost use Rattle.std.specs.Prelude.{◌≡◌, ◌↔◌, ℕ, List, None, Some, ◌+◌, ◌<◌, ◌≤◌, ◌^◌, IfNone, IfSome, IsTrue, decimal, if◌then◌else◌, length, take};
 ghost use Rattle.rdlpp_state.specs.Owed.{TakesPiece, behind_piece, cut_to, digits_of, first_piece, nothing_owed, origin_owed, owed_number, part_bytes};
 
 use arrayvec::ArrayString;
@@ -112,29 +112,19 @@ impl OriginLine {
         }
     }
 
-    // What is owed behind its first piece.
+    // Passes its first piece, and answers whether more of it is owed then.
     #[tactic(auto, unfolding(crate::specs::Owed::behind_piece))]
-    fn behind_piece(&self) -> Option<Self>
-        ensures { result ≡ behind_piece self.now }
+    fn pass_piece(&mut self) -> bool
+        ensures { behind_piece self.old ≡ (if result then Some self.new else None) }
     {
-        match self.part {
-            OwedPart::LineEnds => None,
-            OwedPart::Label => Some(self.from(OwedPart::Name)),
-            OwedPart::Name => Some(self.from(OwedPart::Colon)),
-            OwedPart::Colon => Some(self.from(OwedPart::Digits)),
-            OwedPart::Digits => Some(self.from(OwedPart::LineEnds)),
-        }
-    }
-
-    // The same line from a part of it on.
-    fn from(&self, part: OwedPart) -> Self
-        ensures { result ≡ record self.now { part = part } }
-    {
-        OriginLine {
-            part,
-            number: self.number,
-            digits: self.digits,
-        }
+        self.part = match self.part {
+            OwedPart::LineEnds => return false,
+            OwedPart::Label => OwedPart::Name,
+            OwedPart::Name => OwedPart::Colon,
+            OwedPart::Colon => OwedPart::Digits,
+            OwedPart::Digits => OwedPart::LineEnds,
+        };
+        true
     }
 }
 
@@ -208,12 +198,13 @@ impl Owed {
                 len,
             });
         }
-        match &self.origin {
+        match &mut self.origin {
             None => None,
             Some(line) => {
                 let piece = line.first_piece(name_len);
-                let behind = line.behind_piece();
-                self.origin = behind;
+                if !line.pass_piece() {
+                    self.origin = None;
+                }
                 Some(piece)
             }
         }

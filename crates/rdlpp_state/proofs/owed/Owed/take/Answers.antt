@@ -1,8 +1,13 @@
-use Rattle.std.proofs.Common.{◌≡◌, ◌-◌, Option, refl, sym, ◌∙◌, subst, arith}
+use Rattle.std.proofs.Common.{◌≡◌, ◌-◌, ℕ, Bool, List, Option, None, Some, refl, sym, ap, ◌∙◌, subst, if◌then◌else◌, arith}
 use Rattle.rdlpp_state.specs.Owed.{OriginView, OwedView, TakesPiece, nothing_owed}
 use Rattle.rdlpp_state.specs.declared.owed.OwedPart.TheVariants.{LineEnds}
+use Rattle.rdlpp_state.specs.declared.owed.OwedPiece.{OwedPiece}
 use Rattle.rdlpp_state.proofs.OwedPieces.{takes_first, takes_line_ends}
 use Rattle.rdlpp_state.proofs.owed.Owed.take.Goals as goal
+
+-- a piece is taken out of what is owed by its other name
+taken : {name : List ℕ} {a b : OwedView} {new : OwedView} {piece : OwedPiece} → a ≡ b → TakesPiece name a new piece → TakesPiece name b new piece
+taken {name} {a} {b} {new} {piece} same t = subst (λ (o : OwedView). TakesPiece name o new piece) same t
 
 pub returns-then-self-gt0-clause-piece : goal.returns-then-self-gt0-clause-piece
 returns-then-self-gt0-clause-piece c = λ name size.
@@ -17,13 +22,16 @@ pub returns-in-None-clause-nothing : goal.returns-in-None-clause-nothing
 unfolding nothing_owed
 returns-in-None-clause-nothing c =
     let lines : c.self.inside.line_ends ≡ 0 = (let none = c.if-self-gt0.false in omega arith) in
-    (sym c.self.view_is ∙ rw (lines, c.in-None.is) refl, refl)
+    (sym c.self.view_is ∙ rw (lines, c.in-None.is) refl, c.self.view_is)
 
-pub returns-in-Some-clause-piece : goal.returns-in-Some-clause-piece
-returns-in-Some-clause-piece c = λ name size.
-    let lines = c.self.inside.line_ends in
-    let behind : Option OriginView = c.behind_piece-behind.result in
-    let P : OwedView → Type 0 = λ o. TakesPiece name o (record { line_ends = lines; origin = behind }) c.first_piece-piece.result in
-    subst P c.self.view_is
-    (rw (c.first_piece-piece.ensures, c.behind_piece-behind.ensures)
-    (takes_first name c.args.name_len lines c.self.inside.origin c.in-Some.line size c.if-self-gt0.false c.in-Some.is))
+pub returns-then-not-pass_piece-clause-piece : goal.returns-then-not-pass_piece-clause-piece
+returns-then-not-pass_piece-clause-piece c = λ name size.
+    taken c.self.view_is
+    (takes_first name c.args.name_len c.self.inside.line_ends c.self.inside.origin _ c.in-Some.line c.first_piece-piece.result size c.if-self-gt0.false c.in-Some.is
+    (c.pass_piece.ensures ∙ ap (λ (more : Bool). if more then Some c.pass_piece.new.self else None) c.if-not-pass_piece.true) c.first_piece-piece.ensures)
+
+pub returns-else-not-pass_piece-clause-piece : goal.returns-else-not-pass_piece-clause-piece
+returns-else-not-pass_piece-clause-piece c = λ name size.
+    taken c.self.view_is
+    (takes_first name c.args.name_len c.self.inside.line_ends c.self.inside.origin _ c.in-Some.line c.first_piece-piece.result size c.if-self-gt0.false c.in-Some.is
+    (c.pass_piece.ensures ∙ ap (λ (more : Bool). if more then Some c.pass_piece.new.self else None) c.if-not-pass_piece.false) c.first_piece-piece.ensures)
