@@ -42,8 +42,10 @@ fn calm_len(mode: Mode, bytes: &[u8]) -> usize
     }
 }
 
-// How many bytes a text begins with that begin no string, no comment and no `<%`.
-fn calm_bytes(bytes: &[u8]) -> usize
+/// How many calm bytes a text begins with: none of them begins a string, a comment or `<%`, since it is no `"`, no `/` and no `<`.
+///
+/// Costs time linear in the result.
+pub fn calm_bytes(bytes: &[u8]) -> usize
     ensures value { result ≡ prefix_len is_calm bytes.now }
     ensures inside { result ≤ length bytes.now }
 {

@@ -4,6 +4,7 @@ use Rattle.std.specs.List.{prefix_len}
 use Rattle.std.proofs.lemmas.Bool.{cases_Bool, false≢true, cond_both, cond-true, cond-false, eqb-true, leb-true, ltb-true, or_cases, and_parts, cases_lt}
 use Rattle.std.proofs.lemmas.List.{get_or-drop, length-drop, length-take, drop-drop, drop-take, take_all}
 use Rattle.rdlpp_scan.specs.Bytes.{begins_block_comment, begins_line_comment, begins_perl, is_blank, is_closer, is_digit, is_letter, is_line_end, is_opener, is_quiet, is_word, takes_word}
+use Rattle.rdlpp_scan.specs.LexFaults.{is_calm}
 use Rattle.rdlpp_scan.specs.declared.token.Kind.{Kind}
 use Rattle.rdlpp_scan.specs.declared.token.Kind.TheVariants.{Name, Word, Back, Blank, LineEnd, Str, LineComment, BlockComment, Opener, Closer, Comma, Other, Perl, BareBackquote}
 use Rattle.rdlpp_scan.specs.declared.token.Mode.{Mode}
@@ -13,7 +14,7 @@ use Rattle.rdlpp_scan.specs.Tokens.{plain_token, token_of, tokens_from, whole}
 use Rattle.rdlpp_scan.proofs.TokenLens.{token_of-part}
 use Rattle.rdlpp_table.specs.declared.stop.Stop.{Stop}
 use Rattle.rdlpp_table.specs.declared.stop.Stop.TheVariants as stop
-use Rattle.rdlpp_table.specs.Kept.{before_stop, calm_kept, endless, is_calm, is_cut, kept_from, kept_of, kept_stop, placed, stop_by, stop_end, stop_kept, stop_known, stop_within}
+use Rattle.rdlpp_table.specs.Kept.{before_stop, calm_kept, endless, is_cut, kept_from, kept_of, kept_stop, placed, stop_by, stop_end, stop_kept, stop_known, stop_within}
 use Rattle.rdlpp_table.specs.declared.kept.Kept.{Kept}
 use Rattle.rdlpp_table.specs.declared.kept.KeptKind.{KeptKind}
 use Rattle.rdlpp_table.specs.declared.kept.KeptKind.TheVariants as kept

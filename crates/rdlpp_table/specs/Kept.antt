@@ -3,6 +3,7 @@
 use Rattle.std.specs.Prelude.{ℕ, zero, suc, ◌+◌, ◌-◌, Bool, nat_le, nat_lt, not, if◌then◌else◌, ◌&&◌, ◌||◌, ◌==◌, List, [], ◌∷◌, length, slice_index, take, drop, Option, Some, None}
 use Rattle.std.specs.List.{prefix_len}
 use Rattle.rdlpp_scan.specs.Bytes.{is_quiet, is_word}
+use Rattle.rdlpp_scan.specs.LexFaults.{is_calm}
 use Rattle.rdlpp_table.specs.declared.kept.FirstStops.{FirstStops}
 use Rattle.rdlpp_table.specs.declared.kept.Kept.{Kept}
 use Rattle.rdlpp_table.specs.declared.kept.KeptKind.{KeptKind}
@@ -49,10 +50,6 @@ stop_by kept.Bare at len place = Some (stop.Bare at)
 unfoldable pub stop_kept : Kept → Option Stop
 stop_kept k = stop_by k.kind (k.end - k.len) k.len k.place
 
--- whether a byte outside strings and comments can begin neither one: it's no `"`, no `/` and no `<`, with which `<%` begins
-unfoldable pub is_calm : ℕ → Bool
-is_calm b = not (b == 34 || (b == 47 || b == 60))
-
 -- a text that begins at a place, up to its first stop
 unfoldable pub before_stop : Stop → ℕ → List ℕ → List ℕ
 before_stop stop.None from text = text
@@ -60,7 +57,7 @@ before_stop (stop.Formal at len place) from text = take (at - from) text
 before_stop (stop.Usage at len) from text = take (at - from) text
 before_stop (stop.Bare at) from text = take (at - from) text
 
--- how many calm bytes a text begins with, as they are kept
+-- how many bytes that can begin no string, no comment and no `<%` a text begins with, as they are kept
 unfoldable pub calm_kept : List ℕ → ℕ
 calm_kept text = prefix_len is_calm (take 255 text)
 

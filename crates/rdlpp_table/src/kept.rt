@@ -1,13 +1,11 @@
 // The first stops of a body, which are looked for once and kept in its entry.
 ghost use Rattle.std.specs.Prelude.{drop, length, slice_index, slice_range, IfSome, List, ℕ, ◌+◌, ◌<◌, ◌≡◌, ◌≤◌, ◌^◌};
-ghost use Rattle.std.specs.List.{prefix_len};
 ghost use Rattle.rdlpp_scan.specs.Bytes.{is_word};
 ghost use Rattle.rdlpp_table.specs.Kept.{
   before_stop,
   calm_kept,
   endless,
   first_stops,
-  is_calm,
   is_cut,
   kept_from,
   kept_of,
@@ -28,7 +26,7 @@ ghost use Rattle.rdlpp_table.specs.Table.{Formal};
 use crate::marks::Listed;
 use crate::stop::{Stop, first_stop};
 use crate::stored::shapes;
-use rdlpp_scan::{quiet_bytes, word_bytes};
+use rdlpp_scan::{calm_bytes, quiet_bytes, word_bytes};
 
 // What a stop is that is kept: unknown, where its numbers are too large.
 #[derive(Clone, Copy, Drop)]
@@ -136,14 +134,6 @@ fn stop_kept(kept: Kept) -> Option<Stop>
     stop_by(kept.kind, at, len, kept.place as usize)
 }
 
-// Whether a byte outside strings and comments can begin neither one, nor `<%`: it is no `"`, no `/` and no `<`.
-#[tactic(auto, unfolding(crate::specs::Kept::is_calm))]
-fn is_calm(b: u8) -> bool
-    ensures { result ≡ is_calm b }
-{
-    !(b == b'"' || (b == b'/' || b == b'<'))
-}
-
 // A text that begins at a place, up to its first stop.
 #[tactic(auto, unfolding(crate::specs::Kept::before_stop, crate::specs::Kept::stop_end))]
 fn before_stop(stop: Stop, from: usize, text: &[u8]) -> &[u8]
@@ -156,14 +146,6 @@ fn before_stop(stop: Stop, from: usize, text: &[u8]) -> &[u8]
             &text[..at.saturating_sub(from)]
         }
     }
-}
-
-// How many calm bytes a text begins with.
-fn calm_bytes(text: &[u8]) -> usize
-    ensures value { result ≡ prefix_len is_calm text.now }
-    ensures inside { result ≤ length text.now }
-{
-    text.iter().take_while(|b| is_calm(**b)).count()
 }
 
 // How many calm bytes a text begins with, as they are kept.

@@ -1,6 +1,7 @@
 use Rattle.std.proofs.Common.{ap, arith, ◌∙◌}
 use Rattle.std.specs.List.{prefix_len}
-use Rattle.rdlpp_table.specs.Kept.{calm_kept, is_calm}
+use Rattle.rdlpp_scan.specs.LexFaults.{is_calm}
+use Rattle.rdlpp_table.specs.Kept.{calm_kept}
 use Rattle.rdlpp_table.proofs.CalmStops.{near_bytes}
 use Rattle.rdlpp_table.proofs.kept.calm_kept.Goals as goal
 
