@@ -17,6 +17,7 @@ use arrayvec::ArrayString;
 use rdlpp::{Fault, FaultKind, ReadEnd, ReadPart, Reading};
 use rdlpp_expand::{LineStep, Position, READ_ALLOWANCE};
 use rdlpp_reports::MappedLines;
+use rdlpp_scan::line_ends_in;
 use rdlpp_source::{AskedTexts, Sources};
 use std::alloc::Global;
 
@@ -284,8 +285,9 @@ pub(crate) fn told_read(
 }
 
 // How many LF bytes there are.
+#[tactic(auto, unfolding(rdlpp_scan::specs::SourceTokens::line_ends, rdlpp_scan::specs::Bytes::is_line_end))]
 fn line_ends(bytes: &[u8]) -> u64
     ensures { result ≡ count_by (λ b. b == 10) bytes.now }
 {
-    bytes.iter().filter(|byte| **byte == b'\n').count() as u64
+    line_ends_in(bytes) as u64
 }
