@@ -432,7 +432,7 @@ or_false false = refl
 -- the bound doesn't speak of the fault that is kept
 pub bounded_kept : {S R : Type 0} (e : EngineView S R) (kept : Option Told) → IsBounded e → IsBounded (record e { kept = kept })
 unfolding stores_of
-bounded_kept e kept b = record { bytes = b.bytes; cursors = b.cursors; bindings = b.bindings; conditions = b.conditions; sources = b.sources; texts = b.texts }
+bounded_kept e kept b = record { bytes = b.bytes; windows = b.windows; cursors = b.cursors; bindings = b.bindings; conditions = b.conditions; sources = b.sources; texts = b.texts }
 
 -- the kept fault is no write that failed, where none is kept
 none_kept : (test : FaultKind → Bool) (kept : Option Told) → kept ≡ None → is_kept test kept ≡ false

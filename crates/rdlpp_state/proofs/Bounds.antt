@@ -1,11 +1,15 @@
 -- The bytes that are held are within their bound.
-use Rattle.std.proofs.Common.{◌≡◌, inl, ℕ, ◌+◌, ◌*◌, ◌^◌, ◌≤◌, ◌<◌, [], None, length, map, reverse, sum_by, ap, ◌∙◌, subst, arith}
+use Rattle.std.proofs.Common.{◌≡◌, inl, ℕ, ◌+◌, ◌*◌, ◌^◌, ◌≤◌, ◌<◌, List, [], ◌∷◌, ◌++◌, None, length, map, reverse, sum_by, ap, ◌∙◌, subst, arith}
+use Rattle.std.proofs.lemmas.List.{reverse-append}
+use Rattle.std.proofs.lemmas.List.Elements.{All-append, All-cons, All-head, All-nil, All-same, All-tail}
 use Rattle.std.proofs.Math.Nat.{mul-le-mul_right}
+use Rattle.std.specs.List.{All}
 use Rattle.rdlpp_table.proofs.Sizes.{length_table_bytes}
 use Rattle.rdlpp_table.specs.Limits.{AreInRange}
 use Rattle.rdlpp_table.specs.declared.limits.Limits.{Limits}
 use Rattle.rdlpp_read.proofs.Slots.{held-bound, held_windows-len}
-use Rattle.rdlpp_read.specs.Files.{AreOpen, held_windows}
+use Rattle.rdlpp_read.specs.Files.{AreOpen, IsSlot, held_windows}
+use Rattle.rdlpp_read.specs.declared.files.File.{File}
 use Rattle.rdlpp_texts.specs.Opened.{bound_by}
 use Rattle.rdlpp_usages.specs.Usages.{IsRoomy}
 use Rattle.rdlpp_state.specs.Engine.{AreOpenTexts, EngineView, IsSoundEngine, is_open}
@@ -14,6 +18,21 @@ use Rattle.rdlpp_state.specs.OpenConditionals.{AreBelow}
 use Rattle.rdlpp_state.specs.Stored.{LetsGo}
 use Rattle.rdlpp_state.specs.declared.phase.Phase.TheVariants.{Closed}
 use Rattle.rdlpp_state.proofs.Stores.{none_called}
+
+-- no open source holds more bytes than a line may have
+windows_within : {R : Type 0} (size : ℕ) (nest : List (File R)) → All (IsSlot size) nest → All (λ (w : List ℕ). length w ≤ size) (held_windows nest)
+unfolding held_windows
+windows_within size [] each = All-nil (λ (w : List ℕ). length w ≤ size)
+windows_within {R} size (f ∷ fs) each =
+    let P : List ℕ → Type 0 = λ w. length w ≤ size in
+    let slot : IsSlot size f = All-head (IsSlot size) f fs each in
+    let within = slot.buffer.within in
+    let same = slot.size in
+    let here : P f.buffer.window = omega arith in
+    let rest : All P (held_windows fs) = windows_within size fs (All-tail (IsSlot size) f fs each) in
+    let cut : held_windows (f ∷ fs) ≡ held_windows fs ++ f.buffer.window ∷ [] = reverse-append (f.buffer.window ∷ []) (map (λ (g : File R). g.buffer.window) fs) in
+    All-same P (held_windows (f ∷ fs)) (held_windows fs ++ f.buffer.window ∷ []) cut
+    (All-append P (held_windows fs) (f.buffer.window ∷ []) rest (All-cons P f.buffer.window [] here (All-nil P)))
 
 -- an engine whose stores are within their limits is within the bound
 pub is_bounded : {S R : Type 0} (e : EngineView S R) → IsSoundEngine e.limits e.phase e.table e.files e.conditions → AreOpen e.files
@@ -37,6 +56,7 @@ is_bounded e sound files texts room =
     let slots_are = sound.slots in
     record {
       bytes = omega (arith, length_table_bytes e.table.macros);
+      windows = subst (λ (n : ℕ). All (λ (w : List ℕ). length w ≤ n) (held_windows e.files.nest)) sound.line_bytes (windows_within e.files.line_bytes e.files.nest files.each);
       cursors = omega (arith, few_texts, depth);
       bindings = omega (arith, few_bound, depth);
       conditions = omega (arith, few_open, limit);

@@ -145,7 +145,7 @@ same_work e phase quota = refl
 
 same_bound : {S R : Type 0} (e : EngineView S R) (phase : Phase) (quota : ℕ) → IsBounded e → IsBounded (record e { phase = phase; quota = quota })
 unfolding stores_of
-same_bound e phase quota b = record { bytes = b.bytes; cursors = b.cursors; bindings = b.bindings; conditions = b.conditions; sources = b.sources; texts = b.texts }
+same_bound e phase quota b = record { bytes = b.bytes; windows = b.windows; cursors = b.cursors; bindings = b.bindings; conditions = b.conditions; sources = b.sources; texts = b.texts }
 
 -- what a walk that lent bytes says of what remains
 module _ {S R : Type 0} (g : Ghosts S R) (old mid new : EngineView S R) (xs : List ℕ) (w : WalksOver g most_silent old mid (Ok (Some xs))) where

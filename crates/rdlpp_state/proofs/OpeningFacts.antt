@@ -271,6 +271,7 @@ starts_refused {S} {R} g e s kind path own none idle bounded failures refusals t
   remains_output = λ device memory telling. left_unopened g e s kind path ∙ told device memory telling;
   bounded = record {
     bytes = bounded.bytes;
+    windows = bounded.windows;
     cursors = bounded.cursors;
     bindings = bounded.bindings;
     conditions = bounded.conditions;

@@ -1,6 +1,6 @@
 -- The held stores, and their bound.
 -- A definition that names no source is this project's own.
-use Rattle.std.specs.Prelude.{◌≡◌, ℕ, ◌+◌, ◌*◌, ◌≤◌, List, length, sum_by}
+use Rattle.std.specs.Prelude.{◌≡◌, ℕ, ◌+◌, ◌*◌, ◌≤◌, All, List, length, sum_by}
 use Rattle.rdlpp_table.specs.Table.{table_bytes}
 use Rattle.rdlpp_table.specs.declared.limits.Limits.{Limits}
 use Rattle.rdlpp_read.specs.Files.{held_windows}
@@ -33,10 +33,12 @@ held_bytes s = length s.definitions + (length s.arguments + sum_by length s.buff
 unfoldable pub bound_of : Limits → ℕ
 bound_of limits = limits.definition_bytes + (limits.argument_bytes + (limits.includes + 1) * limits.line_bytes)
 
--- what is held is within its bounds: the bytes; and the counts of open texts, of the actuals that are bound in them, of open
--- conditionals and of open sources; and each open text lies in a live definition or in what is kept of the call (this project's profile)
+-- what is held is within its bounds: the bytes, and those of each open source; and the counts of open texts, of the actuals that are
+-- bound in them, of open conditionals and of open sources; and each open text lies in a live definition or in what is kept of the call
+-- (this project's profile)
 pub record IsBounded {S R : Type 0} (e : EngineView S R) : Type 0 where
   pub bytes : held_bytes (stores_of e) ≤ bound_of e.limits
+  pub windows : All (λ w. length w ≤ e.limits.line_bytes) (stores_of e).buffers
   pub cursors : length e.expansion.opens ≤ e.limits.depth
   pub bindings : bound_by e.expansion.opens ≤ e.limits.depth * 255
   pub conditions : length e.conditions.open_now ≤ e.limits.conditions
