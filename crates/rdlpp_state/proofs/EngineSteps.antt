@@ -110,7 +110,7 @@ steps_ended g e started bounded free closed = record {
 }
 
 -- no step at all
-abbrev reaches_same : {S R : Type 0} (g : Ghosts S R) (e : EngineView S R) → Reaches g e e
+abbrev pub reaches_same : {S R : Type 0} (g : Ghosts S R) (e : EngineView S R) → Reaches g e e
 reaches_same g e = record { between = []; steps = refl }
 
 -- steps that lend nothing, and then others
@@ -190,6 +190,8 @@ module _ {S R : Type 0} (g : Ghosts S R) (old new : EngineView S R) (free : old.
       let keeps : Option Told → EngineView S R = λ k. record old { kept = k; files = new.files; sources = new.sources } in
       record {
         at = old;
+        reached = reaches_same g old;
+        idle = λ h none. h.idle (inl free) none;
         text = λ t. refl;
         unowed = unowed;
         stopped = AtFront (record {
@@ -418,13 +420,14 @@ unfolding all_of behind_bytes
 silent_text quota old new lends = lends.text ∙ ap (λ (x : List ℕ). behind_bytes x new) (sym lends.lent)
 
 -- what an answer leaves, behind such a part
-halts_behind : {S R : Type 0} (g : Ghosts S R) (answer : Result (Option (List ℕ)) Told) (old mid new : EngineView S R) → (g.tells old.sources → text_of g old ≡ text_of g mid)
-    → (g.tells old.sources → g.tells mid.sources) → Halts g answer mid new → Halts g answer old new
-halts_behind g (Ok (Some bytes)) old mid new text tells halts = tt
-halts_behind g (Ok None) old mid new text tells halts = halts
-halts_behind g (Err f) old mid new text tells halts = record {
+halts_behind : {S R : Type 0} (g : Ghosts S R) (n : ℕ) (answer : Result (Option (List ℕ)) Told) (old mid new : EngineView S R) → IsSilent g n old mid → Halts g answer mid new → Halts g answer old new
+halts_behind g n (Ok (Some bytes)) old mid new first halts = tt
+halts_behind g n (Ok None) old mid new first halts = halts
+halts_behind g n (Err f) old mid new first halts = record {
   at = halts.at;
-  text = λ t. text t ∙ halts.text (tells t);
+  reached = reaches_on g old mid halts.at first.reaches halts.reached;
+  idle = λ h none. halts.idle (first.keeps.lets_go h) none;
+  text = λ t. first.text t ∙ halts.text (first.call.tells t);
   unowed = halts.unowed;
   stopped = halts.stopped;
 }
@@ -466,7 +469,7 @@ silent_then g n m old mid new answer first then_ =
       reads = λ met.
           let reads = then_.reads (sym (same is_call_failed) ∙ met) in
           record { open_ = first.open_; still = reads.still; at = reads.at; stood = reads.stood; text = λ t. first.text t ∙ reads.text (first.call.tells t) };
-      halts = λ _ _. halts_behind g answer old mid new first.text first.call.tells (then_.halts first.still first.stays);
+      halts = λ _ _. halts_behind g n answer old mid new first (then_.halts first.still first.stays);
       falls = λ bytes is. (let less = then_.falls bytes is in let most = first.work in omega arith);
       lends = λ bytes is. (first.open_, (then_.lends bytes is).1);
       quota = (let one = first.quota in let two = then_.quota in omega arith);

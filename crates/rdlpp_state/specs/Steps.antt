@@ -21,8 +21,8 @@ use Rattle.rdlpp_state.specs.Held.{IsBounded}
 use Rattle.rdlpp_state.specs.Includes.{IsSearch}
 use Rattle.rdlpp_state.specs.Owed.{nothing_owed}
 use Rattle.rdlpp_state.specs.Silences.{most_silent}
-use Rattle.rdlpp_state.specs.Standing.{LendsWhere}
-use Rattle.rdlpp_state.specs.Stored.{HoldsStores, LetsGo}
+use Rattle.rdlpp_state.specs.Standing.{LendsWhere, Reaches}
+use Rattle.rdlpp_state.specs.Stored.{HoldsStores, LetsGo, called_formals}
 use Rattle.rdlpp_state.specs.Remaining.{left_of, output_fault, uncut_of, state_of, text_of, work_left}
 use Rattle.rdlpp_state.specs.declared.phase.Phase.{Phase}
 use Rattle.rdlpp_state.specs.declared.phase.Phase.TheVariants.{Fresh, Open, Passed, Closed}
@@ -129,9 +129,12 @@ pub data Halted {S R : Type 0} (g : Ghosts S R) (at new : EngineView S R) : Type
   AtFront : StopsAtFront g at new → Halted g at new
   InCall : StopsInCall g at new → Halted g at new
 
--- a fault in an open text: it came to an engine of which the same text remained and that owed nothing
+-- a fault in an open text: it came to an engine that was reached by steps that lend none, of which the same text remained, and that owed
+-- nothing; that engine kept nothing where no call in the source was open
 pub record HaltsAt {S R : Type 0} (g : Ghosts S R) (old new : EngineView S R) : Type 0 where
   pub at : EngineView S R
+  pub reached : Reaches g old at
+  pub idle : LetsGo old → called_formals at.table.macros at.expansion.opens ≡ None → at.expansion.arguments ≡ []
   pub text : g.tells old.sources → text_of g old ≡ text_of g at
   pub unowed : at.owed ≡ nothing_owed
   pub stopped : Halted g at new
