@@ -8,7 +8,7 @@ use Rattle.rdlpp_source.specs.declared.sources.SourceFault.TheVariants.{Absent, 
 use Rattle.rdlpp_source.specs.Counts.{Counts}
 use Rattle.rdlpp_source.specs.Sources.{Answer, Finds, Missing, Overlong, Present, is_device}
 use Rattle.rdlpp_source.specs.Search.{answer_at, answer_or, at_path, candidates, first_answer}
-use Rattle.rdlpp_source.specs.Asked.{Answered, Answers, Comes, Ends, Refused, Search, Wanted, asked_catalog, failed_search, seen_failures, first_search, folders_of, known_search, search_at, search_of, search_or, standing_at, standing_text, text_at, unread_of}
+use Rattle.rdlpp_source.specs.Asked.{Answered, Answers, Comes, Ends, Refused, Search, Wanted, asked_catalog, failed_search, is_found, seen_failures, first_search, folders_of, known_search, search_at, search_of, search_or, standing_at, standing_text, text_at, unread_of}
 use Rattle.rdlpp_source.specs.declared.asked.AskedTexts.{AskedTexts}
 use Rattle.rdlpp_source.specs.declared.asked.Stop.{Stop}
 use Rattle.rdlpp_source.specs.declared.asked.Stop.TheVariants.{Absent as NotThere, PathTooLong as TooLong, Failed as NotOpened, NoMemory as NoRoom, Wanted as NotKnown}
@@ -59,6 +59,14 @@ says_finds s answer (Err PathTooLong) wanted says a = subst (λ (t : Search). Sa
 says_finds s answer (Err Device) wanted says a = tt
 says_finds s answer (Err NoMemory) wanted says a = tt
 
+-- the first candidate at which a text stands ends a search
+pub found_or : (s next : Search) → is_found s ≡ true → is_found (search_or s next) ≡ true
+found_or (Answered Missing) next e = cc e
+found_or (Answered Overlong) next e = cc e
+found_or (Answered (Present path text)) next e = refl
+found_or Refused next e = cc e
+found_or (Wanted path) next e = cc e
+
 -- a search that is told as it ended within answers so
 pub answers_of : (s : Search) (within : Result (Found (List ℕ)) Stop) (r : Result (Found (List ℕ)) SourceFault) (wanted : Option (List ℕ))
     → Comes s within → Ends within r wanted → Answers s r wanted
@@ -66,7 +74,7 @@ answers_of s (Ok found) r wanted c e = subst (λ (t : Result (Found (List ℕ)) 
 answers_of s (Err NotThere) (Err fault) wanted c e = subst (λ (f : SourceFault). Answers s (Err f) wanted) (sym e.0) (c, e.1)
 answers_of s (Err TooLong) (Err fault) wanted c e = subst (λ (f : SourceFault). Answers s (Err f) wanted) (sym e.0) (c, e.1)
 answers_of s (Err NotOpened) (Err fault) wanted c e = subst (λ (f : SourceFault). Answers s (Err f) wanted) (sym e.0) (c ∙ ap failed_search (sym e.1))
-answers_of s (Err NoRoom) (Err fault) wanted c e = subst (λ (f : SourceFault). Answers s (Err f) wanted) (sym e.0) e.1
+answers_of s (Err NoRoom) (Err fault) wanted c e = subst (λ (f : SourceFault). Answers s (Err f) wanted) (sym e.0) (c, e.1)
 answers_of s (Err (NotKnown path)) (Err fault) wanted c e = subst (λ (f : SourceFault). Answers s (Err f) wanted) (sym e.0) (c ∙ ap failed_search (sym e.1))
 answers_of s (Err NotThere) (Ok found) wanted c e = absurd e
 answers_of s (Err TooLong) (Ok found) wanted c e = absurd e

@@ -86,13 +86,21 @@ first_search texts (path ∷ paths) = search_or (search_at texts path) (first_se
 abbrev pub search_of : AskedTexts → List ℕ → List ℕ → Search
 search_of texts from name = first_search texts (candidates (folders_of texts) from name)
 
--- a search came to this within, or a text had no room for a further reader (source: this project's profile)
+-- whether a search found a text (source: this project's profile)
+abbrev pub is_found : Search → Bool
+is_found (Answered Missing) = false
+is_found (Answered Overlong) = false
+is_found (Answered (Present path text)) = true
+is_found Refused = false
+is_found (Wanted path) = false
+
+-- a search came to this within, or the text that it found had no room for a further reader (source: this project's profile)
 abbrev pub Comes : Search → Result (Found (List ℕ)) Stop → Type 0
 Comes search (Ok found) = search ≡ Answered (Present found.path.bytes found.reader)
 Comes search (Err NotThere) = search ≡ Answered Missing
 Comes search (Err TooLong) = search ≡ Answered Overlong
 Comes search (Err NotOpened) = search ≡ Refused
-Comes search (Err NoRoom) = ⊤
+Comes search (Err NoRoom) = is_found search ≡ true
 Comes search (Err (NotKnown path)) = search ≡ Wanted path.bytes
 
 -- a search that failed at a device: a candidate can't be opened, or one is wanted (source: this project's profile)
@@ -100,13 +108,13 @@ abbrev pub failed_search : Option (List ℕ) → Search
 failed_search None = Refused
 failed_search (Some path) = Wanted path
 
--- a search answered so, with the whole text unread; or it failed, with the path that is wanted, where one is; or a text had no room for a further reader (source: this project's profile)
+-- a search answered so, with the whole text unread; or it failed, with the path that is wanted, where one is; or the text that it found had no room for a further reader (source: this project's profile)
 abbrev pub Answers : Search → Result (Found (List ℕ)) SourceFault → Option (List ℕ) → Type 0
 Answers search (Ok found) wanted = (search ≡ Answered (Present found.path.bytes found.reader)) × (wanted ≡ None)
 Answers search (Err Absent) wanted = (search ≡ Answered Missing) × (wanted ≡ None)
 Answers search (Err PathTooLong) wanted = (search ≡ Answered Overlong) × (wanted ≡ None)
 Answers search (Err Device) wanted = search ≡ failed_search wanted
-Answers search (Err NoMemory) wanted = wanted ≡ None
+Answers search (Err NoMemory) wanted = (is_found search ≡ true) × (wanted ≡ None)
 
 -- the path that is wanted
 abbrev pub wanted_of : AskedTexts → Option (List ℕ)

@@ -15,6 +15,7 @@ pub mod WorkFacts
 pub mod GoingOn
 pub mod Stores
 pub mod OpeningFacts
+pub mod FreshStores
 pub mod PlaceFacts
 pub mod EngineSteps
 pub mod FrontSteps

@@ -4,6 +4,7 @@ use Rattle.std.specs.Prelude.{◌≡◌, ◌<◌, ◌≤◌, ℕ, List, [], ◌�
 use Rattle.rdlpp_source.specs.declared.sources.Sources.{Ghosts}
 use Rattle.rdlpp_scan.specs.declared.token.Mode.{Mode}
 use Rattle.rdlpp_table.specs.Table.{Macro, macro_named}
+use Rattle.rdlpp_table.specs.View.{formals_of}
 use Rattle.rdlpp_meaning.specs.Meaning.{Progress}
 use Rattle.rdlpp_meaning.specs.Opened.{Waiting}
 use Rattle.rdlpp_meaning.specs.State.{Rules, State}
@@ -12,6 +13,7 @@ use Rattle.rdlpp_read.specs.Calls.{SourcesRead}
 use Rattle.rdlpp_read.specs.Files.{consumed_file, inner_buffer, with_buffer, with_inner}
 use Rattle.rdlpp_front.specs.Fronts.{usage_name}
 use Rattle.rdlpp_texts.specs.Fronts.{IsFrontPlace}
+use Rattle.rdlpp_texts.specs.Opened.{bound_by}
 use Rattle.rdlpp_texts.specs.Places.{place_bytes, texts_of}
 use Rattle.rdlpp_texts.specs.Steps.{AreSound, IsStep}
 use Rattle.rdlpp_texts.specs.declared.place.TextPlace.{TextPlace}
@@ -45,6 +47,7 @@ pub record OpensUsage {S R : Type 0} (g : Ghosts S R) (len : ℕ) (old new : Eng
   pub macro : Macro
   pub named : macro_named old.table.macros (usage_name (held_of (inner_buffer old.files.nest)) len) ≡ Some macro
   pub called : is_opened opening ≡ true → called_formals old.table.macros new.expansion.opens ≡ macro.formals
+  pub bindings : is_opened opening ≡ true → bound_by new.expansion.opens ≡ length (formals_of macro)
   pub keeps : KeepsUsage macro.formals (g.tells old.sources) g.unread old.expansion.most opening new.expansion.arguments (inner_buffer (with_inner (consumed_file len 0) old.files.nest)) (inner_buffer new.files.nest)
   pub fault : IsUsageFault opening
   pub own : IsOwnLine opening

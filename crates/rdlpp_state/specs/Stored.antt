@@ -83,3 +83,9 @@ pub record HoldsStores {S R : Type 0} (g : Ghosts S R) (e : EngineView S R) : Ty
       → HoldsCall g.unread (g.catalog e.sources) e.expansion.most e.expansion.arguments e.files.nest
   pub begun : called_formals e.table.macros e.expansion.opens ≡ None
       → (e.expansion.arguments ≡ []) ⊎ BeginsCall g.unread (g.catalog e.sources) e.expansion.most e.expansion.arguments e.files.nest
+
+-- nothing is held of a text: no source and no text of a usage is open, and nothing is kept of a call
+pub record HoldsNoText {S R : Type 0} (e : EngineView S R) : Type 0 where
+  pub sources : e.files.nest ≡ []
+  pub opens : e.expansion.opens ≡ []
+  pub arguments : e.expansion.arguments ≡ []

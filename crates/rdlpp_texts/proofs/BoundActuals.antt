@@ -98,11 +98,11 @@ unfolding bound_parts
 all_bound P [] parts h = tt
 all_bound P (f ∷ fs) parts h = h
 
--- where as many actuals as formals are bound, none lacks
-pub count_many : (fs : List Formal) (parts : List (List SourceToken)) → true ≡ is_count fs parts → length fs ≤ length (bound_parts fs parts)
+-- where as many actuals as formals are bound, they are as many
+pub count_exact : (fs : List Formal) (parts : List (List SourceToken)) → true ≡ is_count fs parts → length (bound_parts fs parts) ≡ length fs
 unfolding is_count bound_parts
-count_many [] actuals e = omega arith
-count_many (f ∷ fs) actuals e = let n = eqb-true (length actuals) (length (f ∷ fs)) (sym e) in omega (arith, n)
+count_exact [] actuals e = refl
+count_exact (f ∷ fs) actuals e = eqb-true (length actuals) (length (f ∷ fs)) (sym e)
 
 -- a usage by what its call comes to
 usage_by_call : (rules : Rules) (line : ℕ) (name : List ℕ) (m : Macro) (fs : List Formal) (text : List ℕ) (at end : ℕ) (call : Call SourceToken)
@@ -248,7 +248,7 @@ bound text at end formals len to ranges o b all =
         ∙ ap (λ (n : ℕ). body_tokens (slice_range text n end)) after in
         let fs = replicate formals (record { name = []; text = [] }) in
         let long = length-replicate formals (record { name = []; text = [] }) in
-        let many = count_many fs (actuals_in true (drop len W)) (count fs long) in
+        let many = count_exact fs (actuals_in true (drop len W)) (count fs long) in
         let ranged : length (bound_parts fs (actuals_in true (drop len W))) ≡ length ranges =
         ap length (actuals fs long) ∙ length-map (map range_part ranges) (part_tokens text) ∙ length-map ranges range_part in
         let kept = keeps_all_by (inner_tokens true 0 (body_tokens (drop len W))) (c.keeps (filter_all (λ t. is_kept (token_role t)) (body_tokens W) all)) in
@@ -261,7 +261,7 @@ bound text at end formals len to ranges o b all =
           keeps = ranges_keep text ranges (subst (λ (xs : List (List SourceToken)). AllByRecursion KeepsAll xs) (actuals fs long)
               (all_bound KeepsAll fs (actuals_in true (drop len W)) (keeps_each_part (inner_tokens true 0 (body_tokens (drop len W))) kept)));
           keeps_behind = subst (λ (ts : List SourceToken). All P ts) later (All-drop P c.used (body_tokens W) all);
-          many = omega (arith, long, many, ranged);
+          count = omega (arith, long, many, ranged);
         }
 
 -- its `)` lies in the part of the text

@@ -16,7 +16,7 @@ use Rattle.rdlpp_texts.specs.declared.bindings.Range.{Range}
 use Rattle.rdlpp_texts.specs.BoundCalls.{range_part, ranges_tokens, actuals_of, AreWithin, KeepsAll}
 use Rattle.rdlpp_texts.specs.KeptTexts.{keeps_each}
 use Rattle.rdlpp_texts.proofs.KeptTexts.{each_kept, kept_each}
-use Rattle.rdlpp_texts.proofs.BoundActuals.{actuals_keep, all_bound, count_many, ranges_keep}
+use Rattle.rdlpp_texts.proofs.BoundActuals.{actuals_keep, all_bound, count_exact, ranges_keep}
 use Rattle.rdlpp_texts.proofs.BoundUsages.{parts_inside}
 use Rattle.rdlpp_texts.specs.declared.slot.Slot.{Slot}
 use Rattle.rdlpp_texts.specs.Calls.{IsCallMiscounted, IsCallStarted}
@@ -35,7 +35,7 @@ sound-started : (table : TableView) (arguments : List ℕ) (id : ℕ) (ranges : 
 unfolding open_body text_around own_text scope_text
 sound-started table arguments id ranges sound inside keeps tokens counted within =
     let own = macro_at table.macros id in
-    let many = count_many (formals_of own) (actuals_of arguments) counted in
+    let many = count_exact (formals_of own) (actuals_of arguments) counted in
     let same : length (bound_parts (formals_of own) (actuals_of arguments)) ≡ length ranges = ap length tokens ∙ length-map (map range_part ranges) (part_tokens arguments) ∙ length-map ranges range_part in
     let parts = length-map ranges range_part in
     record {

@@ -82,7 +82,7 @@ pub record IsBoundAt (text : List ℕ) (at end formals : ℕ) (ranges : List Ran
   pub behind_is : drop used (body_tokens (slice_range text at end)) ≡ body_tokens (slice_range text behind end)
   pub keeps : AllByRecursion (λ r. KeepsAll (part_tokens text (range_part r))) ranges
   pub keeps_behind : KeepsAll (body_tokens (slice_range text behind end))
-  pub many : formals ≤ length ranges
+  pub count : length ranges ≡ formals
 
 -- what binding the call of a macro with so many formals comes to, in a part of a text: ranges and the place behind it, or what
 -- the usage is refused for (source: this project's profile)

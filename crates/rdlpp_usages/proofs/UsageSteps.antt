@@ -1,15 +1,16 @@
 -- A usage that is taken from the innermost source, over the list of open sources.
-use Rattle.std.proofs.Common.{◌≡◌, ℕ, ◌+◌, ◌-◌, ◌<◌, ◌≤◌, true, false, List, [], ◌∷◌, ◌++◌, length, take, drop, Option, None, Some, refl, sym, ap, ◌∙◌, subst, arith}
+use Rattle.std.proofs.Common.{◌≡◌, ℕ, ◌+◌, ◌-◌, ◌<◌, ◌≤◌, true, false, List, [], ◌∷◌, ◌++◌, length, map, take, drop, Option, None, Some, refl, sym, ap, ◌∙◌, subst, arith}
 use Rattle.std.specs.Option.{option_map}
-use Rattle.std.specs.Prelude.{if◌then◌else◌, is_some}
-use Rattle.std.proofs.lemmas.List.{drop-drop, length-append, length-drop, length-take, length-take-le}
+use Rattle.std.specs.Prelude.{if◌then◌else◌, is_some, unwrap_or}
+use Rattle.std.proofs.lemmas.List.{drop-drop, length-append, length-drop, length-map, length-take, length-take-le}
 use Rattle.rdlpp_scan.specs.declared.token.Mode.TheVariants.{Plain}
 use Rattle.rdlpp_table.specs.Table.{Formal, Macro, macro_named}
-use Rattle.rdlpp_table.specs.View.{macro_at}
+use Rattle.rdlpp_table.specs.View.{formals_of, macro_at}
+use Rattle.rdlpp_meaning.specs.Expansion.{bound_parts}
 use Rattle.rdlpp_meaning.specs.CallScan.{Before}
 use Rattle.rdlpp_meaning.specs.Meaning.{Progress}
 use Rattle.rdlpp_meaning.specs.Opened.{Waiting}
-use Rattle.rdlpp_meaning.specs.Opens.{Open, Part, Texts, open_body}
+use Rattle.rdlpp_meaning.specs.Opens.{Open, Part, Texts, open_body, part_tokens}
 use Rattle.rdlpp_meaning.specs.Parts.{only_blanks}
 use Rattle.rdlpp_meaning.specs.State.{Rules, State}
 use Rattle.rdlpp_meaning.specs.declared.fault.FaultKind.TheVariants.{LineTooLong}
@@ -17,14 +18,17 @@ use Rattle.rdlpp_read.specs.Buffer.{BufferView, EndsHeld, MovesOver, ahead_of, h
 use Rattle.rdlpp_read.specs.Files.{consumed_file, inner_buffer, torn_after, with_inner}
 use Rattle.rdlpp_read.specs.declared.files.File.{File}
 use Rattle.rdlpp_read.proofs.Sliding.{moves-on, moves-past, moves-told, text-on, text-past}
-use Rattle.rdlpp_usages.specs.CallReads.{IsExactCall, MeansCall, ReadsCall, ReadsUpTo, TellsCall, with_used}
+use Rattle.rdlpp_usages.specs.CallReads.{IsExactCall, MeansCall, ReadsCall, TellsCall, with_used}
 use Rattle.rdlpp_usages.specs.declared.reading.CallRead.{CallRead}
 use Rattle.rdlpp_usages.specs.declared.reading.CallRead.TheVariants as call
 use Rattle.rdlpp_usages.proofs.CallLoop.{used_twice}
-use Rattle.rdlpp_texts.specs.Opened.{usage_id, CursorsView}
+use Rattle.rdlpp_texts.proofs.BoundActuals.{count_exact}
+use Rattle.rdlpp_texts.specs.BoundCalls.{actuals_of, range_part}
+use Rattle.rdlpp_texts.specs.Calls.{IsCallStarted}
+use Rattle.rdlpp_texts.specs.Opened.{bound_by, usage_id, CursorsView}
 use Rattle.rdlpp_texts.specs.Places.{texts_of}
 use Rattle.rdlpp_front.specs.Fronts.{IsUsage, usage_name}
-use Rattle.rdlpp_usages.specs.Usages.{BindsKept, ExpansionView, IsExactOpening, IsRun, KeepsCall, KeepsOpening, KeepsUsage, TellsCallUsage, TellsUsage, UsesCall, UsesSource, is_opened}
+use Rattle.rdlpp_usages.specs.Usages.{BindsKept, ExpansionView, IsExactOpening, IsRun, KeepsOpening, KeepsUsage, TellsCallUsage, TellsUsage, UsesCall, UsesSource, is_opened}
 use Rattle.rdlpp_usages.specs.declared.expansion.Opening.{Opening}
 use Rattle.rdlpp_usages.specs.declared.expansion.Opening.TheVariants.{Opened, Refused, Broken, Failed}
 use Rattle.rdlpp_usages.proofs.UsageOpens.{kept_bound, kept_unbound, usage_opens_body, usage_opens_call, usage_refused}
@@ -50,6 +54,23 @@ kept_call tells unread most macros id line bytes now Failed c old new plain r bi
 pub body_usage : (texts : Texts) (id : ℕ) (parts : List Part) (opens : List Open) → opens ≡ open_body texts id parts 0 ∷ [] → usage_id opens ≡ Some id
 unfolding usage_id open_body
 body_usage texts id parts opens e = ap usage_id e
+
+-- a call that opens the body of its macro binds as many actuals as that has formals
+pub bindings_called : (texts : Texts) (id line : ℕ) (old new : CursorsView) → IsCallStarted texts id line old new → bound_by new.opens ≡ length (formals_of (macro_at texts.macros id))
+unfolding bound_by open_body
+bindings_called texts id line old new s =
+    let fs = formals_of (macro_at texts.macros id) in
+    let opens : bound_by new.opens ≡ length (map range_part s.ranges) + 0 = ap (λ (v : CursorsView). bound_by v.opens) s.opens in
+    let parts = length-map s.ranges range_part in
+    let same : length (bound_parts fs (actuals_of texts.arguments)) ≡ length s.ranges = ap length s.actuals ∙ length-map (map range_part s.ranges) (part_tokens texts.arguments) ∙ parts in
+    let count = count_exact fs (actuals_of texts.arguments) (sym s.counted) in
+    omega (arith, opens, parts, same, count)
+
+-- a macro without a list binds none
+pub bindings_plain : (texts : Texts) (id : ℕ) (opens : List Open) → (macro_at texts.macros id).formals ≡ None → opens ≡ open_body texts id [] 0 ∷ []
+    → bound_by opens ≡ length (formals_of (macro_at texts.macros id))
+unfolding bound_by open_body
+bindings_plain texts id opens none is = ap bound_by is ∙ sym (ap (λ (o : Option (List Formal)). length (unwrap_or o [])) none)
 
 -- what is kept of a usage with a list
 pub keeps_listed : {R : Type 0} (formals : Option (List Formal)) (tells : Type 0) (unread : R → List ℕ) (most : ℕ) (opening : Opening) (arguments : List ℕ) (from now : BufferView R) → is_some formals ≡ true

@@ -7,7 +7,7 @@ use Rattle.rdlpp_table.specs.View.{macro_at}
 use Rattle.rdlpp_texts.specs.BoundCalls.{KeepsAll, actuals_of, range_part, ranges_tokens}
 use Rattle.rdlpp_texts.specs.SourceBound.{OpensBound}
 use Rattle.rdlpp_texts.specs.declared.bindings.Range.{Range}
-use Rattle.rdlpp_meaning.specs.Actuals.{kept, source_reads}
+use Rattle.rdlpp_meaning.specs.Actuals.{source_reads}
 use Rattle.rdlpp_meaning.specs.CallReading.{ReadClosed}
 use Rattle.rdlpp_meaning.specs.CallScan.{Before}
 use Rattle.rdlpp_meaning.specs.Expansion.{bytes_of, Refuses, bound_parts, is_count, usage_of_formals}

@@ -2,7 +2,7 @@
 ghost use Rattle.std.specs.Prelude.{◌≡◌, ◌↔◌, ◌*◌, ◌<◌, ◌≤◌, ◌==◌, List, [], length, IfOk, IsTrue, Some, is_some, if◌then◌else◌, true, false};
 ghost use Rattle.rdlpp_scan.specs.declared.token.Mode.TheVariants.{Plain};
 ghost use Rattle.rdlpp_table.specs.Table.{macro_named};
-ghost use Rattle.rdlpp_table.specs.View.{macro_at};
+ghost use Rattle.rdlpp_table.specs.View.{formals_of, macro_at};
 ghost use Rattle.rdlpp_meaning.specs.Meaning.{Progress};
 ghost use Rattle.rdlpp_meaning.specs.Opened.{Waiting};
 ghost use Rattle.rdlpp_meaning.specs.State.{Rules, State};
@@ -202,6 +202,7 @@ impl Expansion {
         ensures lets_go { is_opened result ≡ false → self.new.opens ≡ [] }
         ensures opens { is_opened result ≡ true → 0 < length self.new.opens }
         ensures usage { is_opened result ≡ true → usage_id self.new.opens ≡ Some id }
+        ensures bindings { is_opened result ≡ true → bound_by self.new.opens ≡ length (formals_of (macro_at table.now.macros id)) }
         ensures keeps { KeepsUsage (macro_at table.now.macros id).formals (S.tells sources.old) S.unread self.old.most result self.new.arguments (inner_buffer (with_inner (consumed_file len 0) files.old.nest)) (inner_buffer files.new.nest) }
         ensures fault { IsUsageFault result }
         ensures own { IsOwnLine result }
@@ -246,6 +247,7 @@ fn bind_kept(table: &Table, arguments: &ArgumentStore, texts: &mut Cursors, usag
     ensures lets_go { is_opened result ≡ false → texts.new.opens ≡ [] }
     ensures opens { is_opened result ≡ true → 0 < length texts.new.opens }
     ensures usage { is_opened result ≡ true → usage_id texts.new.opens ≡ Some usage.id }
+    ensures bindings { is_opened result ≡ true → bound_by texts.new.opens ≡ length (formals_of (macro_at table.now.macros usage.id)) }
     ensures fault { IsUsageFault result }
     ensures own { IsOwnLine result }
     ensures sound { AreSound (texts_of table.now.macros arguments.now.bytes) texts.new.opens }
@@ -280,6 +282,7 @@ fn open_call<S: Sources>(
     ensures lets_go { is_opened result ≡ false → texts.new.opens ≡ [] }
     ensures opens { is_opened result ≡ true → 0 < length texts.new.opens }
     ensures usage { is_opened result ≡ true → usage_id texts.new.opens ≡ Some usage.id }
+    ensures bindings { is_opened result ≡ true → bound_by texts.new.opens ≡ length (formals_of (macro_at table.now.macros usage.id)) }
     ensures keeps { KeepsOpening (S.tells sources.old) S.unread arguments.old.most result arguments.new.bytes (inner_buffer files.old.nest) (inner_buffer files.new.nest) }
     ensures fault { IsUsageFault result }
     ensures own { IsOwnLine result }

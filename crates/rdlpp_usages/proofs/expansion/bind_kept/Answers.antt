@@ -1,6 +1,6 @@
 use Rattle.std.proofs.Common.{ap}
 use Rattle.rdlpp_usages.proofs.UsageOpens.{count_usage}
-use Rattle.rdlpp_usages.proofs.UsageSteps.{body_usage}
+use Rattle.rdlpp_usages.proofs.UsageSteps.{bindings_called, body_usage}
 use Rattle.rdlpp_usages.proofs.expansion.bind_kept.Goals as goal
 
 pub returns-in-Err-clause-fault : goal.returns-in-Err-clause-fault
@@ -8,3 +8,6 @@ returns-in-Err-clause-fault c = count_usage c.in-Err.kind c.in-Err.ensures.refus
 
 pub returns-in-Ok-clause-usage : goal.returns-in-Ok-clause-usage
 returns-in-Ok-clause-usage c = λ _. body_usage _ _ _ _ (ap (λ v. v.opens) c.in-Ok.ensures.opens.opens)
+
+pub returns-in-Ok-clause-bindings : goal.returns-in-Ok-clause-bindings
+returns-in-Ok-clause-bindings c = λ _. bindings_called _ _ _ _ _ c.in-Ok.ensures.opens
