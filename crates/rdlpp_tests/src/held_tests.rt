@@ -45,7 +45,7 @@ fn holds_the_arguments_of_an_open_call(rt: HostRuntime) -> Result<(), Fail> {
 }
 
 // Twelve doublings: thousands of usages, and nothing held but the definitions and the source. No more texts are open than the thirteen
-// bodies, of which one may have given way to the 32 runs that it stands for.
+// bodies.
 #[test]
 fn holds_nothing_of_doublings(rt: HostRuntime) -> Result<(), Fail> {
     let mut source = Vec::from_slice(rt.alloc(), b"`define E0 x\n")?;
@@ -78,7 +78,7 @@ fn holds_nothing_of_doublings(rt: HostRuntime) -> Result<(), Fail> {
         let held = engine.held();
         assert_eq!(rt; held.arguments, 0);
         assert!(rt; held.definitions <= 106 && held.buffers <= STANDARD.line_bytes);
-        assert!(rt; held.cursors <= 12 + 32);
+        assert!(rt; held.cursors <= 13);
         if done {
             assert_eq!(rt; held.definitions, 106);
             break;
@@ -86,6 +86,55 @@ fn holds_nothing_of_doublings(rt: HostRuntime) -> Result<(), Fail> {
     }
     assert!(rt; done);
     assert_eq!(rt; count, 4_110);
+    Ok(())
+}
+
+// At the piece that begins with this byte: how many texts are open, how many actuals are bound, and how many bytes of a call are kept.
+// The text that ends with a piece is closed with it where another is open around it; a default lies in its definition.
+#[test]
+fn counts_what_a_usage_binds(rt: HostRuntime) -> Result<(), Fail> {
+    let none = b"`define F() [f]\n`F()!\n".as_slice();
+    let one = b"`define K(x) <x>\n`K(a)!\n".as_slice();
+    let default = b"`define P p\n`define D(x=d`P) {x}\n`D()!\n".as_slice();
+    for (source, first, cursors, bindings, arguments) in [
+        (none, b'[', 1, 0, 0),
+        (none, b'!', 0, 0, 0),
+        (one, b'<', 2, 1, 1),
+        (one, b'a', 1, 1, 1),
+        (one, b'>', 1, 1, 1),
+        (one, b'!', 0, 0, 0),
+        (default, b'{', 2, 1, 0),
+        (default, b'd', 3, 1, 0),
+        (default, b'p', 1, 1, 0),
+        (default, b'}', 1, 1, 0),
+        (default, b'!', 0, 0, 0),
+    ] {
+        let files = [("m", source)];
+        let texts = Texts {
+            files: &files,
+            folders: &[],
+        };
+        let mut engine = Engine::new(rt.alloc(), STANDARD, texts, false)?;
+        assert!(rt; engine.is_fresh());
+        assert!(rt; engine.start("m").is_ok());
+        let mut seen = false;
+        for _ in 0..100 {
+            assert!(rt; !engine.is_fresh());
+            let begins = match engine.next() {
+                Ok(Piece::Bytes(bytes)) => bytes.starts_with(&[first]),
+                Ok(Piece::Done) => false,
+                Err(_) => false,
+            };
+            if begins {
+                seen = true;
+                let held = engine.held();
+                assert_eq!(rt; held.cursors, cursors, "cursors at {first}");
+                assert_eq!(rt; held.bindings, bindings, "bindings at {first}");
+                assert_eq!(rt; held.arguments, arguments, "arguments at {first}");
+            }
+        }
+        assert!(rt; seen, "{first} comes");
+    }
     Ok(())
 }
 
