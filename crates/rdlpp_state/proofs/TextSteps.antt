@@ -26,6 +26,7 @@ use Rattle.rdlpp_state.specs.Engine.{AreOpenTexts, EngineView, IsSoundEngine}
 use Rattle.rdlpp_state.specs.Held.{IsBounded}
 use Rattle.rdlpp_state.specs.Standing.{AtCursor, InTexts, Nowhere}
 use Rattle.rdlpp_texts.specs.Fronts.{IsFrontPlace, StandsAt}
+use Rattle.rdlpp_texts.specs.Turns.{TurnsOver}
 use Rattle.rdlpp_texts.specs.Opened.{StaysOutermost}
 use Rattle.rdlpp_state.proofs.GoingOn.{own_failed, own_by}
 use Rattle.rdlpp_state.proofs.Stores.{KeepsStores, keeps_refused, keeps_texts}
@@ -143,26 +144,27 @@ module _ {S R : Type 0} (g : Ghosts S R) (old : EngineView S R) (x : ExpansionVi
   -- bytes of a text are lent
   pub texts_lend : (place : TextPlace) → (let after = record old { expansion = x; marks = lends_usage old.expansion.line old.marks } in IsBounded after) → IsStep old.expansion.line old.expansion.depth (held_texts old) old.expansion.opens (Lends place) x.opens
       → IsFalling old.expansion.opens (Lends place) x.opens → StaysLent old.expansion (Lends place) x → IsFrontPlace old.expansion.opens place
+      → TurnsOver (held_texts old) old.expansion.opens (Lends place) x.opens
       → (let after = record old { expansion = x; marks = lends_usage old.expansion.line old.marks } in Walks g old after (lent_answer after (Text place)))
   unfolding IsStep StepsTo IsFalling StaysLent state_of lends_usage text_of work_left
-  texts_lend place bounded step falls lends stands =
+  texts_lend place bounded step falls lends stands turns =
       let goes = step (run_rules g old) (state_of old) (nest_macros old.limits old.table.macros old.conditions old.files.nest) in
       let marks = lends_usage old.expansion.line old.marks in
       let after = record old { expansion = x; marks = marks } in
       subst (λ (xs : List ℕ). Walks g old after (Ok (Some xs))) (ap (λ (a : List ℕ). place_bytes (texts_of old.table.macros a) place) (sym lends.1))
       (walks_lent g old after unowed.free unowed.open_ bounded (place_bytes (held_texts old) place) refl (refl, refl) (not_called g old.sources)
       (λ t. text_goes (place_bytes (held_texts old) place) goes) (work_texts falls) (keeps_texts g old x marks unowed.free holds.stays holds.outer holds.lets_go)
-      (AtCursor place unowed.owed stands refl (usage_position old x unowed.free unowed.open_) refl))
+      (AtCursor place unowed.owed stands refl turns (usage_position old x unowed.free unowed.open_) refl))
 
   -- a text was opened or closed
   pub texts_turn : IsBounded (record old { expansion = x }) → IsStep old.expansion.line old.expansion.depth (held_texts old) old.expansion.opens Silent x.opens
-      → IsFalling old.expansion.opens Silent x.opens → Walks g old (record old { expansion = x }) (Ok (Some []))
+      → IsFalling old.expansion.opens Silent x.opens → TurnsOver (held_texts old) old.expansion.opens Silent x.opens → Walks g old (record old { expansion = x }) (Ok (Some []))
   unfolding IsStep StepsTo IsFalling state_of
-  texts_turn bounded step falls =
+  texts_turn bounded step falls turns =
       walks_lent g old (record old { expansion = x }) unowed.free unowed.open_ bounded [] refl (refl, refl) (not_called g old.sources)
       (λ t. text_goes [] (step (run_rules g old) (state_of old) (nest_macros old.limits old.table.macros old.conditions old.files.nest)
       ∙ sym (and_then-gives_nil (open_left (run_rules g old) (state_of old) old.expansion.line old.expansion.depth (held_texts old) x.opens)))) (work_texts falls)
-      (keeps_texts g old x old.marks unowed.free holds.stays holds.outer holds.lets_go) (Nowhere refl (InTexts unowed.owed refl step holds.now_sound))
+      (keeps_texts g old x old.marks unowed.free holds.stays holds.outer holds.lets_go) (Nowhere refl (InTexts unowed.owed refl step turns holds.now_sound))
 
 -- the open texts end with a fault, and nothing else changes
 pub texts_refuse : {S R : Type 0} (g : Ghosts S R) (old mid new : EngineView S R) (place : Place) (fault : CursorFault) → IsUnowed old → IsBounded new → mid ≡ old → place ≡ Kept
@@ -202,6 +204,7 @@ pub record TakesTexts {S R : Type 0} (old : EngineView S R) (x : ExpansionView) 
   pub lends : StaysLent old.expansion result x
   pub refused : StaysAt old.expansion result x
   pub stands : StandsAt old.expansion.opens result
+  pub turns : TurnsOver (held_texts old) old.expansion.opens result x.opens
 
 module _ {S R : Type 0} (g : Ghosts S R) (old : EngineView S R) (x : ExpansionView) (result : CursorStep) (unowed : IsUnowed old) (takes : TakesTexts old x result) where
   -- a step that lends bytes
@@ -209,14 +212,14 @@ module _ {S R : Type 0} (g : Ghosts S R) (old : EngineView S R) (x : ExpansionVi
   lend_step new place holds is becomes bounded =
       let t : TakesTexts old x (Lends place) = subst (λ (r : CursorStep). TakesTexts old x r) is takes in
       subst (λ (e : EngineView S R). Walks g old e (lent_answer e (Text place))) (sym becomes)
-      (texts_lend g old x unowed holds place (subst (λ (e : EngineView S R). IsBounded e) becomes bounded) t.step t.falls t.lends t.stands)
+      (texts_lend g old x unowed holds place (subst (λ (e : EngineView S R). IsBounded e) becomes bounded) t.step t.falls t.lends t.stands t.turns)
 
   -- one that lends none
   pub turn_step : (new : EngineView S R) → HoldsTexts old x → result ≡ Silent → new ≡ record old { expansion = x } → IsBounded new → Walks g old new (Ok (Some []))
   turn_step new holds is becomes bounded =
       let t : TakesTexts old x Silent = subst (λ (r : CursorStep). TakesTexts old x r) is takes in
       subst (λ (e : EngineView S R). Walks g old e (Ok (Some []))) (sym becomes)
-      (texts_turn g old x unowed holds (subst (λ (e : EngineView S R). IsBounded e) becomes bounded) t.step t.falls)
+      (texts_turn g old x unowed holds (subst (λ (e : EngineView S R). IsBounded e) becomes bounded) t.step t.falls t.turns)
 
   -- one that is refused
   pub refuse_step : (mid new : EngineView S R) (place : Place) (fault : CursorFault) → result ≡ Refused fault → mid ≡ record old { expansion = x } → IsBounded new → place ≡ Kept

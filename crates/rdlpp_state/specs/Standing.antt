@@ -17,7 +17,8 @@ use Rattle.rdlpp_texts.specs.Opened.{bound_by}
 use Rattle.rdlpp_texts.specs.Places.{place_bytes, texts_of}
 use Rattle.rdlpp_texts.specs.Steps.{AreSound, IsStep}
 use Rattle.rdlpp_texts.specs.declared.place.TextPlace.{TextPlace}
-use Rattle.rdlpp_texts.specs.declared.step.CursorStep.TheVariants.{Silent}
+use Rattle.rdlpp_texts.specs.Turns.{TurnsOver}
+use Rattle.rdlpp_texts.specs.declared.step.CursorStep.TheVariants.{Lends, Silent}
 use Rattle.rdlpp_usages.specs.Usages.{IsOwnLine, IsRoomy, IsRun, IsUsageFault, KeepsUsage, TellsUsage, UsesSource, is_failed_opening, is_opened}
 use Rattle.rdlpp_usages.specs.declared.expansion.Opening.{Opening}
 use Rattle.rdlpp_usages.specs.declared.expansion.Opening.TheVariants.{Opened}
@@ -56,20 +57,22 @@ pub record OpensUsage {S R : Type 0} (g : Ghosts S R) (len : ℕ) (old new : Eng
       → TellsUsage rules s g.unread ws os old.table.macros (inner_buffer old.files.nest).line (usage_name (held_of (inner_buffer old.files.nest)) len) opening new.expansion old.files.nest new.files.nest
 
 -- what a step does that lends no bytes: it goes on over the open sources, while no text of a usage is open, and marks the place of an LF that is owed; it opens the
--- usage in front of what is held; or it opens or closes a text of a usage, as expansion has it, and each open text lies in a live body or
--- in what is kept of the call
+-- usage in front of what is held; or it opens or closes a text of a usage, as expansion has it: it opens what the name at the front stands for, or closes
+-- texts of which nothing is left; and each open text lies in a live body or in what is kept of the call
 pub data Turns {S R : Type 0} (g : Ghosts S R) (at after : EngineView S R) : Type 0 where
   InSources : at.expansion.opens ≡ [] → after.expansion ≡ at.expansion → MarksPlace at after → Turns g at after
   OpensText : (len : ℕ) → OpensUsage g len at after Opened → Turns g at after
   InTexts : at.owed ≡ nothing_owed → after ≡ record at { expansion = after.expansion }
       → IsStep at.expansion.line at.expansion.depth (held_texts at) at.expansion.opens Silent after.expansion.opens
+      → TurnsOver (held_texts at) at.expansion.opens Silent after.expansion.opens
       → AreSound (held_texts after) after.expansion.opens → Turns g at after
 
 -- where a piece stands that an engine lends, its place, and what becomes of that: the bytes at which the innermost cursor stands, where nothing is owed and a text of
--- a usage is open, and the open texts alone change; those at which the innermost source's buffer stands, where none is open, and it goes on after them; the
+-- a usage is open, behind which what stands there is opened, or texts are closed of which nothing is left, and the open texts alone change; those at which the innermost source's buffer stands, where none is open, and it goes on after them; the
 -- first of what is owed, an LF, a fixed text, the shown name or digits, which is owed no more; or no bytes. But for no bytes the engine marks where it lent
 pub data StandsIn {S R : Type 0} (g : Ghosts S R) (at after : EngineView S R) (piece : List ℕ) (place : Option PlaceView) : Type 0 where
   AtCursor : (text : TextPlace) → at.owed ≡ nothing_owed → IsFrontPlace at.expansion.opens text → piece ≡ place_bytes (held_texts at) text
+      → TurnsOver (held_texts at) at.expansion.opens (Lends text) after.expansion.opens
       → place ≡ Some (usage_place at) → after ≡ record at { expansion = after.expansion; marks = lends_usage at.expansion.line at.marks } → StandsIn g at after piece place
   AtSource : (len lines : ℕ) (next : Mode) → at.owed ≡ nothing_owed → at.expansion.opens ≡ [] → piece ≡ take len (held_of (inner_buffer at.files.nest))
       → place ≡ Some (source_place at)

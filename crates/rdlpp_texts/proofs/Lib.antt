@@ -18,6 +18,7 @@ pub mod ShortTexts
 pub mod Outermost
 pub mod Words
 pub mod Taking
+pub mod Turning
 pub mod FirstTokens
 pub mod Searches
 pub mod CallLaws

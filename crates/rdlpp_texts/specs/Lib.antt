@@ -7,6 +7,7 @@ pub mod Usages
 pub mod Calls
 pub mod Digits
 pub mod Taking
+pub mod Turns
 pub mod Guesses
 pub mod CallTokens
 pub mod CallParts

@@ -11,6 +11,7 @@ ghost use Rattle.rdlpp_texts.specs.Places.{source_text, texts_of};
 ghost use Rattle.rdlpp_texts.specs.Usages.{IsTextFault};
 ghost use Rattle.rdlpp_texts.specs.Steps.{AreSound, IsStep, KeepsOpen, StaysRefused, IsPlacedStep, NamesWord};
 ghost use Rattle.rdlpp_texts.specs.Taking.{IsTaken};
+ghost use Rattle.rdlpp_texts.specs.Turns.{Closes, TurnsOver};
 ghost use Rattle.rdlpp_texts.specs.declared.step.CursorStep.TheVariants.{Silent};
 
 mod call;
@@ -166,6 +167,7 @@ impl Cursors {
         ensures keeps { 1 < length self.old.opens → 0 < length self.new.opens }
         ensures fewer { length self.new.opens < length self.old.opens }
         ensures outer { StaysOutermost self.old.opens self.new.opens }
+        ensures closes { Closes self.old.opens self.new.opens }
     {
         self.close();
         while self.len() > 1 && self.is_spent() {
@@ -286,6 +288,7 @@ impl Cursors {
         ensures word { NamesWord (texts_of table.now.macros arguments.now) result }
         ensures stands { StandsAt self.old.opens result }
         ensures outer { StaysOutermost self.old.opens self.new.opens }
+        ensures turns { TurnsOver (texts_of table.now.macros arguments.now) self.old.opens result self.new.opens }
     {
         let sight = self.look(table, arguments);
         let look = sight.look;

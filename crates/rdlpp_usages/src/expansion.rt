@@ -14,6 +14,7 @@ ghost use Rattle.rdlpp_texts.specs.Fronts.{StandsAt};
 ghost use Rattle.rdlpp_texts.specs.Opened.{bound_by, usage_id, StaysOutermost};
 ghost use Rattle.rdlpp_texts.specs.Places.{texts_of};
 ghost use Rattle.rdlpp_texts.specs.Steps.{AreSound, IsPlacedStep, IsStep, NamesWord};
+ghost use Rattle.rdlpp_texts.specs.Turns.{TurnsOver};
 ghost use Rattle.rdlpp_texts.specs.Usages.{IsTextFault};
 ghost use Rattle.rdlpp_front.specs.Fronts.{IsUsage, usage_name};
 ghost use Rattle.rdlpp_usages.specs.Usages.{BindsKept, IsRun, KeepsOpening, KeepsUsage, StaysAt, StaysOpen, TellsCallUsage, TellsUsage, UsesCall, UsesSource, IsRoomy, is_failed_opening, is_opened, StaysLent, IsUsageFault, IsOwnLine};
@@ -154,6 +155,7 @@ impl Expansion {
         ensures lets_go { self.new.opens ≡ [] → self.new.arguments ≡ [] }
         ensures stands { StandsAt self.old.opens result }
         ensures outer { StaysOutermost self.old.opens self.new.opens }
+        ensures turns { TurnsOver (texts_of table.now.macros self.old.arguments) self.old.opens result self.new.opens }
     {
         let step = self.texts.step(table, self.arguments.bytes());
         if !is_silent(&step) {

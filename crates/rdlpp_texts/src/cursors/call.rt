@@ -9,6 +9,7 @@ ghost use Rattle.rdlpp_texts.specs.Fronts.{IsLook};
 ghost use Rattle.rdlpp_texts.specs.Opened.{StaysOutermost};
 ghost use Rattle.rdlpp_texts.specs.Places.{source_text, texts_of};
 ghost use Rattle.rdlpp_texts.specs.Steps.{AreSound, IsStep, IsUnlent, KeepsOpen, StaysRefused, IsPlacedStep, NamesWord};
+ghost use Rattle.rdlpp_texts.specs.Turns.{Turned};
 ghost use Rattle.rdlpp_texts.specs.Usages.{front_name, IsTextFault, IsUsed};
 
 use crate::cursors::Cursors;
@@ -97,6 +98,7 @@ impl Cursors {
         ensures lends { KeepsOpen result self.new.opens }
         ensures open { 0 < length self.new.opens }
         ensures outer { StaysOutermost self.old.opens self.new.opens }
+        ensures turned { Turned (texts_of table.now.macros arguments.now) self.old.opens self.new.opens }
         ensures unlent { IsUnlent result }
         ensures fault { IsTextFault result }
         ensures word { NamesWord (texts_of table.now.macros arguments.now) result }

@@ -8,6 +8,7 @@ ghost use Rattle.rdlpp_texts.specs.Places.{source_formals, texts_of};
 ghost use Rattle.rdlpp_meaning.specs.Opens.{found_standing, scope_open};
 ghost use Rattle.rdlpp_texts.specs.Scopes.{found_source, front_scope, AreBound};
 ghost use Rattle.rdlpp_texts.specs.Steps.{AreSound, IsStep, IsUnlent, KeepsOpen, StaysRefused, IsPlacedStep, NamesWord};
+ghost use Rattle.rdlpp_texts.specs.Turns.{Turned};
 ghost use Rattle.rdlpp_texts.specs.Usages.{IsTextFault};
 
 use crate::cursors::Cursors;
@@ -44,6 +45,7 @@ impl Cursors {
         ensures lends { KeepsOpen result self.new.opens }
         ensures open { 0 < length self.new.opens }
         ensures outer { StaysOutermost self.old.opens self.new.opens }
+        ensures turned { Turned (texts_of table.now.macros arguments.now) self.old.opens self.new.opens }
         ensures unlent { IsUnlent result }
         ensures fault { IsTextFault result }
         ensures word { NamesWord (texts_of table.now.macros arguments.now) result }

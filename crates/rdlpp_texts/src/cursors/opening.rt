@@ -5,6 +5,7 @@ ghost use Rattle.rdlpp_texts.specs.Opened.{StaysOutermost};
 ghost use Rattle.rdlpp_texts.specs.Places.{source_text, texts_of};
 ghost use Rattle.rdlpp_texts.specs.Steps.{AreSound};
 ghost use Rattle.rdlpp_texts.specs.Taking.{is_idle, IsTaken};
+ghost use Rattle.rdlpp_texts.specs.Turns.{Turned};
 
 use crate::cursors::Cursors;
 use crate::front::{Front, Look};
@@ -35,6 +36,7 @@ impl Cursors {
         ensures idle { is_idle lent (length self.old.opens) look.now.front ≡ true → self.new ≡ self.old }
         ensures open { lent ≡ true → 0 < length self.new.opens }
         ensures outer { StaysOutermost self.old.opens self.new.opens }
+        ensures turned { Turned (texts_of table.now.macros arguments.now) self.old.opens self.new.opens }
     {
         match look.front {
             Front::Ended if lent && self.len() <= 1 => CursorStep::Silent,

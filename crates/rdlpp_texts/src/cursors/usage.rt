@@ -11,6 +11,7 @@ ghost use Rattle.rdlpp_texts.specs.Opened.{moved_to, StaysOutermost};
 ghost use Rattle.rdlpp_texts.specs.Places.{place_bytes, source_text, texts_of, IsSource};
 ghost use Rattle.rdlpp_texts.specs.Scopes.{front_scope, writer_ids, AreFurtherOut};
 ghost use Rattle.rdlpp_texts.specs.Steps.{AreSound, IsStep, IsUnlent, KeepsOpen, StaysRefused, IsPlacedStep, NamesWord};
+ghost use Rattle.rdlpp_texts.specs.Turns.{Turned};
 ghost use Rattle.rdlpp_texts.specs.Usages.{front_name, is_text_fault, unknown_kind, IsRefused, IsTextFault, IsUsed};
 
 use crate::cursors::Cursors;
@@ -48,6 +49,7 @@ impl Cursors {
         ensures lends { KeepsOpen result self.new.opens }
         ensures open { 0 < length self.new.opens }
         ensures outer { StaysOutermost self.old.opens self.new.opens }
+        ensures turned { Turned (texts_of table.now.macros arguments.now) self.old.opens self.new.opens }
         ensures unlent { IsUnlent result }
         ensures fault { IsTextFault result }
         ensures word { NamesWord (texts_of table.now.macros arguments.now) result }

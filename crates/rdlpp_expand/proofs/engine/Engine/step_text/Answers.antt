@@ -21,7 +21,7 @@ returns-in-Lends-clause-walks g c = (λ bounded.
     let e = c.step-step.ensures in
     let x = c.step-step.new.self in
     let takes : TakesTexts c.args.self.now x c.step-step.result =
-    subst (λ v. TakesTexts v x c.step-step.result) c.self.view_is (record { step = e.step; falls = e.digits; lends = e.lends; refused = e.refused; stands = e.stands }) in
+    subst (λ v. TakesTexts v x c.step-step.result) c.self.view_is (record { step = e.step; falls = e.digits; lends = e.lends; refused = e.refused; stands = e.stands; turns = e.turns }) in
     let holds : HoldsTexts c.args.self.now x = record {
       sound = c.facts.ensures.sound;
       texts = c.facts.ensures.texts;
@@ -39,7 +39,7 @@ returns-in-Silent-clause-walks g c = (λ bounded.
     let e = c.step-step.ensures in
     let x = c.step-step.new.self in
     let takes : TakesTexts c.args.self.now x c.step-step.result =
-    subst (λ v. TakesTexts v x c.step-step.result) c.self.view_is (record { step = e.step; falls = e.digits; lends = e.lends; refused = e.refused; stands = e.stands }) in
+    subst (λ v. TakesTexts v x c.step-step.result) c.self.view_is (record { step = e.step; falls = e.digits; lends = e.lends; refused = e.refused; stands = e.stands; turns = e.turns }) in
     let holds : HoldsTexts c.args.self.now x = record {
       sound = c.facts.ensures.sound;
       texts = c.facts.ensures.texts;
@@ -57,7 +57,7 @@ returns-in-Refused-clause-walks g c = λ bounded.
     let e = c.step-step.ensures in
     let x = c.step-step.new.self in
     let takes : TakesTexts c.args.self.now x c.step-step.result =
-    subst (λ v. TakesTexts v x c.step-step.result) c.self.view_is (record { step = e.step; falls = e.digits; lends = e.lends; refused = e.refused; stands = e.stands }) in
+    subst (λ v. TakesTexts v x c.step-step.result) c.self.view_is (record { step = e.step; falls = e.digits; lends = e.lends; refused = e.refused; stands = e.stands; turns = e.turns }) in
     refuse_step g.S.Sources c.args.self.now x c.step-step.result c.requires.0 takes _ c.refuse_text-kept.new.self place.Kept c.in-Refused.fault c.in-Refused.is
     (opening _ c.args.self.now x c.self.view_is) bounded refl c.refuse_text-kept.ensures.kept (fault_text c.step-step.result c.in-Refused.fault c.in-Refused.is e.fault)
 

@@ -4,6 +4,7 @@ use Rattle.rdlpp_texts.proofs.Calling.{list-used, look-call, opening-open, pass-
 use Rattle.rdlpp_texts.proofs.Usages.{fault-deep, fault-call, open-wordless, placed-silent, placed-word, placed-wordless, usage-place}
 use Rattle.rdlpp_texts.proofs.Words.{word-named, word-none}
 use Rattle.rdlpp_texts.proofs.Outermost.{outer-called}
+use Rattle.rdlpp_texts.proofs.Turning.{turned-call}
 use Rattle.rdlpp_texts.proofs.cursors.Cursors.call.Goals as goal
 
 pub overflow_add-at : goal.overflow_add-at
@@ -146,3 +147,15 @@ returns-in-Refused-clause-outer c = outer-called _ _ c.args.self.now c.open_boun
 
 pub returns-in-Deep-clause-outer : goal.returns-in-Deep-clause-outer
 returns-in-Deep-clause-outer c = outer-called _ _ c.args.self.now c.open_bound.new.self _ _ _ _ c.open_bound.result c.requires.some c.open_bound.ensures.opening
+
+pub returns-in-Opened-clause-turned : goal.returns-in-Opened-clause-turned
+returns-in-Opened-clause-turned c =
+    turned-call _ c.args.arguments.now _ c.args.self.now c.open_bound.new.self c.args.look.now c.args.len _ _ c.args.id _ c.open_bound.result c.requires.look c.requires.front c.requires.used c.scope-home.ensures c.open_bound.ensures.opening
+
+pub returns-in-Refused-clause-turned : goal.returns-in-Refused-clause-turned
+returns-in-Refused-clause-turned c =
+    turned-call _ c.args.arguments.now _ c.args.self.now c.open_bound.new.self c.args.look.now c.args.len _ _ c.args.id _ c.open_bound.result c.requires.look c.requires.front c.requires.used c.scope-home.ensures c.open_bound.ensures.opening
+
+pub returns-in-Deep-clause-turned : goal.returns-in-Deep-clause-turned
+returns-in-Deep-clause-turned c =
+    turned-call _ c.args.arguments.now _ c.args.self.now c.open_bound.new.self c.args.look.now c.args.len _ _ c.args.id _ c.open_bound.result c.requires.look c.requires.front c.requires.used c.scope-home.ensures c.open_bound.ensures.opening

@@ -1,6 +1,7 @@
-use Rattle.std.proofs.Common.{◌≡◌, ◌<◌, length, drop, sym, subst, ◌∙◌, arith}
+use Rattle.std.proofs.Common.{◌≡◌, ◌<◌, length, drop, ap, sym, subst, ◌∙◌, arith}
 use Rattle.rdlpp_texts.specs.Opened.{CursorsView, StaysOutermost}
 use Rattle.rdlpp_texts.proofs.Outermost.{outer-less, outer-on}
+use Rattle.rdlpp_texts.proofs.Turning.{closes-more}
 use Rattle.rdlpp_texts.proofs.Taking.{rest-fewer, rest-open, spent-closed, taken-twice}
 use Rattle.rdlpp_texts.proofs.cursors.Cursors.close_spent.Goals as goal
 
@@ -10,7 +11,7 @@ closed-outer view new e = let P : CursorsView → Type 0 = λ v. StaysOutermost 
 pub loop-self-init : goal.loop-self-init
 loop-self-init c = (
   λ many. rest-open _ _ many c.close.ensures,
-  (λ texts h e. spent-closed texts _ _ h c.requires e c.close.ensures, rest-fewer _ _ c.requires c.close.ensures, closed-outer c.args.self.now c.close.new.self c.close.ensures),
+  (λ texts h e. spent-closed texts _ _ h c.requires e c.close.ensures, rest-fewer _ _ c.requires c.close.ensures, (closed-outer c.args.self.now c.close.new.self c.close.ensures, (1, ap (λ v. v.opens) c.close.ensures))),
 )
 
 pub loop-self-preserved : goal.loop-self-preserved
@@ -22,6 +23,9 @@ loop-self-preserved c =
             let t = c.loop-self.invariant.1.0 texts h e in
             taken-twice texts _ _ _ t (spent-closed texts _ _ t.sound (omega (arith, many)) (sym c.is_spent.ensures ∙ c.if-is_spent.true) c.close-in-loop-self.ensures),
         (let fewer = c.loop-self.invariant.1.1 in let again = rest-fewer c.loop-self.self c.close-in-loop-self.new.self (omega (arith, many)) c.close-in-loop-self.ensures in omega (arith, fewer, again)),
-        outer-on c.args.self.now.opens c.loop-self.self.opens c.close-in-loop-self.new.self.opens (omega (arith, many)) c.loop-self.invariant.1.2 (closed-outer c.loop-self.self c.close-in-loop-self.new.self c.close-in-loop-self.ensures),
+        (
+          outer-on c.args.self.now.opens c.loop-self.self.opens c.close-in-loop-self.new.self.opens (omega (arith, many)) c.loop-self.invariant.1.2.0 (closed-outer c.loop-self.self c.close-in-loop-self.new.self c.close-in-loop-self.ensures),
+          closes-more c.args.self.now.opens c.loop-self.self.opens c.close-in-loop-self.new.self.opens c.loop-self.invariant.1.2.1 (ap (λ v. v.opens) c.close-in-loop-self.ensures),
+        ),
       ),
     )

@@ -6,6 +6,8 @@ use Rattle.rdlpp_texts.proofs.Usages.{fault-deep, open-wordless, placed-silent, 
 use Rattle.rdlpp_texts.proofs.Words.{word-none}
 use Rattle.rdlpp_texts.specs.Opened.{open_of}
 use Rattle.rdlpp_texts.proofs.Outermost.{outer-opened}
+use Rattle.rdlpp_texts.proofs.Turning.{turned-formal}
+use Rattle.rdlpp_texts.specs.Turns.{Stays}
 use Rattle.rdlpp_texts.proofs.cursors.Cursors.formal.Goals as goal
 
 pub standing-requires-clause-bound : goal.standing-requires-clause-bound
@@ -109,3 +111,14 @@ pub returns-clause-outer : goal.returns-clause-outer
 returns-clause-outer c =
     outer-opened c.args.self.now.opens c.push_text.new.self.opens _ _ c.requires.some
     (ap (λ v. v.opens) c.push_text.ensures ∙ ap (λ v. open_of c.in-Some.new [] ∷ v.opens) c.move_to.ensures)
+
+pub returns-clause-turned : goal.returns-clause-turned
+returns-clause-turned c =
+    turned-formal (texts_of c.args.table.now.macros c.args.arguments.now) c.args.self.now.opens c.push_text.new.self.opens c.args.look.now c.args.len c.args.place (open_of c.in-Some.new []) c.requires.look c.requires.front c.in-Some.ensures
+    (ap (λ v. v.opens) c.push_text.ensures ∙ ap (λ v. open_of c.in-Some.new [] ∷ v.opens) c.move_to.ensures)
+
+pub returns-then-is_full-clause-turned : goal.returns-then-is_full-clause-turned
+returns-then-is_full-clause-turned c = Stays refl
+
+pub returns-in_default-clause-turned : goal.returns-in_default-clause-turned
+returns-in_default-clause-turned c = Stays refl

@@ -3,6 +3,7 @@ use Rattle.std.proofs.lemmas.Bool.{le-ltb}
 use Rattle.rdlpp_texts.specs.Places.{texts_of}
 use Rattle.rdlpp_texts.proofs.Taking.{on-lent, on-look, on-placed, on-taken, open-unlent, stands-ahead, stands-unlent}
 use Rattle.rdlpp_texts.proofs.Outermost.{outer-ahead}
+use Rattle.rdlpp_texts.proofs.Turning.{turned-lent, turned-unlent}
 use Rattle.rdlpp_texts.proofs.cursors.Cursors.step.Goals as goal
 
 pub open_front-opened-requires-clause-some : goal.open_front-opened-requires-clause-some
@@ -120,3 +121,15 @@ returns-then-lent-clause-outer c =
 pub returns-else-lent-clause-outer : goal.returns-else-lent-clause-outer
 returns-else-lent-clause-outer c =
     outer-ahead c.args.self.now.opens c.move_to.new.self.opens c.open_front-opened.new.self.opens _ (ap (λ v. v.opens) c.move_to.ensures) c.open_front-opened.ensures.outer
+
+pub returns-then-lent-clause-turns : goal.returns-then-lent-clause-turns
+returns-then-lent-clause-turns c =
+    turned-lent (texts_of c.args.table.now.macros c.args.arguments.now) c.move_to.new.self.opens c.open_front-opened.new.self.opens _ (ap (λ v. v.opens) c.move_to.ensures) c.open_front-opened.ensures.turned
+
+pub returns-else-lent-clause-turns : goal.returns-else-lent-clause-turns
+returns-else-lent-clause-turns c =
+    let on = on-look (texts_of c.args.table.now.macros c.args.arguments.now) c.args.self.now c.move_to.new.self c.look-sight.result.look c.requires.sound c.look-sight.ensures.look c.requires.some c.move_to.ensures in
+    let taken = on-taken (texts_of c.args.table.now.macros c.args.arguments.now) c.args.self.now c.move_to.new.self c.open_front-opened.new.self c.look-sight.result.look _ c.open_front-opened.result on
+    c.if-lent.false (le-ltb _ _ c.if-lent.false) c.open_front-opened.ensures.taken in
+    turned-unlent (texts_of c.args.table.now.macros c.args.arguments.now) c.args.self.now c.move_to.new.self c.open_front-opened.new.self c.open_front-opened.result taken.unlent taken.refused
+    (on.stays c.if-lent.false) c.open_front-opened.ensures.turned

@@ -6,6 +6,8 @@ use Rattle.rdlpp_texts.proofs.Passing.{IsPassed}
 use Rattle.rdlpp_texts.proofs.Usages.{entered-same, fault-deep, full-same, open-wordless, has-list, no-list, pass-deep, pass-opened, pass-refused, pass-same, placed-silent, placed-word, placed-wordless, usage-place}
 use Rattle.rdlpp_texts.proofs.Words.{word-named, word-none}
 use Rattle.rdlpp_texts.proofs.Outermost.{outer-opened}
+use Rattle.rdlpp_texts.proofs.Turning.{turned-usage}
+use Rattle.rdlpp_texts.specs.Turns.{Stays}
 use Rattle.rdlpp_texts.proofs.cursors.Cursors.usage.Goals as goal
 
 pub word_of-word-requires-clause-short : goal.word_of-word-requires-clause-short
@@ -101,3 +103,14 @@ returns-then-is_full-clause-word c = word-none _ _ _ c.wordless.ensures
 pub returns-clause-outer : goal.returns-clause-outer
 returns-clause-outer c =
     outer-opened c.args.self.now.opens c.enter.new.self.opens _ _ c.requires.some (ap (λ v. v.opens) (entered-same _ _ _ _ _ _ c.used_macro.ensures.same c.enter.ensures))
+
+pub returns-clause-turned : goal.returns-clause-turned
+returns-clause-turned c =
+    turned-usage c.args.table.now.macros c.args.arguments.now c.args.self.now.opens c.enter.new.self.opens c.args.look.now c.args.len c.in-Ok.id _ c.requires.look c.requires.front c.in-Ok.ensures.used
+    (no-list _ _ _ c.arity.ensures c.is_some.ensures c.if-is_some.false) (ap (λ v. v.opens) (entered-same _ _ _ _ _ _ c.used_macro.ensures.same c.enter.ensures))
+
+pub returns-then-is_full-clause-turned : goal.returns-then-is_full-clause-turned
+returns-then-is_full-clause-turned c = Stays (ap (λ v. v.opens) c.used_macro.ensures.same)
+
+pub returns-in-Err-clause-turned : goal.returns-in-Err-clause-turned
+returns-in-Err-clause-turned c = Stays (ap (λ v. v.opens) c.used_macro.ensures.same)
