@@ -127,7 +127,7 @@ abbrev pub reaches_one : {S R : Type 0} (g : Ghosts S R) (old new : EngineView S
 reaches_one g old new step = record { between = new ∷ []; steps = (step, refl) }
 
 -- how many there are, where they are none, one, one more than others, or others in a row
-no_part : (a : ℕ) → a ≡ 0 → a ≤ 0
+pub no_part : (a : ℕ) → a ≡ 0 → a ≤ 0
 no_part a e = omega (arith, e)
 
 pub one_part : (a : ℕ) → a ≡ 1 → a ≤ 1
@@ -185,12 +185,13 @@ module _ {S R : Type 0} (g : Ghosts S R) (old new : EngineView S R) (free : old.
 
   -- what a fault leaves, where nothing is owed
   halts_at : (f : Told) → new ≡ record old { kept = Some f; files = new.files; sources = new.sources }
-      → new.files ≡ record old.files { nest = with_buffer (inner_buffer new.files.nest) old.files.nest } → Slides (g.tells old.sources) ⊥ g.unread (inner_buffer old.files.nest) (inner_buffer new.files.nest) → old.owed ≡ nothing_owed → HaltsAt g old new
+      → new.files ≡ record old.files { nest = with_buffer (inner_buffer new.files.nest) old.files.nest } → Slides (g.tells old.sources) ⊥ g.unread (inner_buffer old.files.nest) (inner_buffer new.files.nest) → old.owed ≡ nothing_owed → HaltsAt g 0 old new
   halts_at f becomes only moves unowed =
       let keeps : Option Told → EngineView S R = λ k. record old { kept = k; files = new.files; sources = new.sources } in
       record {
         at = old;
         reached = reaches_same g old;
+        few = no_part _ refl;
         idle = λ h none. h.idle (inl free) none;
         text = λ t. refl;
         unowed = unowed;
@@ -207,7 +208,7 @@ module _ {S R : Type 0} (g : Ghosts S R) (old new : EngineView S R) (free : old.
       becomes ∙ ap (λ x. record old { kept = Some f; files = new.files; sources = new.sources; expansion = x }) (sym (ap (λ e. e.expansion) becomes))
 
   -- the text has a fault, which is kept, wherever that came
-  pub walks_kept : (f : Told) → IsOwn f.kind → new ≡ record old { kept = Some f; files = new.files; sources = new.sources; expansion = new.expansion } → HaltsAt g old new
+  pub walks_kept : (f : Told) → IsOwn f.kind → new ≡ record old { kept = Some f; files = new.files; sources = new.sources; expansion = new.expansion } → HaltsAt g 0 old new
       → SourcesCalled g false false old.sources new.sources
       → (g.tells old.sources → text_of g old ≡ leaves (fails f) (state_of new)) → KeepsStores g old new → Walks g old new (Err f)
   unfolding has_met no_len is_call_failed
@@ -253,7 +254,7 @@ module _ {S R : Type 0} (g : Ghosts S R) (old new : EngineView S R) (free : old.
 
   -- a read or a search failed, wherever that was
   pub walks_ceased : (f : Told) → FailsAt new f → is_call_failed f.kind ≡ true → is_write_failed f.kind ≡ false
-      → new ≡ record old { kept = Some f; files = new.files; sources = new.sources; expansion = new.expansion } → HaltsAt g old new → StopsReading g old new
+      → new ≡ record old { kept = Some f; files = new.files; sources = new.sources; expansion = new.expansion } → HaltsAt g 0 old new → StopsReading g old new
       → SourcesCalled g (is_read_failed f.kind) (is_memory_kind f.kind) old.sources new.sources → KeepsStores g old new → Walks g old new (Err f)
   unfolding has_met no_len
   walks_ceased f fails met write becomes halts reads call stores =
@@ -420,12 +421,13 @@ unfolding all_of behind_bytes
 silent_text quota old new lends = lends.text ∙ ap (λ (x : List ℕ). behind_bytes x new) (sym lends.lent)
 
 -- what an answer leaves, behind such a part
-halts_behind : {S R : Type 0} (g : Ghosts S R) (n : ℕ) (answer : Result (Option (List ℕ)) Told) (old mid new : EngineView S R) → IsSilent g n old mid → Halts g answer mid new → Halts g answer old new
-halts_behind g n (Ok (Some bytes)) old mid new first halts = tt
-halts_behind g n (Ok None) old mid new first halts = halts
-halts_behind g n (Err f) old mid new first halts = record {
+halts_behind : {S R : Type 0} (g : Ghosts S R) (n m : ℕ) (answer : Result (Option (List ℕ)) Told) (old mid new : EngineView S R) → IsSilent g n old mid → Halts g m answer mid new → Halts g (n + m) answer old new
+halts_behind g n m (Ok (Some bytes)) old mid new first halts = tt
+halts_behind g n m (Ok None) old mid new first halts = halts
+halts_behind g n m (Err f) old mid new first halts = record {
   at = halts.at;
   reached = reaches_on g old mid halts.at first.reaches halts.reached;
+  few = parts_both _ _ _ n m (length-append first.reaches.between halts.reached.between) first.few halts.few;
   idle = λ h none. halts.idle (first.keeps.lets_go h) none;
   text = λ t. first.text t ∙ halts.text (first.call.tells t);
   unowed = halts.unowed;
@@ -469,7 +471,7 @@ silent_then g n m old mid new answer first then_ =
       reads = λ met.
           let reads = then_.reads (sym (same is_call_failed) ∙ met) in
           record { open_ = first.open_; still = reads.still; at = reads.at; stood = reads.stood; text = λ t. first.text t ∙ reads.text (first.call.tells t) };
-      halts = λ _ _. halts_behind g n answer old mid new first (then_.halts first.still first.stays);
+      halts = λ _ _. halts_behind g n m answer old mid new first (then_.halts first.still first.stays);
       falls = λ bytes is. (let less = then_.falls bytes is in let most = first.work in omega arith);
       lends = λ bytes is. (first.open_, (then_.lends bytes is).1);
       quota = (let one = first.quota in let two = then_.quota in omega arith);
@@ -520,6 +522,13 @@ silent_step g m old mid w =
           part_more _ (length l.reached.between) m (length-append l.reached.between (mid ∷ [])) l.few;
     }
 
+-- a fault that came behind fewer parts
+halts_wider : {S R : Type 0} (g : Ghosts S R) (n m : ℕ) (answer : Result (Option (List ℕ)) Told) (old new : EngineView S R) → n ≤ m → Halts g n answer old new → Halts g m answer old new
+halts_wider g n m (Ok (Some bytes)) old new more halts = tt
+halts_wider g n m (Ok None) old new more halts = halts
+halts_wider g n m (Err f) old new more halts =
+    record { at = halts.at; reached = halts.reached; few = parts_wider _ n m halts.few more; idle = halts.idle; text = halts.text; unowed = halts.unowed; stopped = halts.stopped }
+
 -- what more parts may be is no more than so many
 pub wider : {S R : Type 0} (g : Ghosts S R) (n m : ℕ) (old new : EngineView S R) (answer : Result (Option (List ℕ)) Told) → n ≤ m
     → WalksOver g n old new answer → WalksOver g m old new answer
@@ -540,7 +549,7 @@ wider g n m old new answer more w = record {
   tells = w.tells;
   text = w.text;
   reads = w.reads;
-  halts = w.halts;
+  halts = λ free open_. halts_wider g n m answer old new more (w.halts free open_);
   falls = w.falls;
   lends = w.lends;
   quota = w.quota;

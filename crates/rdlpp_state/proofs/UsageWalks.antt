@@ -37,7 +37,7 @@ use Rattle.rdlpp_state.specs.Remaining.{nest_state, run_rules, source_rules, sta
 use Rattle.rdlpp_state.specs.Steps.{HaltsAt, InCall, BeforeCall, IsOwn, OnRead, StopsInCall, Walks, is_call_failed, is_memory_kind, is_read_failed, is_write_failed}
 use Rattle.rdlpp_state.specs.declared.place.Place.{Place}
 use Rattle.rdlpp_state.specs.declared.place.Place.TheVariants.{Kept}
-use Rattle.rdlpp_state.proofs.EngineSteps.{called, kept_at, reaches_same, walks_ceased, walks_kept, walks_lent}
+use Rattle.rdlpp_state.proofs.EngineSteps.{called, kept_at, no_part, reaches_same, walks_ceased, walks_kept, walks_lent}
 use Rattle.rdlpp_state.proofs.FrontSteps.{told_kind, unowed_few}
 use Rattle.rdlpp_state.proofs.UsageOpenings.{broken_text, opened_text, refused_text, text_by, used_file, used_state}
 use Rattle.rdlpp_state.proofs.WorkFacts.{held_room, IsUsed, idle_digits, work_opens}
@@ -156,8 +156,8 @@ module _ {S R : Type 0} (g : Ghosts S R) (old : EngineView S R) (ready : IsReady
     stores_in f catalog stops =
         keeps_broken g old f nest s opening x.arguments uses.used len (IsExactOpening opening) macro.formals ready.free ready.idle ready.nest catalog uses.inner uses.moves inside mode unopened kept stops
 
-    halts_in : (f : Told) → HaltsAt g old (stopped_engine f)
-    halts_in f = record { at = old; reached = reaches_same g old; idle = λ h none. h.idle (inl ready.free) none; text = λ t. refl; unowed = ready.owed; stopped = InCall (stops_in f) }
+    halts_in : (f : Told) → HaltsAt g 0 old (stopped_engine f)
+    halts_in f = record { at = old; reached = reaches_same g old; few = no_part _ refl; idle = λ h none. h.idle (inl ready.free) none; text = λ t. refl; unowed = ready.owed; stopped = InCall (stops_in f) }
 
     -- and stands in the same state
     same_here : (f : Told) → state_of (stopped_engine f) ≡ state_of old

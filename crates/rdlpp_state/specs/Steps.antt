@@ -1,6 +1,6 @@
 -- What a step of an engine does.
 -- A definition that names no source is this project's own.
-use Rattle.std.specs.Prelude.{◌≡◌, ℕ, ◌+◌, ◌<◌, Bool, true, false, List, [], ◌++◌, Option, None, Some, Result, Ok, Err, IfErr, IfOk, length, take, ⊤, ◌⊎◌, codes}
+use Rattle.std.specs.Prelude.{◌≡◌, ℕ, ◌+◌, ◌<◌, ◌≤◌, Bool, true, false, List, [], ◌++◌, Option, None, Some, Result, Ok, Err, IfErr, IfOk, length, take, ⊤, ◌⊎◌, codes}
 use Rattle.rdlpp_scan.specs.declared.token.Mode.TheVariants.{Plain}
 use Rattle.rdlpp_source.specs.declared.sources.Sources.{Ghosts}
 use Rattle.rdlpp_meaning.specs.declared.fault.FaultKind.{FaultKind}
@@ -129,21 +129,22 @@ pub data Halted {S R : Type 0} (g : Ghosts S R) (at new : EngineView S R) : Type
   AtFront : StopsAtFront g at new → Halted g at new
   InCall : StopsInCall g at new → Halted g at new
 
--- a fault in an open text: it came to an engine that was reached by steps that lend none, of which the same text remained, and that owed
--- nothing; that engine kept nothing where no call in the source was open
-pub record HaltsAt {S R : Type 0} (g : Ghosts S R) (old new : EngineView S R) : Type 0 where
+-- a fault in an open text: it came to an engine that was reached by steps that lend none, of which there are no more than so many, of
+-- which the same text remained, and that owed nothing; that engine kept nothing where no call in the source was open
+pub record HaltsAt {S R : Type 0} (g : Ghosts S R) (silent : ℕ) (old new : EngineView S R) : Type 0 where
   pub at : EngineView S R
   pub reached : Reaches g old at
+  pub few : length reached.between ≤ silent
   pub idle : LetsGo old → called_formals at.table.macros at.expansion.opens ≡ None → at.expansion.arguments ≡ []
   pub text : g.tells old.sources → text_of g old ≡ text_of g at
   pub unowed : at.owed ≡ nothing_owed
   pub stopped : Halted g at new
 
 -- what an answer leaves of an open text: where it ended, nothing is owed; where a fault came, nothing else changed
-abbrev pub Halts : {S R : Type 0} → Ghosts S R → Result (Option (List ℕ)) Told → EngineView S R → EngineView S R → Type 0
-Halts g (Ok (Some bytes)) old new = ⊤
-Halts g (Ok None) old new = new.owed ≡ nothing_owed
-Halts g (Err f) old new = HaltsAt g old new
+abbrev pub Halts : {S R : Type 0} → Ghosts S R → ℕ → Result (Option (List ℕ)) Told → EngineView S R → EngineView S R → Type 0
+Halts g silent (Ok (Some bytes)) old new = ⊤
+Halts g silent (Ok None) old new = new.owed ≡ nothing_owed
+Halts g silent (Err f) old new = HaltsAt g silent old new
 
 -- an engine that was started
 abbrev pub IsStarted : {S R : Type 0} → EngineView S R → Type 0
@@ -173,7 +174,7 @@ pub record StepsOver {S R : Type 0} (g : Ghosts S R) (silent : ℕ) (left : Engi
   pub text : old.kept ≡ None → old.phase ≡ Open → has_stopped old.kept answer ≡ false → g.tells old.sources
       → TellsText (most old.quota) g answer (text_of g old) new
   pub reads : has_stopped old.kept answer ≡ true → StopsReading g old new
-  pub halts : old.kept ≡ None → old.phase ≡ Open → Halts g answer old new
+  pub halts : old.kept ≡ None → old.phase ≡ Open → Halts g silent answer old new
   pub falls : (bytes : List ℕ) → answer ≡ Ok (Some bytes) → work_left new < work_left old
   pub lends : (bytes : List ℕ) → answer ≡ Ok (Some bytes) → (old.phase ≡ Open) × (goes_on new.phase ≡ true)
   pub quota : new.quota + spent answer ≡ old.quota
