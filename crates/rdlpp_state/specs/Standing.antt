@@ -4,7 +4,7 @@ use Rattle.std.specs.Prelude.{◌≡◌, ◌<◌, ◌≤◌, ℕ, List, [], ◌�
 use Rattle.rdlpp_source.specs.declared.sources.Sources.{Ghosts}
 use Rattle.rdlpp_scan.specs.declared.token.Mode.{Mode}
 use Rattle.rdlpp_table.specs.Table.{Macro, macro_named}
-use Rattle.rdlpp_table.specs.View.{formals_of}
+use Rattle.rdlpp_table.specs.View.{formals_of, macro_at}
 use Rattle.rdlpp_meaning.specs.Meaning.{Progress}
 use Rattle.rdlpp_meaning.specs.Opened.{Waiting}
 use Rattle.rdlpp_meaning.specs.State.{Rules, State}
@@ -19,7 +19,7 @@ use Rattle.rdlpp_texts.specs.Steps.{AreSound, IsStep}
 use Rattle.rdlpp_texts.specs.declared.place.TextPlace.{TextPlace}
 use Rattle.rdlpp_texts.specs.Turns.{TurnsOver}
 use Rattle.rdlpp_texts.specs.declared.step.CursorStep.TheVariants.{Lends, Silent}
-use Rattle.rdlpp_usages.specs.Usages.{IsOwnLine, IsRoomy, IsRun, IsUsageFault, KeepsUsage, TellsUsage, UsesSource, is_failed_opening, is_opened}
+use Rattle.rdlpp_usages.specs.Usages.{IsOpenAlone, IsOwnLine, IsRoomy, IsRun, IsUsageFault, KeepsUsage, TellsUsage, UsesSource, is_failed_opening, is_opened}
 use Rattle.rdlpp_usages.specs.declared.expansion.Opening.{Opening}
 use Rattle.rdlpp_usages.specs.declared.expansion.Opening.TheVariants.{Opened}
 use Rattle.rdlpp_state.specs.Engine.{EngineView}
@@ -49,6 +49,7 @@ pub record OpensUsage {S R : Type 0} (g : Ghosts S R) (len : ℕ) (old new : Eng
   pub named : macro_named old.table.macros (usage_name (held_of (inner_buffer old.files.nest)) len) ≡ Some macro
   pub called : is_opened opening ≡ true → called_formals old.table.macros new.expansion.opens ≡ macro.formals
   pub bindings : is_opened opening ≡ true → bound_by new.expansion.opens ≡ length (formals_of macro)
+  pub alone : is_opened opening ≡ true → (id : ℕ) × ((macro_at old.table.macros id ≡ macro) × IsOpenAlone old.table.macros id new.expansion.opens)
   pub keeps : KeepsUsage macro.formals (g.tells old.sources) g.unread old.expansion.most opening new.expansion.arguments (inner_buffer (with_inner (consumed_file len 0) old.files.nest)) (inner_buffer new.files.nest)
   pub fault : IsUsageFault opening
   pub own : IsOwnLine opening

@@ -28,7 +28,7 @@ use Rattle.rdlpp_texts.specs.Calls.{IsCallStarted}
 use Rattle.rdlpp_texts.specs.Opened.{bound_by, usage_id, CursorsView}
 use Rattle.rdlpp_texts.specs.Places.{texts_of}
 use Rattle.rdlpp_front.specs.Fronts.{IsUsage, usage_name}
-use Rattle.rdlpp_usages.specs.Usages.{BindsKept, ExpansionView, IsExactOpening, IsRun, KeepsOpening, KeepsUsage, TellsCallUsage, TellsUsage, UsesCall, UsesSource, is_opened}
+use Rattle.rdlpp_usages.specs.Usages.{BindsKept, ExpansionView, IsExactOpening, IsOpenAlone, IsRun, KeepsOpening, KeepsUsage, TellsCallUsage, TellsUsage, UsesCall, UsesSource, is_opened}
 use Rattle.rdlpp_usages.specs.declared.expansion.Opening.{Opening}
 use Rattle.rdlpp_usages.specs.declared.expansion.Opening.TheVariants.{Opened, Refused, Broken, Failed}
 use Rattle.rdlpp_usages.proofs.UsageOpens.{kept_bound, kept_unbound, usage_opens_body, usage_opens_call, usage_refused}
@@ -65,6 +65,20 @@ bindings_called texts id line old new s =
     let same : length (bound_parts fs (actuals_of texts.arguments)) ≡ length s.ranges = ap length s.actuals ∙ length-map (map range_part s.ranges) (part_tokens texts.arguments) ∙ parts in
     let count = count_exact fs (actuals_of texts.arguments) (sym s.counted) in
     omega (arith, opens, parts, same, count)
+
+-- and its body is open alone
+pub alone_called : (macros : List Macro) (arguments : List ℕ) (id line : ℕ) (old new : CursorsView) → IsCallStarted (texts_of macros arguments) id line old new → IsOpenAlone macros id new.opens
+unfolding open_body
+alone_called macros arguments id line old new s =
+    let fs = formals_of (macro_at macros id) in
+    let parts = length-map s.ranges range_part in
+    let same : length (bound_parts fs (actuals_of arguments)) ≡ length s.ranges = ap length s.actuals ∙ length-map (map range_part s.ranges) (part_tokens arguments) ∙ parts in
+    let count = count_exact fs (actuals_of arguments) (sym s.counted) in
+    record { parts = map range_part s.ranges; count = omega (arith, parts, same, count); body = ap (λ (v : CursorsView). v.opens) s.opens }
+
+-- so is that of a macro without a list
+pub alone_plain : (macros : List Macro) (id : ℕ) (opens : List Open) → (macro_at macros id).formals ≡ None → opens ≡ open_body (texts_of macros []) id [] 0 ∷ [] → IsOpenAlone macros id opens
+alone_plain macros id opens none is = record { parts = []; count = sym (ap (λ (o : Option (List Formal)). length (unwrap_or o [])) none); body = is }
 
 -- a macro without a list binds none
 pub bindings_plain : (texts : Texts) (id : ℕ) (opens : List Open) → (macro_at texts.macros id).formals ≡ None → opens ≡ open_body texts id [] 0 ∷ []

@@ -3,7 +3,7 @@
 use Rattle.std.specs.Prelude.{◌≡◌, ℕ, ◌+◌, ◌*◌, ◌<◌, ◌≤◌, Bool, true, false, List, [], ◌∷◌, ◌++◌, ◌⊎◌, length, map, Option, None, Some, ◌^◌}
 use Rattle.rdlpp_scan.specs.declared.token.Mode.TheVariants.{Plain}
 use Rattle.rdlpp_table.specs.Table.{Formal, Macro}
-use Rattle.rdlpp_table.specs.View.{macro_at}
+use Rattle.rdlpp_table.specs.View.{formals_of, macro_at}
 use Rattle.rdlpp_texts.specs.BoundCalls.{KeepsAll, actuals_of, range_part, ranges_tokens}
 use Rattle.rdlpp_texts.specs.SourceBound.{OpensBound}
 use Rattle.rdlpp_texts.specs.declared.bindings.Range.{Range}
@@ -13,7 +13,7 @@ use Rattle.rdlpp_meaning.specs.CallScan.{Before}
 use Rattle.rdlpp_meaning.specs.Expansion.{bytes_of, Refuses, bound_parts, is_count, usage_of_formals}
 use Rattle.rdlpp_meaning.specs.Meaning.{Passage, Progress, goes_on, leaves}
 use Rattle.rdlpp_meaning.specs.Opened.{Waiting}
-use Rattle.rdlpp_meaning.specs.Opens.{Open, open_body}
+use Rattle.rdlpp_meaning.specs.Opens.{Open, Part, open_body}
 use Rattle.rdlpp_meaning.specs.OpenItems.{open_left}
 use Rattle.rdlpp_meaning.specs.Outcome.{fails, gives}
 use Rattle.rdlpp_meaning.specs.Resumed.{Live, leading}
@@ -154,6 +154,12 @@ BindsKept macros id line bytes now Opened c = Binds macros id line bytes now c
 BindsKept macros id line bytes now (Refused kind) c = Unbinds macros id bytes now kind c
 BindsKept macros id line bytes now (Broken kind own) c = ⊥
 BindsKept macros id line bytes now Failed c = ⊥
+
+-- the whole body of a macro is open, alone, with as many actuals as the macro has formals (IEEE 1364-2001, `define`)
+pub record IsOpenAlone (macros : List Macro) (id : ℕ) (opens : List Open) : Type 0 where
+  pub parts : List Part
+  pub count : length parts ≡ length (formals_of (macro_at macros id))
+  pub body : opens ≡ open_body (texts_of macros []) id parts 0 ∷ []
 
 -- a call of a source was kept whole: reading it from a place on keeps these bytes, and leaves what remains of the source now
 pub record KeepsCall {R : Type 0} (unread : R → List ℕ) (most : ℕ) (arguments : List ℕ) (from now : BufferView R) : Type 0 where

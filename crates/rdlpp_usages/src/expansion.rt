@@ -17,7 +17,7 @@ ghost use Rattle.rdlpp_texts.specs.Steps.{AreSound, IsPlacedStep, IsStep, NamesW
 ghost use Rattle.rdlpp_texts.specs.Turns.{TurnsOver};
 ghost use Rattle.rdlpp_texts.specs.Usages.{IsTextFault};
 ghost use Rattle.rdlpp_front.specs.Fronts.{IsUsage, usage_name};
-ghost use Rattle.rdlpp_usages.specs.Usages.{BindsKept, IsRun, KeepsOpening, KeepsUsage, StaysAt, StaysOpen, TellsCallUsage, TellsUsage, UsesCall, UsesSource, IsRoomy, is_failed_opening, is_opened, StaysLent, IsUsageFault, IsOwnLine};
+ghost use Rattle.rdlpp_usages.specs.Usages.{BindsKept, IsOpenAlone, IsRun, KeepsOpening, KeepsUsage, StaysAt, StaysOpen, TellsCallUsage, TellsUsage, UsesCall, UsesSource, IsRoomy, is_failed_opening, is_opened, StaysLent, IsUsageFault, IsOwnLine};
 
 use crate::{ArgumentStore, CallRead, read_call};
 use rdlpp_meaning::FaultKind;
@@ -205,6 +205,7 @@ impl Expansion {
         ensures opens { is_opened result ≡ true → 0 < length self.new.opens }
         ensures usage { is_opened result ≡ true → usage_id self.new.opens ≡ Some id }
         ensures bindings { is_opened result ≡ true → bound_by self.new.opens ≡ length (formals_of (macro_at table.now.macros id)) }
+        ensures alone { is_opened result ≡ true → IsOpenAlone table.now.macros id self.new.opens }
         ensures keeps { KeepsUsage (macro_at table.now.macros id).formals (S.tells sources.old) S.unread self.old.most result self.new.arguments (inner_buffer (with_inner (consumed_file len 0) files.old.nest)) (inner_buffer files.new.nest) }
         ensures fault { IsUsageFault result }
         ensures own { IsOwnLine result }
@@ -250,6 +251,7 @@ fn bind_kept(table: &Table, arguments: &ArgumentStore, texts: &mut Cursors, usag
     ensures opens { is_opened result ≡ true → 0 < length texts.new.opens }
     ensures usage { is_opened result ≡ true → usage_id texts.new.opens ≡ Some usage.id }
     ensures bindings { is_opened result ≡ true → bound_by texts.new.opens ≡ length (formals_of (macro_at table.now.macros usage.id)) }
+    ensures alone { is_opened result ≡ true → IsOpenAlone table.now.macros usage.id texts.new.opens }
     ensures fault { IsUsageFault result }
     ensures own { IsOwnLine result }
     ensures sound { AreSound (texts_of table.now.macros arguments.now.bytes) texts.new.opens }
@@ -285,6 +287,7 @@ fn open_call<S: Sources>(
     ensures opens { is_opened result ≡ true → 0 < length texts.new.opens }
     ensures usage { is_opened result ≡ true → usage_id texts.new.opens ≡ Some usage.id }
     ensures bindings { is_opened result ≡ true → bound_by texts.new.opens ≡ length (formals_of (macro_at table.now.macros usage.id)) }
+    ensures alone { is_opened result ≡ true → IsOpenAlone table.now.macros usage.id texts.new.opens }
     ensures keeps { KeepsOpening (S.tells sources.old) S.unread arguments.old.most result arguments.new.bytes (inner_buffer files.old.nest) (inner_buffer files.new.nest) }
     ensures fault { IsUsageFault result }
     ensures own { IsOwnLine result }

@@ -1,6 +1,6 @@
 use Rattle.std.proofs.Common.{ap}
 use Rattle.rdlpp_usages.proofs.UsageOpens.{count_usage}
-use Rattle.rdlpp_usages.proofs.UsageSteps.{bindings_called, body_usage}
+use Rattle.rdlpp_usages.proofs.UsageSteps.{alone_called, bindings_called, body_usage}
 use Rattle.rdlpp_usages.proofs.expansion.bind_kept.Goals as goal
 
 pub returns-in-Err-clause-fault : goal.returns-in-Err-clause-fault
@@ -11,3 +11,6 @@ returns-in-Ok-clause-usage c = λ _. body_usage _ _ _ _ (ap (λ v. v.opens) c.in
 
 pub returns-in-Ok-clause-bindings : goal.returns-in-Ok-clause-bindings
 returns-in-Ok-clause-bindings c = λ _. bindings_called _ _ _ _ _ c.in-Ok.ensures.opens
+
+pub returns-in-Ok-clause-alone : goal.returns-in-Ok-clause-alone
+returns-in-Ok-clause-alone c = λ _. alone_called _ _ _ _ _ _ c.in-Ok.ensures.opens

@@ -56,6 +56,7 @@ returns g c =
       lets_go = o.lets_go;
       some = rw (← c.self.view_is) at c.requires.some;
       bindings = o.bindings;
+      alone = λ e. (c.args.id, (refl, o.alone e));
       called = λ e. called_by c.self.inside.table.macros c.args.id c.open_usage-opening.new.self.opens (o.usage e);
       macro = macro_at c.self.inside.table.macros c.args.id;
       named = rw (← c.self.view_is) at c.requires.named;

@@ -4,7 +4,7 @@ use Rattle.rdlpp_read.specs.Buffer.{EndsHeld}
 use Rattle.rdlpp_table.specs.View.{macro_at}
 use Rattle.rdlpp_front.proofs.Insides.{usage_inside}
 use Rattle.rdlpp_usages.specs.declared.expansion.Opening.TheVariants.{Opened}
-use Rattle.rdlpp_usages.proofs.UsageSteps.{bindings_plain, body_means, body_usage, call_means_by, is_list, keeps_listed_by, keeps_plain, no_list, opened_line, uses_more, uses_name}
+use Rattle.rdlpp_usages.proofs.UsageSteps.{alone_plain, bindings_plain, body_means, body_usage, call_means_by, is_list, keeps_listed_by, keeps_plain, no_list, opened_line, uses_more, uses_name}
 use Rattle.rdlpp_usages.proofs.expansion.Expansion.open_usage.Goals as goal
 
 pub consume-requires-clause-inside : goal.consume-requires-clause-inside
@@ -62,3 +62,7 @@ returns-then-is_none-clause-usage g c = λ _. body_usage _ _ _ _ (ap (λ v. v.op
 pub returns-then-is_none-clause-bindings : goal.returns-then-is_none-clause-bindings
 returns-then-is_none-clause-bindings g c =
     λ _. bindings_plain _ _ _ (no_list _ (ap is_some (sym c.arity.ensures) ∙ c.is_none.ensures ∙ ap (λ (b : Bool). not b) c.if-is_none.true)) (ap (λ v. v.opens) c.open_body.ensures.opens)
+
+pub returns-then-is_none-clause-alone : goal.returns-then-is_none-clause-alone
+returns-then-is_none-clause-alone g c =
+    λ _. alone_plain _ _ _ (no_list _ (ap is_some (sym c.arity.ensures) ∙ c.is_none.ensures ∙ ap (λ (b : Bool). not b) c.if-is_none.true)) (ap (λ v. v.opens) c.open_body.ensures.opens)
