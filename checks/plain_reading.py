@@ -4,6 +4,7 @@ It reads whole texts into lists of tokens, substitutes whole lists, and gives th
 bytes, the fault if there is one, and the macros that are defined at the end. It is slow, and bounds nothing that it holds.
 """
 
+import os
 import re
 import sys
 
@@ -233,7 +234,7 @@ class Reading:
 
     `pieces` is the output: texts, each with the shown name and line of its first byte, and by how much the line grows
     behind each of its LF bytes. `fault` is what ended it, `table` has the macros, and `opened` the path of each source that
-    was opened, in order, once.
+    was opened, in order, once; a file is one source, by the first of its paths, which differ in `.` and `..` alone.
     """
 
     def __init__(self, files, main, asked=None, table=None):
@@ -282,9 +283,13 @@ class Reading:
             if len(path) > 1024:
                 raise Fault(31, name, line)
             if b"\n" not in path and path.decode() in self.files:
-                self.opened += [path] if path not in self.opened else []
+                self.note(path)
                 return path, self.files[path.decode()]
         raise Fault(28, name, line)
+
+    def note(self, path):
+        if os.path.normpath(path) not in map(os.path.normpath, self.opened):
+            self.opened.append(path)
 
     def whole_file(self):
         """Reads the innermost file to its end."""

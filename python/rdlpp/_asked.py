@@ -10,12 +10,14 @@ import ctypes
 import errno
 import os
 import stat
-from typing import Any, Callable, List, Mapping, Optional, Protocol, Union
+from typing import Any, Callable, List, Mapping, Optional, Protocol, Tuple, Union
 
 from ._written import Part, Written, roomy
 
 # What a mapping and a callable may give as a text.
 Bytes = Union[bytes, bytearray, memoryview]
+# Which file one is, by whatever path it is opened: its device, and its number there.
+FileId = Tuple[int, int]
 
 NUL_IN_NAME = "file name contained an unexpected NUL byte"
 # How much is read at once: a signal is seen between two such parts.
@@ -35,9 +37,11 @@ class Asked(Protocol):
 
     Attributes:
         stays: whether the text that it told last is kept, so that its path isn't asked for again.
+        file: the file in which the text lies that it told last; None of one that is given by its path.
     """
 
     stays: bool
+    file: Optional[FileId]
 
     def __call__(self, path: str, written: Written) -> Union[Bytes, Part, None]:
         """The text at a path. What it reads itself stands in the room that it is lent, behind what was written."""
@@ -75,6 +79,7 @@ class Disk:
 
     def __init__(self, source_bytes: int, line_bytes: int) -> None:
         self.stays = False
+        self.file: Optional[FileId] = None
         # With so many bytes one line is whole that passes `source_bytes`, or one has more than `line_bytes`.
         self._most = source_bytes + line_bytes + 1
         self._line = line_bytes
@@ -103,9 +108,11 @@ class Disk:
 
     def _text(self, file: int, written: Written) -> Union[bytes, Part]:
         """What a run can use of an open file, which may grow meanwhile."""
+        self.file = None
         told = os.fstat(file)
         is_regular = stat.S_ISREG(told.st_mode)
         self.stays = not is_regular
+        self.file = (told.st_dev, told.st_ino) if is_regular else None
         if is_regular and told.st_size < LARGE:
             return self._small_text(file, told.st_size)
         return self._large_text(file, told.st_size, written)
@@ -164,6 +171,7 @@ class Checked:
 
     def __init__(self, text_at: Callable[[str], Any], name: str, wanted: str, *, stays: bool):
         self.stays = stays
+        self.file: Optional[FileId] = None
         self._text_at, self._name, self._wanted = text_at, name, wanted
 
     def __call__(self, path: str, written: Written) -> Optional[Bytes]:

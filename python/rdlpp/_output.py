@@ -115,7 +115,8 @@ class Output(NamedTuple):
     Attributes:
         text: the output.
         lines: where each line of it comes from.
-        sources: the path of each source that was opened, in order, once; a text that was given as bytes isn't one.
+        sources: the path of each source that was opened, in order, once; a text that was given as bytes isn't one. A file that is
+            opened by several paths is one source, by the first of them. What `files` and `read` give goes by its path.
         definitions: the live definitions at the end, oldest first, as `define` lines.
     """
 

@@ -1,10 +1,10 @@
 """An output that is read from the library, which asks for the sources that it needs."""
 
 import ctypes
-from typing import Any, Dict, List, Optional, Sequence, Tuple
+from typing import Any, Dict, List, Optional, Sequence, Set, Tuple
 
 from . import _library as library
-from ._asked import Unreadable
+from ._asked import FileId, Unreadable
 from ._faults import Fault, FaultKind
 from ._limits import OPTIONS, Limits
 from ._output import Position
@@ -22,7 +22,8 @@ class Reading:
     Attributes:
         has_ended: whether all of the output was read.
         fault: the fault that ended it, once it was read up to there.
-        sources: the path of each source that was opened, in order, once, as the keys.
+        sources: the sources that were opened, in order, as the keys: of each file the path by which it was opened first, and of
+            what lies in none each path.
         text_bytes: how many bytes the texts have that were given.
         runs: the lines of the line map for what `read_mapped` wrote.
     """
@@ -33,6 +34,7 @@ class Reading:
         self.has_ended = False
         self.fault: Optional[Fault] = None
         self.sources: Dict[str, None] = {}
+        self._files: Set[FileId] = set()
         self.text_bytes = sum(len(text) for _, text in request.texts)
         self.runs: List[bytes] = []
         self._asked, self._main = request.asked, request.path
@@ -131,11 +133,11 @@ class Reading:
         except Unreadable as unreadable:
             self._unreadable = shown, unreadable
             if unreadable.is_open:
-                self.sources[shown] = None
+                self._note(shown)
             return _raise_refusal(library.give_failed(self._at, path, len(path)))
         if text is None:
             return _raise_refusal(library.give_absent(self._at, path, len(path)))
-        self.sources[shown] = None
+        self._note(shown)
         place, length = library.lent(text)
         self.text_bytes += length
         # the main text is open up to the end
@@ -145,6 +147,15 @@ class Reading:
             return _raise_refusal(status)
         self._unreadable = shown, Unreadable(ValueError(CHANGED), False)
         return None
+
+    def _note(self, path: str) -> None:
+        """Notes a source that was opened, unless its file or its path is there."""
+        file = self._asked.file
+        if file in self._files:
+            return
+        if file is not None:
+            self._files.add(file)
+        self.sources[path] = None
 
     def _shown_name(self, outcome: library.Outcome) -> str:
         return ctypes.string_at(self._name, outcome.name_length).decode()

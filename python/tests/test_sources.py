@@ -163,6 +163,11 @@ class Mappings(Sources):
         output = rdlpp.run("a/m", include_dirs=["inc", "./inc"], files={**files, "inc/k": b""})
         self.assertEqual((output.text, output.sources), (b"q\n\n\n", ("a/m", "inc/i", "./inc/j")))
 
+    def test_texts_that_are_given_go_by_their_paths(self):
+        files = {"m": b'`include "i"\n`include "./i"\n`include "i"\n', "i": b"", "./i": b""}
+        self.assertEqual(rdlpp.run("m", files=files).sources, ("m", "i", "./i"))
+        self.assertEqual(rdlpp.run("m", read=files.get).sources, ("m", "i", "./i"))
+
     def test_a_text_goes_before_a_path_object(self):
         files = {"m": b"text", pathlib.Path("m"): b"object", pathlib.Path("n"): b"object"}
         self.assertEqual([rdlpp.preprocess(path, files=files) for path in ("m", "n")], [b"text", b"object"])
@@ -348,6 +353,25 @@ class Files(Sources):
         signal.setitimer(signal.ITIMER_REAL, 0.2)
         with self.assertRaises(TimeoutError):
             rdlpp.preprocess("pipe")
+
+    def test_a_file_is_one_source(self):
+        headers = ["x0/y0", "x1/y1", "x2/y2"]
+        for at, name in enumerate(headers):
+            includes = b"".join(b'`include "../%s"\n' % other.encode() for other in headers if other != name)
+            self.write(name, b"`ifndef Y%d\n`define Y%d\n%b`endif\n" % (at, at, includes))
+        self.write("m", b'`include "x0/y0"\n')
+        wanted = ("m", "x0/y0", "x0/../x1/y1", "x0/../x1/../x2/y2")
+        self.assertEqual(rdlpp.run("m").sources, wanted)
+        with rdlpp.stream("m") as pieces:
+            self.assertEqual(b"".join(pieces).strip(), b"")
+            self.assertEqual(pieces.sources, wanted)
+
+    def test_links_and_devices(self):
+        self.write("i", b"q\n")
+        os.link("i", "hard")
+        os.symlink("i", "soft")
+        self.write("m", b'`include "hard"\n`include "i"\n`include "soft"\n`include "/dev/null"\n`include "/dev/../dev/null"\n')
+        self.assertEqual(rdlpp.run("m").sources, ("m", "hard", "/dev/null", "/dev/../dev/null"))
 
     def test_a_large_file(self):
         text = b"reg a @ 0x0;\n" * (_asked.PART // 10)

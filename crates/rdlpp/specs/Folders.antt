@@ -1,12 +1,13 @@
 -- Sources over files: which paths are opened, and what an open and a read answer.
 -- A definition that names no source is this project's own.
-use Rattle.std.specs.Prelude.{◌≡◌, ◌≢◌, ⊤, codes, ℕ, ◌<◌, ◌≤◌, ◌==◌, false, List, ◌∷◌, length, map, Option, Some, slice_get, Result, Ok, Err}
+use Rattle.std.specs.Prelude.{◌≡◌, ◌≢◌, ⊤, codes, ℕ, ◌<◌, ◌≤◌, ◌==◌, false, List, ◌∷◌, length, map, Option, None, Some, slice_get, Result, Ok, Err}
 use Rattle.std.specs.List.{list_any}
 use Rattle.std.specs.String.{string_bytes}
 use Rattle.rdlpp_source.specs.Search.{folder_of}
 use Rattle.rdlpp_source.specs.declared.sources.Found.{Found}
 use Rattle.rdlpp_source.specs.declared.sources.SourceFault.{SourceFault}
 use Rattle.rdlpp_source.specs.declared.sources.SourceFault.TheVariants.{Absent, PathTooLong, Device, NoMemory}
+use Rattle.rdlpp_reports.specs.declared.files.FileId.{FileId}
 use Rattle.rdlpp.specs.declared.folders.Folders.{Folders}
 use Rattle.rdlpp.specs.declared.folders.FolderReader.{FolderReader}
 use Rattle.rdlpp.specs.declared.folders.FolderReader.TheVariants.{Input, File}
@@ -26,17 +27,22 @@ memory_refusals folders = folders.refusals
 -- the bytes that a reader of standard input or of a file has still to give, where it says so
 abbrev pub unread_bytes : {I F : Type 0} → (I → Option (List ℕ)) → (F → Option (List ℕ)) → FolderReader I F → Option (List ℕ)
 unread_bytes of_input of_file (Input input) = of_input input
-unread_bytes of_input of_file (File file) = of_file file
+unread_bytes of_input of_file (File file id) = of_file file
+
+-- the file in which the text of a reader lies, where that is known
+abbrev pub known_file : {I F : Type 0} → FolderReader I F → Option FileId
+known_file (Input input) = None
+known_file (File file id) = id
 
 -- a reader is one of a file
 abbrev pub IsFile : {I F : Type 0} → FolderReader I F → Type 0
 IsFile (Input input) = ⊥
-IsFile (File file) = ⊤
+IsFile (File file id) = ⊤
 
 -- a reader is one of standard input
 abbrev pub IsInput : {I F : Type 0} → FolderReader I F → Type 0
 IsInput (Input input) = ⊤
-IsInput (File file) = ⊥
+IsInput (File file id) = ⊥
 
 -- the reader of a main path: of `-` that of standard input, and of every other one a file (source: this project's profile)
 abbrev pub IsReaderOf : {I F : Type 0} → List ℕ → FolderReader I F → Type 0

@@ -1,7 +1,7 @@
 -- Files, of which there are at most two.
 -- A definition that names no source is this project's own.
 use Rattle.std.specs.Prelude.{◌≡◌, ◌⊎◌, None, Some}
-use Rattle.rdlpp.specs.declared.written.FileId.{FileId}
+use Rattle.rdlpp_reports.specs.declared.files.FileId.{FileId}
 use Rattle.rdlpp.specs.declared.written.FilePair.{FilePair}
 
 -- a file is one of them
@@ -11,7 +11,3 @@ Has pair file = (pair.first ≡ Some file) ⊎ (pair.second ≡ Some file)
 -- there is no file
 abbrev pub IsEmpty : FilePair → Type 0
 IsEmpty pair = (pair.first ≡ None) × (pair.second ≡ None)
-
--- there is room for a file, or it is one of them
-abbrev pub HasRoom : FilePair → FileId → Type 0
-HasRoom pair file = (pair.first ≡ None) ⊎ (pair.second ≡ None) ⊎ Has pair file

@@ -7,8 +7,9 @@ ghost use Rattle.rdlpp_source.specs.Sources.{is_device, is_no_memory};
 ghost use Rattle.rdlpp_source.specs.Search.{candidates, joined_path};
 ghost use Rattle.rdlpp.specs.Answers.{is_absent};
 
-use crate::written::{FileId, FilePair};
+use crate::written::FilePair;
 use arrayvec::ArrayString;
+use rdlpp_reports::{FileId, FileSources};
 use rdlpp_source::{Found, SourceFault, Sources, folder_of, joined_path};
 use rdlpp_table::NoMemory;
 use std::alloc::Global;
@@ -38,11 +39,8 @@ pub struct Folders<'r, R> {
     refusals: u64,
     // the last file that failed, for whoever asks; no answer depends on it
     failed: Cell<Option<FileFailure>>,
-    // what the run writes while it reads: no source may lie there
-    written: Cell<FilePair>,
-    // what it writes when all is read, and which of these files were sources
-    watched: Cell<FilePair>,
-    read: Cell<FilePair>,
+    // where files are looked at, what the run writes while it reads: no source may lie there
+    written: Cell<Option<FilePair>>,
 }
 
 /// A file that couldn't be opened or read, and why.
@@ -59,8 +57,8 @@ pub struct FileFailure {
 pub enum FolderReader<I, F> {
     /// Standard input.
     Input(I),
-    /// A file.
-    File(F),
+    /// A file, and which one it is, where files are looked at.
+    File(F, Option<FileId>),
 }
 
 // Whether nothing stands at a candidate.
@@ -94,7 +92,7 @@ impl<I: Read, F: Read> FolderReader<I, F> {
     {
         match self {
             FolderReader::Input(input) => input.read(to),
-            FolderReader::File(file) => file.read(to),
+            FolderReader::File(file, _) => file.read(to),
         }
     }
 }
@@ -130,43 +128,33 @@ impl<'r, R: Files + Input> Folders<'r, R> {
             failures: 0,
             refusals: 0,
             failed: Cell::new(None),
-            written: Cell::new(FilePair::of(None, None)),
-            watched: Cell::new(FilePair::of(None, None)),
-            read: Cell::new(FilePair::of(None, None)),
+            written: Cell::new(None),
         })
     }
 
-    /// Takes care of the files that the run writes: from now on no source is read that lies in one of `written`, as if the
-    /// device failed, and of those of `watched` it is noted which ones are read.
-    pub fn guard(&self, written: FilePair, watched: FilePair) {
-        self.written.set(written);
-        self.watched.set(watched);
+    /// Looks at each file that is opened from now on, so that it is known which one it is. No source is read that lies in one of
+    /// `written`, which the run writes, as if the device failed.
+    pub fn guard(&self, written: FilePair) {
+        self.written.set(Some(written));
     }
 
-    /// Those of the watched files that were opened as sources.
-    pub fn read_files(&self) -> FilePair {
-        self.read.get()
+    // Which file was opened, where files are looked at.
+    fn looked_at(&self, file: &R::File) -> Option<FileId> {
+        if self.written.get().is_none() {
+            return None;
+        }
+        match file.metadata() {
+            Ok(metadata) => FileId::of(&metadata),
+            Err(_) => None,
+        }
     }
 
-    // Whether the run writes the file of a source that was opened; else notes it where it is watched.
-    fn is_written(&self, file: &R::File) -> bool {
-        let (written, watched) = (self.written.get(), self.watched.get());
-        if written.is_empty() && watched.is_empty() {
-            return false;
+    // Whether the run writes a file.
+    fn is_written(&self, file: Option<FileId>) -> bool {
+        match (self.written.get(), file) {
+            (Some(written), Some(file)) => written.has(file),
+            _ => false,
         }
-        let Ok(metadata) = file.metadata() else {
-            return false;
-        };
-        let Some(id) = FileId::of(&metadata) else {
-            return false;
-        };
-        if written.has(id) {
-            return true;
-        }
-        if watched.has(id) {
-            self.read.set(self.read.get().with(id));
-        }
-        false
     }
 
     // Keeps why a file couldn't be opened.
@@ -196,13 +184,14 @@ impl<'r, R: Files + Input> Folders<'r, R> {
         };
         match File::open(self.rt, candidate.as_str()) {
             Ok(file) => {
-                if self.is_written(&file) {
+                let id = self.looked_at(&file);
+                if self.is_written(id) {
                     self.keep_failure(path, io::Error::new(ErrorKind::InvalidInput, WRITTEN));
                     return Err(SourceFault::Device);
                 }
                 Ok(Found {
                     path,
-                    reader: FolderReader::File(file),
+                    reader: FolderReader::File(file, id),
                 })
             }
             Err(error) => {
@@ -372,5 +361,18 @@ impl<'r, R: Files + Input> Sources for Folders<'r, R> {
             }
         };
         self.counted(answer)
+    }
+}
+
+impl<'r, R: Files + Input> FileSources for Folders<'r, R> {
+    ghost use Rattle.rdlpp.specs.Folders.{known_file};
+
+    ghost lies_in = { known_file };
+
+    fn file(&self, reader: &FolderReader<R::Reader, R::File>) -> Option<FileId> {
+        match reader {
+            FolderReader::Input(_) => None,
+            FolderReader::File(_, id) => *id,
+        }
     }
 }

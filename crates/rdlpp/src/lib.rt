@@ -25,12 +25,12 @@ pub use rdlpp_expand::{
     Engine, Fault, FaultKind, Position, ReadEnd, ReadPart, Reading, RunFault, Watcher,
 };
 pub use rdlpp_reports::{
-    MapWriter, OpenedPaths, Recorded, write_definitions, write_dependencies, write_failure,
-    write_notes,
+    FileId, FileSources, MapWriter, OpenedPaths, Recorded, write_definitions, write_dependencies,
+    write_failure, write_notes,
 };
 pub use rdlpp_source::{Buffered, Counted, Found, Sink, SinkFault, SourceFault, Sources, Texts};
 pub use rdlpp_table::{LimitFault, Limits, NoMemory, Table};
 pub use reporting::report;
 pub use running::{new_engine, run_watched_from};
 pub use status::exit_status;
-pub use written::{FileId, FilePair};
+pub use written::FilePair;

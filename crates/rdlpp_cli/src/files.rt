@@ -3,7 +3,7 @@ ghost use Rattle.std.specs.Prelude.{◌≡◌};
 ghost use Rattle.rdlpp_cli.specs.Statuses.{write_status};
 
 use crate::{DEVICE_STATUS, USAGE_STATUS};
-use rdlpp::{FileId, FilePair, Invocation};
+use rdlpp::{FileId, FilePair, Invocation, OpenedPaths};
 use std::fs::{self, File, OpenOptions};
 use std::io::{self, ErrorKind};
 
@@ -50,7 +50,7 @@ impl WriteFault {
     }
 }
 
-/// The files that a run writes and reads, as far as they are known.
+/// The files that a run writes, and that of the main text.
 #[derive(Drop)]
 pub struct RunFiles {
     // that of standard output, if the text goes there
@@ -59,8 +59,6 @@ pub struct RunFiles {
     taken: [Option<FileId>; 4],
     // that of the main text
     main: Option<FileId>,
-    // those of the reports that are written at the end, as far as sources lie there
-    read: FilePair,
 }
 
 impl RunFiles {
@@ -72,7 +70,6 @@ impl RunFiles {
             standard: None,
             taken: [None; 4],
             main: None,
-            read: FilePair::of(None, None),
         };
         if invocation.output.is_some() || is_told {
             files.main = match invocation.source.as_str() {
@@ -86,13 +83,35 @@ impl RunFiles {
         files
     }
 
-    /// Opens the file at `path`, which is made or emptied, for the text or for a report.
+    /// Opens the file at `path`, which is made or emptied, for the text or for a report that is written while sources are read.
     ///
     /// # Errors
     /// `Failed` with the error of the open; and where the file was opened before, or is that of standard output. Else `Source`
-    /// where it is that of the main text, or one that `note_read` told. The file stays as it is then.
+    /// where it is that of the main text. The file stays as it is then.
     pub fn open(&mut self, rt: &HostRuntime, path: &str) -> Result<File, WriteFault> {
-        let file = OpenOptions::new().write(true).create(true).open(rt, path)?;
+        let file = open_unchanged(rt, path)?;
+        self.empty(file, None)
+    }
+
+    /// The same for a report that is written when all of `opened` were read.
+    ///
+    /// # Errors
+    /// As of `open`; also `Source` where one of `opened` lies in the file, and `Failed` where memory was refused for one of them.
+    pub fn open_behind(
+        &mut self,
+        rt: &HostRuntime,
+        path: &str,
+        opened: &OpenedPaths,
+    ) -> Result<File, WriteFault> {
+        if !opened.is_whole() {
+            return Err(WriteFault::Failed(io::Error::from(ErrorKind::OutOfMemory)));
+        }
+        let file = open_unchanged(rt, path)?;
+        self.empty(file, Some(opened))
+    }
+
+    // Empties a file, unless it is written already or is a source.
+    fn empty(&mut self, file: File, opened: Option<&OpenedPaths>) -> Result<File, WriteFault> {
         let Some(id) = FileId::of(&file.metadata()?) else {
             return Ok(file);
         };
@@ -100,7 +119,7 @@ impl RunFiles {
             let error = io::Error::new(ErrorKind::InvalidInput, "another output goes to this file");
             return Err(WriteFault::Failed(error));
         }
-        if self.main == Some(id) || self.read.has(id) {
+        if self.main == Some(id) || opened.is_some_and(|opened| opened.has(id)) {
             return Err(WriteFault::Source);
         }
         self.take(id);
@@ -111,20 +130,6 @@ impl RunFiles {
     /// The files that were opened, while these are two at most.
     pub fn opened(&self) -> FilePair {
         FilePair::of(self.taken[0], self.taken[1])
-    }
-
-    /// The files at which reports are written when the run ends, as far as they are there.
-    pub fn awaited(rt: &HostRuntime, invocation: &Invocation) -> FilePair {
-        let reports = &invocation.reports;
-        FilePair::of(
-            file_of(rt, reports.deps.as_ref()),
-            file_of(rt, reports.definitions.as_ref()),
-        )
-    }
-
-    /// Notes which of the awaited files were read as sources.
-    pub fn note_read(&mut self, read: FilePair) {
-        self.read = read;
     }
 
     // Whether the text or a report goes to a file.
@@ -151,10 +156,7 @@ fn file_at(rt: &HostRuntime, path: &str) -> Option<FileId> {
     }
 }
 
-// The regular file at a path, where there is one, and where there is a path.
-fn file_of(rt: &HostRuntime, path: Option<&String>) -> Option<FileId> {
-    match path {
-        Some(path) => file_at(rt, path.as_str()),
-        None => None,
-    }
+// Opens the file at a path to be written, which is made where there is none, and else stays as it is.
+fn open_unchanged(rt: &HostRuntime, path: &str) -> io::Result<File> {
+    OpenOptions::new().write(true).create(true).open(rt, path)
 }

@@ -12,7 +12,7 @@ use rdlpp::{
     Buffered, Engine, Folders, Invocation, OpenedPaths, PrepFault, Recorded, Table, exit_status,
     new_engine, run_watched_from, write_definitions, write_dependencies,
 };
-use std::io::{self, BufWriter, ErrorKind, Write};
+use std::io::{BufWriter, Write};
 
 /// An engine that may note what it opens.
 pub type NotedEngine<'r> = Engine<Recorded<Folders<'r, HostRuntime>>>;
@@ -27,14 +27,20 @@ pub fn run_told(
     let Ok(sources) = folders_of(rt, invocation) else {
         return tell_unmade(rt, PrepFault::NoMemory);
     };
-    let sources = match invocation.reports.deps {
-        Some(_) => Recorded::new(rt.alloc(), sources),
-        None => Recorded::silent(rt.alloc(), sources),
+    let sources = if is_noting(invocation) {
+        Recorded::new(rt.alloc(), sources)
+    } else {
+        Recorded::silent(rt.alloc(), sources)
     };
     match new_engine(rt.alloc(), &invocation.options, sources) {
         Ok(mut engine) => run_noted(rt, invocation, &mut engine, files, output),
         Err(fault) => tell_unmade(rt, fault),
     }
+}
+
+// Whether a report is written that tells the sources, or when they were read, so that it has to be known which ones these are.
+fn is_noting(invocation: &Invocation) -> bool {
+    invocation.reports.deps.is_some() || invocation.reports.definitions.is_some()
 }
 
 // Tells why there is no engine, and answers the exit status.
@@ -54,8 +60,10 @@ fn run_noted(
     requires { IsFreshOf invocation.now.options engine.old }
 {
     let mut mapping = open_mapping(rt, files, invocation.reports.line_map.as_ref());
-    let awaited = RunFiles::awaited(rt, invocation);
-    engine.sources().sources().guard(files.opened(), awaited);
+    let written = files.opened();
+    if is_noting(invocation) || !written.is_empty() {
+        engine.sources().sources().guard(written);
+    }
     let outcome = run_mapped(rt, invocation, engine, output, &mut mapping);
     if let Err(fault) = &outcome {
         if invocation.reports.notes {
@@ -66,7 +74,6 @@ fn run_noted(
     }
     let mapped = mapping.finish();
     let mapped = told_status(rt, invocation.reports.line_map.as_ref(), &mapped);
-    files.note_read(engine.sources().sources().read_files());
     let opened = engine.sources().opened();
     let told = rest_status(rt, invocation, opened, engine.table(), files);
     exit_status(&outcome).max(mapped).max(told)
@@ -109,7 +116,7 @@ fn rest_status(
         status = told_status(rt, Some(path), &written);
     }
     if let Some(path) = &invocation.reports.definitions {
-        let written = write_macros(rt, files, path, table);
+        let written = write_macros(rt, files, path, table, opened);
         status = told_status(rt, Some(path), &written).max(status);
     }
     status
@@ -136,13 +143,10 @@ fn write_deps(
     target: &String,
     opened: &OpenedPaths,
 ) -> Result<(), WriteFault> {
-    let file = files.open(rt, path.as_str())?;
+    let file = files.open_behind(rt, path.as_str(), opened)?;
     let mut writer = BufWriter::with_capacity(rt.alloc(), OUTPUT_BYTES, file)?;
     write_dependencies(target.as_str(), opened, &mut writer)?;
     writer.flush()?;
-    if !opened.is_whole() {
-        return Err(WriteFault::Failed(io::Error::from(ErrorKind::OutOfMemory)));
-    }
     Ok(())
 }
 
@@ -152,8 +156,9 @@ fn write_macros(
     files: &mut RunFiles,
     path: &String,
     table: &Table,
+    opened: &OpenedPaths,
 ) -> Result<(), WriteFault> {
-    let file = files.open(rt, path.as_str())?;
+    let file = files.open_behind(rt, path.as_str(), opened)?;
     let mut writer = BufWriter::with_capacity(rt.alloc(), OUTPUT_BYTES, file)?;
     write_definitions(table, &mut writer)?;
     writer.flush()?;

@@ -4,6 +4,7 @@
 
 mod definitions;
 mod dependencies;
+mod files;
 mod left_out;
 mod lines;
 mod map_writer;
@@ -13,6 +14,7 @@ mod writing;
 
 pub use definitions::write_definitions;
 pub use dependencies::write_dependencies;
+pub use files::{FileId, FileSources};
 pub use lines::{LineRun, MappedLines, write_map_start, write_run};
 pub use map_writer::MapWriter;
 pub use notes::{write_failure, write_notes};

@@ -1,38 +1,43 @@
 //! Sources that note what is opened.
 ghost use Rattle.std.specs.Prelude.{◌≡◌, [], map, true, false, IfErr};
 ghost use Rattle.std.specs.Io.{ReadsAtMost};
+ghost use Rattle.std.specs.List.{list_any};
 ghost use Rattle.std.specs.String.{string_bytes};
 ghost use Rattle.rdlpp_source.specs.Counts.{Counts};
 ghost use Rattle.rdlpp_source.specs.Sources.{Finds, Reads, is_device, is_no_memory};
-ghost use Rattle.rdlpp_reports.specs.Recorded.{is_noting, is_whole, noted_paths, noted_sources, paths_of, NotesWhere, NotesPath};
+ghost use Rattle.rdlpp_reports.specs.Recorded.{firsts, is_noting, is_same, is_whole, noted_paths, noted_sources, paths_of, told_of, NotesOpening, NotesPath, NotesWhere};
 
+use crate::files::{FileId, FileSources};
 use indexmap::IndexSet;
 use rdlpp_source::{Found, SourceFault, Sources};
 use std::alloc::Global;
 
-/// The paths of sources that were opened: each once, in the order in which they were opened first.
+/// The sources that were opened, in the order in which they were opened first: of each file the path by which it was opened first,
+/// and of what lies in no file that is known each path, once.
 #[derive(Drop)]
 pub struct OpenedPaths {
     alloc: Global,
     paths: IndexSet<String>,
+    files: IndexSet<FileId>,
     // whether memory was there for each of them
     is_whole: bool,
 }
 
 impl OpenedPaths {
-    /// No paths.
+    /// None yet.
     pub fn new(alloc: Global) -> OpenedPaths
-        ensures paths { paths_of result ≡ [] }
+        ensures told { told_of result ≡ firsts [] }
         ensures whole { is_whole result ≡ true }
     {
         OpenedPaths {
             alloc,
             paths: IndexSet::new(alloc),
+            files: IndexSet::new(alloc),
             is_whole: true,
         }
     }
 
-    /// Whether each path that was noted is here: memory was refused for none.
+    /// Whether each source that was noted is told: memory was refused for none.
     pub fn is_whole(&self) -> bool
         ensures { result ≡ is_whole self.now }
     {
@@ -46,9 +51,30 @@ impl OpenedPaths {
         self.paths.as_slice()
     }
 
+    /// Whether a source lies in a file.
+    pub fn has(&self, file: FileId) -> bool
+        ensures { result ≡ list_any (is_same file) (told_of self.now).files }
+    {
+        self.files.contains(&file)
+    }
+
+    // Notes a source behind the others, unless its file or its path is here.
+    fn note(&mut self, path: &str, file: Option<FileId>)
+        ensures { NotesOpening self.old self.new (record { path = path.now; file = file }) }
+    {
+        let Some(file) = file else {
+            return self.note_path(path);
+        };
+        match self.files.insert(file) {
+            Ok(true) => self.note_path(path),
+            Ok(false) => {}
+            Err(_) => self.is_whole = false,
+        }
+    }
+
     // Notes a path behind the others, unless it is here.
     #[tactic(auto, using(crate::proofs::Paths::noted_key))]
-    fn note(&mut self, path: &str)
+    fn note_path(&mut self, path: &str)
         ensures { NotesPath self.old self.new path.now }
     {
         let Ok(path) = String::from_str(self.alloc, path) else {
@@ -62,10 +88,10 @@ impl OpenedPaths {
     }
 }
 
-/// Sources over others, which may note the path of each source that they open.
+/// Sources over others, which may note each source that they open, by its path and its file.
 ///
-/// They answer what the sources below answer, and count as these do. Where memory is refused for a path, the list of the paths
-/// isn't whole, and nothing else changes.
+/// They answer what the sources below answer, and count as these do. Where memory is refused for a source, what is told isn't
+/// whole, and nothing else changes.
 #[derive(Drop)]
 pub struct Recorded<S> {
     sources: S,
@@ -73,11 +99,11 @@ pub struct Recorded<S> {
     is_noting: bool,
 }
 
-impl<S: Sources> Recorded<S> {
-    /// Sources over others, with no path noted, which note each path.
+impl<S: FileSources> Recorded<S> {
+    /// Sources over others, with none noted, which note each.
     pub fn new(alloc: Global, sources: S) -> Recorded<S>
         ensures sources { noted_sources result ≡ sources }
-        ensures paths { paths_of (noted_paths result) ≡ [] }
+        ensures told { told_of (noted_paths result) ≡ firsts [] }
         ensures whole { is_whole (noted_paths result) ≡ true }
         ensures noting { is_noting result ≡ true }
     {
@@ -88,10 +114,10 @@ impl<S: Sources> Recorded<S> {
         }
     }
 
-    /// Sources over others, with no path noted, which note none.
+    /// Sources over others, with none noted, which note none.
     pub fn silent(alloc: Global, sources: S) -> Recorded<S>
         ensures sources { noted_sources result ≡ sources }
-        ensures paths { paths_of (noted_paths result) ≡ [] }
+        ensures told { told_of (noted_paths result) ≡ firsts [] }
         ensures whole { is_whole (noted_paths result) ≡ true }
         ensures noting { is_noting result ≡ false }
     {
@@ -109,16 +135,16 @@ impl<S: Sources> Recorded<S> {
         &self.sources
     }
 
-    /// The paths of the sources that were opened.
+    /// The sources that were opened and noted.
     pub fn opened(&self) -> &OpenedPaths
         ensures { result.now ≡ noted_paths self.now }
     {
         &self.opened
     }
 
-    // Notes the path of what was found, where paths are noted.
+    // Notes what was found, where sources are noted.
     fn note(&mut self, answer: &Result<Found<S::Reader>, SourceFault>)
-        ensures notes { NotesWhere (is_noting self.old) (noted_paths self.old) (noted_paths self.new) answer.now }
+        ensures notes { NotesWhere S.lies_in (is_noting self.old) (noted_paths self.old) (noted_paths self.new) answer.now }
         ensures noting { is_noting self.new ≡ is_noting self.old }
         ensures sources { noted_sources self.new ≡ noted_sources self.old }
     {
@@ -126,12 +152,13 @@ impl<S: Sources> Recorded<S> {
             return;
         }
         if let Ok(found) = answer {
-            self.opened.note(found.path.as_str());
+            let file = self.sources.file(&found.reader);
+            self.opened.note(found.path.as_str(), file);
         }
     }
 }
 
-impl<S: Sources> Sources for Recorded<S> {
+impl<S: FileSources> Sources for Recorded<S> {
     type Reader = S::Reader;
 
     ghost use Rattle.rdlpp_reports.specs.Recorded.{is_noting, noted_sources, noted_paths, NotesWhere};
@@ -152,7 +179,7 @@ impl<S: Sources> Sources for Recorded<S> {
         ensures refusals { Counts (is_no_memory result) (S.refusals (noted_sources self.old)) (S.refusals (noted_sources self.new)) }
         ensures tells { S.tells (noted_sources self.old) → S.tells (noted_sources self.new) }
         ensures catalog { S.catalog (noted_sources self.new) ≡ S.catalog (noted_sources self.old) }
-        ensures notes { NotesWhere (is_noting self.old) (noted_paths self.old) (noted_paths self.new) result }
+        ensures notes { NotesWhere S.lies_in (is_noting self.old) (noted_paths self.old) (noted_paths self.new) result }
         ensures noting { is_noting self.new ≡ is_noting self.old }
     {
         let answer = self.sources.top(path);
@@ -166,7 +193,7 @@ impl<S: Sources> Sources for Recorded<S> {
         ensures refusals { Counts (is_no_memory result) (S.refusals (noted_sources self.old)) (S.refusals (noted_sources self.new)) }
         ensures tells { S.tells (noted_sources self.old) → S.tells (noted_sources self.new) }
         ensures catalog { S.catalog (noted_sources self.new) ≡ S.catalog (noted_sources self.old) }
-        ensures notes { NotesWhere (is_noting self.old) (noted_paths self.old) (noted_paths self.new) result }
+        ensures notes { NotesWhere S.lies_in (is_noting self.old) (noted_paths self.old) (noted_paths self.new) result }
         ensures noting { is_noting self.new ≡ is_noting self.old }
     {
         let answer = self.sources.find(from, name);
