@@ -290,7 +290,7 @@ uint32_t rdlpp_give(
  *
  * Of each path a length and a digest of 64 bits are kept. Where a text has others than the one that was given of
  * its path before, the answer is RDLPP_CHANGED, and the path is told as by rdlpp_give_failed: a search ends there,
- * by the fault RDLPP_FAULT_READ_FAILED. The digest finds what changed by chance. It is no protection against
+ * by the fault RDLPP_FAULT_READ_FAILED, whose notes say why where the path was asked for. The digest finds what changed by chance. It is no protection against
  * someone who makes two texts of one digest.
  *
  * The other answers are those of rdlpp_give. With RDLPP_NO_MEMORY nothing is known of the path, as before, and the text

@@ -310,10 +310,7 @@ private:
     rdlpp::fault fault_of(const rdlpp_outcome &outcome)
     {
         const auto kind = static_cast<fault_kind>(outcome.number);
-        const std::string changed = kind == RDLPP_FAULT_READ_FAILED && changed_
-            ? "rdlpp: note: " + *changed_ + ": its text has changed since it was read first\n" : "";
-        return {kind, {name_, outcome.name_length}, outcome.line, {word_, outcome.word_length},
-                changed + whole(rdlpp_notes)};
+        return {kind, {name_, outcome.name_length}, outcome.line, {word_, outcome.word_length}, whole(rdlpp_notes)};
     }
 
     /* Takes what a read answered: keeps the path of a source that is asked for, or how the output ended. */
@@ -349,9 +346,6 @@ private:
             outcome.status = rdlpp_give_failed(open, path.data(), path.size());
         }
         detail::refuse(outcome);
-        if (outcome.status == RDLPP_CHANGED) {
-            changed_ = path;
-        }
         wanted_.reset();
     }
 
@@ -359,7 +353,6 @@ private:
     reader read_;
     bool reads_again_;
     std::optional<std::string> wanted_;
-    std::optional<std::string> changed_;
     bool is_done_ = false;
     std::optional<rdlpp::fault> stopped_;
     char name_[1024];

@@ -53,6 +53,12 @@ static int wants(const rdlpp_outcome *outcome, const char *path, size_t length)
         && memcmp(name, path, strlen(path)) == 0 && name[strlen(path)] == '#';
 }
 
+static int notes_are(rdlpp_handle *handle, const char *notes)
+{
+    const size_t length = rdlpp_notes(handle, out, sizeof out);
+    return length == strlen(notes) && memcmp(out, notes, length) == 0;
+}
+
 static int gave(const rdlpp_outcome *outcome, const char *text)
 {
     return outcome->length == strlen(text) && memcmp(out, text, strlen(text)) == 0;
@@ -244,6 +250,27 @@ static void refuses_another_text(const char *other)
     check(outcome.name_length == 1 && name[0] == 'm', "at its include");
     outcome = read_some(&handle);
     check(outcome.status == RDLPP_STOPPED && outcome.number == RDLPP_FAULT_READ_FAILED && outcome.length == 0, "told again");
+    check(notes_are(&handle, "rdlpp: note: i: its text has changed since it was read first\n"), "its note");
+    rdlpp_close(&handle);
+}
+
+/* The notes on a source that can't be opened name no other one, whose text has changed and which wasn't asked for. */
+static void notes_what_ended_it(void)
+{
+    rdlpp_handle handle = RDLPP_CLOSED_HANDLE;
+    rdlpp_outcome outcome;
+    open_asking(&handle);
+    check(give(&handle, "m", "`include \"i\"\n`include \"j\"\n`include \"k\"\n") == RDLPP_WHOLE, "the main text");
+    outcome = read_some(&handle);
+    check(wants(&outcome, "i", 0) && give_once(&handle, "i", "one") == RDLPP_WHOLE, "an included source");
+    outcome = read_some(&handle);
+    check(wants(&outcome, "j", 5) && give_once(&handle, "j", "") == RDLPP_WHOLE, "an empty one");
+    outcome = read_some(&handle);
+    check(wants(&outcome, "k", 1) && give_once(&handle, "i", "two") == RDLPP_CHANGED, "another text that isn't asked for");
+    check(give_failed(&handle, "k") == RDLPP_WHOLE, "what was asked for can't be opened");
+    outcome = read_some(&handle);
+    check(outcome.status == RDLPP_STOPPED && outcome.number == RDLPP_FAULT_READ_FAILED && outcome.line == 3, "its fault");
+    check(notes_are(&handle, ""), "no note");
     rdlpp_close(&handle);
 }
 
@@ -427,6 +454,7 @@ int main(int count, char **words)
     refuses_another_text("a text of same length");
     refuses_another_text("a text of some length, and more");
     refuses_another_text("");
+    notes_what_ended_it();
     gives_once_what_is_known();
     sees_each_change(is_short ? 9 : 67);
     asks_with_short_buffers();

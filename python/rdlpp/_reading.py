@@ -13,7 +13,6 @@ from ._written import Written
 
 # What a note begins with where it is written.
 NOTE = "rdlpp: note: "
-CHANGED = "its text has changed since it was read first"
 
 
 class Reading:
@@ -143,10 +142,7 @@ class Reading:
         # the main text is open up to the end
         give = library.give if self._asked.stays or path == self._main else library.give_once
         status = give(self._at, path, len(path), place, length)
-        if status != library.CHANGED:
-            return _raise_refusal(status)
-        self._unreadable = shown, Unreadable(ValueError(CHANGED), False)
-        return None
+        return None if status == library.CHANGED else _raise_refusal(status)
 
     def _note(self, path: str) -> None:
         """Notes a source that was opened, unless its file or its path is there."""

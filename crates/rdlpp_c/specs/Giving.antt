@@ -1,7 +1,8 @@
 -- What a caller tells of the sources that were asked for.
 -- A definition that names no source is this project's own.
-use Rattle.std.specs.Prelude.{◌≡◌, ℕ, ◌⊎◌, Bool, List, IsUtf8, Option, None, Some, Result, Ok, Err}
+use Rattle.std.specs.Prelude.{◌≡◌, ℕ, ◌⊎◌, ◌&&◌, Bool, true, false, List, IsUtf8, bytes_eq, Option, None, Some, Result, Ok, Err, if◌then◌else◌}
 use Rattle.std.specs.declared.alloc.AllocError.{AllocError}
+use Rattle.arrayvec.specs.declared.array_string.ArrayString.{ArrayString}
 use Rattle.rdlpp_source.specs.Asked.{Adds, Stays, standing_text}
 use Rattle.rdlpp_source.specs.declared.asked.AskedTexts.{AskedTexts}
 use Rattle.rdlpp_source.specs.declared.asked.Standing.{Standing}
@@ -59,13 +60,30 @@ abbrev pub ComesOnce : (List ℕ → Option Standing) → Bool → List ℕ → 
 ComesOnce at asks path text before new after (Ok given) = GivenOnce at asks path text before new after given
 ComesOnce at asks path text before new after (Err e) = Stands at before new after
 
+-- whether a text was refused, since it is another one than before
+abbrev pub is_refused : Result Given AllocError → Bool
+is_refused (Ok Known) = false
+is_refused (Ok Taken) = false
+is_refused (Ok Other) = true
+is_refused (Err e) = false
+
+-- whether a path is the one that is asked for
+abbrev pub is_asked : Option (ArrayString 1024) → List ℕ → Bool
+is_asked None path = false
+is_asked (Some wanted) path = bytes_eq wanted.bytes path
+
+-- the path that was asked for when another text was given of it than before: this one, or one of before
+abbrev pub changed_path : Result Given AllocError → Option (ArrayString 1024) → List ℕ → Option (ArrayString 1024) → Option (ArrayString 1024)
+changed_path given wanted path before = if is_refused given && is_asked wanted path then wanted else before
+
 -- such a give to an open stream, and the status that tells it; nothing else of it changes
 pub record TellsOnce (path text : List ℕ) (before after : Stream) (status : ℕ) : Type 0 where
   pub answer : Result Given AllocError
   pub comes : ComesOnce (freed_at before.once before.reading.engine.sources) before.reading.engine.sources.asks path text before.once after.reading.engine.sources after.once answer
   pub known : after.reading.engine.sources ≡ record before.reading.engine.sources { known = after.reading.engine.sources.known }
   pub is : status ≡ once_status answer
-  pub only : after ≡ record before { reading = record before.reading { engine = record before.reading.engine { sources = after.reading.engine.sources } }; once = after.once }
+  pub changed : after.changed ≡ changed_path answer before.reading.engine.sources.wanted path before.changed
+  pub only : after ≡ record before { reading = record before.reading { engine = record before.reading.engine { sources = after.reading.engine.sources } }; once = after.once; changed = after.changed }
 
 -- the same by bytes as the path: where they aren't UTF-8 nothing changes
 abbrev pub GivesOnce : List ℕ → List ℕ → Stream → Stream → ℕ → Type 0

@@ -1,7 +1,7 @@
 // The calls by which a program in C tells what it was asked for.
 ghost use Rattle.std.specs.Prelude.{◌≡◌, IsUtf8, MatchResult};
 ghost use Rattle.std.specs.String.{string_bytes};
-ghost use Rattle.rdlpp_c.specs.Giving.{Gives, GivesOnce, GivesStanding, GivesText, TellsOnce, TellsPath, given_status, once_status};
+ghost use Rattle.rdlpp_c.specs.Giving.{Gives, GivesOnce, GivesStanding, GivesText, TellsOnce, TellsPath, changed_path, given_status, is_asked, is_refused, once_status};
 ghost use Rattle.rdlpp_source.specs.declared.asked.Standing.TheVariants.{Absent as Gone, Failed};
 ghost use Rattle.rdlpp_c.specs.declared.asking.Refusal.TheVariants.{BadText};
 
@@ -11,6 +11,7 @@ use crate::knowing::shared_text;
 use crate::once::Given;
 use crate::stream::Stream;
 use crate::telling::{BAD_TEXT, CHANGED, CLOSED, NO_MEMORY, WHOLE};
+use arrayvec::ArrayString;
 use rdlpp_source::{AskedTexts, Standing};
 use std::alloc::{AllocError, Global};
 
@@ -34,7 +35,8 @@ pub extern "C" fn rdlpp_give(alloc: Global, handle: &mut Handle, path: &[u8], te
 /// Tells an open output the text of the source at `path`, as `rdlpp_give` does, but forgets it when the next text is
 /// given by this call: from then on only those who read it hold it, and the next search for it asks again. Its path
 /// stays with the text's length and a digest. Another text that is given of the path later is refused: the path is
-/// told as by `rdlpp_give_failed`, and a search ends there by the fault of a device.
+/// told as by `rdlpp_give_failed`, and a search ends there by the fault of a device; where the path was asked for,
+/// `rdlpp_notes` tells why.
 ///
 /// The answer is 9 where the text is refused, and else as of `rdlpp_give`; by 4 also the text that was given last by this
 /// call is forgotten.
@@ -107,9 +109,44 @@ fn tell_once(alloc: Global, stream: &mut Stream, path: &str, text: &[u8]) -> u32
     ensures { TellsOnce path.now text.now stream.old stream.new result }
 {
     let mut sources = stream.reading.replace_sources(AskedTexts::empty(alloc));
+    let wanted = sources.wanted;
     let given = stream.once.give(alloc, &mut sources, path, text);
     let _empty = stream.reading.replace_sources(sources);
+    stream.changed = changed_path(&given, wanted, path, stream.changed);
     once_status(given)
+}
+
+// The path that was asked for when another text was given of it than before: this one, or one of before.
+fn changed_path(
+    given: &Result<Given, AllocError>,
+    wanted: Option<ArrayString<1024>>,
+    path: &str,
+    before: Option<ArrayString<1024>>,
+) -> Option<ArrayString<1024>>
+    ensures { result ≡ changed_path given.now wanted path.now before }
+{
+    if is_refused(given) && is_asked(&wanted, path) {
+        wanted
+    } else {
+        before
+    }
+}
+
+// Whether a text was refused, since it is another one than before.
+fn is_refused(given: &Result<Given, AllocError>) -> bool
+    ensures { result ≡ is_refused given.now }
+{
+    matches!(given, Ok(Given::Other))
+}
+
+// Whether a path is the one that is asked for.
+fn is_asked(wanted: &Option<ArrayString<1024>>, path: &str) -> bool
+    ensures { result ≡ is_asked wanted.now path.now }
+{
+    match wanted {
+        Some(wanted) => wanted.as_str() == path,
+        None => false,
+    }
 }
 
 // The status of a text that was given once.

@@ -6,10 +6,14 @@ ghost use Rattle.rdlpp_c.specs.Streaming.{stream_fault};
 use crate::handle::{Handle, put, take};
 use crate::stream::Stream;
 use crate::telling::tell_text;
-use rdlpp::Fault;
-use rdlpp_reports::{write_definitions, write_notes};
+use rdlpp::{Fault, FaultKind};
+use rdlpp_reports::{write_definitions, write_failure, write_notes};
 use rdlpp_table::Table;
 use std::alloc::{AllocError, Global};
+use std::io::{self, ErrorKind};
+
+// Why a source isn't opened whose text is another one than before.
+const CHANGED: &str = "its text has changed since it was read first";
 
 /// Writes the live definitions of an open output as `define` lines, oldest first, to `out`, as much as there is room
 /// for, and answers their whole length: 0 where the handle is closed, and where memory was refused.
@@ -69,9 +73,26 @@ fn tell_notes(alloc: Global, stream: &Stream, fault: &Fault, out: &mut [u8]) -> 
         return 0;
     };
     let mut lines = Vec::new(alloc);
+    if write_changed(stream, fault, &mut lines).is_err() {
+        return 0;
+    }
     match write_notes(fault, engine, &folders, &mut lines) {
         Ok(()) => tell_text(&lines, out),
         Err(_) => 0,
+    }
+}
+
+// Writes the note on the source that couldn't be opened since its text is another one than before, if that is the fault.
+fn write_changed(stream: &Stream, fault: &Fault, lines: &mut Vec<u8>) -> io::Result<()> {
+    if fault.kind != FaultKind::ReadFailed {
+        return Ok(());
+    }
+    match &stream.changed {
+        Some(path) => {
+            let error = io::Error::new(ErrorKind::InvalidInput, CHANGED);
+            write_failure(path.as_str(), &error, lines)
+        }
+        None => Ok(()),
     }
 }
 

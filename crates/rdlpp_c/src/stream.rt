@@ -29,6 +29,8 @@ pub struct Stream {
     path: String,
     // the marks of the texts that were given once
     pub(crate) once: Once,
+    // the path that was asked for when another text was given of it than before
+    pub(crate) changed: Option<ArrayString<1024>>,
     // whether a read ends with its piece
     pieces: bool,
     // what the last read gave of its piece
@@ -64,6 +66,7 @@ impl Stream {
             reading,
             path,
             once: Once::empty(alloc),
+            changed: None,
             pieces,
             part: Part {
                 lines_before: 0,
