@@ -23,8 +23,8 @@ NUL_IN_NAME = "file name contained an unexpected NUL byte"
 # How much is read at once: a signal is seen between two such parts.
 PART = 4_194_304
 SMALL_PART = 65_536
-# The size from which on a file is read into the room of the output.
-LARGE = 1_048_576
+# The size from which on a file is read into the room of the output: a bytes object of that size is made of new pages each time.
+LARGE = 131_072
 
 _part = ctypes.c_char * PART
 _last = ctypes.CDLL(None).memrchr
