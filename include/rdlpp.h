@@ -254,15 +254,15 @@ rdlpp_outcome rdlpp_open(
  * no bytes, unless `out` has the length 0, which is always full.
  *
  * The answer is RDLPP_MORE where `out` is full. It is also that, perhaps with no bytes, after at most 65,536
- * steps in all that gave none, so that a read comes back soon and the caller may stop; and, where the
- * request has `pieces`, at the end of what stands at one place. So a caller reads on until the answer is
- * another.
+ * steps in all that gave none, so that a read comes back, mostly in milliseconds, and the caller may stop
+ * (SECURITY.md has the longest reads); and, where the request has `pieces`, at the end of what stands at
+ * one place. So a caller reads on until the answer is another.
  *
  * Where the request has `asks`, the answer is RDLPP_WANTED where a source is needed of which nothing is
  * known: its path is told in `name`, and its length in `name_length` of the answer. The caller tells what is
- * there by rdlpp_give, rdlpp_give_once, rdlpp_give_absent or rdlpp_give_failed, and reads on. Where it reads on without,
- * the same source is asked for again, and nothing changes. The paths that are asked for are those that a
- * search tries, in order: the name in the folder of the including source, then in each include folder.
+ * there by rdlpp_give, rdlpp_give_once, rdlpp_give_absent or rdlpp_give_failed, and reads on. Where it reads
+ * on without, the same source is asked for again, and nothing changes. The paths that are asked for are those
+ * that a search tries, in order: the name in the folder of the including source, then in each include folder.
  */
 rdlpp_outcome rdlpp_read(
     rdlpp_handle *handle,
@@ -290,8 +290,8 @@ uint32_t rdlpp_give(
  *
  * Of each path a length and a digest of 64 bits are kept. Where a text has others than the one that was given of
  * its path before, the answer is RDLPP_CHANGED, and the path is told as by rdlpp_give_failed: a search ends there,
- * by the fault RDLPP_FAULT_READ_FAILED, whose notes say why where the path was asked for. The digest finds what changed by chance. It is no protection against
- * someone who makes two texts of one digest.
+ * by the fault RDLPP_FAULT_READ_FAILED; where the path was asked for, rdlpp_notes says why. The digest finds what
+ * changed by chance. It is no protection against someone who makes two texts of one digest.
  *
  * The other answers are those of rdlpp_give. With RDLPP_NO_MEMORY nothing is known of the path, as before, and the text
  * that was given last by this call isn't kept any longer either.
