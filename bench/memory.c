@@ -57,17 +57,17 @@ int main(int count, char **words)
     for (size_t at = 0; at < texts_length; at += 1) {
         texts[at] = text_of(words[at + 3]);
     }
-    rdlpp_limits limits = rdlpp_standard_limits();
-    limits.includes = 64;
-    const rdlpp_folder folders[] = {{"", 0}};
-    const rdlpp_definition definitions[] = {{"", 0, "", 0}};
+    rdlpp_request request = rdlpp_standard_request();
+    request.limits.includes = 64;
+    request.texts = texts;
+    request.texts_length = texts_length;
+    request.path = words[1];
+    request.path_length = strlen(words[1]);
     double least = 1e18, all = 0;
     uint64_t length = 0;
     for (long run = 0; run < runs; run += 1) {
         const double began = nanoseconds();
-        const rdlpp_outcome outcome = rdlpp_preprocess(&limits, false, texts, texts_length, folders, 0, definitions, 0,
-                                                       words[1], strlen(words[1]), out, OUT_ROOM,
-                                                       name, sizeof name, word, sizeof word);
+        const rdlpp_outcome outcome = rdlpp_preprocess(&request, out, OUT_ROOM, name, sizeof name, word, sizeof word);
         const double spent = nanoseconds() - began;
         if (outcome.status != RDLPP_WHOLE) {
             fprintf(stderr, "status %u, fault %u\n", outcome.status, outcome.number);
