@@ -78,6 +78,9 @@ class Written:
         where room is made."""
         if self.left < least:
             self._grow(max(self.filled + least, self.room + self.room // 2))
+            # Room that grows by small steps is moved often, which costs more with huge pages.
+            if least >= LARGE:
+                _prefer_huge_pages(self._place, self.room)
         return self._place + self.filled
 
     def take(self) -> bytes:
@@ -88,7 +91,6 @@ class Written:
     def _grow(self, room: int) -> None:
         _resize(ctypes.byref(self._held), room + 1)
         self._place, self.room = _place_of(self._held), room
-        _prefer_huge_pages(self._place, room)
 
     def __del__(self) -> None:
         _forget(self._held)
