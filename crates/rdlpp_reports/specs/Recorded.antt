@@ -35,6 +35,10 @@ told_of opened = record { paths = paths_of opened; files = opened.files.keys }
 abbrev pub noted_paths : {S : Type 0} → Recorded S → OpenedPaths
 noted_paths r = r.opened
 
+-- a text that is given by its path lies in no file
+abbrev pub no_file : {R : Type 0} → R → Option FileId
+no_file reader = None
+
 -- whether sources note what they open
 abbrev pub is_noting : {S : Type 0} → Recorded S → Bool
 is_noting r = r.is_noting

@@ -3,7 +3,7 @@ ghost use Rattle.std.specs.Prelude.{◌≡◌, ◌↔◌, IsTrue};
 ghost use Rattle.std.specs.Fs.{file_type, IsFile};
 ghost use Rattle.std.specs.Option.{is_some};
 
-use rdlpp_source::Sources;
+use rdlpp_source::{AskedReader, AskedTexts, Sources, TextReader, Texts};
 use std::fs::Metadata;
 use std::os::unix::fs::MetadataExt;
 
@@ -40,4 +40,24 @@ pub trait FileSources: Sources {
     /// The file in which the text of a reader lies, where it lies in one and that is known.
     fn file(&self, reader: &Self::Reader) -> Option<FileId>
         ensures { result ≡ lies_in reader.now };
+}
+
+impl<'a> FileSources for Texts<'a> {
+    ghost use Rattle.rdlpp_reports.specs.Recorded.{no_file};
+
+    ghost lies_in = { no_file };
+
+    fn file(&self, _reader: &TextReader<'a>) -> Option<FileId> {
+        None
+    }
+}
+
+impl FileSources for AskedTexts {
+    ghost use Rattle.rdlpp_reports.specs.Recorded.{no_file};
+
+    ghost lies_in = { no_file };
+
+    fn file(&self, _reader: &AskedReader) -> Option<FileId> {
+        None
+    }
 }
