@@ -476,18 +476,6 @@ stop_next formals text all d k i start l h e q =
     let here : k ≡ first = q ∙ ap (λ (x : List Kept). get_or x 0 d) both in
     (here, ap (λ (x : List Kept). drop 1 x) both ∙ ap (λ (x : Kept). stops_behind (10 - (i + 1)) formals text x.end) (sym here))
 
--- so is each of them but the first one, by the end of the one before
-nth_stop : (formals : List Formal) (text : List ℕ) (n i from : ℕ) (d : Kept) → suc i < n → get_or (stops_behind n formals text from) (suc i) d ≡ kept_from formals text (get_or (stops_behind n formals text from) i d).end
-unfolding stops_behind
-nth_stop formals text zero i from d h = absurd (omega (arith, h))
-nth_stop formals text (suc zero) i from d h = absurd (omega (arith, h))
-nth_stop formals text (suc (suc n)) zero from d h = refl
-nth_stop formals text (suc (suc n)) (suc i) from d h = nth_stop formals text (suc n) i (kept_from formals text from).end d (omega (arith, h))
-
-pub last_stop : (formals : List Formal) (text : List ℕ) (stops : FirstStops) (d : Kept) → stops ≡ first_stops formals text → get_or stops.all 9 d ≡ kept_from formals text (get_or stops.all 8 d).end
-last_stop formals text stops d e =
-    subst (λ (all : List Kept). get_or all 9 d ≡ kept_from formals text (get_or all 8 d).end) (sym (all_stops formals text stops e)) (nth_stop formals text 10 8 0 d (omega arith))
-
 -- The stops of the body of a macro in a table.
 
 -- the macro of an entry that was read

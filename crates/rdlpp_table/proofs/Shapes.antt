@@ -1,13 +1,14 @@
 -- No name is a formal that has another shape than the formals have.
-use Rattle.std.proofs.Common.{◌≡◌, ◌<◌, ◌-◌, ℕ, suc, ◌+◌, Bool, true, false, cond, List, [], ◌∷◌, length, get_or, set, Option, Some, None, is_some, option_map, bytes_eq, refl, sym, ap, ◌∙◌, subst, arith, ⊎_elim}
+use Rattle.std.proofs.Common.{◌≡◌, ◌<◌, ◌-◌, drop, ℕ, suc, ◌+◌, Bool, true, false, cond, List, [], ◌∷◌, length, get_or, set, Option, Some, None, is_some, option_map, bytes_eq, refl, sym, ap, ◌∙◌, subst, arith, ⊎_elim}
+use Rattle.std.specs.List.{flat_map}
 use Rattle.std.proofs.lemmas.Bool.{cases_Bool, cases_eq, cases_lt, cond-false, false≢true}
 use Rattle.std.proofs.lemmas.Slice.Eq.{bytes_eq-Decides}
 use Rattle.std.proofs.lemmas.List.{get_or-set_same, get_or-set_other, get_or_past, length-set}
 use Rattle.rdlpp_table.specs.Shapes.{shape, shapes_of, AreShapes}
-use Rattle.rdlpp_table.specs.Store.{formal_read, formals_read}
-use Rattle.rdlpp_table.specs.Table.{Formal}
+use Rattle.rdlpp_table.specs.Store.{formal_read, formals_read, IsListed, StoredFormal}
+use Rattle.rdlpp_table.specs.Table.{Formal, formal_bytes}
 use Rattle.rdlpp_table.specs.View.{formal_named}
-use Rattle.rdlpp_table.proofs.Marked.{read_first}
+use Rattle.rdlpp_table.proofs.Marked.{count_read, read_at, read_first}
 use Rattle.rdlpp_table.proofs.Sizes.{position_first}
 
 -- what is told stays told
@@ -72,3 +73,18 @@ told_more rest count place told name behind h e b =
 pub told_none : (rest : List ℕ) (count place : ℕ) (told : List Bool) → count < place + 1 → shapes_of (formals_read (count - place) rest) told ≡ told
 unfolding shapes_of formals_read
 told_none rest count place told h = let n : count - place ≡ 0 = omega arith in ap (λ (k : ℕ). shapes_of (formals_read k rest) told) n
+
+-- so is each formal where it begins
+pub told_at : (count place : ℕ) (list marks name : List ℕ) (told : List Bool) → IsListed count list marks → place < count → name ≡ (formal_read (flat_map formal_bytes (drop place (formals_read count list)))).formal.name
+    → shapes_of (formals_read (count - place) (flat_map formal_bytes (drop place (formals_read count list)))) told ≡ shapes_of (formals_read (count - (place + 1)) (flat_map formal_bytes (drop (place + 1) (formals_read count list)))) (set told (shape name) true)
+told_at count place list marks name told l h e =
+    let fs : List Formal = formals_read count list in
+    let rest : List ℕ = flat_map formal_bytes (drop place fs) in
+    let behind : flat_map formal_bytes (drop (place + 1) fs) ≡ (formal_read rest).behind = ap (λ (s : StoredFormal). s.behind) (sym (read_at fs place l.plain (omega (arith, count_read count list)))) in
+    told_more rest count place told name (flat_map formal_bytes (drop (place + 1) fs)) h e behind
+
+-- at first all of them are left
+pub told_start : (count : ℕ) (list marks : List ℕ) (told : List Bool) → IsListed count list marks → shapes_of (formals_read count list) told ≡ shapes_of (formals_read (count - 0) (flat_map formal_bytes (drop 0 (formals_read count list)))) told
+told_start count list marks told l =
+    let n : count - 0 ≡ count = omega arith in
+    ap (λ (x : List ℕ). shapes_of (formals_read count x) told) (sym l.whole) ∙ ap (λ (k : ℕ). shapes_of (formals_read k (flat_map formal_bytes (drop 0 (formals_read count list)))) told) (sym n)

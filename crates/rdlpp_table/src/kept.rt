@@ -16,16 +16,14 @@ ghost use Rattle.rdlpp_table.specs.Kept.{
   stop_kept,
   stop_known,
   stop_within,
-  stops_behind,
 };
 ghost use Rattle.rdlpp_table.specs.Shapes.{AreShapes};
 ghost use Rattle.rdlpp_table.specs.Stops.{stop_of};
 ghost use Rattle.rdlpp_table.specs.Store.{formals_read, IsListed};
 ghost use Rattle.rdlpp_table.specs.Table.{Formal};
 
-use crate::marks::Listed;
+use crate::marks::{Listed, shapes};
 use crate::stop::{Stop, first_stop};
-use crate::stored::shapes;
 use rdlpp_scan::{calm_bytes, quiet_bytes, word_bytes};
 
 // What a stop is that is kept: unknown, where its numbers are too large.
@@ -53,9 +51,6 @@ pub(crate) struct Kept {
 
 // How many stops of a body are kept.
 pub(crate) const KEPT: usize = 10;
-
-// How many of them are asked one after another: most bodies have no more.
-const NEAR: usize = 4;
 
 // The first stops of a body, each of them the first one behind the one before.
 #[derive(Clone, Copy, Drop)]
@@ -192,7 +187,7 @@ pub(crate) fn first_stops(formals: &Listed, body: &[u8]) -> FirstStops
     requires short { length body.now < 2 ^ 64 }
     ensures { result ≡ first_stops (formals_read formals.now.count formals.now.list.now) body.now }
 {
-    let shapes = shapes(formals.list, formals.count);
+    let shapes = shapes(formals);
     let mut all = [endless(KeptKind::Unknown, 0); KEPT];
     let mut count = 0;
     let mut from = 0;
@@ -272,41 +267,15 @@ fn candidate_at(stops: &FirstStops, from: usize) -> Candidate<'_>
     ensures kept { (formals : List Formal) (text : List ℕ) → stops.now ≡ first_stops formals text → result.kept.now ≡ kept_from formals text result.start }
 {
     let mut start = 0;
-    for kept in &stops.all[..NEAR] {
+    for kept in &stops.all[..KEPT - 1] {
         if from < kept.end as usize {
             return Candidate { start, kept };
         }
         start = kept.end;
     }
-    far_candidate(stops, start, from)
-}
-
-// The same behind the first few of them, where most bodies have no more. All but the last are asked at once: behind them stand most
-// places of a long body.
-#[cold]
-#[inline(never)]
-fn far_candidate(stops: &FirstStops, near: u16, from: usize) -> Candidate<'_>
-    requires order { near ≤ from }
-    requires near { (formals : List Formal) (text : List ℕ) → stops.now ≡ first_stops formals text → drop 4 stops.now.all ≡ stops_behind 6 formals text near }
-    ensures order { result.start ≤ from }
-    ensures kept { (formals : List Formal) (text : List ℕ) → stops.now ≡ first_stops formals text → result.kept.now ≡ kept_from formals text result.start }
-{
-    let before = stops.all[KEPT - 2].end;
-    if before as usize <= from {
-        return Candidate {
-            start: before,
-            kept: &stops.all[KEPT - 1],
-        };
-    }
-    let mut start = near;
-    let mut at = NEAR;
-    while at < KEPT - 2 && stops.all[at].end as usize <= from {
-        start = stops.all[at].end;
-        at += 1;
-    }
     Candidate {
         start,
-        kept: &stops.all[at],
+        kept: &stops.all[KEPT - 1],
     }
 }
 

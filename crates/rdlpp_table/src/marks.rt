@@ -1,12 +1,15 @@
 // The formals of a macro in a table's bytes, and where each of them begins, which is kept where they are long.
-ghost use Rattle.std.specs.Prelude.{[], bytes_eq, length, not, slice_index_or, true, vec_capacity, vec_len, ◌*◌, ◌+◌, ◌++◌, ◌<◌, ◌≡◌, ◌≤◌, ◌^◌, ◌∷◌};
+ghost use Rattle.std.specs.Prelude.{[], bytes_eq, false, length, not, replicate, slice_index_or, true, vec_capacity, vec_len, ◌*◌, ◌+◌, ◌++◌, ◌<◌, ◌≡◌, ◌≤◌, ◌^◌, ◌∷◌};
 ghost use Rattle.std.specs.List.{flat_map, list_all};
 ghost use Rattle.rdlpp_table.specs.Marks.{end_in, halves, is_marked, mark_in, marks_of};
+ghost use Rattle.rdlpp_table.specs.Shapes.{shapes_of};
 ghost use Rattle.rdlpp_table.specs.Store.{formal_read, formals_read, is_name_byte, is_plain_formal, IsListed};
 ghost use Rattle.rdlpp_table.specs.Table.{formal_bytes};
 ghost use Rattle.rdlpp_table.specs.View.{formal_at, formal_named};
 
-use crate::stored::{behind_formal, default_in_list, formal_name, name_len, place_in_list};
+use crate::stored::{
+    SHAPES, behind_formal, default_in_list, formal_name, name_len, place_in_list, shape, shapes_in_list,
+};
 
 // How many bytes each formal takes, on average, where it is kept where they begin.
 pub(crate) const LONG_FORMAL: usize = 8;
@@ -83,6 +86,18 @@ pub(crate) fn default_of<'a>(formals: &Listed<'a>, place: usize) -> &'a [u8]
     }
 }
 
+// Of each shape whether the name of one of the formals has it: a word of another shape is none of them.
+pub(crate) fn shapes(formals: &Listed) -> [bool; SHAPES]
+    requires { IsListed formals.now.count formals.now.list.now formals.now.marks.now }
+    ensures { result ≡ shapes_of (formals_read formals.now.count formals.now.list.now) (replicate 256 false) }
+{
+    if is_marked(formals.count, formals.list.len()) {
+        shapes_by_marks(formals.list, formals.count, formals.marks)
+    } else {
+        shapes_in_list(formals.list, formals.count)
+    }
+}
+
 // The byte at a place, or the comma of a formal's end where there is none.
 fn byte_at(bytes: &[u8], place: usize) -> u8
     ensures { result ≡ slice_index_or bytes.now place 44 }
@@ -131,6 +146,20 @@ fn place_by_marks(list: &[u8], count: usize, marks: &[u16], name: &[u8]) -> Opti
         }
     }
     None
+}
+
+// Of each shape whether a formal's name has it, by where each formal begins: no default text is read.
+fn shapes_by_marks(list: &[u8], count: usize, marks: &[u16]) -> [bool; SHAPES]
+    requires listed { IsListed count list.now marks.now }
+    requires marked { is_marked count (length list.now) ≡ true }
+    ensures { result ≡ shapes_of (formals_read count list.now) (replicate 256 false) }
+{
+    let mut told = [false; SHAPES];
+    for place in 0..count {
+        let name = formal_name(&list[mark_at(marks, place)..]);
+        told[shape(name)] = true;
+    }
+    told
 }
 
 // The default text of a formal, of which the bytes are given.

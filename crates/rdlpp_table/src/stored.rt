@@ -9,7 +9,7 @@ use rdlpp_lines::behind_default;
 use rdlpp_scan::byte_at;
 
 // How many shapes names have.
-const SHAPES: usize = 256;
+pub(crate) const SHAPES: usize = 256;
 
 // How many bytes of a formal's name bytes begin with.
 #[tactic(auto, unfolding(crate::specs::Store::is_name_byte))]
@@ -112,8 +112,8 @@ pub(crate) fn shape(name: &[u8]) -> usize
     byte_at(name, 0) as usize % 32 + 32 * ((last + name.len()) % 8)
 }
 
-// Of each shape whether the name of one of so many formals has it: a word of another shape is none of them.
-pub(crate) fn shapes(bytes: &[u8], count: usize) -> [bool; SHAPES]
+// Of each shape whether the name of one of so many formals has it.
+pub(crate) fn shapes_in_list(bytes: &[u8], count: usize) -> [bool; SHAPES]
     ensures { result ≡ shapes_of (formals_read count bytes.now) (replicate 256 false) }
 {
     let mut told = [false; SHAPES];

@@ -287,8 +287,7 @@ impl Table {
     }
 
     /// As `stop`, by reading the range: takes time linear in the distance to the stop, or to `to`.
-    #[cold]
-    #[inline(never)]
+    #[inline(always)]
     pub fn seek_stop(&self, id: MacroId, from: usize, to: usize) -> Stop
         requires id { id < length self.now.macros }
         requires order { from ≤ to }

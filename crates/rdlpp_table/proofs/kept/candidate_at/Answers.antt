@@ -1,4 +1,4 @@
-use Rattle.std.proofs.Common.{arith, ℕ, ◌<◌}
+use Rattle.std.proofs.Common.{ap, arith, get_or, ℕ, ◌<◌, ◌≡◌}
 use Rattle.std.proofs.lemmas.List.{get_or-take}
 use Rattle.rdlpp_table.proofs.FirstStops.{all_stops, no_stop, stop_next}
 use Rattle.rdlpp_table.proofs.kept.candidate_at.Goals as goal
@@ -9,11 +9,17 @@ loop-kept-init c = (omega arith, λ formals text e. all_stops formals text _ e)
 pub returns-then-from-kept-clause-kept : goal.returns-then-from-kept-clause-kept
 returns-then-from-kept-clause-kept c formals text e =
     let i : ℕ = c.loop-kept.kept-index in
-    let h : i < 4 = omega arith in
-    (stop_next formals text c.args.stops.now.all no_stop _ i _ (omega arith) (omega (arith, h)) (c.loop-kept.invariant.1 formals text e) (get_or-take 4 c.args.stops.now.all i no_stop h)).0
+    let h : i < 9 = omega arith in
+    (stop_next formals text c.args.stops.now.all no_stop _ i _ (omega arith) (omega (arith, h)) (c.loop-kept.invariant.1 formals text e) (get_or-take 9 c.args.stops.now.all i no_stop h)).0
 
 pub loop-kept-preserved : goal.loop-kept-preserved
 loop-kept-preserved c =
     let i : ℕ = c.loop-kept.kept-index in
-    let h : i < 4 = omega arith in
-    (omega (arith, c.if-from-kept.false), λ formals text e. (stop_next formals text c.args.stops.now.all no_stop _ i _ (omega arith) (omega (arith, h)) (c.loop-kept.invariant.1 formals text e) (get_or-take 4 c.args.stops.now.all i no_stop h)).1)
+    let h : i < 9 = omega arith in
+    (omega (arith, c.if-from-kept.false), λ formals text e. (stop_next formals text c.args.stops.now.all no_stop _ i _ (omega arith) (omega (arith, h)) (c.loop-kept.invariant.1 formals text e) (get_or-take 9 c.args.stops.now.all i no_stop h)).1)
+
+pub returns-clause-kept : goal.returns-clause-kept
+returns-clause-kept c formals text e =
+    let i : ℕ = c.loop-kept.kept-index in
+    let h : 9 ≡ i = omega arith in
+    (stop_next formals text c.args.stops.now.all no_stop _ i _ (omega arith) (omega (arith, h)) (c.loop-kept.invariant.1 formals text e) (ap (λ (n : ℕ). get_or c.args.stops.now.all n no_stop) h)).0

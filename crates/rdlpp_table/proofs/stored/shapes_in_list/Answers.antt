@@ -3,7 +3,7 @@ use Rattle.std.proofs.lemmas.List.{length-set}
 use Rattle.rdlpp_table.specs.Shapes.{shapes_of}
 use Rattle.rdlpp_table.specs.Store.{formals_read}
 use Rattle.rdlpp_table.proofs.Shapes.{told_more, told_none}
-use Rattle.rdlpp_table.proofs.stored.shapes.Goals as goal
+use Rattle.rdlpp_table.proofs.stored.shapes_in_list.Goals as goal
 
 pub loop-preserved : goal.loop-preserved
 loop-preserved c =

@@ -2,7 +2,7 @@
 use Rattle.std.proofs.Common.{◌≡◌, ◌-◌, false, length, replicate}
 use Rattle.rdlpp_table.specs.Shapes.{shapes_of}
 use Rattle.rdlpp_table.specs.Store.{formals_read}
-use Rattle.rdlpp_table.proofs.stored.shapes.Given as goal
+use Rattle.rdlpp_table.proofs.stored.shapes_in_list.Given as goal
 
 abbrev pub invariant-loop : goal.invariant-loop
 invariant-loop l =
