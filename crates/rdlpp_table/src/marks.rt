@@ -8,7 +8,7 @@ ghost use Rattle.rdlpp_table.specs.Table.{formal_bytes};
 ghost use Rattle.rdlpp_table.specs.View.{formal_at, formal_named};
 
 use crate::stored::{
-    SHAPES, behind_formal, default_in_list, formal_name, name_len, place_in_list, shape, shapes_in_list,
+    SHAPES, behind_formal, default_in_list, formal_name, name_len, place_in_list, shape,
 };
 
 // How many bytes each formal takes, on average, where it is kept where they begin.
@@ -86,16 +86,27 @@ pub(crate) fn default_of<'a>(formals: &Listed<'a>, place: usize) -> &'a [u8]
     }
 }
 
-// Of each shape whether the name of one of the formals has it: a word of another shape is none of them.
+// Of each shape whether the name of one of the formals has it: a word of another shape is none of them. No default text is read for it
+// where it is kept where each formal begins.
 pub(crate) fn shapes(formals: &Listed) -> [bool; SHAPES]
     requires { IsListed formals.now.count formals.now.list.now formals.now.marks.now }
     ensures { result ≡ shapes_of (formals_read formals.now.count formals.now.list.now) (replicate 256 false) }
 {
+    let mut told = [false; SHAPES];
     if is_marked(formals.count, formals.list.len()) {
-        shapes_by_marks(formals.list, formals.count, formals.marks)
+        for place in 0..formals.count {
+            let name = formal_name(&formals.list[mark_at(formals.marks, place)..]);
+            told[shape(name)] = true;
+        }
     } else {
-        shapes_in_list(formals.list, formals.count)
+        let mut rest = formals.list;
+        for _ in 0..formals.count {
+            let name = formal_name(rest);
+            told[shape(name)] = true;
+            rest = behind_formal(rest, name.len());
+        }
     }
+    told
 }
 
 // The byte at a place, or the comma of a formal's end where there is none.
@@ -146,20 +157,6 @@ fn place_by_marks(list: &[u8], count: usize, marks: &[u16], name: &[u8]) -> Opti
         }
     }
     None
-}
-
-// Of each shape whether a formal's name has it, by where each formal begins: no default text is read.
-fn shapes_by_marks(list: &[u8], count: usize, marks: &[u16]) -> [bool; SHAPES]
-    requires listed { IsListed count list.now marks.now }
-    requires marked { is_marked count (length list.now) ≡ true }
-    ensures { result ≡ shapes_of (formals_read count list.now) (replicate 256 false) }
-{
-    let mut told = [false; SHAPES];
-    for place in 0..count {
-        let name = formal_name(&list[mark_at(marks, place)..]);
-        told[shape(name)] = true;
-    }
-    told
 }
 
 // The default text of a formal, of which the bytes are given.

@@ -1,7 +1,7 @@
 // Formals as they lie in a table's bytes: a name, `=` and a default text where there is one, and a comma.
-ghost use Rattle.std.specs.Prelude.{drop, false, length, replicate, ◌%◌, ◌*◌, ◌+◌, ◌<◌, ◌≡◌, ◌≤◌};
+ghost use Rattle.std.specs.Prelude.{drop, length, ◌%◌, ◌*◌, ◌+◌, ◌<◌, ◌≡◌, ◌≤◌};
 ghost use Rattle.std.specs.List.{prefix_len};
-ghost use Rattle.rdlpp_table.specs.Shapes.{shape, shapes_of};
+ghost use Rattle.rdlpp_table.specs.Shapes.{shape};
 ghost use Rattle.rdlpp_table.specs.Store.{formal_read, formals_read, is_name_byte};
 ghost use Rattle.rdlpp_table.specs.View.{formal_at, formal_named};
 
@@ -110,18 +110,4 @@ pub(crate) fn shape(name: &[u8]) -> usize
 {
     let last = byte_at(name, name.len().saturating_sub(1)) as usize;
     byte_at(name, 0) as usize % 32 + 32 * ((last + name.len()) % 8)
-}
-
-// Of each shape whether the name of one of so many formals has it.
-pub(crate) fn shapes_in_list(bytes: &[u8], count: usize) -> [bool; SHAPES]
-    ensures { result ≡ shapes_of (formals_read count bytes.now) (replicate 256 false) }
-{
-    let mut told = [false; SHAPES];
-    let mut rest = bytes;
-    for _ in 0..count {
-        let name = formal_name(rest);
-        told[shape(name)] = true;
-        rest = behind_formal(rest, name.len());
-    }
-    told
 }

@@ -1,0 +1,54 @@
+use Rattle.std.proofs.Common.{◌≤◌, ◌-◌, ◌+◌, ◌∙◌, List, ℕ, false, length, drop, replicate, set, true, ap, sym, arith, rules, refl}
+use Rattle.std.specs.List.{flat_map}
+use Rattle.std.proofs.lemmas.List.{length-set, take_rest}
+use Rattle.rdlpp_table.specs.Shapes.{shapes_of}
+use Rattle.rdlpp_table.specs.Table.{formal_bytes}
+use Rattle.rdlpp_table.specs.Store.{formal_read, formals_read}
+use Rattle.rdlpp_table.proofs.Marked.{bytes_from, count_marks, mark_inside}
+use Rattle.rdlpp_table.proofs.Shapes.{told_at, told_more, told_none, told_start}
+use Rattle.rdlpp_table.proofs.marks.shapes.Goals as goal
+
+pub loop-place-init : goal.loop-place-init
+loop-place-init c = (refl, told_start _ _ _ (replicate 256 false) c.requires)
+
+pub mark_at-requires : goal.mark_at-requires
+mark_at-requires c = omega (arith, count_marks _ _ _ c.requires (sym c.is_marked.ensures ∙ c.if-is_marked.true))
+
+pub slice_bounds-formal_name-count : goal.slice_bounds-formal_name-count
+slice_bounds-formal_name-count c = omega (arith, c.mark_at.ensures, mark_inside _ _ _ c.loop-place.place c.requires (sym c.is_marked.ensures ∙ c.if-is_marked.true) (omega arith))
+
+pub slice_bounds-formal_name-start : goal.slice_bounds-formal_name-start
+slice_bounds-formal_name-start c =
+    let h : c.mark_at.result ≤ length c.args.formals.now.list.now = omega (arith, c.mark_at.ensures, mark_inside _ _ _ c.loop-place.place c.requires (sym c.is_marked.ensures ∙ c.if-is_marked.true) (omega arith)) in
+    search rules
+
+pub loop-place-preserved : goal.loop-place-preserved
+loop-place-preserved c =
+    let count = c.args.formals.now.count in
+    let i = c.loop-place.place in
+    let list = c.args.formals.now.list.now in
+    let told = c.loop-place.told in
+    let behind = flat_map formal_bytes (drop (i + 1) (formals_read count list)) in
+    let here = bytes_from _ _ _ _ i c.requires (sym c.is_marked.ensures ∙ c.if-is_marked.true) (omega arith) (take_rest list c.mark_at.result ∙ ap (λ (n : ℕ). drop n list) c.mark_at.ensures) in (
+      length-set told c.shape.result true ∙ c.loop-place.invariant.0,
+      c.loop-place.invariant.1
+          ∙ told_at count i list c.args.formals.now.marks.now _ told c.requires (omega arith) (c.formal_name-name.ensures.name ∙ ap (λ (l : List ℕ). (formal_read l).formal.name) here)
+          ∙ ap (λ (k : ℕ). shapes_of (formals_read (count - (i + 1)) behind) (set told k true)) (sym c.shape.ensures.value),
+    )
+
+pub loop-preserved : goal.loop-preserved
+loop-preserved c =
+    let count = c.args.formals.now.count in
+    let i = c.loop.counter in
+    let behind = c.behind_formal-rest.result.now in (
+      length-set c.loop.told c.shape-in-loop.result true ∙ c.loop.invariant.0,
+      c.loop.invariant.1
+          ∙ told_more c.loop.rest.now count i c.loop.told c.formal_name-name-in-loop.result.now behind (omega arith) c.formal_name-name-in-loop.ensures.name c.behind_formal-rest.ensures
+          ∙ ap (λ (k : ℕ). shapes_of (formals_read (count - (i + 1)) behind) (set c.loop.told k true)) (sym c.shape-in-loop.ensures.value),
+    )
+
+pub returns-after-loop-place : goal.returns-after-loop-place
+returns-after-loop-place c = sym (c.loop-place.invariant.1 ∙ told_none _ c.args.formals.now.count c.loop-place.place c.loop-place.told (omega arith))
+
+pub returns-after-loop : goal.returns-after-loop
+returns-after-loop c = sym (c.loop.invariant.1 ∙ told_none c.loop.rest.now c.args.formals.now.count c.loop.counter c.loop.told (omega arith))
