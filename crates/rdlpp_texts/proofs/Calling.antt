@@ -28,7 +28,6 @@ use Rattle.rdlpp_texts.specs.declared.place.TextPlace.{TextPlace}
 use Rattle.rdlpp_texts.specs.declared.place.TextSource.{TextSource}
 use Rattle.rdlpp_texts.specs.declared.place.TextSource.TheVariants.{Arguments}
 use Rattle.rdlpp_texts.specs.declared.step.CursorFault.{CursorFault}
-use Rattle.rdlpp_texts.specs.declared.step.CursorStep.{CursorStep}
 use Rattle.rdlpp_texts.specs.declared.step.CursorStep.TheVariants.{Silent, Refused}
 use Rattle.rdlpp_texts.specs.declared.cursors.call.Opening.{Opening}
 use Rattle.rdlpp_texts.specs.declared.cursors.call.Opening.TheVariants as opening
@@ -371,20 +370,18 @@ pass-call_refused texts view new look len id home text at kind o word h e b w =
     })
 
 -- a call that is bound where no further text may be open
-pub pass-call_deep : (texts : Texts) (view new : CursorsView) (look : Look) (len id home : ℕ) (text : List ℕ) (at : ℕ) (o : Opening) (step : CursorStep)
-    → IsListUsed texts view.opens look len id text at → o ≡ opening.Deep → IsOpening texts.macros text at look.end id home view o new → step ≡ wordless DepthPassed
-    → IsPassed texts view new step
+pub pass-call_deep : (texts : Texts) (view new : CursorsView) (look : Look) (len id home : ℕ) (text : List ℕ) (at : ℕ) (o : Opening)
+    → IsListUsed texts view.opens look len id text at → o ≡ opening.Deep → IsOpening texts.macros text at look.end id home view o new → IsPassed texts view new (wordless DepthPassed)
 unfolding IsOpening IsFalling StaysRefused
-pass-call_deep texts view new look len id home text at o step h e b is =
+pass-call_deep texts view new look len id home text at o h e b =
     let both = subst (λ (r : Opening). IsOpening texts.macros text at look.end id home view r new) e b in
-    subst (λ (s : CursorStep). IsPassed texts view new s) (sym is)
-    (subst (λ (v : CursorsView). IsPassed texts view v (wordless DepthPassed)) (sym both.0) (record {
+    subst (λ (v : CursorsView). IsPassed texts view v (wordless DepthPassed)) (sym both.0) (record {
       is_step = look-call_deep view.line view.depth texts view.opens look len id text at h both.1.1 both.1.0;
       sound = h.sound;
       kept = (refl, refl);
       digits = tt;
       refused = refl;
-    }))
+    })
 
 -- a call that opens its body
 pub pass-call_opened : (table : TableView) (arguments : List ℕ) (view new : CursorsView) (look : Look) (len id home : ℕ) (text : List ℕ) (at : ℕ) (o : Opening)

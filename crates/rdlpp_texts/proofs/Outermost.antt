@@ -1,5 +1,5 @@
 -- The outermost of open texts stays.
-use Rattle.std.proofs.Common.{◌≡◌, ℕ, ◌<◌, List, [], ◌∷◌, length, drop, refl, ap, ◌∙◌, arith}
+use Rattle.std.proofs.Common.{◌≡◌, ℕ, ◌<◌, List, [], ◌∷◌, length, drop, refl, sym, ap, subst, ◌∙◌, arith}
 use Rattle.rdlpp_table.specs.Table.{Macro}
 use Rattle.rdlpp_meaning.specs.Opens.{Open}
 use Rattle.rdlpp_texts.specs.declared.cursors.call.Opening.{Opening}
@@ -26,11 +26,14 @@ outer-more x [] some = absurd (omega (arith, some))
 outer-more x (y ∷ below) some = refl
 
 -- where the innermost is closed
-pub outer-less : (opens : List Open) → StaysOutermost opens (drop 1 opens)
+outer-less : (opens : List Open) → StaysOutermost opens (drop 1 opens)
 unfolding usage_id
 outer-less [] = λ some. refl
 outer-less (x ∷ []) = λ some. absurd (omega (arith, some))
 outer-less (x ∷ y ∷ below) = λ some. refl
+
+pub outer-closed : (view new : CursorsView) → new ≡ record view { opens = drop 1 view.opens } → StaysOutermost view.opens new.opens
+outer-closed view new e = subst (λ (v : CursorsView). StaysOutermost view.opens v.opens) (sym e) (outer-less view.opens)
 
 -- one change and then another
 pub outer-on : (old mid new : List Open) → 0 < length mid → StaysOutermost old mid → StaysOutermost mid new → StaysOutermost old new

@@ -152,17 +152,16 @@ pass-run texts view new look h l more is =
     })
 
 -- a lone backquote is a fault
-pub pass-bare : (texts : Texts) (view : CursorsView) (look : Look) (step : CursorStep) → AreSound texts view.opens → IsLook texts view.opens look → look.front ≡ front.Bare
-    → step ≡ wordless NoName → IsPassed texts view view step
+pub pass-bare : (texts : Texts) (view : CursorsView) (look : Look) → AreSound texts view.opens → IsLook texts view.opens look → look.front ≡ front.Bare
+    → IsPassed texts view view (wordless NoName)
 unfolding IsFalling StaysRefused
-pass-bare texts view look step h l e is =
-    subst (λ (s : CursorStep). IsPassed texts view view s) (sym is) (record {
-      is_step = look-bare view.line view.depth texts view.opens view.opens look (record { kind = NoName; word = record { source = Arguments; from = 0; end = 0 } }) h l e refl (no-word texts Arguments);
-      sound = h;
-      kept = (refl, refl);
-      digits = tt;
-      refused = refl;
-    })
+pass-bare texts view look h l e = record {
+  is_step = look-bare view.line view.depth texts view.opens view.opens look (record { kind = NoName; word = record { source = Arguments; from = 0; end = 0 } }) h l e refl (no-word texts Arguments);
+  sound = h;
+  kept = (refl, refl);
+  digits = tt;
+  refused = refl;
+}
 
 -- a silent step at another line and depth that are the same
 pub silent-on : (rules : Rules) (s : State) (texts : Texts) (view mid new : CursorsView) → (mid.line ≡ view.line) × (mid.depth ≡ view.depth)

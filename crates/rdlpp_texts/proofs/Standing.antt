@@ -30,6 +30,7 @@ use Rattle.rdlpp_texts.specs.Opened.{kind_of, moved_to, open_of, CursorsView, Is
 use Rattle.rdlpp_texts.specs.Places.{source_formals, texts_of}
 use Rattle.rdlpp_texts.specs.Scopes.{found_source, front_scope, front_source, kind_source, AreBound, IsBound}
 use Rattle.rdlpp_texts.specs.Steps.{AreSound, IsKnown, IsStep, KeepActuals, StaysRefused, wordless}
+use Rattle.rdlpp_texts.specs.Taking.{TakesStep}
 use Rattle.rdlpp_texts.proofs.Falling.{formal-inside, look-opens}
 use Rattle.rdlpp_texts.proofs.Keeping.{at-each, default-keeps, first-sound}
 use Rattle.rdlpp_texts.proofs.Passing.{no-word, IsPassed}
@@ -323,20 +324,19 @@ pass-formal table texts view mid new look len place at slot sound same h l f is 
     })))
 
 -- without a slot it is refused
-pub pass-deep : (texts : Texts) (view : CursorsView) (look : Look) (len place : ℕ) (step : CursorStep) → AreSound texts view.opens → IsLook texts view.opens look
-    → look.front ≡ front.Formal len place → nat_le view.depth (length view.opens) ≡ true → step ≡ wordless DepthPassed → IsPassed texts view view step
+pub pass-deep : (texts : Texts) (view : CursorsView) (look : Look) (len place : ℕ) → AreSound texts view.opens → IsLook texts view.opens look
+    → look.front ≡ front.Formal len place → nat_le view.depth (length view.opens) ≡ true → IsPassed texts view view (wordless DepthPassed)
 unfolding IsFalling StaysRefused
-pass-deep texts view look len place step h l f full is =
-    subst (λ (s : CursorStep). IsPassed texts view view s) (sym is) (record {
-      is_step = formal-deep view.line view.depth texts view.opens view.opens look len place h l f (leb-true view.depth (length view.opens) full);
-      sound = h;
-      kept = (refl, refl);
-      digits = tt;
-      refused = refl;
-    })
+pass-deep texts view look len place h l f full = record {
+  is_step = formal-deep view.line view.depth texts view.opens view.opens look len place h l f (leb-true view.depth (length view.opens) full);
+  sound = h;
+  kept = (refl, refl);
+  digits = tt;
+  refused = refl;
+}
 
 -- and it is never so that a formal stands for nothing
 pub pass-nothing : (texts : Texts) (view : CursorsView) (look : Look) (len place : ℕ) (step : CursorStep) → AreSound texts view.opens → IsLook texts view.opens look
     → look.front ≡ front.Formal len place
-    → None ≡ found_standing texts.macros (scope_open view.opens (front_scope view.opens)) (front_scope view.opens) place → IsPassed texts view view step
+    → None ≡ found_standing texts.macros (scope_open view.opens (front_scope view.opens)) (front_scope view.opens) place → TakesStep texts view step view
 pass-nothing texts view look len place step h l f none = absurd (formal-found texts view.opens look len place h l f (sym none))

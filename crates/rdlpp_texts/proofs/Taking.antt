@@ -1,58 +1,91 @@
--- Steps of open texts that lend nothing, and what holds behind a run that is lent.
-use Rattle.std.proofs.Common.{◌≡◌, ℕ, ◌-◌, ◌<◌, ◌≤◌, Bool, true, false, List, [], ◌∷◌, length, take, drop, refl, sym, ap, subst, ◌∙◌, arith}
+-- Steps of open texts: what makes one, and what holds behind a run that is lent.
+use Rattle.std.proofs.Common.{◌≡◌, ℕ, ◌+◌, ◌-◌, ◌^◌, ◌<◌, ◌≤◌, Bool, true, false, List, [], ◌∷◌, length, take, drop, refl, sym, ap, subst, ◌∙◌, arith}
 use Rattle.std.specs.Prelude.{nat_le}
 use Rattle.std.proofs.lemmas.Bool.{true≢false, le-leb, leb-true}
 use Rattle.std.proofs.lemmas.List.{length-take, length-drop}
 use Rattle.rdlpp_scan.specs.declared.token.Mode.{Mode}
 use Rattle.rdlpp_scan.specs.declared.token.Mode.TheVariants.{Plain}
-use Rattle.rdlpp_meaning.specs.declared.fault.FaultKind.TheVariants.{BareBackquote}
+use Rattle.rdlpp_meaning.specs.declared.fault.FaultKind.{FaultKind}
 use Rattle.rdlpp_meaning.specs.Opens.{Open, Texts, text_around, open_bytes}
 use Rattle.rdlpp_texts.specs.declared.front.Front.{Front}
 use Rattle.rdlpp_texts.specs.declared.front.Front.TheVariants as front
 use Rattle.rdlpp_texts.specs.declared.front.Look.{Look}
 use Rattle.rdlpp_texts.specs.declared.place.TextPlace.{TextPlace}
+use Rattle.rdlpp_texts.specs.declared.place.TextSource.TheVariants.{Arguments}
+use Rattle.rdlpp_texts.specs.declared.step.CursorFault.{CursorFault}
 use Rattle.rdlpp_texts.specs.declared.step.CursorStep.{CursorStep}
 use Rattle.rdlpp_texts.specs.declared.step.CursorStep.TheVariants.{Lends, Silent, Refused}
 use Rattle.rdlpp_texts.specs.Digits.{cursor_digits, IsFalling}
-use Rattle.rdlpp_texts.specs.Fronts.{IsFront, IsFrontPlace, IsLook, IsLookAhead, StandsAt}
-use Rattle.rdlpp_texts.specs.Opened.{is_spent, moved_to, CursorsView}
-use Rattle.rdlpp_texts.specs.Places.{source_formals}
+use Rattle.rdlpp_texts.specs.Fronts.{IsFront, IsFrontPlace, IsLook, IsLookAhead}
+use Rattle.rdlpp_texts.specs.Opened.{is_spent, moved_to, CursorsView, StaysOutermost}
+use Rattle.rdlpp_texts.specs.Places.{source_formals, source_text}
 use Rattle.rdlpp_texts.specs.Scopes.{front_source}
-use Rattle.rdlpp_texts.specs.Steps.{AreSound, IsStep, StepsTo, IsUnlent, KeepsOpen, StaysRefused, IsPlacedStep, NamesWord, wordless}
-use Rattle.rdlpp_texts.specs.Taking.{is_idle, IsTaken}
-use Rattle.rdlpp_texts.specs.Usages.{IsTextFault}
+use Rattle.rdlpp_texts.specs.Steps.{AreSound, IsStep, StepsTo, IsUnlent, StaysRefused, IsPlacedStep, NamesWord, wordless}
+use Rattle.rdlpp_texts.specs.Taking.{is_idle, LooksAt, TakesStep}
+use Rattle.rdlpp_texts.specs.Turns.{Closed, Stays, Turned}
+use Rattle.rdlpp_texts.specs.Usages.{is_text_fault}
 use Rattle.rdlpp_texts.proofs.Falling.{falls-twice}
+use Rattle.rdlpp_texts.proofs.Outermost.{outer-ahead, outer-closed, outer-same}
 use Rattle.rdlpp_texts.proofs.Passing.{silent-on, look-passed, pass-behind, pass-ended, pass-run, IsPassed}
-use Rattle.rdlpp_texts.proofs.Usages.{open-run, placed-run}
+use Rattle.rdlpp_texts.proofs.Turning.{turned-unlent}
+use Rattle.rdlpp_texts.proofs.Usages.{open-run, placed-run, placed-word, placed-wordless}
+use Rattle.rdlpp_texts.proofs.Words.{word-named, word-none}
 
 -- what such a step has left
-pub taken-passed : (texts : Texts) (view new : CursorsView) (step : CursorStep) → IsTaken texts view step new → IsPassed texts view new step
-taken-passed texts view new step t = record { is_step = t.is_step; sound = t.sound; kept = t.kept; digits = t.digits; refused = t.refused }
+taken-passed : (texts : Texts) (view new : CursorsView) (step : CursorStep) → TakesStep texts view step new → IsPassed texts view new step
+taken-passed texts view new step t = record { is_step = t.step; sound = t.sound; kept = t.kept; digits = t.digits; refused = t.refused }
 
--- and one that says so is such a step
-pub taken-by : (texts : Texts) (view new : CursorsView) (step : CursorStep) → IsPassed texts view new step → IsPlacedStep texts step → IsUnlent step → IsTextFault step
-    → NamesWord texts step → IsTaken texts view step new
-taken-by texts view new step p placed unlent fault word = record {
-  is_step = p.is_step;
+-- a text is opened or closed
+pub takes-silent : (texts : Texts) (view new : CursorsView) → IsPassed texts view new Silent → StaysOutermost view.opens new.opens → Turned texts view.opens new.opens
+    → TakesStep texts view Silent new
+unfolding IsPlacedStep
+takes-silent texts view new p outer turned = record {
+  step = p.is_step;
+  sound = p.sound;
+  kept = p.kept;
+  digits = p.digits;
+  refused = p.refused;
+  placed = tt;
+  lends = tt;
+  fault = tt;
+  word = tt;
+  stands = tt;
+  outer = outer;
+  turns = turned;
+}
+
+-- a step is refused
+pub takes-refused : (texts : Texts) (view new : CursorsView) (fault : CursorFault) → IsPassed texts view new (Refused fault) → is_text_fault fault.kind ≡ true
+    → IsPlacedStep texts (Refused fault) → NamesWord texts (Refused fault) → TakesStep texts view (Refused fault) new
+unfolding StaysRefused
+takes-refused texts view new fault p own placed word = record {
+  step = p.is_step;
   sound = p.sound;
   kept = p.kept;
   digits = p.digits;
   refused = p.refused;
   placed = placed;
-  unlent = unlent;
-  fault = fault;
+  lends = tt;
+  fault = own;
   word = word;
+  stands = tt;
+  outer = outer-same view new p.refused;
+  turns = Stays (ap (λ (v : CursorsView). v.opens) p.refused);
 }
 
--- a fault without a word lends nothing
-pub unlent-wordless : (step : CursorStep) → step ≡ wordless BareBackquote → IsUnlent step
-unlent-wordless step e = subst (λ (s : CursorStep). IsUnlent s) (sym e) tt
+-- for a fault without a word
+pub takes-wordless : (texts : Texts) (view new : CursorsView) (kind : FaultKind) (step : CursorStep) → IsPassed texts view new (wordless kind) → step ≡ wordless kind → is_text_fault kind ≡ true
+    → TakesStep texts view step new
+takes-wordless texts view new kind step p is own =
+    subst (λ (s : CursorStep). TakesStep texts view s new) (sym is)
+    (takes-refused texts view new (record { kind = kind; word = record { source = Arguments; from = 0; end = 0 } }) p own (placed-wordless texts kind) (word-none texts kind))
 
--- a step that lends nothing leaves what is open as it may be
-pub open-unlent : (step : CursorStep) (new : List Open) → IsUnlent step → KeepsOpen step new
-open-unlent (Lends place) new none = absurd none
-open-unlent Silent new none = tt
-open-unlent (Refused fault) new none = tt
+-- for a fault under the name of a usage
+pub takes-named : (texts : Texts) (view new : CursorsView) (look : Look) (bytes : List ℕ) (len : ℕ) (kind : FaultKind) (word : TextPlace) → LooksAt texts view.opens look bytes → look.front ≡ front.Usage len
+    → word ≡ record { source = look.source; from = look.at + 1; end = look.at + len } → is_text_fault kind ≡ true → IsPassed texts view new (Refused (record { kind = kind; word = word }))
+    → TakesStep texts view (Refused (record { kind = kind; word = word })) new
+takes-named texts view new look bytes len kind word l f is own p =
+    takes-refused texts view new (record { kind = kind; word = word }) p own (placed-word texts view.opens look len kind word l.sound l.look f is) (word-named texts view.opens look len kind word l.sound l.look f is)
 
 -- no bytes are left of a text that has ended
 no-bytes : (texts : Texts) (x : Open) (below : List Open) → nat_le x.part.end x.part.from ≡ true → open_bytes texts x below ≡ []
@@ -70,9 +103,9 @@ spent-look texts x below e = (refl, refl, refl, no-bytes texts x below e)
 
 -- it is closed
 pub spent-closed : (texts : Texts) (view new : CursorsView) → AreSound texts view.opens → 0 < length view.opens → is_spent view.opens ≡ true
-    → new ≡ record { opens = drop 1 view.opens; line = view.line; depth = view.depth } → IsTaken texts view Silent new
-unfolding IsPlacedStep is_spent
-spent-closed texts view new h some e is = taken-by texts view new Silent (by view.opens h some e is) tt tt tt tt
+    → new ≡ record { opens = drop 1 view.opens; line = view.line; depth = view.depth } → TakesStep texts view Silent new
+unfolding is_spent
+spent-closed texts view new h some e is = takes-silent texts view new (by view.opens h some e is) (outer-closed view new is) (Closed e (1, ap (λ (v : CursorsView). v.opens) is))
   where
     by : (opens : List Open) → AreSound texts opens → 0 < length opens → is_spent opens ≡ true
         → new ≡ record { opens = drop 1 opens; line = view.line; depth = view.depth }
@@ -81,20 +114,17 @@ spent-closed texts view new h some e is = taken-by texts view new Silent (by vie
     by (x ∷ below) h some e is = pass-ended texts (record { opens = x ∷ below; line = view.line; depth = view.depth }) new _ h (spent-look texts x below e) refl is
 
 -- two steps that lend nothing and aren't refused are one
-pub taken-twice : (texts : Texts) (view mid new : CursorsView) → IsTaken texts view Silent mid → IsTaken texts mid Silent new → IsTaken texts view Silent new
-unfolding IsFalling StaysRefused IsStep StepsTo IsPlacedStep
-taken-twice texts view mid new p q = record {
+pub taken-twice : (texts : Texts) (view mid new : CursorsView) → TakesStep texts view Silent mid → TakesStep texts mid Silent new → StaysOutermost view.opens new.opens
+    → Turned texts view.opens new.opens → TakesStep texts view Silent new
+unfolding IsFalling StaysRefused IsStep StepsTo
+taken-twice texts view mid new p q outer turned = takes-silent texts view new (record {
   is_step = λ rules s e.
-      p.is_step rules s e ∙ silent-on rules s texts view mid new p.kept (q.is_step rules s e);
+      p.step rules s e ∙ silent-on rules s texts view mid new p.kept (q.step rules s e);
   sound = q.sound;
   kept = (q.kept.0 ∙ p.kept.0, q.kept.1 ∙ p.kept.1);
   digits = falls-twice (cursor_digits view.opens) (cursor_digits mid.opens) (cursor_digits new.opens) p.digits q.digits;
   refused = tt;
-  placed = tt;
-  unlent = tt;
-  fault = tt;
-  word = tt;
-}
+}) outer turned
 
 -- where nothing stands at the front, nothing is left
 pub ended-spent : (texts : Texts) (opens : List Open) (look : Look) → AreSound texts opens → IsLook texts opens look → look.front ≡ front.Ended → is_spent opens ≡ true
@@ -156,55 +186,78 @@ unfolding IsLookAhead
 look-behind texts [] look l = absurd l
 look-behind texts (x ∷ below) look l = l.4
 
--- what holds of open texts where what is copied at their front is passed
-pub record IsOn (texts : Texts) (view mid : CursorsView) (look : Look) : Type 0 where
-  pub sound : AreSound texts mid.opens
-  pub looks : IsLook texts mid.opens look
-  pub some : 0 < length mid.opens
-  pub runs : look.from < look.at
-      → IsPassed texts view mid (Lends (record { source = look.source; from = look.from; end = look.at }))
-      × IsPlacedStep texts (Lends (record { source = look.source; from = look.from; end = look.at }))
+-- what a look tells that lies ahead begins where the innermost text stands
+stands-ahead : (texts : Texts) (opens : List Open) (look : Look) (end : ℕ) → IsLookAhead texts opens look → IsFrontPlace opens (record { source = look.source; from = look.from; end = end })
+unfolding IsLookAhead
+stands-ahead texts [] look end l = absurd l
+stands-ahead texts (x ∷ below) look end l = (l.0, l.1)
+
+-- what is copied at the front
+abbrev run_of : Look → TextPlace
+run_of look = record { source = look.source; from = look.from; end = look.at }
+
+-- what holds of open texts where that is passed
+pub record IsOn (texts : Texts) (view mid : CursorsView) (look : Look) (bytes : List ℕ) : Type 0 where
+  pub looks : LooksAt texts mid.opens look bytes
+  pub moved : mid.opens ≡ moved_to look.at view.opens
+  pub stands : IsFrontPlace view.opens (run_of look)
+  pub runs : look.from < look.at → IsPassed texts view mid (Lends (run_of look)) × IsPlacedStep texts (Lends (run_of look))
   pub stays : look.at ≤ look.from → mid ≡ view
 
 -- so it is behind a look
-pub on-look : (texts : Texts) (view mid : CursorsView) (look : Look) → AreSound texts view.opens → IsLookAhead texts view.opens look → 0 < length view.opens
-    → mid ≡ record { opens = moved_to look.at view.opens; line = view.line; depth = view.depth } → IsOn texts view mid look
-on-look texts view mid look h l some is = record {
-  sound = subst (λ (v : CursorsView). AreSound texts v.opens) (sym is) (look-passed texts view.opens look h l);
-  looks = subst (λ (v : CursorsView). IsLook texts v.opens look) (sym is) (look-behind texts view.opens look l);
-  some = open-run view mid look.at some is;
+pub on-look : (texts : Texts) (view mid : CursorsView) (look : Look) (bytes : List ℕ) → AreSound texts view.opens → IsLookAhead texts view.opens look → 0 < length view.opens
+    → bytes ≡ source_text texts look.source → look.end < 2 ^ 64 → mid ≡ record { opens = moved_to look.at view.opens; line = view.line; depth = view.depth } → IsOn texts view mid look bytes
+on-look texts view mid look bytes h l some text short is = record {
+  looks = record {
+    some = open-run view mid look.at some is;
+    sound = subst (λ (v : CursorsView). AreSound texts v.opens) (sym is) (look-passed texts view.opens look h l);
+    look = subst (λ (v : CursorsView). IsLook texts v.opens look) (sym is) (look-behind texts view.opens look l);
+    text = text;
+    short = short;
+  };
+  moved = ap (λ (v : CursorsView). v.opens) is;
+  stands = stands-ahead texts view.opens look look.at l;
   runs = λ more. (pass-run texts view mid look h l more is, placed-run texts view.opens look h l more);
   stays = λ less. moved-same texts view mid look h l less is;
 }
 
 -- a run that is lent is a step, with what is done behind it
-pub on-lent : (texts : Texts) (view mid new : CursorsView) (look : Look) (lent : Bool) (step : CursorStep) → IsOn texts view mid look → look.from < look.at
-    → (is_idle lent (length mid.opens) look.front ≡ false → IsTaken texts mid step new)
-    → (is_idle lent (length mid.opens) look.front ≡ true → new ≡ mid)
-    → IsPassed texts view new (Lends (record { source = look.source; from = look.from; end = look.at }))
-on-lent texts view mid new look lent step on more taken idle = by (is_idle lent (length mid.opens) look.front) refl
+pub on-lent : (texts : Texts) (view mid new : CursorsView) (look : Look) (bytes : List ℕ) (lent : Bool) (step : CursorStep) → IsOn texts view mid look bytes → look.from < look.at
+    → (is_idle lent (length mid.opens) look.front ≡ false → TakesStep texts mid step new) → (is_idle lent (length mid.opens) look.front ≡ true → new ≡ mid)
+    → 0 < length new.opens → IsUnlent step → TakesStep texts view (Lends (record { source = look.source; from = look.from; end = look.at })) new
+on-lent texts view mid new look bytes lent step on more taken idle some unlent = by (is_idle lent (length mid.opens) look.front) refl
   where
-    place : TextPlace
-    place = record { source = look.source; from = look.from; end = look.at }
+    behind : IsPassed texts view new (Lends (run_of look)) → StaysOutermost mid.opens new.opens → Turned texts mid.opens new.opens → TakesStep texts view (Lends (run_of look)) new
+    behind p outer turned = record {
+      step = p.is_step;
+      sound = p.sound;
+      kept = p.kept;
+      digits = p.digits;
+      refused = p.refused;
+      placed = (on.runs more).1;
+      lends = some;
+      fault = tt;
+      word = tt;
+      stands = on.stands;
+      outer = outer-ahead view.opens mid.opens new.opens look.at on.moved outer;
+      turns = subst (λ (opens : List Open). Turned texts opens new.opens) on.moved turned;
+    }
 
-    by : (none : Bool) → is_idle lent (length mid.opens) look.front ≡ none → IsPassed texts view new (Lends place)
-    by true e = subst (λ (v : CursorsView). IsPassed texts view v (Lends place)) (sym (idle e)) (on.runs more).0
+    by : (none : Bool) → is_idle lent (length mid.opens) look.front ≡ none → TakesStep texts view (Lends (run_of look)) new
+    by true e =
+        let same = idle e in
+        behind (subst (λ (v : CursorsView). IsPassed texts view v (Lends (run_of look))) (sym same) (on.runs more).0) (outer-same mid new same) (Stays (ap (λ (v : CursorsView). v.opens) same))
     by false e =
         let t = taken e in
-        pass-behind texts view mid new place step (on.runs more).0 (taken-passed texts mid new step t) t.unlent
-
--- it is placed
-pub on-placed : (texts : Texts) (view mid : CursorsView) (look : Look) → IsOn texts view mid look → look.from < look.at
-    → IsPlacedStep texts (Lends (record { source = look.source; from = look.from; end = look.at }))
-on-placed texts view mid look on more = (on.runs more).1
+        behind (pass-behind texts view mid new (run_of look) step (on.runs more).0 (taken-passed texts mid new step t) unlent) t.outer (turned-unlent texts mid.opens new.opens step unlent t.turns)
 
 -- where no run is lent, what is opened is the step
-pub on-taken : (texts : Texts) (view mid new : CursorsView) (look : Look) (lent : Bool) (step : CursorStep) → IsOn texts view mid look → look.at ≤ look.from → lent ≡ false
-    → (is_idle lent (length mid.opens) look.front ≡ false → IsTaken texts mid step new)
-    → IsTaken texts view step new
+pub on-taken : (texts : Texts) (view mid new : CursorsView) (look : Look) (bytes : List ℕ) (lent : Bool) (step : CursorStep) → IsOn texts view mid look bytes → look.at ≤ look.from → lent ≡ false
+    → (is_idle lent (length mid.opens) look.front ≡ false → TakesStep texts mid step new)
+    → TakesStep texts view step new
 unfolding is_idle
-on-taken texts view mid new look lent step on less miss taken =
-    subst (λ (v : CursorsView). IsTaken texts v step new) (on.stays less) (taken (by lent miss))
+on-taken texts view mid new look bytes lent step on less miss taken =
+    subst (λ (v : CursorsView). TakesStep texts v step new) (on.stays less) (taken (by lent miss))
   where
     by : (l : Bool) → l ≡ false → is_idle l (length mid.opens) look.front ≡ false
     by false e = refl
@@ -222,15 +275,3 @@ pub rest-fewer : (view new : CursorsView) → 0 < length view.opens → new ≡ 
 rest-fewer view new some is =
     let rest = length-drop 1 view.opens in
     subst (λ (v : CursorsView). length v.opens < length view.opens) (sym is) (omega (arith, rest, some))
-
--- what a look tells that lies ahead begins where the innermost text stands
-pub stands-ahead : (texts : Texts) (opens : List Open) (look : Look) (end : ℕ) → IsLookAhead texts opens look → IsFrontPlace opens (record { source = look.source; from = look.from; end = end })
-unfolding IsLookAhead
-stands-ahead texts [] look end l = absurd l
-stands-ahead texts (x ∷ below) look end l = (l.0, l.1)
-
--- a step that lends nothing stands anywhere
-pub stands-unlent : (opens : List Open) (step : CursorStep) → IsUnlent step → StandsAt opens step
-stands-unlent opens (Lends place) unlent = absurd unlent
-stands-unlent opens Silent unlent = tt
-stands-unlent opens (Refused fault) unlent = tt

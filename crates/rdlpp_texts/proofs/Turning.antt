@@ -11,7 +11,7 @@ use Rattle.rdlpp_texts.specs.Fronts.{IsFront, IsLook}
 use Rattle.rdlpp_texts.specs.Opened.{CursorsView, moved_to}
 use Rattle.rdlpp_texts.specs.Places.{source_formals, texts_of}
 use Rattle.rdlpp_texts.specs.Scopes.{front_scope, front_source}
-use Rattle.rdlpp_texts.specs.Steps.{IsUnlent, StaysRefused}
+use Rattle.rdlpp_texts.specs.Steps.{IsUnlent}
 use Rattle.rdlpp_texts.specs.Turns.{Closes, HasFront, OpensBody, OpensStanding, Stays, Turned, TurnsOver}
 use Rattle.rdlpp_texts.specs.Usages.{IsUsed, front_name}
 use Rattle.rdlpp_texts.specs.declared.cursors.call.Opening.{Opening}
@@ -64,14 +64,8 @@ turned-call macros arguments text view new look len at end id home Deep l f used
 pub closes-more : (old mid new : List Open) → Closes old mid → new ≡ drop 1 mid → Closes old new
 closes-more old mid new c e = (c.0 + 1, e ∙ ap (λ (opens : List Open). drop 1 opens) c.1 ∙ drop-drop 1 c.0 old)
 
--- behind a run that is lent
-pub turned-lent : (texts : Texts) (mid new opens : List Open) → mid ≡ opens → Turned texts mid new → Turned texts opens new
-turned-lent texts mid new opens e t = subst (λ (os : List Open). Turned texts os new) e t
-
--- where none is lent
-pub turned-unlent : (texts : Texts) (view mid new : CursorsView) (step : CursorStep) → IsUnlent step → StaysRefused view step new → mid ≡ view → Turned texts mid.opens new.opens
-    → TurnsOver texts view.opens step new.opens
-unfolding StaysRefused
-turned-unlent texts view mid new (Lends place) none stays e t = absurd none
-turned-unlent texts view mid new Silent none stays e t = subst (λ (v : CursorsView). Turned texts v.opens new.opens) e t
-turned-unlent texts view mid new (Refused fault) none stays e t = Stays (ap (λ (v : CursorsView). v.opens) stays)
+-- where no run is lent
+pub turned-unlent : (texts : Texts) (opens new : List Open) (step : CursorStep) → IsUnlent step → TurnsOver texts opens step new → Turned texts opens new
+turned-unlent texts opens new (Lends place) none t = absurd none
+turned-unlent texts opens new Silent none t = t
+turned-unlent texts opens new (Refused fault) none t = t

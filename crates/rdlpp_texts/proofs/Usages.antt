@@ -43,8 +43,8 @@ use Rattle.rdlpp_texts.specs.Fronts.{AreCopied, IsFront, IsLook, IsLookAhead}
 use Rattle.rdlpp_texts.specs.Opened.{bindings_below, opens_of, moved_to, AreHomedSlots, CursorsView}
 use Rattle.rdlpp_texts.specs.Places.{texts_of, place_bytes, source_text, source_formals, IsSource, IsPlaced}
 use Rattle.rdlpp_texts.specs.Scopes.{front_scope, front_source, own_ids, writer_ids, AreFurtherOut}
-use Rattle.rdlpp_texts.specs.Steps.{IsKnown, AreInside, AreSound, IsStep, StepsTo, StaysRefused, KeepsOpen, IsPlacedStep, wordless}
-use Rattle.rdlpp_texts.specs.Usages.{front_name, is_text_fault, unknown_kind, IsRefused, IsTextFault, IsUsed}
+use Rattle.rdlpp_texts.specs.Steps.{IsKnown, AreInside, AreSound, IsStep, StepsTo, StaysRefused, IsPlacedStep, wordless}
+use Rattle.rdlpp_texts.specs.Usages.{front_name, is_text_fault, unknown_kind, IsRefused, IsUsed}
 use Rattle.rdlpp_texts.proofs.Falling.{look-opens, run-ends, usage-inside as falls-inside}
 use Rattle.rdlpp_texts.proofs.Keeping.{body-keeps, first-sound}
 use Rattle.rdlpp_texts.proofs.Looking.{source-known, source-inside}
@@ -431,19 +431,17 @@ pass-refused texts view look len kind word h l e w r =
     })
 
 -- a body for which there is no slot left
-pub pass-deep : (texts : Texts) (view : CursorsView) (look : Look) (len id : ℕ) (step : CursorStep) → AreSound texts view.opens → IsLook texts view.opens look
+pub pass-deep : (texts : Texts) (view : CursorsView) (look : Look) (len id : ℕ) → AreSound texts view.opens → IsLook texts view.opens look
     → look.front ≡ front.Usage len → IsUsed texts view.opens (front_name texts view.opens len) id → (macro_at texts.macros id).formals ≡ None
-    → view.depth ≤ length view.opens → step ≡ wordless DepthPassed
-    → IsPassed texts view view step
+    → view.depth ≤ length view.opens → IsPassed texts view view (wordless DepthPassed)
 unfolding IsFalling StaysRefused
-pass-deep texts view look len id step h l e used none deep is =
-    subst (λ (s : CursorStep). IsPassed texts view view s) (sym is) (record {
-      is_step = look-deep view.line view.depth texts view.opens look len id h l e used none deep;
-      sound = h;
-      kept = (refl, refl);
-      digits = tt;
-      refused = refl;
-    })
+pass-deep texts view look len id h l e used none deep = record {
+  is_step = look-deep view.line view.depth texts view.opens look len id h l e used none deep;
+  sound = h;
+  kept = (refl, refl);
+  digits = tt;
+  refused = refl;
+}
 
 -- a body that is opened
 pub pass-opened : (table : TableView) (arguments : List ℕ) (view new : CursorsView) (look : Look) (len id at : ℕ) → IsSound table
@@ -563,15 +561,9 @@ unfolding IsPlacedStep
 placed-word texts opens look len kind word h l e is = word-inside texts opens look len word h l e is
 
 -- so is one without a word
-pub placed-wordless : (texts : Texts) (kind : FaultKind) (step : CursorStep) → step ≡ wordless kind → IsPlacedStep texts step
+pub placed-wordless : (texts : Texts) (kind : FaultKind) → IsPlacedStep texts (wordless kind)
 unfolding IsPlacedStep
-placed-wordless texts kind step is =
-    subst (λ (s : CursorStep). IsPlacedStep texts s) (sym is) (record { source = tt; order = omega arith; inside = omega arith })
-
--- a step that lends nothing and refuses nothing is
-pub placed-silent : (texts : Texts) → IsPlacedStep texts Silent
-unfolding IsPlacedStep
-placed-silent texts = tt
+placed-wordless texts kind = record { source = tt; order = omega arith; inside = omega arith }
 
 -- a run that is lent is placed
 pub placed-run : (texts : Texts) (opens : List Open) (look : Look) → AreSound texts opens → IsLookAhead texts opens look → look.from < look.at
@@ -592,10 +584,6 @@ placed-run texts (x ∷ below) look h l more =
 -- a text stays open behind a run that is lent
 pub open-run : (old new : CursorsView) (at : ℕ) → 0 < length old.opens → new ≡ record { opens = moved_to at old.opens; line = old.line; depth = old.depth } → 0 < length new.opens
 open-run old new at some e = subst (λ (v : CursorsView). 0 < length v.opens) (sym e) (let n = moved-length old.opens at in omega (arith, n, some))
-
--- a fault without a word lends nothing
-pub open-wordless : (kind : FaultKind) (step : CursorStep) (new : List Open) → step ≡ wordless kind → KeepsOpen step new
-open-wordless kind step new is = subst (λ (s : CursorStep). KeepsOpen s new) (sym is) tt
 
 -- an unknown name is a fault of a text
 pub fault-unknown : (reserved : Bool) (kind : FaultKind) → kind ≡ unknown_kind reserved → is_text_fault kind ≡ true
@@ -622,11 +610,11 @@ fault-call DepthPassed e = refl
 fault-call kind e = absurd (true≢false (sym e))
 
 -- so is one without a word
-pub fault-deep : (step : CursorStep) → step ≡ wordless DepthPassed → IsTextFault step
+pub fault-deep : is_text_fault DepthPassed ≡ true
 unfolding is_text_fault
-fault-deep step e = subst (λ (s : CursorStep). IsTextFault s) (sym e) refl
+fault-deep = refl
 
 -- and so is a lone backquote
-pub fault-bare : (step : CursorStep) → step ≡ wordless BareBackquote → IsTextFault step
+pub fault-bare : is_text_fault BareBackquote ≡ true
 unfolding is_text_fault
-fault-bare step e = subst (λ (s : CursorStep). IsTextFault s) (sym e) refl
+fault-bare = refl

@@ -17,7 +17,6 @@ use Rattle.rdlpp_texts.specs.declared.front.Front.TheVariants as front
 use Rattle.rdlpp_texts.specs.declared.front.Look.{Look}
 use Rattle.rdlpp_texts.specs.declared.place.TextPlace.{TextPlace}
 use Rattle.rdlpp_texts.specs.declared.place.TextSource.TheVariants.{Arguments}
-use Rattle.rdlpp_texts.specs.declared.step.CursorStep.{CursorStep}
 use Rattle.rdlpp_texts.specs.declared.step.CursorStep.TheVariants.{Refused}
 use Rattle.rdlpp_texts.specs.Fronts.{IsFront, IsLook}
 use Rattle.rdlpp_texts.specs.Places.{place_bytes, source_formals}
@@ -69,6 +68,5 @@ word-named texts opens look len kind word h l e is =
     ∙ front-word texts opens look len l e
 
 -- one without a word has an empty one
-pub word-none : (texts : Texts) (kind : FaultKind) (step : CursorStep) → step ≡ wordless kind → NamesWord texts step
-word-none texts kind step is =
-    subst (λ (s : CursorStep). NamesWord texts s) (sym is) (ap (λ (bytes : List ℕ). list_all is_word bytes) (no-word texts Arguments))
+pub word-none : (texts : Texts) (kind : FaultKind) → NamesWord texts (wordless kind)
+word-none texts kind = ap (λ (bytes : List ℕ). list_all is_word bytes) (no-word texts Arguments)

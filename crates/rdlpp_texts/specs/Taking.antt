@@ -1,27 +1,43 @@
--- A step of open texts that lends nothing.
+-- What a step over open texts comes to.
 -- A definition that names no source is this project's own.
-use Rattle.std.specs.Prelude.{◌≡◌, ℕ, Bool, true, false, nat_le}
-use Rattle.rdlpp_meaning.specs.Opens.{Texts}
+use Rattle.std.specs.Prelude.{◌≡◌, ℕ, ◌<◌, ◌^◌, Bool, true, false, nat_le, List, length}
+use Rattle.rdlpp_meaning.specs.Opens.{Open, Texts}
 use Rattle.rdlpp_texts.specs.Digits.{IsFalling}
-use Rattle.rdlpp_texts.specs.Opened.{CursorsView}
-use Rattle.rdlpp_texts.specs.Steps.{AreSound, IsStep, IsUnlent, StaysRefused, IsPlacedStep, NamesWord}
+use Rattle.rdlpp_texts.specs.Fronts.{IsLook, StandsAt}
+use Rattle.rdlpp_texts.specs.Opened.{CursorsView, StaysOutermost}
+use Rattle.rdlpp_texts.specs.Places.{source_text}
+use Rattle.rdlpp_texts.specs.Steps.{AreSound, IsStep, KeepsOpen, StaysRefused, IsPlacedStep, NamesWord}
+use Rattle.rdlpp_texts.specs.Turns.{TurnsOver}
 use Rattle.rdlpp_texts.specs.Usages.{IsTextFault}
 use Rattle.rdlpp_texts.specs.declared.front.Front.{Front}
 use Rattle.rdlpp_texts.specs.declared.front.Front.TheVariants.{Ended, Formal as FormalName, Usage, Bare}
+use Rattle.rdlpp_texts.specs.declared.front.Look.{Look}
 use Rattle.rdlpp_texts.specs.declared.step.CursorStep.{CursorStep}
 
--- a step that lends nothing: what is open behind it is sound, at the same line and for as many texts; the digits of the work left
--- fall, unless it is refused, where nothing changes; and a fault is one of a text, whose word is a name
-pub record IsTaken (texts : Texts) (view : CursorsView) (step : CursorStep) (new : CursorsView) : Type 0 where
-  pub is_step : IsStep view.line view.depth texts view.opens step new.opens
+-- a step: what it lends, opens or closes is what expansion has there, and what is open behind it is sound, at the same line and for as many texts;
+-- the digits of the work left fall, unless it is refused, where nothing changes; what it lends stood at the front and lies in its text, and a text
+-- stays open behind it; a fault is one of a text, whose word is a name; and the outermost text stays, while one is open
+pub record TakesStep (texts : Texts) (old : CursorsView) (result : CursorStep) (new : CursorsView) : Type 0 where
+  pub step : IsStep old.line old.depth texts old.opens result new.opens
   pub sound : AreSound texts new.opens
-  pub kept : (new.line ≡ view.line) × (new.depth ≡ view.depth)
-  pub digits : IsFalling view.opens step new.opens
-  pub refused : StaysRefused view step new
-  pub placed : IsPlacedStep texts step
-  pub unlent : IsUnlent step
-  pub fault : IsTextFault step
-  pub word : NamesWord texts step
+  pub kept : (new.line ≡ old.line) × (new.depth ≡ old.depth)
+  pub digits : IsFalling old.opens result new.opens
+  pub refused : StaysRefused old result new
+  pub placed : IsPlacedStep texts result
+  pub lends : KeepsOpen result new.opens
+  pub fault : IsTextFault result
+  pub word : NamesWord texts result
+  pub stands : StandsAt old.opens result
+  pub outer : StaysOutermost old.opens new.opens
+  pub turns : TurnsOver texts old.opens result new.opens
+
+-- a look at sound open texts, with the bytes of the text in which the innermost lies
+pub record LooksAt (texts : Texts) (opens : List Open) (seen : Look) (bytes : List ℕ) : Type 0 where
+  pub some : 0 < length opens
+  pub sound : AreSound texts opens
+  pub look : IsLook texts opens seen
+  pub text : bytes ≡ source_text texts seen.source
+  pub short : seen.end < 2 ^ 64
 
 -- whether nothing is done at the front of so many open texts, behind a run that is lent: where the last one has ended
 unfoldable pub is_idle : Bool → ℕ → Front → Bool

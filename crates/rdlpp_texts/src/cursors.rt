@@ -1,17 +1,15 @@
 // The stack of open texts.
-ghost use Rattle.std.specs.Prelude.{[], length, true, IfOk, IfSome, IsTrue, List, None, ℕ, ◌==◌, ◌<◌, ◌≡◌, ◌≤◌, ◌∷◌, ◌^◌, ◌+◌, ◌*◌, ◌++◌, drop, nat_le};
+ghost use Rattle.std.specs.Prelude.{[], length, true, IfOk, List, None, ℕ, ◌==◌, ◌<◌, ◌≡◌, ◌≤◌, ◌∷◌, ◌^◌, ◌+◌, ◌*◌, drop, nat_le};
 ghost use Rattle.rdlpp_scan.specs.declared.token.Mode.TheVariants.{Plain};
 ghost use Rattle.std.specs.Option.{option_map};
 ghost use Rattle.rdlpp_table.specs.View.{macro_at};
 ghost use Rattle.rdlpp_meaning.specs.Opens.{open_body, OpenBody, Texts};
-ghost use Rattle.rdlpp_texts.specs.Digits.{IsFalling};
-ghost use Rattle.rdlpp_texts.specs.Fronts.{IsLookAhead, StandsAt};
+ghost use Rattle.rdlpp_texts.specs.Fronts.{IsLookAhead};
 ghost use Rattle.rdlpp_texts.specs.Opened.{bound_by, is_spent, kept_by, moved_to, open_of, IsNoBody, StaysOutermost};
 ghost use Rattle.rdlpp_texts.specs.Places.{source_text, texts_of};
-ghost use Rattle.rdlpp_texts.specs.Usages.{IsTextFault};
-ghost use Rattle.rdlpp_texts.specs.Steps.{AreSound, IsStep, KeepsOpen, StaysRefused, IsPlacedStep, NamesWord};
-ghost use Rattle.rdlpp_texts.specs.Taking.{IsTaken};
-ghost use Rattle.rdlpp_texts.specs.Turns.{Closes, TurnsOver};
+ghost use Rattle.rdlpp_texts.specs.Steps.{AreSound};
+ghost use Rattle.rdlpp_texts.specs.Taking.{TakesStep};
+ghost use Rattle.rdlpp_texts.specs.Turns.{Closes};
 ghost use Rattle.rdlpp_texts.specs.declared.step.CursorStep.TheVariants.{Silent};
 
 mod call;
@@ -163,7 +161,7 @@ impl Cursors {
     // outermost, which stays open if it isn't the innermost.
     fn close_spent(&mut self)
         requires { 0 < length self.old.opens }
-        ensures spent { (texts : Texts) → AreSound texts self.old.opens → is_spent self.old.opens ≡ true → IsTaken texts self.old Silent self.new }
+        ensures spent { (texts : Texts) → AreSound texts self.old.opens → is_spent self.old.opens ≡ true → TakesStep texts self.old Silent self.new }
         ensures keeps { 1 < length self.old.opens → 0 < length self.new.opens }
         ensures fewer { length self.new.opens < length self.old.opens }
         ensures outer { StaysOutermost self.old.opens self.new.opens }
@@ -277,18 +275,7 @@ impl Cursors {
     pub fn step(&mut self, table: &Table, arguments: &[u8]) -> CursorStep
         requires some { 0 < length self.old.opens }
         requires sound { AreSound (texts_of table.now.macros arguments.now) self.old.opens }
-        ensures step { IsStep self.old.line self.old.depth (texts_of table.now.macros arguments.now) self.old.opens result self.new.opens }
-        ensures sound { AreSound (texts_of table.now.macros arguments.now) self.new.opens }
-        ensures kept { (self.new.line ≡ self.old.line) × (self.new.depth ≡ self.old.depth) }
-        ensures digits { IsFalling self.old.opens result self.new.opens }
-        ensures refused { StaysRefused self.old result self.new }
-        ensures placed { IsPlacedStep (texts_of table.now.macros arguments.now) result }
-        ensures lends { KeepsOpen result self.new.opens }
-        ensures fault { IsTextFault result }
-        ensures word { NamesWord (texts_of table.now.macros arguments.now) result }
-        ensures stands { StandsAt self.old.opens result }
-        ensures outer { StaysOutermost self.old.opens self.new.opens }
-        ensures turns { TurnsOver (texts_of table.now.macros arguments.now) self.old.opens result self.new.opens }
+        ensures { TakesStep (texts_of table.now.macros arguments.now) self.old result self.new }
     {
         let sight = self.look(table, arguments);
         let look = sight.look;

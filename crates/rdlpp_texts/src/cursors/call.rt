@@ -1,16 +1,13 @@
 // Usages of macros with a list in an open text.
-ghost use Rattle.std.specs.Prelude.{drop, [], IfErr, IfOk, is_some, length, slice_range, true, ◌<◌, ◌≡◌, ◌≤◌, ◌^◌};
+ghost use Rattle.std.specs.Prelude.{[], IfErr, IfOk, is_some, length, slice_range, true, ◌<◌, ◌≡◌, ◌≤◌};
 ghost use Rattle.rdlpp_table.specs.View.{macro_at};
 ghost use Rattle.rdlpp_meaning.specs.Substitution.{body_tokens};
 ghost use Rattle.rdlpp_texts.specs.BoundCalls.{KeepsAll};
 ghost use Rattle.rdlpp_texts.specs.Calls.{IsCallFault, IsCallMiscounted, IsCallStarted, IsOpening};
-ghost use Rattle.rdlpp_texts.specs.Digits.{IsFalling};
-ghost use Rattle.rdlpp_texts.specs.Fronts.{IsLook};
-ghost use Rattle.rdlpp_texts.specs.Opened.{StaysOutermost};
-ghost use Rattle.rdlpp_texts.specs.Places.{source_text, texts_of};
-ghost use Rattle.rdlpp_texts.specs.Steps.{AreSound, IsStep, IsUnlent, KeepsOpen, StaysRefused, IsPlacedStep, NamesWord};
-ghost use Rattle.rdlpp_texts.specs.Turns.{Turned};
-ghost use Rattle.rdlpp_texts.specs.Usages.{front_name, IsTextFault, IsUsed};
+ghost use Rattle.rdlpp_texts.specs.Places.{texts_of};
+ghost use Rattle.rdlpp_texts.specs.Steps.{IsUnlent};
+ghost use Rattle.rdlpp_texts.specs.Taking.{LooksAt, TakesStep};
+ghost use Rattle.rdlpp_texts.specs.Usages.{front_name, IsUsed};
 
 use crate::cursors::Cursors;
 use crate::cursors::usage::word_of;
@@ -81,27 +78,13 @@ impl Cursors {
         len: usize,
         id: MacroId,
     ) -> CursorStep
-        requires some { 0 < length self.old.opens }
-        requires sound { AreSound (texts_of table.now.macros arguments.now) self.old.opens }
-        requires look { IsLook (texts_of table.now.macros arguments.now) self.old.opens look.now }
-        requires text { text.now ≡ source_text (texts_of table.now.macros arguments.now) look.now.source }
-        requires short { look.now.end < 2 ^ 64 }
+        requires look { LooksAt (texts_of table.now.macros arguments.now) self.old.opens look.now text.now }
         requires front { look.now.front ≡ Front.Usage len }
         requires used { IsUsed (texts_of table.now.macros arguments.now) self.old.opens (front_name (texts_of table.now.macros arguments.now) self.old.opens len) id }
         requires list { is_some (macro_at table.now.macros id).formals ≡ true }
-        ensures step { IsStep self.old.line self.old.depth (texts_of table.now.macros arguments.now) self.old.opens result self.new.opens }
-        ensures sound { AreSound (texts_of table.now.macros arguments.now) self.new.opens }
-        ensures kept { (self.new.line ≡ self.old.line) × (self.new.depth ≡ self.old.depth) }
-        ensures digits { IsFalling self.old.opens result self.new.opens }
-        ensures refused { StaysRefused self.old result self.new }
-        ensures placed { IsPlacedStep (texts_of table.now.macros arguments.now) result }
-        ensures lends { KeepsOpen result self.new.opens }
+        ensures step { TakesStep (texts_of table.now.macros arguments.now) self.old result self.new }
         ensures open { 0 < length self.new.opens }
-        ensures outer { StaysOutermost self.old.opens self.new.opens }
-        ensures turned { Turned (texts_of table.now.macros arguments.now) self.old.opens self.new.opens }
         ensures unlent { IsUnlent result }
-        ensures fault { IsTextFault result }
-        ensures word { NamesWord (texts_of table.now.macros arguments.now) result }
     {
         let _macros = table.len();
         let home = self.scope();

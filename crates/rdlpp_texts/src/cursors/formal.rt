@@ -1,15 +1,13 @@
 // The opening of what a formal stands for.
-ghost use Rattle.std.specs.Prelude.{drop, [], length, ◌+◌, ◌<◌, ◌≡◌, ◌≤◌};
+ghost use Rattle.std.specs.Prelude.{[], length, ◌+◌, ◌<◌, ◌≡◌};
 ghost use Rattle.std.specs.Option.{option_map};
-ghost use Rattle.rdlpp_texts.specs.Digits.{IsFalling};
 ghost use Rattle.rdlpp_texts.specs.Fronts.{IsLook};
-ghost use Rattle.rdlpp_texts.specs.Opened.{open_of, StaysOutermost};
+ghost use Rattle.rdlpp_texts.specs.Opened.{open_of};
 ghost use Rattle.rdlpp_texts.specs.Places.{source_formals, texts_of};
 ghost use Rattle.rdlpp_meaning.specs.Opens.{found_standing, scope_open};
 ghost use Rattle.rdlpp_texts.specs.Scopes.{found_source, front_scope, AreBound};
-ghost use Rattle.rdlpp_texts.specs.Steps.{AreSound, IsStep, IsUnlent, KeepsOpen, StaysRefused, IsPlacedStep, NamesWord};
-ghost use Rattle.rdlpp_texts.specs.Turns.{Turned};
-ghost use Rattle.rdlpp_texts.specs.Usages.{IsTextFault};
+ghost use Rattle.rdlpp_texts.specs.Steps.{AreSound, IsUnlent};
+ghost use Rattle.rdlpp_texts.specs.Taking.{TakesStep};
 
 use crate::cursors::Cursors;
 use crate::front::{Front, Look};
@@ -36,19 +34,9 @@ impl Cursors {
         requires sound { AreSound (texts_of table.now.macros arguments.now) self.old.opens }
         requires look { IsLook (texts_of table.now.macros arguments.now) self.old.opens look.now }
         requires front { look.now.front ≡ Front.Formal len place }
-        ensures step { IsStep self.old.line self.old.depth (texts_of table.now.macros arguments.now) self.old.opens result self.new.opens }
-        ensures sound { AreSound (texts_of table.now.macros arguments.now) self.new.opens }
-        ensures kept { (self.new.line ≡ self.old.line) × (self.new.depth ≡ self.old.depth) }
-        ensures digits { IsFalling self.old.opens result self.new.opens }
-        ensures refused { StaysRefused self.old result self.new }
-        ensures placed { IsPlacedStep (texts_of table.now.macros arguments.now) result }
-        ensures lends { KeepsOpen result self.new.opens }
+        ensures step { TakesStep (texts_of table.now.macros arguments.now) self.old result self.new }
         ensures open { 0 < length self.new.opens }
-        ensures outer { StaysOutermost self.old.opens self.new.opens }
-        ensures turned { Turned (texts_of table.now.macros arguments.now) self.old.opens self.new.opens }
         ensures unlent { IsUnlent result }
-        ensures fault { IsTextFault result }
-        ensures word { NamesWord (texts_of table.now.macros arguments.now) result }
     {
         let look = *look;
         let _macros = table.len();

@@ -1,11 +1,8 @@
 // The opening of what stands at the front of open texts.
-ghost use Rattle.std.specs.Prelude.{drop, false, length, true, ◌<◌, ◌≡◌, ◌^◌};
-ghost use Rattle.rdlpp_texts.specs.Fronts.{IsLook};
-ghost use Rattle.rdlpp_texts.specs.Opened.{StaysOutermost};
-ghost use Rattle.rdlpp_texts.specs.Places.{source_text, texts_of};
-ghost use Rattle.rdlpp_texts.specs.Steps.{AreSound};
-ghost use Rattle.rdlpp_texts.specs.Taking.{is_idle, IsTaken};
-ghost use Rattle.rdlpp_texts.specs.Turns.{Turned};
+ghost use Rattle.std.specs.Prelude.{false, length, true, ◌<◌, ◌≡◌};
+ghost use Rattle.rdlpp_texts.specs.Places.{texts_of};
+ghost use Rattle.rdlpp_texts.specs.Steps.{IsUnlent};
+ghost use Rattle.rdlpp_texts.specs.Taking.{is_idle, LooksAt, TakesStep};
 
 use crate::cursors::Cursors;
 use crate::front::{Front, Look};
@@ -27,16 +24,11 @@ impl Cursors {
         look: &Look,
         lent: bool,
     ) -> CursorStep
-        requires some { 0 < length self.old.opens }
-        requires sound { AreSound (texts_of table.now.macros arguments.now) self.old.opens }
-        requires look { IsLook (texts_of table.now.macros arguments.now) self.old.opens look.now }
-        requires text { text.now ≡ source_text (texts_of table.now.macros arguments.now) look.now.source }
-        requires short { look.now.end < 2 ^ 64 }
-        ensures taken { is_idle lent (length self.old.opens) look.now.front ≡ false → IsTaken (texts_of table.now.macros arguments.now) self.old result self.new }
+        requires { LooksAt (texts_of table.now.macros arguments.now) self.old.opens look.now text.now }
+        ensures taken { is_idle lent (length self.old.opens) look.now.front ≡ false → TakesStep (texts_of table.now.macros arguments.now) self.old result self.new }
         ensures idle { is_idle lent (length self.old.opens) look.now.front ≡ true → self.new ≡ self.old }
         ensures open { lent ≡ true → 0 < length self.new.opens }
-        ensures outer { StaysOutermost self.old.opens self.new.opens }
-        ensures turned { Turned (texts_of table.now.macros arguments.now) self.old.opens self.new.opens }
+        ensures unlent { IsUnlent result }
     {
         match look.front {
             Front::Ended if lent && self.len() <= 1 => CursorStep::Silent,

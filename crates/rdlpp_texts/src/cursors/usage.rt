@@ -1,18 +1,15 @@
 // Usages in open texts: their names, their faults, and the bodies of macros without a list.
-ghost use Rattle.std.specs.Prelude.{drop, ◌≡◌, IfErr, true, ◌==◌, ◌∷◌, ◌+◌, ◌<◌, ◌≤◌, ◌^◌, [], length};
+ghost use Rattle.std.specs.Prelude.{◌≡◌, IfErr, true, ◌==◌, ◌∷◌, ◌+◌, ◌<◌, ◌^◌, [], length};
 ghost use Rattle.std.specs.List.{list_any};
 ghost use Rattle.std.specs.Result.{MatchResult};
 ghost use Rattle.rdlpp_scan.specs.Reserved.{is_reserved};
-ghost use Rattle.rdlpp_table.specs.View.{macro_at};
 ghost use Rattle.rdlpp_meaning.specs.Opens.{open_body};
-ghost use Rattle.rdlpp_texts.specs.Digits.{IsFalling};
-ghost use Rattle.rdlpp_texts.specs.Fronts.{IsLook};
-ghost use Rattle.rdlpp_texts.specs.Opened.{moved_to, StaysOutermost};
-ghost use Rattle.rdlpp_texts.specs.Places.{place_bytes, source_text, texts_of, IsSource};
+ghost use Rattle.rdlpp_texts.specs.Opened.{moved_to};
+ghost use Rattle.rdlpp_texts.specs.Places.{texts_of};
 ghost use Rattle.rdlpp_texts.specs.Scopes.{front_scope, writer_ids, AreFurtherOut};
-ghost use Rattle.rdlpp_texts.specs.Steps.{AreSound, IsStep, IsUnlent, KeepsOpen, StaysRefused, IsPlacedStep, NamesWord};
-ghost use Rattle.rdlpp_texts.specs.Turns.{Turned};
-ghost use Rattle.rdlpp_texts.specs.Usages.{front_name, is_text_fault, unknown_kind, IsRefused, IsTextFault, IsUsed};
+ghost use Rattle.rdlpp_texts.specs.Steps.{IsUnlent};
+ghost use Rattle.rdlpp_texts.specs.Taking.{LooksAt, TakesStep};
+ghost use Rattle.rdlpp_texts.specs.Usages.{front_name, is_text_fault, unknown_kind, IsRefused, IsUsed};
 
 use crate::cursors::Cursors;
 use crate::front::{Front, Look};
@@ -34,25 +31,11 @@ impl Cursors {
         look: &Look,
         len: usize,
     ) -> CursorStep
-        requires some { 0 < length self.old.opens }
-        requires sound { AreSound (texts_of table.now.macros arguments.now) self.old.opens }
-        requires look { IsLook (texts_of table.now.macros arguments.now) self.old.opens look.now }
-        requires text { text.now ≡ source_text (texts_of table.now.macros arguments.now) look.now.source }
-        requires short { look.now.end < 2 ^ 64 }
+        requires look { LooksAt (texts_of table.now.macros arguments.now) self.old.opens look.now text.now }
         requires front { look.now.front ≡ Front.Usage len }
-        ensures step { IsStep self.old.line self.old.depth (texts_of table.now.macros arguments.now) self.old.opens result self.new.opens }
-        ensures sound { AreSound (texts_of table.now.macros arguments.now) self.new.opens }
-        ensures kept { (self.new.line ≡ self.old.line) × (self.new.depth ≡ self.old.depth) }
-        ensures digits { IsFalling self.old.opens result self.new.opens }
-        ensures refused { StaysRefused self.old result self.new }
-        ensures placed { IsPlacedStep (texts_of table.now.macros arguments.now) result }
-        ensures lends { KeepsOpen result self.new.opens }
+        ensures step { TakesStep (texts_of table.now.macros arguments.now) self.old result self.new }
         ensures open { 0 < length self.new.opens }
-        ensures outer { StaysOutermost self.old.opens self.new.opens }
-        ensures turned { Turned (texts_of table.now.macros arguments.now) self.old.opens self.new.opens }
         ensures unlent { IsUnlent result }
-        ensures fault { IsTextFault result }
-        ensures word { NamesWord (texts_of table.now.macros arguments.now) result }
     {
         let _macros = table.len();
         let id = match self.used_macro(table, arguments, text, look, len) {
@@ -81,11 +64,7 @@ impl Cursors {
         look: &Look,
         len: usize,
     ) -> Result<MacroId, FaultKind>
-        requires some { 0 < length self.old.opens }
-        requires sound { AreSound (texts_of table.now.macros arguments.now) self.old.opens }
-        requires look { IsLook (texts_of table.now.macros arguments.now) self.old.opens look.now }
-        requires text { text.now ≡ source_text (texts_of table.now.macros arguments.now) look.now.source }
-        requires short { look.now.end < 2 ^ 64 }
+        requires look { LooksAt (texts_of table.now.macros arguments.now) self.old.opens look.now text.now }
         requires front { look.now.front ≡ Front.Usage len }
         ensures same { self.new ≡ self.old }
         ensures fault { IfErr result (λ kind. is_text_fault kind ≡ true) }

@@ -1,12 +1,10 @@
-use Rattle.std.proofs.Common.{◌≡◌, true, false, length, refl, sym, ◌∙◌, arith}
+use Rattle.std.proofs.Common.{◌≡◌, true, false, length, sym, ◌∙◌, arith}
 use Rattle.std.specs.Prelude.{nat_le}
 use Rattle.std.proofs.lemmas.Bool.{true≢false, le-leb, lt-leb}
 use Rattle.rdlpp_texts.specs.Places.{texts_of}
-use Rattle.rdlpp_texts.specs.Turns.{Closed, Stays}
 use Rattle.rdlpp_texts.proofs.Passing.{pass-bare}
-use Rattle.rdlpp_texts.proofs.Taking.{ended-spent, idle-closed, idle-formal, idle-last, idle-usage, taken-by, unlent-wordless}
-use Rattle.rdlpp_texts.proofs.Usages.{fault-bare, placed-wordless}
-use Rattle.rdlpp_texts.proofs.Words.{word-none}
+use Rattle.rdlpp_texts.proofs.Taking.{ended-spent, idle-closed, idle-formal, idle-last, idle-usage, takes-wordless}
+use Rattle.rdlpp_texts.proofs.Usages.{fault-bare}
 use Rattle.rdlpp_texts.proofs.cursors.Cursors.open_front.Goals as goal
 use Rattle.rdlpp_texts.proofs.cursors.Cursors.open_front.Goals.{then-lent+else-len-le1, else-lent}
 
@@ -33,15 +31,4 @@ pub returns-in-Usage-clause-idle : goal.returns-in-Usage-clause-idle
 returns-in-Usage-clause-idle c hit = absurd (true≢false (sym hit ∙ idle-usage _ _ _ _ c.in-Usage.is))
 
 pub returns-in-Bare-clause-taken : goal.returns-in-Bare-clause-taken
-returns-in-Bare-clause-taken c miss =
-    taken-by _ _ _ _ (pass-bare (texts_of c.args.table.now.macros c.args.arguments.now) c.args.self.now c.args.look.now c.wordless.result c.requires.sound c.requires.look c.in-Bare.is c.wordless.ensures)
-    (placed-wordless _ _ _ c.wordless.ensures) (unlent-wordless _ c.wordless.ensures) (fault-bare _ c.wordless.ensures) (word-none _ _ _ c.wordless.ensures)
-
-pub returns-in-Ended-clause-turned : goal.returns-in-Ended-clause-turned
-returns-in-Ended-clause-turned c = Stays refl
-
-pub returns-in-Ended-2-clause-turned : goal.returns-in-Ended-2-clause-turned
-returns-in-Ended-2-clause-turned c = Closed (ended-spent _ _ _ c.requires.sound c.requires.look c.in-Ended-2.is) c.close_spent.ensures.closes
-
-pub returns-in-Bare-clause-turned : goal.returns-in-Bare-clause-turned
-returns-in-Bare-clause-turned c = Stays refl
+returns-in-Bare-clause-taken c miss = takes-wordless _ _ _ _ _ (pass-bare (texts_of c.args.table.now.macros c.args.arguments.now) c.args.self.now c.args.look.now c.requires.sound c.requires.look c.in-Bare.is) c.wordless.ensures fault-bare
