@@ -20,14 +20,11 @@ use Rattle.rdlpp_texts.specs.declared.step.CursorFault.{CursorFault}
 use Rattle.rdlpp_texts.specs.declared.step.CursorStep.{CursorStep}
 use Rattle.rdlpp_texts.specs.declared.step.CursorStep.TheVariants.{Lends, Silent, Refused}
 use Rattle.rdlpp_texts.proofs.ShortTexts.{digits-count, digits-short}
-use Rattle.rdlpp_usages.specs.Usages.{ExpansionView, IsRoomy, StaysAt, StaysLent, StaysOpen, texts_left}
+use Rattle.rdlpp_usages.specs.Usages.{ExpansionView, IsRoomy, StaysAt, StaysLent, StaysOpen, TakesUsageStep, texts_left}
 use Rattle.rdlpp_state.specs.Calls.{SourcesCalled}
 use Rattle.rdlpp_state.specs.Engine.{AreOpenTexts, EngineView, IsSoundEngine}
 use Rattle.rdlpp_state.specs.Held.{IsBounded}
 use Rattle.rdlpp_state.specs.Standing.{AtCursor, InTexts, Nowhere}
-use Rattle.rdlpp_texts.specs.Fronts.{IsFrontPlace, StandsAt}
-use Rattle.rdlpp_texts.specs.Turns.{TurnsOver}
-use Rattle.rdlpp_texts.specs.Opened.{StaysOutermost}
 use Rattle.rdlpp_state.proofs.GoingOn.{own_failed, own_by}
 use Rattle.rdlpp_state.proofs.Stores.{KeepsStores, keeps_refused, keeps_texts}
 use Rattle.rdlpp_state.specs.Marks.{lends_usage}
@@ -100,37 +97,34 @@ pub record HoldsTexts {S R : Type 0} (e : EngineView S R) (x : ExpansionView) : 
   pub texts : AreOpenTexts e.limits e.phase e.table.macros e.expansion
   pub room : IsRoomy e.expansion
   pub now_room : IsRoomy x
-  pub now_sound : AreSound (texts_of e.table.macros x.arguments) x.opens
-  pub stays : StaysOpen e.expansion x
-  pub outer : StaysOutermost e.expansion.opens x.opens
-  pub lets_go : x.opens ≡ [] → x.arguments ≡ []
 
 module _ {S R : Type 0} (g : Ghosts S R) (old : EngineView S R) (x : ExpansionView) (unowed : IsUnowed old) (holds : HoldsTexts old x) where
   -- what remains of the text
-  text_goes : (bytes : List ℕ)
+  text_goes : (bytes : List ℕ) → StaysOpen old.expansion x
       → open_left (run_rules g old) (state_of old) old.expansion.line old.expansion.depth (held_texts old) old.expansion.opens
       ≡ and_then (gives bytes) (open_left (run_rules g old) (state_of old) old.expansion.line old.expansion.depth (held_texts old) x.opens)
       → text_of g old ≡ behind_bytes bytes (text_of g (record old { expansion = x }))
   unfolding text_of state_of
-  text_goes bytes goes =
+  text_goes bytes stays goes =
       let name = inner_name old.files.nest in
       let p = left_by g old old.table.macros old.conditions old.files.nest in
       unowed_behind name old.owed (goes_on (texts_left (run_rules g old) (state_of old) old.table.macros old.expansion) (λ after. p)) unowed.owed
-      ∙ (texts_go (run_rules g old) (state_of old) old.table.macros old.expansion x bytes p goes holds.stays
+      ∙ (texts_go (run_rules g old) (state_of old) old.table.macros old.expansion x bytes p goes stays
       ∙ ap (behind_bytes bytes) (sym (unowed_behind name old.owed (goes_on (texts_left (run_rules g old) (state_of old) old.table.macros x) (λ after. p)) unowed.owed)))
 
   -- the work left falls
-  work_texts : AreFalling (cursor_digits old.expansion.opens) (cursor_digits x.opens) → work_left (record old { expansion = x }) < work_left old
+  work_texts : StaysOpen old.expansion x → AreSound (texts_of old.table.macros x.arguments) x.opens → AreFalling (cursor_digits old.expansion.opens) (cursor_digits x.opens)
+      → work_left (record old { expansion = x }) < work_left old
   unfolding work_left
-  work_texts falls =
+  work_texts stays sound falls =
       let before = digits-count old.expansion.opens in
       let count = digits-count x.opens in
       let few = holds.room.few in
       let now_few = holds.now_room.few in
-      let depth = holds.stays.depth in
+      let depth = stays.depth in
       let depth_is = holds.texts.depth_is in
       let fits = holds.now_room.fits in
-      let most = holds.stays.most in
+      let most = stays.most in
       let most_is = holds.texts.most_is in
       let range = holds.sound.in_range.argument_bytes.1 in
       let bytes = holds.sound.in_range.definition_bytes.1 in
@@ -138,33 +132,30 @@ module _ {S R : Type 0} (g : Ghosts S R) (old : EngineView S R) (x : ExpansionVi
       let bytes_is = holds.sound.definition_bytes in
       cursors_fall old.limits.includes old.limits.depth (owed_pieces old.owed) (owed_pieces old.owed) (source_digits old.files.nest) (cursor_digits old.expansion.opens) (cursor_digits x.opens) falls
       (omega arith) (omega arith)
-      (digits-short 16777216 (2 ^ 31) (texts_of old.table.macros x.arguments) x.opens (record { definitions = omega arith; arguments = omega arith }) holds.now_sound.are_inside (omega arith))
+      (digits-short 16777216 (2 ^ 31) (texts_of old.table.macros x.arguments) x.opens (record { definitions = omega arith; arguments = omega arith }) sound.are_inside (omega arith))
       (unowed_few old.owed unowed.owed)
 
   -- bytes of a text are lent
-  pub texts_lend : (place : TextPlace) → (let after = record old { expansion = x; marks = lends_usage old.expansion.line old.marks } in IsBounded after) → IsStep old.expansion.line old.expansion.depth (held_texts old) old.expansion.opens (Lends place) x.opens
-      → IsFalling old.expansion.opens (Lends place) x.opens → StaysLent old.expansion (Lends place) x → IsFrontPlace old.expansion.opens place
-      → TurnsOver (held_texts old) old.expansion.opens (Lends place) x.opens
+  pub texts_lend : (place : TextPlace) → (let after = record old { expansion = x; marks = lends_usage old.expansion.line old.marks } in IsBounded after) → TakesUsageStep old.table.macros old.expansion (Lends place) x
       → (let after = record old { expansion = x; marks = lends_usage old.expansion.line old.marks } in Walks g old after (lent_answer after (Text place)))
   unfolding IsStep StepsTo IsFalling StaysLent state_of lends_usage text_of work_left
-  texts_lend place bounded step falls lends stands turns =
-      let goes = step (run_rules g old) (state_of old) (nest_macros old.limits old.table.macros old.conditions old.files.nest) in
+  texts_lend place bounded t =
+      let goes = t.step (run_rules g old) (state_of old) (nest_macros old.limits old.table.macros old.conditions old.files.nest) in
       let marks = lends_usage old.expansion.line old.marks in
       let after = record old { expansion = x; marks = marks } in
-      subst (λ (xs : List ℕ). Walks g old after (Ok (Some xs))) (ap (λ (a : List ℕ). place_bytes (texts_of old.table.macros a) place) (sym lends.1))
+      subst (λ (xs : List ℕ). Walks g old after (Ok (Some xs))) (ap (λ (a : List ℕ). place_bytes (texts_of old.table.macros a) place) (sym t.lends.1))
       (walks_lent g old after unowed.free unowed.open_ bounded (place_bytes (held_texts old) place) refl (refl, refl) (not_called g old.sources)
-      (λ t. text_goes (place_bytes (held_texts old) place) goes) (work_texts falls) (keeps_texts g old x marks unowed.free holds.stays holds.outer holds.lets_go)
-      (AtCursor place unowed.owed stands refl turns (usage_position old x unowed.free unowed.open_) refl))
+      (λ _. text_goes (place_bytes (held_texts old) place) t.stays goes) (work_texts t.stays t.sound t.digits) (keeps_texts g old x marks unowed.free t.stays t.outer t.lets_go)
+      (AtCursor place unowed.owed t.stands refl t.turns (usage_position old x unowed.free unowed.open_) refl))
 
   -- a text was opened or closed
-  pub texts_turn : IsBounded (record old { expansion = x }) → IsStep old.expansion.line old.expansion.depth (held_texts old) old.expansion.opens Silent x.opens
-      → IsFalling old.expansion.opens Silent x.opens → TurnsOver (held_texts old) old.expansion.opens Silent x.opens → Walks g old (record old { expansion = x }) (Ok (Some []))
+  pub texts_turn : IsBounded (record old { expansion = x }) → TakesUsageStep old.table.macros old.expansion Silent x → Walks g old (record old { expansion = x }) (Ok (Some []))
   unfolding IsStep StepsTo IsFalling state_of
-  texts_turn bounded step falls turns =
+  texts_turn bounded t =
       walks_lent g old (record old { expansion = x }) unowed.free unowed.open_ bounded [] refl (refl, refl) (not_called g old.sources)
-      (λ t. text_goes [] (step (run_rules g old) (state_of old) (nest_macros old.limits old.table.macros old.conditions old.files.nest)
-      ∙ sym (and_then-gives_nil (open_left (run_rules g old) (state_of old) old.expansion.line old.expansion.depth (held_texts old) x.opens)))) (work_texts falls)
-      (keeps_texts g old x old.marks unowed.free holds.stays holds.outer holds.lets_go) (Nowhere refl (InTexts unowed.owed refl step turns holds.now_sound))
+      (λ _. text_goes [] t.stays (t.step (run_rules g old) (state_of old) (nest_macros old.limits old.table.macros old.conditions old.files.nest)
+      ∙ sym (and_then-gives_nil (open_left (run_rules g old) (state_of old) old.expansion.line old.expansion.depth (held_texts old) x.opens)))) (work_texts t.stays t.sound t.digits)
+      (keeps_texts g old x old.marks unowed.free t.stays t.outer t.lets_go) (Nowhere refl (InTexts unowed.owed refl t.step t.turns t.sound))
 
 -- the open texts end with a fault, and nothing else changes
 pub texts_refuse : {S R : Type 0} (g : Ghosts S R) (old mid new : EngineView S R) (place : Place) (fault : CursorFault) → IsUnowed old → IsBounded new → mid ≡ old → place ≡ Kept
@@ -197,36 +188,25 @@ pub some_open : (opens : List Open) → (length opens == 0) ≡ false → 0 < le
 some_open [] e = cc e
 some_open (x ∷ below) e = omega arith
 
--- what a step of the open texts says
-pub record TakesTexts {S R : Type 0} (old : EngineView S R) (x : ExpansionView) (result : CursorStep) : Type 0 where
-  pub step : IsStep old.expansion.line old.expansion.depth (held_texts old) old.expansion.opens result x.opens
-  pub falls : IsFalling old.expansion.opens result x.opens
-  pub lends : StaysLent old.expansion result x
-  pub refused : StaysAt old.expansion result x
-  pub stands : StandsAt old.expansion.opens result
-  pub turns : TurnsOver (held_texts old) old.expansion.opens result x.opens
-
-module _ {S R : Type 0} (g : Ghosts S R) (old : EngineView S R) (x : ExpansionView) (result : CursorStep) (unowed : IsUnowed old) (takes : TakesTexts old x result) where
+module _ {S R : Type 0} (g : Ghosts S R) (old : EngineView S R) (x : ExpansionView) (result : CursorStep) (unowed : IsUnowed old) (takes : TakesUsageStep old.table.macros old.expansion result x) where
   -- a step that lends bytes
   pub lend_step : (new : EngineView S R) (place : TextPlace) → HoldsTexts old x → result ≡ Lends place → new ≡ record old { expansion = x; marks = lends_usage old.expansion.line old.marks } → IsBounded new → Walks g old new (lent_answer new (Text place))
   lend_step new place holds is becomes bounded =
-      let t : TakesTexts old x (Lends place) = subst (λ (r : CursorStep). TakesTexts old x r) is takes in
       subst (λ (e : EngineView S R). Walks g old e (lent_answer e (Text place))) (sym becomes)
-      (texts_lend g old x unowed holds place (subst (λ (e : EngineView S R). IsBounded e) becomes bounded) t.step t.falls t.lends t.stands t.turns)
+      (texts_lend g old x unowed holds place (subst (λ (e : EngineView S R). IsBounded e) becomes bounded) (subst (λ (r : CursorStep). TakesUsageStep old.table.macros old.expansion r x) is takes))
 
   -- one that lends none
   pub turn_step : (new : EngineView S R) → HoldsTexts old x → result ≡ Silent → new ≡ record old { expansion = x } → IsBounded new → Walks g old new (Ok (Some []))
   turn_step new holds is becomes bounded =
-      let t : TakesTexts old x Silent = subst (λ (r : CursorStep). TakesTexts old x r) is takes in
       subst (λ (e : EngineView S R). Walks g old e (Ok (Some []))) (sym becomes)
-      (texts_turn g old x unowed holds (subst (λ (e : EngineView S R). IsBounded e) becomes bounded) t.step t.falls t.turns)
+      (texts_turn g old x unowed holds (subst (λ (e : EngineView S R). IsBounded e) becomes bounded) (subst (λ (r : CursorStep). TakesUsageStep old.table.macros old.expansion r x) is takes))
 
   -- one that is refused
   pub refuse_step : (mid new : EngineView S R) (place : Place) (fault : CursorFault) → result ≡ Refused fault → mid ≡ record old { expansion = x } → IsBounded new → place ≡ Kept
       → new ≡ record mid { kept = Some (fault_at fault.kind mid.expansion.line (place_bytes (held_texts mid) fault.word) (state_of mid)) } → is_text_fault fault.kind ≡ true → Walks g old new (lent_answer new place)
   unfolding StaysAt
   refuse_step mid new place fault is becomes bounded at kept own =
-      let t : TakesTexts old x (Refused fault) = subst (λ (r : CursorStep). TakesTexts old x r) is takes in
+      let t : TakesUsageStep old.table.macros old.expansion (Refused fault) x = subst (λ (r : CursorStep). TakesUsageStep old.table.macros old.expansion r x) is takes in
       let stays : x ≡ old.expansion = t.refused in
       let same : mid ≡ old = becomes ∙ ap (λ (y : ExpansionView). record old { expansion = y }) stays in
       texts_refuse g old mid new place fault unowed bounded same at kept own

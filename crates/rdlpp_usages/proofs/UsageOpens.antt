@@ -1,6 +1,6 @@
 -- A call that is read and bound, as a usage in a source.
 use Rattle.rdlpp_meaning.specs.Expansion.{Refuses}
-use Rattle.std.proofs.Common.{◌≡◌, ℕ, zero, suc, ◌<◌, Bool, true, false, List, [], ◌∷◌, map, length, None, Some, refl, sym, ap, ◌∙◌, subst, arith}
+use Rattle.std.proofs.Common.{◌≡◌, inl, inr, ℕ, zero, suc, ◌<◌, Bool, true, false, List, [], ◌∷◌, map, length, None, Some, refl, sym, ap, ◌∙◌, subst, arith}
 use Rattle.std.proofs.lemmas.Bool.{eqb-true, false≢true, true≢false}
 use Rattle.std.specs.Prelude.{◌==◌, ◌↔◌, IsTrue}
 use Rattle.rdlpp_scan.specs.SourceTokens.{SourceToken}
@@ -13,7 +13,7 @@ use Rattle.rdlpp_texts.proofs.BoundSourceCalls.{source_bound, source_breaks, sou
 use Rattle.rdlpp_meaning.specs.Actuals.{token_role, kept}
 use Rattle.rdlpp_meaning.specs.Meaning.{Passage, Progress, goes_on, leaves}
 use Rattle.rdlpp_meaning.specs.Opened.{Waiting}
-use Rattle.rdlpp_meaning.specs.Opens.{Open, Texts, open_body}
+use Rattle.rdlpp_meaning.specs.Opens.{Open, open_body}
 use Rattle.rdlpp_meaning.specs.OpenItems.{open_left}
 use Rattle.rdlpp_meaning.specs.Resumed.{leading}
 use Rattle.rdlpp_meaning.specs.State.{Rules, State, fault_at}
@@ -29,12 +29,13 @@ use Rattle.rdlpp_usages.specs.Store.{StoreView}
 use Rattle.rdlpp_usages.specs.declared.reading.CallRead.TheVariants as call
 use Rattle.rdlpp_texts.specs.Opened.{CursorsView}
 use Rattle.rdlpp_texts.specs.Places.{texts_of}
-use Rattle.rdlpp_texts.specs.Steps.{IsPlacedStep, KeepsOpen, NamesWord, StaysRefused}
+use Rattle.rdlpp_texts.specs.Steps.{AreSound, IsPlacedStep, KeepsOpen, StaysRefused}
+use Rattle.rdlpp_texts.specs.Taking.{TakesStep}
 use Rattle.rdlpp_texts.specs.declared.step.CursorStep.{CursorStep}
 use Rattle.rdlpp_texts.specs.declared.step.CursorStep.TheVariants.{Lends, Silent, Refused as Fault}
 use Rattle.rdlpp_front.specs.Fronts.{IsUsage, usage_name}
 use Rattle.rdlpp_front.specs.SourceLeft.{HoldsFront}
-use Rattle.rdlpp_usages.specs.Usages.{is_usage_fault, BindsKept, ExpansionView, IsRun, RefusesCall, StaysAt, StaysLent, TellsCallUsage, TellsUsage, inner_left, texts_left}
+use Rattle.rdlpp_usages.specs.Usages.{is_usage_fault, BindsKept, ExpansionView, IsRun, RefusesCall, StaysAt, StaysLent, TakesUsageStep, TellsCallUsage, TellsUsage, inner_left, texts_left}
 use Rattle.rdlpp_usages.specs.declared.expansion.Opening.TheVariants.{Opened, Refused, Broken}
 use Rattle.rdlpp_usages.proofs.CallLeft.{IsBehind, body_opens, call_opens, call_refused}
 use Rattle.rdlpp_meaning.specs.CallScan.{call_of}
@@ -160,40 +161,70 @@ module _ {R : Type 0} (rules : Rules) (unread : R → List ℕ) (ws : List Waiti
 abbrev pub seen_of : CursorsView → StoreView → ExpansionView
 seen_of c arguments = record { opens = c.opens; arguments = arguments.bytes; line = c.line; depth = c.depth; most = arguments.most }
 
--- behind a fault as many texts are open as before, so that there are some
-pub stays_empty : (step : CursorStep) (old new : ExpansionView) (c now : CursorsView) → StaysRefused c step now → c.opens ≡ old.opens → 0 < length old.opens
-    → (length now.opens == 0) ≡ true → StaysAt old step new
+-- nothing has changed behind a fault, where the kept bytes stay
+stays_open : (step : CursorStep) (c now : CursorsView) (arguments : StoreView) → StaysRefused c step now → StaysAt (seen_of c arguments) step (seen_of now arguments)
 unfolding StaysRefused StaysAt
-stays_empty (Lends place) old new c now stays same some empty = tt
-stays_empty Silent old new c now stays same some empty = tt
-stays_empty (Fault fault) old new c now stays same some empty =
-    let count : length now.opens ≡ length old.opens = ap (λ (v : CursorsView). length v.opens) stays ∙ ap length same in
-    let none = eqb-true (length now.opens) 0 empty in
-    absurd (omega arith)
+stays_open (Lends place) c now arguments stays = tt
+stays_open Silent c now arguments stays = tt
+stays_open (Fault fault) c now arguments stays = ap (λ (v : CursorsView). seen_of v arguments) stays
 
--- and nothing has changed
-pub stays_open : (step : CursorStep) (old new : ExpansionView) (c now : CursorsView) → StaysRefused c step now → (arguments : StoreView) → seen_of c arguments ≡ old
-    → new ≡ seen_of now arguments → StaysAt old step new
-unfolding StaysRefused StaysAt
-stays_open (Lends place) old new c now stays arguments is becomes = tt
-stays_open Silent old new c now stays arguments is becomes = tt
-stays_open (Fault fault) old new c now stays arguments is becomes = becomes ∙ ap (λ (v : CursorsView). seen_of v arguments) stays ∙ is
-
--- bytes that are lent leave a text open, so that behind the last one none are
-pub lent_empty : (step : CursorStep) (old new : ExpansionView) (now : CursorsView) → KeepsOpen step now.opens → (length now.opens == 0) ≡ true → StaysLent old step new
+-- and a text stays open behind bytes that are lent
+lent_open : (step : CursorStep) (c now : CursorsView) (arguments : StoreView) → KeepsOpen step now.opens → StaysLent (seen_of c arguments) step (seen_of now arguments)
 unfolding StaysLent
-lent_empty (Lends place) old new now some empty =
-    let none = eqb-true (length now.opens) 0 empty in
-    absurd (omega (arith, some, none))
-lent_empty Silent old new now some empty = tt
-lent_empty (Fault fault) old new now some empty = tt
+lent_open (Lends place) c now arguments some = (some, refl)
+lent_open Silent c now arguments some = tt
+lent_open (Fault fault) c now arguments some = tt
 
--- where one is open, the kept bytes stay
-pub lent_open : (step : CursorStep) (old new : ExpansionView) (now : CursorsView) → KeepsOpen step now.opens → new.opens ≡ now.opens → new.arguments ≡ old.arguments → StaysLent old step new
-unfolding StaysLent
-lent_open (Lends place) old new now some same kept = (subst (λ (xs : List Open). 0 < length xs) (sym same) some, kept)
-lent_open Silent old new now some same kept = tt
-lent_open (Fault fault) old new now some same kept = tt
+-- a step behind which the kept bytes stay
+pub step_kept : (macros : List Macro) (old : ExpansionView) (c now : CursorsView) (arguments : StoreView) (bytes : List ℕ) (step : CursorStep) → seen_of c arguments ≡ old → bytes ≡ arguments.bytes
+    → TakesStep (texts_of macros bytes) c step now → (now.opens ≡ [] → arguments.bytes ≡ []) → TakesUsageStep macros old step (seen_of now arguments)
+step_kept macros old c now arguments bytes step is same takes lets_go =
+    let t = subst (λ (bs : List ℕ). TakesStep (texts_of macros bs) c step now) same takes in
+    subst (λ (e : ExpansionView). TakesUsageStep macros e step (seen_of now arguments)) is (record {
+      step = t.step;
+      sound = t.sound;
+      stays = record { line = t.kept.0; depth = t.kept.1; most = refl; arguments = inl refl };
+      digits = t.digits;
+      refused = stays_open step c now arguments t.refused;
+      placed = t.placed;
+      lends = lent_open step c now arguments t.lends;
+      fault = t.fault;
+      word = t.word;
+      lets_go = lets_go;
+      stands = t.stands;
+      outer = t.outer;
+      turns = t.turns;
+    })
+
+-- one that closes the last text, behind which nothing is kept
+pub step_last : (macros : List Macro) (old : ExpansionView) (c now : CursorsView) (arguments rest : StoreView) (bytes : List ℕ) (step : CursorStep) → seen_of c arguments ≡ old → bytes ≡ arguments.bytes
+    → TakesStep (texts_of macros bytes) c step now → step ≡ Silent → (length now.opens == 0) ≡ true → rest ≡ record arguments { bytes = [] }
+    → TakesUsageStep macros old step (seen_of now rest)
+unfolding StaysAt StaysLent IsPlacedStep
+step_last macros old c now arguments rest bytes step is same takes silent empty gone =
+    let none = none_open now.opens empty in
+    let t = subst (λ (bs : List ℕ). TakesStep (texts_of macros bs) c Silent now) same (subst (λ (r : CursorStep). TakesStep (texts_of macros bytes) c r now) silent takes) in
+    subst (λ (r : CursorStep). TakesUsageStep macros old r (seen_of now rest)) (sym silent)
+    (subst (λ (a : StoreView). TakesUsageStep macros old Silent (seen_of now a)) (sym gone)
+    (subst (λ (e : ExpansionView). TakesUsageStep macros e Silent (seen_of now (record arguments { bytes = [] }))) is (record {
+      step = t.step;
+      sound = subst (λ (os : List Open). AreSound (texts_of macros []) os) (sym none) (record { are_open = tt; are_inside = tt; are_kept = tt });
+      stays = record { line = t.kept.0; depth = t.kept.1; most = refl; arguments = inr (none, refl) };
+      digits = t.digits;
+      refused = tt;
+      placed = tt;
+      lends = tt;
+      fault = tt;
+      word = tt;
+      lets_go = λ _. refl;
+      stands = tt;
+      outer = t.outer;
+      turns = t.turns;
+    })))
+  where
+    none_open : (opens : List Open) → (length opens == 0) ≡ true → opens ≡ []
+    none_open [] e = refl
+    none_open (x ∷ below) e = absurd (let n = eqb-true (length (x ∷ below)) 0 e in omega (arith, n))
 
 -- a step that isn't said to be silent isn't
 pub not-silent : (step : CursorStep) (b : Bool) → (IsTrue b ↔ (step ≡ Silent)) → b ≡ false → step ≡ Silent → ⊥
@@ -209,30 +240,6 @@ still_open Silent old c now bytes other lends stays same some none = absurd (oth
 still_open (Fault fault) old c now bytes other lends stays same some none =
     let count : length now.opens ≡ length old = ap (λ (v : CursorsView). length v.opens) stays ∙ ap length same in
     let size : length now.opens ≡ 0 = ap length none in absurd (omega (arith, count, size, some))
-
--- neither bytes nor a fault come with the last text that is closed, so that nothing has to lie among the kept bytes
-pub placed_empty : (step : CursorStep) (texts : Texts) (old : List Open) (c now : CursorsView) → KeepsOpen step now.opens → StaysRefused c step now → c.opens ≡ old → 0 < length old
-    → (length now.opens == 0) ≡ true → IsPlacedStep texts step
-unfolding IsPlacedStep StaysRefused
-placed_empty (Lends place) texts old c now lends stays same some empty =
-    let none = eqb-true (length now.opens) 0 empty in
-    absurd (omega (arith, lends, none))
-placed_empty Silent texts old c now lends stays same some empty = tt
-placed_empty (Fault fault) texts old c now lends stays same some empty =
-    let count : length now.opens ≡ length old = ap (λ (v : CursorsView). length v.opens) stays ∙ ap length same in
-    let none = eqb-true (length now.opens) 0 empty in
-    absurd (omega (arith, count, none, some))
-
--- nor has a fault a word then
-pub named_empty : (step : CursorStep) (texts : Texts) (old : List Open) (c now : CursorsView) → KeepsOpen step now.opens → StaysRefused c step now → c.opens ≡ old → 0 < length old
-    → (length now.opens == 0) ≡ true → NamesWord texts step
-unfolding StaysRefused
-named_empty (Lends place) texts old c now lends stays same some empty = tt
-named_empty Silent texts old c now lends stays same some empty = tt
-named_empty (Fault fault) texts old c now lends stays same some empty =
-    let count : length now.opens ≡ length old = ap (λ (v : CursorsView). length v.opens) stays ∙ ap length same in
-    let none = eqb-true (length now.opens) 0 empty in
-    absurd (omega (arith, count, none, some))
 
 -- a fault of reading a call is one of its usage
 pub read_usage : (kind : FaultKind) → is_read_fault kind ≡ true → is_usage_fault kind ≡ true

@@ -26,8 +26,13 @@ use Rattle.rdlpp_read.specs.Files.{inner_buffer}
 use Rattle.rdlpp_read.specs.declared.files.File.{File}
 use Rattle.rdlpp_usages.specs.CallReads.{with_used, ReadsUpTo}
 use Rattle.rdlpp_usages.specs.Reads.{reading}
-use Rattle.rdlpp_texts.specs.Opened.{CursorsView, bound_by}
+use Rattle.rdlpp_texts.specs.Digits.{IsFalling}
+use Rattle.rdlpp_texts.specs.Fronts.{StandsAt}
+use Rattle.rdlpp_texts.specs.Opened.{CursorsView, bound_by, StaysOutermost}
 use Rattle.rdlpp_texts.specs.Places.{texts_of}
+use Rattle.rdlpp_texts.specs.Steps.{AreSound, IsPlacedStep, IsStep, NamesWord}
+use Rattle.rdlpp_texts.specs.Turns.{TurnsOver}
+use Rattle.rdlpp_texts.specs.Usages.{IsTextFault}
 use Rattle.rdlpp_texts.specs.declared.step.CursorStep.{CursorStep}
 use Rattle.rdlpp_texts.specs.declared.step.CursorStep.TheVariants.{Lends, Silent, Refused as Fault}
 use Rattle.rdlpp_front.specs.SourceLeft.{source_left}
@@ -198,6 +203,22 @@ unfoldable pub StaysLent : ExpansionView → CursorStep → ExpansionView → Ty
 StaysLent old (Lends place) new = (0 < length new.opens) × (new.arguments ≡ old.arguments)
 StaysLent old Silent new = Unit
 StaysLent old (Fault fault) new = Unit
+
+-- a step over open texts, as it is of `Cursors`; and behind the last one that is closed nothing is kept of the call
+pub record TakesUsageStep (macros : List Macro) (old : ExpansionView) (result : CursorStep) (new : ExpansionView) : Type 0 where
+  pub step : IsStep old.line old.depth (texts_of macros old.arguments) old.opens result new.opens
+  pub sound : AreSound (texts_of macros new.arguments) new.opens
+  pub stays : StaysOpen old new
+  pub digits : IsFalling old.opens result new.opens
+  pub refused : StaysAt old result new
+  pub placed : IsPlacedStep (texts_of macros new.arguments) result
+  pub lends : StaysLent old result new
+  pub fault : IsTextFault result
+  pub word : NamesWord (texts_of macros new.arguments) result
+  pub lets_go : new.opens ≡ [] → new.arguments ≡ []
+  pub stands : StandsAt old.opens result
+  pub outer : StaysOutermost old.opens new.opens
+  pub turns : TurnsOver (texts_of macros old.arguments) old.opens result new.opens
 
 -- whether a usage in a source isn't opened for a fault: one of its call, too many kept bytes, or a broken token (source: this
 -- project's profile)

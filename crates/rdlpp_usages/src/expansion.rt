@@ -9,15 +9,11 @@ ghost use Rattle.rdlpp_meaning.specs.State.{Rules, State};
 ghost use Rattle.rdlpp_read.specs.Buffer.{held_of};
 ghost use Rattle.rdlpp_read.specs.Calls.{SourcesRead};
 ghost use Rattle.rdlpp_read.specs.Files.{consumed_file, inner_buffer, with_inner};
-ghost use Rattle.rdlpp_texts.specs.Digits.{IsFalling};
-ghost use Rattle.rdlpp_texts.specs.Fronts.{StandsAt};
-ghost use Rattle.rdlpp_texts.specs.Opened.{bound_by, usage_id, StaysOutermost};
+ghost use Rattle.rdlpp_texts.specs.Opened.{bound_by, usage_id};
 ghost use Rattle.rdlpp_texts.specs.Places.{texts_of};
-ghost use Rattle.rdlpp_texts.specs.Steps.{AreSound, IsPlacedStep, IsStep, NamesWord};
-ghost use Rattle.rdlpp_texts.specs.Turns.{TurnsOver};
-ghost use Rattle.rdlpp_texts.specs.Usages.{IsTextFault};
+ghost use Rattle.rdlpp_texts.specs.Steps.{AreSound};
 ghost use Rattle.rdlpp_front.specs.Fronts.{IsUsage, usage_name};
-ghost use Rattle.rdlpp_usages.specs.Usages.{BindsKept, IsOpenAlone, IsRun, KeepsOpening, KeepsUsage, StaysAt, StaysOpen, TellsCallUsage, TellsUsage, UsesCall, UsesSource, IsRoomy, is_failed_opening, is_opened, StaysLent, IsUsageFault, IsOwnLine};
+ghost use Rattle.rdlpp_usages.specs.Usages.{BindsKept, IsOpenAlone, IsRun, KeepsOpening, KeepsUsage, TakesUsageStep, TellsCallUsage, TellsUsage, UsesCall, UsesSource, IsRoomy, is_failed_opening, is_opened, IsUsageFault, IsOwnLine};
 
 use crate::{ArgumentStore, CallRead, read_call};
 use rdlpp_meaning::FaultKind;
@@ -143,19 +139,7 @@ impl Expansion {
     pub fn step(&mut self, table: &Table) -> CursorStep
         requires some { 0 < length self.old.opens }
         requires sound { AreSound (texts_of table.now.macros self.old.arguments) self.old.opens }
-        ensures step { IsStep self.old.line self.old.depth (texts_of table.now.macros self.old.arguments) self.old.opens result self.new.opens }
-        ensures sound { AreSound (texts_of table.now.macros self.new.arguments) self.new.opens }
-        ensures stays { StaysOpen self.old self.new }
-        ensures digits { IsFalling self.old.opens result self.new.opens }
-        ensures refused { StaysAt self.old result self.new }
-        ensures placed { IsPlacedStep (texts_of table.now.macros self.new.arguments) result }
-        ensures lends { StaysLent self.old result self.new }
-        ensures fault { IsTextFault result }
-        ensures word { NamesWord (texts_of table.now.macros self.new.arguments) result }
-        ensures lets_go { self.new.opens ≡ [] → self.new.arguments ≡ [] }
-        ensures stands { StandsAt self.old.opens result }
-        ensures outer { StaysOutermost self.old.opens self.new.opens }
-        ensures turns { TurnsOver (texts_of table.now.macros self.old.arguments) self.old.opens result self.new.opens }
+        ensures { TakesUsageStep table.now.macros self.old result self.new }
     {
         let step = self.texts.step(table, self.arguments.bytes());
         if !is_silent(&step) {

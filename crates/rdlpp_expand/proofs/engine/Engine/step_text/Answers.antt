@@ -1,13 +1,10 @@
 use Rattle.std.proofs.Common.{ap, refl, subst, ◌∙◌, arith}
 use Rattle.std.specs.Prelude.{is_some}
-use Rattle.rdlpp_texts.specs.Opened.{StaysOutermost}
-use Rattle.rdlpp_texts.specs.Places.{texts_of}
-use Rattle.rdlpp_texts.specs.Steps.{AreSound}
-use Rattle.rdlpp_usages.specs.Usages.{StaysLent, StaysOpen}
+use Rattle.rdlpp_usages.specs.Usages.{StaysLent, StaysOpen, TakesUsageStep}
 use Rattle.rdlpp_state.specs.declared.place.Place.TheVariants as place
 use Rattle.rdlpp_expand.proofs.TextFacts.{lent-texts, unowed-texts}
 use Rattle.rdlpp_state.proofs.PlaceFacts.{marked_usage}
-use Rattle.rdlpp_state.proofs.TextSteps.{HoldsTexts, TakesTexts, fault_text, lend_step, opening, placed_lent, placed_word, refuse_step, turn_step}
+use Rattle.rdlpp_state.proofs.TextSteps.{HoldsTexts, fault_text, lend_step, opening, placed_lent, placed_word, refuse_step, turn_step}
 use Rattle.rdlpp_expand.proofs.engine.Engine.step_text.Goals as goal
 
 pub refuse_text-kept-requires-clause-placed : goal.refuse_text-kept-requires-clause-placed
@@ -18,48 +15,24 @@ returns-in-Lends-clause-place g c = (placed_lent _ _ c.in-Lends.place c.in-Lends
 
 pub returns-in-Lends-clause-walks : goal.returns-in-Lends-clause-walks
 returns-in-Lends-clause-walks g c = (λ bounded.
-    let e = c.step-step.ensures in
     let x = c.step-step.new.self in
-    let takes : TakesTexts c.args.self.now x c.step-step.result =
-    subst (λ v. TakesTexts v x c.step-step.result) c.self.view_is (record { step = e.step; falls = e.digits; lends = e.lends; refused = e.refused; stands = e.stands; turns = e.turns }) in
-    let holds : HoldsTexts c.args.self.now x = record {
-      sound = c.facts.ensures.sound;
-      texts = c.facts.ensures.texts;
-      room = c.facts.ensures.room;
-      now_room = c.facts-2.ensures;
-      now_sound = subst (λ v. AreSound (texts_of v.table.macros x.arguments) x.opens) c.self.view_is e.sound;
-      stays = subst (λ v. StaysOpen v.expansion x) c.self.view_is e.stays;
-      outer = subst (λ v. StaysOutermost v.expansion.opens x.opens) c.self.view_is e.outer;
-      lets_go = e.lets_go;
-    } in
-    lend_step g.S.Sources c.args.self.now x c.step-step.result c.requires.0 takes _ c.in-Lends.place holds c.in-Lends.is (marked_usage _ c.args.self.now x c.lend_usage.new.self c.line-line.result c.self.view_is c.lend_usage.ensures (c.line-line.ensures ∙ holds.stays.line)) bounded)
+    let takes = subst (λ v. TakesUsageStep v.table.macros v.expansion c.step-step.result x) c.self.view_is c.step-step.ensures in
+    let holds : HoldsTexts c.args.self.now x = record { sound = c.facts.ensures.sound; texts = c.facts.ensures.texts; room = c.facts.ensures.room; now_room = c.facts-2.ensures } in
+    lend_step g.S.Sources c.args.self.now x c.step-step.result c.requires.0 takes _ c.in-Lends.place holds c.in-Lends.is (marked_usage _ c.args.self.now x c.lend_usage.new.self c.line-line.result c.self.view_is c.lend_usage.ensures (c.line-line.ensures ∙ takes.stays.line)) bounded)
 
 pub returns-in-Silent-clause-walks : goal.returns-in-Silent-clause-walks
 returns-in-Silent-clause-walks g c = (λ bounded.
-    let e = c.step-step.ensures in
     let x = c.step-step.new.self in
-    let takes : TakesTexts c.args.self.now x c.step-step.result =
-    subst (λ v. TakesTexts v x c.step-step.result) c.self.view_is (record { step = e.step; falls = e.digits; lends = e.lends; refused = e.refused; stands = e.stands; turns = e.turns }) in
-    let holds : HoldsTexts c.args.self.now x = record {
-      sound = c.facts.ensures.sound;
-      texts = c.facts.ensures.texts;
-      room = c.facts.ensures.room;
-      now_room = c.facts-2.ensures;
-      now_sound = subst (λ v. AreSound (texts_of v.table.macros x.arguments) x.opens) c.self.view_is e.sound;
-      stays = subst (λ v. StaysOpen v.expansion x) c.self.view_is e.stays;
-      outer = subst (λ v. StaysOutermost v.expansion.opens x.opens) c.self.view_is e.outer;
-      lets_go = e.lets_go;
-    } in
+    let takes = subst (λ v. TakesUsageStep v.table.macros v.expansion c.step-step.result x) c.self.view_is c.step-step.ensures in
+    let holds : HoldsTexts c.args.self.now x = record { sound = c.facts.ensures.sound; texts = c.facts.ensures.texts; room = c.facts.ensures.room; now_room = c.facts-2.ensures } in
     turn_step g.S.Sources c.args.self.now x c.step-step.result c.requires.0 takes _ holds c.in-Silent.is (opening _ c.args.self.now x c.self.view_is) bounded)
 
 pub returns-in-Refused-clause-walks : goal.returns-in-Refused-clause-walks
 returns-in-Refused-clause-walks g c = λ bounded.
-    let e = c.step-step.ensures in
     let x = c.step-step.new.self in
-    let takes : TakesTexts c.args.self.now x c.step-step.result =
-    subst (λ v. TakesTexts v x c.step-step.result) c.self.view_is (record { step = e.step; falls = e.digits; lends = e.lends; refused = e.refused; stands = e.stands; turns = e.turns }) in
+    let takes = subst (λ v. TakesUsageStep v.table.macros v.expansion c.step-step.result x) c.self.view_is c.step-step.ensures in
     refuse_step g.S.Sources c.args.self.now x c.step-step.result c.requires.0 takes _ c.refuse_text-kept.new.self place.Kept c.in-Refused.fault c.in-Refused.is
-    (opening _ c.args.self.now x c.self.view_is) bounded refl c.refuse_text-kept.ensures.kept (fault_text c.step-step.result c.in-Refused.fault c.in-Refused.is e.fault)
+    (opening _ c.args.self.now x c.self.view_is) bounded refl c.refuse_text-kept.ensures.kept (fault_text c.step-step.result c.in-Refused.fault c.in-Refused.is takes.fault)
 
 pub returns-in-Lends-clause-stays : goal.returns-in-Lends-clause-stays
 returns-in-Lends-clause-stays g c =
