@@ -10,7 +10,20 @@ use Rattle.rdlpp_meaning.specs.TextTokens.{text_tokens}
 use Rattle.rdlpp_texts.specs.BoundCalls.{KeepsAll}
 use Rattle.rdlpp_texts.specs.CallTokens.{role_meant, IsFirstToken}
 use Rattle.rdlpp_texts.specs.KeptTexts.{keeps_each}
+use Rattle.rdlpp_texts.specs.declared.tokens.CallRole.{CallRole}
+use Rattle.rdlpp_texts.specs.declared.tokens.CallRole.TheVariants.{LineComment}
 use Rattle.rdlpp_texts.specs.declared.tokens.CallToken.{CallToken}
+
+-- a call drops a `//` comment
+pub kept_comment : (r : CallRole) → r ≡ LineComment → is_kept (role_meant r) ≡ false
+unfolding is_kept role_meant
+kept_comment r e = ap (λ (q : CallRole). is_kept (role_meant q)) e
+
+-- and keeps any other token
+pub kept_other : (r : CallRole) → (r ≡ LineComment → ⊥) → is_kept (role_meant r) ≡ true
+unfolding is_kept role_meant
+kept_other LineComment other = absurd (other refl)
+kept_other r other = refl
 
 -- the test at a token
 pub kept_turn : (mode : Mode) (text : List ℕ) (at : ℕ) (token : CallToken) → IsFirstToken mode (drop at text) token

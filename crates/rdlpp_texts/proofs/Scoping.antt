@@ -15,7 +15,7 @@ use Rattle.rdlpp_texts.specs.declared.place.TextSource.{TextSource}
 use Rattle.rdlpp_texts.specs.declared.slot.Slot.{Slot}
 use Rattle.rdlpp_texts.specs.declared.slot.SlotKind.{SlotKind}
 use Rattle.rdlpp_texts.specs.declared.slot.SlotKind.TheVariants as slot
-use Rattle.rdlpp_texts.specs.Opened.{is_spent, kind_of, bindings_below, open_of, opens_of, slot_source, is_body_of, kind_outer, outer_of, AreHomedSlots}
+use Rattle.rdlpp_texts.specs.Opened.{kind_of, bindings_below, open_of, opens_of, slot_source, is_body_of, kind_outer, outer_of, AreHomedSlots}
 use Rattle.rdlpp_texts.specs.Places.{texts_of, source_text, source_formals}
 use Rattle.rdlpp_texts.specs.Scopes.{kind_source, found_source, own_source, front_source, front_scope, own_ids, writer_ids, IsBound, AreBound}
 
@@ -211,13 +211,6 @@ pub source-scope_none : (opens : List Open) → scope_open opens 0 ≡ None
 unfolding scope_open
 source-scope_none [] = refl
 source-scope_none (x ∷ below) = rw (not_next 0 (length below) (omega arith)) (source-scope_none below)
-
--- nothing is left of the innermost open text where its slot tells so
-pub spent-is : (slots : List Slot) (bindings : List Range) (own : Slot) → 0 < length slots → own ≡ get_or slots 0 own
-    → nat_le own.end own.from ≡ is_spent (opens_of slots bindings)
-unfolding opens_of is_spent
-spent-is [] bindings own some e = absurd (omega (arith, some))
-spent-is (y ∷ ys) bindings own some e = ap (λ (z : Slot). nat_le z.end z.from) e
 
 -- the scope of the innermost slot, where it is an actual
 pub scope-actual : (slots : List Slot) (bindings : List Range) (own : Slot) → 0 < length slots → own ≡ get_or slots 0 own → own.kind ≡ slot.Actual

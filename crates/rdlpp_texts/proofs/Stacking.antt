@@ -12,7 +12,7 @@ use Rattle.rdlpp_table.proofs.Sizes.{count_items}
 use Rattle.rdlpp_texts.specs.declared.slot.Slot.{Slot}
 use Rattle.rdlpp_texts.specs.declared.slot.SlotKind.{SlotKind}
 use Rattle.rdlpp_texts.specs.declared.slot.SlotKind.TheVariants as slot
-use Rattle.rdlpp_texts.specs.Opened.{bindings_below, open_of, opens_of, AreLaid, IsFree, IsStack, bound_by, moved_to, kept_by, IsNoBody, CursorsView, AreBounded}
+use Rattle.rdlpp_texts.specs.Opened.{bindings_below, open_of, opens_of, AreLaid, IsFree, IsStack, bound_by, moved_to, is_spent, kept_by, IsNoBody, CursorsView, AreBounded}
 use Rattle.rdlpp_texts.specs.declared.slot.Bounds.{Bounds}
 use Rattle.rdlpp_texts.proofs.Bounding.{closed-bounded, more-bounded, moved-bounded, none-bounded, slots-at, IsBoundedOn}
 use Rattle.rdlpp_texts.proofs.Scoping.{opens-length}
@@ -159,6 +159,12 @@ pub view-is : (xs ys : List Open) (line depth own : ℕ) → xs ≡ ys → depth
 view-is xs ys line depth own e d = ap (λ (o : List Open). made_view o line depth) e ∙ ap (λ (n : ℕ). made_view ys line n) d
 
 -- the innermost slot stands in front of the last one
+-- whether nothing is left of the innermost
+pub spent-is : (slots : List Slot) (first : ℕ) (bindings : List Range) (own : Slot) → first < length slots → own ≡ get_or slots first own
+    → nat_le own.end own.from ≡ is_spent (opens_of (drop first slots) bindings)
+unfolding opens_of is_spent
+spent-is slots first bindings own inside e = sym (ap (λ (s : List Slot). is_spent (opens_of s bindings)) (slots-at slots first own inside e))
+
 pub first-inside : (v : Vec Slot Global) (first : ℕ) (bindings : List Range) → 0 < length (opens_of (drop first v.items) bindings) → first < vec_len v
 first-inside v first bindings some = let n = count_items v in let h = some-open v.items first bindings some in omega (arith, n, h)
 

@@ -4,7 +4,7 @@ ghost use Rattle.rdlpp_scan.specs.declared.token.Mode.TheVariants.{Plain};
 ghost use Rattle.rdlpp_meaning.specs.TextTokens.{text_tokens};
 ghost use Rattle.rdlpp_texts.specs.CallParts.{is_white, part_from};
 ghost use Rattle.rdlpp_texts.specs.CalmBytes.{begins_white, byte_class};
-ghost use Rattle.rdlpp_texts.specs.declared.calm.ByteClass.TheVariants.{White, Calm, Mark};
+ghost use Rattle.rdlpp_texts.specs.declared.calm.ByteClass.TheVariants.{Calm, Mark};
 
 use rdlpp_scan::{Mode, is_blank};
 
@@ -78,7 +78,11 @@ fn byte_class(level: usize, b: u8) -> ByteClass
     } else if b == b' ' {
         ByteClass::White
     } else if b < b' ' {
-        control_class(b)
+        if is_white(b) {
+            ByteClass::White
+        } else {
+            ByteClass::Calm
+        }
     } else if b == b',' {
         calm_or_mark(level > 0)
     } else {
@@ -94,17 +98,6 @@ fn calm_or_mark(is_calm: bool) -> ByteClass
         ByteClass::Calm
     } else {
         ByteClass::Mark
-    }
-}
-
-// What a byte below the blank is.
-fn control_class(b: u8) -> ByteClass
-    ensures { result ≡ (if is_white b then White else Calm) }
-{
-    if is_white(b) {
-        ByteClass::White
-    } else {
-        ByteClass::Calm
     }
 }
 

@@ -17,9 +17,9 @@ mod usage;
 
 use crate::Range;
 use crate::front::{Sight, look_at};
-use crate::guesses::Guesses;
+use crate::guesses::{Guesses, NO_GUESSES};
 use crate::place::{TextPlace, TextSource};
-use crate::scopes::{body_bounds, is_spent, scope_bounds};
+use crate::scopes::{body_bounds, scope_bounds};
 use crate::slot::{Slot, SlotKind};
 use crate::slots::{FIRST_SLOTS, free_slot, push_closed};
 use crate::step::CursorStep;
@@ -95,7 +95,7 @@ impl Cursors {
             depth,
             bindings,
             line: 0,
-            guesses: Guesses::new(),
+            guesses: NO_GUESSES,
         })
     }
 
@@ -153,8 +153,8 @@ impl Cursors {
         requires { 0 < length self.now.opens }
         ensures { result ≡ is_spent self.now.opens }
     {
-        let slots = self.slots.as_slice();
-        is_spent(&slots[self.first..])
+        let slot = &self.slots[self.first];
+        slot.end <= slot.from
     }
 
     // Closes the innermost text, of which nothing is left, and those around it of which nothing is left either, up to the

@@ -1,6 +1,5 @@
 // What stands at the front of an open text.
-ghost use Rattle.std.specs.Prelude.{[], length, slice_range, List, Some, ℕ, ◌+◌, ◌<◌, ◌≡◌, ◌≤◌, ◌^◌};
-ghost use Rattle.memchr.specs.Find.{is_byte, IsFirstByte};
+ghost use Rattle.std.specs.Prelude.{[], length, slice_range, List, ℕ, ◌+◌, ◌<◌, ◌≡◌, ◌≤◌, ◌^◌};
 ghost use Rattle.rdlpp_scan.specs.Tokens.{tokens_from};
 ghost use Rattle.rdlpp_table.specs.Stops.{stop_in, stop_of};
 ghost use Rattle.rdlpp_table.specs.Table.{Formal};
@@ -110,7 +109,12 @@ pub(crate) fn front_of(
     if let TextSource::Body(id) = *source {
         return stop_front(body_stop(table, id, from, end), end);
     }
-    plain_front(&text[from..end], from)
+    let text = &text[from..end];
+    let len = run_len(text);
+    Ahead {
+        at: from + len,
+        front: plain_stop(&text[len..]),
+    }
 }
 
 // The first stop of a range of the body of a macro.
@@ -182,18 +186,6 @@ fn stop_front(stop: Stop, end: usize) -> Ahead
     }
 }
 
-// What stands ahead in a text without formals that begins at a place.
-fn plain_front(text: &[u8], from: usize) -> Ahead
-    requires { from + length text.now < 2 ^ 64 }
-    ensures { IsAhead [] text.now from result }
-{
-    let len = run_len(text);
-    Ahead {
-        at: from + len,
-        front: plain_stop(&text[len..]),
-    }
-}
-
 // What stands at the front of a text without formals that begins with no run.
 fn plain_stop(text: &[u8]) -> Front
     requires { run_len [] (tokens_from Mode.Plain 0 text.now) text.now ≡ 0 }
@@ -210,23 +202,16 @@ fn plain_stop(text: &[u8]) -> Front
 }
 
 // How many bytes of a text without formals are copied up to its first usage or lone backquote.
+//
+// The run ends at the first backquote, if no string and no comment can begin before it. Else all up to where one may begin is passed
+// at once, whatever tokens it has.
 fn run_len(text: &[u8]) -> usize
     ensures value { result ≡ run_len [] (tokens_from Mode.Plain 0 text.now) text.now }
     ensures inside { result ≤ length text.now }
 {
-    match memchr(b'`', text) {
-        None => text.len(),
-        Some(at) => run_up_to(text, at),
-    }
-}
-
-// The same where the first backquote stands at a place: the run ends there, if no string and no comment can begin before it. Else all
-// up to where one may begin is passed at once, whatever tokens it has.
-fn run_up_to(text: &[u8], at: usize) -> usize
-    requires { IsFirstByte (is_byte 96) text.now (Some at) }
-    ensures value { result ≡ run_len [] (tokens_from Mode.Plain 0 text.now) text.now }
-    ensures inside { result ≤ length text.now }
-{
+    let Some(at) = memchr(b'`', text) else {
+        return text.len();
+    };
     match memchr2(b'"', b'/', &text[..at]) {
         None => at,
         Some(near) => near + run_by_tokens(&text[near..]),

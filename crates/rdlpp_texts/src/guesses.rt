@@ -20,14 +20,12 @@ pub(crate) struct Guesses {
     pub(crate) places: [u16; GUESSES],
 }
 
-impl Guesses {
-    // The first place for each name.
-    pub(crate) fn new() -> Guesses {
-        Guesses {
-            places: [0; GUESSES],
-        }
-    }
+// The first place for each name.
+pub(crate) const NO_GUESSES: Guesses = Guesses {
+    places: [0; GUESSES],
+};
 
+impl Guesses {
     // The macro of a name: the one at the place that is kept for it, or another one, whose place is kept from then on.
     pub(crate) fn find(&mut self, table: &Table, name: &[u8]) -> Option<MacroId>
         ensures value { result ≡ place_named table.now.macros name.now }

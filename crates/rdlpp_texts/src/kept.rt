@@ -1,9 +1,7 @@
 // Texts in which no call drops a token.
 ghost use Rattle.std.specs.Prelude.{◌≡◌};
 ghost use Rattle.std.specs.List.{list_all};
-ghost use Rattle.rdlpp_meaning.specs.CallScan.{is_kept};
 ghost use Rattle.rdlpp_meaning.specs.Substitution.{body_tokens};
-ghost use Rattle.rdlpp_texts.specs.CallTokens.{role_meant};
 ghost use Rattle.rdlpp_texts.specs.KeptTexts.{is_no_slash, keeps_each};
 
 use crate::tokens::{CallRole, token_in_call};
@@ -39,19 +37,11 @@ fn keeps_each_token(text: &[u8]) -> bool
     let mut mode = Mode::Plain;
     while at < text.len() {
         let token = token_in_call(mode, &text[at..]);
-        if !is_kept(token.role) {
+        if let CallRole::LineComment = token.role {
             return false;
         }
         at += token.len;
         mode = token.next_mode;
     }
     true
-}
-
-// Whether a call keeps a token.
-#[tactic(auto, unfolding(crate::specs::CallTokens::role_meant, rdlpp_meaning::specs::CallScan::is_kept))]
-fn is_kept(role: CallRole) -> bool
-    ensures { result ≡ is_kept (role_meant role) }
-{
-    !matches!(role, CallRole::LineComment)
 }

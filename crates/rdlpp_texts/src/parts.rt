@@ -82,19 +82,11 @@ pub fn next_part(text: &[u8], closes: bool) -> Part
         result ≡ part_from closes start start 0 start (body_tokens (drop start text.now)) }
     ensures part { IsNextPart closes text.now result }
 {
-    let from = space_len(text);
+    let from = white_bytes(text);
     part_at(text, from, closes)
 }
 
 // How many bytes of white space a text begins with.
-fn space_len(text: &[u8]) -> usize
-    ensures value { result ≡ space_from 0 (body_tokens text.now) }
-    ensures inside { result ≤ length text.now }
-{
-    white_bytes(text)
-}
-
-// How many bytes of a text in front of any other are white space.
 fn white_bytes(text: &[u8]) -> usize
     ensures value { result ≡ prefix_len is_white text.now }
     ensures inside { result ≤ length text.now }

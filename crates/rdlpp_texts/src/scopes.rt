@@ -4,7 +4,7 @@ ghost use Rattle.std.specs.List.{list_any, AllByRecursion};
 ghost use Rattle.std.specs.Option.{option_map};
 ghost use Rattle.rdlpp_table.specs.View.{formal_at, formals_of, macro_at};
 ghost use Rattle.rdlpp_meaning.specs.Opens.{open_standing, part_at, Part, found_standing, scope_open};
-ghost use Rattle.rdlpp_texts.specs.Opened.{is_body_of, is_spent, open_of, opens_of, outer_of, slot_source, AreBounded, AreHomedSlots, IsWithin};
+ghost use Rattle.rdlpp_texts.specs.Opened.{is_body_of, open_of, opens_of, outer_of, slot_source, AreBounded, AreHomedSlots, IsWithin};
 ghost use Rattle.rdlpp_texts.specs.Places.{place_bytes, source_formals, source_text, texts_of, IsPlaced, IsSource};
 ghost use Rattle.rdlpp_texts.specs.Scopes.{found_source, front_scope, front_source, writer_ids, AreBound};
 ghost use Rattle.rdlpp_texts.specs.BoundCalls.{range_part};
@@ -49,15 +49,6 @@ pub(crate) fn front_scope(slots: &[Slot]) -> usize
         SlotKind::Actual => slot.home,
         _ => slots.len(),
     }
-}
-
-// Whether nothing is left of the innermost open text.
-pub(crate) fn is_spent(slots: &[Slot]) -> bool
-    requires { 0 < length slots.now }
-    ensures { (bindings : List Bound) → result ≡ is_spent (opens_of slots.now bindings) }
-{
-    let slot = &slots[0];
-    slot.end <= slot.from
 }
 
 // Where the text of a slot lies, if it is a body or a default.

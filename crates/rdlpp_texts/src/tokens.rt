@@ -92,18 +92,10 @@ fn quick_len(mode: Mode, text: &[u8]) -> usize
     requires { 0 < length text.now }
     ensures quick { 0 < result → IsFirstToken mode text.now (plain_token (quick_role (slice_index text.now 0)) result) }
 {
-    match mode {
-        Mode::Plain => plain_quick_len(text),
-        _ => 0,
-    }
-}
-
-// The same in plain text.
-fn plain_quick_len(text: &[u8]) -> usize
-    requires { 0 < length text.now }
-    ensures quick { 0 < result → IsFirstToken Plain text.now (plain_token (quick_role (slice_index text.now 0)) result) }
-{
-    let word = word_bytes(text);
+    let word = match mode {
+        Mode::Plain => word_bytes(text),
+        _ => return 0,
+    };
     if word > 0 {
         return word;
     }
@@ -111,26 +103,11 @@ fn plain_quick_len(text: &[u8]) -> usize
 }
 
 // Whether a byte is a comma or a bracket.
+#[tactic(auto, unfolding(rdlpp_scan::specs::Bytes::is_opener, rdlpp_scan::specs::Bytes::is_closer))]
 fn is_mark(b: u8) -> bool
     ensures { result ≡ (b == 44 || (is_opener b || is_closer b)) }
 {
-    b == b',' || (is_opener(b) || is_closer(b))
-}
-
-// Whether a byte is `(`, `[` or `{`.
-#[tactic(auto, unfolding(rdlpp_scan::specs::Bytes::is_opener))]
-fn is_opener(b: u8) -> bool
-    ensures { result ≡ is_opener b }
-{
-    b == b'(' || b == b'[' || b == b'{'
-}
-
-// Whether a byte is `)`, `]` or `}`.
-#[tactic(auto, unfolding(rdlpp_scan::specs::Bytes::is_closer))]
-fn is_closer(b: u8) -> bool
-    ensures { result ≡ is_closer b }
-{
-    b == b')' || b == b']' || b == b'}'
+    b == b',' || ((b == b'(' || b == b'[' || b == b'{') || (b == b')' || b == b']' || b == b'}'))
 }
 
 // The role of a word, a comma or a bracket by its first byte.

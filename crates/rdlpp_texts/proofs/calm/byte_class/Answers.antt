@@ -1,5 +1,7 @@
-use Rattle.std.proofs.Common.{◌∙◌, arith}
+use Rattle.std.proofs.Common.{◌∙◌, ap, arith, Bool, sym}
+use Rattle.std.specs.Prelude.{if◌then◌else◌}
 use Rattle.rdlpp_texts.proofs.CalmBytes.{blank_class, comma_class, control_class, high_class, mark_class}
+use Rattle.rdlpp_texts.specs.declared.calm.ByteClass.TheVariants.{White, Calm}
 use Rattle.rdlpp_texts.proofs.calm.byte_class.Goals as goal
 
 pub returns-then-b-ge64 : goal.returns-then-b-ge64
@@ -8,8 +10,11 @@ returns-then-b-ge64 c = c.calm_or_mark.ensures ∙ high_class c.args.level c.arg
 pub returns-then-b-eq32 : goal.returns-then-b-eq32
 returns-then-b-eq32 c = blank_class c.args.level c.args.b c.if-b-eq32.true
 
-pub returns-then-b-lt32 : goal.returns-then-b-lt32
-returns-then-b-lt32 c = c.control_class.ensures ∙ control_class c.args.level c.args.b c.if-b-lt32.true
+pub returns-then-is_white : goal.returns-then-is_white
+returns-then-is_white c = ap (λ (w : Bool). if w then White else Calm) (sym c.if-is_white.true ∙ c.is_white.ensures) ∙ control_class c.args.level c.args.b c.if-b-lt32.true
+
+pub returns-else-is_white : goal.returns-else-is_white
+returns-else-is_white c = ap (λ (w : Bool). if w then White else Calm) (sym c.if-is_white.false ∙ c.is_white.ensures) ∙ control_class c.args.level c.args.b c.if-b-lt32.true
 
 pub returns-then-b-eq44 : goal.returns-then-b-eq44
 returns-then-b-eq44 c = c.calm_or_mark-then-b-eq44.ensures ∙ comma_class c.args.level c.args.b c.if-b-eq44.true

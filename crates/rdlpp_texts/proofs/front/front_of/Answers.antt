@@ -1,8 +1,12 @@
-use Rattle.std.proofs.Common.{subst, List, ℕ, []}
+use Rattle.std.proofs.Common.{◌+◌, ◌∙◌, ap, subst, List, ℕ, []}
 use Rattle.std.specs.Prelude.{slice_range}
-use Rattle.rdlpp_texts.specs.Fronts.{IsAhead}
+use Rattle.std.proofs.lemmas.List.{take_rest}
+use Rattle.rdlpp_scan.specs.declared.token.Mode.TheVariants.{Plain}
+use Rattle.rdlpp_scan.specs.Tokens.{tokens_from}
+use Rattle.rdlpp_texts.specs.Fronts.{run_len, IsAhead, IsFront}
+use Rattle.rdlpp_texts.specs.declared.front.Ahead.{Ahead}
 use Rattle.rdlpp_texts.specs.Places.{texts_of}
-use Rattle.rdlpp_texts.proofs.Stopping.{body-inside, ahead-body, ahead-ended, plain-source}
+use Rattle.rdlpp_texts.proofs.Stopping.{body-inside, ahead-body, ahead-ended, ahead-plain, plain-source, run-behind}
 use Rattle.rdlpp_texts.proofs.front.front_of.Goals as goal
 
 pub returns-then-end-from : goal.returns-then-end-from
@@ -16,7 +20,16 @@ returns-in-Body c =
     ahead-body (texts_of c.args.table.now.macros c.args.arguments.now) c.args.source.now _ c.args.from c.args.end _ _ c.in-Body.is c.if-end-from.false c.requires.inside
     c.body_stop.ensures c.stop_front.ensures
 
+pub plain_stop-requires : goal.plain_stop-requires
+plain_stop-requires c =
+    let text = slice_range c.args.text.now c.args.from c.args.end in
+    ap (λ (b : List ℕ). run_len [] (tokens_from Plain 0 b) b) (take_rest text c.run_len-len.result) ∙ run-behind [] text _ c.run_len-len.ensures.value
+
 pub returns : goal.returns
 returns c =
-    plain-source (texts_of c.args.table.now.macros c.args.arguments.now) c.args.source.now _ c.args.from c.plain_front.result (λ id. c.in_default.not-Body id)
-    (subst (λ (bytes : List ℕ). IsAhead [] (slice_range bytes c.args.from c.args.end) c.args.from c.plain_front.result) c.requires.text c.plain_front.ensures)
+    let text = slice_range c.args.text.now c.args.from c.args.end in
+    let ahead : Ahead = record { at = c.args.from + c.run_len-len.result; front = c.plain_stop.result } in
+    plain-source (texts_of c.args.table.now.macros c.args.arguments.now) c.args.source.now _ c.args.from ahead (λ id. c.in_default.not-Body id)
+    (subst (λ (bytes : List ℕ). IsAhead [] (slice_range bytes c.args.from c.args.end) c.args.from ahead) c.requires.text
+    (ahead-plain text _ c.args.from _ c.run_len-len.ensures.value c.run_len-len.ensures.inside
+    (subst (λ (b : List ℕ). IsFront [] b c.plain_stop.result) (take_rest text c.run_len-len.result) c.plain_stop.ensures)))

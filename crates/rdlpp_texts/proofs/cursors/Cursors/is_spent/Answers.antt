@@ -1,5 +1,11 @@
-use Rattle.rdlpp_texts.proofs.Stacking.{lent-some}
+use Rattle.std.proofs.Common.{◌<◌, length}
+use Rattle.rdlpp_texts.proofs.Stacking.{first-inside, some-open, spent-is}
 use Rattle.rdlpp_texts.proofs.cursors.Cursors.is_spent.Goals as goal
 
-pub is_spent-requires : goal.is_spent-requires
-is_spent-requires c = lent-some _ _ _ c.self.inside.bindings.items c.as_slice-slots.ensures.value (rw (← c.self.view_is) at c.requires)
+pub index-slot-requires : goal.index-slot-requires
+index-slot-requires c = first-inside c.self.inside.slots c.self.inside.first c.self.inside.bindings.items (rw (← c.self.view_is) at c.requires)
+
+pub returns : goal.returns
+returns c =
+    let some : c.self.inside.first < length c.self.inside.slots.items = some-open c.self.inside.slots.items c.self.inside.first c.self.inside.bindings.items (rw (← c.self.view_is) at c.requires) in
+    rw (← c.self.view_is) (spent-is c.self.inside.slots.items c.self.inside.first c.self.inside.bindings.items _ some c.index-slot.ensures)
