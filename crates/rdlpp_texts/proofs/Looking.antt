@@ -1,6 +1,6 @@
 -- A look at open texts: where the innermost lies, and what stands at its front.
 use Rattle.std.proofs.Common.{◌≡◌, ℕ, suc, ◌+◌, ◌-◌, ◌<◌, ◌≤◌, Bool, true, false, List, [], ◌∷◌, length, take, drop, get_or, refl, sym, ap, subst, ◌∙◌, arith, Some}
-use Rattle.std.specs.Prelude.{if◌then◌else◌, ◌==◌, slice_range}
+use Rattle.std.specs.Prelude.{if◌then◌else◌, ◌==◌, slice_range, IfSome}
 use Rattle.rdlpp_scan.specs.declared.token.Mode.TheVariants.{Plain}
 use Rattle.rdlpp_meaning.specs.Opens.{OpenKind, OpenBody, OpenActual, OpenDefault, Open, Texts, text_around, open_behind, open_bytes, scope_open}
 use Rattle.rdlpp_texts.specs.declared.front.Look.{Look}
@@ -10,8 +10,8 @@ use Rattle.rdlpp_texts.specs.declared.slot.Slot.{Slot}
 use Rattle.rdlpp_texts.specs.Fronts.{AreCopied, IsAhead, IsFront, IsLook, IsLookAhead}
 use Rattle.rdlpp_texts.specs.declared.front.Ahead.{Ahead}
 use Rattle.rdlpp_texts.specs.Opened.{bindings_below, moved_to, open_of, opens_of}
-use Rattle.rdlpp_texts.specs.Places.{source_text, source_formals, IsSource}
-use Rattle.rdlpp_texts.specs.Scopes.{kind_source, found_source, own_source, front_source}
+use Rattle.rdlpp_texts.specs.Places.{source_text, source_formals, IsPlaced, IsSource}
+use Rattle.rdlpp_texts.specs.Scopes.{kind_source, found_source, own_source, front_source, innermost_place}
 use Rattle.rdlpp_texts.specs.Steps.{IsKnown, AreInside, AreSound}
 use Rattle.rdlpp_texts.proofs.Runs.{bytes-behind}
 use Rattle.rdlpp_texts.proofs.Scoping.{source-around}
@@ -51,6 +51,16 @@ has-byte (b ∷ bs) other n h e = let same : other ≡ b ∷ bs = e (omega arith
 pub source-inside : (texts : Texts) (x : Open) (below : List Open) → AreInside texts (x ∷ below) → x.part.end ≤ length (source_text texts (front_source (x ∷ below)))
 source-inside texts x below h =
     has-byte (text_around texts x.kind x.home below) (source_text texts (front_source (x ∷ below))) x.part.end (h.1).0 (source-around texts x below)
+
+-- what is left of it lies in a text that there is
+pub innermost-placed : (texts : Texts) (opens : List Open) → AreInside texts opens → IfSome (innermost_place opens) (IsPlaced texts)
+unfolding innermost_place front_source
+innermost-placed texts [] h = tt
+innermost-placed texts (x ∷ below) h = record {
+  source = source-known texts x below h;
+  order = omega arith;
+  inside = source-inside texts x below h;
+}
 
 -- a range that ends in a text is that of another one, where that is the same if it has a byte
 same-range : (text other : List ℕ) (from end : ℕ) → end ≤ length text → (0 < length text → other ≡ text) → slice_range other from end ≡ slice_range text from end

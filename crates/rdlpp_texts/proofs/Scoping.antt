@@ -1,6 +1,6 @@
 -- The scopes of open texts: what a scope is by its slot, and what follows from it.
 use Rattle.std.proofs.Common.{◌≡◌, ℕ, suc, ◌+◌, ◌-◌, ◌<◌, ◌≤◌, Bool, true, false, List, [], ◌∷◌, map, length, take, drop, get_or, refl, sym, ap, subst, ◌∙◌, arith, eq-eqb, Option, None, Some, ◌⊎◌, inl, inr}
-use Rattle.std.specs.Prelude.{if◌then◌else◌, ◌==◌, nat_le, ◌&&◌, ◌||◌, not}
+use Rattle.std.specs.Prelude.{if◌then◌else◌, ◌==◌, min, nat_le, ◌&&◌, ◌||◌, not}
 use Rattle.std.specs.List.{list_any}
 use Rattle.std.proofs.lemmas.Bool.{eqb-true, eqb-false, ne_eqb, leb-true, leb-false}
 use Rattle.std.proofs.lemmas.List.{take-take, take_all, length-take, length-drop, length-map, get_or-map, get_or-drop, get_or-take}
@@ -11,13 +11,14 @@ use Rattle.rdlpp_meaning.specs.Opens.{Part, part_at, OpenKind, OpenBody, OpenAct
 use Rattle.rdlpp_meaning.proofs.OpenScopes.{not_next, next_is}
 use Rattle.rdlpp_texts.specs.BoundCalls.{range_part}
 use Rattle.rdlpp_texts.specs.declared.bindings.Range.{Range}
+use Rattle.rdlpp_texts.specs.declared.place.TextPlace.{TextPlace}
 use Rattle.rdlpp_texts.specs.declared.place.TextSource.{TextSource}
 use Rattle.rdlpp_texts.specs.declared.slot.Slot.{Slot}
 use Rattle.rdlpp_texts.specs.declared.slot.SlotKind.{SlotKind}
 use Rattle.rdlpp_texts.specs.declared.slot.SlotKind.TheVariants as slot
 use Rattle.rdlpp_texts.specs.Opened.{kind_of, bindings_below, open_of, opens_of, slot_source, is_body_of, kind_outer, outer_of, AreHomedSlots}
 use Rattle.rdlpp_texts.specs.Places.{texts_of, source_text, source_formals}
-use Rattle.rdlpp_texts.specs.Scopes.{kind_source, found_source, own_source, front_source, front_scope, own_ids, writer_ids, IsBound, AreBound}
+use Rattle.rdlpp_texts.specs.Scopes.{kind_source, found_source, own_source, front_source, front_scope, innermost_place, own_ids, writer_ids, IsBound, AreBound}
 
 -- the text of a scope, by the open text that it is
 unfoldable text_found : Texts → Option Open → List ℕ
@@ -285,6 +286,22 @@ front-other (y ∷ ys) bindings own source some e other s =
     by (slot.Body id first) other = refl
     by slot.Actual other = absurd (other refl)
     by (slot.Default id place) other = refl
+
+-- where what is left of the innermost open text lies, by its slot
+pub innermost-is : (slots : List Slot) (bindings : List Range) (own : Slot) (source : TextSource) → (length slots == 0) ≡ false → own ≡ get_or slots 0 own
+    → source ≡ front_source (opens_of slots bindings)
+    → Some (record { source = source; from = min own.from own.end; end = own.end }) ≡ innermost_place (opens_of slots bindings)
+unfolding opens_of front_source innermost_place
+innermost-is [] bindings own source some e at = absurd (cc)
+innermost-is (y ∷ ys) bindings own source some e at =
+    let lies : Slot → TextSource → Option TextPlace = λ z s. Some (record { source = s; from = min z.from z.end; end = z.end }) in
+    ap (lies own) at ∙ ap (λ (z : Slot). lies z (front_source (opens_of (y ∷ ys) bindings))) e
+
+-- and where none is open
+pub innermost-none : (slots : List Slot) (bindings : List Range) → length slots ≡ 0 → None ≡ innermost_place (opens_of slots bindings)
+unfolding opens_of innermost_place
+innermost-none [] bindings none = refl
+innermost-none (y ∷ ys) bindings none = absurd (omega (arith, none))
 
 -- the open text that a scope is has what holds of each
 bound-scope : (macros : List Macro) (opens : List Open) (k : ℕ) (x : Open) → AreBound macros opens → scope_open opens k ≡ Some x → IsBound macros x.kind

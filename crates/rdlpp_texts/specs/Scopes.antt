@@ -1,9 +1,10 @@
 -- The scopes of open texts: the open text that a scope is, and what follows from it.
 -- A definition that names no source is this project's own.
-use Rattle.std.specs.Prelude.{ℕ, suc, ◌<◌, ◌≤◌, ◌==◌, List, [], ◌∷◌, length, Option, None, Some, if◌then◌else◌}
+use Rattle.std.specs.Prelude.{ℕ, suc, ◌<◌, ◌≤◌, ◌==◌, min, List, [], ◌∷◌, length, Option, None, Some, if◌then◌else◌}
 use Rattle.rdlpp_table.specs.Table.{Macro}
 use Rattle.rdlpp_table.specs.View.{macro_at, formals_of}
 use Rattle.rdlpp_meaning.specs.Opens.{OpenKind, OpenBody, OpenActual, OpenDefault, Open, open_scope, scope_open}
+use Rattle.rdlpp_texts.specs.declared.place.TextPlace.{TextPlace}
 use Rattle.rdlpp_texts.specs.declared.place.TextSource.{TextSource}
 use Rattle.rdlpp_texts.specs.declared.place.TextSource.TheVariants.{Arguments, Body, Default}
 
@@ -28,6 +29,11 @@ own_source (OpenDefault id place) home below = Default id place
 unfoldable pub front_source : List Open → TextSource
 front_source [] = Arguments
 front_source (x ∷ below) = own_source x.kind x.home below
+
+-- where what is left of the innermost open text lies; none where none is open
+unfoldable pub innermost_place : List Open → Option TextPlace
+innermost_place [] = None
+innermost_place (x ∷ below) = Some (record { source = own_source x.kind x.home below; from = min x.part.from x.part.end; end = x.part.end })
 
 -- the scope of the innermost open text
 unfoldable pub front_scope : List Open → ℕ

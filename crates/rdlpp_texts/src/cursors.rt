@@ -7,6 +7,7 @@ ghost use Rattle.rdlpp_meaning.specs.Opens.{open_body, OpenBody, Texts};
 ghost use Rattle.rdlpp_texts.specs.Fronts.{IsLookAhead};
 ghost use Rattle.rdlpp_texts.specs.Opened.{bound_by, is_spent, kept_by, moved_to, open_of, IsNoBody, StaysOutermost};
 ghost use Rattle.rdlpp_texts.specs.Places.{source_text, texts_of};
+ghost use Rattle.rdlpp_texts.specs.Scopes.{innermost_place};
 ghost use Rattle.rdlpp_texts.specs.Steps.{AreSound};
 ghost use Rattle.rdlpp_texts.specs.Taking.{TakesStep};
 ghost use Rattle.rdlpp_texts.specs.Turns.{Closes};
@@ -19,7 +20,7 @@ use crate::Range;
 use crate::front::{Sight, look_at};
 use crate::guesses::{Guesses, NO_GUESSES};
 use crate::place::{TextPlace, TextSource};
-use crate::scopes::{body_bounds, scope_bounds};
+use crate::scopes::{body_bounds, innermost_place, scope_bounds};
 use crate::slot::{Slot, SlotKind};
 use crate::slots::{FIRST_SLOTS, free_slot, push_closed};
 use crate::step::CursorStep;
@@ -120,6 +121,14 @@ impl Cursors {
         ensures { result ≡ self.now.line }
     {
         self.line
+    }
+
+    // Where what is left of the innermost text lies, if one is open.
+    pub fn innermost(&self) -> Option<TextPlace>
+        ensures { result ≡ innermost_place self.now.opens }
+    {
+        let slots = self.slots.as_slice();
+        innermost_place(&slots[self.first..])
     }
 
     // How many ranges the calls of the open bodies have bound.

@@ -6,7 +6,7 @@ ghost use Rattle.rdlpp_table.specs.View.{formal_at, formals_of, macro_at};
 ghost use Rattle.rdlpp_meaning.specs.Opens.{open_standing, part_at, Part, found_standing, scope_open};
 ghost use Rattle.rdlpp_texts.specs.Opened.{is_body_of, open_of, opens_of, outer_of, slot_source, AreBounded, AreHomedSlots, IsWithin};
 ghost use Rattle.rdlpp_texts.specs.Places.{place_bytes, source_formals, source_text, texts_of, IsPlaced, IsSource};
-ghost use Rattle.rdlpp_texts.specs.Scopes.{found_source, front_scope, front_source, writer_ids, AreBound};
+ghost use Rattle.rdlpp_texts.specs.Scopes.{found_source, front_scope, front_source, innermost_place, writer_ids, AreBound};
 ghost use Rattle.rdlpp_texts.specs.BoundCalls.{range_part};
 ghost use Rattle.rdlpp_texts.specs.declared.bindings.Range.{Range as Bound};
 
@@ -82,6 +82,21 @@ pub(crate) fn front_source(slots: &[Slot]) -> TextSource
         SlotKind::Actual => source_at(&slots[1..], slot.home),
         _ => source_of(slot),
     }
+}
+
+// Where what is left of the innermost open text lies, if one is open.
+pub(crate) fn innermost_place(slots: &[Slot]) -> Option<TextPlace>
+    ensures { (bindings : List Bound) → result ≡ innermost_place (opens_of slots.now bindings) }
+{
+    if slots.is_empty() {
+        return None;
+    }
+    let slot = &slots[0];
+    Some(TextPlace {
+        source: front_source(slots),
+        from: slot.from.min(slot.end),
+        end: slot.end,
+    })
 }
 
 // The range that the formal at a place has, among ranges of which those of its call begin at a place.

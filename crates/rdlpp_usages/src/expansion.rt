@@ -11,6 +11,7 @@ ghost use Rattle.rdlpp_read.specs.Calls.{SourcesRead};
 ghost use Rattle.rdlpp_read.specs.Files.{consumed_file, inner_buffer, with_inner};
 ghost use Rattle.rdlpp_texts.specs.Opened.{bound_by, usage_id};
 ghost use Rattle.rdlpp_texts.specs.Places.{texts_of};
+ghost use Rattle.rdlpp_texts.specs.Scopes.{innermost_place};
 ghost use Rattle.rdlpp_texts.specs.Steps.{AreSound};
 ghost use Rattle.rdlpp_front.specs.Fronts.{IsUsage, usage_name};
 ghost use Rattle.rdlpp_usages.specs.Usages.{BindsKept, IsOpenAlone, IsRun, KeepsOpening, KeepsUsage, TakesUsageStep, TellsCallUsage, TellsUsage, UsesCall, UsesSource, IsRoomy, is_failed_opening, is_opened, IsUsageFault, IsOwnLine};
@@ -20,7 +21,7 @@ use rdlpp_meaning::FaultKind;
 use rdlpp_read::Files;
 use rdlpp_source::Sources;
 use rdlpp_table::{MacroId, Table};
-use rdlpp_texts::{CursorStep, Cursors};
+use rdlpp_texts::{CursorStep, Cursors, TextPlace};
 use std::alloc::{AllocError, Global};
 use std::marker::Model;
 
@@ -119,6 +120,13 @@ impl Expansion {
         ensures { result ≡ self.now.line }
     {
         self.texts.line()
+    }
+
+    /// Where what is left of the innermost open text lies, if one is open.
+    pub fn innermost(&self) -> Option<TextPlace>
+        ensures { result ≡ innermost_place self.now.opens }
+    {
+        self.texts.innermost()
     }
 
     /// What always holds of it.

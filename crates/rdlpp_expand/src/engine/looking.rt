@@ -3,12 +3,16 @@ ghost use Rattle.std.specs.Prelude.{◌≡◌, ◌≤◌, ◌⊎◌, [], IfNone,
 ghost use Rattle.rdlpp_meaning.specs.State.{shown_line};
 ghost use Rattle.rdlpp_read.specs.Buffer.{held_of};
 ghost use Rattle.rdlpp_read.specs.Files.{inner_buffer};
+ghost use Rattle.rdlpp_texts.specs.Places.{IsPlaced as IsTextPlaced};
+ghost use Rattle.rdlpp_texts.specs.Scopes.{innermost_place};
+ghost use Rattle.rdlpp_state.specs.Pieces.{held_texts};
 ghost use Rattle.rdlpp_state.specs.Remaining.{inner_name, state_of};
 ghost use Rattle.rdlpp_expand.specs.Looking.{Includes};
 
 use super::Engine;
 use rdlpp_source::Sources;
 use rdlpp_table::{Limits, Table};
+use rdlpp_texts::TextPlace;
 use std::mem;
 
 /// What an open source shows.
@@ -79,6 +83,16 @@ impl<S: Sources> Engine<S> {
         ensures { result.now ≡ self.now.expansion.arguments }
     {
         self.expansion.arguments()
+    }
+
+    /// Where what is left of the innermost open text of a usage lies: none where no text is open. A fault closes none, so behind a
+    /// fault of macro text it begins where that was met.
+    pub fn innermost_text(&self) -> Option<TextPlace>
+        ensures value { result ≡ innermost_place self.now.expansion.opens }
+        ensures placed { IfSome result (IsTextPlaced (held_texts self.now)) }
+    {
+        self.facts();
+        self.expansion.innermost()
     }
 
     /// The held bytes of the innermost source that aren't used, at which the engine stands: none where no source is open.
