@@ -1,4 +1,8 @@
 // Notes on a fault.
+ghost use Rattle.std.specs.Prelude.{length, IfSome, ◌<◌};
+ghost use Rattle.rdlpp_meaning.specs.Opens.{Texts};
+ghost use Rattle.rdlpp_texts.specs.Places.{IsSource};
+
 use crate::left_out::is_left_out;
 use crate::writing::{write_parts, write_whole};
 use itoa::Buffer;
@@ -6,8 +10,8 @@ use rdlpp_expand::{Engine, Fault, FaultKind};
 use rdlpp_front::{Front, front_of};
 use rdlpp_scan::Mode;
 use rdlpp_source::{Sources, folder_of, joined_path};
-use rdlpp_table::Limits;
-use rdlpp_texts::{PartEnd, next_part};
+use rdlpp_table::{Limits, MacroId};
+use rdlpp_texts::{PartEnd, TextSource, next_part, text_at};
 use std::io::{self, Write};
 
 // What a note begins with.
@@ -18,8 +22,8 @@ const NOTE: &[u8] = b"rdlpp: note: ";
 /// Of a source that wasn't found, or whose path is too long, the name that was asked for, and each path that was tried: `folders`
 /// are the include folders, in the order of the search. Of a limit that was passed its value and its option. Of a wrong number of
 /// arguments how many the macro takes, and how many there are. Of a backquote without a name what stands behind it. Of a macro
-/// that isn't defined that its name is a directive's which is left out, where it is. And the sources that include the one of the
-/// fault, the innermost first.
+/// that isn't defined that its name is a directive's which is left out, where it is. Of a fault in macro text the innermost macro
+/// in whose text it stands. And the sources that include the one of the fault, the innermost first.
 ///
 /// # Errors
 /// As of `write_whole`; the first bytes of the notes, or none, are then written.
@@ -38,6 +42,7 @@ pub fn write_notes<S: Sources, W: Write>(
         FaultKind::UndefinedMacro => write_left_out(fault.word.as_bytes(), writer)?,
         _ => write_limit(fault.kind, engine.limits(), writer)?,
     }
+    write_text_of(fault.kind, engine, writer)?;
     write_includers(engine, writer)
 }
 
@@ -107,7 +112,7 @@ fn write_counts<S: Sources, W: Write>(
     let mut takes = Buffer::new();
     let takes = takes.format(table.arity(id).unwrap_or(0) as u64);
     write_parts(&[NOTE, b"the macro takes ", takes.as_bytes()], writer)?;
-    if engine.held().cursors > 0 {
+    if engine.innermost_text().is_some() {
         return write_whole(b"\n", writer);
     }
     let mut has = Buffer::new();
@@ -137,10 +142,46 @@ fn further_parts(text: &[u8]) -> u64 {
     text.len() as u64
 }
 
-// Writes what stands behind the backquote at which the engine stands, if it stands at one.
+// Writes in the text of which macro a fault of the open texts of a usage was met. The two kinds that are none of theirs come behind
+// what is lent.
+fn write_text_of<S: Sources, W: Write>(
+    kind: FaultKind,
+    engine: &Engine<S>,
+    writer: &mut W,
+) -> io::Result<()> {
+    if matches!(kind, FaultKind::OutputBytes | FaultKind::WriteFailed) {
+        return Ok(());
+    }
+    let Some(place) = engine.innermost_text() else {
+        return Ok(());
+    };
+    match macro_of(place.source) {
+        None => write_parts(&[NOTE, b"in an argument of the call\n"], writer),
+        Some(id) => {
+            let name = engine.table().name(id);
+            write_parts(&[NOTE, b"in the text of macro '", name, b"'\n"], writer)
+        }
+    }
+}
+
+// The macro to which a text belongs, if it does to one.
+fn macro_of(source: TextSource) -> Option<MacroId>
+    ensures { IfSome result (λ id. (texts : Texts) → IsSource texts source → id < length texts.macros) }
+{
+    match source {
+        TextSource::Arguments => None,
+        TextSource::Body(id) => Some(id),
+        TextSource::Default { id, .. } => Some(id),
+    }
+}
+
+// Writes what stands behind the backquote at which the engine stands, in a text of a usage or in a source, if it stands at one.
 fn write_behind<S: Sources, W: Write>(engine: &Engine<S>, writer: &mut W) -> io::Result<()> {
-    let front = engine.front();
-    if engine.held().cursors > 0 || !front.starts_with(b"`") {
+    let front = match engine.innermost_text() {
+        Some(place) => text_at(engine.table(), engine.arguments(), place),
+        None => engine.front(),
+    };
+    if !front.starts_with(b"`") {
         return Ok(());
     }
     write_parts(&[NOTE, b"behind the backquote stands "], writer)?;
