@@ -34,6 +34,7 @@ ghost use Rattle.rdlpp_expand.specs.contracts.engine.Engine.{the_row};
 
 mod asking;
 mod conditional;
+mod costs;
 mod fronts;
 mod include;
 mod line;
@@ -66,13 +67,9 @@ pub(crate) use texts::TextStep;
 use words::DEFINE_BYTES;
 
 /// What the steps that come to no bytes may cost in one read, or in one call of `Engine::next`, before one more: a step over open
-/// texts costs 1, the opening of a usage 16, and another one, which may take a line, 256.
+/// texts costs 1, the opening of a usage 16, and another one, which may take a line, 256. Each byte of a `define` and of what is
+/// kept of a call costs 1 more; of skipped text, which is passed faster, each fourth one.
 pub const READ_ALLOWANCE: usize = 65_535;
-
-// What such a step costs that isn't one over open texts, and what one costs that opens a usage.
-const LINE_COST: usize = 256;
-
-const USAGE_COST: usize = 16;
 
 // No bytes, as of no LF bytes that are owed.
 const NO_BYTES: OwedPiece = OwedPiece {
@@ -94,6 +91,8 @@ pub struct Engine<S: Sources> {
     owed: Owed,
     // where the piece stands that was lent last
     marks: Marks,
+    // how many bytes were taken of a `define` or of skipped text, whose cost isn't counted yet
+    taken: usize,
     table: Table,
     conditions: Conditions,
     sources: S,
@@ -291,19 +290,6 @@ impl<S: Sources> Engine<S> {
         step.place()
     }
 
-    // What the step costs that was taken last and came to no bytes.
-    fn cost(&self, in_texts: bool) -> usize
-        ensures { further_parts in_texts < result }
-    {
-        if in_texts {
-            1
-        } else if self.expansion.is_empty() {
-            LINE_COST
-        } else {
-            USAGE_COST
-        }
-    }
-
     // Takes one step that is none over the open texts of a usage.
     #[inline(always)]
     fn step_outside(&mut self) -> Option<Place>
@@ -445,6 +431,7 @@ impl<S: Sources> Engine<S> {
             Err(fault) => Some(self.refuse(fault_kind(fault.kind), fault.word)),
             Ok(()) => {
                 let _count = self.table.len();
+                self.taken = len;
                 self.consume(len, lines);
                 self.owed.owe_line_ends(lines);
                 None

@@ -67,6 +67,7 @@ impl<S: Sources> Engine<S> {
             main: ArrayString::new(),
             owed: Owed::nothing(),
             marks: Marks::new(),
+            taken: 0,
             table,
             conditions,
             sources,

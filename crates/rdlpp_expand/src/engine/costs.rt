@@ -1,0 +1,29 @@
+// What steps cost that come to no bytes.
+ghost use Rattle.std.specs.Prelude.{◌≡◌, ◌<◌};
+ghost use Rattle.rdlpp_expand.specs.Texts.{further_parts};
+
+use crate::engine::Engine;
+use rdlpp_source::Sources;
+use std::mem;
+
+// What such a step costs that isn't one over open texts, and what one costs that opens a usage, beside the bytes that it takes.
+const LINE_COST: usize = 256;
+
+const USAGE_COST: usize = 16;
+
+impl<S: Sources> Engine<S> {
+    // What the step costs that was taken last and came to no bytes. That of a `define`, of skipped text and of a call rises with
+    // the bytes that they have.
+    pub(super) fn cost(&mut self, in_texts: bool) -> usize
+        ensures parts { further_parts in_texts < result }
+        ensures same { self.new ≡ self.old }
+    {
+        if in_texts {
+            1
+        } else if self.expansion.is_empty() {
+            mem::take(&mut self.taken).saturating_add(LINE_COST)
+        } else {
+            self.expansion.arguments().len().saturating_add(USAGE_COST)
+        }
+    }
+}
