@@ -116,12 +116,15 @@ fn passes_on_what_it_holds_at_its_end(rt: HostRuntime) -> Result<(), Fail> {
     Ok(())
 }
 
-// A writer that takes nothing fails a flush and a long part, and a drop ends over it.
+// A writer that takes nothing fails a flush and a long part, for which it is asked once where nothing is held back, and a drop ends
+// over it.
 #[test]
 fn ends_over_a_writer_that_takes_nothing(rt: HostRuntime) -> Result<(), Fail> {
     let mut writer = narrow(&rt);
     writer.step = 0;
     let mut sink = Buffered::with_capacity(rt.alloc(), 4, writer)?;
+    assert_eq!(rt; sink.write(b"cdefgh"), Ok(0));
+    assert_eq!(rt; sink.writer().writes, 1);
     assert_eq!(rt; sink.write(b"ab"), Ok(2));
     assert_eq!(rt; sink.flush(), Err(SinkFault));
     assert_eq!(rt; sink.write(b"cdefgh"), Err(SinkFault));
