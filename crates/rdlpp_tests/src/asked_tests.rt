@@ -138,36 +138,41 @@ fn opens_nothing_after_a_refused_definition(rt: HostRuntime) -> Result<(), Fail>
     Ok(())
 }
 
-// Of a line that is too long no more is read than a line may have, and one byte that tells so.
+// Of a line that is too long no more is read than a line may have, and one byte that tells so. A text that ends where a line has as
+// many bytes as it may tells its end once.
 #[test]
 fn reads_one_byte_past_a_full_line(rt: HostRuntime) {
-    let asked = Cell::new(NOTHING);
-    let line = [b'x'; 1_000];
-    let files = [("m", line.as_slice())];
-    let texts = AskedTexts {
-        texts: Texts {
-            files: &files,
-            folders: &[],
-        },
-        main: None,
-        searches: 1,
-        asked: &asked,
-        failures: 0,
-    };
-    let options = Options {
-        defines: Vec::new(rt.alloc()),
-        limits: Limits {
-            line_bytes: 256,
-            ..STANDARD
-        },
-        origins: false,
-    };
-    let outcome = preprocess(rt.alloc(), &options, texts, "m", &mut sink(false));
-    let Some(fault) = fault_of(&outcome) else {
-        panic!(rt; "no fault");
-    };
-    assert_eq!(rt; fault.kind, FaultKind::LineTooLong);
-    assert_eq!(rt; asked.get().given, 257);
+    let rows: [(&[u8], u64, Option<FaultKind>); 2] = [
+        (&[b'x'; 1_000], 257, Some(FaultKind::LineTooLong)),
+        (&[b'x'; 256], 256, None),
+    ];
+    for (line, given, kind) in rows {
+        let asked = Cell::new(NOTHING);
+        let files = [("m", line)];
+        let texts = AskedTexts {
+            texts: Texts {
+                files: &files,
+                folders: &[],
+            },
+            main: None,
+            searches: 1,
+            asked: &asked,
+            failures: 0,
+        };
+        let options = Options {
+            defines: Vec::new(rt.alloc()),
+            limits: Limits {
+                line_bytes: 256,
+                ..STANDARD
+            },
+            origins: false,
+        };
+        let outcome = preprocess(rt.alloc(), &options, texts, "m", &mut sink(false));
+        let told = fault_of(&outcome).map(|it| it.kind);
+        assert_eq!(rt; told, kind);
+        assert_eq!(rt; asked.get().given, given);
+        assert_eq!(rt; asked.get().late_reads, 0);
+    }
 }
 
 // A failed write names the path that was asked for.
