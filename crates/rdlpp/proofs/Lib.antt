@@ -1,4 +1,2 @@
-pub mod FreshRuns
-pub mod ReportLines
+pub mod Runs
 pub mod Searches
-pub mod RunsFrom

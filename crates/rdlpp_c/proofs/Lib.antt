@@ -1,9 +1,4 @@
-pub mod WholeReads
 pub mod Outputs
 pub mod Values
-pub mod FaultTexts
-pub mod Texts
-pub mod Handles
-pub mod Onces
 pub mod Quiet
-pub mod MappedReads
+pub mod Onces

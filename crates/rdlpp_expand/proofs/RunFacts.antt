@@ -1,30 +1,32 @@
--- Pulls in a row, and the run that they are.
-use Rattle.std.proofs.Common.{◌≡◌, ◌≢◌, ℕ, ◌+◌, ◌-◌, ◌^◌, ◌≤◌, ◌==◌, min, Bool, true, false, ◌&&◌, ◌||◌, not, List, [], ◌++◌, length, take, drop, Option, None, Some, Result, Ok, Err, IfSome, refl, sym, ap, subst, ◌∙◌, append_assoc, append-nil, length-append, ne_eqb, arith, inl, inr}
-use Rattle.std.proofs.lemmas.List.{take_all, length-take-le, take-append-drop}
-use Rattle.std.specs.Prelude.{if◌then◌else◌}
+-- Pulls in a row, the run that they are, and what its watcher is shown.
+use Rattle.std.proofs.Common.{◌≡◌, ◌≢◌, ℕ, ◌+◌, ◌-◌, ◌^◌, ◌≤◌, ◌==◌, min, Bool, true, false, ◌&&◌, ◌||◌, not, List, [], ◌++◌, length, take, drop, Option, None, Some, Result, Ok, Err, IfSome, refl, sym, ap, subst, ◌∙◌, append_assoc, append-nil, length-append, ne_eqb, arith, inl, inr, if◌then◌else◌, length-take-le, take-append-drop, take_all}
 use Rattle.std.specs.Io.KnownBytes.{Appends, Keeps}
-use Rattle.rdlpp_source.specs.Counts.{Counts}
-use Rattle.rdlpp_source.specs.declared.sources.Sources.{Ghosts}
-use Rattle.rdlpp_source.specs.declared.sinks.Sink.{Ghosts as SinkGhosts}
-use Rattle.rdlpp_meaning.specs.declared.fault.FaultKind.{FaultKind}
 use Rattle.rdlpp_meaning.specs.Meaning.{outcome}
-use Rattle.rdlpp_meaning.specs.Outcome.{Told, Outcome, gives, fails, and_then}
+use Rattle.rdlpp_meaning.specs.Outcome.{Outcome, Told, and_then, fails, gives}
 use Rattle.rdlpp_meaning.specs.OutputLimit.{limited}
-use Rattle.rdlpp_meaning.proofs.Outcomes.{and_then-gives_nil, and_then-gives, and_then-gives_gives, bytes-and_then_gives}
+use Rattle.rdlpp_meaning.specs.declared.fault.FaultKind.{FaultKind}
+use Rattle.rdlpp_meaning.proofs.Outcomes.{and_then-gives, and_then-gives_gives, and_then-gives_nil, bytes-and_then_gives}
+use Rattle.rdlpp_source.specs.Counts.{Counts}
+use Rattle.rdlpp_source.specs.declared.sinks.Sink.{Ghosts as SinkGhosts}
+use Rattle.rdlpp_source.specs.declared.sources.Sources.{Ghosts}
 use Rattle.rdlpp_state.specs.Calls.{SourcesCalled}
 use Rattle.rdlpp_state.specs.Engine.{EngineView, is_open}
 use Rattle.rdlpp_state.specs.Held.{IsBounded, stores_of}
-use Rattle.rdlpp_state.proofs.Stores.{KeepsStores, keeps_refused}
 use Rattle.rdlpp_state.specs.Owed.{nothing_owed}
 use Rattle.rdlpp_state.specs.Remaining.{kept_uncut, left_of, output_fault, phase_uncut, state_of, text_of, uncut_of}
-use Rattle.rdlpp_expand.specs.Run.{Pulls, Wrote, WroteEnds, Going, Finishes, Stops, StopsAt, Breaks, Runs, Begins, Flushes, Unflushed, answered, is_fresh, is_kept, is_unwritten, write_fault}
-use Rattle.rdlpp_state.specs.Steps.{Steps, StopsReading, Stood, Itself, BeforeCall, Tells, IsStarted, has_met, lent_len, FailsAt, is_call_failed, is_memory_kind, is_read_failed, is_write_failed}
+use Rattle.rdlpp_state.specs.Steps.{BeforeCall, FailsAt, IsStarted, Itself, Steps, Stood, StopsReading, Tells, has_met, is_call_failed, is_memory_kind, is_read_failed, is_write_failed, lent_len}
+use Rattle.rdlpp_state.specs.declared.phase.Phase.{Phase}
+use Rattle.rdlpp_state.specs.declared.phase.Phase.TheVariants.{Closed, Fresh, Open, Passed}
 use Rattle.rdlpp_state.proofs.EngineSteps.{called_after, free_before, left_open, not_called, ok_not_met}
 use Rattle.rdlpp_state.proofs.FrontSteps.{opened_phase}
-use Rattle.rdlpp_state.specs.declared.phase.Phase.{Phase}
-use Rattle.rdlpp_state.specs.declared.phase.Phase.TheVariants.{Fresh, Open, Passed, Closed}
+use Rattle.rdlpp_state.proofs.Stores.{KeepsStores, keeps_refused}
+use Rattle.rdlpp_expand.specs.Run.{Begins, Breaks, Finishes, Flushes, Going, Pulls, Runs, Stops, StopsAt, Unflushed, Wrote, WroteEnds, answered, is_fresh, is_kept, is_unwritten, write_fault}
+use Rattle.rdlpp_expand.specs.Watching.{Shows}
+use Rattle.rdlpp_expand.specs.declared.watching.Watcher.{Ghosts as WatcherGhosts}
 use Rattle.rdlpp_expand.specs.declared.writing.Ending.{Ending}
 use Rattle.rdlpp_expand.specs.declared.writing.Ending.TheVariants.{Finished, Stopped, Unwritten}
+
+-- Pulls in a row, and the run that they are.
 
 -- nothing was taken
 pub appends_none : (known : Option (List ℕ)) → Appends known known []
@@ -633,3 +635,32 @@ runs_unchanged g h old new before after n fault test w is tests is_so =
     let other : is_write_failed w.ends.fault.kind ≡ true = sym (tests w.ends.fault w.ends.kept) ∙ is_so in
     runs_ended g h old new before after after n w false false fault is (keeps_same (h.taken after)) refl refl refl (λ e. (let bad : ⊥ = cc e in absurd bad))
     (ap not (sym (kept_before is_write_failed old.kept w.ends.fault true w.ends.own (λ k e. (w.ends.again k e).0) other))) (λ e. (let bad : ⊥ = cc e in absurd bad))
+
+-- Watchers, which are shown what a sink took.
+
+-- nothing was taken, and nothing shown
+pub shows_none : {W V : Type 0} (h : SinkGhosts W) (v : WatcherGhosts V) (w : W) (x : V) → Shows h v w w x x
+shows_none h v w x = record { bytes = []; taken = appends_none (h.taken w); looks = refl; seen = λ _. appends_none (v.seen x); blind = λ _. refl }
+
+-- more was taken, and shown
+pub shows_more : {W V : Type 0} (h : SinkGhosts W) (v : WatcherGhosts V) (before between after : W) (was then_ now : V) → Shows h v before between was then_
+    → Shows h v between after then_ now → Shows h v before after was now
+shows_more h v before between after was then_ now first next = record {
+  bytes = first.bytes ++ next.bytes;
+  taken = appends_more _ _ _ first.bytes next.bytes _ first.taken next.taken refl;
+  looks = next.looks ∙ first.looks;
+  seen = λ looks. appends_more _ _ _ first.bytes next.bytes _ (first.seen looks) (next.seen (first.looks ∙ looks)) refl;
+  blind = λ blind. next.blind (first.looks ∙ blind) ∙ first.blind blind;
+}
+
+-- a flush shows nothing
+pub shows_kept : {W V : Type 0} (h : SinkGhosts W) (v : WatcherGhosts V) (before between after : W) (was now : V) → Shows h v before between was now
+    → Keeps (h.taken between) (h.taken after) → Shows h v before after was now
+shows_kept h v before between after was now first keeps =
+    record { bytes = first.bytes; taken = appends_kept _ _ _ first.bytes first.taken keeps; looks = first.looks; seen = first.seen; blind = first.blind }
+
+-- a part of a piece was taken, and shown
+pub shows_part : {W V : Type 0} (h : SinkGhosts W) (v : WatcherGhosts V) (before after : W) (was now : V) (xs ys : List ℕ) → Appends (h.taken before) (h.taken after) xs
+    → v.looks now ≡ v.looks was → (v.looks was ≡ true → Appends (v.seen was) (v.seen now) ys) → (v.looks was ≡ false → now ≡ was) → ys ≡ xs → Shows h v before after was now
+shows_part h v before after was now xs ys taken looks seen blind same =
+    record { bytes = xs; taken = taken; looks = looks; seen = λ l. (let P : List ℕ → Type 0 = λ zs. Appends (v.seen was) (v.seen now) zs in subst P same (seen l)); blind = blind }

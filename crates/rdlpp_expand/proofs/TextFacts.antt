@@ -1,26 +1,36 @@
--- Steps over open texts, and what is known between them.
-use Rattle.std.proofs.Common.{◌≡◌, ℕ, ◌+◌, ◌-◌, ◌≤◌, ◌<◌, Bool, true, false, List, [], ◌∷◌, length, ◌==◌, Option, None, Some, Ok, Err, refl, sym, ap, subst, arith}
-use Rattle.std.specs.Prelude.{◌↔◌, IsTrue, is_some}
-use Rattle.std.proofs.lemmas.Bool.{true≢false}
+-- Steps over open texts, and what is known of them, of their places and of the open sources.
+use Rattle.std.proofs.Common.{◌≡◌, ℕ, ◌+◌, ◌-◌, ◌≤◌, ◌<◌, Bool, true, false, List, [], ◌∷◌, length, ◌==◌, Option, None, Some, Ok, Err, refl, sym, ap, subst, arith, ◌∙◌, cond, inl, inr, unwrap_or, zero, suc, ◌^◌, slice_get, All, find, option_map, IsTrue, bytes_eq, is_some, ◌↔◌, true≢false}
+use Rattle.std.proofs.lemmas.Bool.{cases_Bool}
+use Rattle.std.proofs.lemmas.List.Elements.{All-head, All-tail}
+use Rattle.std.proofs.lemmas.Option.{none-some, same_Some}
+use Rattle.std.proofs.lemmas.Slice.Eq.{bytes_eq-Decides}
+use Rattle.rdlpp_table.specs.Table.{Macro, macro_named}
+use Rattle.rdlpp_table.specs.View.{TableView, macro_at}
+use Rattle.rdlpp_meaning.specs.Outcome.{Told, told}
+use Rattle.rdlpp_meaning.specs.declared.fault.Fault.{Fault}
 use Rattle.rdlpp_source.specs.declared.sources.Sources.{Ghosts}
-use Rattle.rdlpp_meaning.specs.Outcome.{Told}
 use Rattle.rdlpp_texts.specs.declared.place.TextPlace.{TextPlace}
 use Rattle.rdlpp_texts.specs.declared.step.CursorStep.{CursorStep}
 use Rattle.rdlpp_texts.specs.declared.step.CursorStep.TheVariants.{Lends}
+use Rattle.rdlpp_read.specs.Files.{IsSlot, shift_of}
+use Rattle.rdlpp_read.specs.declared.files.File.{File}
 use Rattle.rdlpp_usages.specs.Usages.{ExpansionView, StaysLent}
-use Rattle.rdlpp_state.specs.Engine.{EngineView}
-use Rattle.rdlpp_state.specs.Marks.{MarksView}
+use Rattle.rdlpp_state.specs.Engine.{AreIncluded, EngineView, is_open}
+use Rattle.rdlpp_state.specs.Marks.{MarksView, PlaceView, marked_place}
 use Rattle.rdlpp_state.specs.Moves.{IsUnowed}
 use Rattle.rdlpp_state.specs.Pieces.{kept_answer, lent_answer, step_answer}
-use Rattle.rdlpp_state.specs.Steps.{Steps, WalksOver}
+use Rattle.rdlpp_state.specs.Positions.{position_of}
 use Rattle.rdlpp_state.specs.Silences.{most_silent}
-use Rattle.rdlpp_state.specs.declared.place.Place.{Place}
+use Rattle.rdlpp_state.specs.Steps.{Steps, WalksOver}
 use Rattle.rdlpp_state.specs.declared.phase.Phase.TheVariants.{Open}
-use Rattle.rdlpp_state.proofs.Cuts.{cut_kept, cut_piece, IsSpent}
+use Rattle.rdlpp_state.specs.declared.place.Place.{Place}
+use Rattle.rdlpp_state.proofs.LentPieces.{IsSpent, cut_kept, cut_piece, position_first}
 use Rattle.rdlpp_state.proofs.EngineSteps.{follows}
 use Rattle.rdlpp_expand.specs.Texts.{IsInTexts, LeavesTexts, StaysUnowed, further_parts, place_of}
 use Rattle.rdlpp_expand.specs.declared.engine.texts.TextStep.{TextStep}
-use Rattle.rdlpp_expand.specs.declared.engine.texts.TextStep.TheVariants.{Lent, Silent, Kept}
+use Rattle.rdlpp_expand.specs.declared.engine.texts.TextStep.TheVariants.{Kept, Lent, Silent}
+
+-- Steps over open texts, and what is known between them.
 
 -- a list that isn't empty has an element
 pub some_in : {A : Type 0} (xs : List A) → (length xs == 0) ≡ false → 0 < length xs
@@ -100,3 +110,50 @@ spent_more all left cost parts inside less room = omega (arith, inside, less, ro
 -- the parts of which no more than 65,535 are left are 65,536 at most with the last one
 pub allowed : (all left : ℕ) → all ≤ 65535 → all - left + 1 ≤ 65536
 allowed all left most = omega (arith, most)
+
+-- The place of the piece that was lent last.
+
+-- a fault is kept where one is told
+pub told-some : (kept : Option Fault) → is_some (option_map told kept) ≡ is_some kept
+told-some None = refl
+told-some (Some f) = refl
+
+-- what the innermost source shows is the place of the engine
+pub position-by : {S R : Type 0} (inside e : EngineView S R) (f : File R) (outer : List (File R)) (name : List ℕ) (place : Option PlaceView) → inside ≡ e → inside.files.nest ≡ f ∷ outer
+    → is_some e.kept ≡ false → is_open e.phase ≡ true → place ≡ marked_place inside.marks name (shift_of f.shift) → name ≡ f.name.bytes → place ≡ position_of e
+position-by {S} {R} inside e f outer name place is nest none opens told named =
+    told ∙ (ap (λ (n : List ℕ). marked_place inside.marks n (shift_of f.shift)) named ∙ (ap (λ (x : EngineView S R). marked_place x.marks f.name.bytes (shift_of f.shift)) is
+    ∙ sym (position_first e f outer (ap (λ (x : EngineView S R). x.files.nest) (sym is) ∙ nest) none opens)))
+
+-- The name of the macro that a usage names is that of the usage.
+
+named_so : (ms : List Macro) (name : List ℕ) (m : Macro) → macro_named ms name ≡ Some m → m.name ≡ name
+unfolding macro_named
+named_so [] name m e = absurd (cc)
+named_so (x ∷ ms) name m e = elim (cases_Bool (bytes_eq x.name name)) [
+  | inl t ↦
+      let first : Some x ≡ Some m = sym (ap (λ (b : Bool). cond b (Some x) (find (λ y. bytes_eq y.name name) ms)) t) ∙ e in
+      let same : x ≡ m = ap (λ (o : Option Macro). unwrap_or o x) first in
+      subst (λ (y : Macro). y.name ≡ name) same ((bytes_eq-Decides x.name name).0 t)
+  | inr f ↦ named_so ms name m (sym (ap (λ (b : Bool). cond b (Some x) (find (λ y. bytes_eq y.name name) ms)) f) ∙ e)
+]
+
+-- the name of the macro at a place of a table, where a usage names that macro
+pub used_name : (told table : TableView) (name own : List ℕ) (id : ℕ) → told ≡ table → own ≡ (macro_at told.macros id).name
+    → macro_named table.macros name ≡ Some (macro_at table.macros id) → own ≡ name
+used_name told table name own id same is named =
+    is ∙ ap (λ (t : TableView). (macro_at t.macros id).name) same ∙ named_so table.macros name (macro_at table.macros id) named
+
+-- What holds of each open source.
+
+-- the numbers that its lines show are small
+pub slot_number : {R : Type 0} (line_bytes : ℕ) (nest : List (File R)) (place : ℕ) (f : File R) → All (IsSlot line_bytes) nest → slice_get nest place ≡ Some f → f.shift.number < 2 ^ 32
+slot_number line_bytes [] place f all e = absurd (none-some f e)
+slot_number line_bytes (g ∷ outer) zero f all e = subst (λ (h : File _). h.shift.number < 2 ^ 32) (same_Some g f e) (All-head (IsSlot line_bytes) g outer all).number
+slot_number line_bytes (g ∷ outer) (suc k) f all e = slot_number line_bytes outer k f (All-tail (IsSlot line_bytes) g outer all) e
+
+-- the line of its `include` can be counted
+pub included_line : {R : Type 0} (nest : List (File R)) (place : ℕ) (f : File R) → AreIncluded nest → slice_get nest place ≡ Some f → f.include_line < 2 ^ 63
+included_line [] place f all e = absurd (none-some f e)
+included_line (g ∷ outer) zero f all e = subst (λ (h : File _). h.include_line < 2 ^ 63) (same_Some g f e) all.0
+included_line (g ∷ outer) (suc k) f all e = included_line outer k f all.1 e

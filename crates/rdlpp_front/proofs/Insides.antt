@@ -1,27 +1,45 @@
--- What the bytes at the front of a text tell of its first token, and where fronts lie in what is held.
-use Rattle.std.proofs.Common.{◌≡◌, ◌≢◌, ℕ, suc, ◌-◌, ◌<◌, Bool, true, false, cond, ◌&&◌, ◌==◌, List, [], ◌∷◌, length, take, drop, slice_index, refl, sym, ap, ◌∙◌, arith, Option, Some, None, subst, ◌+◌, ◌≤◌}
-use Rattle.std.specs.List.{prefix_len}
-use Rattle.std.proofs.lemmas.Bool.{and_parts, eqb-true}
-use Rattle.std.specs.Prelude.{bytes_eq, codes}
-use Rattle.std.proofs.lemmas.List.{length-take-le, drop-drop, length-drop}
+-- What the bytes at the front of a text tell, and what remains of open sources for each kind of token there.
+use Rattle.std.proofs.Common.{◌≡◌, ◌≢◌, ℕ, suc, ◌-◌, ◌<◌, Bool, true, false, cond, ◌&&◌, ◌==◌, List, [], ◌∷◌, length, take, drop, slice_index, refl, sym, ap, ◌∙◌, arith, Option, Some, None, subst, ◌+◌, ◌≤◌, not, ◌++◌, append-nil, inl, inr, bytes_eq, codes, eqb-true, drop-drop, length-drop, length-take-le}
+use Rattle.std.specs.List.{list_all, prefix_len}
+use Rattle.std.proofs.lemmas.Bool.{and_parts, cond_both, false≢true}
 use Rattle.std.proofs.lemmas.Slice.Eq.{bytes_eq-Decides}
-use Rattle.rdlpp_scan.specs.declared.token.Kind.TheVariants.{Back, Perl, BareBackquote, Name}
-use Rattle.rdlpp_scan.specs.declared.token.Mode.{Mode}
-use Rattle.rdlpp_scan.specs.declared.token.Mode.TheVariants.{Plain, InStr, InBlock}
-use Rattle.rdlpp_scan.specs.declared.token.Token.{Token}
-use Rattle.rdlpp_scan.specs.Bytes.{is_blank, is_line_end, is_letter, is_digit, is_word, is_opener, is_closer, takes_word, begins_perl, begins_line_comment, begins_block_comment}
-use Rattle.rdlpp_scan.specs.Tokens.{whole, string_token, plain_token, token_of, first_place, plain_len, stops_plain_text}
-use Rattle.rdlpp_scan.proofs.StopKinds.{Row, AtPerl, AtLineComment, AtBlockComment, AtString, AtBack, AtBare, AtPlain, token_of-row, string_token-kind, block_token-kind}
-use Rattle.rdlpp_front.specs.Fronts.{is_text_kind, IsDirective, IsGivenString, IsNameBehind, IsNamed, IsStringBehind, NameBehind, StringBehind, word_of, AtOrdinary, AtToken, HasName, IsText, IsUsage, argument_name, usage_name}
-use Rattle.rdlpp_scan.specs.declared.token.Directive.{Directive}
-use Rattle.rdlpp_scan.specs.declared.token.Directive.TheVariants.{Define, Undef, Ifdef, Ifndef, Elsif, Else, Endif, Include, Line}
+use Rattle.rdlpp_scan.specs.Bytes.{begins_block_comment, begins_line_comment, begins_perl, is_blank, is_closer, is_digit, is_letter, is_line_end, is_opener, is_word, takes_word}
+use Rattle.rdlpp_scan.specs.Front.{Breach}
 use Rattle.rdlpp_scan.specs.Names.{directive_named}
-use Rattle.rdlpp_scan.proofs.TokenLens.{token_of-part}
-use Rattle.rdlpp_read.specs.Arguments.{NoName, NoString, IsLead, Leads, Lacks}
-use Rattle.rdlpp_front.specs.declared.front.Argument.{Argument}
-use Rattle.rdlpp_scan.proofs.FirstTokens.{plain_token-run}
-use Rattle.rdlpp_scan.proofs.Searches.{first_place-le, list_all-prefix}
+use Rattle.rdlpp_scan.specs.Reserved.{is_reserved}
+use Rattle.rdlpp_scan.specs.Resumed.{opening}
+use Rattle.rdlpp_scan.specs.SourceTokens.{Broken, Definition, Ordinary, SourceToken, line_ends, remaining_tokens}
+use Rattle.rdlpp_scan.specs.Tokens.{first_place, plain_len, plain_token, stops_plain_text, string_token, token_of, whole}
+use Rattle.rdlpp_scan.specs.declared.token.Directive.{Directive}
+use Rattle.rdlpp_scan.specs.declared.token.Directive.TheVariants.{Define, Else, Elsif, Endif, Ifdef, Ifndef, Include, Line, Undef}
+use Rattle.rdlpp_scan.specs.declared.token.Kind.{Kind}
+use Rattle.rdlpp_scan.specs.declared.token.Kind.TheVariants.{Back, BareBackquote, LineComment, Name, Perl}
+use Rattle.rdlpp_scan.specs.declared.token.Mode.{Mode}
+use Rattle.rdlpp_scan.specs.declared.token.Mode.TheVariants.{InBlock, InStr, Plain}
+use Rattle.rdlpp_scan.specs.declared.token.Token.{Token}
+use Rattle.rdlpp_scan.proofs.RemainingLaws.{IsOpenKind, plain_token-run, remaining-opened}
+use Rattle.rdlpp_scan.proofs.TokenLens.{first_place-le, list_all-prefix, plain_len-found, token_of-part}
+use Rattle.rdlpp_scan.proofs.SourceLaws.{line_ends-cons}
+use Rattle.rdlpp_scan.proofs.StopKinds.{AtBack, AtBare, AtBlockComment, AtLineComment, AtPerl, AtPlain, AtString, Row, block_token-kind, string_token-kind, token_of-row}
+use Rattle.rdlpp_table.specs.Table.{Macro, macro_named}
+use Rattle.rdlpp_meaning.specs.Expansion.{bytes_of, is_copied, usage_token}
+use Rattle.rdlpp_meaning.specs.Meaning.{Passage, Progress, behind_bytes, goes_on, leaves, refusal}
+use Rattle.rdlpp_meaning.specs.Opened.{Waiting, all_resumed, unwound}
+use Rattle.rdlpp_meaning.specs.Outcome.{Told, fails}
+use Rattle.rdlpp_meaning.specs.Parts.{Command, directive_of, line_ends_of, only_blanks}
+use Rattle.rdlpp_meaning.specs.Resumed.{Live, Place, Skipped, resumed}
+use Rattle.rdlpp_meaning.specs.State.{Accepted, Refused, Rules, State, breach_kind, fault_at}
+use Rattle.rdlpp_meaning.specs.declared.fault.FaultKind.{FaultKind}
+use Rattle.rdlpp_meaning.specs.declared.fault.FaultKind.TheVariants.{BareBackquote as LoneBackquote, UndefinedMacro}
+use Rattle.rdlpp_meaning.proofs.Directives.{all_resumed_behind, all_resumed_fails, behind_bytes-goes_on}
+use Rattle.rdlpp_meaning.proofs.LiveText.{resumed_bare, resumed_broken, resumed_broken_parts, resumed_copied, resumed_copied_parts, resumed_defined, resumed_refused, resumed_undefined}
+use Rattle.rdlpp_meaning.proofs.Outcomes.{behind_bytes-nil, fails-goes_on}
+use Rattle.rdlpp_meaning.proofs.Skipping.{all_copied_skipped, resumed_skipped, resumed_skipped_broken, resumed_skipped_broken_parts, resumed_skipped_parts}
+use Rattle.rdlpp_read.specs.Arguments.{IsLead, Lacks, Leads, NoName, NoString}
+use Rattle.rdlpp_read.specs.Buffer.{BufferView, ahead_of, entered_mode, held_of, rest_of, tokens_left}
+use Rattle.rdlpp_front.specs.Fronts.{AtOrdinary, AtToken, HasName, IsDirective, IsGivenString, IsNameBehind, IsNamed, IsStringBehind, IsText, IsUsage, NameBehind, StringBehind, argument_name, is_text_kind, usage_name, word_of}
 use Rattle.rdlpp_front.specs.Names.{IsWordBytes}
+use Rattle.rdlpp_front.specs.declared.front.Argument.{Argument}
 
 -- What the bytes at the front of a text tell of its first token.
 
@@ -268,3 +286,296 @@ name_word d held start stop has =
     let name : take (has.name.to - has.name.from) (drop has.name.from (drop n held)) ≡ argument_name held start stop =
     ap (take (has.name.to - has.name.from)) at ∙ ap (λ (i : ℕ). take i (drop start held)) size in
     subst IsWordBytes name (lead_word (drop has.name.from (drop n held)) (has.name.to - has.name.from) g.name)
+
+-- Fronts where no text is copied.
+
+-- where ordinary text stops at the front, there is none
+stopped_front : (held : List ℕ) → 0 < length held → stops_plain_text held ≡ true → 0 ≡ plain_len held
+stopped_front held some stop = plain_len-found held 0 some (λ j lt. absurd (omega arith)) stop
+
+-- where ordinary text doesn't stop at the front, there is some
+pub plain_some : (held : List ℕ) → 0 < length held → stops_plain_text held ≡ false → 0 < plain_len held
+unfolding plain_len first_place
+plain_some [] some goes_on = absurd (omega arith)
+plain_some (b ∷ bs) some goes_on = rw goes_on (omega arith)
+
+-- `<%` is no text
+pub perl_kind : is_text_kind Perl ≡ false
+unfolding is_text_kind
+perl_kind = refl
+
+-- no text is copied where a token of another kind stops ordinary text
+pub no_text : (mode : Mode) (held : List ℕ) → 0 < length held → (mode ≡ Plain → stops_plain_text held ≡ true) → is_text_kind (token_of mode held).kind ≡ false
+    → (len : ℕ) (next : Mode) → IsText mode held len next → ⊥
+no_text mode held some stops other len next (AtOrdinary plain behind has long) =
+    let none = stopped_front held some (stops plain) in absurd (omega (arith, none, has, long))
+no_text mode held some stops other len next (AtToken kind behind long) = absurd (false≢true (sym other ∙ kind))
+
+-- ordinary text stops at a backquote
+backquote_stops : (held : List ℕ) → slice_index held 0 ≡ 96 → stops_plain_text held ≡ true
+unfolding stops_plain_text
+backquote_stops held e = rw e refl
+
+-- a token at a backquote is no text
+back_kind : (t : Bool) (n : ℕ) → is_text_kind (cond t (whole Back n) (whole BareBackquote 1)).kind ≡ false
+unfolding whole is_text_kind
+back_kind true n = refl
+back_kind false n = refl
+
+-- no text is copied at a backquote
+pub no_text_at_backquote : (held : List ℕ) → 0 < length held → slice_index held 0 ≡ 96 → (len : ℕ) (next : Mode) → IsText Plain held len next → ⊥
+no_text_at_backquote held some e =
+    no_text Plain held some (λ _. backquote_stops held e)
+    (ap (λ (t : Token). is_text_kind t.kind) (token_at_backquote held e) ∙ back_kind (is_letter (slice_index held 1)) _)
+
+-- a part without LF has no line ends
+part_without_ends : (bs : List ℕ) → line_ends (take (prefix_len (λ x. not (is_line_end x)) bs) bs) ≡ 0
+unfolding line_ends
+part_without_ends [] = refl
+part_without_ends (b ∷ bs) =
+    let n = prefix_len (λ x. not (is_line_end x)) bs in
+    let P : Bool → Type 0 = λ t. is_line_end b ≡ t → line_ends (take (cond (not t) (1 + n) 0) (b ∷ bs)) ≡ 0 in
+    let at_true : P true = λ e. refl in
+    let at_false : P false = λ e.
+    let one : 1 + n ≡ suc n = omega arith in
+    let own : Bool → ℕ = λ t. cond t 1 0 in
+    let first : own (is_line_end b) ≡ own false = ap own e in
+    rw one (omega (arith, line_ends-cons b (take n bs), first, part_without_ends bs)) in
+    elim (is_line_end b) as P [ true ↦ at_true | false ↦ at_false ] refl
+
+-- a comment up to its line's end has no line ends
+pub comment_without_ends : (mode : Mode) (bs : List ℕ) → (token_of mode bs).kind ≡ LineComment → line_ends (take (token_of mode bs).len bs) ≡ 0
+unfolding token_of plain_token whole
+comment_without_ends Plain bs =
+    let b = slice_index bs 0 in
+    let c = slice_index bs 1 in
+    let P : Token → Type 0 = λ t. t.kind ≡ LineComment → line_ends (take t.len bs) ≡ 0 in
+    cond_both (begins_perl bs) _ _ P (λ _ e. absurd (cc)) (λ _.
+    cond_both (is_line_end b) _ _ P (λ _ e. absurd (cc)) (λ _.
+    cond_both (is_blank b) _ _ P (λ _ e. absurd (cc)) (λ _.
+    cond_both (begins_line_comment bs) _ _ P (λ _ e. part_without_ends bs) (λ _.
+    cond_both (begins_block_comment bs) _ _ P (λ _ e. absurd (cc (block_token-kind 2 bs))) (λ _.
+    cond_both (b == 34) _ _ P (λ _ e. absurd (cc (string_token-kind 1 bs))) (λ _.
+    cond_both (is_letter b) _ _ P (λ _ e. absurd (cc)) (λ _.
+    cond_both (is_digit b) _ _ P (λ _ e. absurd (cc)) (λ _.
+    cond_both (takes_word b && is_word c) _ _ P (λ _ e. absurd (cc)) (λ _.
+    cond_both (b == 96 && is_letter c) _ _ P (λ _ e. absurd (cc)) (λ _.
+    cond_both (b == 96) _ _ P (λ _ e. absurd (cc)) (λ _.
+    cond_both (is_opener b) _ _ P (λ _ e. absurd (cc)) (λ _.
+    cond_both (is_closer b) _ _ P (λ _ e. absurd (cc)) (λ _.
+    cond_both (b == 44) _ _ P (λ _ e. absurd (cc)) (λ _ e. absurd (cc)))))))))))))))
+comment_without_ends InStr bs =
+    let P : Token → Type 0 = λ t. t.kind ≡ LineComment → line_ends (take t.len bs) ≡ 0 in
+    cond_both (begins_perl bs) _ _ P (λ _ e. absurd (cc)) (λ _ e. absurd (cc (string_token-kind 0 bs)))
+comment_without_ends InBlock bs = λ e. absurd (cc (block_token-kind 0 bs))
+
+-- An open source where its next bytes are used: what is held, what stands behind it, and the tokens that remain.
+
+-- a buffer of which so many more held bytes are used, with so many line ends
+abbrev pub used_buffer : {R : Type 0} → BufferView R → ℕ → ℕ → BufferView R
+used_buffer b len lines = record b { at = b.at + len; line = b.line + lines }
+
+-- what is held behind bytes that are used
+pub held_used : {R : Type 0} (b : BufferView R) (n l : ℕ) → held_of (used_buffer b n l) ≡ drop n (held_of b)
+unfolding held_of
+held_used b n l = sym (drop-drop n b.at (take b.accepted b.window))
+
+-- what is held is the same in each mode
+pub held_entered : {R : Type 0} (b : BufferView R) (next : Mode) → held_of (entered_mode b next) ≡ held_of b
+unfolding held_of entered_mode
+held_entered b next = refl
+
+-- the tokens in plain text, wherever something opened before
+pub tokens_plain : {R : Type 0} (unread : R → List ℕ) (b : BufferView R) → b.mode ≡ Plain
+    → tokens_left unread b ≡ remaining_tokens b.line_bytes Plain b.line b.line (held_of b) b.bytes_left (rest_of unread b)
+unfolding tokens_left
+tokens_plain unread b mode =
+    ap (λ (m : Mode). remaining_tokens b.line_bytes m b.open_token_line b.line (held_of b) b.bytes_left (rest_of unread b)) mode
+    ∙ remaining-opened b.line_bytes b.open_token_line b.line b.line (held_of b) b.bytes_left (rest_of unread b)
+
+-- the tokens behind bytes that are used
+pub tokens_used : {R : Type 0} (unread : R → List ℕ) (b : BufferView R) (n l o : ℕ) → b.mode ≡ Plain
+    → remaining_tokens b.line_bytes Plain o (b.line + l) (drop n (held_of b)) b.bytes_left (rest_of unread b) ≡ tokens_left unread (used_buffer b n l)
+unfolding rest_of ahead_of
+tokens_used unread b n l o mode =
+    remaining-opened b.line_bytes o (b.line + l) (b.line + l) (drop n (held_of b)) b.bytes_left (rest_of unread b)
+    ∙ ap (λ (held : List ℕ). remaining_tokens b.line_bytes Plain (b.line + l) (b.line + l) held b.bytes_left (rest_of unread b)) (sym (held_used b n l))
+    ∙ sym (tokens_plain unread (used_buffer b n l) mode)
+
+-- the tokens behind bytes that are used, in the mode that stands there
+pub tokens_entered : {R : Type 0} (unread : R → List ℕ) (b : BufferView R) (n l : ℕ) (next : Mode)
+    → remaining_tokens b.line_bytes next (opening b.mode b.open_token_line b.line) (b.line + l) (drop n (held_of b)) b.bytes_left (rest_of unread b)
+    ≡ tokens_left unread (used_buffer (entered_mode b next) n l)
+unfolding tokens_left entered_mode rest_of ahead_of
+tokens_entered unread b n l next =
+    ap (λ (held : List ℕ). remaining_tokens b.line_bytes next (opening b.mode b.open_token_line b.line) (b.line + l) held b.bytes_left (rest_of unread b))
+    (sym (held_used (entered_mode b next) n l ∙ ap (drop n) (held_entered b next)))
+
+-- What remains of a nest of open sources in live text, with the state behind it, for each kind of token in front of the innermost.
+
+-- bytes and then a fault of the innermost source end the nest
+pub all_resumed_behind_fails : (rules : Rules) (ws : List Waiting) (place : Place) (first : Bool) (ts : List SourceToken) (s t : State) (x : List ℕ) (f : Told)
+    → resumed rules place first ts s ≡ behind_bytes x (leaves (fails f) t)
+    → all_resumed rules ws place first ts s ≡ behind_bytes x (leaves (fails f) t)
+unfolding all_resumed
+all_resumed_behind_fails rules ws place first ts s t x f e =
+    let next : State → Passage = λ after. unwound rules ws after in
+    ap (λ (p : Passage). goes_on p next) e
+    ∙ behind_bytes-goes_on x (leaves (fails f) t) next
+    ∙ ap (λ (p : Passage). behind_bytes x p) (fails-goes_on f t next)
+
+-- a refusal in the innermost source ends the nest with its fault
+pub all_resumed_refused : (rules : Rules) (ws : List Waiting) (place : Place) (first : Bool) (ts : List SourceToken) (s : State) (kind : FaultKind) (word : List ℕ) (c : Command)
+    → resumed rules place first ts s ≡ refusal kind word c s
+    → all_resumed rules ws place first ts s ≡ leaves (fails (fault_at kind c.line word s)) s
+unfolding refusal
+all_resumed_refused rules ws place first ts s kind word c e =
+    all_resumed_fails rules ws place first ts s s (fault_at kind c.line word s) e
+
+module _ (rules : Rules) (ws : List Waiting) (os : List Progress) (first : Bool) where
+  -- tokens that are copied give their bytes
+  pub all_resumed_copied : (ts more : List SourceToken) (s : State) → list_all is_copied ts ≡ true
+      → all_resumed rules ws (Live os) first (ts ++ more) s
+      ≡ behind_bytes (bytes_of ts) (all_resumed rules ws (Live os) (only_blanks first (bytes_of ts)) more s)
+  all_resumed_copied ts more s e =
+      all_resumed_behind rules ws (Live os) (Live os) first (only_blanks first (bytes_of ts)) (ts ++ more) more s s (bytes_of ts)
+      (resumed_copied rules os first ts more s e)
+
+  -- a token that is copied may be written in two parts
+  pub all_resumed_copied_parts : (k : Kind) (x y : List ℕ) (line : ℕ) (more : List SourceToken) (s : State)
+      → is_copied (record { sort = Ordinary k; bytes = x ++ y; line = line }) ≡ true
+      → all_resumed rules ws (Live os) first (record { sort = Ordinary k; bytes = x ++ y; line = line } ∷ more) s
+      ≡ behind_bytes x (all_resumed rules ws (Live os) (only_blanks first x) (record { sort = Ordinary k; bytes = y; line = line } ∷ more) s)
+  all_resumed_copied_parts k x y line more s e =
+      all_resumed_behind rules ws (Live os) (Live os) first (only_blanks first x)
+      (record { sort = Ordinary k; bytes = x ++ y; line = line } ∷ more) (record { sort = Ordinary k; bytes = y; line = line } ∷ more) s s x
+      (resumed_copied_parts rules os first k x y line more s e)
+
+  -- a broken token may be written in two parts
+  pub all_resumed_broken_parts : (b : Breach) (x y : List ℕ) (line : ℕ) (more : List SourceToken) (s : State)
+      → all_resumed rules ws (Live os) first (record { sort = Broken b; bytes = x ++ y; line = line } ∷ more) s
+      ≡ behind_bytes x (all_resumed rules ws (Live os) (only_blanks first x) (record { sort = Broken b; bytes = y; line = line } ∷ more) s)
+  all_resumed_broken_parts b x y line more s =
+      all_resumed_behind rules ws (Live os) (Live os) first (only_blanks first x)
+      (record { sort = Broken b; bytes = x ++ y; line = line } ∷ more) (record { sort = Broken b; bytes = y; line = line } ∷ more) s s x
+      (resumed_broken_parts rules os first b x y line more s)
+
+  -- a broken token gives its bytes and its fault
+  pub all_resumed_broken : (b : Breach) (bytes : List ℕ) (line : ℕ) (more : List SourceToken) (s : State)
+      → all_resumed rules ws (Live os) first (record { sort = Broken b; bytes = bytes; line = line } ∷ more) s
+      ≡ behind_bytes bytes (leaves (fails (fault_at (breach_kind b) line [] s)) s)
+  all_resumed_broken b bytes line more s =
+      all_resumed_behind_fails rules ws (Live os) first (record { sort = Broken b; bytes = bytes; line = line } ∷ more) s s bytes
+      (fault_at (breach_kind b) line [] s) (resumed_broken rules os first b bytes line more s)
+
+  -- a broken token without bytes gives its fault alone
+  pub all_resumed_only_broken : (b : Breach) (line : ℕ) (more : List SourceToken) (s : State)
+      → all_resumed rules ws (Live os) first (record { sort = Broken b; bytes = []; line = line } ∷ more) s
+      ≡ leaves (fails (fault_at (breach_kind b) line [] s)) s
+  all_resumed_only_broken b line more s =
+      all_resumed_broken b [] line more s ∙ behind_bytes-nil (leaves (fails (fault_at (breach_kind b) line [] s)) s)
+
+  -- a lone backquote is a fault
+  pub all_resumed_bare : (bytes : List ℕ) (line : ℕ) (more : List SourceToken) (s : State)
+      → all_resumed rules ws (Live os) first (record { sort = Ordinary BareBackquote; bytes = bytes; line = line } ∷ more) s
+      ≡ leaves (fails (fault_at LoneBackquote line [] s)) s
+  all_resumed_bare bytes line more s =
+      all_resumed_fails rules ws (Live os) first (record { sort = Ordinary BareBackquote; bytes = bytes; line = line } ∷ more) s s
+      (fault_at LoneBackquote line [] s) (resumed_bare rules os first bytes line more s)
+
+  -- a usage of a name that isn't defined is a fault
+  pub all_resumed_undefined : (name : List ℕ) (line : ℕ) (more : List SourceToken) (s : State)
+      → is_reserved name ≡ false → macro_named s.macros name ≡ None
+      → all_resumed rules ws (Live os) first (usage_token name line ∷ more) s ≡ leaves (fails (fault_at UndefinedMacro line name s)) s
+  all_resumed_undefined name line more s r e =
+      all_resumed_fails rules ws (Live os) first (usage_token name line ∷ more) s s (fault_at UndefinedMacro line name s)
+      (resumed_undefined rules os first name line more s r e)
+
+  -- a `define` that is accepted gives its LF bytes and changes the macros
+  pub all_resumed_defined : (bytes : List ℕ) (line : ℕ) (more : List SourceToken) (s : State) (macros : List Macro)
+      → rules.define s.macros (drop 7 bytes) ≡ Accepted macros
+      → all_resumed rules ws (Live os) first (record { sort = Definition; bytes = bytes; line = line } ∷ more) s
+      ≡ behind_bytes (line_ends_of bytes) (all_resumed rules ws (Live os) (only_blanks first bytes) more (record s { macros = macros }))
+  all_resumed_defined bytes line more s macros e =
+      all_resumed_behind rules ws (Live os) (Live os) first (only_blanks first bytes) (record { sort = Definition; bytes = bytes; line = line } ∷ more) more s
+      (record s { macros = macros }) (line_ends_of bytes) (resumed_defined rules os first bytes line more s macros e)
+
+  -- a `define` that is refused is a fault
+  pub all_resumed_bad_define : (bytes : List ℕ) (line : ℕ) (more : List SourceToken) (s : State) (kind : FaultKind) (word : List ℕ)
+      → rules.define s.macros (drop 7 bytes) ≡ Refused kind word
+      → all_resumed rules ws (Live os) first (record { sort = Definition; bytes = bytes; line = line } ∷ more) s
+      ≡ leaves (fails (fault_at kind line word s)) s
+  all_resumed_bad_define bytes line more s kind word e =
+      all_resumed_fails rules ws (Live os) first (record { sort = Definition; bytes = bytes; line = line } ∷ more) s s (fault_at kind line word s)
+      (resumed_refused rules os first bytes line more s kind word e)
+
+-- What a place among conditionals writes of text that is copied in live text: there its bytes, and in skipped text their LF bytes.
+
+-- what is written of text that is copied, of its parts, and of a broken token, from a state that stays
+pub record Writes (rules : Rules) (ws : List Waiting) (place : Place) (writes : List ℕ → List ℕ) (s : State) : Type 0 where
+  pub nothing : writes [] ≡ []
+  pub copied : (first : Bool) (ts more : List SourceToken) → list_all is_copied ts ≡ true
+      → all_resumed rules ws place first (ts ++ more) s
+      ≡ behind_bytes (writes (bytes_of ts)) (all_resumed rules ws place (only_blanks first (bytes_of ts)) more s)
+  pub parts : (first : Bool) (k : Kind) (x y : List ℕ) (line : ℕ) (more : List SourceToken) → IsOpenKind k
+      → all_resumed rules ws place first (record { sort = Ordinary k; bytes = x ++ y; line = line } ∷ more) s
+      ≡ behind_bytes (writes x) (all_resumed rules ws place (only_blanks first x) (record { sort = Ordinary k; bytes = y; line = line } ∷ more) s)
+  pub broken_parts : (first : Bool) (b : Breach) (x y : List ℕ) (line : ℕ) (more : List SourceToken)
+      → all_resumed rules ws place first (record { sort = Broken b; bytes = x ++ y; line = line } ∷ more) s
+      ≡ behind_bytes (writes x) (all_resumed rules ws place (only_blanks first x) (record { sort = Broken b; bytes = y; line = line } ∷ more) s)
+  pub broken : (first : Bool) (b : Breach) (bytes : List ℕ) (line : ℕ) (more : List SourceToken)
+      → all_resumed rules ws place first (record { sort = Broken b; bytes = bytes; line = line } ∷ more) s
+      ≡ behind_bytes (writes bytes) (leaves (fails (fault_at (breach_kind b) line [] s)) s)
+
+-- what may be open is copied
+pub open_copied : (k : Kind) (bytes : List ℕ) (line : ℕ) → IsOpenKind k → is_copied (record { sort = Ordinary k; bytes = bytes; line = line }) ≡ true
+unfolding is_copied
+open_copied k bytes line (inl is) = rw is refl
+open_copied k bytes line (inr is) = rw is refl
+
+-- and begins no directive
+open_text : (k : Kind) (bytes : List ℕ) (line : ℕ) → IsOpenKind k → directive_of (record { sort = Ordinary k; bytes = bytes; line = line }) ≡ None
+unfolding directive_of
+open_text k bytes line (inl is) = rw is refl
+open_text k bytes line (inr is) = rw is refl
+
+-- live text is written as it is
+pub live_writes : (rules : Rules) (ws : List Waiting) (os : List Progress) (s : State) → Writes rules ws (Live os) (λ x. x) s
+live_writes rules ws os s = record {
+  nothing = refl;
+  copied = λ first ts more e. all_resumed_copied rules ws os first ts more s e;
+  parts = λ first k x y line more o. all_resumed_copied_parts rules ws os first k x y line more s (open_copied k (x ++ y) line o);
+  broken_parts = λ first b x y line more. all_resumed_broken_parts rules ws os first b x y line more s;
+  broken = λ first b bytes line more. all_resumed_broken rules ws os first b bytes line more s;
+}
+
+-- of skipped text the LF bytes are
+pub skipped_writes : (rules : Rules) (ws : List Waiting) (n : ℕ) (p : Progress) (os : List Progress) (s : State) → Writes rules ws (Skipped n p os) line_ends_of s
+unfolding line_ends_of
+skipped_writes rules ws n p os s =
+    let here = Skipped n p os in
+    record {
+      nothing = refl;
+      copied = λ first ts more e.
+          all_resumed_behind rules ws here here first (only_blanks first (bytes_of ts)) (ts ++ more) more s s (line_ends_of (bytes_of ts))
+          (resumed_skipped rules n p os first ts more s (all_copied_skipped ts e));
+      parts = λ first k x y line more o.
+          all_resumed_behind rules ws here here first (only_blanks first x)
+          (record { sort = Ordinary k; bytes = x ++ y; line = line } ∷ more) (record { sort = Ordinary k; bytes = y; line = line } ∷ more) s s (line_ends_of x)
+          (resumed_skipped_parts rules n p os first k x y line more s (open_text k (x ++ y) line o) (open_text k y line o));
+      broken_parts = λ first b x y line more.
+          all_resumed_behind rules ws here here first (only_blanks first x)
+          (record { sort = Broken b; bytes = x ++ y; line = line } ∷ more) (record { sort = Broken b; bytes = y; line = line } ∷ more) s s (line_ends_of x)
+          (resumed_skipped_broken_parts rules n p os first b x y line more s);
+      broken = λ first b bytes line more.
+          all_resumed_behind_fails rules ws here first (record { sort = Broken b; bytes = bytes; line = line } ∷ more) s s (line_ends_of bytes)
+          (fault_at (breach_kind b) line [] s) (resumed_skipped_broken rules n p os first b bytes line more s);
+    }
+
+-- one token that is copied
+pub writes_one : (rules : Rules) (ws : List Waiting) (place : Place) (writes : List ℕ → List ℕ) (s : State) → Writes rules ws place writes s
+    → (first : Bool) (t : SourceToken) (more : List SourceToken) → is_copied t ≡ true
+    → all_resumed rules ws place first (t ∷ more) s ≡ behind_bytes (writes t.bytes) (all_resumed rules ws place (only_blanks first t.bytes) more s)
+writes_one rules ws place writes s w first t more e =
+    w.copied first (t ∷ []) more (rw e refl)
+    ∙ ap (λ (x : List ℕ). behind_bytes (writes x) (all_resumed rules ws place (only_blanks first x) more s)) (append-nil t.bytes)

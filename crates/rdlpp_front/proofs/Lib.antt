@@ -1,10 +1,4 @@
 pub mod Insides
-pub mod PassedText
-pub mod SourcePassages
 pub mod TextLeft
-pub mod DefineLeft
 pub mod NamedDirectives
-pub mod EndLeft
-pub mod ConditionalLeft
-pub mod SkippedWords
-pub mod IncludeLeft
+pub mod DirectivesLeft

@@ -1,8 +1,5 @@
 -- A directive that wants a name in front of what remains: its token, its name, what it does to what remains; and so an `undef`.
-use Rattle.std.proofs.Common.{◌≡◌, ◌⊎◌, ℕ, ◌+◌, ◌-◌, ◌≤◌, ◌<◌, Bool, true, false, List, [], ◌∷◌, ◌++◌, Option, None, Some, length, take, drop, refl, sym, ap, ◌∙◌, subst, inl, inr, ⊎_elim, arith}
-use Rattle.std.specs.Prelude.{bytes_eq, codes}
-use Rattle.std.proofs.Math.Seq.{take-add}
-use Rattle.std.proofs.lemmas.List.{append-nil, drop-drop, take-append-drop}
+use Rattle.std.proofs.Common.{◌≡◌, ◌⊎◌, ℕ, ◌+◌, ◌-◌, ◌≤◌, ◌<◌, Bool, true, false, List, [], ◌∷◌, ◌++◌, Option, None, Some, length, take, drop, refl, sym, ap, ◌∙◌, subst, inl, inr, ⊎_elim, arith, bytes_eq, codes, take-add, append-nil, drop-drop, take-append-drop}
 use Rattle.rdlpp_scan.specs.declared.token.Kind.{Kind}
 use Rattle.rdlpp_scan.specs.declared.token.Kind.TheVariants.{Name, Blank, Back}
 use Rattle.rdlpp_scan.specs.declared.token.Directive.{Directive}
@@ -14,31 +11,27 @@ use Rattle.rdlpp_scan.specs.Ordinary.{is_plain_kind}
 use Rattle.rdlpp_scan.specs.SourceTokens.{Sort, SourceToken, Ordinary, Definition, Renumbering, Broken, line_ends, remaining_tokens}
 use Rattle.rdlpp_scan.specs.Tokens.{token_of}
 use Rattle.rdlpp_scan.specs.TokenKinds.{is_ordinary}
-use Rattle.rdlpp_scan.proofs.FirstTokens.{FirstToken, blanks-line_ends, name-line_ends, plain_token-run, remaining-first, whole-line_ends}
-use Rattle.rdlpp_scan.proofs.RemainingLaws.{remaining-end, remaining-closed}
-use Rattle.rdlpp_scan.proofs.SourceLaws.{line_ends-append}
+use Rattle.rdlpp_scan.proofs.RemainingLaws.{FirstToken, blanks-line_ends, name-line_ends, plain_token-run, remaining-closed, remaining-end, remaining-first, whole-line_ends}
+use Rattle.rdlpp_scan.proofs.SourceLaws.{EndsLine-drop, line_ends-append}
 use Rattle.rdlpp_scan.proofs.TokenLens.{token_of-part}
 use Rattle.rdlpp_scan.proofs.TokenSteps.{is_kept_kind}
-use Rattle.rdlpp_scan.proofs.LineLaws.{EndsLine-drop}
 use Rattle.rdlpp_meaning.specs.State.{Rules, State, fault_at}
 use Rattle.rdlpp_meaning.specs.Parts.{Argument, argument_of, behind_blanks, behind_directive, command_in_front, command_of, directive_named, directive_of, name_in_front, no_argument, only_blanks, past_blanks}
 use Rattle.rdlpp_meaning.specs.Resumed.{Place, behind, resumed, Live}
 use Rattle.rdlpp_meaning.specs.Opened.{Waiting, all_resumed}
-use Rattle.rdlpp_meaning.proofs.DirectiveWords.{has_own_token}
-use Rattle.rdlpp_meaning.proofs.Undefining.{blank_token, name_token, takes_name, takes_name_at_once, takes_name_behind_blanks, wants_name, resumed_bad_undef, resumed_undef}
+use Rattle.rdlpp_meaning.proofs.Skipping.{has_own_token}
+use Rattle.rdlpp_meaning.proofs.Directives.{all_resumed_move, blank_token, name_token, resumed_bad_undef, resumed_undef, takes_name, takes_name_at_once, takes_name_behind_blanks, wants_name}
 use Rattle.rdlpp_read.specs.Arguments.{IsLead, Leads, Lacks}
 use Rattle.rdlpp_read.specs.Buffer.{BufferView, held_of, rest_of, tokens_left}
 use Rattle.rdlpp_front.specs.Fronts.{HasName, IsDirective, IsNamed, LacksName, argument_name, given_by, given_len, given_name, word_of}
 use Rattle.rdlpp_front.specs.declared.front.Argument.{Argument as Given}
 use Rattle.rdlpp_front.specs.SourceLeft.{HoldsFront, source_left}
-use Rattle.rdlpp_front.proofs.Insides.{name_inside, word_len}
+use Rattle.rdlpp_front.proofs.Insides.{all_resumed_refused, name_inside, tokens_used, used_buffer, word_len}
 use Rattle.rdlpp_read.proofs.BufferTokens.{ends_line}
-use Rattle.rdlpp_front.proofs.SourcePassages.{tokens_used, used_buffer, all_resumed_refused}
 use Rattle.rdlpp_front.proofs.TextLeft.{back_tokens}
 use Rattle.rdlpp_meaning.specs.declared.fault.FaultKind.{FaultKind}
 use Rattle.rdlpp_meaning.specs.Outcome.{fails}
 use Rattle.rdlpp_meaning.specs.Meaning.{leaves, refusal, Faulty, Fine, Progress, macro_name}
-use Rattle.rdlpp_meaning.proofs.Includes.{all_resumed_move}
 use Rattle.rdlpp_read.specs.declared.files.File.{File}
 use Rattle.rdlpp_read.specs.Files.{consumed_file}
 use Rattle.rdlpp_table.specs.Table.{without}

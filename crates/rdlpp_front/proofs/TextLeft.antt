@@ -1,45 +1,56 @@
--- What text that is copied, and what a usage in front, does to what remains.
-use Rattle.std.proofs.Common.{◌≡◌, ℕ, ◌+◌, ◌<◌, Bool, true, false, List, [], ◌∷◌, ◌++◌, length, take, drop, refl, sym, ap, ◌∙◌, subst, inl, arith, ◌-◌, None}
-use Rattle.std.proofs.lemmas.Bool.{false≢true}
-use Rattle.std.proofs.lemmas.List.{drop_all, length-drop}
-use Rattle.std.proofs.Math.Seq.{take-length}
-use Rattle.std.specs.Prelude.{bytes_eq, codes}
+-- What text, a usage, a `define`, a `line` and an end in front do to what remains.
+use Rattle.std.proofs.Common.{◌≡◌, ℕ, ◌+◌, ◌<◌, Bool, true, false, List, [], ◌∷◌, ◌++◌, length, take, drop, refl, sym, ap, ◌∙◌, subst, inl, arith, ◌-◌, None, suc, ◌≤◌, ◌==◌, not, cond, ◌&&◌, Option, Some, inr, ◌⊎◌, option_map, IfSome, bytes_eq, codes, append_assoc, length-append, length-drop, length-take-le, take-append-drop}
 use Rattle.std.specs.List.{AllByRecursion}
-use Rattle.rdlpp_scan.specs.declared.token.Kind.{Kind}
-use Rattle.rdlpp_scan.specs.declared.token.Kind.TheVariants.{Str, LineComment, BlockComment, Back, Perl}
-use Rattle.rdlpp_scan.specs.declared.token.Mode.{Mode}
-use Rattle.rdlpp_scan.specs.declared.token.Mode.TheVariants.{Plain, InStr, InBlock}
-use Rattle.rdlpp_scan.specs.declared.token.Token.{Token}
-use Rattle.rdlpp_scan.specs.Bytes.{begins_perl}
-use Rattle.rdlpp_scan.specs.Front.{PerlFound}
-use Rattle.rdlpp_scan.specs.Lines.{EndsLine}
-use Rattle.rdlpp_scan.specs.Resumed.{opening, line_with, with_part, onto_tokens}
-use Rattle.rdlpp_scan.specs.SourceTokens.{SourceToken, Ordinary, Broken, line_ends, remaining_tokens}
-use Rattle.rdlpp_scan.specs.Tokens.{plain_len, token_of}
-use Rattle.rdlpp_scan.proofs.RemainingLaws.{GoesThrough, remaining-opened, remaining-ordinary, remaining-closed, remaining-open_string, remaining-open_comment, remaining-cut_string, Resumes, Copies, Breaks, remaining-in_string, remaining-in_comment, remaining-perl_in_string, remaining-back}
-use Rattle.rdlpp_scan.proofs.Seams.{Seam, Closed, BeforePerl, OpenString, OpenComment, token_of-seam}
-use Rattle.rdlpp_scan.proofs.TokenSteps.{is_kept_kind}
-use Rattle.rdlpp_meaning.specs.Outcome.{fails}
-use Rattle.rdlpp_meaning.specs.State.{Rules, State, breach_kind, fault_at}
-use Rattle.rdlpp_meaning.specs.Expansion.{is_copied, usage_token}
-use Rattle.rdlpp_meaning.specs.Parts.{line_ends_of, only_blanks}
-use Rattle.rdlpp_meaning.specs.Meaning.{Passage, Progress, behind_bytes, leaves}
-use Rattle.rdlpp_meaning.specs.Resumed.{Live, Place, Skipped}
-use Rattle.rdlpp_meaning.specs.Opened.{Waiting, all_resumed}
-use Rattle.rdlpp_meaning.proofs.Passages.{behind_bytes-nil}
-use Rattle.rdlpp_meaning.proofs.PlainOutputs.{all_plain_copied}
-use Rattle.rdlpp_read.specs.declared.files.File.{File}
-use Rattle.rdlpp_read.specs.Buffer.{BufferView, entered_mode, held_of, rest_of, tokens_left}
-use Rattle.rdlpp_read.specs.Files.{consumed_file}
-use Rattle.rdlpp_front.specs.Fronts.{AtOrdinary, AtToken, IsText, is_text_kind, IsUsage, usage_name}
-use Rattle.rdlpp_front.specs.SourceLeft.{HoldsFront, source_left, with_file_buffer}
-use Rattle.rdlpp_read.proofs.BufferTokens.{ends_line}
-use Rattle.rdlpp_front.proofs.SourcePassages.{tokens_entered, tokens_plain, used_buffer, tokens_used, Writes, live_writes, open_copied, skipped_writes, writes_one, all_resumed_undefined}
+use Rattle.std.proofs.Math.Seq.{take-length}
+use Rattle.std.proofs.lemmas.Bool.{false≢true}
+use Rattle.std.proofs.lemmas.List.{drop-take, drop_all}
+use Rattle.rdlpp_scan.specs.Bytes.{begins_perl, is_line_end}
+use Rattle.rdlpp_scan.specs.Defines.{HoldsDefine}
+use Rattle.rdlpp_scan.specs.Front.{Breach, DefineCut, DefineLong, PerlFound}
+use Rattle.rdlpp_scan.specs.Lines.{EndsLine, ended_line_len}
 use Rattle.rdlpp_scan.specs.Reserved.{is_reserved, reserved_names}
-use Rattle.rdlpp_table.specs.Table.{macro_named}
-use Rattle.rdlpp_meaning.specs.declared.fault.FaultKind.TheVariants.{UndefinedMacro}
-use Rattle.rdlpp_meaning.proofs.TokenWrites.{none_of_words}
-use Rattle.rdlpp_front.proofs.Insides.{back_front, back_text}
+use Rattle.rdlpp_scan.specs.Resumed.{line_with, onto_tokens, opening, with_part}
+use Rattle.rdlpp_scan.specs.SourceTokens.{Broken, Ordinary, SourceToken, is_continued, line_ends, line_len, logical_len, remaining_tokens}
+use Rattle.rdlpp_scan.specs.Tokens.{plain_len, token_of}
+use Rattle.rdlpp_scan.specs.declared.token.Directive.TheVariants.{Define, Line}
+use Rattle.rdlpp_scan.specs.declared.token.Kind.{Kind}
+use Rattle.rdlpp_scan.specs.declared.token.Kind.TheVariants.{Back, BlockComment, LineComment, Perl, Str}
+use Rattle.rdlpp_scan.specs.declared.token.Mode.{Mode}
+use Rattle.rdlpp_scan.specs.declared.token.Mode.TheVariants.{InBlock, InStr, Plain}
+use Rattle.rdlpp_scan.specs.declared.token.Token.{Token}
+use Rattle.rdlpp_scan.proofs.TokenSteps.{is_kept_kind, logical_len-within}
+use Rattle.rdlpp_scan.proofs.SourceLaws.{line_len-le, line_len-open, line_len-some, some_suc}
+use Rattle.rdlpp_scan.proofs.RemainingLaws.{Breaks, Copies, GoesThrough, Resumes, perl_in_string, remaining-back, remaining-bare, remaining-closed, remaining-cut_string, remaining-in_comment, remaining-in_string, remaining-line, remaining-open_comment, remaining-open_string, remaining-opened, remaining-ordinary, remaining-perl, remaining-perl_in_string}
+use Rattle.rdlpp_scan.proofs.Seams.{BeforePerl, Closed, OpenComment, OpenString, Seam, token_of-seam}
+use Rattle.rdlpp_scan.proofs.StopKinds.{block_token-kind}
+use Rattle.rdlpp_table.specs.Table.{Macro, macro_named}
+use Rattle.rdlpp_meaning.specs.Expansion.{is_copied, usage_token}
+use Rattle.rdlpp_meaning.specs.Meaning.{Passage, Progress, Renumbered, behind_bytes, leaves, origin_line, renumbered, unclosed}
+use Rattle.rdlpp_meaning.specs.Opened.{Waiting, all_resumed, unwound}
+use Rattle.rdlpp_meaning.specs.Outcome.{fails}
+use Rattle.rdlpp_meaning.specs.Parts.{line_ends_of, only_blanks, pieces}
+use Rattle.rdlpp_meaning.specs.Resumed.{Live, Place, Skipped, resume, resumed}
+use Rattle.rdlpp_meaning.specs.State.{Accepted, Refused, Rules, State, breach_kind, fault_at}
+use Rattle.rdlpp_meaning.specs.declared.fault.FaultKind.{FaultKind}
+use Rattle.rdlpp_meaning.specs.declared.fault.FaultKind.TheVariants.{BadLine, LineTooLong, OpenConditional, SourceTooLong, UndefinedMacro}
+use Rattle.rdlpp_meaning.proofs.Directives.{all_resumed_behind, all_resumed_fails, line_token, renumbered_state, resumed_bad_line, resumed_late_line, resumed_renumbered}
+use Rattle.rdlpp_meaning.proofs.Outcomes.{all_plain_copied, behind_bytes-nil, goes_on-nil}
+use Rattle.rdlpp_meaning.proofs.Skipping.{live_unclosed}
+use Rattle.rdlpp_meaning.proofs.LiveText.{none_of_words}
+use Rattle.rdlpp_read.specs.Buffer.{BufferView, consumed, entered_mode, held_of, rest_of, tokens_left}
+use Rattle.rdlpp_read.specs.Files.{consumed_file}
+use Rattle.rdlpp_read.specs.Filling.{Fills, ended_tokens, only_broken as breaks_alone}
+use Rattle.rdlpp_read.specs.LogicalLines.{HoldsLine, IsLogical}
+use Rattle.rdlpp_read.specs.declared.buffer.extending.LogicalLine.{LogicalLine}
+use Rattle.rdlpp_read.specs.declared.buffer.extending.LogicalLine.TheVariants as line
+use Rattle.rdlpp_read.specs.declared.buffer.extending.LogicalLine.TheVariants.{SourceLong, TooLong, Whole}
+use Rattle.rdlpp_read.specs.declared.buffer.filling.Fill.{Fill}
+use Rattle.rdlpp_read.specs.declared.buffer.filling.Fill.TheVariants as fill
+use Rattle.rdlpp_read.specs.declared.files.File.{File}
+use Rattle.rdlpp_read.proofs.BufferTokens.{ends_line}
+use Rattle.rdlpp_front.specs.Fronts.{AtBare, AtOrdinary, AtPerl, AtToken, IsDirective, IsRefused, IsText, IsUsage, is_text_kind, usage_name, word_of}
+use Rattle.rdlpp_front.specs.SourceLeft.{HoldsFront, source_left, with_file_buffer}
+use Rattle.rdlpp_front.proofs.Insides.{Writes, all_resumed_bad_define, all_resumed_bare, all_resumed_defined, all_resumed_only_broken, all_resumed_undefined, back_front, back_text, live_writes, open_copied, skipped_writes, tokens_entered, tokens_plain, tokens_used, used_buffer, word_len, writes_one}
 
 -- What text that is copied does to what remains: ordinary text, and a string or a comment, or the part of one that is held.
 
@@ -341,3 +352,375 @@ module _ {R : Type 0} (rules : Rules) (unread : R → List ℕ) (ws : List Waiti
   undefined_left len holds mode usage none =
       usage_left len holds mode usage
       ∙ all_resumed_undefined rules ws os f.blanks (usage_name (held_of f.buffer) len) f.buffer.line (tokens_left unread (consumed_file len 0 f).buffer) s usage.free none
+
+-- What a `define` in front does to what remains, once its logical line is held or broken; and what stands behind its word.
+
+-- a `define` directive in front of a source is one in its held bytes
+pub holds_define : {R : Type 0} (unread : R → List ℕ) (f : File R)
+    → HoldsFront f.buffer → IsDirective Define (held_of f.buffer) → HoldsDefine (held_of f.buffer) (rest_of unread f.buffer)
+holds_define unread f holds is = record {
+  some = holds.some;
+  ends = ends_line unread f.buffer holds.ends;
+  kind = is.kind;
+  word = rw is.word refl;
+}
+
+-- the same buffer, by what its line counts
+pub consumed_used : {R : Type 0} (b : BufferView R) (len lines : ℕ) → lines ≡ line_ends (take len (held_of b)) → consumed b len ≡ used_buffer b len lines
+unfolding consumed
+consumed_used b len lines e = ap (λ (n : ℕ). used_buffer b len n) (sym e)
+
+module _ {R : Type 0} (rules : Rules) (unread : R → List ℕ) (ws : List Waiting) (os : List Progress) (f : File R) (s : State)
+    (tells : Type 0) (new : BufferView R) where
+  -- a `define` that is accepted gives its LF bytes and changes the macros
+  pub define_left : (len lines : ℕ) (macros : List Macro) → HoldsLine tells unread (Whole len) f.buffer new → tells → f.buffer.mode ≡ Plain
+      → HoldsDefine (held_of f.buffer) (rest_of unread f.buffer)
+      → rules.define s.macros (drop 7 (take len (held_of new))) ≡ Accepted macros → lines ≡ line_ends (take len (held_of new))
+      → source_left rules unread ws (Live os) f s
+      ≡ behind_bytes (line_ends_of (take len (held_of new)))
+      (source_left rules unread ws (Live os) (consumed_file len lines (with_file_buffer new f)) (record s { macros = macros }))
+  unfolding source_left
+  define_left len lines macros line t mode holds e count =
+      let w = take len (held_of new) in
+      let after = record s { macros = macros } in
+      ap (λ (ts : List SourceToken). all_resumed rules ws (Live os) f.blanks ts s) (line.define t mode holds)
+      ∙ all_resumed_defined rules ws os f.blanks w f.buffer.line (tokens_left unread (consumed new len)) s macros e
+      ∙ ap (λ (b : BufferView R). behind_bytes (line_ends_of w) (all_resumed rules ws (Live os) (only_blanks f.blanks w) (tokens_left unread b) after))
+      (consumed_used new len lines count)
+
+  -- a `define` that is refused is a fault
+  pub define_refused_left : (len : ℕ) (kind : FaultKind) (word : List ℕ) → HoldsLine tells unread (Whole len) f.buffer new → tells → f.buffer.mode ≡ Plain
+      → HoldsDefine (held_of f.buffer) (rest_of unread f.buffer)
+      → rules.define s.macros (drop 7 (take len (held_of new))) ≡ Refused kind word
+      → source_left rules unread ws (Live os) f s ≡ leaves (fails (fault_at kind f.buffer.line word s)) s
+  unfolding source_left
+  define_refused_left len kind word line t mode holds e =
+      ap (λ (ts : List SourceToken). all_resumed rules ws (Live os) f.blanks ts s) (line.define t mode holds)
+      ∙ all_resumed_bad_define rules ws os f.blanks (take len (held_of new)) f.buffer.line (tokens_left unread (consumed new len)) s kind word e
+
+  -- a `define` whose logical line has too many bytes is a fault
+  pub define_long_left : HoldsLine tells unread TooLong f.buffer new → tells → f.buffer.mode ≡ Plain
+      → HoldsDefine (held_of f.buffer) (rest_of unread f.buffer)
+      → source_left rules unread ws (Live os) f s ≡ leaves (fails (fault_at LineTooLong f.buffer.line [] s)) s
+  unfolding source_left breach_kind
+  define_long_left line t mode holds =
+      ap (λ (ts : List SourceToken). all_resumed rules ws (Live os) f.blanks ts s) (line.define t mode holds)
+      ∙ all_resumed_only_broken rules ws os f.blanks DefineLong f.buffer.line [] s
+
+  -- a `define` that the limit of its source cuts is a fault
+  pub define_cut_left : HoldsLine tells unread SourceLong f.buffer new → tells → f.buffer.mode ≡ Plain
+      → HoldsDefine (held_of f.buffer) (rest_of unread f.buffer)
+      → source_left rules unread ws (Live os) f s ≡ leaves (fails (fault_at SourceTooLong f.buffer.line [] s)) s
+  unfolding source_left breach_kind
+  define_cut_left line t mode holds =
+      ap (λ (ts : List SourceToken). all_resumed rules ws (Live os) f.blanks ts s) (line.define t mode holds)
+      ∙ all_resumed_only_broken rules ws os f.blanks DefineCut f.buffer.line [] s
+
+-- a logical line is that of its own bytes
+logical_len-take : (x y : ℕ) (bs : List ℕ) (n : ℕ) → logical_len x y bs ≡ Some n → logical_len x y (take n bs) ≡ Some n
+unfolding logical_len
+logical_len-take x y [] n h = absurd (cc)
+logical_len-take x y (b ∷ bs) n h =
+    let ends = is_line_end b && not (is_continued x y) in
+    let P : Bool → Type 0 = λ t. ends ≡ t → cond t (Some 1) (option_map suc (logical_len y b bs)) ≡ Some n → logical_len x y (take n (b ∷ bs)) ≡ Some n in
+    let at_true : P true = λ is e.
+    let one : 1 ≡ n = cc in
+    subst (λ (k : ℕ). logical_len x y (take k (b ∷ bs)) ≡ Some k) one (rw is refl) in
+    let at_false : P false = λ is e.
+    let p = some_suc (logical_len y b bs) n e in
+    subst (λ (k : ℕ). logical_len x y (take k (b ∷ bs)) ≡ Some k) (sym p.1.1) (rw is (ap (option_map suc) (logical_len-take y b bs p.0 p.1.0))) in
+    elim ends as P [ true ↦ at_true | false ↦ at_false ] refl h
+
+-- two bytes that continue no line don't change where a logical line ends
+logical_len-behind : (x y : ℕ) (bs : List ℕ) → (x == 92) ≡ false → (y == 92) ≡ false → logical_len x y bs ≡ logical_len 0 0 bs
+unfolding logical_len is_continued
+logical_len-behind x y [] p q = refl
+logical_len-behind x y (b ∷ []) p q = rw (p, q) refl
+logical_len-behind x y (b ∷ c ∷ cs) p q = rw (p, q) refl
+
+-- seven more
+unfoldable seven_more : Option ℕ → Option ℕ
+seven_more o = option_map suc (option_map suc (option_map suc (option_map suc (option_map suc (option_map suc (option_map suc o))))))
+
+-- the logical line of a `define` is the word and the logical line of what stands behind it
+define_logical : (rest : List ℕ) → logical_len 0 0 (codes "`define" ++ rest) ≡ seven_more (logical_len 0 0 rest)
+unfolding logical_len is_line_end is_continued seven_more
+define_logical rest = ap seven_more (logical_len-behind 110 101 rest refl refl)
+
+-- a `define` begins with that word
+pub define_begins : (held : List ℕ) → 0 < length held → IsDirective Define held → held ≡ codes "`define" ++ drop 7 held
+define_begins held some is =
+    let seven = word_len Define held some is in
+    sym (take-append-drop 7 held) ∙ ap (λ (xs : List ℕ). xs ++ drop 7 held) (ap (λ (i : ℕ). take i held) (sym seven) ∙ is.word)
+
+-- what stands behind the word of a `define`, of the first bytes of its text
+define_rest : (rest : List ℕ) (n : ℕ) → drop 7 (take (7 + n) (codes "`define" ++ rest)) ≡ take n rest
+define_rest rest n = drop-take 7 n (codes "`define" ++ rest)
+
+-- a text that is one logical line, or has no end of one
+abbrev IsLine : List ℕ → Type 0
+IsLine bytes = IfSome (logical_len 0 0 bytes) (λ k. k ≡ length bytes)
+
+-- a logical line of a `define` has its word and what stands behind it, which is a whole logical line
+record WholeRest (bytes : List ℕ) (len : ℕ) : Type 0 where
+  pub wide : 7 ≤ len
+  pub whole : IsLine (drop 7 (take len bytes))
+
+-- by where it ends behind the word
+rest_by : (rest : List ℕ) (len n : ℕ) → 7 + n ≡ len → IsLine (take n rest) → WholeRest (codes "`define" ++ rest) len
+rest_by rest len n same line =
+    subst (λ (k : ℕ). WholeRest (codes "`define" ++ rest) k) same
+    (record { wide = omega arith; whole = subst IsLine (sym (define_rest rest n)) line })
+
+-- where it ends
+rest_ended : (rest : List ℕ) (len : ℕ) (o : Option ℕ) → logical_len 0 0 rest ≡ o → seven_more o ≡ Some len → WholeRest (codes "`define" ++ rest) len
+unfolding seven_more
+rest_ended rest len None e h = cc
+rest_ended rest len (Some n) e h =
+    let all : suc (suc (suc (suc (suc (suc (suc n)))))) ≡ len = cc in
+    let inside = (logical_len-within 0 0 rest n e).1 in
+    let size : n ≡ length (take n rest) = sym (length-take-le n rest inside) in
+    rest_by rest len n (omega arith)
+    (subst (λ (o : Option ℕ). IfSome o (λ k. k ≡ length (take n rest))) (sym (logical_len-take 0 0 rest n e)) size)
+
+-- where the text ends first
+rest_open : (rest : List ℕ) (len : ℕ) (o : Option ℕ) → logical_len 0 0 rest ≡ o → seven_more o ≡ None → len ≡ length (codes "`define" ++ rest) → WholeRest (codes "`define" ++ rest) len
+unfolding seven_more
+rest_open rest len (Some n) e h size = cc
+rest_open rest len None e h size =
+    rest_by rest len (length rest) (omega (arith, size, length-append (codes "`define") rest))
+    (subst IsLine (sym (take-length rest)) (subst (λ (o : Option ℕ). IfSome o (λ k. k ≡ length rest)) (sym e) tt))
+
+-- the logical line of a `define`, which may go on behind what was held of it
+whole_rest : {R : Type 0} (tells : Type 0) (unread : R → List ℕ) (held more : List ℕ) (new : BufferView R) (len : ℕ) → 0 < length held → IsDirective Define held
+    → held_of new ≡ held ++ more → IsLogical tells unread new len → WholeRest (held_of new) len
+whole_rest tells unread held more new len some is e logical =
+    let rest = drop 7 held ++ more in
+    let text : held_of new ≡ codes "`define" ++ rest =
+    e ∙ ap (λ (xs : List ℕ). xs ++ more) (define_begins held some is) ∙ append_assoc (codes "`define") (drop 7 held) more in
+    let line : logical_len 0 0 (held_of new) ≡ seven_more (logical_len 0 0 rest) = ap (logical_len 0 0) text ∙ define_logical rest in
+    subst (λ (xs : List ℕ). WholeRest xs len) (sym text) (elim logical [
+      | inl ended ↦ rest_ended rest len (logical_len 0 0 rest) refl (sym line ∙ ended)
+      | inr open_ ↦ rest_open rest len (logical_len 0 0 rest) refl (sym line ∙ open_.0) (open_.1 ∙ ap length text)
+    ])
+
+-- what stands behind the word of a `define` is a logical line
+pub define_rest_whole : {R : Type 0} (tells : Type 0) (unread : R → List ℕ) (held more : List ℕ) (new : BufferView R) (len : ℕ) → 0 < length held → IsDirective Define held
+    → held_of new ≡ held ++ more → IsLogical tells unread new len
+    → IfSome (logical_len 0 0 (drop 7 (take len (held_of new)))) (λ k. k ≡ length (drop 7 (take len (held_of new))))
+define_rest_whole tells unread held more new len some is e logical = (whole_rest tells unread held more new len some is e logical).whole
+
+-- its logical line has at least the word
+pub define_inside : {R : Type 0} (tells : Type 0) (unread : R → List ℕ) (held more : List ℕ) (new : BufferView R) (len : ℕ) → 0 < length held → IsDirective Define held
+    → held_of new ≡ held ++ more → IsLogical tells unread new len → 7 ≤ len
+define_inside tells unread held more new len some is e logical = (whole_rest tells unread held more new len some is e logical).wide
+
+-- a byte that is counted
+pub counted : (t : Bool) (k n : ℕ) → t ≡ true → k ≡ cond t 1 0 + n → k ≡ suc n
+counted true k n e h = omega arith
+counted false k n e h = cc
+
+-- and one that isn't
+pub not_counted : (t : Bool) (k n : ℕ) → t ≡ false → k ≡ cond t 1 0 + n → k ≡ n
+not_counted true k n e h = cc
+not_counted false k n e h = omega arith
+
+-- What a `line` in front does to what remains.
+
+-- the bytes of a `line` with its physical line
+abbrev pub line_text : List ℕ → List ℕ
+line_text held = take (line_len held) held
+
+-- a `line` lies in what is held
+pub line_inside : (held : List ℕ) → 0 < length held → (0 < line_len held) × (line_len held ≤ length held)
+line_inside held some = (line_len-some held some, line_len-le held)
+
+-- the tokens at a `line`
+pub line_buffer : {R : Type 0} (unread : R → List ℕ) (b : BufferView R)
+    → HoldsFront b → b.mode ≡ Plain → IsDirective Line (held_of b) → tokens_left unread b ≡ line_token (line_text (held_of b)) b.line ∷ tokens_left unread (used_buffer b (line_len (held_of b)) (line_ends (line_text (held_of b))))
+line_buffer unread b holds mode is =
+    let held = held_of b in
+    let n = line_len held in
+    let other : bytes_eq (take (token_of Plain held).len held) (codes "`define") ≡ false = rw is.word refl in
+    let also : bytes_eq (take (token_of Plain held).len held) (codes "`line") ≡ true = rw is.word refl in
+    tokens_plain unread b mode
+    ∙ remaining-line b.line_bytes b.line b.line held b.bytes_left (rest_of unread b) holds.some (ends_line unread b holds.ends)
+    is.kind other also
+    ∙ ap (λ (ts : List SourceToken). line_token (line_text held) b.line ∷ ts) (tokens_used unread b n (line_ends (line_text held)) b.line mode)
+
+module _ {R : Type 0} (rules : Rules) (unread : R → List ℕ) (ws : List Waiting) (os : List Progress) (f : File R) (s : State)
+    (holds : HoldsFront f.buffer) (mode : f.buffer.mode ≡ Plain) (is : IsDirective Line (held_of f.buffer)) where
+  -- the tokens behind a `line`
+  abbrev more : List SourceToken
+  more = tokens_left unread (used_buffer f.buffer (line_len (held_of f.buffer)) (line_ends (line_text (held_of f.buffer))))
+
+  -- what remains at a `line`
+  line_here : source_left rules unread ws (Live os) f s ≡ all_resumed rules ws (Live os) f.blanks (line_token (line_text (held_of f.buffer)) f.buffer.line ∷ more) s
+  unfolding source_left
+  line_here = ap (λ (ts : List SourceToken). all_resumed rules ws (Live os) f.blanks ts s) (line_buffer unread f.buffer holds mode is)
+
+  -- a `line` before which only blanks stand, and which gives a number and a name
+  pub renumbered_left : (r : Renumbered) → f.blanks ≡ true → renumbered (drop 5 (line_text (held_of f.buffer))) ≡ Some r
+      → source_left rules unread ws (Live os) f s
+      ≡ behind_bytes (line_ends_of (line_text (held_of f.buffer)) ++ origin_line rules r.name r.number)
+      (source_left rules unread ws (Live os) (consumed_file (line_len (held_of f.buffer)) (line_ends (line_text (held_of f.buffer))) f) (renumbered_state s r f.buffer.line))
+  unfolding source_left
+  renumbered_left r first e =
+      let w = line_text (held_of f.buffer) in
+      let after = renumbered_state s r f.buffer.line in
+      let x = line_ends_of w ++ origin_line rules r.name r.number in
+      line_here
+      ∙ ap (λ (b : Bool). all_resumed rules ws (Live os) b (line_token w f.buffer.line ∷ more) s) first
+      ∙ all_resumed_behind rules ws (Live os) (Live os) true (only_blanks true w) (line_token w f.buffer.line ∷ more) more s after x
+      (resumed_renumbered rules os w f.buffer.line more s r e)
+      ∙ ap (λ (b : Bool). behind_bytes x (all_resumed rules ws (Live os) (only_blanks b w) more after)) (sym first)
+
+  -- a `line` that gives none is a fault
+  pub bad_line_left : renumbered (drop 5 (line_text (held_of f.buffer))) ≡ None
+      → source_left rules unread ws (Live os) f s ≡ leaves (fails (fault_at BadLine f.buffer.line [] s)) s
+  bad_line_left e =
+      let w = line_text (held_of f.buffer) in
+      line_here
+      ∙ all_resumed_fails rules ws (Live os) f.blanks (line_token w f.buffer.line ∷ more) s s (fault_at BadLine f.buffer.line [] s)
+      (resumed_bad_line rules os f.blanks w f.buffer.line more s e)
+
+  -- and so is one behind anything but blanks
+  pub late_line_left : f.blanks ≡ false
+      → source_left rules unread ws (Live os) f s ≡ leaves (fails (fault_at BadLine f.buffer.line [] s)) s
+  late_line_left late =
+      let w = line_text (held_of f.buffer) in
+      line_here
+      ∙ ap (λ (b : Bool). all_resumed rules ws (Live os) b (line_token w f.buffer.line ∷ more) s) late
+      ∙ all_resumed_fails rules ws (Live os) false (line_token w f.buffer.line ∷ more) s s (fault_at BadLine f.buffer.line [] s)
+      (resumed_late_line rules os w f.buffer.line more s)
+
+-- What a `line` is given, by what stands behind its word.
+
+module _ (held : List ℕ) (some : 0 < length held) (is : IsDirective Line held) where
+  -- a `line` is its word and what stands behind it
+  word_apart : held ≡ word_of Line ++ drop 5 held
+  word_apart =
+      let len : (token_of Plain held).len ≡ 5 = word_len Line held some is in
+      sym (take-append-drop 5 held) ∙ ap (λ (x : List ℕ). x ++ drop 5 held) (ap (λ (n : ℕ). take n held) (sym len) ∙ is.word)
+
+  -- its word is held
+  pub word_held : length held ≡ 5 + length (drop 5 held)
+  word_held = ap length word_apart ∙ length-append (word_of Line) (drop 5 held)
+
+  -- its physical line has its word and what stands behind that on the line
+  pub line_behind : line_len held ≡ 5 + line_len (drop 5 held)
+  unfolding ended_line_len is_line_end
+  line_behind = ap line_len word_apart ∙ line_len-open (word_of Line) (drop 5 held) refl
+
+  -- what it is given
+  pub given_text : drop 5 (line_text held) ≡ take (line_len (drop 5 held)) (drop 5 held)
+  given_text = ap (λ (n : ℕ). drop 5 (take n held)) line_behind ∙ drop-take 5 (line_len (drop 5 held)) held
+
+-- What ends a source, or the output: what is refused in front, a line that breaks the source, its end, and an open string or
+-- comment there; and a buffer that was filled, in which nothing is lost.
+
+-- nor is a comment
+no_perl_in_comment : (held : List ℕ) → (token_of InBlock held).kind ≡ Perl → ⊥
+unfolding token_of
+no_perl_in_comment held is = cc (block_token-kind 0 held)
+
+-- `<%` is all that remains, by the mode
+perl_by_mode : (most : ℕ) (m : Mode) (o l : ℕ) (held : List ℕ) (room : ℕ) (rest : List ℕ) → 0 < length held → EndsLine held rest → (token_of m held).kind ≡ Perl
+    → remaining_tokens most m o l held room rest ≡ breaks_alone PerlFound l
+perl_by_mode most Plain o l held room rest some ends is =
+    remaining-perl most o l held room rest some ends is
+perl_by_mode most InStr o l held room rest some ends is = remaining-perl_in_string most o l held room rest some (perl_in_string held is)
+perl_by_mode most InBlock o l held room rest some ends is = absurd (no_perl_in_comment held is)
+
+-- `<%` is all that remains
+pub perl_tokens : {R : Type 0} (unread : R → List ℕ) (b : BufferView R) → HoldsFront b → (token_of b.mode (held_of b)).kind ≡ Perl
+    → tokens_left unread b ≡ breaks_alone PerlFound b.line
+unfolding tokens_left
+perl_tokens unread b holds is =
+    perl_by_mode b.line_bytes b.mode b.open_token_line b.line (held_of b) b.bytes_left (rest_of unread b) holds.some (ends_line unread b holds.ends) is
+
+module _ {R : Type 0} (rules : Rules) (unread : R → List ℕ) (ws : List Waiting) (os : List Progress) (f : File R) (s : State) where
+  -- one broken token without bytes is a fault
+  pub broken_left : (b : Breach) (line : ℕ) → tokens_left unread f.buffer ≡ breaks_alone b line
+      → source_left rules unread ws (Live os) f s ≡ leaves (fails (fault_at (breach_kind b) line [] s)) s
+  unfolding source_left
+  broken_left b line e =
+      ap (λ (ts : List SourceToken). all_resumed rules ws (Live os) f.blanks ts s) e
+      ∙ all_resumed_only_broken rules ws os f.blanks b line [] s
+
+  -- the end of a text is told by its mode
+  ended_by : (tells : Type 0) (new : BufferView R) (m : Mode) → Fills tells unread fill.End f.buffer new → tells → f.buffer.mode ≡ m
+      → tokens_left unread f.buffer ≡ ended_tokens m f.buffer.open_token_line
+  ended_by tells new m fills t mode = fills.tokens t ∙ ap (λ (n : Mode). ended_tokens n f.buffer.open_token_line) mode
+
+  -- an open conditional at the end of its source is a fault
+  pub unclosed_left : (o : Progress) (tells : Type 0) (new : BufferView R) → Fills tells unread fill.End f.buffer new → tells → f.buffer.mode ≡ Plain
+      → source_left rules unread ws (Live (o ∷ os)) f s
+      ≡ leaves (fails (record { kind = OpenConditional; name = s.name; line = o.line; word = [] })) s
+  unfolding source_left unclosed
+  unclosed_left o tells new fills t mode =
+      ap (λ (ts : List SourceToken). all_resumed rules ws (Live (o ∷ os)) f.blanks ts s) (ended_by tells new Plain fills t mode)
+      ∙ all_resumed_fails rules ws (Live (o ∷ os)) f.blanks [] s s (record { kind = OpenConditional; name = s.name; line = o.line; word = [] })
+      (live_unclosed rules o os f.blanks s)
+
+-- where no token remains of the innermost source, the next goes on
+nothing_left : (rules : Rules) (ws : List Waiting) (first : Bool) (s : State) → all_resumed rules ws (Live []) first [] s ≡ unwound rules ws s
+unfolding all_resumed resumed resume pieces
+nothing_left rules ws first s = goes_on-nil s (λ after. unwound rules ws after)
+
+module _ {R : Type 0} (rules : Rules) (unread : R → List ℕ) (ws : List Waiting) (f : File R) (s : State) where
+  -- at the end of the innermost source, the next goes on
+  pub ended_left : (tells : Type 0) (new : BufferView R) → Fills tells unread fill.End f.buffer new → tells → f.buffer.mode ≡ Plain
+      → source_left rules unread ws (Live []) f s ≡ unwound rules ws s
+  unfolding source_left
+  ended_left tells new fills t mode =
+      ap (λ (ts : List SourceToken). all_resumed rules ws (Live []) f.blanks ts s)
+      (fills.tokens t ∙ ap (λ (n : Mode). ended_tokens n f.buffer.open_token_line) mode)
+      ∙ nothing_left rules ws f.blanks s
+
+  -- with the same tokens the same remains
+  pub same_left : (place : Place) (new : BufferView R) → tokens_left unread new ≡ tokens_left unread f.buffer
+      → source_left rules unread ws place (with_file_buffer new f) s ≡ source_left rules unread ws place f s
+  unfolding source_left
+  same_left place new e = ap (λ (ts : List SourceToken). all_resumed rules ws place f.blanks ts s) e
+
+  -- a buffer that was filled, or where a read failed
+  pub filled_left : (tells : Type 0) (place : Place) (new : BufferView R) (answer : Fill) → Fills tells unread answer f.buffer new → tells
+      → (answer ≡ fill.Held) ⊎ (answer ≡ fill.Failed)
+      → source_left rules unread ws place (with_file_buffer new f) s ≡ source_left rules unread ws place f s
+  filled_left tells place new fill.Held fills t which = same_left place new (fills.tokens t)
+  filled_left tells place new fill.Failed fills t which = same_left place new (fills.tokens t)
+  filled_left tells place new fill.End fills t (inl e) = cc
+  filled_left tells place new fill.End fills t (inr e) = cc
+  filled_left tells place new fill.SourceLong fills t (inl e) = cc
+  filled_left tells place new fill.SourceLong fills t (inr e) = cc
+  filled_left tells place new fill.LineLong fills t (inl e) = cc
+  filled_left tells place new fill.LineLong fills t (inr e) = cc
+
+  -- a buffer in which a logical line was sought, and the source is too long or a read failed
+  pub held_left : (tells : Type 0) (place : Place) (new : BufferView R) (answer : LogicalLine) → HoldsLine tells unread answer f.buffer new → tells
+      → (answer ≡ line.SourceLong) ⊎ (answer ≡ line.Failed)
+      → source_left rules unread ws place (with_file_buffer new f) s ≡ source_left rules unread ws place f s
+  held_left tells place new line.SourceLong holds t which = same_left place new (holds.has t)
+  held_left tells place new line.Failed holds t which = same_left place new (holds.has t)
+  held_left tells place new (line.Whole len) holds t (inl e) = cc
+  held_left tells place new (line.Whole len) holds t (inr e) = cc
+  held_left tells place new line.TooLong holds t (inl e) = cc
+  held_left tells place new line.TooLong holds t (inr e) = cc
+
+module _ {R : Type 0} (rules : Rules) (unread : R → List ℕ) (ws : List Waiting) (os : List Progress) (f : File R) (s : State) where
+  -- what is refused in front is a fault
+  pub refused_left : (kind : FaultKind) → HoldsFront f.buffer → IsRefused f.buffer.mode (held_of f.buffer) kind
+      → source_left rules unread ws (Live os) f s ≡ leaves (fails (fault_at kind f.buffer.line [] s)) s
+  unfolding source_left breach_kind
+  refused_left kind holds (AtPerl is) =
+      broken_left rules unread ws os f s PerlFound f.buffer.line (perl_tokens unread f.buffer holds is)
+  refused_left kind holds (AtBare mode is) =
+      let b = f.buffer in
+      let held = held_of b in
+      let rest = rest_of unread b in
+      ap (λ (ts : List SourceToken). all_resumed rules ws (Live os) f.blanks ts s)
+      (tokens_plain unread b mode
+      ∙ remaining-bare b.line_bytes b.line b.line held b.bytes_left rest holds.some (ends_line unread b holds.ends)
+      is)
+      ∙ all_resumed_bare rules ws os f.blanks (take 1 held) b.line (remaining_tokens b.line_bytes Plain b.line b.line (drop 1 held) b.bytes_left rest) s

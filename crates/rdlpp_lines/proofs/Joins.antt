@@ -1,8 +1,7 @@
 -- A text of a logical line and the text as it is read, side by side: their bytes and their first tokens.
-use Rattle.std.proofs.Common.{◌≡◌, ℕ, suc, ◌+◌, ◌-◌, ◌<◌, ◌≤◌, Bool, true, false, cond, ◌&&◌, ◌⊎◌, List, [], ◌∷◌, length, take, drop, get_or, eqb, one-add, refl, ap, sym, ◌∙◌, subst, arith, inl, inr, zero, ltb, ◌≢◌, not, ◌||◌}
+use Rattle.std.proofs.Common.{◌≡◌, ℕ, suc, ◌+◌, ◌-◌, ◌<◌, ◌≤◌, Bool, true, false, cond, ◌&&◌, ◌⊎◌, List, [], ◌∷◌, length, take, drop, get_or, eqb, one-add, refl, ap, sym, ◌∙◌, subst, arith, inl, inr, zero, ltb, ◌≢◌, not, ◌||◌, eqb-true, lt-ltb, le-ltb, ltb-true, ne_eqb, drop-drop, length-drop}
 use Rattle.std.specs.List.{prefix_len}
-use Rattle.std.proofs.lemmas.Bool.{cases_Bool, cond-true, cond-false, and_parts, and_left, and_right, eqb-true, false≢true, false_from_ne_true, both_ways, cases_lt, lt-ltb, le-ltb, ltb-true, ne_eqb}
-use Rattle.std.proofs.lemmas.List.{drop-drop, length-drop}
+use Rattle.std.proofs.lemmas.Bool.{cases_Bool, cond-true, cond-false, and_parts, and_left, and_right, false≢true, false_from_ne_true, both_ways, cases_lt}
 use Rattle.rdlpp_lines.specs.Continuations.{continuation_len, without_continuations, joined, first_len}
 use Rattle.rdlpp_scan.specs.declared.token.Kind.{Kind}
 use Rattle.rdlpp_scan.specs.declared.token.Kind.TheVariants.{Name, Word, Back, Blank, LineEnd, Str, LineComment, BlockComment, Opener, Closer, Comma, Other, Perl, BareBackquote}
@@ -11,8 +10,8 @@ use Rattle.rdlpp_scan.specs.declared.token.Mode.TheVariants.{Plain, InStr, InBlo
 use Rattle.rdlpp_scan.specs.declared.token.Token.{Token}
 use Rattle.rdlpp_scan.specs.Bytes.{is_blank, is_line_end, is_letter, is_digit, is_word, is_opener, is_closer, takes_word, begins_perl, begins_line_comment, begins_block_comment, ends_block_comment}
 use Rattle.rdlpp_scan.specs.Tokens.{first_place, string_stop, whole, string_token, block_token, plain_token, token_of}
-use Rattle.rdlpp_scan.proofs.Searches.{at_zero, first_place-at}
-use Rattle.rdlpp_scan.proofs.Seams.{blank_ten, block_at, block_token-at, string_at, string_token-at, word_ten}
+use Rattle.rdlpp_scan.proofs.TokenLens.{at_zero, first_place-at}
+use Rattle.rdlpp_scan.proofs.Seams.{blank_ten, block_at, block_token-at, string_at, string_token-at, word_ten, run_none}
 use Rattle.rdlpp_lines.specs.LineTokens.{line_token, kept_of, IsRead}
 
 -- The first byte of a text as it is read.
@@ -156,11 +155,6 @@ pub first_in : (test : ℕ → Bool) → test 92 ≡ false → (b : ℕ) (bs : L
 first_in test back b bs e =
     no_joint_at b bs (false_from_ne_true (eqb b 92) (λ h. both_ways (test 92) back (ap test (sym (eqb-true b 92 h)) ∙ e)))
 
--- a run is empty where its first byte is not of its class
-no_run : (test : ℕ → Bool) (xs : List ℕ) → test (get_or xs 0 0) ≡ false → prefix_len test xs ≡ 0
-no_run test [] h = refl
-no_run test (x ∷ xs) h = ap (λ (t : Bool). cond t (1 + prefix_len test xs) 0) h
-
 -- a run of a class that has neither LF nor a backslash is the same where continuations are joined
 pub record SameRun (test : ℕ → Bool) (text : List ℕ) : Type 0 where
   pub len : prefix_len test (joined true text) ≡ prefix_len test text
@@ -183,7 +177,7 @@ same_run test line back (b ∷ bs) =
       | inr e ↦
           let n : prefix_len test (b ∷ bs) ≡ 0 = ap (λ (t : Bool). cond t (1 + prefix_len test bs) 0) e in
           record {
-            len = no_run test (joined true (b ∷ bs)) (first_out test line b bs e) ∙ sym n;
+            len = run_none test (joined true (b ∷ bs)) (first_out test line b bs e) ∙ sym n;
             front = ap (λ (k : ℕ). take k (joined true (b ∷ bs))) n ∙ sym (ap (λ (k : ℕ). take k (b ∷ bs)) n);
             back = ap (λ (k : ℕ). drop k (joined true (b ∷ bs))) n ∙ sym (ap (λ (k : ℕ). joined true (drop k (b ∷ bs))) n);
           }

@@ -1,11 +1,8 @@
 -- A body or a default text read token by token: its length and its bytes, as they are counted and copied.
-use Rattle.std.proofs.Common.{◌≡◌, ℕ, zero, suc, ◌+◌, ◌-◌, ◌<◌, Bool, true, false, cond, List, [], ◌∷◌, ◌++◌, length, take, drop, eqb, Option, Some, None, Result, Ok, Err, refl, ap, sym, ◌∙◌, subst, arith, append_assoc, append-nil, one-add, ◌&&◌, get_or, ◌≤◌, not, ◌||◌}
+use Rattle.std.proofs.Common.{◌≡◌, ℕ, zero, suc, ◌+◌, ◌-◌, ◌<◌, Bool, true, false, cond, List, [], ◌∷◌, ◌++◌, length, take, drop, eqb, Option, Some, None, Result, Ok, Err, refl, ap, sym, ◌∙◌, subst, arith, append_assoc, append-nil, one-add, ◌&&◌, get_or, ◌≤◌, not, ◌||◌, OnSome, IfSome, IfNone, ne_eqb, length-drop, take-append-drop, take-suc}
 use Rattle.std.specs.List.{prefix_len}
-use Rattle.std.specs.Option.{OnSome, IfSome, IfNone}
 use Rattle.std.specs.Result.{result_unwrap_or}
-use Rattle.std.proofs.lemmas.Bool.{cond-false, ne_eqb, false≢true, cond-true, and_from, and_left, and_parts, and_right, cond_both, not-true, or_parts}
-use Rattle.std.proofs.lemmas.List.{length-drop, take-append-drop}
-use Rattle.std.proofs.Math.Seq.{take-suc}
+use Rattle.std.proofs.lemmas.Bool.{cond-false, false≢true, cond-true, and_from, and_left, and_parts, and_right, cond_both, not-true, or_parts, false_from_ne_true}
 use Rattle.memchr.specs.Find.{IsFirstByte, is_byte2}
 use Rattle.rdlpp_scan.specs.declared.token.LexFault.{LexFault}
 use Rattle.rdlpp_lines.specs.Texts.{onto_trimmed, without_end, trimmed_of, Cleared, Sound, Unsound, onto, begun, trimmed_left, trimmed_len, text_behind, IsNext, len_from, ended_len, bytes_left, found_left, is_sound, told, stops_token, level_by, read_by, left_in, cleared, ends_default, trims}
@@ -26,7 +23,6 @@ use Rattle.rdlpp_lines.specs.Reading.{left, left_behind, IsAdvanced}
 use Rattle.rdlpp_lines.proofs.Joins.{reads_first, none_first, no_joint_at, joins_text, first_alike}
 use Rattle.rdlpp_scan.specs.Bytes.{begins_line_comment}
 use Rattle.rdlpp_scan.specs.Ordinary.{is_plain_kind}
-use Rattle.rdlpp_scan.proofs.Searches.{false_since}
 use Rattle.rdlpp_scan.proofs.StopKinds.{Row, AtPerl, AtLineComment, AtBlockComment, AtString, AtBack, AtBare, AtPlain, block_token-kind, string_token-kind, token_of-row}
 use Rattle.rdlpp_lines.specs.OnePiece.{is_one_piece, is_piece_byte}
 
@@ -437,7 +433,7 @@ pub piece_none : (text : List ℕ) → IsFirstByte (is_byte2 92 47) text None �
 unfolding is_piece_byte
 piece_none [] none = refl
 piece_none (b ∷ bs) none =
-    and_from _ _ (ap not (false_since (eqb b 92 || eqb b 47) (none 0 (omega arith) (omega arith)))) (piece_none bs (λ k low lt. none (suc k) (omega arith) (omega arith)))
+    and_from _ _ (ap not (false_from_ne_true (eqb b 92 || eqb b 47) (none 0 (omega arith) (omega arith)))) (piece_none bs (λ k low lt. none (suc k) (omega arith) (omega arith)))
 
 -- and one that finds one
 pub piece_some : (text : List ℕ) (k : ℕ) → k < length text → is_byte2 92 47 (get_or text k 0) ≡ true → is_one_piece text ≡ false

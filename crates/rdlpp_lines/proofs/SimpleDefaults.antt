@@ -1,59 +1,19 @@
 -- Default texts without strings, comments and brackets in front of a comma or a `)`.
-use Rattle.std.proofs.Common.{◌≡◌, ◌&&◌, eqb, ℕ, zero, suc, ◌+◌, ◌-◌, ◌<◌, Bool, true, false, cond, List, [], ◌∷◌, length, take, drop, get_or, Some, refl, sym, ap, ◌∙◌, subst, arith, inl, inr, ⊎_elim, ◌⊎◌}
+use Rattle.std.proofs.Common.{◌≡◌, ◌&&◌, eqb, ℕ, zero, suc, ◌+◌, ◌-◌, ◌<◌, Bool, true, false, cond, List, [], ◌∷◌, length, take, drop, get_or, Some, refl, sym, ap, ◌∙◌, subst, arith, inl, inr, ⊎_elim, ◌⊎◌, eqb-true, get_or-drop}
 use Rattle.std.specs.List.{prefix_len}
-use Rattle.std.proofs.lemmas.Bool.{false≢true, cases_Bool, cond_both, eqb-true, or_cases}
-use Rattle.std.proofs.lemmas.List.{get_or-drop}
+use Rattle.std.proofs.lemmas.Bool.{false≢true, cases_Bool, cond_both, or_cases, false_from_ne_true}
 use Rattle.std.proofs.lemmas.Slice.{between_to_end}
-use Rattle.rdlpp_scan.specs.declared.token.Kind.{Kind}
 use Rattle.rdlpp_scan.specs.declared.token.Kind.TheVariants.{Name, Word, Blank, Comma, Closer}
 use Rattle.rdlpp_scan.specs.declared.token.Mode.TheVariants.{Plain}
 use Rattle.rdlpp_scan.specs.declared.token.Token.{Token}
 use Rattle.rdlpp_scan.specs.Bytes.{begins_perl, begins_line_comment, begins_block_comment, is_blank, is_line_end, is_letter, is_digit, is_word, is_opener, is_closer, takes_word}
 use Rattle.rdlpp_scan.specs.LexFaults.{is_perl}
 use Rattle.rdlpp_scan.specs.Tokens.{plain_token, token_of, whole}
-use Rattle.rdlpp_scan.specs.TokenParts.{kind_of, len_of, mark_kind, mode_behind, plain_kind, stop_of}
-use Rattle.rdlpp_scan.proofs.TokenParts.{parts, token_parts}
+use Rattle.rdlpp_scan.proofs.StopKinds.{both_first, digit_token, letter_token, blank_token, run_one}
 use Rattle.rdlpp_scan.proofs.TokenLens.{is_word-digit, is_word-letter}
 use Rattle.rdlpp_lines.specs.SimpleDefaults.{is_simple}
 use Rattle.rdlpp_lines.specs.Texts.{Cleared, cleared, ends_default, left_in, level_behind, text_behind}
 use Rattle.rdlpp_lines.proofs.Measures.{behind_onto, by_first, left_first}
-
--- the token of a word that begins with a letter
-letter_token : (b : ℕ) (bs : List ℕ) → is_letter b ≡ true → token_of Plain (b ∷ bs) ≡ whole Name (prefix_len is_word (b ∷ bs))
-unfolding kind_of parts stop_of mode_behind len_of plain_kind whole
-letter_token b bs e =
-    let T = b ∷ bs in
-    token_parts Plain T
-    ∙ ap (λ (t : Bool). parts Plain (cond t Name (kind_else b (get_or T 1 0))) T) e
-  where
-    kind_else : ℕ → ℕ → Kind
-    kind_else b c = cond (is_blank b) Blank (cond (is_digit b) Word (mark_kind b c))
-
--- no digit is a blank
-digit_dark : (b : ℕ) → is_digit b ≡ true → is_blank b ≡ true → ⊥
-unfolding is_digit is_blank
-digit_dark b d h =
-    let P : ℕ → Type 0 = λ n. is_digit n ≡ true in
-    ⊎_elim (λ h4. ⊎_elim (λ h3. ⊎_elim (λ h2. ⊎_elim
-    (λ e. false≢true (subst P (eqb-true b 32 e) d)) (λ e. false≢true (subst P (eqb-true b 9 e) d)) (or_cases _ _ h2))
-    (λ e. false≢true (subst P (eqb-true b 13 e) d)) (or_cases _ _ h3))
-    (λ e. false≢true (subst P (eqb-true b 11 e) d)) (or_cases _ _ h4))
-    (λ e. false≢true (subst P (eqb-true b 12 e) d)) (or_cases _ _ h)
-
-not_true : (p : Bool) → (p ≡ true → ⊥) → p ≡ false
-not_true true h = absurd (h refl)
-not_true false h = refl
-
--- the token of a word that begins with a digit
-digit_token : (b : ℕ) (bs : List ℕ) → is_letter b ≡ false → is_digit b ≡ true → token_of Plain (b ∷ bs) ≡ whole Word (prefix_len is_word (b ∷ bs))
-unfolding kind_of parts stop_of mode_behind len_of plain_kind whole
-digit_token b bs l d =
-    let T = b ∷ bs in
-    let kind : plain_kind b (get_or T 1 0) ≡ Word =
-    rw (l, not_true (is_blank b) (digit_dark b d), d) refl in
-    token_parts Plain T
-    ∙ ap (λ (k : Kind). parts Plain k T) kind
-    ∙ ap (λ (t : Bool). whole Word (cond t (prefix_len is_word T) (suc (prefix_len is_word bs)))) d
 
 -- what is left of a default text behind a first token that ends nothing and leaves the level
 by_token : (text : List ℕ) (t : Token) → 0 < length text → token_of Plain text ≡ t
@@ -80,26 +40,6 @@ word_passed (b ∷ bs) n e = elim (cases_Bool (is_letter b)) [
   ]
 ]
 
--- no letter is a blank
-letter_dark : (b : ℕ) → is_letter b ≡ true → is_blank b ≡ true → ⊥
-unfolding is_letter is_blank
-letter_dark b d h =
-    let P : ℕ → Type 0 = λ n. is_letter n ≡ true in
-    ⊎_elim (λ h4. ⊎_elim (λ h3. ⊎_elim (λ h2. ⊎_elim
-    (λ e. false≢true (subst P (eqb-true b 32 e) d)) (λ e. false≢true (subst P (eqb-true b 9 e) d)) (or_cases _ _ h2))
-    (λ e. false≢true (subst P (eqb-true b 13 e) d)) (or_cases _ _ h3))
-    (λ e. false≢true (subst P (eqb-true b 11 e) d)) (or_cases _ _ h4))
-    (λ e. false≢true (subst P (eqb-true b 12 e) d)) (or_cases _ _ h)
-
--- the token of blanks
-blank_token : (b : ℕ) (bs : List ℕ) → is_blank b ≡ true → token_of Plain (b ∷ bs) ≡ whole Blank (prefix_len is_blank (b ∷ bs))
-unfolding kind_of parts stop_of mode_behind len_of plain_kind whole
-blank_token b bs d =
-    let T = b ∷ bs in
-    let kind : plain_kind b (get_or T 1 0) ≡ Blank = rw (not_true (is_letter b) (λ l. letter_dark b l d), d) refl in
-    token_parts Plain T
-    ∙ ap (λ (k : Kind). parts Plain k T) kind
-
 -- blanks are passed
 blanks_passed : (text : List ℕ) → text_behind (left_in (Some 0) Plain text) ≡ text_behind (left_in (Some 0) Plain (drop (prefix_len is_blank text) text))
 unfolding whole is_perl ends_default level_behind
@@ -110,12 +50,6 @@ blanks_passed (b ∷ bs) = elim (cases_Bool (is_blank b)) [
       let none : prefix_len is_blank (b ∷ bs) ≡ 0 = ap (λ (t : Bool). cond t (1 + prefix_len is_blank bs) 0) d in
       ap (λ (k : ℕ). text_behind (left_in (Some 0) Plain (drop k (b ∷ bs)))) (sym none)
 ]
-
--- what stands behind the bytes of a class, by the first of them
-run_one : (class : ℕ → Bool) (b : ℕ) (bs : List ℕ) → class b ≡ true → drop (prefix_len class (b ∷ bs)) (b ∷ bs) ≡ drop (prefix_len class bs) bs
-run_one class b bs h =
-    let n : 1 + prefix_len class bs ≡ suc (prefix_len class bs) = omega arith in
-    ap (λ (t : Bool). drop (cond t (1 + prefix_len class bs) 0) (b ∷ bs)) h ∙ ap (λ (k : ℕ). drop k (b ∷ bs)) n
 
 -- a run whose first byte is passed is passed where the others are
 run_passed : (class : ℕ → Bool) (b : ℕ) (bs : List ℕ) → class b ≡ true
@@ -131,10 +65,6 @@ no_opener : (b : ℕ) → is_simple b ≡ true → is_opener b ≡ true → ⊥
 unfolding is_opener is_simple
 no_opener b s h =
     ⊎_elim (λ h2. ⊎_elim (λ e. no_simple b 40 s refl e) (λ e. no_simple b 91 s refl e) (or_cases _ _ h2)) (λ e. no_simple b 123 s refl e) (or_cases _ _ h)
-
-both_first : (p q : Bool) → (p && q) ≡ true → p ≡ true
-both_first true q h = refl
-both_first false q h = absurd (false≢true h)
 
 -- what is left where a text doesn't end
 goes_on : (ends : Bool) (c d : Cleared) → ends ≡ false → text_behind (cond ends c d) ≡ text_behind d
@@ -160,7 +90,7 @@ byte_passed b bs s =
     cond_both (eqb b 96 && is_letter c) _ _ P (λ _. behind_onto _ _ _ refl ∙ sym word) (λ _.
     cond_both (eqb b 96) _ _ P (λ _. behind_onto _ _ _ refl) (λ _.
     cond_both (is_opener b) _ _ P (λ h. absurd (no_opener b s h)) (λ _.
-    cond_both (is_closer b) _ _ P (λ _. goes_on _ _ _ (not_true (eqb b 41) (no_simple b 41 s refl)) ∙ behind_onto _ _ _ refl) (λ _.
+    cond_both (is_closer b) _ _ P (λ _. goes_on _ _ _ (false_from_ne_true (eqb b 41) (no_simple b 41 s refl)) ∙ behind_onto _ _ _ refl) (λ _.
     cond_both (eqb b 44) _ _ P (λ h. absurd (no_simple b 44 s refl h)) (λ _. behind_onto _ _ _ refl))))))))))))))
 
 -- simple bytes are passed

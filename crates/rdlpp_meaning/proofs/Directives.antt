@@ -1,22 +1,26 @@
--- Laws of what remains of a file where a directive stands in front: for each kind of piece and each place.
-use Rattle.std.proofs.Common.{◌≡◌, ℕ, zero, suc, Bool, true, false, ◌||◌, List, [], ◌∷◌, ◌++◌, take, drop, refl, sym, ap, ◌∙◌, Option, None, Some, append-nil}
-use Rattle.std.specs.Prelude.{if◌then◌else◌, length, not, ◌==◌}
-use Rattle.std.specs.Str.{is_utf8}
+-- Laws of directives in front of what remains, and of moves in a nest of open sources.
+use Rattle.std.proofs.Common.{◌≡◌, ℕ, zero, suc, Bool, true, false, ◌||◌, List, [], ◌∷◌, ◌++◌, take, drop, refl, sym, ap, ◌∙◌, Option, None, Some, append-nil, length, not, ◌-◌, arith, append_assoc, if◌then◌else◌, slice_index, ◌==◌}
 use Rattle.std.specs.List.{list_any}
-use Rattle.rdlpp_scan.specs.declared.token.Kind.TheVariants.{Name, Blank, Str}
-use Rattle.rdlpp_scan.specs.declared.token.Directive.{Directive}
-use Rattle.rdlpp_scan.specs.declared.token.Directive.TheVariants.{Define, Undef, Ifdef, Ifndef, Elsif, Include, Line}
+use Rattle.std.specs.Str.{is_utf8}
 use Rattle.rdlpp_scan.specs.Bytes.{is_line_end}
-use Rattle.rdlpp_scan.specs.SourceTokens.{Sort, Ordinary, SourceToken}
-use Rattle.rdlpp_meaning.specs.declared.fault.FaultKind.{FaultKind}
-use Rattle.rdlpp_meaning.specs.declared.fault.FaultKind.TheVariants.{SourceNotFound, PathTooLong, IncludeName, TooManyIncludes, BadLine}
-use Rattle.rdlpp_meaning.specs.Outcome.{Told, Outcome, gives}
-use Rattle.rdlpp_meaning.specs.State.{Defined, Accepted, Refused, Lookup, NoSource, LongPath, Source, Rules, shown_line, State}
+use Rattle.rdlpp_scan.specs.SourceTokens.{Ordinary, Renumbering, Sort, SourceToken}
+use Rattle.rdlpp_scan.specs.declared.token.Directive.{Directive}
+use Rattle.rdlpp_scan.specs.declared.token.Directive.TheVariants.{Define, Else, Elsif, Endif, Ifdef, Ifndef, Include, Line, Undef}
+use Rattle.rdlpp_scan.specs.declared.token.Kind.TheVariants.{Blank, Name, Str}
+use Rattle.rdlpp_table.specs.Table.{without}
 use Rattle.rdlpp_meaning.specs.Expansion.{bytes_of}
-use Rattle.rdlpp_meaning.specs.Parts.{Command, Piece, line_ends_of, Single, Opening, Branching, only_blanks, directive_of, Argument, no_argument, one_argument, behind_blanks, name_in_front, string_in_front, past_blanks, argument_of, command_of, command_in_front, behind_directive, piece_of, pieces}
-use Rattle.rdlpp_meaning.specs.Meaning.{Passage, leaves, goes_on, behind_bytes, refusal, Nest, Test, Stopped, Holds, by_test, Checked, Fine, Faulty, defines, undefines, origin_line, at_start_of, back_in, added_end, includes, includes_found, includes_named, includes_given, unquoted, Renumbered, renumbered, renumbers, single, Progress, opening, in_conditional, begun, turn, turned, nest_of}
-use Rattle.rdlpp_meaning.specs.Resumed.{Place, Live, Skipped, resume, resumed, behind}
-use Rattle.rdlpp_meaning.proofs.TokenWrites.{only_blanks-append}
+use Rattle.rdlpp_meaning.specs.Meaning.{Checked, Faulty, Fine, Holds, Nest, Passage, Progress, Renumbered, Stopped, Test, added_end, at_start_of, back_in, begun, behind_bytes, by_test, defines, goes_on, in_conditional, includes, includes_found, includes_given, includes_named, leaves, macro_name, mean, nest_of, opening, origin_line, refusal, renumbered, renumbers, single, text_meaning, turn, turned, undefines, unquoted}
+use Rattle.rdlpp_meaning.specs.Opened.{Waiting, all_resumed, ending_of, unwound, waiting}
+use Rattle.rdlpp_meaning.specs.Outcome.{Outcome, Told, fails, gives}
+use Rattle.rdlpp_meaning.specs.Parts.{Argument, Branching, Closing, Command, Opening, Piece, Single, argument_of, behind_blanks, behind_directive, command_in_front, command_of, directive_of, line_ends_of, name_in_front, no_argument, one_argument, only_blanks, parts_of, past_blanks, piece_of, pieces, string_in_front}
+use Rattle.rdlpp_meaning.specs.Resumed.{Live, Place, Skipped, behind, resume, resumed}
+use Rattle.rdlpp_meaning.specs.State.{Accepted, Defined, LongPath, Lookup, NoSource, Refused, Rules, Source, State, fault_at, shown_line}
+use Rattle.rdlpp_meaning.specs.declared.fault.FaultKind.{FaultKind}
+use Rattle.rdlpp_meaning.specs.declared.fault.FaultKind.TheVariants.{BadLine, IncludeName, PathTooLong, SourceNotFound, TooManyIncludes}
+use Rattle.rdlpp_meaning.proofs.Outcomes.{fails-goes_on, goes_on-assoc, goes_on-gives, goes_on-nil, goes_on-same, refusal-goes_on, resumed_start}
+use Rattle.rdlpp_meaning.proofs.LiveText.{only_blanks-append}
+
+-- Laws of what remains of a file where a directive stands in front: for each kind of piece and each place.
 
 -- tokens that are passed over leave what the flag of blanks is behind their bytes
 pub pieces_skip : (first : Bool) (k : ℕ) (ts : List SourceToken)
@@ -290,3 +294,444 @@ unfolding resume resumed
 skipped_branching rules o os d first t ts s e p =
     let c = command_in_front d first t ts in
     directive_piece rules (Skipped 0 o os) d first t ts s (Branching c) e p ∙ by_test-same (turn o c s) c s _ _ _ _ refl refl
+
+-- The law of an `undef` in front of what remains, and what a directive takes where blanks and a name stand behind its word.
+
+-- what an `undef` comes to, by its name
+undef_in_front : (rules : Rules) (os : List Progress) (first : Bool) (t : SourceToken) (ts : List SourceToken) (s : State) (name : Checked)
+    → directive_of t ≡ Some Undef → macro_name (command_in_front Undef first t ts) ≡ name
+    → resumed rules (Live os) first (t ∷ ts) s
+    ≡ goes_on (undefines name (command_in_front Undef first t ts) s) (λ after. behind rules (Live os) Undef first t ts after)
+unfolding single command_of piece_of
+undef_in_front rules os first t ts s name d e =
+    let c = command_in_front Undef first t ts in
+    live_single rules os Undef first t ts s d refl
+    ∙ ap (λ (n : Checked). goes_on (undefines n c s) (λ after. behind rules (Live os) Undef first t ts after)) e
+
+-- an `undef` of a name takes out its macro, and then comes what remains behind it
+pub resumed_undef : (rules : Rules) (os : List Progress) (first : Bool) (t : SourceToken) (ts : List SourceToken) (s : State) (name : List ℕ)
+    → directive_of t ≡ Some Undef → macro_name (command_in_front Undef first t ts) ≡ Fine name
+    → resumed rules (Live os) first (t ∷ ts) s
+    ≡ behind rules (Live os) Undef first t ts (record s { macros = without name s.macros })
+unfolding undefines
+resumed_undef rules os first t ts s name d e =
+    undef_in_front rules os first t ts s (Fine name) d e
+    ∙ goes_on-nil (record s { macros = without name s.macros }) (λ after. behind rules (Live os) Undef first t ts after)
+
+-- an `undef` without a name, or of a reserved one, ends the output
+pub resumed_bad_undef : (rules : Rules) (os : List Progress) (first : Bool) (t : SourceToken) (ts : List SourceToken) (s : State) (kind : FaultKind) (word : List ℕ)
+    → directive_of t ≡ Some Undef → macro_name (command_in_front Undef first t ts) ≡ Faulty kind word
+    → resumed rules (Live os) first (t ∷ ts) s ≡ refusal kind word (command_in_front Undef first t ts) s
+unfolding undefines
+resumed_bad_undef rules os first t ts s kind word d e =
+    undef_in_front rules os first t ts s (Faulty kind word) d e
+    ∙ sym (refusal-goes_on kind word (command_in_front Undef first t ts) s (λ after. behind rules (Live os) Undef first t ts after))
+
+-- whether a directive wants the name of a macro
+unfoldable pub wants_name : Directive → Bool
+wants_name Undef = true
+wants_name Ifdef = true
+wants_name Ifndef = true
+wants_name Elsif = true
+wants_name d = false
+
+-- such a directive takes what stands behind blanks
+pub takes_name : (d : Directive) (ts : List SourceToken) → wants_name d ≡ true → argument_of d ts ≡ past_blanks name_in_front ts
+unfolding wants_name argument_of
+takes_name Undef ts e = refl
+takes_name Ifdef ts e = refl
+takes_name Ifndef ts e = refl
+takes_name Elsif ts e = refl
+takes_name d ts e = cc
+
+-- a name as a token
+abbrev pub name_token : List ℕ → ℕ → SourceToken
+name_token name line = record { sort = Ordinary Name; bytes = name; line = line }
+
+-- blanks as a token
+abbrev pub blank_token : List ℕ → ℕ → SourceToken
+blank_token blanks line = record { sort = Ordinary Blank; bytes = blanks; line = line }
+
+-- where a name stands at once
+pub takes_name_at_once : (d : Directive) (name : List ℕ) (l : ℕ) (ts : List SourceToken) → wants_name d ≡ true
+    → argument_of d (name_token name l ∷ ts) ≡ record { given = Some name; text = name; used = 1 }
+unfolding past_blanks name_in_front one_argument
+takes_name_at_once d name l ts e = takes_name d (name_token name l ∷ ts) e
+
+-- where blanks and a name stand
+pub takes_name_behind_blanks : (d : Directive) (blanks name : List ℕ) (k l : ℕ) (ts : List SourceToken) → wants_name d ≡ true
+    → argument_of d (blank_token blanks k ∷ name_token name l ∷ ts) ≡ record { given = Some name; text = blanks ++ name; used = 2 }
+unfolding past_blanks name_in_front one_argument behind_blanks
+takes_name_behind_blanks d blanks name k l ts e = takes_name d (blank_token blanks k ∷ name_token name l ∷ ts) e
+
+-- What an `include` takes behind its word: a string that is closed on its line, behind blanks or at once.
+
+-- a string as a token
+abbrev pub string_token : List ℕ → ℕ → SourceToken
+string_token string line = record { sort = Ordinary Str; bytes = string; line = line }
+
+-- a string without an LF is what stands in front
+string_here : (string : List ℕ) (l : ℕ) (ts : List SourceToken) → list_any is_line_end string ≡ false
+    → string_in_front (string_token string l ∷ ts) ≡ record { given = Some string; text = string; used = 1 }
+unfolding string_in_front one_argument
+string_here string l ts e = rw e refl
+
+-- where a string stands at once
+pub takes_string_at_once : (string : List ℕ) (l : ℕ) (ts : List SourceToken) → list_any is_line_end string ≡ false
+    → argument_of Include (string_token string l ∷ ts) ≡ record { given = Some string; text = string; used = 1 }
+unfolding argument_of past_blanks
+takes_string_at_once string l ts e = string_here string l ts e
+
+-- where blanks and a string stand
+pub takes_string_behind_blanks : (blanks string : List ℕ) (k l : ℕ) (ts : List SourceToken) → list_any is_line_end string ≡ false
+    → argument_of Include (blank_token blanks k ∷ string_token string l ∷ ts) ≡ record { given = Some string; text = blanks ++ string; used = 2 }
+unfolding argument_of past_blanks behind_blanks
+takes_string_behind_blanks blanks string k l ts e =
+    ap (λ (a : Argument). behind_blanks (blank_token blanks k) a) (string_here string l ts e)
+
+-- The directive `line` in live text, in any open conditionals and where any sources wait: the name and the lines that its source
+-- shows from there on, or its fault.
+
+-- a `line` with its line, as a token
+abbrev pub line_token : List ℕ → ℕ → SourceToken
+line_token bytes line = record { sort = Renumbering; bytes = bytes; line = line }
+
+-- the same as a directive
+abbrev line_command : Bool → List ℕ → ℕ → Command
+line_command first bytes line = record { word = Line; given = None; text = bytes; line = line; first = first }
+
+-- the state behind a `line` on a physical line: that file shows this name, and the next line this number
+abbrev pub renumbered_state : State → Renumbered → ℕ → State
+renumbered_state s r line = record s { name = r.name; shift = record { from = suc line; number = r.number } }
+
+-- a `line` in front of what remains, by what its line gives
+line_in_front : (rules : Rules) (os : List Progress) (first : Bool) (bytes : List ℕ) (line : ℕ) (more : List SourceToken) (s : State) (r : Option Renumbered)
+    → renumbered (drop 5 bytes) ≡ r
+    → resumed rules (Live os) first (line_token bytes line ∷ more) s
+    ≡ goes_on (renumbers rules r (line_command first bytes line) s) (λ after. resumed rules (Live os) (only_blanks first bytes) more after)
+unfolding single command_of piece_of directive_of argument_of no_argument
+line_in_front rules os first bytes line more s r e =
+    live_single rules os Line first (line_token bytes line) more s refl refl
+    ∙ ap (λ (x : List ℕ). goes_on (renumbers rules (renumbered (drop 5 x)) (line_command first x line) s)
+    (λ after. resumed rules (Live os) (only_blanks first x) more after)) (append-nil bytes)
+    ∙ ap (λ (x : Option Renumbered). goes_on (renumbers rules x (line_command first bytes line) s)
+    (λ after. resumed rules (Live os) (only_blanks first bytes) more after)) e
+
+-- a `line` that gives a number and a name, and before which only blanks stand on its line
+pub resumed_renumbered : (rules : Rules) (os : List Progress) (bytes : List ℕ) (line : ℕ) (more : List SourceToken) (s : State) (r : Renumbered)
+    → renumbered (drop 5 bytes) ≡ Some r
+    → resumed rules (Live os) true (line_token bytes line ∷ more) s
+    ≡ behind_bytes (line_ends_of bytes ++ origin_line rules r.name r.number)
+    (resumed rules (Live os) (only_blanks true bytes) more (renumbered_state s r line))
+unfolding renumbers
+resumed_renumbered rules os bytes line more s r e =
+    line_in_front rules os true bytes line more s (Some r) e
+    ∙ goes_on-gives (line_ends_of bytes ++ origin_line rules r.name r.number) (renumbered_state s r line)
+    (λ after. resumed rules (Live os) (only_blanks true bytes) more after)
+
+-- one that gives none ends its source
+pub resumed_bad_line : (rules : Rules) (os : List Progress) (first : Bool) (bytes : List ℕ) (line : ℕ) (more : List SourceToken) (s : State)
+    → renumbered (drop 5 bytes) ≡ None
+    → resumed rules (Live os) first (line_token bytes line ∷ more) s ≡ leaves (fails (fault_at BadLine line [] s)) s
+unfolding renumbers refusal
+resumed_bad_line rules os first bytes line more s e =
+    line_in_front rules os first bytes line more s None e
+    ∙ fails-goes_on (fault_at BadLine line [] s) s (λ after. resumed rules (Live os) (only_blanks first bytes) more after)
+
+-- a `line` behind anything but blanks is refused, whatever it gives
+late_line : (rules : Rules) (r : Option Renumbered) (bytes : List ℕ) (line : ℕ) (s : State)
+    → renumbers rules r (line_command false bytes line) s ≡ leaves (fails (fault_at BadLine line [] s)) s
+unfolding renumbers refusal
+late_line rules None bytes line s = refl
+late_line rules (Some r) bytes line s = refl
+
+-- and ends its source
+pub resumed_late_line : (rules : Rules) (os : List Progress) (bytes : List ℕ) (line : ℕ) (more : List SourceToken) (s : State)
+    → resumed rules (Live os) false (line_token bytes line ∷ more) s ≡ leaves (fails (fault_at BadLine line [] s)) s
+resumed_late_line rules os bytes line more s =
+    let r = renumbered (drop 5 bytes) in
+    let next : State → Passage = λ after. resumed rules (Live os) (only_blanks false bytes) more after in
+    line_in_front rules os false bytes line more s r refl
+    ∙ ap (λ (p : Passage). goes_on p next) (late_line rules r bytes line s)
+    ∙ fails-goes_on (fault_at BadLine line [] s) s next
+
+-- Laws of a nest of open sources: an `include` opens one, the end of a text goes back, and each step of the innermost is a step of the nest.
+
+-- bytes in front of a passage stay there where more goes on behind it, by its fault
+front_by : (x y : List ℕ) (f : Option Told) (s : State) (next : State → Passage)
+    → goes_on (behind_bytes x (record { bytes = y; fault = f; after = s })) next
+    ≡ behind_bytes x (goes_on (record { bytes = y; fault = f; after = s }) next)
+unfolding goes_on behind_bytes
+front_by x y (Some f) s next = refl
+front_by x y None s next =
+    ap (λ (z : List ℕ). record { bytes = z; fault = (next s).fault; after = (next s).after }) (append_assoc x y (next s).bytes)
+
+-- bytes in front of a passage stay there where more goes on behind it
+pub behind_bytes-goes_on : (x : List ℕ) (p : Passage) (next : State → Passage)
+    → goes_on (behind_bytes x p) next ≡ behind_bytes x (goes_on p next)
+behind_bytes-goes_on x p next = front_by x p.bytes p.fault p.after next
+
+-- nothing behind a passage changes nothing, by its fault
+nothing_by : (x : List ℕ) (f : Option Told) (s : State)
+    → goes_on (record { bytes = x; fault = f; after = s }) (λ after. leaves (gives []) after) ≡ record { bytes = x; fault = f; after = s }
+unfolding goes_on behind_bytes leaves gives
+nothing_by x (Some f) s = refl
+nothing_by x None s = ap (λ (z : List ℕ). record { bytes = z; fault = None; after = s }) (append-nil x)
+
+-- of a single source, all that remains is what remains of it
+pub all_resumed_alone : (rules : Rules) (place : Place) (first : Bool) (ts : List SourceToken) (s : State)
+    → all_resumed rules [] place first ts s ≡ resumed rules place first ts s
+unfolding all_resumed unwound
+all_resumed_alone rules place first ts s =
+    let p = resumed rules place first ts s in nothing_by p.bytes p.fault p.after
+
+-- a step that writes nothing and changes the place or the state alone
+pub all_resumed_move : (rules : Rules) (ws : List Waiting) (place new : Place) (first then_first : Bool) (ts us : List SourceToken) (s t : State)
+    → resumed rules place first ts s ≡ resumed rules new then_first us t
+    → all_resumed rules ws place first ts s ≡ all_resumed rules ws new then_first us t
+unfolding all_resumed
+all_resumed_move rules ws place new first then_first ts us s t e =
+    ap (λ (p : Passage). goes_on p (λ after. unwound rules ws after)) e
+
+-- an `include` with a string that names a source, where one more may be opened, by what the search finds
+include_searched : (rules : Rules) (name : List ℕ) (c : Command) (s : State) (n : ℕ) (found : Lookup)
+    → (length name == 0 || not (is_utf8 name)) ≡ false → s.sources_left ≡ suc n → rules.find s.path name ≡ found
+    → includes_named rules (nest_of rules s.sources_left) name c s
+    ≡ includes_found rules (λ u text. mean rules (nest_of rules n) (parts_of (rules.tokens text)) u) found c s
+unfolding includes_named nest_of
+include_searched rules name c s n found e left f =
+    let within : State → List ℕ → Passage = λ u text. mean rules (nest_of rules n) (parts_of (rules.tokens text)) u in
+    ap (λ (k : ℕ). includes_named rules (nest_of rules k) name c s) left
+    ∙ ap (λ (b : Bool). if b then refusal IncludeName [] c s else includes_found rules within (rules.find s.path name) c s) e
+    ∙ ap (λ (x : Lookup). includes_found rules within x c s) f
+
+-- what an included text means in an `include` is what remains at its start
+included_resumed : (rules : Rules) (path text : List ℕ) (s : State) (n : ℕ) → s.sources_left ≡ suc n
+    → mean rules (nest_of rules n) (parts_of (rules.tokens text)) (at_start_of path s)
+    ≡ resumed rules (Live []) true (rules.tokens text) (at_start_of path s)
+unfolding text_meaning at_start_of
+included_resumed rules path text s n left =
+    let e : n ≡ s.sources_left - 1 = omega arith in
+    ap (λ (k : ℕ). mean rules (nest_of rules k) (parts_of (rules.tokens text)) (at_start_of path s)) e
+    ∙ resumed_start rules (at_start_of path s) text
+
+-- an `include` in front of what remains, by what it is given
+include_in_front : (rules : Rules) (os : List Progress) (first : Bool) (t : SourceToken) (ts : List SourceToken) (s : State) (given : Option (List ℕ))
+    → directive_of t ≡ Some Include → (argument_of Include ts).given ≡ given
+    → resumed rules (Live os) first (t ∷ ts) s
+    ≡ goes_on (includes_given rules (nest_of rules s.sources_left) given (command_in_front Include first t ts) s)
+    (λ after. behind rules (Live os) Include first t ts after)
+unfolding single command_of piece_of
+include_in_front rules os first t ts s given d e =
+    let c = command_in_front Include first t ts in
+    live_single rules os Include first t ts s d refl
+    ∙ ap (λ (g : Option (List ℕ)). goes_on (includes_given rules (nest_of rules s.sources_left) g c s)
+    (λ after. behind rules (Live os) Include first t ts after)) e
+
+-- an `include` without a string on its line is refused
+pub include_nameless : (rules : Rules) (os : List Progress) (first : Bool) (t : SourceToken) (ts : List SourceToken) (s : State)
+    → directive_of t ≡ Some Include → (argument_of Include ts).given ≡ None
+    → resumed rules (Live os) first (t ∷ ts) s ≡ refusal IncludeName [] (command_in_front Include first t ts) s
+unfolding includes_given
+include_nameless rules os first t ts s d e =
+    include_in_front rules os first t ts s None d e
+    ∙ sym (refusal-goes_on IncludeName [] (command_in_front Include first t ts) s (λ after. behind rules (Live os) Include first t ts after))
+
+-- an `include` that comes to a refusal
+include_refused : (rules : Rules) (os : List Progress) (first : Bool) (t : SourceToken) (ts : List SourceToken) (s : State) (string : List ℕ) (kind : FaultKind)
+    → directive_of t ≡ Some Include → (argument_of Include ts).given ≡ Some string
+    → includes_named rules (nest_of rules s.sources_left) (unquoted string) (command_in_front Include first t ts) s
+    ≡ refusal kind [] (command_in_front Include first t ts) s
+    → resumed rules (Live os) first (t ∷ ts) s ≡ refusal kind [] (command_in_front Include first t ts) s
+unfolding includes_given
+include_refused rules os first t ts s string kind d e r =
+    let next : State → Passage = λ after. behind rules (Live os) Include first t ts after in
+    include_in_front rules os first t ts s (Some string) d e
+    ∙ ap (λ (p : Passage). goes_on p next) r
+    ∙ sym (refusal-goes_on kind [] (command_in_front Include first t ts) s next)
+
+-- an `include` of an empty name, or of one that isn't UTF-8, is refused
+pub include_bad_name : (rules : Rules) (os : List Progress) (first : Bool) (t : SourceToken) (ts : List SourceToken) (s : State) (string : List ℕ)
+    → directive_of t ≡ Some Include → (argument_of Include ts).given ≡ Some string
+    → (length (unquoted string) == 0 || not (is_utf8 (unquoted string))) ≡ true
+    → resumed rules (Live os) first (t ∷ ts) s ≡ refusal IncludeName [] (command_in_front Include first t ts) s
+unfolding includes_named
+include_bad_name rules os first t ts s string d e b =
+    include_refused rules os first t ts s string IncludeName d e (rw b refl)
+
+-- an `include` where no more sources may be opened is refused
+pub include_too_deep : (rules : Rules) (os : List Progress) (first : Bool) (t : SourceToken) (ts : List SourceToken) (s : State) (string : List ℕ)
+    → directive_of t ≡ Some Include → (argument_of Include ts).given ≡ Some string
+    → (length (unquoted string) == 0 || not (is_utf8 (unquoted string))) ≡ false → s.sources_left ≡ 0
+    → resumed rules (Live os) first (t ∷ ts) s ≡ refusal TooManyIncludes [] (command_in_front Include first t ts) s
+unfolding includes_named nest_of
+include_too_deep rules os first t ts s string d e b left =
+    let c = command_in_front Include first t ts in
+    include_refused rules os first t ts s string TooManyIncludes d e
+    (ap (λ (k : ℕ). includes_named rules (nest_of rules k) (unquoted string) c s) left
+    ∙ ap (λ (x : Bool). if x then refusal IncludeName [] c s else refusal TooManyIncludes [] c s) b)
+
+-- an `include` whose search finds nothing is refused
+pub include_not_found : (rules : Rules) (os : List Progress) (first : Bool) (t : SourceToken) (ts : List SourceToken) (s : State) (string : List ℕ) (n : ℕ)
+    → directive_of t ≡ Some Include → (argument_of Include ts).given ≡ Some string
+    → (length (unquoted string) == 0 || not (is_utf8 (unquoted string))) ≡ false → s.sources_left ≡ suc n
+    → rules.find s.path (unquoted string) ≡ NoSource
+    → resumed rules (Live os) first (t ∷ ts) s ≡ refusal SourceNotFound [] (command_in_front Include first t ts) s
+unfolding includes_found
+include_not_found rules os first t ts s string n d e b left f =
+    include_refused rules os first t ts s string SourceNotFound d e
+    (include_searched rules (unquoted string) (command_in_front Include first t ts) s n NoSource b left f)
+
+-- an `include` whose search meets a path that is too long is refused
+pub include_long_path : (rules : Rules) (os : List Progress) (first : Bool) (t : SourceToken) (ts : List SourceToken) (s : State) (string : List ℕ) (n : ℕ)
+    → directive_of t ≡ Some Include → (argument_of Include ts).given ≡ Some string
+    → (length (unquoted string) == 0 || not (is_utf8 (unquoted string))) ≡ false → s.sources_left ≡ suc n
+    → rules.find s.path (unquoted string) ≡ LongPath
+    → resumed rules (Live os) first (t ∷ ts) s ≡ refusal PathTooLong [] (command_in_front Include first t ts) s
+unfolding includes_found
+include_long_path rules os first t ts s string n d e b left f =
+    include_refused rules os first t ts s string PathTooLong d e
+    (include_searched rules (unquoted string) (command_in_front Include first t ts) s n LongPath b left f)
+
+-- an `include` that finds a source, and then what remains behind it
+pub include_found : (rules : Rules) (os : List Progress) (first : Bool) (t : SourceToken) (ts : List SourceToken) (s : State) (string : List ℕ) (n : ℕ) (path text : List ℕ)
+    → directive_of t ≡ Some Include → (argument_of Include ts).given ≡ Some string
+    → (length (unquoted string) == 0 || not (is_utf8 (unquoted string))) ≡ false → s.sources_left ≡ suc n
+    → rules.find s.path (unquoted string) ≡ Source path text
+    → resumed rules (Live os) first (t ∷ ts) s
+    ≡ behind_bytes (origin_line rules path 1)
+    (goes_on (resumed rules (Live []) true (rules.tokens text) (at_start_of path s)) (λ after.
+    behind_bytes (ending_of rules t s text) (behind rules (Live os) Include first t ts (back_in s after))))
+unfolding includes_given includes_found includes command_of
+include_found rules os first t ts s string n path text d e b left f =
+    let c = command_in_front Include first t ts in
+    let own = resumed rules (Live []) true (rules.tokens text) (at_start_of path s) in
+    let back : State → Passage = λ after. leaves (gives (ending_of rules t s text)) (back_in s after) in
+    let next : State → Passage = λ after. behind rules (Live os) Include first t ts after in
+    include_in_front rules os first t ts s (Some string) d e
+    ∙ ap (λ (p : Passage). goes_on p next) (include_searched rules (unquoted string) c s n (Source path text) b left f)
+    ∙ ap (λ (p : Passage). goes_on (behind_bytes (origin_line rules path 1) (goes_on p back)) next) (included_resumed rules path text s n left)
+    ∙ behind_bytes-goes_on (origin_line rules path 1) (goes_on own back) next
+    ∙ ap (λ (p : Passage). behind_bytes (origin_line rules path 1) p)
+    (goes_on-assoc own back next
+    ∙ goes_on-same own (λ after. goes_on (back after) next)
+    (λ after. behind_bytes (ending_of rules t s text) (next (back_in s after)))
+    (λ after. goes_on-gives (ending_of rules t s text) (back_in s after) next))
+
+-- in a nest, an `include` that finds a source opens it, and the source that stood innermost waits
+pub all_resumed_include : (rules : Rules) (ws : List Waiting) (os : List Progress) (first : Bool) (t : SourceToken) (ts : List SourceToken) (s : State) (string : List ℕ) (n : ℕ) (path text : List ℕ)
+    → directive_of t ≡ Some Include → (argument_of Include ts).given ≡ Some string
+    → (length (unquoted string) == 0 || not (is_utf8 (unquoted string))) ≡ false → s.sources_left ≡ suc n
+    → rules.find s.path (unquoted string) ≡ Source path text
+    → all_resumed rules ws (Live os) first (t ∷ ts) s
+    ≡ behind_bytes (origin_line rules path 1)
+    (all_resumed rules (waiting rules os first t ts s text ∷ ws) (Live []) true (rules.tokens text) (at_start_of path s))
+unfolding all_resumed unwound waiting
+all_resumed_include rules ws os first t ts s string n path text d e b left f =
+    let own = resumed rules (Live []) true (rules.tokens text) (at_start_of path s) in
+    let further : State → Passage = λ after. unwound rules ws after in
+    let inner : State → Passage = λ after. behind rules (Live os) Include first t ts (back_in s after) in
+    let next : State → Passage = λ after. behind_bytes (ending_of rules t s text) (inner after) in
+    ap (λ (p : Passage). goes_on p further) (include_found rules os first t ts s string n path text d e b left f)
+    ∙ behind_bytes-goes_on (origin_line rules path 1) (goes_on own next) further
+    ∙ ap (λ (p : Passage). behind_bytes (origin_line rules path 1) p)
+    (goes_on-assoc own next further
+    ∙ goes_on-same own (λ after. goes_on (next after) further)
+    (λ after. unwound rules (waiting rules os first t ts s text ∷ ws) after)
+    (λ after. behind_bytes-goes_on (ending_of rules t s text) (inner after) further))
+
+-- Moves in a nest of open sources: what the innermost one writes or changes, where any others wait for it.
+
+-- what the innermost source writes first, the nest writes first
+pub all_resumed_behind : (rules : Rules) (ws : List Waiting) (place new : Place) (first then_first : Bool) (ts us : List SourceToken) (s t : State) (x : List ℕ)
+    → resumed rules place first ts s ≡ behind_bytes x (resumed rules new then_first us t)
+    → all_resumed rules ws place first ts s ≡ behind_bytes x (all_resumed rules ws new then_first us t)
+unfolding all_resumed
+all_resumed_behind rules ws place new first then_first ts us s t x e =
+    ap (λ (p : Passage). goes_on p (λ after. unwound rules ws after)) e
+    ∙ behind_bytes-goes_on x (resumed rules new then_first us t) (λ after. unwound rules ws after)
+
+-- a fault of the innermost source ends the nest
+pub all_resumed_fails : (rules : Rules) (ws : List Waiting) (place : Place) (first : Bool) (ts : List SourceToken) (s t : State) (f : Told)
+    → resumed rules place first ts s ≡ leaves (fails f) t
+    → all_resumed rules ws place first ts s ≡ leaves (fails f) t
+unfolding all_resumed
+all_resumed_fails rules ws place first ts s t f e =
+    ap (λ (p : Passage). goes_on p (λ after. unwound rules ws after)) e
+    ∙ fails-goes_on f t (λ after. unwound rules ws after)
+
+-- Conditionals in a nest of open sources: what the words `ifdef`, `ifndef`, `elsif`, `else` and `endif` do in live text and in
+-- skipped text that they end, and the end of a source in an open conditional, where any sources wait.
+
+-- whether a directive opens a conditional
+unfoldable pub opens_conditional : Directive → Bool
+opens_conditional Ifdef = true
+opens_conditional Ifndef = true
+opens_conditional d = false
+
+-- whether a directive is a branch of one
+unfoldable pub branches_conditional : Directive → Bool
+branches_conditional Elsif = true
+branches_conditional Else = true
+branches_conditional d = false
+
+-- a directive that opens a conditional is such a piece
+pub opening_piece : (d : Directive) (first : Bool) (t : SourceToken) (ts : List SourceToken) → opens_conditional d ≡ true
+    → piece_of (command_in_front d first t ts) ≡ Opening (command_in_front d first t ts)
+unfolding opens_conditional piece_of command_of
+opening_piece Ifdef first t ts e = refl
+opening_piece Ifndef first t ts e = refl
+opening_piece d first t ts e = cc
+
+-- a directive that is a branch is such a piece
+pub branching_piece : (d : Directive) (first : Bool) (t : SourceToken) (ts : List SourceToken) → branches_conditional d ≡ true
+    → piece_of (command_in_front d first t ts) ≡ Branching (command_in_front d first t ts)
+unfolding branches_conditional piece_of command_of
+branching_piece Elsif first t ts e = refl
+branching_piece Else first t ts e = refl
+branching_piece d first t ts e = cc
+
+-- an `endif` is such a piece
+pub closing_piece : (first : Bool) (t : SourceToken) (ts : List SourceToken)
+    → piece_of (command_in_front Endif first t ts) ≡ Closing (command_in_front Endif first t ts)
+unfolding piece_of command_of
+closing_piece first t ts = refl
+
+-- where the innermost open conditional stands: in a branch that is live, or in one that is skipped, with none that opened there
+unfoldable pub in_branch : Bool → Progress → List Progress → Place
+in_branch true o os = Live (o ∷ os)
+in_branch false o os = Skipped 0 o os
+
+-- The LF that an included text is followed by, as a reader tells it that takes the text in parts: by whether a byte came at all and
+-- whether the last one was an LF.
+
+-- whether a text stands in mid-line behind bytes, where it did or didn't before them
+unfoldable pub in_line : Bool → List ℕ → Bool
+in_line torn [] = torn
+in_line torn (b ∷ bs) = in_line (not (is_line_end b)) bs
+
+-- an LF where a text ends in mid-line
+unfoldable pub line_end_if : Bool → List ℕ
+line_end_if torn = if torn then 10 ∷ [] else []
+
+-- the last byte of a text that isn't empty tells it
+in_line-index : (torn : Bool) (b : ℕ) (bs : List ℕ) → in_line torn (b ∷ bs) ≡ not (slice_index (b ∷ bs) (length bs) == 10)
+unfolding in_line is_line_end
+in_line-index torn b [] = refl
+in_line-index torn b (c ∷ bs) = in_line-index (not (is_line_end b)) c bs
+
+-- a choice by a test is the other choice by its opposite
+other_choice : (t : Bool) → (if t then [] else 10 ∷ []) ≡ line_end_if (not t)
+unfolding line_end_if
+other_choice true = refl
+other_choice false = refl
+
+-- an LF follows an included text exactly where it ends in mid-line
+pub added_end-in_line : (text : List ℕ) → added_end text ≡ line_end_if (in_line false text)
+unfolding added_end in_line line_end_if
+added_end-in_line [] = refl
+added_end-in_line (b ∷ bs) =
+    let n : suc (length bs) - 1 ≡ length bs = omega arith in
+    ap (λ (k : ℕ). if slice_index (b ∷ bs) k == 10 then [] else 10 ∷ []) n
+    ∙ other_choice (slice_index (b ∷ bs) (length bs) == 10)
+    ∙ ap line_end_if (sym (in_line-index false b bs))

@@ -1,6 +1,5 @@
 -- Files and outputs with larger limits: the same, but where a smaller limit was a fault.
-use Rattle.std.proofs.Common.{◌≡◌, ℕ, zero, suc, ◌+◌, ◌-◌, Bool, true, false, true≢false, ◌||◌, List, [], ◌∷◌, ◌++◌, refl, sym, ap, subst, ◌∙◌, arith, Option, None, Some, ◌≤◌, inl, inr, le_trans}
-use Rattle.std.specs.Prelude.{if◌then◌else◌, not, ◌==◌, length, drop, nat_le, nat_lt}
+use Rattle.std.proofs.Common.{◌≡◌, ℕ, zero, suc, ◌+◌, ◌-◌, Bool, true, false, true≢false, ◌||◌, List, [], ◌∷◌, ◌++◌, refl, sym, ap, subst, ◌∙◌, arith, Option, None, Some, ◌≤◌, inl, inr, le_trans, if◌then◌else◌, not, ◌==◌, length, drop, nat_le, nat_lt, leb-true, leb-false}
 use Rattle.std.specs.Str.{is_utf8}
 use Rattle.rdlpp_scan.specs.declared.token.Directive.{Directive}
 use Rattle.rdlpp_scan.specs.declared.token.Directive.TheVariants.{Define, Undef, Include, Line}
@@ -13,8 +12,7 @@ use Rattle.rdlpp_meaning.specs.State.{Defined, Accepted, Refused, Lookup, NoSour
 use Rattle.rdlpp_meaning.specs.Parts.{Command, line_ends_of, Piece, Run, Single, Opening, Branching, Closing, pieces, parts_of}
 use Rattle.rdlpp_meaning.specs.Meaning.{Passage, leaves, behind_bytes, goes_on, refusal, Nest, skipped_run, Checked, Fine, Faulty, macro_name, defines, undefines, origin_line, at_start_of, back_in, added_end, includes, includes_found, unquoted, includes_named, includes_given, Renumbered, renumbered, renumbers, single, Progress, Test, Stopped, Holds, by_test, is_defined, name_test, wants_defined, opening_within, opening, in_conditional, past_conditional, is_else, turn, outcome, skipped_command, begun, turned, unclosed, mean, nest_of, text_meaning}
 use Rattle.rdlpp_meaning.specs.LimitLaws.{is_limit, NamesNoLimit, IsLarger}
-use Rattle.rdlpp_meaning.proofs.LargerRuns.{Agrees, IsFault, TornAgrees, run-agrees, run-torn, skip-agrees, skip-torn}
-use Rattle.std.proofs.lemmas.Bool.{leb-true, leb-false}
+use Rattle.rdlpp_meaning.proofs.LargerRuns.{Agrees, IsFault, TornAgrees, run-agrees, run-torn, skip-agrees, skip-torn, sources-torn}
 use Rattle.rdlpp_scan.specs.Front.{Breach}
 use Rattle.rdlpp_table.specs.declared.limits.Limits.{Limits}
 use Rattle.rdlpp_table.specs.declared.fault.DefineKind.TheVariants as kind
@@ -27,13 +25,10 @@ use Rattle.rdlpp_meaning.specs.Profile.{define_fault, with_fault, rules_of}
 use Rattle.rdlpp_meaning.specs.OutputLimit.{Searches, limited, search_rules, unlimited_output, limited_output}
 use Rattle.rdlpp_meaning.specs.Items.{Written}
 use Rattle.rdlpp_meaning.specs.Actuals.{token_role}
-use Rattle.rdlpp_meaning.proofs.OutputLimits.{limited-within, limited-over}
-use Rattle.rdlpp_meaning.proofs.Walks.{expand_walk}
-use Rattle.rdlpp_meaning.proofs.TornCalls.{roomier, TornBy}
-use Rattle.rdlpp_meaning.proofs.TornPieces.{TokensTorn, run_front, EndsTorn, PiecesTorn, FirstUnbroken, pieces-torn}
+use Rattle.rdlpp_meaning.proofs.Outcomes.{limited-over, limited-within, mean_resumes}
+use Rattle.rdlpp_meaning.proofs.LiveText.{expand_walk}
+use Rattle.rdlpp_meaning.proofs.TornCalls.{EndsTorn, FirstUnbroken, PiecesTorn, TokensTorn, TornBy, pieces-torn, roomier, run_front}
 use Rattle.rdlpp_meaning.proofs.TornTokens.{unpassed}
-use Rattle.rdlpp_meaning.proofs.TornSources.{sources-torn}
-use Rattle.rdlpp_meaning.proofs.Resuming.{mean_resumes}
 
 -- rules with other limits
 abbrev pub wider : Rules → ℕ → ℕ → (List Macro → List ℕ → Defined) → (List ℕ → List SourceToken) → Rules

@@ -1,22 +1,481 @@
--- Expansion and runs with larger limits: the same, but where a smaller limit was a fault, which may have torn the last token.
-use Rattle.std.proofs.Common.{◌≡◌, ℕ, zero, suc, ◌≤◌, inl, inr, true, true≢false, List, [], ◌∷◌, ◌++◌, map, length, refl, sym, ap, subst, ◌∙◌, arith, Option, None, Some, drop}
-use Rattle.std.specs.Prelude.{unwrap_or}
-use Rattle.std.proofs.lemmas.List.{append-nil, map-append}
-use Rattle.rdlpp_scan.specs.declared.token.Kind.TheVariants.{Back, BareBackquote}
-use Rattle.rdlpp_scan.specs.Front.{Breach}
-use Rattle.rdlpp_scan.specs.SourceTokens.{SourceToken, Sort, Ordinary, Broken}
-use Rattle.rdlpp_meaning.specs.State.{Rules, State, fault_at, breach_kind}
-use Rattle.rdlpp_meaning.specs.Items.{Item, Written, Arg, listed}
-use Rattle.rdlpp_meaning.specs.Actuals.{item_reads, item_role, token_role}
-use Rattle.rdlpp_meaning.specs.Expansion.{Usage, Refuses, Opens, usage_of, walk, expand, run_outcome}
-use Rattle.rdlpp_meaning.specs.LimitLaws.{is_limit, NamesNoLimit}
-use Rattle.rdlpp_meaning.specs.Outcome.{Told, Outcome, gives, fails, and_then}
-use Rattle.rdlpp_meaning.specs.Substitution.{substituted}
-use Rattle.rdlpp_meaning.specs.Parts.{line_ends_of}
+-- The tokens of a text, and expansion and runs over tokens, with smaller and with larger limits.
+use Rattle.std.proofs.Common.{◌≡◌, ℕ, zero, suc, ◌+◌, ◌-◌, ◌<◌, ◌≤◌, ◌⊎◌, ⊎_elim, inl, inr, Bool, true, false, true≢false, List, [], ◌∷◌, ◌++◌, length, take, drop, refl, sym, ap, subst, ◌∙◌, arith, append-nil, append_assoc, Option, None, Some, map, if◌then◌else◌, nat_lt, slice_index, unwrap_or, ◌==◌, eqb-true, le-ltb, lt-ltb, length-append, length-drop}
+use Rattle.std.specs.List.{list_any}
+use Rattle.std.proofs.Math.Seq.{take-append-add, take-length}
+use Rattle.std.proofs.lemmas.Bool.{and_parts, false≢true}
+use Rattle.std.proofs.lemmas.List.{map-append, take-append-le}
+use Rattle.rdlpp_scan.specs.Bytes.{begins_block_comment, is_line_end}
+use Rattle.rdlpp_scan.specs.Front.{Breach, Break, CommentOpen, Front, LineLong, PerlFound, SourceLong, StringOpen, front, front_of_lines, lines_of, onto_first, onto_front}
+use Rattle.rdlpp_scan.specs.Lines.{IsWholeLines, onto_whole_lines, whole_lines_len}
+use Rattle.rdlpp_scan.specs.Ordinary.{is_plain_kind}
+use Rattle.rdlpp_scan.specs.SourceTokens.{Broken, Course, Last, Next, Ordinary, Sort, SourceToken, Step, broken, comment_step, line_after, line_ends, open_end, remaining_tokens, source_end, source_step, source_tokens, step_by, string_step, whole_tokens}
+use Rattle.rdlpp_scan.specs.Tokens.{block_token, string_token, token_of, whole}
+use Rattle.rdlpp_scan.specs.declared.token.Kind.{Kind}
+use Rattle.rdlpp_scan.specs.declared.token.Kind.TheVariants.{Back, BareBackquote, BlockComment, Str}
+use Rattle.rdlpp_scan.specs.declared.token.Mode.{Mode}
+use Rattle.rdlpp_scan.specs.declared.token.Mode.TheVariants.{InBlock, InStr, Plain}
+use Rattle.rdlpp_scan.specs.declared.token.Token.{Token}
+use Rattle.rdlpp_scan.proofs.SourceLaws.{IsWholeLines-append, IsWholeLines-drop, source_tokens-last}
+use Rattle.rdlpp_scan.proofs.Seams.{BeforePerl, Closed, IsCut-from_line, OpenComment, OpenString, Seam, longer, token_of-seam}
+use Rattle.rdlpp_scan.proofs.StopKinds.{AtBack, AtBare, AtBlockComment, AtLineComment, AtPerl, AtPlain, AtString, Row, block_token-kind, string_token-kind, token_of-row}
+use Rattle.rdlpp_scan.proofs.TokenLens.{token_of-part}
+use Rattle.rdlpp_scan.proofs.TokenSteps.{next_held}
+use Rattle.rdlpp_meaning.specs.Actuals.{Role, item_reads, item_role, token_role}
+use Rattle.rdlpp_meaning.specs.Expansion.{Opens, Refuses, Usage, expand, run_outcome, usage_of, walk}
+use Rattle.rdlpp_meaning.specs.Items.{Arg, Item, Written, listed}
+use Rattle.rdlpp_meaning.specs.LimitLaws.{NamesNoLimit, is_limit}
 use Rattle.rdlpp_meaning.specs.Meaning.{skipped_run}
-use Rattle.rdlpp_meaning.proofs.Walks.{deeper_of, expand_walk}
-use Rattle.rdlpp_meaning.proofs.Usages.{usage_walk, usage_walks}
-use Rattle.rdlpp_meaning.proofs.TornCalls.{roomier, TornBy, IsTail, IsLimitedUsage, UsesUpTo, UsageTorn, usage-torn, no-tail, torn-written}
+use Rattle.rdlpp_meaning.specs.Outcome.{Outcome, Told, and_then, fails, gives}
+use Rattle.rdlpp_meaning.specs.Parts.{line_ends_of}
+use Rattle.rdlpp_meaning.specs.Resumed.{leading}
+use Rattle.rdlpp_meaning.specs.State.{Rules, State, breach_kind, fault_at}
+use Rattle.rdlpp_meaning.specs.Substitution.{substituted}
+use Rattle.rdlpp_meaning.proofs.TornCalls.{IsLimitedUsage, IsTail, TokensTorn, TornBy, UsageTorn, UsesUpTo, ends_line, no-tail, roomier, torn-written, usage-torn}
+use Rattle.rdlpp_meaning.proofs.TornTokens.{Ends, Goes, IsBreakOfLimit, IsOwnBreak, IsShort, Stays, StepTorn, Tears, closed-torn, comment-head, ends-by, ends-line, has_line_end, limit-breach, limit-broken, plain-short, step_head, string-head, tears-comment, tears-string, unpassed}
+use Rattle.rdlpp_meaning.proofs.LiveText.{deeper_of, expand_walk, usage_walk, usage_walks}
+
+-- The tokens of a text with smaller and with larger limits of lines and sources: the same, or torn by the smaller ones.
+
+-- a string begins with a quote
+pub row-string : (bs : List ℕ) (t : Token) → Row bs t → t.kind ≡ Str → (slice_index bs 0 == 34) ≡ true
+unfolding whole is_plain_kind
+row-string bs t (AtPerl h e) k = let i = ap (λ (u : Token). u.kind) e in absurd (cc)
+row-string bs t (AtLineComment h e) k = absurd (cc)
+row-string bs t (AtBlockComment h e) k = absurd (cc)
+row-string bs t (AtString h e) k = h
+row-string bs t (AtBack h e) k = let i = ap (λ (u : Token). u.kind) e in absurd (cc)
+row-string bs t (AtBare h g e) k = let i = ap (λ (u : Token). u.kind) e in absurd (cc)
+row-string bs t (AtPlain h q) k = absurd (false≢true (sym (ap is_plain_kind k) ∙ h))
+
+-- a block comment begins as one
+row-comment : (bs : List ℕ) (t : Token) → Row bs t → t.kind ≡ BlockComment → begins_block_comment bs ≡ true
+unfolding whole is_plain_kind
+row-comment bs t (AtPerl h e) k = let i = ap (λ (u : Token). u.kind) e in absurd (cc)
+row-comment bs t (AtLineComment h e) k = absurd (cc)
+row-comment bs t (AtBlockComment h e) k = h
+row-comment bs t (AtString h e) k = absurd (cc)
+row-comment bs t (AtBack h e) k = let i = ap (λ (u : Token). u.kind) e in absurd (cc)
+row-comment bs t (AtBare h g e) k = let i = ap (λ (u : Token). u.kind) e in absurd (cc)
+row-comment bs t (AtPlain h q) k = absurd (false≢true (sym (ap is_plain_kind k) ∙ h))
+
+-- a block comment begins with no quote
+comment-quote : (bs : List ℕ) → begins_block_comment bs ≡ true → (slice_index bs 0 == 34) ≡ false
+unfolding begins_block_comment
+comment-quote bs h =
+    let first = and_parts (slice_index bs 0 == 47) (slice_index bs 1 == 42) h in
+    ap (λ (n : ℕ). n == 34) (eqb-true (slice_index bs 0) 47 first.0)
+
+-- a string that ends before `<%`
+perl-torn : (c c' : Course) (line n : ℕ) (held more : List ℕ) → n < length held
+    → StepTorn held (string_step c line line (record { kind = Str; len = n; next_mode = InStr }) held)
+    (string_step c' line line (record { kind = Str; len = n; next_mode = InStr }) (held ++ more))
+unfolding string_step broken
+perl-torn c c' line n held more lt =
+    let own = take n held in
+    let size = length-append held more in
+    Stays (record { sort = Broken PerlFound; bytes = own; line = line + line_ends own })
+    (ap (λ (x : Bool). if x then broken PerlFound own (line + line_ends own) else open_end c StringOpen line line own) (lt-ltb n (length held) lt))
+    (ap (λ (x : Bool). if x then broken PerlFound (take n (held ++ more)) (line + line_ends (take n (held ++ more))) else open_end c' StringOpen line line (take n (held ++ more)))
+    (lt-ltb n (length (held ++ more)) (omega (arith, lt, size)))
+    ∙ ap (λ (bs : List ℕ). broken PerlFound bs (line + line_ends bs)) (take-append-le n held more (omega (arith, lt))))
+
+-- a string that is open where the text ends, and is no longer than that
+string-end : (most most' line : ℕ) (held : List ℕ)
+    → StepTorn held (string_step (record { most = most; break = None }) line line (record { kind = Str; len = length held; next_mode = InStr }) held)
+    (string_step (record { most = most'; break = None }) line line (record { kind = Str; len = length held; next_mode = InStr }) held)
+unfolding string_step open_end broken
+string-end most most' line held =
+    let own = take (length held) held in
+    let e : nat_lt (length held) (length held) ≡ false = le-ltb (length held) (length held) (omega arith) in
+    let t : SourceToken = record { sort = Broken StringOpen; bytes = own; line = line } in
+    let is = ap (λ (x : Bool). if x then broken PerlFound own (line + line_ends own) else Last t) e in
+    Stays t is is
+
+-- a comment that is open where the text ends
+comment-end : (most most' line : ℕ) (held : List ℕ)
+    → StepTorn held (comment_step (record { most = most; break = None }) line line (record { kind = BlockComment; len = length held; next_mode = InBlock }) held)
+    (comment_step (record { most = most'; break = None }) line line (record { kind = BlockComment; len = length held; next_mode = InBlock }) held)
+unfolding comment_step open_end broken
+comment-end most most' line held = Stays (record { sort = Broken CommentOpen; bytes = take (length held) held; line = line }) refl refl
+
+-- a string that is open where a limit ends the text
+string-small : (most : ℕ) (j : Break) (line : ℕ) (held : List ℕ)
+    → string_step (record { most = most; break = Some j }) line line (record { kind = Str; len = length held; next_mode = InStr }) held
+    ≡ broken j.breach (take (length held) held) (line + line_ends (take (length held) held))
+unfolding string_step open_end
+string-small most j line held =
+    let own = take (length held) held in
+    ap (λ (x : Bool). if x then broken PerlFound own (line + line_ends own) else broken j.breach own (line + line_ends own))
+    (le-ltb (length held) (length held) (omega arith))
+
+-- a comment that is open where a limit ends the text
+comment-small : (most : ℕ) (j : Break) (line : ℕ) (held : List ℕ)
+    → comment_step (record { most = most; break = Some j }) line line (record { kind = BlockComment; len = length held; next_mode = InBlock }) held
+    ≡ broken j.breach (take (length held) held) (line + line_ends (take (length held) held))
+unfolding comment_step open_end
+comment-small most j line held = refl
+
+-- a string that a limit tears
+string-torn : (most most' : ℕ) (j : Break) (k' : Option Break) (line n : ℕ) (mode : Mode) (b : ℕ) (bs more : List ℕ)
+    → (j.breach ≡ LineLong) ⊎ (j.breach ≡ SourceLong) → IsOwnBreak k' → IsWholeLines (b ∷ bs) → (b == 34) ≡ true
+    → StepTorn (b ∷ bs) (string_step (record { most = most; break = Some j }) line line (record { kind = Str; len = length (b ∷ bs); next_mode = InStr }) (b ∷ bs))
+    (string_step (record { most = most'; break = k' }) line line (record { kind = Str; len = length (b ∷ bs) + n; next_mode = mode }) ((b ∷ bs) ++ more))
+string-torn most most' j k' line n mode b bs more limit own whole_lines q =
+    let held = b ∷ bs in
+    let text = take (length held) held in
+    let c' : Course = record { most = most'; break = k' } in
+    let grown = take-append-add held more n in
+    tears-string held j.breach text (line + line_ends text) _ _ limit (ap (λ (xs : List ℕ). slice_index xs 0 == 34) (take-length held) ∙ q)
+    (string-small most j line held)
+    (string-head c' line line (length held + n) mode (held ++ more) own
+    (ap (λ (xs : List ℕ). slice_index xs 0 == 34) grown ∙ q)
+    (ap (λ (xs : List ℕ). list_any is_line_end xs) grown ∙ has_line_end b bs (take n more) whole_lines))
+
+-- a comment that a limit tears
+comment-torn : (most most' : ℕ) (j : Break) (k' : Option Break) (line n : ℕ) (mode : Mode) (held more : List ℕ)
+    → (j.breach ≡ LineLong) ⊎ (j.breach ≡ SourceLong) → (slice_index held 0 == 34) ≡ false
+    → StepTorn held (comment_step (record { most = most; break = Some j }) line line (record { kind = BlockComment; len = length held; next_mode = InBlock }) held)
+    (comment_step (record { most = most'; break = k' }) line line (record { kind = BlockComment; len = n; next_mode = mode }) (held ++ more))
+comment-torn most most' j k' line n mode held more limit q =
+    let text = take (length held) held in
+    let c' : Course = record { most = most'; break = k' } in
+    tears-comment held j.breach text (line + line_ends text) _ _ limit (ap (λ (xs : List ℕ). slice_index xs 0 == 34) (take-length held) ∙ q)
+    (comment-small most j line held) (comment-head c' line line n mode (held ++ more))
+
+-- a string that is open where the text ends, by what is behind it
+open-string-torn : (most most' : ℕ) (k k' : Option Break) (line : ℕ) (b : ℕ) (bs more : List ℕ)
+    → Ends (b ∷ bs) more k k' → IsOwnBreak k'
+    → token_of Plain (b ∷ bs) ≡ record { kind = Str; len = length (b ∷ bs); next_mode = InStr }
+    → token_of Plain ((b ∷ bs) ++ more) ≡ longer (length (b ∷ bs)) (string_token 0 more)
+    → StepTorn (b ∷ bs) (step_by (record { most = most; break = k }) line line (record { kind = Str; len = length (b ∷ bs); next_mode = InStr }) (b ∷ bs))
+    (step_by (record { most = most'; break = k' }) line line (token_of Plain ((b ∷ bs) ++ more)) ((b ∷ bs) ++ more))
+unfolding step_by
+open-string-torn most most' k k' line b bs more ends own is e =
+    let held = b ∷ bs in
+    let v = string_token 0 more in
+    let small : Option Break → Step = λ x. step_by (record { most = most; break = x }) line line (record { kind = Str; len = length held; next_mode = InStr }) held in
+    let large : Option Break → Token → List ℕ → Step = λ x t. step_by (record { most = most'; break = x }) line line t in
+    ends-by (λ text x y. StepTorn held (small x) (large y (token_of Plain text) text)) held more k k' ends
+    (subst (λ (t : Token). StepTorn held (small None) (large None t held)) (sym is) (string-end most most' line held))
+    (λ j w limit. subst (λ (t : Token). StepTorn held (small (Some j)) (large k' t (held ++ more))) (sym e)
+    (subst (λ (x : Kind). StepTorn held (small (Some j)) (large k' (record { kind = x; len = length held + v.len; next_mode = v.next_mode }) (held ++ more))) (sym (string_token-kind 0 more))
+    (string-torn most most' j k' line v.len v.next_mode b bs more limit own w
+    (row-string held (token_of Plain held) (token_of-row held) (ap (λ (t : Token). t.kind) is)))))
+
+-- a comment that is open where the text ends, by what is behind it
+open-comment-torn : (most most' : ℕ) (k k' : Option Break) (line : ℕ) (held more : List ℕ)
+    → Ends held more k k' → IsOwnBreak k'
+    → token_of Plain held ≡ record { kind = BlockComment; len = length held; next_mode = InBlock }
+    → token_of Plain (held ++ more) ≡ longer (length held) (block_token 0 more)
+    → StepTorn held (step_by (record { most = most; break = k }) line line (record { kind = BlockComment; len = length held; next_mode = InBlock }) held)
+    (step_by (record { most = most'; break = k' }) line line (token_of Plain (held ++ more)) (held ++ more))
+unfolding step_by
+open-comment-torn most most' k k' line held more ends own is e =
+    let v = block_token 0 more in
+    let small : Option Break → Step = λ x. step_by (record { most = most; break = x }) line line (record { kind = BlockComment; len = length held; next_mode = InBlock }) held in
+    let large : Option Break → Token → List ℕ → Step = λ x t. step_by (record { most = most'; break = x }) line line t in
+    ends-by (λ text x y. StepTorn held (small x) (large y (token_of Plain text) text)) held more k k' ends
+    (subst (λ (t : Token). StepTorn held (small None) (large None t held)) (sym is) (comment-end most most' line held))
+    (λ j w limit. subst (λ (t : Token). StepTorn held (small (Some j)) (large k' t (held ++ more))) (sym e)
+    (subst (λ (x : Kind). StepTorn held (small (Some j)) (large k' (record { kind = x; len = length held + v.len; next_mode = v.next_mode }) (held ++ more))) (sym (block_token-kind 0 more))
+    (comment-torn most most' j k' line (length held + v.len) v.next_mode held more limit
+    (comment-quote held (row-comment held (token_of Plain held) (token_of-row held) (ap (λ (t : Token). t.kind) is))))))
+
+-- a token that closes is one that is closed
+closed-is : (t : Token) → t.next_mode ≡ Plain → t ≡ record { kind = t.kind; len = t.len; next_mode = Plain }
+closed-is t e = ap (λ (m : Mode). record { kind = t.kind; len = t.len; next_mode = m }) e
+
+-- a string before `<%`, by its token
+perl-seam : (most most' : ℕ) (k k' : Option Break) (line : ℕ) (t v : Token) (held more : List ℕ)
+    → v ≡ t → t ≡ record { kind = Str; len = t.len; next_mode = InStr } → t.len < length held
+    → StepTorn held (step_by (record { most = most; break = k }) line line t held)
+    (step_by (record { most = most'; break = k' }) line line v (held ++ more))
+unfolding step_by
+perl-seam most most' k k' line t v held more e is lt =
+    let c : Course = record { most = most; break = k } in
+    let c' : Course = record { most = most'; break = k' } in
+    subst (λ (x : Token). StepTorn held (step_by c line line t held) (step_by c' line line x (held ++ more))) (sym e)
+    (subst (λ (x : Token). StepTorn held (step_by c line line x held) (step_by c' line line x (held ++ more))) (sym is)
+    (perl-torn c c' line t.len held more lt))
+
+-- a step at a token, by how it stands in the text with more behind it
+seam-torn : (most most' : ℕ) (k k' : Option Break) (line : ℕ) (b : ℕ) (bs more : List ℕ)
+    → most ≤ most' → Ends (b ∷ bs) more k k' → IsOwnBreak k'
+    → Seam (b ∷ bs) more (token_of Plain (b ∷ bs)) (token_of Plain ((b ∷ bs) ++ more))
+    → StepTorn (b ∷ bs) (step_by (record { most = most; break = k }) line line (token_of Plain (b ∷ bs)) (b ∷ bs))
+    (step_by (record { most = most'; break = k' }) line line (token_of Plain ((b ∷ bs) ++ more)) ((b ∷ bs) ++ more))
+unfolding token_of IsShort
+seam-torn most most' k k' line b bs more le ends own (Closed e closed) =
+    let held = b ∷ bs in
+    let t = token_of Plain held in
+    let c : Course = record { most = most; break = k } in
+    let c' : Course = record { most = most'; break = k' } in
+    let part = token_of-part Plain held (omega arith) in
+    let whole_is = closed-is t closed in
+    subst (λ (v : Token). StepTorn held (step_by c line line t held) (step_by c' line line v (held ++ more))) (sym e)
+    (subst (λ (v : Token). StepTorn held (step_by c line line v held) (step_by c' line line v (held ++ more))) (sym whole_is)
+    (closed-torn most most' k k' line t.kind t.len held more part.not_empty part.inside (plain-short b bs) le ends))
+seam-torn most most' k k' line b bs more le ends own (BeforePerl e is lt perl) =
+    perl-seam most most' k k' line (token_of Plain (b ∷ bs)) (token_of Plain ((b ∷ bs) ++ more)) (b ∷ bs) more e is lt
+seam-torn most most' k k' line b bs more le ends own (OpenString is e) =
+    let held = b ∷ bs in
+    subst (λ (v : Token). StepTorn held (step_by (record { most = most; break = k }) line line v held)
+    (step_by (record { most = most'; break = k' }) line line (token_of Plain (held ++ more)) (held ++ more))) (sym is)
+    (open-string-torn most most' k k' line b bs more ends own is e)
+seam-torn most most' k k' line b bs more le ends own (OpenComment is e) =
+    let held = b ∷ bs in
+    subst (λ (v : Token). StepTorn held (step_by (record { most = most; break = k }) line line v held)
+    (step_by (record { most = most'; break = k' }) line line (token_of Plain (held ++ more)) (held ++ more))) (sym is)
+    (open-comment-torn most most' k k' line held more ends own is e)
+
+-- a step of a text
+step-torn : (most most' : ℕ) (k k' : Option Break) (o line : ℕ) (b : ℕ) (bs more : List ℕ)
+    → most ≤ most' → Ends (b ∷ bs) more k k' → IsOwnBreak k'
+    → StepTorn (b ∷ bs) (source_step (record { most = most; break = k }) Plain o line (b ∷ bs))
+    (source_step (record { most = most'; break = k' }) Plain o line ((b ∷ bs) ++ more))
+unfolding source_step
+step-torn most most' k k' o line b bs more le ends own =
+    seam-torn most most' k k' line b bs more le ends own
+    (token_of-seam Plain (b ∷ bs) more (omega arith) (IsCut-from_line (b ∷ bs) more (ends-line (b ∷ bs) more k k' ends)))
+
+-- the first token of a text is that of its step
+first-is : (c : Course) (o l b : ℕ) (bs : List ℕ)
+    → (rest : List SourceToken) × (source_tokens c Plain o l 0 (b ∷ bs) ≡ step_head (source_step c Plain o l (b ∷ bs)) ∷ rest)
+unfolding source_tokens step_head
+first-is c o l b bs = by_step (source_step c Plain o l (b ∷ bs))
+  where
+    by_step : (s : Step) → (rest : List SourceToken)
+        × ((elim s [ Last t ↦ t ∷ [] | Next t ↦ t ∷ source_tokens c Plain l (line_after b l) (length t.bytes - 1) bs ]) ≡ step_head s ∷ rest)
+    by_step (Last t) = ([], refl)
+    by_step (Next t) = (source_tokens c Plain l (line_after b l) (length t.bytes - 1) bs, refl)
+
+-- what is behind the first token of a text
+small-next : (c : Course) (o l : ℕ) (held : List ℕ) (t : SourceToken) (n : ℕ) → 0 < n → n ≤ length held → t.bytes ≡ take n held
+    → source_step c Plain o l held ≡ Next t
+    → source_tokens c Plain o l 0 held ≡ t ∷ source_tokens c Plain l (l + line_ends (take n held)) 0 (drop n held)
+small-next c o l held t n some inside bytes step =
+    ap (λ (xs : List ℕ). source_tokens c Plain o l 0 xs) (sym (append-nil held))
+    ∙ next_held c o l held [] t n some inside bytes (ap (λ (xs : List ℕ). source_step c Plain o l xs) (append-nil held) ∙ step)
+    ∙ ap (λ (xs : List ℕ). t ∷ source_tokens c Plain l (l + line_ends (take n held)) 0 xs) (append-nil (drop n held))
+
+-- the end of a text, by its break
+end-torn : (most most' : ℕ) (k k' : Option Break) (ended : Bool) (o l : ℕ) (more : List ℕ) → Ends [] more k k'
+    → (ended ≡ false → IsBreakOfLimit k → ⊥)
+    → TokensTorn ended (source_tokens (record { most = most; break = k }) Plain o l 0 [])
+    (source_tokens (record { most = most'; break = k' }) Plain o l 0 more)
+unfolding source_tokens source_end TokensTorn IsBreakOfLimit TornBy token_role
+end-torn most most' k k' ended o l more ends =
+    let small : Option Break → List SourceToken = λ x. source_tokens (record { most = most; break = x }) Plain o l 0 [] in
+    let large : Option Break → List ℕ → List SourceToken = λ x text. source_tokens (record { most = most'; break = x }) Plain o l 0 text in
+    ends-by (λ text x y. (ended ≡ false → IsBreakOfLimit x → ⊥) → TokensTorn ended (small x) (large y text)) [] more k k' ends (λ not_here. refl)
+    (λ j w limit not_here. inl (record {
+      breach = j.breach;
+      broken = refl;
+      last = refl;
+      limit = limit-breach j.breach limit;
+      torn = subst (λ (r : Role). TornBy token_role r (leading (large k' more))) (sym (limit-broken j.breach [] l false limit refl)) (limit-breach j.breach limit);
+      nothing = λ f. absurd (not_here f limit);
+    }))
+
+-- a flag that a line ends holds where a limit breaks off at once
+abbrev Flagged : Bool → List ℕ → Option Break → Type 0
+Flagged ended held k = ended ≡ false → IsBreakOfLimit k → 0 < length held
+
+-- the tokens of a text, by the step of its first
+step-tokens : (most most' : ℕ) (k k' : Option Break) (ended : Bool) (o l b : ℕ) (bs more : List ℕ)
+    → Ends (b ∷ bs) more k k'
+    → ((n : ℕ) (t : SourceToken) → 0 < n → n ≤ length (b ∷ bs) → Flagged (ends_line t.sort) (drop n (b ∷ bs)) k
+    → TokensTorn (ends_line t.sort) (source_tokens (record { most = most; break = k }) Plain l (l + line_ends (take n (b ∷ bs))) 0 (drop n (b ∷ bs)))
+    (source_tokens (record { most = most'; break = k' }) Plain l (l + line_ends (take n (b ∷ bs))) 0 (drop n (b ∷ bs) ++ more)))
+    → StepTorn (b ∷ bs) (source_step (record { most = most; break = k }) Plain o l (b ∷ bs))
+    (source_step (record { most = most'; break = k' }) Plain o l ((b ∷ bs) ++ more))
+    → TokensTorn ended (source_tokens (record { most = most; break = k }) Plain o l 0 (b ∷ bs))
+    (source_tokens (record { most = most'; break = k' }) Plain o l 0 ((b ∷ bs) ++ more))
+unfolding TokensTorn IsBreakOfLimit
+step-tokens most most' k k' ended o l b bs more ends inner (Goes t n e f some inside bytes short) =
+    let held = b ∷ bs in
+    let c : Course = record { most = most; break = k } in
+    let c' : Course = record { most = most'; break = k' } in
+    subst (λ (ts : List SourceToken). TokensTorn ended ts (source_tokens c' Plain o l 0 (held ++ more)))
+    (sym (small-next c o l held t n some inside bytes e))
+    (inr (
+      source_tokens c' Plain l (l + line_ends (take n held)) 0 (drop n held ++ more),
+      next_held c' o l held more t n some inside bytes f,
+      inner n t some inside (flag ends),
+    ))
+  where
+    flag : Ends (b ∷ bs) more k k' → Flagged (ends_line t.sort) (drop n (b ∷ bs)) k
+    flag (inl h) = λ x limit. absurd (subst (λ (y : Option Break). IsBreakOfLimit y) h.1 limit)
+    flag (inr h) = λ x limit. let lt = short x h.0 in let size = length-drop n (b ∷ bs) in omega (arith, lt, size)
+step-tokens most most' k k' ended o l b bs more ends inner (Stays t e f) =
+    let held = b ∷ bs in
+    let c : Course = record { most = most; break = k } in
+    let c' : Course = record { most = most'; break = k' } in
+    subst (λ (ts : List SourceToken). TokensTorn ended ts (source_tokens c' Plain o l 0 (held ++ more)))
+    (sym (source_tokens-last c Plain o l held t (omega arith) e))
+    (inr ([], source_tokens-last c' Plain o l (held ++ more) t (omega arith) f, refl))
+step-tokens most most' k k' ended o l b bs more ends inner (Tears t breach e is limit suits) =
+    let held = b ∷ bs in
+    let c : Course = record { most = most; break = k } in
+    let c' : Course = record { most = most'; break = k' } in
+    let first = first-is c' o l b (bs ++ more) in
+    subst (λ (ts : List SourceToken). TokensTorn ended ts (source_tokens c' Plain o l 0 (held ++ more)))
+    (sym (source_tokens-last c Plain o l held t (omega arith) e))
+    (subst (λ (us : List SourceToken). TokensTorn ended (t ∷ []) us) (sym first.1)
+    (inl (record { breach = breach; broken = is; last = refl; limit = limit; torn = suits.torn first.0; nothing = λ x. suits.nothing first.0 })))
+
+-- the tokens of a text of at most so many bytes
+text-torn : (most most' : ℕ) (k k' : Option Break) (more : List ℕ) → most ≤ most' → IsOwnBreak k'
+    → (fuel : ℕ) (ended : Bool) (o l : ℕ) (held : List ℕ) → length held ≤ fuel → Ends held more k k' → Flagged ended held k
+    → TokensTorn ended (source_tokens (record { most = most; break = k }) Plain o l 0 held)
+    (source_tokens (record { most = most'; break = k' }) Plain o l 0 (held ++ more))
+text-torn most most' k k' more le own fuel ended o l [] fits ends flag =
+    end-torn most most' k k' ended o l more ends (λ f limit. absurd (omega (arith, flag f limit)))
+text-torn most most' k k' more le own zero ended o l (b ∷ bs) fits ends flag = absurd (omega (arith, fits))
+text-torn most most' k k' more le own (suc fuel) ended o l (b ∷ bs) fits ends flag =
+    step-tokens most most' k k' ended o l b bs more ends
+    (λ n t some inside f. text-torn most most' k k' more le own fuel (ends_line t.sort) l (l + line_ends (take n (b ∷ bs))) (drop n (b ∷ bs))
+    (shorter n some) (dropped n ends) f)
+    (step-torn most most' k k' o l b bs more le ends own)
+  where
+    shorter : (n : ℕ) → 0 < n → length (drop n (b ∷ bs)) ≤ fuel
+    shorter n some = let size = length-drop n (b ∷ bs) in omega (arith, size, fits)
+
+    dropped : (n : ℕ) → Ends (b ∷ bs) more k k' → Ends (drop n (b ∷ bs)) more k k'
+    dropped n (inl h) = inl h
+    dropped n (inr h) = inr (IsWholeLines-drop n (b ∷ bs) h.0, h.1)
+
+-- lines of which each but the last ends in LF
+unfoldable AreLines : List (List ℕ) → Type 0
+AreLines [] = Unit
+AreLines (l ∷ ls) = (0 < length l) × (IsWholeLines l ⊎ (ls ≡ [])) × AreLines ls
+
+-- a byte in front of whole lines
+whole-cons : (b : ℕ) (l : List ℕ) → 0 < length l → IsWholeLines l → IsWholeLines (b ∷ l)
+unfolding whole_lines_len onto_whole_lines
+whole-cons b l some h = onto (whole_lines_len l) (length l) some h
+  where
+    onto : (n m : ℕ) → 0 < m → n ≡ m → onto_whole_lines b n ≡ suc m
+    onto zero m some e = absurd (omega (arith, some, e))
+    onto (suc n) m some e = ap suc e
+
+-- an LF in front of lines
+lines-end : (b : ℕ) (ls : List (List ℕ)) → (b == 10) ≡ true → AreLines ls → AreLines ((b ∷ []) ∷ ls)
+unfolding AreLines whole_lines_len onto_whole_lines is_line_end
+lines-end b ls e h = (omega arith, inl (ap (λ (x : Bool). if x then 1 else 0) e), h)
+
+-- another byte in front of lines
+lines-cons : (b : ℕ) (ls : List (List ℕ)) → AreLines ls → AreLines (onto_first b ls)
+unfolding AreLines onto_first
+lines-cons b [] h = (omega arith, inr refl, tt)
+lines-cons b (l ∷ ls) h = (omega arith, ⊎_elim (λ w. inl (whole-cons b l h.0 w)) (λ none. inr none) h.1, h.2)
+
+-- a byte in front of lines, by whether it is an LF
+lines-by : (b : ℕ) (x : Bool) (ls : List (List ℕ)) → (b == 10) ≡ x → AreLines ls → AreLines (if x then (b ∷ []) ∷ ls else onto_first b ls)
+lines-by b true ls e h = lines-end b ls e h
+lines-by b false ls e h = lines-cons b ls h
+
+-- the lines of a text are lines
+lines-are : (bs : List ℕ) → AreLines (lines_of bs)
+unfolding AreLines lines_of
+lines-are [] = tt
+lines-are (b ∷ bs) = lines-by b (b == 10) (lines_of bs) refl (lines-are bs)
+
+-- the front of a text with smaller limits, and that with larger ones
+record FrontTorn (f g : Front) : Type 0 where
+  more : List ℕ
+  text : g.text ≡ f.text ++ more
+  own : IsOwnBreak g.break
+  ends : Ends f.text more f.break g.break
+
+-- each front has a break of its own limits, by whether lines pass them
+own-choice : (x y : Bool) (n : ℕ) (f : Front) → IsOwnBreak f.break
+    → IsOwnBreak (if x then record { text = []; break = Some (record { breach = LineLong; len = n }) }
+    else (if y then record { text = []; break = Some (record { breach = SourceLong; len = n }) } else f)).break
+unfolding IsOwnBreak
+own-choice true y n f h = inl refl
+own-choice false true n f h = inr refl
+own-choice false false n f h = h
+
+-- each front has a break of its own limits
+front-own : (most room : ℕ) (ls : List (List ℕ)) → IsOwnBreak (front_of_lines most room ls).break
+unfolding front_of_lines IsOwnBreak onto_front
+front-own most room [] = tt
+front-own most room (l ∷ ls) =
+    own-choice (nat_lt most (length l)) (nat_lt room (length l)) (length l) (onto_front l (front_of_lines most (room - length l) ls))
+    (front-own most (room - length l) ls)
+
+-- a front that a limit ends at once
+front-broken : (g : Front) (n : ℕ) (b : Breach) → (b ≡ LineLong) ⊎ (b ≡ SourceLong) → IsOwnBreak g.break
+    → FrontTorn (record { text = []; break = Some (record { breach = b; len = n }) }) g
+unfolding IsBreakOfLimit whole_lines_len
+front-broken g n b is own = record { more = g.text; text = refl; own = own; ends = inr (refl, is) }
+
+-- a line in front of fronts
+front-line : (l : List ℕ) (f g : Front) → FrontTorn f g → (IsBreakOfLimit f.break → IsWholeLines l) → FrontTorn (onto_front l f) (onto_front l g)
+unfolding onto_front
+front-line l f g h line = record {
+  more = h.more;
+  text = ap (λ (bs : List ℕ). l ++ bs) h.text ∙ sym (append_assoc l f.text h.more);
+  own = h.own;
+  ends = by_ends h.ends;
+}
+  where
+    by_ends : Ends f.text h.more f.break g.break → Ends (l ++ f.text) h.more f.break g.break
+    by_ends (inl e) = inl e
+    by_ends (inr e) = inr (IsWholeLines-append l f.text (line e.1) e.0, e.1)
+
+-- a first line, by whether it passes the smaller limits and the larger ones
+line-choice : (x y x' y' : Bool) (l : List ℕ) (f g : Front) → (x ≡ false → x' ≡ false) → (y ≡ false → y' ≡ false)
+    → FrontTorn f g → (IsBreakOfLimit f.break → IsWholeLines l) → IsOwnBreak g.break
+    → FrontTorn
+    (if x then record { text = []; break = Some (record { breach = LineLong; len = length l }) }
+    else (if y then record { text = []; break = Some (record { breach = SourceLong; len = length l }) } else onto_front l f))
+    (if x' then record { text = []; break = Some (record { breach = LineLong; len = length l }) }
+    else (if y' then record { text = []; break = Some (record { breach = SourceLong; len = length l }) } else onto_front l g))
+unfolding onto_front
+line-choice true y x' y' l f g i j h line own = front-broken _ (length l) LineLong (inl refl) (own-choice x' y' (length l) (onto_front l g) own)
+line-choice false true x' y' l f g i j h line own = front-broken _ (length l) SourceLong (inr refl) (own-choice x' y' (length l) (onto_front l g) own)
+line-choice false false x' y' l f g i j h line own =
+    let large : Bool → Bool → Front = λ p q. if p then record { text = []; break = Some (record { breach = LineLong; len = length l }) }
+    else (if q then record { text = []; break = Some (record { breach = SourceLong; len = length l }) } else onto_front l g) in
+    subst (λ (p : Bool). FrontTorn (onto_front l f) (large p y')) (sym (i refl))
+    (subst (λ (q : Bool). FrontTorn (onto_front l f) (large false q)) (sym (j refl)) (front-line l f g h line))
+
+-- no line breaks the front of none
+nothing-breaks : (most room : ℕ) (ls : List (List ℕ)) → ls ≡ [] → IsBreakOfLimit (front_of_lines most room ls).break → ⊥
+unfolding IsBreakOfLimit front_of_lines
+nothing-breaks most room ls none h = subst (λ (ms : List (List ℕ)). IsBreakOfLimit (front_of_lines most room ms).break) none h
+
+-- the fronts of lines
+fronts-torn : (most most' : ℕ) → most ≤ most' → (ls : List (List ℕ)) → AreLines ls → (room room' : ℕ) → room ≤ room'
+    → FrontTorn (front_of_lines most room ls) (front_of_lines most' room' ls)
+unfolding front_of_lines AreLines IsOwnBreak
+fronts-torn most most' le [] h room room' rooms = record { more = []; text = refl; own = tt; ends = inl (refl, refl, refl) }
+fronts-torn most most' le (l ∷ ls) h room room' rooms =
+    line-choice (nat_lt most (length l)) (nat_lt room (length l)) (nat_lt most' (length l)) (nat_lt room' (length l)) l
+    (front_of_lines most (room - length l) ls) (front_of_lines most' (room' - length l) ls)
+    (unpassed most most' (length l) le) (unpassed room room' (length l) rooms)
+    (fronts-torn most most' le ls h.2 (room - length l) (room' - length l) (less room room' (length l) rooms))
+    (λ limit. ⊎_elim (λ w. w) (λ none. absurd (nothing-breaks most (room - length l) ls none limit)) h.1) (front-own most' (room' - length l) ls)
+  where
+    less : (a b n : ℕ) → a ≤ b → a - n ≤ b - n
+    less a b n e = omega (arith, e)
+
+-- the tokens of a whole source with larger limits
+pub sources-torn : (most most' room room' : ℕ) (bytes : List ℕ) → most ≤ most' → room ≤ room'
+    → TokensTorn true (whole_tokens most room bytes) (whole_tokens most' room' bytes)
+unfolding whole_tokens remaining_tokens front
+sources-torn most most' room room' bytes le rooms =
+    let f = front_of_lines most room (lines_of bytes) in
+    let g = front_of_lines most' room' (lines_of bytes) in
+    let h : FrontTorn f g = fronts-torn most most' le (lines_of bytes) (lines-are bytes) room room' rooms in
+    subst (λ (bs : List ℕ). TokensTorn true (source_tokens (record { most = most; break = f.break }) Plain 1 1 0 f.text)
+    (source_tokens (record { most = most'; break = g.break }) Plain 1 1 0 bs)) (sym h.text)
+    (text-torn most most' f.break g.break h.more le h.own (length f.text) true 1 1 f.text (omega arith) h.ends
+    (λ x limit. absurd (true≢false x)))
+
+-- Expansion and runs with larger limits: the same, but where a smaller limit was a fault, which may have torn the last token.
 
 -- an outcome is the same as one that no limit ends
 unfoldable pub Agrees : Outcome → Outcome → Type 0

@@ -1,16 +1,163 @@
--- Substitution without its marks is literal substitution.
-use Rattle.std.proofs.Common.{◌≡◌, ℕ, Bool, true, false, List, [], ◌∷◌, ◌++◌, map, refl, sym, ap, ◌∙◌, Option, None, Some}
-use Rattle.std.specs.Prelude.{bytes_eq, if◌then◌else◌, unwrap_or}
-use Rattle.std.specs.List.{flat_map}
-use Rattle.std.specs.Option.{option_map}
-use Rattle.rdlpp_scan.specs.declared.token.Kind.TheVariants.{Name}
-use Rattle.rdlpp_scan.specs.SourceTokens.{Sort, Ordinary, Definition, Renumbering, Broken, SourceToken}
+-- The tokens of a body have its bytes, and substitution without its marks is literal.
+use Rattle.std.proofs.Common.{◌≡◌, ℕ, zero, suc, ◌+◌, ◌-◌, ◌<◌, Bool, true, false, ◌&&◌, List, [], ◌∷◌, ◌++◌, length, take, drop, refl, sym, ap, subst, ◌∙◌, arith, map, Option, None, Some, flat_map, option_map, bytes_eq, if◌then◌else◌, nat_lt, not, slice_index, unwrap_or, ◌==◌, ltb-false, take-append-drop}
+use Rattle.std.specs.List.{prefix_len}
+use Rattle.rdlpp_scan.specs.Bytes.{begins_block_comment, begins_line_comment, begins_perl, ends_block_comment, is_blank, is_closer, is_digit, is_letter, is_line_end, is_opener, is_word, takes_word}
+use Rattle.rdlpp_scan.specs.SourceTokens.{Broken, Definition, Ordinary, Renumbering, Sort, SourceToken}
+use Rattle.rdlpp_scan.specs.Tokens.{block_token, first_place, plain_token, string_stop, string_token, token_of, tokens_from, whole}
+use Rattle.rdlpp_scan.specs.declared.token.Kind.{Kind}
+use Rattle.rdlpp_scan.specs.declared.token.Kind.TheVariants.{Back, BareBackquote, Blank, BlockComment, Closer, Comma, LineComment, LineEnd, Name, Opener, Other, Perl, Str, Word}
+use Rattle.rdlpp_scan.specs.declared.token.Mode.{Mode}
+use Rattle.rdlpp_scan.specs.declared.token.Mode.TheVariants.{InBlock, InStr, Plain}
+use Rattle.rdlpp_scan.specs.declared.token.Token.{Token}
+use Rattle.rdlpp_scan.proofs.TokenLens.{is_word-digit, is_word-letter}
 use Rattle.rdlpp_table.specs.Table.{Formal, Macro}
-use Rattle.rdlpp_meaning.specs.Items.{Item, Written, packed}
-use Rattle.rdlpp_meaning.specs.Substitution.{body_tokens, Standing, Given, Defaulted, standing_of, bound_to, mark_of, mark_or, marked, substituted}
 use Rattle.rdlpp_meaning.specs.Expansion.{bytes_of}
-use Rattle.rdlpp_meaning.specs.Literal.{erased, all_erased, standing_bytes, formals_bytes, bytes_for, in_place, literal}
-use Rattle.rdlpp_meaning.proofs.Cover.{body_covered}
+use Rattle.rdlpp_meaning.specs.Items.{Item, Written, packed}
+use Rattle.rdlpp_meaning.specs.Literal.{all_erased, bytes_for, erased, formals_bytes, in_place, literal, standing_bytes}
+use Rattle.rdlpp_meaning.specs.Substitution.{Defaulted, Given, Standing, body_tokens, bound_to, mark_of, mark_or, marked, spelled, standing_of, substituted}
+
+-- The tokens of a body have its bytes, and none of them is empty.
+
+-- a run that begins with a byte of its class isn't empty
+run_positive : (p : ℕ → Bool) (b : ℕ) (bs : List ℕ) → p b ≡ true → 0 < prefix_len p (b ∷ bs)
+run_positive p b bs e = rw e (omega arith)
+
+-- one more than a number isn't zero
+suc_positive : (n : ℕ) → 0 < suc n
+suc_positive n = omega arith
+
+-- a suffix behind a token that has a byte
+drop_behind : (n b : ℕ) (bs : List ℕ) → 0 < n → drop n (b ∷ bs) ≡ drop (n - 1) bs
+drop_behind zero b bs h = absurd (omega arith)
+drop_behind (suc n) b bs h = let e : suc n - 1 ≡ n = omega arith in rw e refl
+
+-- a token has a byte
+unfoldable pub HasByte : Token → Type 0
+HasByte t = 0 < t.len
+
+-- a choice of tokens that have a byte
+chosen : (test : Bool) (t u : Token) → (test ≡ true → HasByte t) → (test ≡ false → HasByte u) → HasByte (if test then t else u)
+chosen true t u first second = first refl
+chosen false t u first second = second refl
+
+-- a whole token of so many bytes
+whole_has : (k : Kind) (n : ℕ) → 0 < n → HasByte (whole k n)
+unfolding whole HasByte
+whole_has k n h = h
+
+-- a string that stops at a place
+string_at : List ℕ → ℕ → Token
+string_at bytes stop =
+    if slice_index bytes stop == 34 then whole Str (suc stop) else record { kind = Str; len = stop; next_mode = InStr }
+
+-- one that stops behind a byte
+string_behind : (bytes : List ℕ) (stop : ℕ) → 0 < stop → HasByte (string_at bytes stop)
+unfolding string_at HasByte whole
+string_behind bytes stop h =
+    chosen (slice_index bytes stop == 34) (whole Str (suc stop)) (record { kind = Str; len = stop; next_mode = InStr })
+    (λ e. suc_positive stop) (λ e. h)
+
+-- a string whose part begins behind its quote
+string_has : (from : ℕ) (bytes : List ℕ) → 0 < from → HasByte (string_token from bytes)
+unfolding string_token string_at
+string_has from bytes h = string_behind bytes (from + string_stop false (drop from bytes)) (omega arith)
+
+-- the rest of a string that doesn't begin with `<%`, by whether it begins with a quote
+string_rest_by : (b : ℕ) (bs : List ℕ) (quote : Bool) → (b == 34) ≡ quote → begins_perl (b ∷ bs) ≡ false
+    → HasByte (string_token 0 (b ∷ bs))
+unfolding string_token string_at string_stop HasByte whole
+string_rest_by b bs true q e =
+    let stop : 0 + string_stop false (b ∷ bs) ≡ 0 = rw q refl in
+    subst (λ (n : ℕ). HasByte (string_at (b ∷ bs) n)) (sym stop)
+    (subst (λ (x : Bool). HasByte (if x then whole Str 1 else record { kind = Str; len = 0; next_mode = InStr })) (sym q) (suc_positive 0))
+string_rest_by b bs false q e =
+    let stop : string_stop false (b ∷ bs) ≡ suc (string_stop (b == 92) bs) = rw (q, e) refl in
+    string_behind (b ∷ bs) (0 + string_stop false (b ∷ bs)) (omega (arith, stop))
+
+-- a comment that stops at a place
+block_at : List ℕ → ℕ → Token
+block_at bytes stop =
+    if nat_lt stop (length bytes) then whole BlockComment (stop + 2) else record { kind = BlockComment; len = stop; next_mode = InBlock }
+
+-- one that stops behind a byte
+block_behind : (bytes : List ℕ) (stop : ℕ) → 0 < stop → HasByte (block_at bytes stop)
+unfolding block_at HasByte whole
+block_behind bytes stop h =
+    chosen (nat_lt stop (length bytes)) (whole BlockComment (stop + 2)) (record { kind = BlockComment; len = stop; next_mode = InBlock })
+    (λ e. omega arith) (λ e. h)
+
+-- a comment whose text begins behind its opener
+block_has : (from : ℕ) (bytes : List ℕ) → 0 < from → HasByte (block_token from bytes)
+unfolding block_token block_at
+block_has from bytes h = block_behind bytes (from + first_place ends_block_comment (drop from bytes)) (omega arith)
+
+-- the rest of a comment, by whether it ends at once
+block_rest_by : (b : ℕ) (bs : List ℕ) (ends : Bool) → ends_block_comment (b ∷ bs) ≡ ends → HasByte (block_token 0 (b ∷ bs))
+unfolding block_token block_at first_place HasByte whole
+block_rest_by b bs true e =
+    let stop : 0 + first_place ends_block_comment (b ∷ bs) ≡ 0 = rw e refl in
+    subst (λ (n : ℕ). HasByte (block_at (b ∷ bs) n)) (sym stop) here
+  where
+    here : HasByte (block_at (b ∷ bs) 0)
+    here =
+        chosen (nat_lt 0 (length (b ∷ bs))) (whole BlockComment 2) (record { kind = BlockComment; len = 0; next_mode = InBlock })
+        (λ h. suc_positive 1) (λ h. absurd (omega (arith, ltb-false 0 (length (b ∷ bs)) h)))
+block_rest_by b bs false e =
+    let stop : first_place ends_block_comment (b ∷ bs) ≡ suc (first_place ends_block_comment bs) = rw e refl in
+    block_behind (b ∷ bs) (0 + first_place ends_block_comment (b ∷ bs)) (omega (arith, stop))
+
+-- a line comment has its bytes, since it doesn't begin with an LF
+comment_positive : (b : ℕ) (bs : List ℕ) → is_line_end b ≡ false → 0 < prefix_len (λ x. not (is_line_end x)) (b ∷ bs)
+comment_positive b bs e = run_positive (λ x. not (is_line_end x)) b bs (ap not e)
+
+-- the first token of a text in plain text has a byte
+plain_has : (b : ℕ) (bs : List ℕ) → HasByte (plain_token (b ∷ bs))
+unfolding plain_token
+plain_has b bs =
+    chosen (begins_perl (b ∷ bs)) _ _ (λ h. whole_has Perl 2 (suc_positive 1)) (λ _.
+    chosen (is_line_end b) _ _ (λ h. whole_has LineEnd 1 (suc_positive 0)) (λ e.
+    chosen (is_blank b) _ _ (λ h. whole_has Blank _ (run_positive is_blank b bs h)) (λ _.
+    chosen (begins_line_comment (b ∷ bs)) _ _ (λ h. whole_has LineComment _ (comment_positive b bs e)) (λ _.
+    chosen (begins_block_comment (b ∷ bs)) _ _ (λ h. block_has 2 (b ∷ bs) (suc_positive 1)) (λ _.
+    chosen (b == 34) _ _ (λ h. string_has 1 (b ∷ bs) (suc_positive 0)) (λ _.
+    chosen (is_letter b) _ _ (λ h. whole_has Name _ (run_positive is_word b bs (is_word-letter b h))) (λ _.
+    chosen (is_digit b) _ _ (λ h. whole_has Word _ (run_positive is_word b bs (is_word-digit b h))) (λ _.
+    chosen (takes_word b && is_word (slice_index (b ∷ bs) 1)) _ _ (λ h. whole_has Word _ (suc_positive _)) (λ _.
+    chosen (b == 96 && is_letter (slice_index (b ∷ bs) 1)) _ _ (λ h. whole_has Back _ (suc_positive _)) (λ _.
+    chosen (b == 96) _ _ (λ h. whole_has BareBackquote 1 (suc_positive 0)) (λ _.
+    chosen (is_opener b) _ _ (λ h. whole_has Opener 1 (suc_positive 0)) (λ _.
+    chosen (is_closer b) _ _ (λ h. whole_has Closer 1 (suc_positive 0)) (λ _.
+    chosen (b == 44) _ _ (λ h. whole_has Comma 1 (suc_positive 0)) (λ _.
+    whole_has Other 1 (suc_positive 0)))))))))))))))
+
+-- the first token of a text has a byte in each mode
+pub token_has : (mode : Mode) (b : ℕ) (bs : List ℕ) → HasByte (token_of mode (b ∷ bs))
+unfolding token_of
+token_has Plain b bs = plain_has b bs
+token_has InStr b bs =
+    chosen (begins_perl (b ∷ bs)) _ _ (λ h. whole_has Perl 2 (suc_positive 1)) (λ e. string_rest_by b bs (b == 34) refl e)
+token_has InBlock b bs = block_rest_by b bs (ends_block_comment (b ∷ bs)) refl
+
+-- tokens from a place on have the bytes from there on
+covered : (mode : Mode) (skip : ℕ) (bs : List ℕ) → bytes_of (spelled (tokens_from mode skip bs) (drop skip bs)) ≡ drop skip bs
+unfolding tokens_from spelled HasByte
+covered mode zero [] = refl
+covered mode (suc skip) [] = refl
+covered mode (suc skip) (b ∷ bs) = covered mode skip bs
+covered mode zero (b ∷ bs) =
+    let t = token_of mode (b ∷ bs) in
+    let e = drop_behind t.len b bs (token_has mode b bs) in
+    let rest = tokens_from t.next_mode (t.len - 1) bs in
+    ap (λ (r : List ℕ). take t.len (b ∷ bs) ++ bytes_of (spelled rest r)) e
+    ∙ ap (λ (r : List ℕ). take t.len (b ∷ bs) ++ r) (covered t.next_mode (t.len - 1) bs ∙ sym e)
+    ∙ take-append-drop t.len (b ∷ bs)
+
+-- the tokens of a body have its bytes
+pub body_covered : (body : List ℕ) → bytes_of (body_tokens body) ≡ body
+unfolding body_tokens
+body_covered body = covered Plain 0 body
+
+-- Substitution without its marks is literal substitution.
 
 -- the bytes of packed items are those of the list
 erased-packed : (xs : List Item) → all_erased (packed xs) ≡ flat_map erased xs

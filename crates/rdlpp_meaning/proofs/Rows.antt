@@ -1,31 +1,33 @@
--- Worked rows of the profile, each by computation.
-use Rattle.std.proofs.Common.{◌≡◌, ℕ, Bool, true, false, List, [], ◌∷◌, refl, codes, None, Some, bytes_eq}
-use Rattle.std.specs.Prelude.{if◌then◌else◌}
-use Rattle.std.specs.Str.{is_utf8, chars}
-use Rattle.std.specs.Fmt.{digits}
+-- Worked rows of the profile, and cases on either side of a border, each by computation.
+use Rattle.std.proofs.Common.{◌≡◌, ℕ, Bool, true, false, List, [], ◌∷◌, refl, codes, None, Some, bytes_eq, zero, suc, ◌+◌, ◌-◌, ◌++◌, decimal, replicate, if◌then◌else◌}
 use Rattle.std.specs.Char.{encode_utf8}
+use Rattle.std.specs.Fmt.{digits}
+use Rattle.std.specs.Str.{chars, is_utf8}
+use Rattle.rdlpp_scan.specs.Bytes.{begins_block_comment, begins_line_comment, begins_perl, ends_block_comment, is_blank, is_closer, is_digit, is_letter, is_line_end, is_opener, is_word, takes_word}
+use Rattle.rdlpp_scan.specs.Front.{front, front_of_lines, lines_of, onto_first, onto_front}
+use Rattle.rdlpp_scan.specs.LexFaults.{fault_of_tokens, is_perl, lex_fault_from, open_fault}
+use Rattle.rdlpp_scan.specs.Reserved.{is_reserved, reserved_names}
+use Rattle.rdlpp_scan.specs.SourceTokens.{back_step, broken, comment_step, define_step, is_continued, line_after, line_ends, line_len, line_step, logical_len, open_end, remaining_tokens, source_end, source_step, source_tokens, step_by, string_step, whole_tokens}
+use Rattle.rdlpp_scan.specs.Tokens.{block_token, first_place, plain_len, plain_token, stops_plain_text, string_stop, string_token, token_of, tokens_from, whole}
+use Rattle.rdlpp_table.specs.Define.{after_space, behind_name, continuation_len, default_in, default_of_tokens, define_of, ends_default, formal_fault, formal_in, formal_list, formal_name, formals_in, formals_of_list, is_space, leading_name, level_behind as default_level, lexical, logical_text, macro_from, macro_of, name_fault, onto_default, onto_trimmed, refused_word, stored, stored_draft, trimmed, trimmed_default, trimmed_of, unended, with_body, with_default, with_list, without_continuations, without_end, without_remarks}
+use Rattle.rdlpp_table.specs.Table.{Macro, default_size, formal_size, macro_named, macro_size, table_size, without}
+use Rattle.rdlpp_table.specs.View.{most_formals}
 use Rattle.rdlpp_table.specs.declared.limits.Limits.{Limits}
+use Rattle.rdlpp_meaning.specs.Actuals.{actual_of, behind_space, broken_role, is_space as actuals_is_space, item_role, item_size, kept_size, kind_role, level_behind, token_role, trimmed as actuals_trimmed}
+use Rattle.rdlpp_meaning.specs.CallScan.{call_of_scan, fault_at_end, room_behind, scan, scan_onto, scanned, split, split_by, stand_behind, stand_behind_lead, turn as call_turn, turn_before, turn_fitting, turn_inside}
+use Rattle.rdlpp_meaning.specs.Expansion.{bound_parts, expand, is_copied, is_count, name_of, run_outcome, usage_of, usage_of_call, usage_of_formals, usage_of_macro, walk}
+use Rattle.rdlpp_meaning.specs.Items.{broken_line, listed, packed, unlined, unlined_item}
+use Rattle.rdlpp_meaning.specs.Meaning.{added_end, at_start_of, back_in, begun, behind_bytes, by_test, defines, digits_value, goes_on, in_conditional, includes, includes_found, includes_given, includes_named, is_defined, is_else, is_level, leaves, macro_name, mean, name_test, nest_of, opening, opening_within, origin_line, outcome, past_blank_bytes, past_conditional, quote_place, refusal, renumbered, renumbered_name, renumbers, single, skip, skipped_command, skipped_run, text_meaning, turn, turned, unclosed, undefines, unquoted, wants_defined}
+use Rattle.rdlpp_meaning.specs.Outcome.{Outcome, and_then, fails, gives}
+use Rattle.rdlpp_meaning.specs.Output.{character_place, name_cut, opening_fault, output, start_state}
+use Rattle.rdlpp_meaning.specs.OutputLimit.{limited, limited_output, search_rules, unlimited_output}
+use Rattle.rdlpp_meaning.specs.Parts.{appended, argument_of, behind_blanks, behind_end, command_of, directive_named, directive_of, front_parts, further_branches, in_front, joined, level_of, level_parts, line_ends_of, name_in_front, no_argument, one_argument, only_blanks, opened_before, parts_of, past_blanks, piece_of, pieces, string_in_front}
+use Rattle.rdlpp_meaning.specs.Profile.{define_fault, rules_of, with_fault}
+use Rattle.rdlpp_meaning.specs.State.{LongPath, Lookup, NoSource, Rules, Source, breach_kind, fault_at, no_shift, shown_line}
+use Rattle.rdlpp_meaning.specs.Substitution.{body_tokens, bound_to, mark_of, mark_or, marked, spelled, standing_of, substituted}
 use Rattle.rdlpp_meaning.specs.declared.fault.FaultKind.TheVariants as fault
-use Rattle.rdlpp_scan.specs.Bytes.{is_blank, is_line_end, is_letter, is_digit, is_word, is_opener, is_closer, takes_word, begins_perl, begins_line_comment, begins_block_comment, ends_block_comment}
-use Rattle.rdlpp_scan.specs.Tokens.{first_place, string_stop, whole, string_token, block_token, plain_token, token_of, tokens_from, stops_plain_text, plain_len}
-use Rattle.rdlpp_scan.specs.SourceTokens.{line_ends, line_after, broken, is_continued, logical_len, line_len, open_end, string_step, comment_step, define_step, line_step, back_step, step_by, source_step, source_end, source_tokens, remaining_tokens, whole_tokens}
-use Rattle.rdlpp_scan.specs.Front.{onto_first, lines_of, onto_front, front_of_lines, front}
-use Rattle.rdlpp_scan.specs.LexFaults.{is_perl, open_fault, fault_of_tokens, lex_fault_from}
-use Rattle.rdlpp_scan.specs.Reserved.{reserved_names, is_reserved}
-use Rattle.rdlpp_table.specs.Table.{Macro, macro_named, without, formal_size, macro_size, table_size, default_size}
-use Rattle.rdlpp_table.specs.Define.{continuation_len, without_continuations, logical_text, is_space, after_space, leading_name, name_fault, without_remarks, unended, onto_trimmed, trimmed, lexical, formal_in, formals_in, formals_of_list, formal_list, with_body, refused_word, with_list, macro_from, macro_of, stored, stored_draft, define_of, without_end, trimmed_of, ends_default, level_behind as default_level, onto_default, default_of_tokens, trimmed_default, default_in, formal_name, behind_name, formal_fault, with_default}
-use Rattle.rdlpp_meaning.specs.Outcome.{Outcome, gives, fails, and_then}
-use Rattle.rdlpp_meaning.specs.State.{Lookup, NoSource, Source, no_shift, shown_line, fault_at, breach_kind}
-use Rattle.rdlpp_meaning.specs.Items.{listed, packed, unlined, broken_line, unlined_item}
-use Rattle.rdlpp_meaning.specs.Actuals.{level_behind, kept_size, is_space as actuals_is_space, behind_space, trimmed as actuals_trimmed, kind_role, broken_role, token_role, item_role, item_size, actual_of}
-use Rattle.rdlpp_meaning.specs.Substitution.{spelled, body_tokens, standing_of, bound_to, mark_of, mark_or, marked, substituted}
-use Rattle.rdlpp_meaning.specs.Expansion.{name_of, bound_parts, is_count, usage_of_call, usage_of_formals, usage_of_macro, usage_of, walk, expand, is_copied, run_outcome}
-use Rattle.rdlpp_meaning.specs.Parts.{only_blanks, line_ends_of, directive_named, directive_of, no_argument, one_argument, behind_blanks, name_in_front, string_in_front, past_blanks, argument_of, command_of, piece_of, joined, pieces, in_front, front_parts, further_branches, behind_end, opened_before, level_of, appended, level_parts, parts_of}
-use Rattle.rdlpp_meaning.specs.Meaning.{leaves, outcome, behind_bytes, goes_on, refusal, skipped_run, skipped_command, macro_name, defines, undefines, origin_line, at_start_of, back_in, added_end, includes, includes_found, unquoted, includes_named, includes_given, quote_place, past_blank_bytes, digits_value, is_level, renumbered_name, renumbered, renumbers, single, by_test, is_defined, name_test, wants_defined, opening_within, opening, in_conditional, past_conditional, begun, is_else, turn, turned, unclosed, nest_of, text_meaning, skip, mean}
-use Rattle.rdlpp_meaning.specs.Output.{character_place, name_cut, opening_fault, start_state, output}
-use Rattle.rdlpp_meaning.specs.Profile.{define_fault, with_fault, rules_of}
-use Rattle.rdlpp_meaning.specs.OutputLimit.{limited, search_rules, unlimited_output, limited_output}
-use Rattle.rdlpp_meaning.specs.CallScan.{turn_before, turn_fitting, turn_inside, turn as call_turn, stand_behind_lead, stand_behind, room_behind, fault_at_end, scan_onto, scanned, scan, split_by, split, call_of_scan}
+
+-- Worked rows of the profile, each by computation.
 
 -- a source of a row: its path and its text
 pub record File : Type 0 where
@@ -277,5 +279,221 @@ row_40b : row standard false (record { path = codes "m"; text = (codes "a ` b") 
 unfolding row
 row_40b = refl
 
--- a `define` whose logical line is too long, or is cut by the limit of its source, ends a run as every directive does: inside a
--- call that isn't closed the call's fault comes, before its parenthesis and behind it
+-- Cases on either side of a border of the profile, each by computation: a wrong border in a definition makes one of them false.
+
+-- a `line` whose name has so many bytes, and a usage of a name that isn't defined
+unfoldable renumbering_to : ℕ → List ℕ
+renumbering_to n = codes "`line 3 \"" ++ (replicate n 118 ++ codes "\" 0\n`Q")
+
+name_of_1024_bytes_in_line : row standard false (record { path = codes "m"; text = renumbering_to 1024 } ∷ [])
+    ≡ record { bytes = codes "\n"; fault = Some (record { kind = fault.UndefinedMacro; name = replicate 1024 118; line = 3; word = codes "Q" }) }
+unfolding row renumbering_to
+name_of_1024_bytes_in_line = refl
+
+name_of_1025_bytes_in_line : row standard false (record { path = codes "m"; text = renumbering_to 1025 } ∷ [])
+    ≡ record { bytes = []; fault = Some (record { kind = fault.BadLine; name = codes "m"; line = 1; word = [] }) }
+unfolding row renumbering_to
+name_of_1025_bytes_in_line = refl
+
+usage_of_128_bytes : row standard false (record { path = codes "m"; text = 96 ∷ replicate 128 65 } ∷ [])
+    ≡ record { bytes = []; fault = Some (record { kind = fault.UndefinedMacro; name = codes "m"; line = 1; word = replicate 128 65 }) }
+unfolding row
+usage_of_128_bytes = refl
+
+usage_of_129_bytes : row standard false (record { path = codes "m"; text = 96 ∷ (replicate 128 65 ++ 66 ∷ []) } ∷ [])
+    ≡ record { bytes = []; fault = Some (record { kind = fault.UndefinedMacro; name = codes "m"; line = 1; word = replicate 128 65 }) }
+unfolding row
+usage_of_129_bytes = refl
+
+path_with_a_character_over_the_border : (rules : Rules) (macros : List Macro) (sources conditions : ℕ)
+    → output rules macros sources conditions (replicate 1023 97 ++ (195 ∷ 169 ∷ [])) LongPath
+    ≡ record { bytes = []; fault = Some (record { kind = fault.PathTooLong; name = replicate 1023 97; line = 0; word = [] }) }
+unfolding row
+path_with_a_character_over_the_border rules macros sources conditions = refl
+
+path_with_a_character_before_the_border : (rules : Rules) (macros : List Macro) (sources conditions : ℕ)
+    → output rules macros sources conditions (replicate 1022 97 ++ (195 ∷ 169 ∷ codes "b")) LongPath
+    ≡ record { bytes = []; fault = Some (record { kind = fault.PathTooLong; name = replicate 1022 97 ++ (195 ∷ 169 ∷ []); line = 0; word = [] }) }
+unfolding row
+path_with_a_character_before_the_border rules macros sources conditions = refl
+
+-- a `define` over two lines, of which the second has so many bytes with its LF
+unfoldable define_with_line : ℕ → List ℕ
+define_with_line n = codes "`define A \\\n" ++ (replicate n 120 ++ codes "\n`A")
+
+define_with_a_long_line : row (record standard { line_bytes = 256 }) false (record { path = codes "m"; text = define_with_line 256 } ∷ [])
+    ≡ record { bytes = []; fault = Some (record { kind = fault.LineTooLong; name = codes "m"; line = 1; word = [] }) }
+unfolding row define_with_line
+define_with_a_long_line = refl
+
+define_of_full_length_cut_by_its_source : row (record standard { line_bytes = 256; source_bytes = 255 }) false
+    (record { path = codes "m"; text = define_with_line 243 } ∷ [])
+    ≡ record { bytes = []; fault = Some (record { kind = fault.SourceTooLong; name = codes "m"; line = 1; word = [] }) }
+unfolding row define_with_line
+define_of_full_length_cut_by_its_source = refl
+
+longer_define_cut_by_its_source : row (record standard { line_bytes = 256; source_bytes = 256 }) false
+    (record { path = codes "m"; text = define_with_line 244 } ∷ [])
+    ≡ record { bytes = []; fault = Some (record { kind = fault.LineTooLong; name = codes "m"; line = 1; word = [] }) }
+unfolding row define_with_line
+longer_define_cut_by_its_source = refl
+
+-- a `define` over two lines without an LF at its end, of which the second has so many bytes
+unfoldable unended_define : ℕ → List ℕ
+unended_define n = codes "`define A \\\n" ++ replicate n 120
+
+unended_define_of_full_length : row (record standard { line_bytes = 256 }) false (record { path = codes "m"; text = unended_define 244 } ∷ [])
+    ≡ whole_output (codes "\n")
+unfolding row unended_define
+unended_define_of_full_length = refl
+
+longer_unended_define : row (record standard { line_bytes = 256 }) false (record { path = codes "m"; text = unended_define 245 } ∷ [])
+    ≡ record { bytes = []; fault = Some (record { kind = fault.LineTooLong; name = codes "m"; line = 1; word = [] }) }
+unfolding row unended_define
+longer_unended_define = refl
+
+-- so many formals from a number on, and a last one
+unfoldable formals_to : ℕ → ℕ → List ℕ
+unfolding digits
+formals_to zero n = 97 ∷ decimal n
+formals_to (suc k) n = 97 ∷ (decimal n ++ (44 ∷ formals_to k (n + 1)))
+
+-- a `define` of `F` with so many formals and one more, of which the last is its body
+unfoldable define_of_formals : ℕ → List ℕ
+define_of_formals k = codes "`define F(" ++ (formals_to k 1 ++ (codes ") a" ++ (decimal (k + 1) ++ codes "\n")))
+
+as_many_formals_as_may_be : row standard false
+    (record { path = codes "m"; text = define_of_formals (most_formals - 1) ++ (codes "`F(" ++ (replicate (most_formals - 1) 44 ++ codes "z)")) } ∷ [])
+    ≡ whole_output (codes "\nz")
+unfolding row define_of_formals formals_to
+as_many_formals_as_may_be = refl
+
+one_formal_more : row standard false (record { path = codes "m"; text = define_of_formals most_formals } ∷ [])
+    ≡ record { bytes = []; fault = Some (record { kind = fault.TooManyFormals; name = codes "m"; line = 1; word = [] }) }
+unfolding row define_of_formals formals_to
+one_formal_more = refl
+
+-- a `define` with a formal of so many bytes, which is its body
+unfoldable define_of_formal : ℕ → List ℕ
+define_of_formal n = codes "`define F(" ++ (replicate n 97 ++ (codes ") " ++ (replicate n 97 ++ codes "\n")))
+
+formal_of_128_bytes : row standard false (record { path = codes "m"; text = define_of_formal 128 ++ codes "`F(z)" } ∷ [])
+    ≡ whole_output (codes "\nz")
+unfolding row define_of_formal
+formal_of_128_bytes = refl
+
+formal_of_129_bytes : row standard false (record { path = codes "m"; text = define_of_formal 129 } ∷ [])
+    ≡ record { bytes = []; fault = Some (record { kind = fault.NameTooLong; name = codes "m"; line = 1; word = [] }) }
+unfolding row define_of_formal
+formal_of_129_bytes = refl
+
+macro_of_128_bytes : row standard false
+    (record { path = codes "m"; text = codes "`define " ++ (replicate 128 97 ++ (codes " z\n`" ++ replicate 128 97)) } ∷ [])
+    ≡ whole_output (codes "\nz")
+unfolding row
+macro_of_128_bytes = refl
+
+macro_of_129_bytes : row standard false
+    (record { path = codes "m"; text = codes "`define " ++ (replicate 129 97 ++ codes " z\n") } ∷ [])
+    ≡ record { bytes = []; fault = Some (record { kind = fault.NameTooLong; name = codes "m"; line = 1; word = [] }) }
+unfolding row
+macro_of_129_bytes = refl
+
+-- a `define` of `F` with two formals and a body of so many `x`
+unfoldable define_of_body : ℕ → List ℕ
+define_of_body n = codes "`define F(x,y) " ++ (replicate n 120 ++ codes "\n")
+
+formals_at_the_bound_of_definitions : row (record standard { definition_bytes = 1024 }) false
+    (record { path = codes "m"; text = define_of_body 1019 } ∷ [])
+    ≡ whole_output (codes "\n")
+unfolding row define_of_body
+formals_at_the_bound_of_definitions = refl
+
+formals_past_the_bound_of_definitions : row (record standard { definition_bytes = 1024 }) false
+    (record { path = codes "m"; text = define_of_body 1020 } ∷ [])
+    ≡ record { bytes = []; fault = Some (record { kind = fault.DefinitionBytes; name = codes "m"; line = 1; word = [] }) }
+unfolding row define_of_body
+formals_past_the_bound_of_definitions = refl
+
+-- bytes, and then the fault of the limit
+abbrev cut_output : List ℕ → Outcome
+cut_output bytes = record { bytes = bytes; fault = Some (record { kind = fault.OutputBytes; name = codes "m"; line = 0; word = [] }) }
+
+output_at_its_limit : row (record standard { output_bytes = 9 }) false (record { path = codes "m"; text = codes "`define W 8\nreg[`W];\n" } ∷ [])
+    ≡ whole_output (codes "\nreg[8];\n")
+unfolding row
+output_at_its_limit = refl
+
+output_past_its_limit : row (record standard { output_bytes = 8 }) false (record { path = codes "m"; text = codes "`define W 8\nreg[`W];\n" } ∷ [])
+    ≡ cut_output (codes "\nreg[8];")
+unfolding row
+output_past_its_limit = refl
+
+-- a `define` of `A` with so many `x`
+unfoldable long_define : ℕ → List ℕ
+long_define n = codes "`define A " ++ (replicate n 120 ++ codes "\n")
+
+definition_of_1024_bytes : row (record standard { definition_bytes = 1024 }) false (record { path = codes "m"; text = long_define 1023 } ∷ [])
+    ≡ whole_output (codes "\n")
+unfolding row long_define
+definition_of_1024_bytes = refl
+
+definition_of_1024_bytes_replaced : row (record standard { definition_bytes = 1024 }) false (record { path = codes "m"; text = long_define 1023 ++ long_define 1023 } ∷ [])
+    ≡ whole_output (codes "\n\n")
+unfolding row long_define
+definition_of_1024_bytes_replaced = refl
+
+definition_of_1025_bytes : row (record standard { definition_bytes = 1024 }) false (record { path = codes "m"; text = long_define 1024 } ∷ [])
+    ≡ record { bytes = []; fault = Some (record { kind = fault.DefinitionBytes; name = codes "m"; line = 1; word = [] }) }
+unfolding row long_define
+definition_of_1025_bytes = refl
+
+-- sources of which each includes the next, so many from a number on, and a last one with a text
+unfoldable chain_of_sources : ℕ → ℕ → List ℕ → List File
+unfolding digits
+chain_of_sources zero n last = record { path = 102 ∷ decimal n; text = last } ∷ []
+chain_of_sources (suc k) n last =
+    record { path = 102 ∷ decimal n; text = codes "`include \"f" ++ (decimal (n + 1) ++ codes "\"\n") } ∷ chain_of_sources k (n + 1) last
+
+chain_of_64_includes : row (record standard { includes = 64 }) false
+    (record { path = codes "m"; text = codes "`include \"f1\"\n" } ∷ chain_of_sources 63 1 (codes "x\n"))
+    ≡ whole_output (120 ∷ replicate 65 10)
+unfolding row chain_of_sources
+chain_of_64_includes = refl
+
+chain_of_65_includes : row (record standard { includes = 64 }) false
+    (record { path = codes "m"; text = codes "`include \"f1\"\n" } ∷ chain_of_sources 63 1 (codes "`include \"f65\"\n"))
+    ≡ record { bytes = []; fault = Some (record { kind = fault.TooManyIncludes; name = codes "f64"; line = 1; word = [] }) }
+unfolding row chain_of_sources
+chain_of_65_includes = refl
+
+-- lines `define` of macros from a number on, so many, of which each has the one before twice
+unfoldable doubling_defines : ℕ → ℕ → List ℕ
+unfolding digits
+doubling_defines zero n = []
+doubling_defines (suc k) n =
+    codes "`define E" ++ (decimal (n + 1) ++ (codes " `E" ++ (decimal n ++ (codes "`E" ++ (decimal n ++ (10 ∷ doubling_defines k (n + 1)))))))
+
+-- 12 macros, of which each has the one before twice
+macro_doubled_12_times : row standard false (record { path = codes "m"; text = codes "`define E0 x\n" ++ (doubling_defines 12 0 ++ codes "`E12\n") } ∷ [])
+    ≡ whole_output (replicate 13 10 ++ (replicate 4096 120 ++ 10 ∷ []))
+unfolding row doubling_defines
+macro_doubled_12_times = refl
+
+-- lines `define` of macros from a number on, of which each is the next one, so many, and a last one
+unfoldable chain_of_defines : ℕ → ℕ → List ℕ
+unfolding digits
+chain_of_defines zero n = codes "`define C" ++ (decimal n ++ codes " x\n")
+chain_of_defines (suc k) n =
+    codes "`define C" ++ (decimal n ++ (codes " `C" ++ (decimal (n + 1) ++ (10 ∷ chain_of_defines k (n + 1)))))
+
+-- the rows of the depth, with its standard limit in place of the greatest
+chain_of_256_macros : row standard false (record { path = codes "m"; text = chain_of_defines 255 1 ++ codes "`C1\n" } ∷ [])
+    ≡ whole_output (replicate 256 10 ++ (120 ∷ 10 ∷ []))
+unfolding row chain_of_defines
+chain_of_256_macros = refl
+
+chain_of_257_macros : row standard false (record { path = codes "m"; text = chain_of_defines 256 1 ++ codes "`C1\n" } ∷ [])
+    ≡ record { bytes = replicate 257 10; fault = Some (record { kind = fault.DepthPassed; name = codes "m"; line = 258; word = [] }) }
+unfolding row chain_of_defines
+chain_of_257_macros = refl

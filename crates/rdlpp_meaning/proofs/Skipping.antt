@@ -1,16 +1,29 @@
--- Laws of skipped text, and of where a file ends.
-use Rattle.std.proofs.Common.{◌≡◌, ℕ, Bool, List, [], ◌∷◌, refl, sym, ap, ◌∙◌, None}
-use Rattle.rdlpp_scan.specs.declared.token.Kind.{Kind}
+-- Laws of skipped text, of the words of directives and of the LF bytes that are owed.
+use Rattle.std.proofs.Common.{◌≡◌, ℕ, Bool, List, [], ◌∷◌, refl, sym, ap, ◌∙◌, None, true, false, Option, Some, cond, length, replicate, ◌++◌, take, drop, suc, bytes_eq, codes, if◌then◌else◌, take-append-drop}
+use Rattle.std.specs.List.{list_all}
+use Rattle.std.proofs.lemmas.Bool.{and_from, and_parts}
+use Rattle.std.proofs.lemmas.List.Sums.{length-filter}
+use Rattle.std.proofs.lemmas.Slice.Eq.{bytes_eq-Decides}
+use Rattle.rdlpp_scan.specs.Bytes.{is_blank, is_line_end}
 use Rattle.rdlpp_scan.specs.Front.{Breach}
-use Rattle.rdlpp_scan.specs.SourceTokens.{Ordinary, Broken, SourceToken}
-use Rattle.rdlpp_meaning.specs.Outcome.{Outcome, gives, fails, and_then}
-use Rattle.rdlpp_meaning.specs.State.{Rules, State, fault_at, breach_kind}
-use Rattle.rdlpp_meaning.specs.Parts.{Piece, Run, Single, Opening, Branching, Closing, only_blanks, line_ends_of, directive_of, joined, pieces}
-use Rattle.rdlpp_meaning.specs.Meaning.{leaves, goes_on, Nest, skipped_run, SkipsAs, Progress, unclosed, nest_of}
-use Rattle.rdlpp_meaning.specs.Resumed.{Live, Skipped, resume, resumed}
-use Rattle.rdlpp_meaning.proofs.Outcomes.{and_then-nil, and_then-assoc, and_then-fails}
-use Rattle.rdlpp_meaning.proofs.Passages.{on_leaves, leaves-and_then}
-use Rattle.rdlpp_meaning.proofs.Walks.{pieces_text}
+use Rattle.rdlpp_scan.specs.Reserved.{is_reserved}
+use Rattle.rdlpp_scan.specs.SourceTokens.{Broken, Definition, Ordinary, Renumbering, Sort, SourceToken, line_ends}
+use Rattle.rdlpp_scan.specs.declared.token.Directive.{Directive}
+use Rattle.rdlpp_scan.specs.declared.token.Directive.TheVariants.{Define, Else, Elsif, Endif, Ifdef, Ifndef, Include, Line, Undef}
+use Rattle.rdlpp_scan.specs.declared.token.Kind.{Kind}
+use Rattle.rdlpp_scan.specs.declared.token.Kind.TheVariants.{Back, BareBackquote}
+use Rattle.rdlpp_scan.proofs.Seams.{line_end-ten}
+use Rattle.rdlpp_meaning.specs.Expansion.{bytes_of, is_copied, usage_token}
+use Rattle.rdlpp_meaning.specs.Meaning.{Nest, Passage, Progress, SkipsAs, behind_bytes, goes_on, leaves, nest_of, skipped_command, skipped_run, unclosed}
+use Rattle.rdlpp_meaning.specs.Outcome.{Outcome, and_then, fails, gives}
+use Rattle.rdlpp_meaning.specs.Parts.{Branching, Closing, Opening, Piece, Run, Single, argument_of, behind_directive, command_in_front, command_of, directive_named, directive_of, joined, line_ends_of, no_argument, one_argument, only_blanks, piece_of, pieces}
+use Rattle.rdlpp_meaning.specs.Resumed.{Live, Skipped, behind, resume, resumed, skips}
+use Rattle.rdlpp_meaning.specs.State.{Rules, State, breach_kind, fault_at}
+use Rattle.rdlpp_meaning.proofs.Directives.{argument_by, argument_takes, branches_conditional, branching_piece, closing_piece, directive_piece, opening_piece, opens_conditional}
+use Rattle.rdlpp_meaning.proofs.Outcomes.{and_then-assoc, and_then-fails, and_then-gives, and_then-nil, behind_bytes-nil, behind_bytes-twice, gives_fails-goes_on, goes_on-gives, leaves-and_then, on_leaves}
+use Rattle.rdlpp_meaning.proofs.LiveText.{line_ends_of-append, only_blanks-append, pieces_text, usage_text}
+
+-- Laws of skipped text, and of where a file ends.
 
 -- a skipped run by itself of one token
 skipped_alone : (rules : Rules) (nest : Nest) (n : ℕ) (p : Progress) (os : List Progress) (t : SourceToken) (o : Outcome) (ps : List Piece) (s : State)
@@ -78,3 +91,448 @@ pub skipped_unclosed : (rules : Rules) (n : ℕ) (o : Progress) (os : List Progr
     → resumed rules (Skipped n o os) first [] s ≡ unclosed o s
 unfolding resumed resume pieces
 skipped_unclosed rules n o os first s = refl
+
+-- The words of the directives that have no token of their own: such a word has no LF, and behind it more than blanks stand on its line.
+
+-- a text that is no more than a word
+pub record IsWord (bytes : List ℕ) : Type 0 where
+  pub no_line_end : line_ends_of bytes ≡ []
+  pub no_blanks : (first : Bool) → only_blanks first bytes ≡ false
+
+-- where a text is a word, it is that of its directive, or else of one of the others
+word_or : (b : Bool) (bytes word : List ℕ) (own d : Directive) (others : Option Directive) → bytes_eq bytes word ≡ b
+    → IsWord word → (others ≡ Some d → IsWord bytes) → (if b then Some own else others) ≡ Some d → IsWord bytes
+word_or true bytes word own d others e w rest h =
+    let same : bytes ≡ word = (bytes_eq-Decides bytes word).0 e in
+    record {
+      no_line_end = ap line_ends_of same ∙ w.no_line_end;
+      no_blanks = λ first. ap (only_blanks first) same ∙ w.no_blanks first;
+    }
+word_or false bytes word own d others e w rest h = rest h
+
+-- the words
+ifdef_word : IsWord (codes "`ifdef")
+unfolding only_blanks line_ends_of is_blank is_line_end
+ifdef_word = record { no_line_end = refl; no_blanks = λ first. refl }
+
+ifndef_word : IsWord (codes "`ifndef")
+unfolding only_blanks line_ends_of is_blank is_line_end
+ifndef_word = record { no_line_end = refl; no_blanks = λ first. refl }
+
+undef_word : IsWord (codes "`undef")
+unfolding only_blanks line_ends_of is_blank is_line_end
+undef_word = record { no_line_end = refl; no_blanks = λ first. refl }
+
+elsif_word : IsWord (codes "`elsif")
+unfolding only_blanks line_ends_of is_blank is_line_end
+elsif_word = record { no_line_end = refl; no_blanks = λ first. refl }
+
+else_word : IsWord (codes "`else")
+unfolding only_blanks line_ends_of is_blank is_line_end
+else_word = record { no_line_end = refl; no_blanks = λ first. refl }
+
+endif_word : IsWord (codes "`endif")
+unfolding only_blanks line_ends_of is_blank is_line_end
+endif_word = record { no_line_end = refl; no_blanks = λ first. refl }
+
+include_word : IsWord (codes "`include")
+unfolding only_blanks line_ends_of is_blank is_line_end
+include_word = record { no_line_end = refl; no_blanks = λ first. refl }
+
+-- a backquoted name that is such a directive is its word
+pub named_word : (bytes : List ℕ) (d : Directive) → directive_named bytes ≡ Some d → IsWord bytes
+unfolding directive_named
+named_word bytes d h =
+    word_or (bytes_eq bytes (codes "`undef")) bytes (codes "`undef") Undef d _ refl undef_word
+    (word_or (bytes_eq bytes (codes "`ifdef")) bytes (codes "`ifdef") Ifdef d _ refl ifdef_word
+    (word_or (bytes_eq bytes (codes "`ifndef")) bytes (codes "`ifndef") Ifndef d _ refl ifndef_word
+    (word_or (bytes_eq bytes (codes "`elsif")) bytes (codes "`elsif") Elsif d _ refl elsif_word
+    (word_or (bytes_eq bytes (codes "`else")) bytes (codes "`else") Else d _ refl else_word
+    (word_or (bytes_eq bytes (codes "`endif")) bytes (codes "`endif") Endif d _ refl endif_word
+    (word_or (bytes_eq bytes (codes "`include")) bytes (codes "`include") Include d None refl include_word (λ e. cc)))))))
+    h
+
+-- whether a directive has a token of its own, with what it takes
+unfoldable pub has_own_token : Directive → Bool
+has_own_token Define = true
+has_own_token Line = true
+has_own_token d = false
+
+-- a `define` is one that has
+not_definition : (d : Directive) → Some Define ≡ Some d → has_own_token d ≡ false → ⊥
+unfolding has_own_token
+not_definition Define e h = cc
+not_definition d e h = cc
+
+-- and so is a `line`
+not_renumbering : (d : Directive) → Some Line ≡ Some d → has_own_token d ≡ false → ⊥
+unfolding has_own_token
+not_renumbering Line e h = cc
+not_renumbering d e h = cc
+
+-- a token that begins such a directive is its word, by its sort
+word_by : (sort : Sort) (bytes : List ℕ) (line : ℕ) (d : Directive) → directive_of (record { sort = sort; bytes = bytes; line = line }) ≡ Some d
+    → has_own_token d ≡ false → IsWord bytes
+unfolding directive_of
+word_by (Ordinary Back) bytes line d e h = named_word bytes d e
+word_by (Ordinary k) bytes line d e h = cc
+word_by Definition bytes line d e h = absurd (not_definition d e h)
+word_by Renumbering bytes line d e h = absurd (not_renumbering d e h)
+word_by (Broken b) bytes line d e h = cc
+
+-- a token that begins such a directive is its word
+pub directive_word : (t : SourceToken) (d : Directive) → directive_of t ≡ Some d → has_own_token d ≡ false → IsWord t.bytes
+directive_word t d e h = word_by t.sort t.bytes t.line d e h
+
+-- The LF bytes of a text, as so many that are owed.
+
+-- the LF bytes of a text are LF each
+all_line_ends : (bytes : List ℕ) → line_ends_of bytes ≡ replicate (length (line_ends_of bytes)) 10
+unfolding line_ends_of
+all_line_ends [] = refl
+all_line_ends (b ∷ bs) =
+    let F = line_ends_of bs in
+    let P : Bool → Type 0 = λ t. is_line_end b ≡ t → cond t (b ∷ F) F ≡ replicate (length (cond t (b ∷ F) F)) 10 in
+    let at_true : P true = λ e. ap (λ (x : ℕ). x ∷ F) (line_end-ten b e) ∙ ap (λ (xs : List ℕ). 10 ∷ xs) (all_line_ends bs) in
+    let at_false : P false = λ e. all_line_ends bs in
+    elim (is_line_end b) as P [ true ↦ at_true | false ↦ at_false ] refl
+
+-- there are as many as LF bytes are counted
+pub line_ends_of-length : (bytes : List ℕ) → length (line_ends_of bytes) ≡ line_ends bytes
+unfolding line_ends_of line_ends
+line_ends_of-length bytes = length-filter is_line_end bytes
+
+-- the LF bytes of a text are so many LF
+pub line_ends_of-owed : (bytes : List ℕ) → line_ends_of bytes ≡ replicate (line_ends bytes) 10
+line_ends_of-owed bytes = all_line_ends bytes ∙ ap (λ (n : ℕ). replicate n 10) (line_ends_of-length bytes)
+
+-- Skipped text in a nest of open sources: tokens, whole and in parts, of which the LF bytes are written, stretches of them between
+-- the words of conditionals, these words, and broken tokens.
+
+-- a skipped token comes to its LF bytes, and then what remains
+skipped_one : (rules : Rules) (n : ℕ) (p : Progress) (os : List Progress) (first : Bool) (k : Kind) (x : List ℕ) (line : ℕ) (more : List SourceToken) (s : State)
+    → directive_of (record { sort = Ordinary k; bytes = x; line = line }) ≡ None
+    → resumed rules (Skipped n p os) first (record { sort = Ordinary k; bytes = x; line = line } ∷ more) s
+    ≡ goes_on (leaves (gives (line_ends_of x)) s) (λ after. resumed rules (Skipped n p os) (only_blanks first x) more after)
+skipped_one rules n p os first k x line more s e =
+    skipped_token rules n p os first (record { sort = Ordinary k; bytes = x; line = line }) more s (gives (line_ends_of x)) e
+    (ordinary_skips s k x line)
+
+-- a skipped token may be read in two parts
+pub skipped_by_parts : (rules : Rules) (n : ℕ) (p : Progress) (os : List Progress) (first : Bool) (k : Kind) (x y : List ℕ) (line : ℕ) (more : List SourceToken) (s : State)
+    → directive_of (record { sort = Ordinary k; bytes = x ++ y; line = line }) ≡ None
+    → directive_of (record { sort = Ordinary k; bytes = y; line = line }) ≡ None
+    → resumed rules (Skipped n p os) first (record { sort = Ordinary k; bytes = x ++ y; line = line } ∷ more) s
+    ≡ goes_on (leaves (gives (line_ends_of x)) s)
+    (λ after. resumed rules (Skipped n p os) (only_blanks first x) (record { sort = Ordinary k; bytes = y; line = line } ∷ more) after)
+skipped_by_parts rules n p os first k x y line more s e f =
+    let flag = only_blanks first x in
+    let next : State → Passage = λ after. resumed rules (Skipped n p os) (only_blanks flag y) more after in
+    skipped_one rules n p os first k (x ++ y) line more s e
+    ∙ ap (λ (z : List ℕ). goes_on (leaves (gives z) s) (λ after. resumed rules (Skipped n p os) (only_blanks first (x ++ y)) more after))
+    (line_ends_of-append x y)
+    ∙ ap (λ (g : Bool). goes_on (leaves (gives (line_ends_of x ++ line_ends_of y)) s) (λ after. resumed rules (Skipped n p os) g more after))
+    (only_blanks-append first x y)
+    ∙ ap (λ (o : Outcome). goes_on (leaves o s) next) (sym (and_then-gives (line_ends_of x) (line_ends_of y)))
+    ∙ leaves-and_then (gives (line_ends_of x)) (gives (line_ends_of y)) s next
+    ∙ on_leaves (gives (line_ends_of x)) s (λ after. goes_on (leaves (gives (line_ends_of y)) after) next)
+    (λ after. resumed rules (Skipped n p os) flag (record { sort = Ordinary k; bytes = y; line = line } ∷ more) after)
+    (sym (skipped_one rules n p os flag k y line more s f))
+
+-- whether a token is ordinary and begins no directive
+unfoldable pub is_text : SourceToken → Bool
+is_text t = elim t.sort [
+  | Ordinary k ↦ elim (directive_of t) [ None ↦ true | Some d ↦ false ]
+  | _ ↦ false
+]
+
+-- no directive begins there, by what does
+no_directive_by : (d : Option Directive) → (elim d [ None ↦ true | Some x ↦ false ]) ≡ true → d ≡ None
+no_directive_by None e = refl
+no_directive_by (Some x) e = cc
+
+-- such a token is skipped to its LF bytes, by its sort
+text_skipped_by : (rules : Rules) (n : ℕ) (p : Progress) (os : List Progress) (first : Bool) (sort : Sort) (bytes : List ℕ) (line : ℕ) (ts : List SourceToken) (s : State)
+    → is_text (record { sort = sort; bytes = bytes; line = line }) ≡ true
+    → resumed rules (Skipped n p os) first (record { sort = sort; bytes = bytes; line = line } ∷ ts) s
+    ≡ behind_bytes (line_ends_of bytes) (resumed rules (Skipped n p os) (only_blanks first bytes) ts s)
+unfolding is_text
+text_skipped_by rules n p os first (Ordinary k) bytes line ts s e =
+    let t : SourceToken = record { sort = Ordinary k; bytes = bytes; line = line } in
+    skipped_token rules n p os first t ts s (gives (line_ends_of bytes)) (no_directive_by (directive_of t) e) (ordinary_skips s k bytes line)
+    ∙ goes_on-gives (line_ends_of bytes) s (λ after. resumed rules (Skipped n p os) (only_blanks first bytes) ts after)
+text_skipped_by rules n p os first Definition bytes line ts s e = cc
+text_skipped_by rules n p os first Renumbering bytes line ts s e = cc
+text_skipped_by rules n p os first (Broken b) bytes line ts s e = cc
+
+-- such a token is skipped to its LF bytes
+pub skipped_text_token : (rules : Rules) (n : ℕ) (p : Progress) (os : List Progress) (first : Bool) (t : SourceToken) (ts : List SourceToken) (s : State)
+    → is_text t ≡ true
+    → resumed rules (Skipped n p os) first (t ∷ ts) s
+    ≡ behind_bytes (line_ends_of t.bytes) (resumed rules (Skipped n p os) (only_blanks first t.bytes) ts s)
+skipped_text_token rules n p os first t ts s e = text_skipped_by rules n p os first t.sort t.bytes t.line ts s e
+
+-- where one token is skipped and then others are, all are
+unfoldable pub IsPassed : Rules → ℕ → Progress → List Progress → List SourceToken → List SourceToken → State → Type 0
+IsPassed rules n p os ts more s = (first : Bool) → resumed rules (Skipped n p os) first (ts ++ more) s
+    ≡ behind_bytes (line_ends_of (bytes_of ts)) (resumed rules (Skipped n p os) (only_blanks first (bytes_of ts)) more s)
+
+-- by one token
+pub passed_one : (rules : Rules) (n : ℕ) (p : Progress) (os : List Progress) (t : SourceToken) (ts more : List SourceToken) (s : State)
+    → ((first : Bool) → resumed rules (Skipped n p os) first (t ∷ (ts ++ more)) s
+    ≡ behind_bytes (line_ends_of t.bytes) (resumed rules (Skipped n p os) (only_blanks first t.bytes) (ts ++ more) s))
+    → IsPassed rules n p os ts more s → IsPassed rules n p os (t ∷ ts) more s
+unfolding IsPassed
+passed_one rules n p os t ts more s one rest first =
+    let x = t.bytes in
+    let y = bytes_of ts in
+    one first
+    ∙ ap (λ (q : Passage). behind_bytes (line_ends_of x) q) (rest (only_blanks first x))
+    ∙ behind_bytes-twice (line_ends_of x) (line_ends_of y) (resumed rules (Skipped n p os) (only_blanks (only_blanks first x) y) more s)
+    ∙ ap (λ (z : List ℕ). behind_bytes z (resumed rules (Skipped n p os) (only_blanks (only_blanks first x) y) more s)) (sym (line_ends_of-append x y))
+    ∙ ap (λ (f : Bool). behind_bytes (line_ends_of (x ++ y)) (resumed rules (Skipped n p os) f more s)) (sym (only_blanks-append first x y))
+
+-- no tokens are passed
+pub passed_none : (rules : Rules) (n : ℕ) (p : Progress) (os : List Progress) (more : List SourceToken) (s : State) → IsPassed rules n p os [] more s
+unfolding IsPassed only_blanks line_ends_of
+passed_none rules n p os more s first = sym (behind_bytes-nil (resumed rules (Skipped n p os) first more s))
+
+-- tokens of text are passed
+text_passed : (rules : Rules) (n : ℕ) (p : Progress) (os : List Progress) (ts more : List SourceToken) (s : State)
+    → list_all is_text ts ≡ true → IsPassed rules n p os ts more s
+text_passed rules n p os [] more s e = passed_none rules n p os more s
+text_passed rules n p os (t ∷ ts) more s e =
+    passed_one rules n p os t ts more s
+    (λ first. skipped_text_token rules n p os first t (ts ++ more) s (and_parts (is_text t) (list_all is_text ts) e).0)
+    (text_passed rules n p os ts more s (and_parts (is_text t) (list_all is_text ts) e).1)
+
+-- the tokens that a directive takes are text
+pub argument_text : (d : Directive) (ts : List SourceToken) → list_all is_text (take (argument_of d ts).used ts) ≡ true
+unfolding no_argument one_argument is_text directive_of
+argument_text d ts =
+    argument_by (λ us a. list_all is_text (take a.used us) ≡ true) (λ us. refl) (λ bytes line us. refl) (λ bytes line us. refl)
+    (λ bytes line us given text used e. e) d ts
+
+-- what a directive would take is skipped as text is
+argument_passed : (rules : Rules) (n : ℕ) (p : Progress) (os : List Progress) (d : Directive) (ts : List SourceToken) (s : State) (flag : Bool)
+    → resumed rules (Skipped n p os) flag ts s
+    ≡ behind_bytes (line_ends_of (argument_of d ts).text)
+    (resumed rules (Skipped n p os) (only_blanks flag (argument_of d ts).text) (behind_directive d ts) s)
+unfolding IsPassed
+argument_passed rules n p os d ts s flag =
+    let k = (argument_of d ts).used in
+    ap (λ (us : List SourceToken). resumed rules (Skipped n p os) flag us s) (sym (take-append-drop k ts))
+    ∙ text_passed rules n p os (take k ts) (drop k ts) s (argument_text d ts) flag
+    ∙ ap (λ (x : List ℕ). behind_bytes (line_ends_of x) (resumed rules (Skipped n p os) (only_blanks flag x) (drop k ts) s))
+    (argument_takes d ts)
+
+-- a directive that is skipped gives the LF bytes of its own token, and then comes what remains behind that
+pub skips_token : (rules : Rules) (n : ℕ) (p : Progress) (os : List Progress) (d : Directive) (first : Bool) (t : SourceToken) (ts : List SourceToken) (s : State)
+    → skips rules (Skipped n p os) d first t ts s
+    ≡ behind_bytes (line_ends_of t.bytes) (resumed rules (Skipped n p os) (only_blanks first t.bytes) ts s)
+unfolding skipped_command command_of
+skips_token rules n p os d first t ts s =
+    let x = t.bytes in
+    let y = (argument_of d ts).text in
+    let us = behind_directive d ts in
+    goes_on-gives (line_ends_of (x ++ y)) s (λ after. behind rules (Skipped n p os) d first t ts after)
+    ∙ ap (λ (z : List ℕ). behind_bytes z (resumed rules (Skipped n p os) (only_blanks first (x ++ y)) us s)) (line_ends_of-append x y)
+    ∙ ap (λ (f : Bool). behind_bytes (line_ends_of x ++ line_ends_of y) (resumed rules (Skipped n p os) f us s)) (only_blanks-append first x y)
+    ∙ sym (behind_bytes-twice (line_ends_of x) (line_ends_of y) (resumed rules (Skipped n p os) (only_blanks (only_blanks first x) y) us s))
+    ∙ ap (λ (q : Passage). behind_bytes (line_ends_of x) q) (sym (argument_passed rules n p os d ts s (only_blanks first x)))
+
+-- a directive in skipped text that is a piece which is skipped, and leaves so many conditionals open inside
+skipped_piece : (rules : Rules) (n m : ℕ) (p : Progress) (os : List Progress) (d : Directive) (first : Bool) (t : SourceToken) (ts : List SourceToken) (s : State) (x : Piece)
+    → directive_of t ≡ Some d → piece_of (command_in_front d first t ts) ≡ x
+    → ((ps : List Piece) → resume rules (nest_of rules s.sources_left) (Skipped n p os) (x ∷ ps) s
+    ≡ goes_on (leaves (skipped_command (command_in_front d first t ts)) s) (λ after. resume rules (nest_of rules s.sources_left) (Skipped m p os) ps after))
+    → resumed rules (Skipped n p os) first (t ∷ ts) s
+    ≡ behind_bytes (line_ends_of t.bytes) (resumed rules (Skipped m p os) (only_blanks first t.bytes) ts s)
+unfolding resumed
+skipped_piece rules n m p os d first t ts s x e is skips_it =
+    let c = command_in_front d first t ts in
+    let rest = pieces (only_blanks first c.text) 0 (behind_directive d ts) in
+    directive_piece rules (Skipped n p os) d first t ts s x e is
+    ∙ skips_it rest
+    ∙ on_leaves (skipped_command c) s (λ after. resume rules (nest_of rules s.sources_left) (Skipped m p os) rest after)
+    (λ after. behind rules (Skipped m p os) d first t ts after) refl
+    ∙ skips_token rules m p os d first t ts s
+
+-- whether a directive stands by itself: it belongs to no conditional
+unfoldable pub stands_by_itself : Directive → Bool
+stands_by_itself Define = true
+stands_by_itself Undef = true
+stands_by_itself Include = true
+stands_by_itself Line = true
+stands_by_itself d = false
+
+-- whether a token of skipped text gives its LF bytes and changes nothing: it is neither broken nor the word of a conditional
+unfoldable pub is_skipped : SourceToken → Bool
+is_skipped t = elim t.sort [
+  | Ordinary k ↦ elim (directive_of t) [ None ↦ true | Some d ↦ stands_by_itself d ]
+  | Broken b ↦ false
+  | _ ↦ true
+]
+
+-- a directive that stands by itself, in skipped text
+pub skipped_directive : (rules : Rules) (n : ℕ) (p : Progress) (os : List Progress) (d : Directive) (first : Bool) (t : SourceToken) (ts : List SourceToken) (s : State)
+    → directive_of t ≡ Some d → stands_by_itself d ≡ true
+    → resumed rules (Skipped n p os) first (t ∷ ts) s
+    ≡ behind_bytes (line_ends_of t.bytes) (resumed rules (Skipped n p os) (only_blanks first t.bytes) ts s)
+unfolding stands_by_itself piece_of command_of resume
+skipped_directive rules n p os Define first t ts s e h = skipped_piece rules n n p os Define first t ts s _ e refl (λ ps. refl)
+skipped_directive rules n p os Undef first t ts s e h = skipped_piece rules n n p os Undef first t ts s _ e refl (λ ps. refl)
+skipped_directive rules n p os Include first t ts s e h = skipped_piece rules n n p os Include first t ts s _ e refl (λ ps. refl)
+skipped_directive rules n p os Line first t ts s e h = skipped_piece rules n n p os Line first t ts s _ e refl (λ ps. refl)
+skipped_directive rules n p os d first t ts s e h = cc
+
+-- an ordinary token that is skipped, by the directive that it begins
+ordinary_by : (rules : Rules) (n : ℕ) (p : Progress) (os : List Progress) (first : Bool) (k : Kind) (bytes : List ℕ) (line : ℕ) (ts : List SourceToken) (s : State) (d : Option Directive)
+    → directive_of (record { sort = Ordinary k; bytes = bytes; line = line }) ≡ d
+    → (elim d [ None ↦ true | Some x ↦ stands_by_itself x ]) ≡ true
+    → resumed rules (Skipped n p os) first (record { sort = Ordinary k; bytes = bytes; line = line } ∷ ts) s
+    ≡ behind_bytes (line_ends_of bytes) (resumed rules (Skipped n p os) (only_blanks first bytes) ts s)
+unfolding is_text
+ordinary_by rules n p os first k bytes line ts s None e h =
+    skipped_text_token rules n p os first (record { sort = Ordinary k; bytes = bytes; line = line }) ts s
+    (ap (λ (x : Option Directive). elim x [ None ↦ true | Some y ↦ false ]) e)
+ordinary_by rules n p os first k bytes line ts s (Some d) e h =
+    skipped_directive rules n p os d first (record { sort = Ordinary k; bytes = bytes; line = line }) ts s e h
+
+-- a token that is skipped, by its sort
+one_skipped_by : (rules : Rules) (n : ℕ) (p : Progress) (os : List Progress) (first : Bool) (sort : Sort) (bytes : List ℕ) (line : ℕ) (ts : List SourceToken) (s : State)
+    → is_skipped (record { sort = sort; bytes = bytes; line = line }) ≡ true
+    → resumed rules (Skipped n p os) first (record { sort = sort; bytes = bytes; line = line } ∷ ts) s
+    ≡ behind_bytes (line_ends_of bytes) (resumed rules (Skipped n p os) (only_blanks first bytes) ts s)
+unfolding is_skipped stands_by_itself directive_of
+one_skipped_by rules n p os first (Ordinary k) bytes line ts s e =
+    let t : SourceToken = record { sort = Ordinary k; bytes = bytes; line = line } in
+    ordinary_by rules n p os first k bytes line ts s (directive_of t) refl e
+one_skipped_by rules n p os first Definition bytes line ts s e =
+    skipped_directive rules n p os Define first (record { sort = Definition; bytes = bytes; line = line }) ts s refl refl
+one_skipped_by rules n p os first Renumbering bytes line ts s e =
+    skipped_directive rules n p os Line first (record { sort = Renumbering; bytes = bytes; line = line }) ts s refl refl
+one_skipped_by rules n p os first (Broken b) bytes line ts s e = cc
+
+-- a token that is skipped gives its LF bytes, and then comes what remains behind it
+pub resumed_skipped_one : (rules : Rules) (n : ℕ) (p : Progress) (os : List Progress) (first : Bool) (t : SourceToken) (ts : List SourceToken) (s : State)
+    → is_skipped t ≡ true
+    → resumed rules (Skipped n p os) first (t ∷ ts) s
+    ≡ behind_bytes (line_ends_of t.bytes) (resumed rules (Skipped n p os) (only_blanks first t.bytes) ts s)
+resumed_skipped_one rules n p os first t ts s e = one_skipped_by rules n p os first t.sort t.bytes t.line ts s e
+
+-- a stretch is passed
+stretch_passed : (rules : Rules) (n : ℕ) (p : Progress) (os : List Progress) (ts more : List SourceToken) (s : State)
+    → list_all is_skipped ts ≡ true → IsPassed rules n p os ts more s
+stretch_passed rules n p os [] more s e = passed_none rules n p os more s
+stretch_passed rules n p os (t ∷ ts) more s e =
+    passed_one rules n p os t ts more s
+    (λ first. resumed_skipped_one rules n p os first t (ts ++ more) s (and_parts (is_skipped t) (list_all is_skipped ts) e).0)
+    (stretch_passed rules n p os ts more s (and_parts (is_skipped t) (list_all is_skipped ts) e).1)
+
+-- a stretch of skipped text gives its LF bytes, and then comes what remains behind it, in as many open conditionals
+pub resumed_skipped : (rules : Rules) (n : ℕ) (p : Progress) (os : List Progress) (first : Bool) (ts more : List SourceToken) (s : State)
+    → list_all is_skipped ts ≡ true
+    → resumed rules (Skipped n p os) first (ts ++ more) s
+    ≡ behind_bytes (line_ends_of (bytes_of ts)) (resumed rules (Skipped n p os) (only_blanks first (bytes_of ts)) more s)
+unfolding IsPassed
+resumed_skipped rules n p os first ts more s e = stretch_passed rules n p os ts more s e first
+
+-- a conditional that opens in skipped text
+pub resumed_skipped_opening : (rules : Rules) (n : ℕ) (p : Progress) (os : List Progress) (d : Directive) (first : Bool) (t : SourceToken) (ts : List SourceToken) (s : State)
+    → directive_of t ≡ Some d → opens_conditional d ≡ true
+    → resumed rules (Skipped n p os) first (t ∷ ts) s
+    ≡ behind_bytes (line_ends_of t.bytes) (resumed rules (Skipped (suc n) p os) (only_blanks first t.bytes) ts s)
+unfolding resume
+resumed_skipped_opening rules n p os d first t ts s e o = skipped_piece rules n (suc n) p os d first t ts s _ e (opening_piece d first t ts o) (λ ps. refl)
+
+-- a branch of a conditional that opened in skipped text
+pub resumed_inner_branch : (rules : Rules) (n : ℕ) (p : Progress) (os : List Progress) (d : Directive) (first : Bool) (t : SourceToken) (ts : List SourceToken) (s : State)
+    → directive_of t ≡ Some d → branches_conditional d ≡ true
+    → resumed rules (Skipped (suc n) p os) first (t ∷ ts) s
+    ≡ behind_bytes (line_ends_of t.bytes) (resumed rules (Skipped (suc n) p os) (only_blanks first t.bytes) ts s)
+unfolding resume
+resumed_inner_branch rules n p os d first t ts s e b =
+    skipped_piece rules (suc n) (suc n) p os d first t ts s _ e (branching_piece d first t ts b) (λ ps. refl)
+
+-- the end of a conditional that opened in skipped text
+pub resumed_inner_end : (rules : Rules) (n : ℕ) (p : Progress) (os : List Progress) (first : Bool) (t : SourceToken) (ts : List SourceToken) (s : State)
+    → directive_of t ≡ Some Endif
+    → resumed rules (Skipped (suc n) p os) first (t ∷ ts) s
+    ≡ behind_bytes (line_ends_of t.bytes) (resumed rules (Skipped n p os) (only_blanks first t.bytes) ts s)
+unfolding resume
+resumed_inner_end rules n p os first t ts s e = skipped_piece rules (suc n) n p os Endif first t ts s _ e (closing_piece first t ts) (λ ps. refl)
+
+-- a broken token gives its LF bytes, and then ends its source
+pub resumed_skipped_broken : (rules : Rules) (n : ℕ) (p : Progress) (os : List Progress) (first : Bool) (b : Breach) (bytes : List ℕ) (line : ℕ) (more : List SourceToken) (s : State)
+    → resumed rules (Skipped n p os) first (record { sort = Broken b; bytes = bytes; line = line } ∷ more) s
+    ≡ behind_bytes (line_ends_of bytes) (leaves (fails (fault_at (breach_kind b) line [] s)) s)
+unfolding directive_of
+resumed_skipped_broken rules n p os first b bytes line more s =
+    let f = fault_at (breach_kind b) line [] s in
+    skipped_token rules n p os first (record { sort = Broken b; bytes = bytes; line = line }) more s
+    (and_then (gives (line_ends_of bytes)) (fails f)) refl (broken_skips s b bytes line)
+    ∙ gives_fails-goes_on (line_ends_of bytes) f s (λ after. resumed rules (Skipped n p os) (only_blanks first bytes) more after)
+
+-- a broken token may be read in two parts
+pub resumed_skipped_broken_parts : (rules : Rules) (n : ℕ) (p : Progress) (os : List Progress) (first : Bool) (b : Breach) (x y : List ℕ) (line : ℕ) (more : List SourceToken) (s : State)
+    → resumed rules (Skipped n p os) first (record { sort = Broken b; bytes = x ++ y; line = line } ∷ more) s
+    ≡ behind_bytes (line_ends_of x) (resumed rules (Skipped n p os) (only_blanks first x) (record { sort = Broken b; bytes = y; line = line } ∷ more) s)
+resumed_skipped_broken_parts rules n p os first b x y line more s =
+    let q = leaves (fails (fault_at (breach_kind b) line [] s)) s in
+    resumed_skipped_broken rules n p os first b (x ++ y) line more s
+    ∙ ap (λ (z : List ℕ). behind_bytes z q) (line_ends_of-append x y)
+    ∙ sym (behind_bytes-twice (line_ends_of x) (line_ends_of y) q)
+    ∙ ap (λ (r : Passage). behind_bytes (line_ends_of x) r)
+    (sym (resumed_skipped_broken rules n p os (only_blanks first x) b y line more s))
+
+-- an ordinary token may be read in two parts
+pub resumed_skipped_parts : (rules : Rules) (n : ℕ) (p : Progress) (os : List Progress) (first : Bool) (k : Kind) (x y : List ℕ) (line : ℕ) (more : List SourceToken) (s : State)
+    → directive_of (record { sort = Ordinary k; bytes = x ++ y; line = line }) ≡ None
+    → directive_of (record { sort = Ordinary k; bytes = y; line = line }) ≡ None
+    → resumed rules (Skipped n p os) first (record { sort = Ordinary k; bytes = x ++ y; line = line } ∷ more) s
+    ≡ behind_bytes (line_ends_of x) (resumed rules (Skipped n p os) (only_blanks first x) (record { sort = Ordinary k; bytes = y; line = line } ∷ more) s)
+resumed_skipped_parts rules n p os first k x y line more s e f =
+    skipped_by_parts rules n p os first k x y line more s e f
+    ∙ goes_on-gives (line_ends_of x) s
+    (λ after. resumed rules (Skipped n p os) (only_blanks first x) (record { sort = Ordinary k; bytes = y; line = line } ∷ more) after)
+
+-- and so is a branch
+pub branching_word : (d : Directive) → branches_conditional d ≡ true → has_own_token d ≡ false
+unfolding branches_conditional has_own_token
+branching_word Elsif e = refl
+branching_word Else e = refl
+branching_word d e = cc
+
+-- a token that would be copied is skipped, by its sort
+copied_skipped_by : (sort : Sort) (bytes : List ℕ) (line : ℕ) → is_copied (record { sort = sort; bytes = bytes; line = line }) ≡ true
+    → is_skipped (record { sort = sort; bytes = bytes; line = line }) ≡ true
+unfolding is_copied is_skipped directive_of
+copied_skipped_by (Ordinary Back) bytes line e = cc
+copied_skipped_by (Ordinary k) bytes line e = refl
+copied_skipped_by Definition bytes line e = cc
+copied_skipped_by Renumbering bytes line e = cc
+copied_skipped_by (Broken b) bytes line e = e
+
+-- a token that would be copied in live text is skipped
+pub copied_skipped : (t : SourceToken) → is_copied t ≡ true → is_skipped t ≡ true
+copied_skipped t e = copied_skipped_by t.sort t.bytes t.line e
+
+-- and so are tokens
+pub all_copied_skipped : (ts : List SourceToken) → list_all is_copied ts ≡ true → list_all is_skipped ts ≡ true
+all_copied_skipped [] e = refl
+all_copied_skipped (t ∷ ts) e =
+    and_from (is_skipped t) (list_all is_skipped ts)
+    (copied_skipped t (and_parts (is_copied t) (list_all is_copied ts) e).0)
+    (all_copied_skipped ts (and_parts (is_copied t) (list_all is_copied ts) e).1)
+
+-- a usage is skipped, defined or not
+pub usage_skipped : (name : List ℕ) (line : ℕ) → is_reserved name ≡ false → is_skipped (usage_token name line) ≡ true
+unfolding is_skipped
+usage_skipped name line e =
+    ap (λ (d : Option Directive). elim d [ None ↦ true | Some x ↦ stands_by_itself x ]) (usage_text name line e)
+
+-- a lone backquote is skipped
+pub bare_skipped : (bytes : List ℕ) (line : ℕ) → is_skipped (record { sort = Ordinary BareBackquote; bytes = bytes; line = line }) ≡ true
+unfolding is_skipped directive_of
+bare_skipped bytes line = refl

@@ -1,22 +1,20 @@
 -- The steps of a source's text, and strings and block comments that are open at its end, with smaller and with larger limits: the
 -- same, or torn by the smaller ones.
-use Rattle.std.proofs.Common.{◌≡◌, ℕ, ◌+◌, ◌<◌, ◌≤◌, ◌⊎◌, inl, inr, Bool, true, false, List, [], ◌∷◌, ◌++◌, length, take, refl, sym, ap, subst, ◌∙◌, arith, le_trans, append-nil, Option, None, Some, suc, cond, true≢false, ◌&&◌, drop, ◌||◌}
-use Rattle.std.specs.Prelude.{if◌then◌else◌, nat_lt, ◌==◌, bytes_eq, codes, slice_index}
-use Rattle.std.proofs.lemmas.Bool.{ltb-false, le-ltb, eqb-true, and_parts, or_right}
+use Rattle.std.proofs.Common.{◌≡◌, ℕ, ◌+◌, ◌<◌, ◌≤◌, ◌⊎◌, inl, inr, Bool, true, false, List, [], ◌∷◌, ◌++◌, length, take, refl, sym, ap, subst, ◌∙◌, arith, le_trans, append-nil, Option, None, Some, suc, cond, true≢false, ◌&&◌, drop, ◌||◌, if◌then◌else◌, nat_lt, ◌==◌, bytes_eq, codes, slice_index, ltb-false, le-ltb, eqb-true}
+use Rattle.std.proofs.lemmas.Bool.{and_parts, or_right}
 use Rattle.std.proofs.Math.Seq.{take-length}
 use Rattle.std.proofs.lemmas.List.{take-append-le}
 use Rattle.rdlpp_scan.specs.Front.{Breach, LineLong, SourceLong, DefineLong, DefineCut, Break, PerlFound, StringOpen, CommentOpen}
 use Rattle.rdlpp_scan.specs.Lines.{IsWholeLines, EndsLine}
 use Rattle.rdlpp_scan.specs.SourceTokens.{Sort, Definition, Broken, SourceToken, Course, Step, Last, Next, logical_len, broken, define_step, Ordinary, Renumbering, line_len, string_step, comment_step, line_step, back_step, step_by, line_ends, open_end}
-use Rattle.rdlpp_scan.proofs.DefineSteps.{logical_len-within}
-use Rattle.rdlpp_scan.proofs.LineLaws.{logical_len-append, IsWholeLines-rest, IsWholeLines-one, line_len-append, line_len-some, line_len-le}
+use Rattle.rdlpp_scan.proofs.TokenSteps.{logical_len-within}
+use Rattle.rdlpp_scan.proofs.SourceLaws.{logical_len-append, IsWholeLines-rest, IsWholeLines-one, line_len-append, line_len-some, line_len-le}
 use Rattle.rdlpp_meaning.specs.State.{breach_kind}
 use Rattle.rdlpp_meaning.specs.Actuals.{Role, Halt, broken_role, token_role, Ends as EndsString, Stops, kind_role}
 use Rattle.rdlpp_meaning.specs.Parts.{directive_of, no_argument, name_in_front, string_in_front, past_blanks, one_argument}
 use Rattle.rdlpp_meaning.specs.Resumed.{leading}
 use Rattle.rdlpp_meaning.specs.LimitLaws.{is_limit}
-use Rattle.rdlpp_meaning.proofs.TornCalls.{FollowsHalt, TornBy, IsStringRole, FollowsString}
-use Rattle.rdlpp_meaning.proofs.TornPieces.{ends_line, GivesNothing}
+use Rattle.rdlpp_meaning.proofs.TornCalls.{FollowsHalt, FollowsString, GivesNothing, IsStringRole, TornBy, ends_line}
 use Rattle.std.specs.List.{prefix_len, list_any}
 use Rattle.rdlpp_scan.specs.declared.token.Kind.{Kind}
 use Rattle.rdlpp_scan.specs.declared.token.Kind.TheVariants.{Name, Word, Back, LineEnd, Str, LineComment, BlockComment, Opener, Closer, Comma, Other, Perl, BareBackquote}

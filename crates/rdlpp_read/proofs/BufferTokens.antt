@@ -1,20 +1,149 @@
--- The tokens that remain of an open source, as lines are read, accepted and used.
-use Rattle.std.proofs.Common.{◌≡◌, ℕ, ◌+◌, ◌-◌, ◌≤◌, ◌<◌, List, [], ◌++◌, length, take, drop, None, Some, refl, sym, ap, subst, ◌∙◌, append_assoc, arith, inl, inr}
-use Rattle.std.proofs.lemmas.List.{drop-drop, drop-take, length-append, length-drop, length-take-le, take-append-drop}
-use Rattle.rdlpp_scan.specs.declared.token.Mode.{Mode}
-use Rattle.rdlpp_scan.specs.declared.token.Mode.TheVariants.{Plain, InStr, InBlock}
-use Rattle.rdlpp_scan.specs.Front.{front, Break}
-use Rattle.rdlpp_scan.specs.SourceTokens.{remaining_tokens, source_tokens, source_end, open_end, broken, line_ends, line_len}
+-- The tokens that remain of an open source, as its window moves, and as sources open and close.
+use Rattle.std.proofs.Common.{◌≡◌, ℕ, ◌+◌, List, [], ◌++◌, length, take, drop, refl, sym, ap, ◌∙◌, append_assoc, arith, ◌-◌, ◌≤◌, ◌<◌, None, Some, subst, inl, inr, suc, ◌*◌, ◌^◌, Bool, not, ◌∷◌, map, reverse, sum_by, get_or, add-one, All, length-set, set, mul-le-mul_right, append-nil, drop-drop, length-append, length-drop, length-take-le, take-append-drop, take-take}
 use Rattle.std.proofs.Math.Seq.{drop-nil}
+use Rattle.std.proofs.lemmas.List.{drop-set, drop-take, reverse-append, take-set, take_more_set}
+use Rattle.std.proofs.lemmas.List.Elements.{All-append, All-cons, All-drop, All-get_or, All-head, All-nil, All-same, All-set, All-tail, All-take}
+use Rattle.std.proofs.lemmas.List.Sums.{sum_by-append, sum_by-cons, sum_by_more_le}
+use Rattle.rdlpp_scan.specs.Bytes.{is_line_end}
+use Rattle.rdlpp_scan.specs.Front.{Break, front}
 use Rattle.rdlpp_scan.specs.Lines.{EndsLine, IsWholeLines, whole_lines_len}
-use Rattle.rdlpp_scan.proofs.LineLaws.{IsWholeLines-drop}
-use Rattle.rdlpp_scan.proofs.SourceLaws.{front-none, front-line_long, front-source_long}
+use Rattle.rdlpp_scan.specs.SourceTokens.{broken, line_ends, line_len, open_end, remaining_tokens, source_end, source_tokens}
+use Rattle.rdlpp_scan.specs.declared.token.Mode.{Mode}
+use Rattle.rdlpp_scan.specs.declared.token.Mode.TheVariants.{InBlock, InStr, Plain}
+use Rattle.rdlpp_scan.proofs.SourceLaws.{IsWholeLines-drop, front-line_long, front-none, front-source_long}
 use Rattle.rdlpp_scan.proofs.RemainingLaws.{remaining-accept}
-use Rattle.rdlpp_read.specs.Buffer.{BufferView, EndsHeld, ahead_of, held_of, rest_of, text_left, tokens_left, unread_of, unused_of}
+use Rattle.rdlpp_read.specs.Buffer.{BufferView, EndsHeld, Gains, MovesOver, Slides, ahead_of, closed_buffer, entered_mode, held_of, rest_of, text_left, tokens_left, unread_of, unused_of}
+use Rattle.rdlpp_read.specs.Files.{AreOpen, AreSlots, FilesView, IsClosed, IsSlot, held_bytes, held_windows, source_digits, torn_after}
 use Rattle.rdlpp_read.specs.Filling.{Fills, Grows, GrowsBy, HasBytes, IsExact, Lengthens, Stays, TellsTokens, ended_tokens, only_broken}
-use Rattle.rdlpp_read.proofs.Sliding.{slides-compact, slides-on, slides-same}
 use Rattle.rdlpp_read.specs.declared.buffer.filling.Fill.{Fill}
-use Rattle.rdlpp_read.specs.declared.buffer.filling.Fill.TheVariants.{Held, End, SourceLong, LineLong, Failed}
+use Rattle.rdlpp_read.specs.declared.buffer.filling.Fill.TheVariants.{End, Failed, Held, LineLong, SourceLong}
+use Rattle.rdlpp_read.specs.declared.files.File.{File}
+
+-- How the window of a source moves on over its text.
+
+-- nothing was gained and nothing was lost
+gains-none : (exact : Type 0) (old new : List ℕ) → old ≡ new → Gains exact [] old new
+gains-none exact old new same = record { rest = old; whole = refl; same = λ e. same }
+
+-- two gains are one, where the first lost nothing
+gains-on : (one two exact : Type 0) (a b old mid new : List ℕ) → one → (exact → two) → Gains one a old mid → Gains two b mid new → Gains exact (a ++ b) old new
+gains-on one two exact a b old mid new first exactly g h = record {
+  rest = h.rest;
+  whole = g.whole ∙ (ap (λ v. a ++ v) (g.same first ∙ h.whole) ∙ sym (append_assoc a b h.rest));
+  same = λ e. h.same (exactly e);
+}
+
+-- a gain of which less is asked
+gains-told : (exact own : Type 0) (gained old new : List ℕ) → (exact → own) → Gains own gained old new → Gains exact gained old new
+gains-told exact own gained old new exactly g = record { rest = g.rest; whole = g.whole; same = λ e. g.same (exactly e) }
+
+-- a window that stays
+pub slides-same : {R : Type 0} (tells exact : Type 0) (unread : R → List ℕ) (f : BufferView R) → Slides tells exact unread f f
+slides-same tells exact unread f = record { dropped = []; gained = []; window = append-nil f.window; used = omega arith; text = λ t. gains-none exact _ _ refl }
+
+-- a window that stays, where another thing changed
+pub slides-kept : {R : Type 0} (tells exact : Type 0) (unread : R → List ℕ) (old new : BufferView R) → new.window ≡ old.window → new.at ≡ old.at →
+    (exact → tells → unread_of unread old.reader ≡ unread_of unread new.reader) → Slides tells exact unread old new
+slides-kept tells exact unread old new window at text = record {
+  dropped = [];
+  gained = [];
+  window = append-nil old.window ∙ sym window;
+  used = omega arith;
+  text = λ t. record { rest = unread_of unread old.reader; whole = refl; same = λ e. text e t };
+}
+
+-- the lists of two moves
+joined : (w x y a b c d : List ℕ) → w ++ a ≡ b ++ x → x ++ c ≡ d ++ y → w ++ (a ++ c) ≡ (b ++ d) ++ y
+joined w x y a b c d e f = sym (append_assoc w a c) ∙ (ap (λ v. v ++ c) e ∙ (append_assoc b x c ∙ (ap (λ v. b ++ v) f ∙ sym (append_assoc b d y))))
+
+-- two moves are one, of which the first is exact
+pub slides-on : {R : Type 0} (tells one two exact then_exact : Type 0) (unread : R → List ℕ) (old mid new : BufferView R) → (tells → one) → (tells → two) → (exact → then_exact)
+    → Slides one Unit unread old mid → Slides two then_exact unread mid new → Slides tells exact unread old new
+slides-on tells one two exact then_exact unread old mid new t u exactly first then_ =
+    let used = first.used in
+    let more = then_.used in
+    record {
+      dropped = first.dropped ++ then_.dropped;
+      gained = first.gained ++ then_.gained;
+      window = joined old.window mid.window new.window first.gained first.dropped then_.gained then_.dropped first.window then_.window;
+      used = omega (arith, length-append first.dropped then_.dropped);
+      text = λ x. gains-on Unit then_exact exact first.gained then_.gained _ _ _ tt exactly (first.text (t x)) (then_.text (u x));
+    }
+
+-- the window lost used bytes in front
+pub slides-compact : {R : Type 0} (tells exact : Type 0) (unread : R → List ℕ) (old new : BufferView R) (dropped : List ℕ) → old.window ≡ dropped ++ new.window → length dropped + new.at ≡ old.at →
+    new.reader ≡ old.reader → Slides tells exact unread old new
+slides-compact tells exact unread old new dropped window used reader = record {
+  dropped = dropped;
+  gained = [];
+  window = append-nil old.window ∙ window;
+  used = used;
+  text = λ t. gains-none exact _ _ (ap (unread_of unread) (sym reader));
+}
+
+-- such a move where more is known, or less is asked
+pub slides-told : {R : Type 0} (tells own exact own_exact : Type 0) (unread : R → List ℕ) (old new : BufferView R) → (tells → own) → (exact → own_exact)
+    → Slides own own_exact unread old new → Slides tells exact unread old new
+slides-told tells own exact own_exact unread old new t exactly slides = record {
+  dropped = slides.dropped;
+  gained = slides.gained;
+  window = slides.window;
+  used = slides.used;
+  text = λ x. gains-told exact own_exact slides.gained _ _ exactly (slides.text (t x));
+}
+
+-- a window that slid, and of which nothing was used
+pub moves-slid : {R : Type 0} (tells exact : Type 0) (unread : R → List ℕ) (old new : BufferView R) → Slides tells exact unread old new → MovesOver tells exact unread [] old new
+moves-slid tells exact unread old new slides =
+    let used = slides.used in
+    record { dropped = slides.dropped; gained = slides.gained; window = slides.window; used = omega arith; text = slides.text }
+
+-- a window of which bytes were used
+pub moves-past : {R : Type 0} (tells exact : Type 0) (unread : R → List ℕ) (uses : List ℕ) (old new : BufferView R) → new.window ≡ old.window → new.at ≡ old.at + length uses → new.reader ≡ old.reader
+    → MovesOver tells exact unread uses old new
+moves-past tells exact unread uses old new window at reader =
+    record { dropped = []; gained = []; window = append-nil old.window ∙ sym window; used = omega (arith, at); text = λ t. gains-none exact _ _ (ap (unread_of unread) (sym reader)) }
+
+-- such a move where more is known, or less is asked
+pub moves-told : {R : Type 0} (tells own exact own_exact : Type 0) (unread : R → List ℕ) (uses : List ℕ) (old new : BufferView R) → (tells → own) → (exact → own_exact)
+    → MovesOver own own_exact unread uses old new → MovesOver tells exact unread uses old new
+moves-told tells own exact own_exact unread uses old new t exactly moves = record {
+  dropped = moves.dropped;
+  gained = moves.gained;
+  window = moves.window;
+  used = moves.used;
+  text = λ x. gains-told exact own_exact moves.gained _ _ exactly (moves.text (t x));
+}
+
+-- two such moves are one, of which the first is exact
+pub moves-on : {R : Type 0} (tells one two exact then_exact : Type 0) (unread : R → List ℕ) (x y : List ℕ) (old mid new : BufferView R) → (tells → one) → (tells → two) → (exact → then_exact)
+    → MovesOver one Unit unread x old mid → MovesOver two then_exact unread y mid new → MovesOver tells exact unread (x ++ y) old new
+moves-on tells one two exact then_exact unread x y old mid new t u exactly first then_ =
+    let used = first.used in
+    let more = then_.used in
+    record {
+      dropped = first.dropped ++ then_.dropped;
+      gained = first.gained ++ then_.gained;
+      window = joined old.window mid.window new.window first.gained first.dropped then_.gained then_.dropped first.window then_.window;
+      used = omega (arith, length-append first.dropped then_.dropped, length-append x y);
+      text = λ z. gains-on Unit then_exact exact first.gained then_.gained _ _ _ tt exactly (first.text (t z)) (then_.text (u z));
+    }
+
+-- the text that isn't used, where the first held bytes were used
+pub text-past : {R : Type 0} (unread : R → List ℕ) (old new : BufferView R) (len : ℕ) → held_of new ≡ drop len (held_of old) → rest_of unread new ≡ rest_of unread old →
+    text_left unread old ≡ take len (held_of old) ++ text_left unread new
+unfolding text_left
+text-past unread old new len held rest =
+    ap (λ v. v ++ rest_of unread old) (sym (take-append-drop len (held_of old)))
+    ∙ (append_assoc (take len (held_of old)) (drop len (held_of old)) (rest_of unread old)
+    ∙ (ap (λ v. take len (held_of old) ++ (v ++ rest_of unread old)) (sym held)
+    ∙ ap (λ v. take len (held_of old) ++ (held_of new ++ v)) (sym rest)))
+
+-- and where more were used behind
+pub text-on : (x y : List ℕ) (old mid new : List ℕ) → old ≡ x ++ mid → mid ≡ y ++ new → old ≡ (x ++ y) ++ new
+text-on x y old mid new first then_ = first ∙ (ap (λ v. x ++ v) then_ ∙ sym (append_assoc x y new))
+
+-- The tokens that remain of an open source, as lines are read, accepted and used.
 
 -- what is held ends at a line end, or where the text ends
 pub ends_line : {R : Type 0} (unread : R → List ℕ) (b : BufferView R) → EndsHeld b → EndsLine (held_of b) (rest_of unread b)
@@ -271,3 +400,164 @@ consumed_ends old new len line becomes ends = elim ends [
   | inl whole ↦ inl (rw (becomes, ← drop-drop len old.at (take old.accepted old.window)) (IsWholeLines-drop len (drop old.at (take old.accepted old.window)) whole))
   | inr none ↦ inr (rw becomes none.0, rw becomes none.1)
 ]
+
+-- The slots of the open sources, as one of them changes, opens or closes.
+
+-- an open slot changed
+pub slots-kept : {R : Type 0} (size first : ℕ) (slots : List (File R)) (f : File R) → AreSlots size first slots → IsSlot size f → AreSlots size first (set slots first f)
+slots-kept size first slots f s slot = record {
+  inside = (let inside = s.inside in omega (arith, length-set slots first f));
+  each = All-set (IsSlot size) slots first f slot s.each;
+  closed = All-same IsClosed (take first (set slots first f)) (take first slots) (take-set slots first f) s.closed;
+}
+
+-- one more slot was opened
+pub slots-entered : {R : Type 0} (size first : ℕ) (slots : List (File R)) (f : File R) → AreSlots size first slots → IsSlot size f → AreSlots size (first - 1) (set slots (first - 1) f)
+slots-entered size first slots f s slot = record {
+  inside = (let inside = s.inside in omega (arith, length-set slots (first - 1) f));
+  each = All-set (IsSlot size) slots (first - 1) f slot s.each;
+  closed = All-same IsClosed (take (first - 1) (set slots (first - 1) f)) (take (first - 1) (take first slots))
+      (take-set slots (first - 1) f ∙ sym (take-take (first - 1) first slots (omega arith))) (All-take IsClosed (first - 1) (take first slots) s.closed);
+}
+
+-- the innermost slot was closed
+pub slots-left : {R : Type 0} (size first : ℕ) (slots : List (File R)) (f : File R) → first < length slots → AreSlots size first slots → IsSlot size f → IsClosed f → AreSlots size (first + 1) (set slots first f)
+slots-left size first slots f more s slot closed = record {
+  inside = omega (arith, length-set slots first f);
+  each = All-set (IsSlot size) slots first f slot s.each;
+  closed = All-same IsClosed (take (first + 1) (set slots first f)) (take first slots ++ (f ∷ [])) (take_more_set slots first f more)
+      (All-append IsClosed (take first slots) (f ∷ []) s.closed (All-cons IsClosed f [] closed (All-nil IsClosed)));
+}
+
+-- some slot is open
+pub some-open : {R : Type 0} (first : ℕ) (slots : List (File R)) → 0 < length (drop first slots) → first < length slots
+some-open first slots some = omega (arith, length-drop first slots)
+
+-- the innermost slot
+pub slot-inner : {R : Type 0} (size first : ℕ) (slots : List (File R)) (f : File R) → AreSlots size first slots → 0 < length (drop first slots) → f ≡ get_or slots first f → IsSlot size f
+slot-inner size first slots f s some is = subst (IsSlot size) (sym is) (All-get_or (IsSlot size) slots first f (some-open first slots some) s.each)
+
+-- the open slots with one more
+pub entered-nest : {R : Type 0} (first : ℕ) (slots : List (File R)) (f : File R) → 0 < first → first ≤ length slots → drop (first - 1) (set slots (first - 1) f) ≡ f ∷ drop first slots
+entered-nest first slots f some inside =
+    let more : first - 1 < length slots = omega arith in
+    let back : first - 1 + 1 ≡ first = omega arith in
+    drop-set slots (first - 1) f more ∙ ap (λ k. f ∷ drop k slots) back
+
+-- the last byte says whether bytes end in LF
+pub torn-last : (torn : Bool) (bytes : List ℕ) (last : ℕ) → 0 < length bytes → last ≡ get_or bytes (length bytes - 1) 0 → torn_after torn bytes ≡ not (is_line_end last)
+unfolding torn_after
+torn-last torn [] last some is = absurd (omega arith)
+torn-last torn (b ∷ []) last some is = ap (λ x. not (is_line_end x)) (sym is)
+torn-last torn (b ∷ x ∷ bs) last some is =
+    let n = length bs in
+    let here : suc (suc n) - 1 ≡ suc n = omega arith in
+    let back : n ≡ suc n - 1 = omega arith in
+    torn-last (not (is_line_end b)) (x ∷ bs) last (omega arith) (is ∙ (ap (λ k. get_or (b ∷ x ∷ bs) k 0) here ∙ ap (λ k. get_or (x ∷ bs) k 0) back))
+
+-- one of the slots
+pub slot-at : {R : Type 0} (size at : ℕ) (slots : List (File R)) (f : File R) → All (IsSlot size) slots → at < length slots → f ≡ get_or slots at f → IsSlot size f
+slot-at size at slots f each more is = subst (IsSlot size) (sym is) (All-get_or (IsSlot size) slots at f more each)
+
+-- a slot that was just made
+pub closed-slot : {R : Type 0} (size : ℕ) (f : File R) → f.buffer ≡ closed_buffer 0 size → f.shift.number ≡ 0 → IsSlot size f
+unfolding closed_buffer
+closed-slot size f closed number = record {
+  size = ap (λ b. b.line_bytes) closed;
+  buffer = rw closed (record { used = omega arith; lines = omega arith; within = omega arith; counts = omega arith; opened = omega arith });
+  ends = none_ends f.buffer (ap (λ b. b.accepted) closed);
+  number = omega arith;
+}
+
+-- it has no reader
+pub closed-reader : {R : Type 0} (size : ℕ) (f : File R) → f.buffer ≡ closed_buffer 0 size → IsClosed f
+unfolding closed_buffer
+closed-reader size f closed = ap (λ b. b.reader) closed
+
+-- slots of which none is open
+pub slots-made : {R : Type 0} (size first : ℕ) (slots : List (File R)) → length slots ≡ first → All (IsSlot size) slots → All IsClosed slots → AreSlots size first slots
+slots-made size first slots all each closed = record {
+  inside = omega arith;
+  each = each;
+  closed = All-take IsClosed first slots closed;
+}
+
+-- the mode changes nothing of what is held
+pub moded-ends : {R : Type 0} (old new : BufferView R) (next : Mode) → new ≡ entered_mode old next → EndsHeld old → EndsHeld new
+unfolding entered_mode held_of ahead_of
+moded-ends old new next becomes ends = rw becomes ends
+
+-- what is held of all slots is at most so much of each
+held-within : {R : Type 0} (size : ℕ) (slots : List (File R)) → All (IsSlot size) slots → held_bytes slots ≤ length slots * size
+held-within size [] each = omega arith
+held-within {R} size (f ∷ fs) each =
+    let slot : IsSlot size f = All-head (IsSlot size) f fs each in
+    let rest = held-within size fs (All-tail (IsSlot size) f fs each) in
+    let within = slot.buffer.within in
+    let same = slot.size in
+    let cut : held_bytes (f ∷ fs) ≡ length f.buffer.window + held_bytes fs = sum_by-cons (λ (g : File R). length g.buffer.window) f fs in
+    omega (arith, add-one)
+
+-- and so of the open ones
+pub held-bound : {R : Type 0} (files : FilesView R) → AreOpen files → held_bytes files.nest ≤ files.slots * files.line_bytes
+held-bound files open_ =
+    let few : length files.nest * files.line_bytes ≤ files.slots * files.line_bytes = mul-le-mul_right files.line_bytes open_.few in
+    let within = held-within files.line_bytes files.nest open_.each in
+    omega arith
+
+-- a part of what is held
+pub held-part : {R : Type 0} (files : FilesView R) (items : List (File R)) (i : ℕ) (f : File R) → items ≡ files.nest → AreOpen files → i < length items → f ≡ get_or items i f → held_bytes (take i items) + length f.buffer.window ≤ files.slots * files.line_bytes
+held-part {R} files items i f same open_ more is =
+    let size : File R → ℕ = λ g. length g.buffer.window in
+    let part : held_bytes (take i items) + size (get_or items i f) ≤ held_bytes items = sum_by_more_le size items i f more in
+    let whole : held_bytes items ≤ files.slots * files.line_bytes = rw same (held-bound files open_) in
+    let here : size f ≡ size (get_or items i f) = ap size is in
+    omega arith
+
+-- what an open source may still give, and one more, is a digit
+digits-below : {R : Type 0} (size : ℕ) (nest : List (File R)) → All (IsSlot size) nest → All (λ (d : ℕ). d < 2 ^ 31) (source_digits nest)
+unfolding source_digits unused_of
+digits-below size [] each = All-nil (λ (d : ℕ). d < 2 ^ 31)
+digits-below {R} size (f ∷ outer) each =
+    let P : ℕ → Type 0 = λ d. d < 2 ^ 31 in
+    let digit : File R → ℕ = λ g. unused_of g.buffer + 1 in
+    let slot : IsSlot size f = All-head (IsSlot size) f outer each in
+    let counts = slot.buffer.counts in
+    let here : P (digit f) = omega arith in
+    let rest : All P (source_digits outer) = digits-below size outer (All-tail (IsSlot size) f outer each) in
+    let cut : source_digits (f ∷ outer) ≡ source_digits outer ++ digit f ∷ [] = reverse-append (digit f ∷ []) (map digit outer) in
+    All-same P (source_digits (f ∷ outer)) (source_digits outer ++ digit f ∷ []) cut
+    (All-append P (source_digits outer) (digit f ∷ []) rest (All-cons P (digit f) [] here (All-nil P)))
+
+-- the open ones of the slots
+pub slots-open : {R : Type 0} (size first : ℕ) (slots : List (File R)) → (n : ℕ) → n ≡ length slots → AreSlots size first slots → AreOpen (record { nest = drop first slots; slots = n; line_bytes = size })
+slots-open size first slots n all s = record {
+  few = omega (arith, length-drop first slots);
+  each = All-drop (IsSlot size) first slots s.each;
+  digits = digits-below size (drop first slots) (All-drop (IsSlot size) first slots s.each);
+}
+
+-- all that is held, by the parts of it, the outermost first
+pub held_windows-len : {R : Type 0} (nest : List (File R)) → sum_by length (held_windows nest) ≡ held_bytes nest
+unfolding held_windows
+held_windows-len [] = refl
+held_windows-len {R} (f ∷ fs) =
+    let windows = map (λ (g : File R). g.buffer.window) fs in
+    let rest : sum_by length (reverse windows) ≡ held_bytes fs = held_windows-len fs in
+    let cut : reverse (f.buffer.window ∷ windows) ≡ reverse windows ++ f.buffer.window ∷ [] = reverse-append (f.buffer.window ∷ []) windows in
+    let parts : sum_by length (reverse windows ++ f.buffer.window ∷ []) ≡ sum_by length (reverse windows) + sum_by length (f.buffer.window ∷ []) = sum_by-append length (reverse windows) (f.buffer.window ∷ []) in
+    let one : sum_by length (f.buffer.window ∷ []) ≡ length f.buffer.window + 0 = sum_by-cons length f.buffer.window [] in
+    let whole : held_bytes (f ∷ fs) ≡ length f.buffer.window + held_bytes fs = sum_by-cons (λ (g : File R). length g.buffer.window) f fs in
+    ap (sum_by length) cut ∙ parts ∙ omega arith
+
+-- behind bytes and then bytes
+pub torn_after-append : (torn : Bool) (x y : List ℕ) → torn_after torn (x ++ y) ≡ torn_after (torn_after torn x) y
+unfolding torn_after
+torn_after-append torn [] y = refl
+torn_after-append torn (b ∷ x) y = torn_after-append (not (is_line_end b)) x y
+
+-- no byte changes nothing
+pub torn-none : (torn : Bool) (bytes : List ℕ) → length bytes ≡ 0 → torn ≡ torn_after torn bytes
+unfolding torn_after
+torn-none torn [] none = refl
+torn-none torn (b ∷ bs) none = absurd (omega arith)

@@ -1,20 +1,256 @@
--- How what is held of a source grows by reading on, and what then stands behind it.
-use Rattle.std.proofs.Common.{◌≡◌, ℕ, ◌+◌, ◌-◌, ◌≤◌, ◌<◌, Bool, true, List, [], ◌++◌, length, take, drop, false, Option, None, Some, refl, sym, ap, subst, ◌∙◌, arith, ◌⊎◌, inl, inr}
-use Rattle.std.proofs.lemmas.List.{append_assoc, drop_all, drop-drop, drop-append-le, length-append, length-drop, length-take, length-take-le, take-append-drop, take-append-le}
-use Rattle.std.proofs.Math.Seq.{take-add, take-append_seam}
-use Rattle.std.specs.Option.{IsSome, is_none}
-use Rattle.rdlpp_scan.specs.SourceTokens.{line_len}
-use Rattle.rdlpp_scan.specs.Lines.{EndsLine, IsWholeLines, whole_lines_len}
-use Rattle.rdlpp_scan.proofs.LineLaws.{IsWholeLines-append}
+-- How what is held of a source grows by reading on: its lines, and what stands behind it.
+use Rattle.std.proofs.Common.{◌≡◌, ℕ, ◌+◌, ◌-◌, ◌≤◌, List, length, take, drop, sym, ap, ◌∙◌, arith, zero, suc, ◌<◌, [], ◌∷◌, ◌++◌, refl, subst, Bool, true, false, cond, length-append, min, inl, inr, None, Some, Option, ◌⊎◌, IsSome, is_none, take-add, append-nil, append_assoc, drop-drop, length-drop, length-take, length-take-le, take-append-drop, take-take}
+use Rattle.std.specs.List.{copy_within}
+use Rattle.std.proofs.Math.Seq.{take-append_seam, take-length}
+use Rattle.std.proofs.lemmas.Bool.{cases_lt}
+use Rattle.std.proofs.lemmas.List.{drop-append-le, drop-take, drop_all, take-append-le}
+use Rattle.std.proofs.lemmas.List.Sums.{count_by-le-length}
+use Rattle.rdlpp_scan.specs.Bytes.{is_line_end}
+use Rattle.rdlpp_scan.specs.Lines.{EndsLine, IsWholeLines, onto_whole_lines, whole_lines_len}
+use Rattle.rdlpp_scan.specs.SourceTokens.{line_ends, line_len}
+use Rattle.rdlpp_scan.proofs.SourceLaws.{IsWholeLines-append, IsWholeLines-take, line_len-le, whole_lines_len-le}
 use Rattle.rdlpp_source.specs.declared.sources.Sources.{Ghosts}
 use Rattle.rdlpp_read.specs.Ahead.{IsPast}
+use Rattle.rdlpp_read.specs.Buffer.{BufferView, EndsHeld, IsBuffer, Slides, ahead_of, held_of, rest_of, unread_of, unused_of}
 use Rattle.rdlpp_read.specs.Calls.{SourcesRead}
-use Rattle.rdlpp_read.specs.Buffer.{BufferView, EndsHeld, IsBuffer, Slides, ahead_of, held_of, unread_of, rest_of, unused_of}
-use Rattle.rdlpp_read.specs.Filling.{Accepts, Finds, Grows, GrowsBy, IsExact, Lengthens, ReadsOn, Seeks, Searches, Stays, Stops, WaitsForLines, turns_left}
+use Rattle.rdlpp_read.specs.Filling.{Accepts, Finds, Grows, GrowsBy, IsExact, Lengthens, ReadsOn, Searches, Seeks, Stays, Stops, WaitsForLines, turns_left}
 use Rattle.rdlpp_read.specs.declared.buffer.filling.Fill.{Fill}
-use Rattle.rdlpp_read.specs.declared.buffer.filling.Fill.TheVariants.{Held, End, SourceLong, LineLong, Failed}
-use Rattle.rdlpp_read.proofs.FirstLines.{line-longer}
-use Rattle.rdlpp_read.proofs.Sliding.{slides-kept, slides-on, slides-same}
+use Rattle.rdlpp_read.specs.declared.buffer.filling.Fill.TheVariants.{End, Failed, Held, LineLong, SourceLong}
+use Rattle.rdlpp_read.proofs.BufferTokens.{slides-kept, slides-on, slides-same}
+
+-- Parts of a buffer of which the first bytes are held.
+
+-- what is held up to a place
+pub held_slice : (s a n : ℕ) (xs : List ℕ) → s ≤ a → a ≤ n → take (a - s) (drop s xs) ≡ drop s (take a (take n xs))
+held_slice s a n xs h k =
+    let m = a - s in
+    let f : s + m ≡ a = omega arith in
+    let first : drop s (take (s + m) xs) ≡ take m (drop s xs) = drop-take s m xs in
+    sym first ∙ (ap (λ j. drop s (take j xs)) f ∙ ap (drop s) (sym (take-take a n xs k)))
+
+-- what isn't used, moved to the front
+pub shifted : (s n : ℕ) (xs : List ℕ) → s ≤ n → n ≤ length xs → take (n - s) (copy_within xs s n 0) ≡ drop s (take n xs)
+shifted s n xs h k =
+    let m = n - s in
+    let f : s + m ≡ n = omega arith in
+    let first : drop s (take (s + m) xs) ≡ take m (drop s xs) = drop-take s m xs in
+    let whole : take m (copy_within xs s n 0) ≡ take m (drop s xs) =
+    take-append-le m (take m (drop s xs)) (drop (0 + m) xs) (omega (arith, length-take m (drop s xs), length-drop s xs)) ∙ take-take m m (drop s xs) (omega arith) in
+    whole ∙ (sym first ∙ ap (λ j. drop s (take j xs)) f)
+
+-- no more is held than the places say
+pub held_le : (s a n : ℕ) (xs : List ℕ) → length (drop s (take a (take n xs))) ≤ a - s
+held_le s a n xs = omega (arith, length-drop s (take a (take n xs)), length-take a (take n xs))
+
+-- what stands behind a place, of the first bytes
+pub ahead_slice : (s n : ℕ) (xs : List ℕ) → s ≤ n → take (n - s) (drop s xs) ≡ drop s (take n xs)
+ahead_slice s n xs h =
+    let m = n - s in
+    let f : s + m ≡ n = omega arith in
+    sym (drop-take s m xs) ∙ ap (λ j. drop s (take j xs)) f
+
+-- a text has no more line ends than bytes
+pub line_ends_le : (bytes : List ℕ) → line_ends bytes ≤ length bytes
+unfolding line_ends
+line_ends_le bytes = count_by-le-length is_line_end bytes
+
+-- How long the whole lines of a text are, by its parts.
+
+-- a byte in front of whole lines
+onto_some : (b n : ℕ) → 0 < n → onto_whole_lines b n ≡ suc n
+unfolding onto_whole_lines
+onto_some b zero h = absurd (omega arith)
+onto_some b (suc n) h = refl
+
+-- whole lines at the end count all before them
+pub whole-append-some : (xs ys : List ℕ) → 0 < whole_lines_len ys → whole_lines_len (xs ++ ys) ≡ length xs + whole_lines_len ys
+unfolding whole_lines_len
+whole-append-some [] ys h = omega arith
+whole-append-some (x ∷ xs) ys h =
+    let tail = whole-append-some xs ys h in
+    let some : 0 < whole_lines_len (xs ++ ys) = omega arith in
+    onto_some x (whole_lines_len (xs ++ ys)) some ∙ omega arith
+
+-- a tail without a line end counts nothing
+pub whole-append-none : (xs ys : List ℕ) → whole_lines_len ys ≡ 0 → whole_lines_len (xs ++ ys) ≡ whole_lines_len xs
+unfolding whole_lines_len
+whole-append-none [] ys h = h
+whole-append-none (x ∷ xs) ys h = ap (onto_whole_lines x) (whole-append-none xs ys h)
+
+-- from a place to the end
+pub to_end : (seen : ℕ) (bytes : List ℕ) → take (length bytes - seen) (drop seen bytes) ≡ drop seen bytes
+to_end seen bytes = rw (← length-drop seen bytes) (take-length (drop seen bytes))
+
+-- whole lines behind the first `seen` bytes are seen in the whole text
+pub found_behind : (seen : ℕ) (bytes : List ℕ) → 0 < whole_lines_len (take (length bytes - seen) (drop seen bytes)) → 0 < whole_lines_len bytes
+found_behind seen bytes some =
+    let all = whole-append-some (take seen bytes) (drop seen bytes) (rw to_end at some) in
+    let whole = rw (take-append-drop seen bytes) at all in
+    let more = rw to_end at some in
+    omega arith
+
+-- no line end in the first `seen` bytes and none behind them
+pub none_behind : (seen : ℕ) (bytes : List ℕ) → whole_lines_len (take seen bytes) ≡ 0 → whole_lines_len (take (length bytes - seen) (drop seen bytes)) ≡ 0 → whole_lines_len bytes ≡ 0
+none_behind seen bytes before none =
+    let all = whole-append-none (take seen bytes) (drop seen bytes) (rw to_end at none) in
+    let whole = rw (take-append-drop seen bytes) at all in
+    whole ∙ before
+
+-- the whole lines within the first bytes are whole lines of the text
+pub whole_within : (room : ℕ) (bytes : List ℕ) → IsWholeLines (take (whole_lines_len (take room bytes)) bytes)
+whole_within room bytes =
+    let n = whole_lines_len (take room bytes) in
+    let less : n ≤ room = omega (arith, whole_lines_len-le (take room bytes), length-take room bytes) in
+    subst IsWholeLines (take-take n room bytes less) (IsWholeLines-take (take room bytes))
+
+-- The first line of a text, by its parts.
+
+-- whole lines behind a byte that is no line end
+after-byte : (b n : ℕ) → is_line_end b ≡ false → 0 < onto_whole_lines b n → 0 < n
+unfolding onto_whole_lines
+after-byte b zero e some = let none = rw e at some in absurd (omega arith)
+after-byte b (suc n) e some = omega arith
+
+-- a choice of nothing was no
+none-case : (v : Bool) → ◌≡◌ {A = ℕ} (cond v 1 0) 0 → v ≡ false
+none-case true h = absurd (omega arith)
+none-case false h = refl
+
+-- a byte that is no line end, and what follows has none
+none-byte : (b n : ℕ) → onto_whole_lines b n ≡ 0 → (is_line_end b ≡ false) × (n ≡ 0)
+unfolding onto_whole_lines
+none-byte b zero h = (none-case (is_line_end b) h, refl)
+none-byte b (suc n) h = absurd (omega arith)
+
+-- the first line goes on behind bytes without a line end
+pub line-more : (k : ℕ) (bytes : List ℕ) → whole_lines_len (take k bytes) ≡ 0 → k < length bytes → k < line_len bytes
+unfolding whole_lines_len line_len
+line-more k [] none more = absurd (omega arith)
+line-more zero (b ∷ bs) none more = elim (is_line_end b) as (λ v. 0 < cond v 1 (suc (line_len bs))) [ true ↦ omega arith | false ↦ omega arith ]
+line-more (suc k) (b ∷ bs) none more =
+    let parts = none-byte b (whole_lines_len (take k bs)) none in
+    let tail = line-more k bs parts.1 (omega arith) in
+    rw parts.0 (omega arith)
+
+-- the first line ends within whole lines
+pub line-within : (w r : List ℕ) → 0 < whole_lines_len w → line_len (w ++ r) ≤ length w
+unfolding whole_lines_len onto_whole_lines line_len
+line-within [] r some = absurd (omega arith)
+line-within (b ∷ bs) r some = elim (is_line_end b) as (λ v. is_line_end b ≡ v → cond v 1 (suc (line_len (bs ++ r))) ≤ suc (length bs)) [
+  | true ↦ λ e. omega arith
+  | false ↦ λ e. let tail = line-within bs r (after-byte b (whole_lines_len bs) e some) in omega arith
+] refl
+
+-- a text without line ends is one line
+none-line : (w : List ℕ) → whole_lines_len w ≡ 0 → length w ≤ line_len w
+unfolding whole_lines_len line_len
+none-line [] none = omega arith
+none-line (b ∷ bs) none =
+    let parts = none-byte b (whole_lines_len bs) none in
+    let tail = none-line bs parts.1 in
+    rw parts.0 (omega arith)
+
+-- the first line goes on behind the room, where the window has a line end but not within the room
+line-over : (room : ℕ) (w r : List ℕ) → whole_lines_len (take (min room (length w)) w) ≡ 0 → 0 < whole_lines_len w → room < line_len (w ++ r)
+line-over room w r none some =
+    let held : min room (length w) ≤ length w = omega arith in
+    let part : take (min room (length w)) (w ++ r) ≡ take (min room (length w)) w = take-append-le (min room (length w)) w r held in
+    elim (cases_lt room (length w)) [
+      | inr le ↦ absurd (let all : min room (length w) ≡ length w = omega arith in let whole = rw (all, take-length) at none in omega arith)
+      | inl lt ↦ (let less : min room (length w) ≡ room = omega arith in
+          let near : room ≤ length w = omega arith in line-more room (w ++ r) (rw take-append-le (rw less at none)) (omega (arith, length-append w r)))
+    ]
+
+-- the first line is too long, where none ends within the bytes that are left
+pub past-whole : (left : ℕ) (bytes : List ℕ) (ended : Bool) → whole_lines_len (take (min left (length bytes)) bytes) ≡ 0 → 0 < whole_lines_len bytes → IsPast bytes left ended
+past-whole left bytes ended none some = record {
+  within = λ more _. line-within bytes more some;
+  passes = λ more _. line-over left bytes more none some;
+}
+
+-- the last line is too long
+pub past-last : (left : ℕ) (bytes : List ℕ) → whole_lines_len bytes ≡ 0 → left < length bytes → IsPast bytes left true
+past-last left bytes none long = record {
+  within = λ more h. rw (h refl, append-nil) (line_len-le bytes);
+  passes = λ more h. rw (h refl, append-nil) (omega (arith, none-line bytes none));
+}
+
+-- a text goes on behind bytes without a line end
+pub line-longer : (bytes more : List ℕ) → whole_lines_len bytes ≡ 0 → 0 < length more → length bytes < line_len (bytes ++ more)
+line-longer bytes more none some = line-more (length bytes) (bytes ++ more) (rw take-append_seam none) (omega (arith, length-append bytes more))
+
+-- What one turn of reading does to an open source.
+
+-- the text has ended
+pub ended_turn : {R : Type 0} (tells : Type 0) (unread : R → List ℕ) (old new : BufferView R) (reader : R) →
+    old.reader ≡ Some reader → new ≡ record old { reader = None } → (tells → unread reader ≡ []) → length old.window ≤ old.line_bytes → ReadsOn tells unread old new
+unfolding unread_of
+ended_turn tells unread old new reader was becomes text within = record {
+  gained = [];
+  becomes = rw (becomes, append-nil) refl;
+  text = λ t. rw (was, becomes) (text t);
+  moves = inl (ap (λ f. f.reader) becomes);
+  within = rw becomes within;
+}
+
+-- bytes came
+pub gained_turn : {R : Type 0} (tells : Type 0) (unread : R → List ℕ) (old new : BufferView R) (reader next : R) (bytes : List ℕ) →
+    old.reader ≡ Some reader → new ≡ record old { window = old.window ++ bytes; reader = Some next } → 0 < length bytes →
+    (tells → unread reader ≡ bytes ++ unread next) → length old.window + length bytes ≤ old.line_bytes → ReadsOn tells unread old new
+unfolding unread_of
+gained_turn tells unread old new reader next bytes was becomes some text within = record {
+  gained = bytes;
+  becomes = rw becomes refl;
+  text = λ t. rw (was, becomes) (text t);
+  moves = inr some;
+  within = rw becomes (omega (arith, length-append old.window bytes));
+}
+
+-- a read failed
+pub failed_turn : {R : Type 0} (tells : Type 0) (unread : R → List ℕ) (old new : BufferView R) (reader next : R) →
+    old.reader ≡ Some reader → new ≡ record old { reader = Some next } → (tells → unread next ≡ unread reader) → Stops tells unread Failed old new
+unfolding unread_of
+failed_turn tells unread old new reader next was becomes text = record {
+  becomes = rw becomes refl;
+  kind = inl refl;
+  full = λ e. absurd (cc);
+  goes_on = λ e. absurd (cc);
+  failed = λ _ t. rw (was, becomes) (text t);
+}
+
+-- a full window goes on
+pub long_turn : {R : Type 0} (tells : Type 0) (unread : R → List ℕ) (old new : BufferView R) (reader next : R) →
+    old.reader ≡ Some reader → new ≡ record old { reader = Some next } → length old.window ≡ old.line_bytes →
+    (tells → 0 < length (unread reader)) → Stops tells unread LineLong old new
+unfolding unread_of
+long_turn tells unread old new reader next was becomes full text = record {
+  becomes = rw becomes refl;
+  kind = inr refl;
+  full = λ _. full;
+  goes_on = λ _ t. rw was (text t);
+  failed = λ e. absurd (cc);
+}
+
+-- a read that gave nothing with room found nothing left
+pub none_left : (xs ys to : List ℕ) (n : ℕ) → (xs ≡ take n to ++ ys) × (n ≡ 0 → 0 < length to → ys ≡ []) → n ≡ 0 → 0 < length to → xs ≡ []
+none_left xs ys to n h e bytes_left =
+    let none : ys ≡ [] = h.1 e bytes_left in
+    let taken : take n to ≡ [] = ap (λ j. take j to) e in
+    h.0 ∙ rw (taken, none) refl
+
+-- a read that gave something found some left
+pub some_left : (xs ys to : List ℕ) (n : ℕ) → (xs ≡ take n to ++ ys) × (n ≡ 0 → 0 < length to → ys ≡ []) → (n ≡ 0 → ⊥) → n ≤ length to → 0 < length xs
+some_left xs ys to n h e bytes_left =
+    let taken : length (take n to) ≡ n = length-take-le n to bytes_left in
+    let all : length xs ≡ length (take n to ++ ys) = ap length h.0 in
+    let some : 0 < n = omega arith in
+    omega (arith, length-append (take n to) ys)
+
+-- the window after a read
+pub window_after : (filled n : ℕ) (old new : List ℕ) → take filled new ≡ take filled old → take (filled + n) new ≡ take filled old ++ take n (drop filled new)
+window_after filled n old new kept = take-add filled n new ∙ ap (λ w. w ++ take n (drop filled new)) kept
+
+-- How what is held of a source grows by reading on, and what then stands behind it.
 
 -- before the first turn
 pub search-starts : {S R : Type 0} (g : Ghosts S R) (sources : S) (f : BufferView R) → f.accepted ≤ length f.window → EndsHeld f → Searches g sources sources f f 0

@@ -1,11 +1,3 @@
-pub mod Slices
-pub mod WholeLines
-pub mod FirstLines
-pub mod ReadFacts
-pub mod Sliding
 pub mod Growing
 pub mod BufferTokens
-pub mod Extending
-pub mod BlankFacts
-pub mod Slots
-pub mod LineArguments
+pub mod LogicalLines

@@ -1,9 +1,9 @@
 -- Texts without `//` comments, and without a lexical fault: their tokens, their fronts, and what is left of them.
-use Rattle.std.proofs.Common.{◌≡◌, ◌⊎◌, ℕ, zero, suc, ◌+◌, ◌<◌, ◌≤◌, Bool, true, false, not, cond, ◌&&◌, eqb, List, [], ◌∷◌, ◌++◌, Option, Some, length, get_or, take, drop, refl, sym, ap, ◌∙◌, subst, inl, inr, ⊎_elim, arith, ◌-◌, None}
-use Rattle.std.specs.List.{concat, filter, prefix_len, AllByRecursion}
-use Rattle.std.proofs.lemmas.Bool.{cond_both, false≢true, cases_Bool, cases_lt, or_cases, eqb-true, false_from_ne_true}
-use Rattle.std.proofs.lemmas.List.{append_assoc, append-nil, length-append, length-drop, length-take-le, drop-take, get_or-drop, take-take}
-use Rattle.std.proofs.Math.Seq.{take-add, take-append_seam, drop-append_seam}
+use Rattle.std.proofs.Common.{◌≡◌, ◌⊎◌, ℕ, zero, suc, ◌+◌, ◌<◌, ◌≤◌, Bool, true, false, not, cond, ◌&&◌, eqb, List, [], ◌∷◌, ◌++◌, Option, Some, length, get_or, take, drop, refl, sym, ap, ◌∙◌, subst, inl, inr, ⊎_elim, arith, ◌-◌, None, filter, eqb-true, append_assoc, append-nil, length-append, length-drop, length-take-le, get_or-drop, take-take, take-add}
+use Rattle.std.specs.List.{concat, prefix_len, AllByRecursion}
+use Rattle.std.proofs.lemmas.Bool.{cond_both, false≢true, cases_Bool, cases_lt, or_cases, false_from_ne_true}
+use Rattle.std.proofs.lemmas.List.{drop-take}
+use Rattle.std.proofs.Math.Seq.{take-append_seam, drop-append_seam}
 use Rattle.rdlpp_scan.specs.declared.token.Kind.TheVariants.{LineComment, Blank, LineEnd, Perl}
 use Rattle.rdlpp_scan.specs.declared.token.Mode.{Mode}
 use Rattle.rdlpp_scan.specs.declared.token.Mode.TheVariants.{Plain, InStr, InBlock}
@@ -15,13 +15,12 @@ use Rattle.rdlpp_scan.specs.Tokens.{whole, plain_token, token_of, tokens_from, s
 use Rattle.rdlpp_scan.specs.Pieces.{IsCut, tokens_len, mode_behind}
 use Rattle.rdlpp_scan.specs.LexFaults.{fault_of_tokens, is_perl, lex_fault_from, open_fault}
 use Rattle.rdlpp_scan.specs.Comments.{is_line_comment, other_tokens, other_texts, token_texts, without_line_comments}
-use Rattle.rdlpp_scan.proofs.TokenLens.{token_of-part, tokens_from-step, fault-perl, fault-next, fault-end}
+use Rattle.rdlpp_scan.proofs.StopKinds.{blank_token, block_token-kind, string_token-kind}
+use Rattle.rdlpp_scan.proofs.TokenLens.{Ending, InBlanks, InLine, InOther, fault-end, fault-next, fault-perl, token-ends, token_of-part, tokens_from-step}
 use Rattle.rdlpp_scan.proofs.Seams.{Seam, token_of-seam, line_end-ten, Closed, BeforePerl, OpenString, OpenComment, closed_seam}
-use Rattle.rdlpp_scan.proofs.StopKinds.{string_token-kind, block_token-kind}
 use Rattle.rdlpp_scan.proofs.RangeLaws.{tokens_from-first, tokens_from-front, tokens_from-behind_some, token_of-stays}
 use Rattle.rdlpp_scan.specs.TokenKinds.{opens_mode}
 use Rattle.rdlpp_scan.specs.CleanTexts.{IsCleanText, IsCleanToken, AreSpaces}
-use Rattle.rdlpp_scan.proofs.TokenEnds.{Ending, InBlanks, InLine, InOther, token-ends}
 
 -- A text without its `//` comments has the other tokens.
 
@@ -403,22 +402,11 @@ clean_without text ok =
     let K : List Token → Type 0 = λ ts. AreKept ts in
     record { faultless = without-fault Plain text ∙ ok; uncommented = subst K (sym (without-tokens Plain text)) (others_kept (tokens_from Plain 0 text)) }
 
--- a run of blanks is one token
-blank-first : (b : ℕ) (bs : List ℕ) → is_blank b ≡ true → token_of Plain (b ∷ bs) ≡ whole Blank (prefix_len is_blank (b ∷ bs))
-unfolding token_of plain_token begins_perl is_blank is_line_end
-blank-first b bs h =
-    let P : ℕ → Type 0 = λ n. token_of Plain (n ∷ bs) ≡ whole Blank (prefix_len is_blank (n ∷ bs)) in
-    ⊎_elim (λ h4. ⊎_elim (λ h3. ⊎_elim (λ h2. ⊎_elim
-    (λ e. subst P (sym (eqb-true b 32 e)) refl) (λ e. subst P (sym (eqb-true b 9 e)) refl) (or_cases _ _ h2))
-    (λ e. subst P (sym (eqb-true b 13 e)) refl) (or_cases _ _ h3))
-    (λ e. subst P (sym (eqb-true b 11 e)) refl) (or_cases _ _ h4))
-    (λ e. subst P (sym (eqb-true b 12 e)) refl) (or_cases _ _ h)
-
 pub blank-step : (b : ℕ) (bs : List ℕ) → is_blank b ≡ true → tokens_from Plain 0 (b ∷ bs) ≡ whole Blank (prefix_len is_blank (b ∷ bs)) ∷ tokens_from Plain 0 (drop (prefix_len is_blank (b ∷ bs)) (b ∷ bs))
 unfolding whole
 blank-step b bs h =
     let some : 0 < length (b ∷ bs) = omega arith in
-    tokens_from-step Plain (b ∷ bs) some (token_of-part Plain (b ∷ bs) some).not_empty ∙ ap (λ (u : Token). u ∷ tokens_from u.next_mode 0 (drop u.len (b ∷ bs))) (blank-first b bs h)
+    tokens_from-step Plain (b ∷ bs) some (token_of-part Plain (b ∷ bs) some).not_empty ∙ ap (λ (u : Token). u ∷ tokens_from u.next_mode 0 (drop u.len (b ∷ bs))) (blank_token b bs h)
 
 -- an LF is one token
 pub line-step : (b : ℕ) (bs : List ℕ) → is_line_end b ≡ true → tokens_from Plain 0 (b ∷ bs) ≡ whole LineEnd 1 ∷ tokens_from Plain 0 bs

@@ -1,28 +1,35 @@
--- Ordinary text, and tokens of a source that are those of the token table.
-use Rattle.std.proofs.Common.{◌≡◌, ℕ, zero, suc, ◌+◌, ◌<◌, ◌≤◌, true, false, List, [], ◌∷◌, ◌++◌, length, take, drop, refl, sym, ap, ◌∙◌, inl, inr, ⊎_elim, arith, Bool, cond, subst, bytes_eq, Option, None, Some}
-use Rattle.std.proofs.lemmas.Bool.{false≢true, cases_lt, cond_both}
-use Rattle.std.proofs.lemmas.List.{drop-drop, drop-append-le, take-append-le, take-append-drop, length-drop, length-take-le, append_assoc, drop_all}
-use Rattle.std.proofs.lemmas.List.Elements.{All-nil, All-cons}
+-- Ordinary text in a source, and passed byte by byte or block by block.
+use Rattle.std.proofs.Common.{◌≡◌, ℕ, zero, suc, ◌+◌, ◌<◌, ◌≤◌, true, false, List, [], ◌∷◌, ◌++◌, length, take, drop, refl, sym, ap, ◌∙◌, inl, inr, ⊎_elim, arith, Bool, cond, subst, bytes_eq, Option, None, Some, ◌*◌, ◌-◌, ◌^◌, ◌%◌, ◌||◌, eqb, eq-eqb, not, map, take-take, slice_index, get_or, replicate, w8, ◌&&◌, codes, nat_lt, mul_assoc, pow-suc, eqb-true, append_assoc, drop-drop, ext_get_or, length-drop, length-take, length-take-le, take-append-drop}
+use Rattle.std.specs.List.{prefix_len}
 use Rattle.std.proofs.Math.Seq.{take-length}
-use Rattle.std.specs.Prelude.{nat_lt, codes}
-use Rattle.rdlpp_scan.specs.declared.token.Kind.{Kind}
-use Rattle.rdlpp_scan.specs.declared.token.Kind.TheVariants.{Str, Back, BlockComment, LineComment, BareBackquote, Perl}
-use Rattle.rdlpp_scan.specs.declared.token.Mode.{Mode}
-use Rattle.rdlpp_scan.specs.declared.token.Mode.TheVariants.{Plain, InStr, InBlock}
-use Rattle.rdlpp_scan.specs.declared.token.Token.{Token}
-use Rattle.rdlpp_scan.specs.Tokens.{plain_len, stops_plain_text, token_of, first_place}
-use Rattle.rdlpp_scan.specs.SourceTokens.{SourceToken, Ordinary, Course, Next, line_ends, source_tokens, source_step, step_by, Definition, Step, Last, broken, logical_len, open_end, string_step, comment_step, define_step, line_step, back_step}
-use Rattle.rdlpp_scan.specs.Ordinary.{is_plain_kind, IsEdge, IsOrdinary, IsPlainToken}
-use Rattle.rdlpp_scan.proofs.Searches.{first_place-before, first_place-le, first_place-at}
-use Rattle.rdlpp_scan.proofs.TokenLens.{token_of-part}
-use Rattle.rdlpp_scan.proofs.LineLaws.{IsWholeLines-drop}
-use Rattle.rdlpp_scan.proofs.SourceLaws.{source_tokens-opened, source_tokens-next, line_ends-append}
-use Rattle.rdlpp_scan.proofs.StopKinds.{IsPlainPart, plain_token-plain, closed_kind_plain}
-use Rattle.rdlpp_scan.specs.Lines.{IsWholeLines, EndsLine}
+use Rattle.std.proofs.lemmas.Bool.{both_ways, cases_Bool, cases_lt, cond_both, false≢true, not-true, or_cases, or_parts}
+use Rattle.std.proofs.lemmas.List.{drop-append-le, drop_all, get_or-map, get_or_past, length-map, take-append-le, take-map}
+use Rattle.std.proofs.lemmas.List.Elements.{All-cons, All-nil}
+use Rattle.std.proofs.lemmas.List.Folds.{list_all_at}
+use Rattle.std.proofs.lemmas.Nat.{mod_low, one_shl}
+use Rattle.std.proofs.lemmas.Simd.{Each1-all, Each1-zip2, Each2-splat, SwzOk-from_below, first_set_mask_l, get_or-replicate, get_or-swz_l_below, get_or-zip2, length-chunk, length-swz_l, length-zip2, mask_l-lt, mask_l-mod, none_from_empty_mask, ones-mask_l, run_in_chunk_fails, run_in_chunk_le, tops_compared}
+use borrow.Rule.Simd.Moves.{SwzOk, swz_l}
+use lib.Bits.{and_le_r, bit_and}
+use lib.Count.{count_trailing_zeros, ones}
+use lib.Lanes.{chunk, mask_l, top, zip2}
+use Rattle.rdlpp_scan.specs.Bytes.{begins_block_comment, begins_line_comment, begins_perl, is_blank, is_closer, is_digit, is_letter, is_line_end, is_opener, is_quiet, is_word, takes_word}
+use Rattle.rdlpp_scan.specs.Front.{Breach, Break, CommentOpen, DefineCut, DefineLong, PerlFound, StringOpen}
+use Rattle.rdlpp_scan.specs.Lines.{EndsLine, IsWholeLines}
+use Rattle.rdlpp_scan.specs.Ordinary.{IsEdge, IsOrdinary, IsPlainToken, is_plain_kind}
 use Rattle.rdlpp_scan.specs.Pieces.{IsCut}
-use Rattle.rdlpp_scan.proofs.Seams.{IsCut-rest, IsCut-drop, stops-append, IsCut-from_line}
-use Rattle.rdlpp_scan.specs.Front.{Breach, PerlFound, StringOpen, CommentOpen, DefineLong, DefineCut, Break}
-use Rattle.rdlpp_scan.specs.TokenKinds.{opens_mode, is_ordinary}
+use Rattle.rdlpp_scan.specs.PlainTexts.{IsPassed, is_mark}
+use Rattle.rdlpp_scan.specs.SourceTokens.{Course, Definition, Last, Next, Ordinary, SourceToken, Step, back_step, broken, comment_step, define_step, line_ends, line_step, logical_len, open_end, source_step, source_tokens, step_by, string_step}
+use Rattle.rdlpp_scan.specs.TokenKinds.{is_ordinary, opens_mode}
+use Rattle.rdlpp_scan.specs.Tokens.{first_place, plain_len, plain_token, stops_plain_text, token_of, whole}
+use Rattle.rdlpp_scan.specs.declared.token.Kind.{Kind}
+use Rattle.rdlpp_scan.specs.declared.token.Kind.TheVariants.{Back, BareBackquote, BlockComment, LineComment, Name, Perl, Str}
+use Rattle.rdlpp_scan.specs.declared.token.Mode.{Mode}
+use Rattle.rdlpp_scan.specs.declared.token.Mode.TheVariants.{InBlock, InStr, Plain}
+use Rattle.rdlpp_scan.specs.declared.token.Token.{Token}
+use Rattle.rdlpp_scan.proofs.StopKinds.{IsPlainPart, both_first, closed_kind_plain, plain_token-plain}
+use Rattle.rdlpp_scan.proofs.SourceLaws.{IsWholeLines-drop, line_ends-append, line_ends-most, line_ends-part, source_tokens-next, source_tokens-opened}
+use Rattle.rdlpp_scan.proofs.Seams.{IsCut-drop, IsCut-from_line, IsCut-rest, stops-append}
+use Rattle.rdlpp_scan.proofs.TokenLens.{first_place-at, first_place-before, first_place-le, no_perl, quiet_at, token_of-part}
 
 -- Ordinary text goes through as it is.
 
@@ -264,3 +271,240 @@ unfolding source_step
 source_step_gives c Plain opened line bs = gives_token c line line Plain bs
 source_step_gives c InStr opened line bs = gives_token c opened line InStr bs
 source_step_gives c InBlock opened line bs = gives_token c opened line InBlock bs
+
+-- Ordinary text that is passed byte by byte and block by block.
+
+-- ordinary text goes on at a byte where it can't stop
+pub quiet_byte : (bytes : List ℕ) (at : ℕ) → is_mark (slice_index bytes at) ≡ false → stops_plain_text (drop at bytes) ≡ false
+unfolding is_mark
+quiet_byte bytes at h =
+    let b = slice_index bytes at in
+    let p = or_parts (eqb b 96 || eqb b 34 || eqb b 47) (eqb b 60) h in
+    quiet_at bytes at p.0 (no_perl bytes at p.1)
+
+-- no text has been passed yet
+pub passed_none : (bytes : List ℕ) → IsPassed bytes 0 0
+unfolding line_ends
+passed_none bytes = record { inside = omega arith; plain = λ j lt. absurd (omega arith); ends = refl }
+
+-- a part further, in which ordinary text can't stop
+pub passed_part : (bytes : List ℕ) (at count more lines : ℕ) → IsPassed bytes at count → at + more ≤ length bytes
+    → ((j : ℕ) → at ≤ j → j < at + more → is_mark (slice_index bytes j) ≡ false)
+    → lines ≡ line_ends (take more (drop at bytes)) → IsPassed bytes (at + more) (count + lines)
+passed_part bytes at count more lines before fits quiet is =
+    let same : at + more - at ≡ more = omega arith in
+    record {
+      inside = fits;
+      plain = λ j lt. ⊎_elim (λ less. before.plain j less) (λ past. quiet_byte bytes j (quiet j past lt)) (cases_lt j at);
+      ends = ap (λ n. n + lines) before.ends ∙ ap (λ n. line_ends (take at bytes) + n) (is ∙ ap (λ n. line_ends (take n (drop at bytes))) (sym same))
+          ∙ line_ends-part bytes at more;
+    }
+
+-- The bits of a mask.
+
+-- a mask is its first bits and those behind them
+mask_parts : (k : ℕ) (ms : List Bool) → k ≤ length ms → mask_l ms ≡ mask_l (drop k ms) * 2 ^ k + mask_l (take k ms)
+mask_parts zero ms le = omega arith
+mask_parts (suc k) [] le = absurd (omega arith)
+mask_parts (suc k) (m ∷ ms) le =
+    let e = mask_parts k ms (omega arith) in
+    let twice : mask_l (drop k ms) * 2 ^ suc k ≡ mask_l (drop k ms) * 2 ^ k * 2 = ap (λ n. mask_l (drop k ms) * n) (pow-suc 2 k) ∙ sym (mul_assoc (mask_l (drop k ms)) (2 ^ k) 2) in
+    omega (arith, e, twice)
+
+-- its first bits alone
+pub mask_front : (k : ℕ) (ms : List Bool) → k ≤ length ms → mask_l ms % 2 ^ k ≡ mask_l (take k ms)
+mask_front k ms le =
+    let long : length (take k ms) ≡ k = omega (arith, length-take k ms) in
+    ap (λ n. n % 2 ^ k) (mask_parts k ms le) ∙ mod_low (mask_l (drop k ms)) k (mask_l (take k ms)) (subst (λ n. mask_l (take k ms) < 2 ^ n) long (mask_l-lt (take k ms)))
+
+-- The marks of a block.
+
+-- the byte that is looked up for another one
+abbrev pub marks : List ℕ
+marks = 96 ∷ 0 ∷ 34 ∷ 0 ∷ 0 ∷ 0 ∷ 0 ∷ 0 ∷ 0 ∷ 0 ∷ 0 ∷ 0 ∷ 60 ∷ 0 ∷ 0 ∷ 47 ∷ []
+
+-- each of them is 0 or a mark
+known : (n : ℕ) → (eqb (get_or marks n 0) 0 || is_mark (get_or marks n 0)) ≡ true
+unfolding is_mark
+known n =
+    elim (cases_lt n 16) as (λ _. (eqb (get_or marks n 0) 0 || is_mark (get_or marks n 0)) ≡ true) [
+      | inl less ↦ elim (cases_Bool (eqb (get_or marks n 0) 0 || is_mark (get_or marks n 0))) [
+        | inl is ↦ is
+        | inr fails ↦ absurd (false≢true (sym (list_all_at (λ m. eqb m 0 || is_mark m) marks n 0 less fails)))
+      ]
+      | inr past ↦ ap (λ m. eqb m 0 || is_mark m) (get_or_past marks n 0 past)
+    ]
+
+-- a byte that is found there is a mark
+found_mark : (b : ℕ) → get_or marks (bit_and b 15) 0 ≡ b → is_mark b ≡ true
+found_mark b e =
+    elim (or_cases (eqb b 0) (is_mark b) (subst (λ m. (eqb m 0 || is_mark m) ≡ true) e (known (bit_and b 15)))) [
+      | inl zeroed ↦ absurd (
+          let z : b ≡ 0 = eqb-true b 0 zeroed in
+          let w : 96 ≡ 0 = subst (λ m. get_or marks (bit_and m 15) 0 ≡ m) z e in
+          omega (arith, w))
+      | inr is ↦ is
+    ]
+
+-- a mark is found there
+mark_is_found : (b : ℕ) → is_mark b ≡ true → get_or marks (bit_and b 15) 0 ≡ b
+unfolding is_mark
+mark_is_found b h =
+    let P : ℕ → Type 0 = λ m. get_or marks (bit_and m 15) 0 ≡ m in
+    elim (or_cases (eqb b 96 || eqb b 34 || eqb b 47) (eqb b 60) h) [
+      | inr e ↦ subst P (sym (eqb-true b 60 e)) refl
+      | inl h ↦ elim (or_cases (eqb b 96 || eqb b 34) (eqb b 47) h) [
+        | inr e ↦ subst P (sym (eqb-true b 47 e)) refl
+        | inl h ↦ elim (or_cases (eqb b 96) (eqb b 34) h) [
+          | inr e ↦ subst P (sym (eqb-true b 34 e)) refl
+          | inl e ↦ subst P (sym (eqb-true b 96 e)) refl
+        ]
+      ]
+    ]
+
+-- two tests of which each tells what the other does
+same_tests : (a b : Bool) → (a ≡ true → b ≡ true) → (b ≡ true → a ≡ true) → a ≡ b
+same_tests true true f g = refl
+same_tests true false f g = sym (f refl)
+same_tests false true f g = g refl
+same_tests false false f g = refl
+
+-- a byte is looked up by its last four bits, and is a mark where it is the one that is found
+pub mark_found : (b : ℕ) → eqb (get_or marks (bit_and b 15) 0) b ≡ is_mark b
+mark_found b =
+    same_tests (eqb (get_or marks (bit_and b 15) 0) b) (is_mark b)
+    (λ e. found_mark b (eqb-true (get_or marks (bit_and b 15) 0) b e))
+    (λ h. eq-eqb (get_or marks (bit_and b 15) 0) b (mark_is_found b h))
+
+-- the last four bits of each byte
+abbrev pub low : List ℕ → List ℕ
+low block = zip2 bit_and block (replicate 16 15)
+
+-- they are places among the marks
+pub low_inside : (block : List ℕ) → length block ≡ 16 → SwzOk w8 16 16 0 (low block)
+low_inside block long =
+    let small = Each1-all (λ a. bit_and a 15 < 16) (λ a. omega (arith, and_le_r a 15)) block in
+    SwzOk-from_below w8 16 1 16 0 (low block) refl (omega (arith, length-zip2 bit_and block (replicate 16 15) long))
+    (Each1-zip2 bit_and (λ j. j < 16) block (replicate 16 15) (Each2-splat (λ a b. bit_and a b < 16) block 16 15 small))
+
+-- what is found for a byte of a block
+found_at : (block : List ℕ) (i : ℕ) → length block ≡ 16 → i < 16 → get_or (swz_l w8 16 marks 0 (low block)) i 0 ≡ get_or marks (bit_and (get_or block i 0) 15) 0
+found_at block i long lt =
+    let is : get_or (low block) i 0 ≡ bit_and (get_or block i 0) 15 = get_or-zip2 bit_and block (replicate 16 15) i 0 0 0 (omega arith) lt ∙ ap (bit_and (get_or block i 0)) (get_or-replicate 16 i 15 0 lt) in
+    get_or-swz_l_below w8 16 marks 0 (low block) i (omega (arith, length-zip2 bit_and block (replicate 16 15) long)) (omega (arith, is, and_le_r (get_or block i 0) 15)) ∙ ap (λ k. get_or marks k 0) (omega (arith, is))
+
+-- which bytes of a block are the ones that are found for them
+marks_found : (block : List ℕ) → length block ≡ 16 → zip2 eqb (swz_l w8 16 marks 0 (low block)) block ≡ map is_mark block
+marks_found block long =
+    let like = swz_l w8 16 marks 0 (low block) in
+    let size : length like ≡ 16 = length-swz_l w8 16 marks 0 (low block) ∙ (length-zip2 bit_and block (replicate 16 15) long ∙ long) in
+    let same : length (zip2 eqb like block) ≡ length block = length-zip2 eqb like block (size ∙ sym long) ∙ (size ∙ sym long) in
+    ext_get_or false (zip2 eqb like block) (map is_mark block) (same ∙ sym (length-map block is_mark))
+    (λ i lt.
+    let less : i < 16 = omega (arith, same, long) in
+    get_or-zip2 eqb like block i 0 0 false (omega (arith, size)) (omega (arith, long))
+    ∙ (ap (λ m. eqb m (get_or block i 0)) (found_at block i long less)
+    ∙ (mark_found (get_or block i 0)
+    ∙ sym (get_or-map is_mark block i 0 false (omega (arith, long))))))
+
+-- the mask of the marks of a block
+pub marks_mask : (block : List ℕ) → length block ≡ 16
+    → mask_l (map (top 7) (zip2 (λ a b. cond (eqb a b) 255 0) (swz_l w8 16 marks 0 (low block)) block)) % 18446744073709551616 ≡ mask_l (map is_mark block)
+marks_mask block long =
+    ap (λ ms. mask_l ms % 2 ^ 64) (tops_compared w8 eqb (swz_l w8 16 marks 0 (low block)) block ∙ marks_found block long)
+    ∙ mask_l-mod (map is_mark block) 64 (omega (arith, length-map block is_mark, long))
+
+-- Blocks that are passed.
+
+-- a block without a mark
+pub quiet_block : (bytes : List ℕ) (at : ℕ) → at + 16 ≤ length bytes → mask_l (map is_mark (chunk at 16 bytes)) ≡ 0
+    → (j : ℕ) → at ≤ j → j < at + 16 → is_mark (get_or bytes j 0) ≡ false
+quiet_block bytes at inside none = none_from_empty_mask is_mark bytes at 16 0 inside none
+
+-- how many LF a block has
+pub block_ends : (block : List ℕ) → ones (mask_l (map is_line_end block)) ≡ line_ends block
+unfolding line_ends
+block_ends block = ones-mask_l is_line_end block
+
+-- how many LF stand in front of a block
+pub front_ends : (block : List ℕ) (len : ℕ) → len ≤ length block → ones (mask_l (map is_line_end block) % 2 ^ len) ≡ line_ends (take len block)
+front_ends block len le =
+    ap ones (mask_front len (map is_line_end block) (omega (arith, length-map block is_line_end)) ∙ ap mask_l (take-map is_line_end len block)) ∙ block_ends (take len block)
+
+-- where the first mark of a block stands, no mark stands before
+pub front_len : (bytes : List ℕ) (at len : ℕ) → at + 16 ≤ length bytes → len ≡ cond (eqb (mask_l (map is_mark (chunk at 16 bytes))) 0) 16 (count_trailing_zeros 64 (mask_l (map is_mark (chunk at 16 bytes))))
+    → (len ≤ 16) × ((j : ℕ) → at ≤ j → j < at + len → is_mark (get_or bytes j 0) ≡ false)
+front_len bytes at len inside is =
+    let found : len ≡ prefix_len (λ x. not (is_mark x)) (chunk at 16 bytes) = is ∙ first_set_mask_l is_mark (chunk at 16 bytes) 16 (length-chunk at 16 bytes inside) (omega arith) in
+    (run_in_chunk_le is_mark bytes at 16 len 0 inside found, run_in_chunk_fails is_mark bytes at 16 len 0 inside found)
+
+-- the first bit of the marks of a block
+pub first_front : (bytes : List ℕ) (at len marks : ℕ) → marks ≡ mask_l (map is_mark (chunk at 16 bytes)) → len ≡ cond (eqb marks 0) 16 (count_trailing_zeros 64 marks)
+    → len ≡ cond (eqb (mask_l (map is_mark (chunk at 16 bytes))) 0) 16 (count_trailing_zeros 64 (mask_l (map is_mark (chunk at 16 bytes))))
+first_front bytes at len marks is first = first ∙ ap (λ m. cond (eqb m 0) 16 (count_trailing_zeros 64 m)) is
+
+-- how many LF stand in front of a mark of a block
+pub front_lines : (bytes : List ℕ) (at len ends : ℕ) → at + 16 ≤ length bytes → len ≤ 16 → ends ≡ mask_l (map is_line_end (chunk at 16 bytes))
+    → ones (ends % (1 * 2 ^ len % 18446744073709551616)) ≡ line_ends (take len (drop at bytes))
+front_lines bytes at len ends inside few is =
+    let block = chunk at 16 bytes in
+    let long = length-chunk at 16 bytes inside in
+    ap (λ n. ones (ends % n)) (one_shl len 64 (omega arith)) ∙ ap (λ n. ones (n % 2 ^ len)) is ∙ front_ends block len (omega arith)
+    ∙ ap line_ends (take-take len 16 (drop at bytes) few)
+
+-- a block further, without a mark
+pub passed_block : (bytes : List ℕ) (at count marks ends : ℕ) → IsPassed bytes at count → at + 16 ≤ length bytes
+    → marks ≡ mask_l (map is_mark (chunk at 16 bytes)) → marks ≡ 0 → ends ≡ mask_l (map is_line_end (chunk at 16 bytes)) → IsPassed bytes (at + 16) (count + ones ends)
+passed_block bytes at count marks ends before inside is none told =
+    passed_part bytes at count 16 (ones ends) before inside (quiet_block bytes at inside (sym is ∙ none)) (ap ones told ∙ block_ends (chunk at 16 bytes))
+
+-- no more LF are counted than there are bytes
+pub passed_fits : (bytes : List ℕ) (len count : ℕ) → IsPassed bytes len count → count ≤ length bytes
+passed_fits bytes len count passed = omega (arith, passed.ends, passed.inside, line_ends-most bytes len)
+
+-- Bytes of which each is a blank or a token by itself: their tokens.
+
+-- a kind that is neither a name nor begins with a backquote
+unfoldable pub is_still : Kind → Bool
+is_still Name = false
+is_still Back = false
+is_still BareBackquote = false
+is_still _ = true
+
+-- a token of one byte that is neither a name nor a usage
+pub record IsQuietToken (t : Token) : Type 0 where
+  pub len : t.len ≡ 1
+  pub next : t.next_mode ≡ Plain
+  pub still : is_still t.kind ≡ true
+
+pub no_first : (p q : Bool) → (not p && q) ≡ true → (p ≡ false) × (q ≡ true)
+no_first true q h = absurd (false≢true h)
+no_first false q h = (refl, h)
+
+-- a byte that isn't a blank is a token by itself
+pub quiet_first : (b : ℕ) (bs : List ℕ) → is_quiet b ≡ true → is_blank b ≡ false → IsQuietToken (token_of Plain (b ∷ bs))
+unfolding token_of plain_token whole is_quiet is_still begins_perl begins_line_comment begins_block_comment
+quiet_first b bs quiet dark =
+    let letter = no_first (is_letter b) _ quiet in
+    let digit = no_first (is_digit b) _ letter.1 in
+    let takes = no_first (takes_word b) _ digit.1 in
+    let back = no_first (eqb b 96) _ takes.1 in
+    let quote = no_first (eqb b 34) _ back.1 in
+    let slash = no_first (eqb b 47) _ quote.1 in
+    let less = not-true (eqb b 60) slash.1 in
+    let c = get_or (b ∷ bs) 1 0 in
+    let P : Token → Type 0 = λ t. IsQuietToken t in
+    cond_both (begins_perl (b ∷ bs)) _ _ P (λ h. absurd (both_ways _ less (both_first _ _ h))) (λ _.
+    cond_both (is_line_end b) _ _ P (λ _. record { len = refl; next = refl; still = refl }) (λ _.
+    cond_both (is_blank b) _ _ P (λ h. absurd (both_ways _ dark h)) (λ _.
+    cond_both (begins_line_comment (b ∷ bs)) _ _ P (λ h. absurd (both_ways _ slash.0 (both_first _ _ h))) (λ _.
+    cond_both (begins_block_comment (b ∷ bs)) _ _ P (λ h. absurd (both_ways _ slash.0 (both_first _ _ h))) (λ _.
+    cond_both (eqb b 34) _ _ P (λ h. absurd (both_ways _ quote.0 h)) (λ _.
+    cond_both (is_letter b) _ _ P (λ h. absurd (both_ways _ letter.0 h)) (λ _.
+    cond_both (is_digit b) _ _ P (λ h. absurd (both_ways _ digit.0 h)) (λ _.
+    cond_both (takes_word b && is_word c) _ _ P (λ h. absurd (both_ways _ takes.0 (both_first _ _ h))) (λ _.
+    cond_both (eqb b 96 && _) _ _ P (λ h. absurd (both_ways _ back.0 (both_first _ _ h))) (λ _.
+    cond_both (eqb b 96) _ _ P (λ h. absurd (both_ways _ back.0 h)) (λ _.
+    cond_both (is_opener b) _ _ P (λ _. record { len = refl; next = refl; still = refl }) (λ _.
+    cond_both (is_closer b) _ _ P (λ _. record { len = refl; next = refl; still = refl }) (λ _.
+    cond_both (eqb b 44) _ _ P (λ _. record { len = refl; next = refl; still = refl }) (λ _. record { len = refl; next = refl; still = refl }))))))))))))))

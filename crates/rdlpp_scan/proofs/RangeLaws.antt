@@ -1,9 +1,9 @@
 -- The tokens of a range of a text, and of a text with more behind it.
-use Rattle.std.proofs.Common.{◌≡◌, ◌⊎◌, ℕ, suc, ◌+◌, ◌<◌, ◌≤◌, Bool, true, false, not, cond, ◌||◌, ◌&&◌, eqb, ltb, List, [], ◌∷◌, ◌++◌, length, get_or, take, drop, refl, sym, ap, ◌∙◌, subst, inl, inr, ⊎_elim, arith}
+use Rattle.std.proofs.Common.{◌≡◌, ◌⊎◌, ℕ, suc, ◌+◌, ◌<◌, ◌≤◌, Bool, true, false, not, cond, ◌||◌, ◌&&◌, eqb, ltb, List, [], ◌∷◌, ◌++◌, length, get_or, take, drop, refl, sym, ap, ◌∙◌, subst, inl, inr, ⊎_elim, arith, eqb-true, ltb-false, lt-ltb, ltb-true, append-nil, length-append, length-drop, get_or-drop, drop-drop, length-take, take-append-drop}
 use Rattle.std.specs.List.{prefix_len}
 use Rattle.std.proofs.Math.Bool.{and-false}
-use Rattle.std.proofs.lemmas.Bool.{eqb-true, ltb-false, lt-ltb, and_parts, or_parts, cond_both, ltb-true, false≢true}
-use Rattle.std.proofs.lemmas.List.{append-nil, length-append, length-drop, drop-append-le, get_or_past, get_or_append_left, get_or-drop, drop-drop, drop-take, length-take, take-append-drop}
+use Rattle.std.proofs.lemmas.Bool.{and_parts, or_parts, cond_both, false≢true}
+use Rattle.std.proofs.lemmas.List.{drop-append-le, get_or_past, get_or_append_left, drop-take, nil_from_length}
 use Rattle.rdlpp_scan.specs.declared.token.Kind.{Kind}
 use Rattle.rdlpp_scan.specs.declared.token.Kind.TheVariants.{Name, Word, Back, Blank, LineEnd, Str, LineComment, Opener, Closer, Comma, Other, Perl, BareBackquote}
 use Rattle.rdlpp_scan.specs.declared.token.Mode.{Mode}
@@ -133,10 +133,6 @@ agrees-string from xs ys fits ends =
     let picked : string_token from xs ≡ u (eqb byte 34) = elim (eqb byte 34) as P [ true ↦ closed | false ↦ goes_on ] refl (subst (λ (v : Token). EndsIn v xs) there ends) in
     picked ∙ sym there
 
-nothing_of : (ys : List ℕ) → length ys ≡ 0 → ys ≡ []
-nothing_of [] e = refl
-nothing_of (y ∷ ys) e = absurd (omega arith)
-
 -- a block comment that ends in a front of a text
 agrees-block : (from : ℕ) (xs ys : List ℕ) → from ≤ length xs → Agrees xs (block_token from xs) (block_token from (xs ++ ys))
 unfolding block_at whole
@@ -155,7 +151,7 @@ agrees-block from xs ys fits ends =
     let same = comment_stop-front X ys (omega (arith, size)) in
     block_token-at from xs stop true (ap (λ i. from + i) same) (lt-ltb stop (length xs) (omega arith)) ∙ sym (there ∙ ap (block_at stop) e) in
     let goes_on : P false = λ e w.
-    let none : ys ≡ [] = nothing_of ys (omega (arith, ltb-false stop (length bs) e, w.inside, both)) in
+    let none : ys ≡ [] = nil_from_length ys (omega (arith, ltb-false stop (length bs) e, w.inside, both)) in
     ap (block_token from) (sym (append-nil xs) ∙ ap (λ z. xs ++ z) (sym none)) in
     elim b as P [ true ↦ closed | false ↦ goes_on ] refl (subst (λ (v : Token). EndsIn v xs) there ends)
 

@@ -1,8 +1,8 @@
 -- The tokens of a text that is cut at a line end, beside those of the whole text.
-use Rattle.std.proofs.Common.{◌≡◌, ℕ, suc, ◌+◌, ◌-◌, ◌<◌, ◌≤◌, Bool, true, false, not, cond, ◌||◌, ◌&&◌, eqb, ltb, List, [], ◌∷◌, ◌++◌, length, get_or, drop, refl, sym, ap, ◌∙◌, subst, inl, inr, ⊎_elim, arith, zero}
+use Rattle.std.proofs.Common.{◌≡◌, ℕ, suc, ◌+◌, ◌-◌, ◌<◌, ◌≤◌, Bool, true, false, not, cond, ◌||◌, ◌&&◌, eqb, ltb, List, [], ◌∷◌, ◌++◌, length, get_or, drop, refl, sym, ap, ◌∙◌, subst, inl, inr, ⊎_elim, arith, zero, eqb-true, lt-ltb, le-ltb, length-append, length-drop, get_or-drop, drop-drop}
 use Rattle.std.specs.List.{prefix_len, concat}
-use Rattle.std.proofs.lemmas.Bool.{eqb-true, lt-ltb, le-ltb, and_parts, cases_lt, false≢true, cases_Bool}
-use Rattle.std.proofs.lemmas.List.{length-append, length-drop, drop-append-le, get_or_past, get_or_append_left, get_or-drop, drop-drop, drop_all}
+use Rattle.std.proofs.lemmas.Bool.{and_parts, cases_lt, false≢true, cases_Bool}
+use Rattle.std.proofs.lemmas.List.{drop-append-le, get_or_past, get_or_append_left, drop_all}
 use Rattle.std.proofs.Math.Seq.{get_or-append_right, drop-append-add}
 use Rattle.std.proofs.Math.Bool.{and-false, or-true}
 use Rattle.rdlpp_scan.specs.declared.token.Kind.{Kind}
@@ -14,9 +14,8 @@ use Rattle.rdlpp_scan.specs.Bytes.{is_blank, is_line_end, is_letter, is_digit, i
 use Rattle.rdlpp_scan.specs.Tokens.{first_place, string_stop, whole, string_token, block_token, plain_token, token_of, stops_plain_text, tokens_from}
 use Rattle.rdlpp_scan.specs.Lines.{IsWholeLines, EndsLine}
 use Rattle.rdlpp_scan.specs.Pieces.{IsCut, AreCuts, mode_behind, tokens_of_pieces, is_open, join_onto, join_all, joined}
-use Rattle.rdlpp_scan.proofs.Searches.{first_place-le, string_stop-stop}
-use Rattle.rdlpp_scan.proofs.TokenLens.{string_stop-le, begins_block_comment-two, is_word-letter, IsPart, token_of-part, tokens_from-step}
-use Rattle.rdlpp_scan.proofs.LineLaws.{IsWholeLines-rest, IsWholeLines-one, IsWholeLines-drop}
+use Rattle.rdlpp_scan.proofs.TokenLens.{IsPart, begins_block_comment-two, first_place-le, is_word-letter, string_stop-le, string_stop-stop, token_of-part, tokens_from-step}
+use Rattle.rdlpp_scan.proofs.SourceLaws.{IsWholeLines-rest, IsWholeLines-one, IsWholeLines-drop}
 use Rattle.rdlpp_scan.specs.LexFaults.{is_perl}
 use Rattle.rdlpp_scan.proofs.StopKinds.{string_token-kind, block_token-kind}
 
@@ -62,7 +61,7 @@ ends_block_comment-append : (xs ys : List ℕ) → 0 < length xs → IsCut xs ys
 unfolding ends_block_comment
 ends_block_comment-append xs ys some cut = pair-append (λ n. eqb n 42) (λ n. eqb n 47) refl refl xs ys some cut
 
-run_none : (p : ℕ → Bool) (xs : List ℕ) → p (get_or xs 0 0) ≡ false → prefix_len p xs ≡ 0
+pub run_none : (p : ℕ → Bool) (xs : List ℕ) → p (get_or xs 0 0) ≡ false → prefix_len p xs ≡ 0
 run_none p [] h = refl
 run_none p (x ∷ xs) h = ap (λ t. cond t (1 + prefix_len p xs) 0) h
 

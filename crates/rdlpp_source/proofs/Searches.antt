@@ -1,17 +1,25 @@
--- The folder of a path, and a search that gives its answer.
-use Rattle.std.proofs.Common.{◌≡◌, ℕ, zero, suc, ◌+◌, Bool, true, false, ◌||◌, ◌==◌, cond, List, [], ◌∷◌, get_or, take, drop, refl, ap, sym, ◌∙◌, arith, add-one, ne_eqb, Result, Ok, Err, subst}
-use Rattle.std.proofs.lemmas.List.Folds.{list_any_none}
-use Rattle.std.proofs.lemmas.List.Elements.{All-from_get_or}
-use Rattle.std.proofs.lemmas.Str.Pattern.{NoCharPasses-char, drop_at_char}
+-- Searches: the folder of a path, and the answer that a search comes to.
+use Rattle.std.proofs.Common.{◌≡◌, ℕ, zero, suc, ◌+◌, true, false, ◌==◌, cond, List, [], ◌∷◌, get_or, take, drop, refl, ap, sym, ◌∙◌, arith, add-one, ne_eqb, Result, Ok, Err, subst, ◌-◌, ◌^◌, min, Bool, length, Option, None, Some, nat_lt}
+use Rattle.std.specs.Bool.{⊤}
+use Rattle.std.specs.List.{list_any}
 use Rattle.std.specs.Str.{NoCharPasses}
 use Rattle.std.specs.Str.Pattern.{HasCharAt}
-use Rattle.std.specs.List.{list_any}
-use Rattle.rdlpp_source.specs.Search.{folder_of}
+use Rattle.std.proofs.lemmas.Bool.{or_right}
+use Rattle.std.proofs.lemmas.List.Elements.{All-from_get_or}
+use Rattle.std.proofs.lemmas.List.Folds.{list_any_none}
+use Rattle.std.proofs.lemmas.Str.Pattern.{NoCharPasses-char, drop_at_char}
+use Rattle.rdlpp_source.specs.Asked.{Answered, Answers, Comes, Ends, Refused, Search, Wanted, asked_catalog, failed_search, first_search, folders_of, is_found, known_search, search_at, search_of, search_or, seen_failures, standing_at, standing_text, text_at, unread_of}
+use Rattle.rdlpp_source.specs.Counts.{Counts}
+use Rattle.rdlpp_source.specs.Search.{answer_at, answer_or, at_path, candidates, first_answer, folder_of}
+use Rattle.rdlpp_source.specs.Sources.{Answer, Finds, Gives, Missing, Overlong, Present, is_device, is_no_memory}
+use Rattle.rdlpp_source.specs.declared.asked.AskedTexts.{AskedTexts}
+use Rattle.rdlpp_source.specs.declared.asked.Standing.{Standing}
+use Rattle.rdlpp_source.specs.declared.asked.Standing.TheVariants.{Absent as Gone, Failed, Text}
+use Rattle.rdlpp_source.specs.declared.asked.Stop.{Stop}
+use Rattle.rdlpp_source.specs.declared.asked.Stop.TheVariants.{Absent as NotThere, Failed as NotOpened, NoMemory as NoRoom, PathTooLong as TooLong, Wanted as NotKnown}
 use Rattle.rdlpp_source.specs.declared.sources.Found.{Found}
 use Rattle.rdlpp_source.specs.declared.sources.SourceFault.{SourceFault}
-use Rattle.rdlpp_source.specs.declared.sources.SourceFault.TheVariants.{Absent, PathTooLong, Device, NoMemory}
-use Rattle.rdlpp_source.specs.Counts.{Counts}
-use Rattle.rdlpp_source.specs.Sources.{Answer, Gives, Finds, is_device, is_no_memory}
+use Rattle.rdlpp_source.specs.declared.sources.SourceFault.TheVariants.{Absent, Device, NoMemory, PathTooLong}
 
 -- The folder of a path ends with the last `/`.
 
@@ -19,10 +27,6 @@ use Rattle.rdlpp_source.specs.Sources.{Answer, Gives, Finds, is_device, is_no_me
 pub folder_of-none : (bs : List ℕ) → list_any (λ c. c == 47) bs ≡ false → folder_of bs ≡ []
 folder_of-none [] h = refl
 folder_of-none (b ∷ bs) h = ap (λ t. cond t (b ∷ folder_of bs) []) h
-
-or_right : (x y : Bool) → y ≡ true → (x || y) ≡ true
-or_right true y h = refl
-or_right false y h = h
 
 -- a list that has a `/` from some place on has one
 any-drop : (i : ℕ) (bs : List ℕ) → list_any (λ c. c == 47) (drop i bs) ≡ true → list_any (λ c. c == 47) bs ≡ true
@@ -86,3 +90,177 @@ refusals-from_Gives unread answer (Err NoMemory) n h = absurd h
 -- no device failed where a read gave bytes
 pub failures-from_Ok : (r : Result ℕ SourceFault) (k n : ℕ) → r ≡ Ok k → Counts (is_device r) n n
 failures-from_Ok r k n h = let P : Result ℕ SourceFault → Type 0 = λ t. Counts (is_device t) n n in subst P (sym h) refl
+
+-- A search that came to an answer gives the one of the catalog.
+
+-- what a search says of an answer: where it came to one, it is this
+abbrev Says : Search → Answer → Type 0
+Says (Answered found) answer = answer ≡ found
+Says Refused answer = ⊤
+Says (Wanted path) answer = ⊤
+
+known_says : (asks : Bool) (path : List ℕ) (s : Option Standing) → Says (known_search asks path s) (at_path path (standing_text s))
+known_says asks path (Some (Text text)) = refl
+known_says asks path (Some Gone) = refl
+known_says true path (Some Failed) = tt
+known_says false path (Some Failed) = refl
+known_says true path None = tt
+known_says false path None = refl
+
+cond_says : (b : Bool) (s t : Search) (x y : Answer) → Says s x → Says t y → Says (cond b s t) (cond b x y)
+cond_says true s t x y p q = p
+cond_says false s t x y p q = q
+
+at_says : (texts : AskedTexts) (path : List ℕ) → Says (search_at texts path) (answer_at (text_at texts) path)
+at_says texts path =
+    cond_says (nat_lt 1024 (length path)) (Answered Overlong) (cond (list_any (λ b. b == 10) path) (Answered Missing) (known_search texts.asks path (standing_at texts path)))
+    Overlong (cond (list_any (λ b. b == 10) path) Missing (at_path path (text_at texts path))) refl
+    (cond_says (list_any (λ b. b == 10) path) (Answered Missing) (known_search texts.asks path (standing_at texts path)) Missing (at_path path (text_at texts path)) refl
+    (known_says texts.asks path (standing_at texts path)))
+
+or_says : (s t : Search) (x y : Answer) → Says s x → Says t y → Says (search_or s t) (answer_or x y)
+or_says (Answered Missing) t x y p q = subst (λ (a : Answer). Says t (answer_or a y)) (sym p) q
+or_says (Answered Overlong) t x y p q = ap (λ (a : Answer). answer_or a y) p
+or_says (Answered (Present path text)) t x y p q = ap (λ (a : Answer). answer_or a y) p
+or_says Refused t x y p q = tt
+or_says (Wanted path) t x y p q = tt
+
+first_says : (texts : AskedTexts) (paths : List (List ℕ)) → Says (first_search texts paths) (first_answer (text_at texts) paths)
+first_says texts [] = refl
+first_says texts (path ∷ paths) =
+    or_says (search_at texts path) (first_search texts paths) (answer_at (text_at texts) path) (first_answer (text_at texts) paths) (at_says texts path) (first_says texts paths)
+
+says_finds : (s : Search) (answer : Answer) (r : Result (Found (List ℕ)) SourceFault) (wanted : Option (List ℕ)) → Says s answer → Answers s r wanted → Finds unread_of answer r
+says_finds s answer (Ok found) wanted says a = subst (λ (t : Search). Says t answer) a.0 says
+says_finds s answer (Err Absent) wanted says a = subst (λ (t : Search). Says t answer) a.0 says
+says_finds s answer (Err PathTooLong) wanted says a = subst (λ (t : Search). Says t answer) a.0 says
+says_finds s answer (Err Device) wanted says a = tt
+says_finds s answer (Err NoMemory) wanted says a = tt
+
+-- the first candidate at which a text stands ends a search
+pub found_or : (s next : Search) → is_found s ≡ true → is_found (search_or s next) ≡ true
+found_or (Answered Missing) next e = cc e
+found_or (Answered Overlong) next e = cc e
+found_or (Answered (Present path text)) next e = refl
+found_or Refused next e = cc e
+found_or (Wanted path) next e = cc e
+
+-- a search that is told as it ended within answers so
+pub answers_of : (s : Search) (within : Result (Found (List ℕ)) Stop) (r : Result (Found (List ℕ)) SourceFault) (wanted : Option (List ℕ))
+    → Comes s within → Ends within r wanted → Answers s r wanted
+answers_of s (Ok found) r wanted c e = subst (λ (t : Result (Found (List ℕ)) SourceFault). Answers s t wanted) (sym e.0) (c, e.1)
+answers_of s (Err NotThere) (Err fault) wanted c e = subst (λ (f : SourceFault). Answers s (Err f) wanted) (sym e.0) (c, e.1)
+answers_of s (Err TooLong) (Err fault) wanted c e = subst (λ (f : SourceFault). Answers s (Err f) wanted) (sym e.0) (c, e.1)
+answers_of s (Err NotOpened) (Err fault) wanted c e = subst (λ (f : SourceFault). Answers s (Err f) wanted) (sym e.0) (c ∙ ap failed_search (sym e.1))
+answers_of s (Err NoRoom) (Err fault) wanted c e = subst (λ (f : SourceFault). Answers s (Err f) wanted) (sym e.0) (c, e.1)
+answers_of s (Err (NotKnown path)) (Err fault) wanted c e = subst (λ (f : SourceFault). Answers s (Err f) wanted) (sym e.0) (c ∙ ap failed_search (sym e.1))
+answers_of s (Err NotThere) (Ok found) wanted c e = absurd e
+answers_of s (Err TooLong) (Ok found) wanted c e = absurd e
+answers_of s (Err NotOpened) (Ok found) wanted c e = absurd e
+answers_of s (Err NoRoom) (Ok found) wanted c e = absurd e
+answers_of s (Err (NotKnown path)) (Ok found) wanted c e = absurd e
+
+-- the search for a path gives what the catalog has
+pub finds_top : (texts : AskedTexts) (path : List ℕ) (r : Result (Found (List ℕ)) SourceFault) (wanted : Option (List ℕ))
+    → Answers (search_at texts path) r wanted → Finds unread_of ((asked_catalog texts).top path) r
+finds_top texts path r wanted a = says_finds (search_at texts path) (answer_at (text_at texts) path) r wanted (at_says texts path) a
+
+-- the search for a name gives what the catalog has
+pub finds_named : (texts : AskedTexts) (from name : List ℕ) (r : Result (Found (List ℕ)) SourceFault) (wanted : Option (List ℕ))
+    → Answers (search_of texts from name) r wanted → Finds unread_of ((asked_catalog texts).find from name) r
+finds_named texts from name r wanted a =
+    says_finds (search_of texts from name) (first_answer (text_at texts) (candidates (folders_of texts) from name)) r wanted (first_says texts (candidates (folders_of texts) from name)) a
+
+-- Sources that don't ask: no search fails at a device, and contracts see no failure.
+
+-- whether a search came to an answer
+is_answered : Search → Bool
+is_answered (Answered found) = true
+is_answered Refused = false
+is_answered (Wanted path) = false
+
+known_answered : (path : List ℕ) (s : Option Standing) → is_answered (known_search false path s) ≡ true
+unfolding is_answered
+known_answered path (Some (Text text)) = refl
+known_answered path (Some Gone) = refl
+known_answered path (Some Failed) = refl
+known_answered path None = refl
+
+cond_answered : (b : Bool) (s t : Search) → is_answered s ≡ true → is_answered t ≡ true → is_answered (cond b s t) ≡ true
+cond_answered true s t p q = p
+cond_answered false s t p q = q
+
+at_answered : (texts : AskedTexts) (path : List ℕ) → texts.asks ≡ false → is_answered (search_at texts path) ≡ true
+unfolding is_answered
+at_answered texts path e =
+    let known = known_search texts.asks path (standing_at texts path) in
+    cond_answered (nat_lt 1024 (length path)) (Answered Overlong) (cond (list_any (λ b. b == 10) path) (Answered Missing) known) refl
+    (cond_answered (list_any (λ b. b == 10) path) (Answered Missing) known refl
+    (subst (λ (asks : Bool). is_answered (known_search asks path (standing_at texts path)) ≡ true) (sym e) (known_answered path (standing_at texts path))))
+
+or_answered : (s t : Search) → is_answered s ≡ true → is_answered t ≡ true → is_answered (search_or s t) ≡ true
+unfolding is_answered
+or_answered (Answered Missing) t p q = q
+or_answered (Answered Overlong) t p q = refl
+or_answered (Answered (Present path text)) t p q = refl
+or_answered Refused t p q = p
+or_answered (Wanted path) t p q = p
+
+first_answered : (texts : AskedTexts) (paths : List (List ℕ)) → texts.asks ≡ false → is_answered (first_search texts paths) ≡ true
+unfolding is_answered
+first_answered texts [] e = refl
+first_answered texts (path ∷ paths) e = or_answered (search_at texts path) (first_search texts paths) (at_answered texts path e) (first_answered texts paths e)
+
+failed_unanswered : (wanted : Option (List ℕ)) → is_answered (failed_search wanted) ≡ false
+unfolding is_answered
+failed_unanswered None = refl
+failed_unanswered (Some path) = refl
+
+answered_unfailed : (s : Search) (r : Result (Found (List ℕ)) SourceFault) (wanted : Option (List ℕ)) → is_answered s ≡ true → Answers s r wanted → is_device r ≡ false
+answered_unfailed s (Ok found) wanted e a = refl
+answered_unfailed s (Err Absent) wanted e a = refl
+answered_unfailed s (Err PathTooLong) wanted e a = refl
+answered_unfailed s (Err Device) wanted e a = let bad = ap is_answered a in let none = failed_unanswered wanted in cc
+answered_unfailed s (Err NoMemory) wanted e a = refl
+
+-- the search for a path fails at no device where none is asked for
+pub top_unfailed : (texts : AskedTexts) (path : List ℕ) (r : Result (Found (List ℕ)) SourceFault) (wanted : Option (List ℕ))
+    → texts.asks ≡ false → Answers (search_at texts path) r wanted → is_device r ≡ false
+top_unfailed texts path r wanted e a = answered_unfailed (search_at texts path) r wanted (at_answered texts path e) a
+
+-- the search for a name fails at no device where none is asked for
+pub named_unfailed : (texts : AskedTexts) (from name : List ℕ) (r : Result (Found (List ℕ)) SourceFault) (wanted : Option (List ℕ))
+    → texts.asks ≡ false → Answers (search_of texts from name) r wanted → is_device r ≡ false
+named_unfailed texts from name r wanted e a =
+    answered_unfailed (search_of texts from name) r wanted (first_answered texts (candidates (folders_of texts) from name) e) a
+
+failures_seen : (asks rose : Bool) (old new : ℕ) → (asks ≡ false → rose ≡ false) → Counts rose old new → Counts rose (seen_failures asks old) (seen_failures asks new)
+unfolding seen_failures
+failures_seen true true old new quiet c = grind arith
+failures_seen true false old new quiet c = ap (λ n. min (n + 2) (2 ^ 64 - 1)) c
+failures_seen false true old new quiet c = let bad = quiet refl in cc
+failures_seen false false old new quiet c = refl
+
+-- what contracts see of the failures rises as they do
+pub failures_rise : (asks still rose : Bool) (old new : ℕ) → still ≡ asks → (asks ≡ false → rose ≡ false) → Counts rose old new
+    → Counts rose (seen_failures asks old) (seen_failures still new)
+failures_rise asks still rose old new same quiet c =
+    subst (λ (b : Bool). Counts rose (seen_failures asks old) (seen_failures b new)) (sym same) (failures_seen asks rose old new quiet c)
+
+-- a call of sources that don't ask fails at no device
+pub unasked : (asks still rose : Bool) (old new : ℕ) → asks ≡ false → Counts rose (seen_failures asks old) (seen_failures still new) → rose ≡ false
+unfolding seen_failures
+unasked true still rose old new e c = cc
+unasked false still false old new e c = refl
+unasked false true true old new e c = (let bad : ⊥ = omega (arith, c) in absurd bad)
+unasked false false true old new e c = (let bad : ⊥ = omega (arith, c) in absurd bad)
+
+-- after a call sources ask where they did
+pub still_asked : (asks still rose : Bool) (old new : ℕ) → Counts rose (seen_failures asks old) (seen_failures still new) → still ≡ asks
+unfolding seen_failures
+still_asked true true rose old new c = refl
+still_asked false false rose old new c = refl
+still_asked true false true old new c = (let bad : ⊥ = omega (arith, c) in absurd bad)
+still_asked true false false old new c = (let bad : ⊥ = omega (arith, c) in absurd bad)
+still_asked false true true old new c = (let bad : ⊥ = omega (arith, c) in absurd bad)
+still_asked false true false old new c = (let bad : ⊥ = omega (arith, c) in absurd bad)

@@ -216,7 +216,7 @@ impl AskedTexts {
     }
 
     // The source of a name in the first of the include folders that has it.
-    #[tactic(auto, using(crate::proofs::AskedSearches::found_or))]
+    #[tactic(auto, using(crate::proofs::Searches::found_or))]
     fn open_in_folders(&self, name: &str) -> Result<Found<AskedReader>, Stop>
         ensures { Comes (first_search self.now
             (map (λ folder. joined_path folder name.now) (folders_of self.now))) result }
@@ -231,7 +231,7 @@ impl AskedTexts {
     }
 
     // The source that a name of an include directive names.
-    #[tactic(auto, using(crate::proofs::AskedSearches::found_or))]
+    #[tactic(auto, using(crate::proofs::Searches::found_or))]
     fn open_named(&self, from: &str, name: &str) -> Result<Found<AskedReader>, Stop>
         ensures { Comes (search_of self.now from.now name.now) result }
     {

@@ -1,6 +1,5 @@
 -- The steps of an engine, by what they met.
-use Rattle.std.proofs.Common.{◌≡◌, ◌⊎◌, inl, inr, ℕ, ◌+◌, ◌≤◌, ◌<◌, Bool, true, false, ◌&&◌, ◌||◌, List, [], ◌∷◌, ◌++◌, Option, None, Some, Result, Ok, Err, length, refl, sym, ap, ◌∙◌, subst, arith, length-append}
-use Rattle.std.specs.Option.{is_some, option_map}
+use Rattle.std.proofs.Common.{◌≡◌, ◌⊎◌, inl, inr, ℕ, ◌+◌, ◌≤◌, ◌<◌, Bool, true, false, ◌&&◌, ◌||◌, List, [], ◌∷◌, ◌++◌, Option, None, Some, Result, Ok, Err, length, refl, sym, ap, ◌∙◌, subst, arith, length-append, is_some, option_map}
 use Rattle.rdlpp_source.specs.Counts.{Counts}
 use Rattle.rdlpp_source.specs.declared.sources.Sources.{Ghosts}
 use Rattle.rdlpp_meaning.specs.declared.fault.Fault.{Fault}
@@ -9,8 +8,7 @@ use Rattle.rdlpp_meaning.specs.declared.fault.FaultKind.TheVariants as fault
 use Rattle.rdlpp_meaning.specs.Meaning.{Passage, behind_bytes, leaves, outcome}
 use Rattle.rdlpp_meaning.specs.Outcome.{Told, told, Outcome, fails, gives}
 use Rattle.rdlpp_meaning.specs.State.{fault_at}
-use Rattle.rdlpp_meaning.proofs.Outputs.{outcome-behind_bytes}
-use Rattle.rdlpp_meaning.proofs.Passages.{outcome-leaves}
+use Rattle.rdlpp_meaning.proofs.Outcomes.{outcome-behind_bytes, outcome-leaves}
 use Rattle.rdlpp_read.specs.Buffer.{Slides, reading_line_of}
 use Rattle.rdlpp_read.specs.Calls.{SourcesRead}
 use Rattle.rdlpp_read.specs.Files.{inner_buffer, with_buffer}

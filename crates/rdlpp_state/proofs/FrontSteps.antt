@@ -1,8 +1,6 @@
 -- What is taken of the open sources, as steps of the engine.
-use Rattle.std.proofs.Common.{◌≡◌, ℕ, zero, suc, ◌+◌, ◌-◌, ◌^◌, ◌≤◌, ◌<◌, true, false, List, [], ◌∷◌, ◌++◌, length, take, drop, replicate, append_assoc, append-nil, Option, None, Some, Ok, refl, sym, ap, ◌∙◌, subst, inr, codes, arith}
-use Rattle.std.specs.List.{slice_range}
-use Rattle.std.specs.Prelude.{min, IfSome}
-use Rattle.std.proofs.lemmas.List.{take-take, drop-take, length-drop, length-take, take_rest}
+use Rattle.std.proofs.Common.{◌≡◌, ℕ, zero, suc, ◌+◌, ◌-◌, ◌^◌, ◌≤◌, ◌<◌, true, false, List, [], ◌∷◌, ◌++◌, length, take, drop, replicate, append_assoc, append-nil, Option, None, Some, Ok, refl, sym, ap, ◌∙◌, subst, inr, codes, arith, slice_range, min, IfSome, take-take, length-drop, length-take}
+use Rattle.std.proofs.lemmas.List.{drop-take, take_rest}
 use Rattle.std.proofs.Math.Seq.{drop-nil}
 use Rattle.rdlpp_source.specs.Sources.{Catalog}
 use Rattle.rdlpp_source.specs.declared.sources.Sources.{Ghosts}
@@ -24,7 +22,7 @@ use Rattle.rdlpp_meaning.specs.Outcome.{Told, fails}
 use Rattle.rdlpp_meaning.specs.Parts.{line_ends_of}
 use Rattle.rdlpp_meaning.specs.Profile.{define_fault, rules_of, with_fault}
 use Rattle.rdlpp_meaning.specs.State.{State, fault_at}
-use Rattle.rdlpp_meaning.proofs.OwedLineEnds.{line_ends_of-owed}
+use Rattle.rdlpp_meaning.proofs.Skipping.{line_ends_of-owed}
 use Rattle.rdlpp_read.specs.Buffer.{BufferView, entered_mode, held_of, reading_line_of, Slides}
 use Rattle.rdlpp_read.specs.Files.{AreOpen, FilesView, consumed_file, inner_buffer, with_buffer, with_inner}
 use Rattle.rdlpp_read.specs.Filling.{IsExact, Fills}
@@ -32,20 +30,18 @@ use Rattle.rdlpp_read.specs.LogicalLines.{IsExactLine, HoldsLine}
 use Rattle.rdlpp_read.specs.declared.buffer.extending.LogicalLine.TheVariants as line
 use Rattle.rdlpp_read.specs.declared.buffer.filling.Fill.TheVariants as fill
 use Rattle.rdlpp_read.specs.declared.files.File.{File}
-use Rattle.rdlpp_read.proofs.Slices.{line_ends_le}
+use Rattle.rdlpp_read.proofs.Growing.{line_ends_le}
 use Rattle.rdlpp_front.specs.Fronts.{AtBare, AtPerl, IsDirective, IsRefused, IsText, IsUsage, usage_name}
-use Rattle.rdlpp_front.proofs.Insides.{text_inside}
-use Rattle.rdlpp_front.proofs.SourcePassages.{held_entered}
+use Rattle.rdlpp_front.proofs.Insides.{held_entered, text_inside}
 use Rattle.rdlpp_conditions.specs.Conditions.{ConditionsView}
 use Rattle.rdlpp_state.specs.Calls.{SourcesCalled}
 use Rattle.rdlpp_state.specs.Engine.{EngineView, IsSoundEngine, is_open}
 use Rattle.rdlpp_state.specs.Failures.{MayGoOn}
-use Rattle.rdlpp_state.proofs.GoingOn.{own_failed, own_stops, read_stops}
+use Rattle.rdlpp_state.proofs.Stores.{KeepsParts, KeepsStores, keeps_owed, keeps_sources, keeps_stopped, own_failed, own_stops, parts_mode, parts_on, parts_slid, parts_used, read_stops}
 use Rattle.rdlpp_state.specs.Held.{IsBounded}
 use Rattle.rdlpp_state.specs.Standing.{AtOwed, AtSource, InSources, Nowhere, StandsIn}
 use Rattle.rdlpp_state.specs.Stored.{AreParts}
-use Rattle.rdlpp_read.proofs.Sliding.{slides-same, slides-told}
-use Rattle.rdlpp_state.proofs.Stores.{KeepsParts, KeepsStores, keeps_owed, keeps_sources, keeps_stopped, parts_mode, parts_on, parts_slid, parts_used}
+use Rattle.rdlpp_read.proofs.BufferTokens.{slides-same, slides-told}
 use Rattle.rdlpp_state.specs.Moves.{Defines, IsReady, IsUnowed, ReadsDefine, RefusesDefine, define_rest}
 use Rattle.rdlpp_state.specs.Marks.{MarksView, lends_line, lends_owed}
 use Rattle.rdlpp_state.specs.Owed.{OriginView, OwedView, TakesPiece, digits_of, line_ends_owed, nothing_owed, origin_bytes, origin_pieces, owed_bytes, owed_pieces, part_bytes}
@@ -59,12 +55,11 @@ use Rattle.rdlpp_state.specs.declared.phase.Phase.TheVariants.{Open}
 use Rattle.rdlpp_state.specs.declared.place.Place.{Place}
 use Rattle.rdlpp_state.specs.declared.place.Place.TheVariants.{Source, Text, Owed, End, Kept}
 use Rattle.rdlpp_usages.specs.Usages.{texts_left}
-use Rattle.rdlpp_state.proofs.IdleTexts.{text_idle}
-use Rattle.rdlpp_front.proofs.DefineLeft.{define_begins}
-use Rattle.rdlpp_state.proofs.PlaceFacts.{owed_position, source_position}
+use Rattle.rdlpp_state.proofs.Soundness.{inner_facts, text_idle, with_inner-length}
+use Rattle.rdlpp_front.proofs.TextLeft.{define_begins}
+use Rattle.rdlpp_state.proofs.LentPieces.{owed_position, source_position}
 use Rattle.rdlpp_state.proofs.EngineSteps.{IsSilent, kept_at, not_called, one_part, reaches_one, walks_failed, walks_fault, walks_lent}
 use Rattle.rdlpp_state.proofs.NestLeft.{nest_cut_define, nest_defined, nest_filled, nest_long_define, nest_long_line, nest_long_source, nest_refused, nest_refused_define, nest_text, nest_undefined, nest_unfilled, nest_unheld}
-use Rattle.rdlpp_state.proofs.Soundness.{inner_facts, with_inner-length}
 use Rattle.rdlpp_state.proofs.WorkFacts.{IsUsed, entered_unused, held_room, owed_falls, used_after, work_falls, work_same}
 
 -- another buffer for the innermost source changes no state

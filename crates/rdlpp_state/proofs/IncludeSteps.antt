@@ -1,34 +1,71 @@
--- Sources that are included, in the open ones: where one is opened, and where it ends.
-use Rattle.std.proofs.Common.{◌≡◌, ℕ, suc, ◌-◌, ◌≤◌, ◌<◌, Bool, true, false, not, ◌||◌, ◌==◌, List, [], ◌∷◌, ◌++◌, length, take, drop, None, refl, sym, ap, ◌∙◌, arith}
-use Rattle.std.specs.Prelude.{if◌then◌else◌}
+-- Sources that an `include` opens, and their end, as steps of the engine.
+use Rattle.std.proofs.Common.{◌≡◌, ℕ, suc, ◌-◌, ◌≤◌, ◌<◌, Bool, true, false, not, ◌||◌, ◌==◌, List, [], ◌∷◌, ◌++◌, length, take, drop, None, refl, sym, ap, ◌∙◌, arith, ◌+◌, Some, Result, Ok, Err, subst, ◌^◌, Option, inl, inr, IfSome, if◌then◌else◌, max, IsUtf8, length-drop}
 use Rattle.std.specs.Str.{is_utf8}
+use Rattle.std.proofs.lemmas.Bool.{or_right}
+use Rattle.std.proofs.lemmas.List.Elements.{All-head, All-same, All-tail}
+use Rattle.std.proofs.lemmas.Str.{IsUtf8-from_is_utf8}
 use Rattle.rdlpp_scan.specs.Bytes.{is_line_end}
+use Rattle.rdlpp_scan.specs.Front.{Breach}
 use Rattle.rdlpp_scan.specs.SourceTokens.{SourceToken, whole_tokens}
+use Rattle.rdlpp_scan.specs.declared.token.Directive.TheVariants.{Include}
+use Rattle.rdlpp_scan.specs.declared.token.Mode.{Mode}
 use Rattle.rdlpp_scan.specs.declared.token.Mode.TheVariants.{Plain}
 use Rattle.rdlpp_table.specs.Table.{Macro}
 use Rattle.rdlpp_table.specs.declared.limits.Limits.{Limits}
-use Rattle.rdlpp_source.specs.declared.sources.Found.{Found}
-use Rattle.rdlpp_conditions.specs.Conditions.{ConditionsView, own_conditions, place_of}
-use Rattle.rdlpp_meaning.specs.declared.fault.FaultKind.TheVariants.{IncludeName, PathTooLong, SourceNotFound, TooManyIncludes}
-use Rattle.rdlpp_meaning.specs.Meaning.{Passage, Progress, added_end, at_start_of, back_in, behind_bytes, goes_on, leaves, origin_line}
+use Rattle.rdlpp_meaning.specs.Meaning.{Passage, Progress, added_end, at_start_of, back_in, behind_bytes, goes_on, leaves, origin_line, unquoted}
 use Rattle.rdlpp_meaning.specs.Opened.{Waiting, all_resumed, unwound}
-use Rattle.rdlpp_meaning.specs.Outcome.{fails}
-use Rattle.rdlpp_meaning.specs.Resumed.{Live, Place, resumed}
-use Rattle.rdlpp_meaning.specs.State.{LongPath, NoSource, Rules, Source, State, fault_at, no_shift, shown_line}
-use Rattle.rdlpp_meaning.proofs.AddedEnds.{added_end-in_line, in_line, line_end_if}
-use Rattle.rdlpp_read.specs.Buffer.{BufferView, EndsHeld, ahead_of, held_of, opened_buffer, rest_of, text_left, tokens_left, unread_of}
-use Rattle.rdlpp_read.specs.Files.{consumed_file, entered_file, shift_of, torn_after}
-use Rattle.rdlpp_read.specs.Filling.{Fills}
+use Rattle.rdlpp_meaning.specs.Outcome.{Told, fails}
+use Rattle.rdlpp_meaning.specs.Output.{start_state}
+use Rattle.rdlpp_meaning.specs.Profile.{rules_of}
+use Rattle.rdlpp_meaning.specs.Resumed.{Live, Place as OwnPlace, resumed}
+use Rattle.rdlpp_meaning.specs.State.{LongPath, NoSource, Rules, Source, State, breach_kind, fault_at, no_shift, shown_line}
+use Rattle.rdlpp_meaning.specs.declared.fault.FaultKind.{FaultKind}
+use Rattle.rdlpp_meaning.specs.declared.fault.FaultKind.TheVariants.{IncludeName, PathTooLong, ReadFailed, SourceMemory, SourceNotFound, TooManyIncludes}
+use Rattle.rdlpp_meaning.proofs.Directives.{added_end-in_line, in_line, line_end_if}
+use Rattle.rdlpp_source.specs.Counts.{Counts}
+use Rattle.rdlpp_source.specs.Sources.{Catalog, Finds, is_device, is_no_memory}
+use Rattle.rdlpp_source.specs.declared.sources.Found.{Found}
+use Rattle.rdlpp_source.specs.declared.sources.SourceFault.{SourceFault}
+use Rattle.rdlpp_source.specs.declared.sources.SourceFault.TheVariants as source
+use Rattle.rdlpp_source.specs.declared.sources.Sources.{Ghosts}
+use Rattle.rdlpp_conditions.specs.Conditions.{ConditionsView, own_conditions, place_of}
+use Rattle.rdlpp_read.specs.Buffer.{BufferView, EndsHeld, Slides, ahead_of, held_of, opened_buffer, rest_of, text_left, tokens_left, unread_of, unused_of}
+use Rattle.rdlpp_read.specs.Files.{AreOpen, FilesView, IsSlot, consumed_file, entered_file, inner_buffer, shift_of, torn_after, with_buffer, with_inner}
+use Rattle.rdlpp_read.specs.Filling.{Fills, ended_tokens, only_broken}
 use Rattle.rdlpp_read.specs.declared.buffer.filling.Fill.TheVariants as fill
 use Rattle.rdlpp_read.specs.declared.files.File.{File}
-use Rattle.rdlpp_front.specs.Fronts.{HasString, LacksString, include_name}
+use Rattle.rdlpp_read.proofs.BufferTokens.{ended-text}
+use Rattle.rdlpp_front.specs.Fronts.{HasString, LacksString, include_name, word_of}
 use Rattle.rdlpp_front.specs.SourceLeft.{source_left}
-use Rattle.rdlpp_front.proofs.EndLeft.{ended_left}
-use Rattle.rdlpp_front.proofs.IncludeLeft.{include_absent_left, include_bad_left, include_deep_left, include_left, include_overlong_left, waiting_file, include_nameless_left}
-use Rattle.rdlpp_state.specs.OpenConditionals.{outer_open}
-use Rattle.rdlpp_state.specs.Remaining.{ending_behind, file_state, nest_left, nest_state, waiting_around}
-use Rattle.rdlpp_state.proofs.ConditionalPlaces.{live_place}
-use Rattle.rdlpp_state.proofs.NestLeft.{around, at_live, torn_consumed, waiting_same}
+use Rattle.rdlpp_front.proofs.TextLeft.{ended_left}
+use Rattle.rdlpp_front.proofs.DirectivesLeft.{include_absent_left, include_bad_left, include_deep_left, include_left, include_nameless_left, include_overlong_left, waiting_file}
+use Rattle.rdlpp_state.specs.Calls.{SourcesCalled}
+use Rattle.rdlpp_state.specs.Conditionals.{unclosed_fault}
+use Rattle.rdlpp_state.specs.Engine.{AreIncluded, EngineView}
+use Rattle.rdlpp_state.specs.Held.{IsBounded}
+use Rattle.rdlpp_state.specs.Includes.{BadName, Denies, Full, IsSearch, Refuses, Searches, included_engine, inner_path, is_bad_name, kind_of_source, left_engine, marks_behind, owed_behind}
+use Rattle.rdlpp_state.specs.Marks.{MarksView, ends_line}
+use Rattle.rdlpp_state.specs.Moves.{Closes, Ends, IsReady, Returns, StopsOpen, StopsUnclosed}
+use Rattle.rdlpp_state.specs.OpenConditionals.{inner_below, outer_open}
+use Rattle.rdlpp_state.specs.Owed.{OwedView, nothing_owed, origin_owed, origin_pieces, owed_bytes, owed_pieces}
+use Rattle.rdlpp_state.specs.Pieces.{IsPlaced, lent_answer, step_answer}
+use Rattle.rdlpp_state.specs.Positions.{BehindSource, Unmarked}
+use Rattle.rdlpp_state.specs.Remaining.{ending_behind, file_state, find_of, inner_name, lookup_of, nest_left, nest_state, run_rules, source_rules, state_of, waiting_around}
+use Rattle.rdlpp_state.specs.Standing.{InSources, Nowhere}
+use Rattle.rdlpp_state.specs.Steps.{IsOwn, OnSearch, Walks, is_call_failed, is_memory_kind, is_read_failed, is_write_failed}
+use Rattle.rdlpp_state.specs.declared.phase.Phase.TheVariants.{Closed}
+use Rattle.rdlpp_state.specs.declared.place.Place.{Place}
+use Rattle.rdlpp_state.specs.declared.place.Place.TheVariants.{End, Kept, Owed, Source as SourcePlace, Text}
+use Rattle.rdlpp_state.proofs.NestLeft.{around, at_live, conditions_live, inner_below-same, live_place, nest_ended, nest_open, none_held, torn_consumed, waiting_same}
+use Rattle.rdlpp_state.proofs.EngineSteps.{kept_at, not_called, walks_end, walks_stopped}
+use Rattle.rdlpp_state.proofs.FrontSteps.{Fails, IsRead, keeps_fault, keeps_files, keeps_moves, kept_text, left_by, lends_by, read_nothing, read_text, refuses, refuses_by, text_unowed}
+use Rattle.rdlpp_state.proofs.Stores.{KeepsStores, keeps_searched, own_kind, parts_around, parts_entered}
+use Rattle.rdlpp_state.proofs.LentPieces.{owed_few, owed_origin, owed_torn}
+use Rattle.rdlpp_state.proofs.SkippedNests.{unclosed_at}
+use Rattle.rdlpp_state.proofs.Soundness.{inner_facts, with_inner-length}
+use Rattle.rdlpp_state.proofs.WorkFacts.{entered_falls, left_falls, used_bytes}
+
+-- Sources that are included, in the open ones: where one is opened, and where it ends.
 
 -- whether a text ends in mid-line, by its bytes
 torn_is : (torn : Bool) (bs : List ℕ) → torn_after torn bs ≡ in_line torn bs
@@ -51,7 +88,7 @@ unfolding own_conditions
 none_own v n whole = let none : length v.open_now - n ≡ 0 = omega arith in ap (λ k. take k v.open_now) none
 
 -- the macros of a source that waits don't count
-macros_free : (rules : Rules) (ws : List Waiting) (a b : Waiting) (place : Place) (first : Bool) (ts : List SourceToken) (s : State) (macros : List Macro)
+macros_free : (rules : Rules) (ws : List Waiting) (a b : Waiting) (place : OwnPlace) (first : Bool) (ts : List SourceToken) (s : State) (macros : List Macro)
     → a ≡ record b { state = record b.state { macros = macros } } → all_resumed rules (a ∷ ws) place first ts s ≡ all_resumed rules (b ∷ ws) place first ts s
 unfolding all_resumed unwound back_in
 macros_free rules ws a b place first ts s macros same = rw same refl
@@ -65,7 +102,7 @@ module _ {R : Type 0} (limits : Limits) (rules : Rules) (unread : R → List ℕ
   unwinds f g outer os e =
       let s = nest_state limits macros v (g ∷ outer) in
       let ws = waiting_around limits rules unread (outer_open g.conditions_below v.open_now) g outer in
-      let next : Place → Passage = λ here.
+      let next : OwnPlace → Passage = λ here.
       behind_bytes (ending_behind rules unread f g) (goes_on (resumed rules here g.blanks (tokens_left unread g.buffer) s) (λ after. unwound rules ws after)) in
       rw e (ap next (sym (live_place g.conditions_below v live)))
 
@@ -79,7 +116,7 @@ module _ {R : Type 0} (limits : Limits) (rules : Rules) (unread : R → List ℕ
       let os = outer_open f.conditions_below v.open_now in
       let ws = waiting_around limits rules unread os f (g ∷ outer) in
       let place : place_of f.conditions_below v ≡ Live [] = live_place f.conditions_below v live ∙ ap Live (none_own v f.conditions_below own) in
-      ap (λ (here : Place). source_left rules unread ws here f s) place
+      ap (λ (here : OwnPlace). source_left rules unread ws here f s) place
       ∙ (ended_left rules unread ws f s tells new fills t plain
       ∙ unwinds f g outer os (all_own v.open_now f.conditions_below own))
 
@@ -143,7 +180,7 @@ module _ {R : Type 0} (limits : Limits) (rules : Rules) (unread : R → List ℕ
         state = file_state limits [] n (length outer) g;
         ending = ending_behind rules unread (included_file found f) g;
       } in
-      let all : List Waiting → Place → List SourceToken → State → Passage = λ us here ts u. all_resumed rules us here true ts u in
+      let all : List Waiting → OwnPlace → List SourceToken → State → Passage = λ us here ts u. all_resumed rules us here true ts u in
       let whole = whole_tokens limits.line_bytes limits.source_bytes text in
       let after = nest_state limits macros v (included_file found f ∷ g ∷ outer) in
       let place : place_of n v ≡ Live [] = live_place n v live ∙ ap Live (none_own v n refl) in
@@ -152,7 +189,7 @@ module _ {R : Type 0} (limits : Limits) (rules : Rules) (unread : R → List ℕ
       ∙ (ap (λ (us : List Waiting). all (w ∷ us) (Live []) (rules.tokens text) (at_start_of found.path.bytes s)) (sym (waiting_same limits rules unread (outer_open f.conditions_below v.open_now) f g outer (torn_consumed unread f stop 0) refl))
       ∙ (ap (λ (ts : List SourceToken). all (inner v.open_now) (Live []) ts (at_start_of found.path.bytes s)) tokens
       ∙ (ap (λ (u : State). all (inner v.open_now) (Live []) whole u) (starts_as f outer found stop)
-      ∙ (ap (λ (here : Place). all (inner v.open_now) here whole after) (sym place)
+      ∙ (ap (λ (here : OwnPlace). all (inner v.open_now) here whole after) (sym place)
       ∙ ap (λ (os : List Progress). all (inner os) (place_of n v) whole after) (sym (all_own v.open_now n refl))))))
 
   -- an `include` that finds a source: its origin line, where asked for, and then what remains with that source open inside of the others
@@ -224,3 +261,467 @@ module _ {R : Type 0} (limits : Limits) (rules : Rules) (unread : R → List ℕ
             at_live limits rules unread macros v live f outer _
             (include_overlong_left rules unread (around limits rules unread macros v f outer) (own_conditions f.conditions_below v) f s
             (record { some = some; ends = ends }) plain start stop has (limits.includes - length outer - 1) name left finds)
+
+-- An `include`, as steps of the engine: the source that it opens, or its fault.
+
+-- an `include` with its string
+pub string_inside : (held : List ℕ) (start stop : ℕ) → HasString held start stop → (start < stop) × (stop ≤ length held)
+string_inside held start stop has =
+    let n = length (word_of Include) in
+    let given = has.given in
+    let starts = has.starts in
+    let stops = has.stops in
+    let inside : n + has.to ≤ length held = omega (arith, given.inside, given.some, length-drop n held) in
+    (omega (arith, given.some), omega arith)
+
+-- what remains of the open sources at an `include`
+module _ {R : Type 0} (limits : Limits) (rules : Rules) (unread : R → List ℕ) (macros : List Macro) (v : ConditionsView) (live : v.skipped ≡ None) where
+  -- a fault at the line of the next byte
+  abbrev Refused : FaultKind → List (File R) → Type 0
+  Refused kind nest =
+      nest_left limits rules unread macros v nest ≡ leaves (fails (fault_at kind (inner_buffer nest).line [] (nest_state limits macros v nest))) (nest_state limits macros v nest)
+
+  refused_nameless : (nest : List (File R)) → 0 < length (held_of (inner_buffer nest)) → EndsHeld (inner_buffer nest) → (inner_buffer nest).mode ≡ Plain → LacksString (held_of (inner_buffer nest)) → Refused IncludeName nest
+  refused_nameless [] some ends plain lacks = absurd (none_held R some)
+  refused_nameless (f ∷ outer) some ends plain lacks = nest_include_nameless limits rules unread macros v live f outer some ends plain lacks
+
+  refused_bad : (nest : List (File R)) (start stop : ℕ) → 0 < length (held_of (inner_buffer nest)) → EndsHeld (inner_buffer nest) → (inner_buffer nest).mode ≡ Plain → HasString (held_of (inner_buffer nest)) start stop
+      → is_bad_name (include_name (held_of (inner_buffer nest)) start stop) ≡ true → Refused IncludeName nest
+  refused_bad [] start stop some ends plain has bad = absurd (none_held R some)
+  refused_bad (f ∷ outer) start stop some ends plain has bad = nest_include_bad limits rules unread macros v live f outer some ends plain start stop has bad
+
+  refused_full : (nest : List (File R)) (start stop : ℕ) → 0 < length (held_of (inner_buffer nest)) → EndsHeld (inner_buffer nest) → (inner_buffer nest).mode ≡ Plain → HasString (held_of (inner_buffer nest)) start stop
+      → is_bad_name (include_name (held_of (inner_buffer nest)) start stop) ≡ false → limits.includes + 1 ≤ length nest → Refused TooManyIncludes nest
+  refused_full [] start stop some ends plain has good full = absurd (none_held R some)
+  refused_full (f ∷ outer) start stop some ends plain has good full =
+      nest_include_deep limits rules unread macros v live f outer some ends plain start stop has good (omega arith)
+
+  refused_absent : (nest : List (File R)) (start stop : ℕ) → 0 < length (held_of (inner_buffer nest)) → EndsHeld (inner_buffer nest) → (inner_buffer nest).mode ≡ Plain → HasString (held_of (inner_buffer nest)) start stop
+      → is_bad_name (include_name (held_of (inner_buffer nest)) start stop) ≡ false → length nest < limits.includes + 1
+      → rules.find (inner_path nest) (include_name (held_of (inner_buffer nest)) start stop) ≡ NoSource → Refused SourceNotFound nest
+  refused_absent [] start stop some ends plain has good room finds = absurd (none_held R some)
+  refused_absent (f ∷ outer) start stop some ends plain has good room finds =
+      nest_include_absent limits rules unread macros v live f outer some ends plain start stop has good (omega arith) finds
+
+  refused_overlong : (nest : List (File R)) (start stop : ℕ) → 0 < length (held_of (inner_buffer nest)) → EndsHeld (inner_buffer nest) → (inner_buffer nest).mode ≡ Plain → HasString (held_of (inner_buffer nest)) start stop
+      → is_bad_name (include_name (held_of (inner_buffer nest)) start stop) ≡ false → length nest < limits.includes + 1
+      → rules.find (inner_path nest) (include_name (held_of (inner_buffer nest)) start stop) ≡ LongPath → Refused PathTooLong nest
+  refused_overlong [] start stop some ends plain has good room finds = absurd (none_held R some)
+  refused_overlong (f ∷ outer) start stop some ends plain has good room finds =
+      nest_include_overlong limits rules unread macros v live f outer some ends plain start stop has good (omega arith) finds
+
+  -- a source that is found is open inside of the others
+  opened_inside : (nest : List (File R)) (found : Found R) (start stop line_bytes : ℕ) → 0 < length (held_of (inner_buffer nest)) → EndsHeld (inner_buffer nest) → (inner_buffer nest).mode ≡ Plain
+      → HasString (held_of (inner_buffer nest)) start stop → is_bad_name (include_name (held_of (inner_buffer nest)) start stop) ≡ false → length nest < limits.includes + 1
+      → rules.find (inner_path nest) (include_name (held_of (inner_buffer nest)) start stop) ≡ Source found.path.bytes (unread found.reader)
+      → rules.tokens (unread found.reader) ≡ whole_tokens limits.line_bytes limits.source_bytes (unread found.reader)
+      → line_bytes ≡ limits.line_bytes
+      → nest_left limits rules unread macros v nest
+      ≡ behind_bytes (origin_line rules found.path.bytes 1)
+      (nest_left limits rules unread macros v (entered_file found limits.source_bytes line_bytes (length v.open_now) (inner_buffer nest).line ∷ with_inner (consumed_file stop 0) nest))
+  opened_inside [] found start stop line_bytes some ends plain has good room finds tokens size = absurd (none_held R some)
+  opened_inside (f ∷ outer) found start stop line_bytes some ends plain has good room finds tokens size =
+      let left : limits.includes - length outer ≡ suc (limits.includes - length outer - 1) = omega arith in
+      let rest : ℕ → List (File R) = λ n. entered_file found limits.source_bytes n (length v.open_now) f.buffer.line ∷ consumed_file stop 0 f ∷ outer in
+      nest_included limits rules unread macros v live f outer found start stop (limits.includes - length outer - 1) some ends plain has good left finds tokens
+      ∙ ap (λ (n : ℕ). behind_bytes (origin_line rules found.path.bytes 1) (nest_left limits rules unread macros v (rest n))) (sym size)
+
+-- only the sources changed
+pub read_sources : {S R : Type 0} (g : Ghosts S R) (old mid : EngineView S R) → mid ≡ record old { sources = mid.sources } → IsRead g old mid
+read_sources {S} {R} g old mid becomes =
+    let files : mid.files ≡ old.files = ap (λ e. e.files) becomes in
+    let nothing : IsRead g old old = read_nothing old in
+    record {
+      becomes = becomes ∙ ap (λ (fs : FilesView R). record old { files = fs; sources = mid.sources }) (sym files);
+      only = subst (λ (fs : FilesView R). fs ≡ record old.files { nest = with_buffer (inner_buffer fs.nest) old.files.nest }) (sym files) nothing.only;
+      moves = subst (λ (fs : FilesView R). Slides (g.tells old.sources) ⊥ g.unread (inner_buffer old.files.nest) (inner_buffer fs.nest)) (sym files) nothing.moves;
+    }
+
+-- an `include` behind which no string stands that closes on its line
+pub left_nameless_include : {S R : Type 0} (g : Ghosts S R) (e : EngineView S R) → IsReady e → e.conditions.skipped ≡ None → 0 < length (held_of (inner_buffer e.files.nest)) → (inner_buffer e.files.nest).mode ≡ Plain
+    → LacksString (held_of (inner_buffer e.files.nest)) → Fails g e IncludeName (inner_buffer e.files.nest).line []
+unfolding state_of
+left_nameless_include g e ready live some plain lacks =
+    refused_nameless e.limits (run_rules g e) g.unread e.table.macros e.conditions live e.files.nest some (inner_facts e.files ready.nest ready.files).ends plain lacks
+
+-- an `include` whose string is given, behind the search for what it names
+module _ {S R : Type 0} (g : Ghosts S R) (old mid new : EngineView S R) (start stop : ℕ) (ready : IsReady old) (live : old.conditions.skipped ≡ None) (some : 0 < length (held_of (inner_buffer old.files.nest)))
+    (plain : (inner_buffer old.files.nest).mode ≡ Plain) (has : HasString (held_of (inner_buffer old.files.nest)) start stop) (bounded : IsBounded new) (becomes : mid ≡ record old { sources = mid.sources }) where
+  -- the name that is searched for
+  abbrev name_of : List ℕ
+  name_of = include_name (held_of (inner_buffer old.files.nest)) start stop
+
+  same_files : mid.files ≡ old.files
+  same_files = ap (λ e. e.files) becomes
+
+  -- a fault is kept
+  abbrev KeepsKind : FaultKind → Type 0
+  KeepsKind kind = new ≡ record mid { kept = Some (fault_at kind (inner_buffer mid.files.nest).line [] (state_of mid)) }
+
+  -- the text has a fault
+  refuse_steps : (place : Place) → place ≡ Kept → (kind : FaultKind) → IsOwn kind → SourcesCalled g false false old.sources mid.sources → KeepsKind kind
+      → (g.tells old.sources → Fails g old kind (inner_buffer old.files.nest).line []) → Walks g old new (lent_answer new place)
+  refuse_steps place is kind own call kept law =
+      let keeps : FilesView R → EngineView S R = λ fs. record mid { kept = Some (fault_at kind (inner_buffer fs.nest).line [] (state_of mid)) } in
+      refuses g old mid new place kind (inner_buffer old.files.nest).line [] ready (read_sources g old mid becomes) bounded is (kept ∙ ap keeps same_files) own call law
+
+  -- the search failed
+  stopped_steps : (place : Place) → place ≡ Kept → (kind : FaultKind) → is_call_failed kind ≡ true → is_write_failed kind ≡ false → SourcesCalled g (is_read_failed kind) (is_memory_kind kind) old.sources mid.sources
+      → KeepsKind kind → is_bad_name name_of ≡ false → length old.files.nest < old.files.slots → Walks g old new (lent_answer new place)
+  unfolding fault_at state_of
+  stopped_steps place is kind met write call kept good room =
+      let told : EngineView S R → Told = λ e. fault_at kind (inner_buffer e.files.nest).line [] (nest_state e.limits e.table.macros e.conditions e.files.nest) in
+      let r = read_sources g old mid becomes in
+      let files : new.files ≡ old.files = ap (λ e. e.files) kept ∙ same_files in
+      let sources : new.sources ≡ mid.sources = ap (λ e. e.sources) kept in
+      let P : S → Type 0 = λ s. SourcesCalled g (is_read_failed kind) (is_memory_kind kind) old.sources s in
+      let search : IsSearch new = record {
+        start = start;
+        stop = stop;
+        mode = ap (λ (fs : FilesView R). (inner_buffer fs.nest).mode) files ∙ plain;
+        has = subst (λ (fs : FilesView R). HasString (held_of (inner_buffer fs.nest)) start stop) (sym files) has;
+        name = ap (λ (fs : FilesView R). is_bad_name (include_name (held_of (inner_buffer fs.nest)) start stop)) files ∙ good;
+        room = subst (λ (fs : FilesView R). length fs.nest < fs.slots) (sym files) room;
+      } in
+      let nest : old.files.nest ≡ with_buffer (inner_buffer mid.files.nest) old.files.nest = sym (ap (λ (fs : FilesView R). fs.nest) same_files) ∙ ap (λ (fs : FilesView R). fs.nest) r.only in
+      kept_at g old new place (told mid) is (ap (λ e. e.kept) kept)
+      (walks_stopped g old new ready.free ready.open_ bounded (told mid) (OnSearch search kind met (sym (ap told kept))) met write
+      (keeps_fault old mid new (told mid) r kept) (keeps_files old mid new (told mid) r kept) (keeps_moves old mid new (told mid) r kept) ready.owed (subst P (sym sources) call)
+      (λ t. read_text g old mid ready.owed ready.idle r call.catalog (ap (λ (ns : List (File R)). left_by g old old.table.macros old.conditions ns) nest) ∙ sym (kept_text g mid new (told mid) kept))
+      (subst (λ (e : EngineView S R). KeepsStores g old e) (sym (kept ∙ ap (λ (m : EngineView S R). record m { kept = Some (told mid) }) becomes))
+      (keeps_searched g old (told mid) mid.sources ready.free ready.idle call.catalog)))
+
+  -- what is found is what the rules find
+  finds_as : (fault : SourceFault) → Searches g old name_of mid.sources (Err fault) → (place : Place) → place ≡ Kept → KeepsKind (kind_of_source fault) → Walks g old new (lent_answer new place)
+  unfolding kind_of_source is_call_failed is_read_failed is_write_failed is_memory_kind source_rules rules_of find_of lookup_of state_of
+  finds_as source.Absent s place is kept =
+      let room = s.room in
+      let slots = ready.sound.slots in
+      refuse_steps place is SourceNotFound (own_kind _ refl) s.call kept
+      (λ t. refused_absent old.limits (run_rules g old) g.unread old.table.macros old.conditions live old.files.nest start stop some (inner_facts old.files ready.nest ready.files).ends plain has s.name_good (omega arith)
+      (ap lookup_of (s.answers t)))
+  finds_as source.PathTooLong s place is kept =
+      let room = s.room in
+      let slots = ready.sound.slots in
+      refuse_steps place is PathTooLong (own_kind _ refl) s.call kept
+      (λ t. refused_overlong old.limits (run_rules g old) g.unread old.table.macros old.conditions live old.files.nest start stop some (inner_facts old.files ready.nest ready.files).ends plain has s.name_good (omega arith)
+      (ap lookup_of (s.answers t)))
+  finds_as source.Device s place is kept = stopped_steps place is ReadFailed refl refl s.call kept s.name_good s.room
+  finds_as source.NoMemory s place is kept = stopped_steps place is SourceMemory refl refl s.call kept s.name_good s.room
+
+  -- nothing is opened
+  pub denied_steps : (place : Place) (kind : FaultKind) → place ≡ Kept → Denies g old name_of mid.sources kind → KeepsKind kind → Walks g old new (lent_answer new place)
+  unfolding state_of
+  denied_steps place kind is (BadName bad named same) kept =
+      refuse_steps place is IncludeName (own_kind _ refl) (subst (λ (s : S). SourcesCalled g false false old.sources s) (sym same) (not_called g old.sources)) (subst KeepsKind named kept)
+      (λ t. refused_bad old.limits (run_rules g old) g.unread old.table.macros old.conditions live old.files.nest start stop some (inner_facts old.files ready.nest ready.files).ends plain has bad)
+  denied_steps place kind is (Full good full named same) kept =
+      let slots = ready.sound.slots in
+      refuse_steps place is TooManyIncludes (own_kind _ refl) (subst (λ (s : S). SourcesCalled g false false old.sources s) (sym same) (not_called g old.sources)) (subst KeepsKind named kept)
+      (λ t. refused_full old.limits (run_rules g old) g.unread old.table.macros old.conditions live old.files.nest start stop some (inner_facts old.files ready.nest ready.files).ends plain has good (omega arith))
+  denied_steps place kind is (Refuses fault named s) kept = finds_as fault s place is (subst KeepsKind named kept)
+
+  -- a source is opened
+  pub entered_steps : (found : Found R) → Searches g old name_of mid.sources (Ok found) → new ≡ included_engine found stop mid → Walks g old new (step_answer new None)
+  unfolding included_engine behind_bytes source_rules rules_of find_of lookup_of unused_of opened_buffer
+  entered_steps found s enters =
+      let room = s.room in
+      let slots = ready.sound.slots in
+      let inner = inner_facts old.files ready.nest ready.files in
+      let within = string_inside (held_of (inner_buffer old.files.nest)) start stop has in
+      let range = ready.sound.in_range.source_bytes.1 in
+      let line = (inner_buffer old.files.nest).line in
+      let used = with_inner (consumed_file stop 0) old.files.nest in
+      let file = entered_file found old.limits.source_bytes old.files.line_bytes (length old.conditions.open_now) line in
+      let owed : OwedView = record { line_ends = 0; origin = origin_owed old.origins 1 } in
+      let after : EngineView S R = record old { owed = owed; files = record old.files { nest = file ∷ used }; sources = mid.sources } in
+      let is : new ≡ after = enters ∙ ap (included_engine found stop) becomes in
+      subst (λ (e : EngineView S R). Walks g old e (Ok (Some []))) (sym is)
+      (lends_by g old ready [] owed old.marks old.table.macros old.conditions (file ∷ used) mid.sources (subst IsBounded is bounded)
+      (entered_falls old after refl ready.idle ready.idle (record {
+        inner = file;
+        used = used;
+        becomes = refl;
+        some = used_bytes old.files.nest stop 0 (omega (arith, within.0)) within.1;
+        small = omega arith;
+      }) (omega arith) (owed_few old.origins 0 1 (omega arith))) s.call
+      (λ t. opened_inside old.limits (run_rules g old) g.unread old.table.macros old.conditions live old.files.nest found start stop old.files.line_bytes some inner.ends plain has s.name_good (omega arith)
+      (ap lookup_of (s.answers t)) refl ready.sound.line_bytes
+      ∙ ap (λ (x : List ℕ). behind_bytes x (left_by g old old.table.macros old.conditions (file ∷ used))) (sym (owed_origin (g.catalog old.sources) old.limits old.origins found.path.bytes 1)))
+      (λ t. parts_entered g.unread (g.catalog old.sources) found stop old.limits.source_bytes old.files.line_bytes (length old.conditions.open_now) line name_of old.files.nest ready.nest (s.answers t)) (Nowhere refl (InSources ready.idle refl (Unmarked refl))))
+
+-- a search that was made
+pub searches_by : {S R : Type 0} (g : Ghosts S R) (e : EngineView S R) (from given name : List ℕ) (new : S) (answer : Result (Found R) SourceFault) → given ≡ name → from ≡ inner_path e.files.nest
+    → is_bad_name name ≡ false → length e.files.nest < e.files.slots → (g.tells e.sources → Finds g.unread ((g.catalog e.sources).find from given) answer)
+    → Counts (is_device answer) (g.failures e.sources) (g.failures new) → Counts (is_no_memory answer) (g.refusals e.sources) (g.refusals new) → (g.tells e.sources → g.tells new) → g.catalog new ≡ g.catalog e.sources
+    → Searches g e name new answer
+searches_by {S} {R} g e from given name new answer same path good room answers failures refusals tells catalog = record {
+  name_good = good;
+  room = room;
+  answers = λ t. rw (← same, ← path) (answers t);
+  call = record { failures = failures; refusals = refusals; tells = tells; catalog = catalog };
+}
+
+-- a source that was opened behind an `include` that was used
+pub included_by : {S R : Type 0} (found : Found R) (stop : ℕ) (old used new : EngineView S R) (owed : OwedView) (files : FilesView R) (below line : ℕ)
+    → used ≡ record old { files = record old.files { nest = with_inner (consumed_file stop 0) old.files.nest } }
+    → files ≡ record used.files { nest = entered_file found used.limits.source_bytes used.files.line_bytes below line ∷ used.files.nest }
+    → owed ≡ record used.owed { origin = origin_owed used.origins 1 } → new ≡ record used { owed = owed; files = files }
+    → old.owed ≡ nothing_owed → below ≡ length used.conditions.open_now → line ≡ (inner_buffer old.files.nest).line → new ≡ included_engine found stop old
+unfolding included_engine nothing_owed
+included_by found stop old used new owed files below line uses enters owes is nothing around here = rw (is, owes, enters, around, here, uses, nothing) refl
+
+-- what stands between the quotes of a string
+pub name_taken : (string : List ℕ) (end : ℕ) → end ≡ max (length string) 2 → take (end - 1 - 1) (drop 1 string) ≡ unquoted string
+unfolding unquoted
+name_taken string end is = let same : end - 1 - 1 ≡ length string - 2 = omega arith in ap (λ n. take n (drop 1 string)) same
+
+-- an empty name is bad, and one that isn't UTF-8
+pub bad_empty : (name : List ℕ) → (length name == 0) ≡ true → is_bad_name name ≡ true
+bad_empty name empty = rw empty refl
+
+pub bad_utf8 : (name : List ℕ) → is_utf8 name ≡ false → is_bad_name name ≡ true
+bad_utf8 name wrong = rw wrong (or_right (length name == 0) true refl)
+
+-- any other is good
+pub good_name : (name : List ℕ) → (length name == 0) ≡ false → is_utf8 name ≡ true → is_bad_name name ≡ false
+good_name name some right = rw (some, right) refl
+
+-- what isn't UTF-8 isn't told as such
+pub not_utf8 : (name : List ℕ) → (IsUtf8 name → ⊥) → is_utf8 name ≡ false
+not_utf8 name never =
+    elim (is_utf8 name) as (λ b. is_utf8 name ≡ b → b ≡ false) [
+      | true ↦ λ e. absurd (never (IsUtf8-from_is_utf8 name e))
+      | false ↦ λ e. refl
+    ] refl
+
+-- The end of the innermost source, as steps of the engine.
+
+-- the macros of a state are those that it is made of
+pub nest_macros : {R : Type 0} (limits : Limits) (macros : List Macro) (v : ConditionsView) (nest : List (File R)) → (nest_state limits macros v nest).macros ≡ macros
+unfolding nest_state file_state start_state
+nest_macros limits macros v [] = refl
+nest_macros limits macros v (f ∷ outer) = refl
+
+-- what is written behind an included source that has ended
+ending_of : {R : Type 0} → Rules → List (File R) → List ℕ
+ending_of rules [] = []
+ending_of rules (f ∷ []) = []
+ending_of rules (f ∷ around ∷ outer) = (if f.torn then 10 ∷ [] else []) ++ origin_line rules around.name.bytes (shown_line (shift_of around.shift) f.include_line)
+
+-- where an included source has ended, the one around it goes on
+nest_back : {R : Type 0} (limits : Limits) (rules : Rules) (unread : R → List ℕ) (macros : List Macro) (v : ConditionsView) (live : v.skipped ≡ None) (tells : Type 0) (t : tells)
+    (nest : List (File R)) (new : BufferView R) → 1 < length nest → length v.open_now ≡ inner_below nest → Fills tells unread fill.End (inner_buffer nest) new → (inner_buffer nest).mode ≡ Plain
+    → nest_left limits rules unread macros v nest ≡ behind_bytes (ending_of rules nest) (nest_left limits rules unread macros v (drop 1 nest))
+unfolding ending_behind ending_of torn_after
+nest_back limits rules unread macros v live tells t [] new inner ended fills plain = absurd (omega arith)
+nest_back limits rules unread macros v live tells t (f ∷ []) new inner ended fills plain = absurd (omega arith)
+nest_back limits rules unread macros v live tells t (f ∷ around ∷ outer) new inner ended fills plain =
+    nest_returned limits rules unread macros v live tells t f around outer new fills plain (sym ended)
+    ∙ ap (λ (x : List ℕ). behind_bytes ((if torn_after f.torn x then 10 ∷ [] else []) ++ origin_line rules around.name.bytes (shown_line (shift_of around.shift) f.include_line))
+    (nest_left limits rules unread macros v (around ∷ outer))) (ended-text tells unread f.buffer new fills t)
+
+-- what is owed is that
+owed_ending : {R : Type 0} (c : Catalog) (limits : Limits) (origins : Bool) (nest : List (File R)) → 1 < length nest
+    → owed_bytes (inner_name (drop 1 nest)) (owed_behind origins nest) ≡ ending_of (source_rules c limits origins) nest
+unfolding owed_behind ending_of
+owed_ending c limits origins [] inner = absurd (omega arith)
+owed_ending c limits origins (f ∷ []) inner = absurd (omega arith)
+owed_ending c limits origins (f ∷ around ∷ outer) inner = owed_torn c limits origins around.name.bytes f.torn (shown_line (shift_of around.shift) f.include_line)
+
+-- one LF at most
+torn_few : (torn : Bool) → (if torn then 1 else 0) ≤ 1
+torn_few true = omega arith
+torn_few false = omega arith
+
+-- it can be counted
+owed_behind-few : {R : Type 0} (origins : Bool) (nest : List (File R)) → owed_pieces (owed_behind origins nest) < 2 ^ 31
+unfolding owed_behind nothing_owed owed_pieces origin_pieces
+owed_behind-few origins [] = omega arith
+owed_behind-few origins (f ∷ []) = omega arith
+owed_behind-few origins (f ∷ around ∷ outer) =
+    let few = torn_few f.torn in owed_few origins (if f.torn then 1 else 0) (shown_line (shift_of around.shift) f.include_line) (omega arith)
+
+-- what is owed and what is left are the same where the innermost source has another buffer
+owed_same : {R : Type 0} (origins : Bool) (b : BufferView R) (nest : List (File R)) → owed_behind origins (with_buffer b nest) ≡ owed_behind origins nest
+unfolding owed_behind
+owed_same origins b [] = refl
+owed_same origins b (f ∷ []) = refl
+owed_same origins b (f ∷ around ∷ outer) = refl
+
+marks_same : {R : Type 0} (m : MarksView) (b : BufferView R) (nest : List (File R)) → marks_behind (with_buffer b nest) m ≡ marks_behind nest m
+unfolding marks_behind
+marks_same m b [] = refl
+marks_same m b (f ∷ []) = refl
+marks_same m b (f ∷ around ∷ outer) = refl
+
+drop_same : {R : Type 0} (b : BufferView R) (nest : List (File R)) → drop 1 (with_buffer b nest) ≡ drop 1 nest
+drop_same b [] = refl
+drop_same b (f ∷ outer) = refl
+
+-- the end of the innermost source
+module _ {S R : Type 0} (g : Ghosts S R) (old mid new : EngineView S R) (ready : IsReady old) (r : IsRead g old mid) (bounded : IsBounded new)
+    (fills : Fills (g.tells old.sources) g.unread fill.End (inner_buffer old.files.nest) (inner_buffer mid.files.nest))
+    (call : SourcesCalled g false false old.sources mid.sources) where
+  -- the same conditionals are open, and around the innermost source
+  same_below : inner_below mid.files.nest ≡ inner_below old.files.nest
+  same_below =
+      ap (λ (fs : FilesView R). inner_below fs.nest) r.only ∙ inner_below-same (λ f. record f { buffer = inner_buffer mid.files.nest }) old.files.nest (λ f. refl)
+
+  same_open : mid.conditions ≡ old.conditions
+  same_open = ap (λ e. e.conditions) r.becomes
+
+  -- as many sources
+  same_size : length mid.files.nest ≡ length old.files.nest
+  same_size = ap (λ (fs : FilesView R). length fs.nest) r.only ∙ with_inner-length (λ f. record f { buffer = inner_buffer mid.files.nest }) old.files.nest
+
+  -- and none of its own conditionals
+  same_ended : length mid.conditions.open_now ≡ inner_below mid.files.nest → length old.conditions.open_now ≡ inner_below old.files.nest
+  same_ended none = sym (ap (λ (v : ConditionsView). length v.open_now) same_open) ∙ none ∙ same_below
+
+  ended_text : Closes mid new → Walks g old new (Ok None)
+  unfolding state_of
+  ended_text c =
+      let becomes = c.becomes in
+      let plain = c.mode in
+      let one : length old.files.nest ≤ 1 = (let few = c.alone in let size = same_size in omega arith) in
+      let files : FilesView R = record mid.files { nest = [] } in
+      let table : new.table ≡ old.table = ap (λ e. e.table) becomes ∙ ap (λ e. e.table) r.becomes in
+      let sources : new.sources ≡ mid.sources = ap (λ e. e.sources) becomes in
+      let closes : FilesView R → S → EngineView S R = λ fs s. record old { phase = Closed; files = fs; sources = s } in
+      let ends : new ≡ record old { phase = Closed; files = new.files; sources = new.sources } =
+      becomes ∙ (ap (λ (m : EngineView S R). record m { phase = Closed; files = files }) r.becomes
+      ∙ (ap (λ (fs : FilesView R). closes fs mid.sources) (sym (ap (λ e. e.files) becomes)) ∙ ap (λ (s : S). closes new.files s) (sym sources))) in
+      let P : S → Type 0 = λ s. SourcesCalled g false false old.sources s in
+      walks_end g old new ready.free ready.open_ bounded ends ready.owed ready.idle (subst P (sym sources) call)
+      (λ t. record {
+        last = nest_state old.limits old.table.macros old.conditions old.files.nest;
+        text = text_unowed g old ready.owed ready.idle
+            ∙ nest_ended old.limits (run_rules g old) g.unread old.table.macros old.conditions (g.tells old.sources) t old.files.nest (inner_buffer mid.files.nest)
+            ready.nest one (same_ended c.ended) fills (sym fills.mode ∙ plain);
+        macros = nest_macros old.limits old.table.macros old.conditions old.files.nest ∙ ap (λ t. t.macros) (sym table);
+        closed = ap (λ e. e.files.nest) becomes;
+      })
+
+  ended_open : StopsOpen mid new → Walks g old new (lent_answer new Kept)
+  unfolding state_of
+  ended_open stops =
+      let b = inner_buffer mid.files.nest in
+      let before = inner_buffer old.files.nest in
+      let tokens : ended_tokens before.mode before.open_token_line ≡ ended_tokens b.mode b.open_token_line =
+      rw (fills.mode, fills.open_token_line) refl in
+      refuses g old mid new Kept (breach_kind stops.breach) b.open_token_line [] ready r bounded refl stops.kept stops.own call
+      (λ t. nest_open old.limits (run_rules g old) g.unread old.table.macros old.conditions (g.tells old.sources) t old.files.nest b stops.breach ready.nest fills
+      (tokens ∙ (stops.tokens ∙ ap (only_broken stops.breach) fills.open_token_line))
+      ∙ rw fills.open_token_line refl)
+
+  ended_unclosed : StopsUnclosed mid new → Walks g old new (lent_answer new Kept)
+  unfolding state_of
+  ended_unclosed stops =
+      let o = stops.conditional in
+      let below = stops.below in
+      let same = same_below in
+      refuses_by g old mid new Kept (unclosed_fault o.line) (λ s. (own_kind _ refl)) ready r bounded refl stops.kept call
+      (λ t. unclosed_at old.limits (run_rules g old) g.unread old.table.macros old.conditions (g.tells old.sources) t old.files.nest (inner_buffer mid.files.nest) o stops.around ready.nest
+      (sym (ap (λ (v : ConditionsView). v.open_now) same_open) ∙ stops.is_open) (omega arith) fills (sym fills.mode ∙ stops.plain))
+
+  -- an included source has ended: the one around it goes on
+  ended_back : Returns mid new → Walks g old new (Ok (Some []))
+  unfolding left_engine behind_bytes
+  ended_back back =
+      let b = inner_buffer mid.files.nest in
+      let before = old.files.nest in
+      let inner : 1 < length before = (let some = back.inner in let size = same_size in omega arith) in
+      let ended = same_ended back.ended in
+      let live : old.conditions.skipped ≡ None = conditions_live old.limits old.conditions before ended ready.sound.conditions_of in
+      let owed = owed_behind old.origins before in
+      let marks = marks_behind before old.marks in
+      let leaves_as : FilesView R → EngineView S R = λ fs. record old { owed = owed_behind old.origins fs.nest; marks = marks_behind fs.nest old.marks; files = record fs { nest = drop 1 fs.nest }; sources = mid.sources } in
+      let by : OwedView → MarksView → List (File R) → EngineView S R = λ o m ns. record old { owed = o; marks = m; files = record old.files { nest = ns }; sources = mid.sources } in
+      let becomes : new ≡ by owed marks (drop 1 before) =
+      back.becomes ∙ (ap left_engine r.becomes ∙ (ap leaves_as r.only
+      ∙ (ap (λ (o : OwedView). by o (marks_behind (with_buffer b before) old.marks) (drop 1 (with_buffer b before))) (owed_same old.origins b before)
+      ∙ (ap (λ (m : MarksView). by owed m (drop 1 (with_buffer b before))) (marks_same old.marks b before) ∙ ap (by owed marks) (drop_same b before))))) in
+      let few = ready.files.few in
+      let slots = ready.sound.slots in
+      subst (λ (e : EngineView S R). Walks g old e (Ok (Some []))) (sym becomes)
+      (lends_by g old ready [] owed marks old.table.macros old.conditions (drop 1 before) mid.sources (subst IsBounded becomes bounded)
+      (left_falls old (by owed marks (drop 1 before)) refl ready.idle ready.idle refl ready.nest (omega arith) (owed_behind-few old.origins before)) call
+      (λ t. nest_back old.limits (run_rules g old) g.unread old.table.macros old.conditions live (g.tells old.sources) t before b inner ended fills (sym fills.mode ∙ back.mode)
+      ∙ ap (λ (x : List ℕ). behind_bytes x (left_by g old old.table.macros old.conditions (drop 1 before))) (sym (owed_ending (g.catalog old.sources) old.limits old.origins before inner)))
+      (λ t. parts_around g.unread before (g.catalog old.sources)) (Nowhere refl (InSources ready.idle refl (BehindSource refl))))
+
+  pub ended_steps : (place : Option Place) → Ends mid new place → Walks g old new (step_answer new place)
+  ended_steps None ends = ended_back ends
+  ended_steps (Some (SourcePlace start end)) ends = absurd ends
+  ended_steps (Some (Text p)) ends = absurd ends
+  ended_steps (Some (Owed n)) ends = absurd ends
+  ended_steps (Some End) ends = ended_text ends
+  ended_steps (Some Kept) (inl ends) = ended_open ends
+  ended_steps (Some Kept) (inr ends) = ended_unclosed ends
+
+-- the end is a place, or none
+pub ended_placed : {S R : Type 0} (mid new : EngineView S R) (place : Option Place) → Ends mid new place → IfSome place (IsPlaced new)
+ended_placed mid new None ends = tt
+ended_placed mid new (Some (SourcePlace start end)) ends = absurd ends
+ended_placed mid new (Some (Text p)) ends = absurd ends
+ended_placed mid new (Some (Owed n)) ends = absurd ends
+ended_placed mid new (Some End) ends = tt
+ended_placed mid new (Some Kept) ends = tt
+
+-- a text that ended in a mode in which its end is a fault, at a place
+pub stops_open : {S R : Type 0} (old new : EngineView S R) (place : Place) (breach : Breach) (mode : Mode) (line : ℕ) →
+    place ≡ Kept → (inner_buffer old.files.nest).mode ≡ mode
+    → ended_tokens mode (inner_buffer old.files.nest).open_token_line ≡ only_broken breach (inner_buffer old.files.nest).open_token_line
+    → IsOwn (breach_kind breach) → line ≡ (inner_buffer old.files.nest).open_token_line →
+    new ≡ record old { kept = Some (fault_at (breach_kind breach) line [] (state_of old)) } → Ends old new (Some place)
+stops_open {S} {R} old new place breach mode line is at_mode tokens own opened becomes =
+    let b = inner_buffer old.files.nest in
+    let keeps : ℕ → EngineView S R = λ n. record old { kept = Some (fault_at (breach_kind breach) n [] (state_of old)) } in
+    subst (λ (p : Place). Ends old new (Some p)) (sym is) (inl (record {
+      breach = breach;
+      tokens = ap (λ (m : Mode). ended_tokens m b.open_token_line) at_mode ∙ tokens;
+      own = own;
+      kept = becomes ∙ ap keeps opened;
+    }))
+
+-- what is owed behind the innermost of two sources
+pub behind_two : {R : Type 0} (origins : Bool) (nest rest : List (File R)) (f around : File R) → nest ≡ f ∷ drop 1 nest → drop 1 nest ≡ around ∷ rest
+    → owed_behind origins nest ≡ record { line_ends = if f.torn then 1 else 0; origin = origin_owed origins (shown_line (shift_of around.shift) f.include_line) }
+unfolding owed_behind
+behind_two {R} origins nest rest f around first second = ap (owed_behind origins) (first ∙ ap (λ (ns : List (File R)). f ∷ ns) second)
+
+-- the numbers of both can be counted
+pub line_few : {R : Type 0} (nest : List (File R)) (f : File R) → nest ≡ f ∷ drop 1 nest → AreIncluded nest → f.include_line < 2 ^ 63
+line_few {R} nest f first lines =
+    let here : AreIncluded (f ∷ drop 1 nest) = subst (λ (ns : List (File R)). AreIncluded ns) first lines in here.0
+
+pub around_few : {R : Type 0} (files : FilesView R) (rest : List (File R)) (f around : File R) → files.nest ≡ f ∷ drop 1 files.nest → drop 1 files.nest ≡ around ∷ rest → AreOpen files
+    → around.shift.number < 2 ^ 32
+around_few {R} files rest f around first second slots =
+    let P : File R → Type 0 = IsSlot files.line_bytes in
+    let both : f ∷ around ∷ rest ≡ files.nest = sym (first ∙ ap (λ (ns : List (File R)). f ∷ ns) second) in
+    (All-head P around rest (All-tail P f (around ∷ rest) (All-same P (f ∷ around ∷ rest) files.nest both slots.each))).number
+
+-- an LF is owed at most
+pub ends_few : (ends owed : ℕ) (torn : Bool) → ends ≡ (if torn then 1 else 0) → owed ≡ 0 → owed + ends < 2 ^ 64
+ends_few ends owed torn is none = let few = torn_few torn in omega arith
+
+-- what is owed where an included source was left
+pub owes_behind : {R : Type 0} (origins : Bool) (nest rest : List (File R)) (f around : File R) (old mid new : OwedView) (ends shown : ℕ) → nest ≡ f ∷ drop 1 nest → drop 1 nest ≡ around ∷ rest
+    → old ≡ nothing_owed → ends ≡ (if f.torn then 1 else 0) → shown ≡ shown_line (shift_of around.shift) f.include_line
+    → mid ≡ record old { line_ends = old.line_ends + ends } → new ≡ record mid { origin = origin_owed origins shown } → new ≡ owed_behind origins nest
+unfolding nothing_owed
+owes_behind origins nest rest f around old mid new ends shown first second nothing torn line adds asks =
+    let none : old.line_ends ≡ 0 = ap (λ o. o.line_ends) nothing in
+    let count : mid.line_ends ≡ old.line_ends + ends = ap (λ o. o.line_ends) adds in
+    let exact : mid.line_ends ≡ (if f.torn then 1 else 0) = omega arith in
+    let makes : ℕ → ℕ → OwedView = λ n m. record { line_ends = n; origin = origin_owed origins m } in
+    asks ∙ (ap (λ (n : ℕ). makes n shown) exact ∙ (ap (makes (if f.torn then 1 else 0)) line ∙ sym (behind_two origins nest rest f around first second)))
+
+-- and its mark
+pub marks_two : {R : Type 0} (nest rest : List (File R)) (f around : File R) (m : MarksView) (ends shown : ℕ) (name : List ℕ) → nest ≡ f ∷ drop 1 nest → drop 1 nest ≡ around ∷ rest
+    → ends ≡ (if f.torn then 1 else 0) → shown ≡ shown_line (shift_of around.shift) f.include_line → name ≡ around.name.bytes → ends_line ends name shown m ≡ marks_behind nest m
+unfolding marks_behind
+marks_two {R} nest rest f around m ends shown name first second torn line named =
+    rw (torn, line, named) (sym (ap (λ (ns : List (File R)). marks_behind ns m) (first ∙ ap (λ (ns : List (File R)). f ∷ ns) second)))

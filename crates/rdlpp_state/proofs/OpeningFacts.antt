@@ -1,47 +1,183 @@
--- The opening of a main text: the name that its fault tells, and what a start comes to.
-use Rattle.std.proofs.Common.{◌≡◌, ℕ, zero, suc, ◌-◌, ◌≤◌, ◌<◌, ◌&&◌, Bool, true, false, leb, List, [], length, get_or, take, None, Some, Err, ◌∷◌, refl, sym, ap, subst, ◌∙◌, inl, inr, arith}
-use Rattle.std.specs.Str.{IsCharBoundary}
-use Rattle.std.proofs.lemmas.Bool.{cases_lt, cond-true, cond-false}
+-- A new engine: its bound, its stores, and the opening of its main text.
+use Rattle.std.proofs.Common.{◌≡◌, inl, ℕ, ◌+◌, ◌*◌, ◌^◌, ◌≤◌, ◌<◌, List, [], ◌∷◌, ◌++◌, None, length, map, reverse, sum_by, ap, ◌∙◌, subst, arith, Bool, Some, refl, sym, suc, zero, ◌&&◌, true, false, take, lit<, slice_index, ◌-◌, leb, get_or, Err, inr, All, IsAscii, IsCharBoundary, IsUtf8, mul-le-mul_right, take_all}
+use Rattle.std.specs.List.{list_all}
+use Rattle.std.proofs.lemmas.Bool.{cases_lt, cond-false, cond-true}
 use Rattle.std.proofs.lemmas.Bool.Decides.{nat_tests}
-use Rattle.std.proofs.lemmas.List.{take_all, get_or_past}
-use Rattle.rdlpp_scan.specs.SourceTokens.{whole_tokens}
+use Rattle.std.proofs.lemmas.List.{get_or_past, reverse-append}
+use Rattle.std.proofs.lemmas.List.Elements.{All-append, All-cons, All-head, All-nil, All-same, All-tail}
+use Rattle.std.proofs.lemmas.Str.{IsUtf8-from_ascii}
+use Rattle.rdlpp_scan.specs.Bytes.{is_digit, is_letter, is_word}
+use Rattle.rdlpp_scan.specs.SourceTokens.{SourceToken, whole_tokens}
+use Rattle.rdlpp_table.specs.Limits.{AreInRange}
+use Rattle.rdlpp_table.specs.declared.limits.Limits.{Limits}
+use Rattle.rdlpp_table.proofs.Sizes.{length_table_bytes}
+use Rattle.rdlpp_meaning.specs.Meaning.{Passage, Progress, behind_bytes, origin_line, outcome}
+use Rattle.rdlpp_meaning.specs.Opened.{all_resumed}
+use Rattle.rdlpp_meaning.specs.Outcome.{Outcome, Told, and_then, fails, gives}
+use Rattle.rdlpp_meaning.specs.Output.{character_place, name_cut, opening_fault, output, start_state}
+use Rattle.rdlpp_meaning.specs.OutputLimit.{limited, limited_output, search_rules, unlimited_output}
+use Rattle.rdlpp_meaning.specs.Profile.{rules_of}
+use Rattle.rdlpp_meaning.specs.Resumed.{Live, remains}
+use Rattle.rdlpp_meaning.specs.State.{LongPath, Lookup, NoSource, Rules, State, no_shift}
+use Rattle.rdlpp_meaning.specs.declared.fault.FaultKind.{FaultKind}
+use Rattle.rdlpp_meaning.specs.declared.fault.FaultKind.TheVariants.{PathTooLong, ReadFailed, SourceMemory, SourceNotFound}
+use Rattle.rdlpp_meaning.proofs.Directives.{all_resumed_alone}
+use Rattle.rdlpp_meaning.proofs.Outcomes.{limited-fails, outcome-behind_bytes, output_found, output_missing, output_overlong}
 use Rattle.rdlpp_source.specs.Counts.{Counts}
-use Rattle.rdlpp_source.specs.Sources.{Answer, Catalog, Present, Finds, is_device, is_no_memory}
+use Rattle.rdlpp_source.specs.Sources.{Answer, Catalog, Finds, Present, is_device, is_no_memory}
 use Rattle.rdlpp_source.specs.declared.sources.Found.{Found}
 use Rattle.rdlpp_source.specs.declared.sources.SourceFault.{SourceFault}
 use Rattle.rdlpp_source.specs.declared.sources.SourceFault.TheVariants as source
 use Rattle.rdlpp_source.specs.declared.sources.Sources.{Ghosts}
-use Rattle.rdlpp_meaning.specs.declared.fault.FaultKind.{FaultKind}
-use Rattle.rdlpp_meaning.specs.declared.fault.FaultKind.TheVariants.{SourceNotFound, PathTooLong, ReadFailed, SourceMemory}
-use Rattle.rdlpp_meaning.specs.Outcome.{Outcome, Told, and_then, fails, gives}
-use Rattle.rdlpp_meaning.specs.Resumed.{Live, remains}
-use Rattle.rdlpp_meaning.specs.Output.{character_place, name_cut, opening_fault, start_state, output}
-use Rattle.rdlpp_meaning.proofs.Outputs.{outcome-behind_bytes, output_found, output_missing, output_overlong}
-use Rattle.rdlpp_state.specs.Engine.{EngineView}
-use Rattle.rdlpp_state.specs.Failures.{MayGoOn}
-use Rattle.rdlpp_scan.specs.SourceTokens.{SourceToken}
-use Rattle.rdlpp_meaning.specs.Meaning.{Passage, Progress, behind_bytes, origin_line, outcome}
-use Rattle.rdlpp_meaning.specs.Opened.{all_resumed}
-use Rattle.rdlpp_meaning.proofs.Includes.{all_resumed_alone}
+use Rattle.rdlpp_texts.specs.Opened.{bound_by}
 use Rattle.rdlpp_read.specs.Buffer.{ahead_of, held_of, opened_buffer, rest_of, tokens_left, unread_of}
-use Rattle.rdlpp_front.specs.SourceLeft.{source_left}
-use Rattle.rdlpp_state.proofs.ConditionalPlaces.{no_place}
-use Rattle.rdlpp_state.proofs.IdleTexts.{text_idle}
-use Rattle.rdlpp_state.proofs.OwedOrigins.{owed_origin}
-use Rattle.rdlpp_state.specs.Held.{IsBounded, stores_of}
-use Rattle.rdlpp_state.specs.Stored.{AreParts}
-use Rattle.rdlpp_state.proofs.Stores.{none_called, parts_opened}
-use Rattle.rdlpp_read.specs.Files.{entered_file}
+use Rattle.rdlpp_read.specs.Files.{AreOpen, IsSlot, entered_file, held_windows}
 use Rattle.rdlpp_read.specs.declared.files.File.{File}
-use Rattle.rdlpp_state.specs.Owed.{origin_owed, owed_bytes}
-use Rattle.rdlpp_state.specs.Remaining.{file_state, kept_uncut, left_of, lookup_of, nest_left, nest_state, output_fault, phase_uncut, run_rules, source_rules, uncut_of, waiting_around, inner_name}
-use Rattle.rdlpp_meaning.specs.OutputLimit.{limited, limited_output, search_rules, unlimited_output}
-use Rattle.rdlpp_meaning.proofs.OutputLimits.{limited-fails}
-use Rattle.rdlpp_meaning.specs.State.{Lookup, NoSource, LongPath, Rules, State, no_shift}
-use Rattle.rdlpp_meaning.specs.Profile.{rules_of}
-use Rattle.rdlpp_state.specs.Steps.{is_memory_kind, is_read_failed}
+use Rattle.rdlpp_read.proofs.BufferTokens.{held-bound, held_windows-len}
+use Rattle.rdlpp_front.specs.Names.{IsWordBytes}
+use Rattle.rdlpp_front.specs.SourceLeft.{source_left}
+use Rattle.rdlpp_usages.specs.Usages.{IsRoomy}
+use Rattle.rdlpp_state.specs.Engine.{AreOpenTexts, EngineView, IsSoundEngine, is_open}
+use Rattle.rdlpp_state.specs.Failures.{MayGoOn}
+use Rattle.rdlpp_state.specs.Held.{HoldsDefinitions, IsBounded, bound_of, held_bytes, held_told, stores_of}
 use Rattle.rdlpp_state.specs.Includes.{kind_of_source}
-use Rattle.rdlpp_state.specs.Opening.{opened_engine, unopened_engine, looked_up_output, searches_of, is_device_fault, is_memory_fault, is_opening_kind, Starts}
+use Rattle.rdlpp_state.specs.OpenConditionals.{AreBelow}
+use Rattle.rdlpp_state.specs.Opening.{Starts, fresh_engine, is_device_fault, is_memory_fault, is_opening_kind, looked_up_output, opened_engine, searches_of, unopened_engine}
+use Rattle.rdlpp_state.specs.Owed.{origin_owed, owed_bytes}
+use Rattle.rdlpp_state.specs.Remaining.{file_state, inner_name, kept_uncut, left_of, lookup_of, nest_left, nest_state, output_fault, phase_uncut, run_rules, source_rules, uncut_of, waiting_around}
+use Rattle.rdlpp_state.specs.Steps.{is_memory_kind, is_read_failed}
+use Rattle.rdlpp_state.specs.Stored.{AreParts, HoldsNoText, HoldsStores, LetsGo}
+use Rattle.rdlpp_state.specs.declared.phase.Phase.TheVariants.{Closed}
+use Rattle.rdlpp_state.proofs.NestLeft.{no_place}
+use Rattle.rdlpp_state.proofs.Soundness.{text_idle}
+use Rattle.rdlpp_state.proofs.LentPieces.{owed_origin}
+use Rattle.rdlpp_state.proofs.Stores.{none_called, parts_opened}
+
+-- The bytes that are held are within their bound.
+
+-- no open source holds more bytes than a line may have
+windows_within : {R : Type 0} (size : ℕ) (nest : List (File R)) → All (IsSlot size) nest → All (λ (w : List ℕ). length w ≤ size) (held_windows nest)
+unfolding held_windows
+windows_within size [] each = All-nil (λ (w : List ℕ). length w ≤ size)
+windows_within {R} size (f ∷ fs) each =
+    let P : List ℕ → Type 0 = λ w. length w ≤ size in
+    let slot : IsSlot size f = All-head (IsSlot size) f fs each in
+    let within = slot.buffer.within in
+    let same = slot.size in
+    let here : P f.buffer.window = omega arith in
+    let rest : All P (held_windows fs) = windows_within size fs (All-tail (IsSlot size) f fs each) in
+    let cut : held_windows (f ∷ fs) ≡ held_windows fs ++ f.buffer.window ∷ [] = reverse-append (f.buffer.window ∷ []) (map (λ (g : File R). g.buffer.window) fs) in
+    All-same P (held_windows (f ∷ fs)) (held_windows fs ++ f.buffer.window ∷ []) cut
+    (All-append P (held_windows fs) (f.buffer.window ∷ []) rest (All-cons P f.buffer.window [] here (All-nil P)))
+
+-- an engine whose stores are within their limits is within the bound
+pub is_bounded : {S R : Type 0} (e : EngineView S R) → IsSoundEngine e.limits e.phase e.table e.files e.conditions → AreOpen e.files
+    → AreOpenTexts e.limits e.phase e.table.macros e.expansion → IsRoomy e.expansion → IsBounded e
+unfolding stores_of held_bytes bound_of
+is_bounded e sound files texts room =
+    let windows = held_windows-len e.files.nest in
+    let most = held-bound e.files files in
+    let slots : e.files.slots * e.files.line_bytes ≡ (e.limits.includes + 1) * e.limits.line_bytes =
+    ap (λ (n : ℕ). n * e.files.line_bytes) sound.slots ∙ ap (λ (n : ℕ). (e.limits.includes + 1) * n) sound.line_bytes in
+    let kept = room.fits in
+    let most_kept = texts.most_is in
+    let size = sound.size in
+    let bytes = sound.definition_bytes in
+    let few_texts = room.few in
+    let few_bound = room.bound in
+    let depth = texts.depth_is in
+    let few_open = sound.conditions_of.few in
+    let limit = sound.conditions_of.limit in
+    let few_sources = files.few in
+    let slots_are = sound.slots in
+    record {
+      bytes = omega (arith, length_table_bytes e.table.macros);
+      windows = subst (λ (n : ℕ). All (λ (w : List ℕ). length w ≤ n) (held_windows e.files.nest)) sound.line_bytes (windows_within e.files.line_bytes e.files.nest files.each);
+      cursors = omega (arith, few_texts, depth);
+      bindings = omega (arith, few_bound, depth);
+      conditions = omega (arith, few_open, limit);
+      sources = omega (arith, few_sources, slots_are);
+      texts = texts.sound;
+    }
+
+-- as many bytes as all buffers have can be counted
+pub slots_fit : (limits : Limits) → AreInRange limits → (limits.includes + 1) * limits.line_bytes < 2 ^ 64
+slots_fit limits range =
+    let most : (limits.includes + 1) * limits.line_bytes ≤ 65 * limits.line_bytes = mul-le-mul_right limits.line_bytes (omega (arith, range.includes.1)) in
+    let lines = range.line_bytes.1 in
+    omega arith
+
+-- where the main text is closed and no fault is kept, nothing is held but definitions
+pub closed_holds : {S R : Type 0} (e : EngineView S R) → IsSoundEngine e.limits e.phase e.table e.files e.conditions → AreOpenTexts e.limits e.phase e.table.macros e.expansion
+    → e.phase ≡ Closed → e.kept ≡ None → LetsGo e → HoldsDefinitions (held_told e)
+unfolding held_told stores_of held_windows bound_by is_open
+closed_holds {S} {R} e sound texts closed free lets_go =
+    let shut = ap is_open closed in
+    let nest = sound.closed shut in
+    let opens = texts.closed shut in
+    let below : AreBelow {R = R} (length e.conditions.open_now) [] = subst (λ ns. AreBelow (length e.conditions.open_now) ns) nest sound.conditions_of.below in
+    record {
+      arguments = ap length (lets_go.idle (inl free) (none_called e.table.macros e.expansion.opens opens));
+      buffers = ap (λ ns. sum_by length (reverse (map (λ f. f.buffer.window) ns))) nest;
+      cursors = ap length opens;
+      bindings = ap bound_by opens;
+      conditions = below;
+      sources = ap length nest;
+    }
+
+-- What an engine holds of texts before its main text is opened: nothing.
+
+-- so it is with one that was made
+pub new_holds : {S R : Type 0} (limits : Limits) (sources : S) (origins : Bool) → HoldsNoText (fresh_engine {S = S} {R = R} limits sources origins)
+unfolding fresh_engine
+new_holds limits sources origins = record { sources = refl; opens = refl; arguments = refl }
+
+-- and with one in which a macro was defined
+pub define_holds : {S R : Type 0} (old new : EngineView S R) → new ≡ record old { table = record old.table { macros = new.table.macros } } → HoldsNoText old → HoldsNoText new
+define_holds old new only h = record {
+  sources = ap (λ e. e.files.nest) only ∙ h.sources;
+  opens = ap (λ e. e.expansion.opens) only ∙ h.opens;
+  arguments = ap (λ e. e.expansion.arguments) only ∙ h.arguments;
+}
+
+-- it keeps nothing of a call
+pub none_lets_go : {S R : Type 0} (e : EngineView S R) → HoldsNoText e → LetsGo e
+none_lets_go e h = record { idle = λ _ _. h.arguments }
+
+-- and its stores are those of the texts that are open, which are none
+pub none_stores : {S R : Type 0} (g : Ghosts S R) (e : EngineView S R) → HoldsNoText e → HoldsStores g e
+none_stores {S} {R} g e h = record {
+  lets_go = none_lets_go e h;
+  parts = subst (λ (ns : List (File R)). AreParts g.unread (g.catalog e.sources) (MayGoOn e) ns) (sym h.sources) tt;
+  call = λ fs called. absurd (let no : None ≡ Some fs = sym (none_called e.table.macros e.expansion.opens h.opens) ∙ called in cc);
+  begun = λ _. inl h.arguments;
+}
+
+-- Words are text.
+
+-- a word byte is ASCII
+pub word-ascii : (b : ℕ) → is_word b ≡ true → b < 128
+unfolding is_word is_letter is_digit
+word-ascii b h = grind (arith, nat_tests)
+
+-- both parts of what holds together
+both : (a b : Bool) → a && b ≡ true → (a ≡ true) × (b ≡ true)
+both true b h = (refl, h)
+both false b h = absurd (cc)
+
+-- the first bytes of a word are ASCII
+pub words-take : (n : ℕ) (bs : List ℕ) → IsWordBytes bs → IsAscii (take n bs)
+words-take zero bs h = λ i. lit< tt
+words-take (suc n) [] h = λ i. lit< tt
+words-take (suc n) (b ∷ bs) h =
+    let parts = both (is_word b) (list_all is_word bs) h in
+    λ i. elim i as (λ j. slice_index (b ∷ take n bs) j < 128) [ zero ↦ word-ascii b parts.0 | suc j ↦ words-take n bs parts.1 j ]
+
+-- the first bytes of a word are text
+pub words-utf8 : (n : ℕ) (bs : List ℕ) → IsWordBytes bs → IsUtf8 (take n bs)
+words-utf8 n bs h = IsUtf8-from_ascii (take n bs) (words-take n bs h)
+
+-- The opening of a main text: the name that its fault tells, and what a start comes to.
 
 -- whether the byte at a place goes on with a character
 goes_on : List ℕ → ℕ → Bool

@@ -1,36 +1,100 @@
--- What is held of the texts that are read, as an engine goes on.
-use Rattle.std.proofs.Common.{false, ◌≡◌, ◌⊎◌, inl, inr, ℕ, ◌≤◌, ◌<◌, List, [], ◌∷◌, ◌++◌, length, take, drop, Option, None, Some, refl, sym, ap, ◌∙◌, subst, append_assoc, arith}
+-- What is held of the texts that are read, as an engine goes on or stops.
+use Rattle.std.proofs.Common.{◌≡◌, inl, inr, ℕ, Bool, true, false, List, nat_eq, codes, None, Some, refl, sym, ap, ◌∙◌, ◌⊎◌, ◌≤◌, ◌<◌, [], ◌∷◌, ◌++◌, length, take, drop, Option, subst, append_assoc, arith, take-append-drop, take-take}
+use Rattle.std.specs.List.{starts_with}
+use Rattle.std.proofs.lemmas.Bool.{and_left, and_right, false≢true, or_from}
 use Rattle.arrayvec.specs.declared.array_string.ArrayString.{ArrayString}
-use Rattle.std.proofs.lemmas.List.{take-append-drop, take-take}
 use Rattle.rdlpp_scan.specs.declared.token.Mode.{Mode}
 use Rattle.rdlpp_scan.specs.declared.token.Mode.TheVariants.{Plain}
+use Rattle.rdlpp_table.specs.Table.{Formal, Macro}
+use Rattle.rdlpp_table.specs.View.{macro_at}
 use Rattle.rdlpp_meaning.specs.CallScan.{Before}
+use Rattle.rdlpp_meaning.specs.Opens.{Open}
+use Rattle.rdlpp_meaning.specs.Outcome.{Told}
+use Rattle.rdlpp_meaning.specs.Parts.{only_blanks}
+use Rattle.rdlpp_meaning.specs.declared.fault.FaultKind.{FaultKind}
+use Rattle.rdlpp_meaning.specs.declared.fault.FaultKind.TheVariants.{ReadFailed, SourceMemory, WriteFailed}
 use Rattle.rdlpp_source.specs.Sources.{Catalog, Present}
 use Rattle.rdlpp_source.specs.declared.sources.Found.{Found}
-use Rattle.rdlpp_table.specs.Table.{Formal, Macro}
-use Rattle.rdlpp_meaning.specs.Parts.{only_blanks}
+use Rattle.rdlpp_source.specs.declared.sources.Sources.{Ghosts}
+use Rattle.rdlpp_texts.specs.Opened.{StaysOutermost, usage_id}
 use Rattle.rdlpp_conditions.specs.Conditions.{ConditionsView}
+use Rattle.rdlpp_read.specs.Buffer.{BufferView, Gains, MovesOver, Slides, ahead_of, entered_mode, held_of, opened_buffer, rest_of, text_left, unread_of}
+use Rattle.rdlpp_read.specs.Files.{consumed_file, entered_file, inner_buffer, torn_after, with_buffer, with_inner}
+use Rattle.rdlpp_read.specs.declared.files.File.{File}
 use Rattle.rdlpp_usages.specs.CallReads.{ReadsUpTo, with_used}
-use Rattle.rdlpp_table.specs.View.{macro_at}
-use Rattle.rdlpp_meaning.specs.Opens.{Open}
-use Rattle.rdlpp_texts.specs.Opened.{usage_id, StaysOutermost}
 use Rattle.rdlpp_usages.specs.Usages.{ExpansionView, KeepsCall, KeepsOpening, KeepsUsage, StaysOpen, is_opened}
 use Rattle.rdlpp_usages.specs.declared.expansion.Opening.{Opening}
 use Rattle.rdlpp_usages.specs.declared.expansion.Opening.TheVariants.{Broken, Failed, Opened, Refused}
-use Rattle.rdlpp_source.specs.declared.sources.Sources.{Ghosts}
-use Rattle.rdlpp_meaning.specs.Outcome.{Told}
-use Rattle.rdlpp_read.specs.Buffer.{BufferView, Gains, entered_mode, MovesOver, Slides, ahead_of, held_of, opened_buffer, rest_of, text_left, unread_of}
-use Rattle.rdlpp_read.specs.Files.{consumed_file, entered_file, inner_buffer, torn_after, with_buffer, with_inner}
-use Rattle.rdlpp_read.specs.declared.files.File.{File}
 use Rattle.rdlpp_state.specs.Engine.{EngineView}
-use Rattle.rdlpp_state.specs.Failures.{MayGoOn, is_call_failed, is_failed_search, is_failed_start}
+use Rattle.rdlpp_state.specs.Failures.{MayGoOn, begins_include, is_call_failed, is_failed_call, is_failed_search, is_failed_start, is_memory_kind, is_over, is_read_failed, is_write_failed, may_follow}
 use Rattle.rdlpp_state.specs.Includes.{inner_path}
 use Rattle.rdlpp_state.specs.Lines.{renumbered_file}
 use Rattle.rdlpp_state.specs.Marks.{MarksView}
 use Rattle.rdlpp_state.specs.Owed.{OwedView}
+use Rattle.rdlpp_state.specs.Steps.{IsOwn, IsReading}
+use Rattle.rdlpp_state.specs.Stored.{AreParts, BeginsCall, HoldsCall, HoldsStores, IsBegunIn, IsCallOf, IsPartOf, LetsGo, called_formals}
 use Rattle.rdlpp_state.specs.declared.phase.Phase.{Phase}
-use Rattle.rdlpp_state.proofs.GoingOn.{own_stops}
-use Rattle.rdlpp_state.specs.Stored.{AreParts, BeginsCall, called_formals, HoldsCall, HoldsStores, IsBegunIn, IsCallOf, IsPartOf, LetsGo}
+use Rattle.rdlpp_state.specs.declared.phase.Phase.TheVariants.{Open as OpenPhase}
+
+-- Engines that may go on after a fault, and those that may not.
+
+-- where a source is read, no `include` begins what is held
+pub read_front : {R : Type 0} (b : BufferView R) → IsReading b → begins_include (held_of b) ≡ false
+unfolding begins_include
+read_front b (inl none) = ap (λ (held : List ℕ). starts_with nat_eq held (codes "`include")) none
+read_front b (inr define) = ap (λ (held : List ℕ). starts_with nat_eq held (codes "`include")) define.1
+
+-- whether a fault is a text's own: none of a device or of memory
+abbrev pub is_own : FaultKind → Bool
+is_own ReadFailed = false
+is_own WriteFailed = false
+is_own SourceMemory = false
+is_own kind = true
+
+-- such a fault is
+pub own_kind : (kind : FaultKind) → is_own kind ≡ true → IsOwn kind
+unfolding is_read_failed is_write_failed is_memory_kind
+own_kind ReadFailed own = cc own
+own_kind WriteFailed own = cc own
+own_kind SourceMemory own = cc own
+own_kind kind own = record { read = refl; write = refl; memory = refl }
+
+-- and one of kinds of which each is
+pub own_by : (is : FaultKind → Bool) → is ReadFailed ≡ false → is WriteFailed ≡ false → is SourceMemory ≡ false → (kind : FaultKind) → is kind ≡ true → IsOwn kind
+own_by is read write memory ReadFailed h = absurd (false≢true (sym read ∙ h))
+own_by is read write memory WriteFailed h = absurd (false≢true (sym write ∙ h))
+own_by is read write memory SourceMemory h = absurd (false≢true (sym memory ∙ h))
+own_by is read write memory kind h = own_kind kind refl
+
+-- a text's own fault is none of a device or of memory
+pub own_failed : (kind : FaultKind) → IsOwn kind → is_call_failed kind ≡ false
+unfolding is_call_failed
+own_failed kind own = or_from _ _ own.read own.memory
+
+-- a fault is kept, and nothing is made again: the engine can't go on
+stops_by : {S R : Type 0} (e : EngineView S R) (f : Told) → e.kept ≡ Some f → is_failed_search e ≡ false → is_failed_start e ≡ false → MayGoOn e → ⊥
+stops_by e f kept search start (inl none) = (let no : Some f ≡ None = sym kept ∙ none in cc)
+stops_by e f kept search start (inr on) = false≢true (sym (or_from (is_failed_search e) (is_failed_start e) search start) ∙ on)
+
+-- so it is after a fault that is none of a device or of memory
+pub own_stops : {S R : Type 0} (e : EngineView S R) (f : Told) → e.kept ≡ Some f → is_call_failed f.kind ≡ false → MayGoOn e → ⊥
+unfolding is_failed_search is_failed_start is_failed_call
+own_stops e f kept own =
+    let none : is_failed_call e.kept ≡ false = ap is_failed_call kept ∙ own in
+    stops_by e f kept (and_left (is_failed_call e.kept) _ none) (and_left (is_failed_call e.kept) _ none)
+
+-- no read is made again
+pub read_never : {S R : Type 0} (e : EngineView S R) → IsReading (inner_buffer e.files.nest) → is_failed_search e ≡ false
+unfolding is_failed_search
+read_never e reading =
+    and_right (is_failed_call e.kept) _ (and_right (may_follow e.phase) (begins_include (held_of (inner_buffer e.files.nest))) (read_front (inner_buffer e.files.nest) reading))
+
+-- and after one that failed
+pub read_stops : {S R : Type 0} (e : EngineView S R) (f : Told) → e.kept ≡ Some f → e.phase ≡ OpenPhase → IsReading (inner_buffer e.files.nest) → MayGoOn e → ⊥
+unfolding is_failed_start is_over
+read_stops e f kept open_ reading = stops_by e f kept (read_never e reading) (and_right (is_failed_call e.kept) (is_over e.phase) (ap is_over open_))
+
+-- What is held of the texts that are read, as an engine goes on.
 
 -- an engine that can't go on: nothing is said then
 stopped_lets_go : {S R : Type 0} (e : EngineView S R) → (MayGoOn e → ⊥) → LetsGo e

@@ -1,8 +1,8 @@
 -- Stops behind calm bytes: those from a place on at which no token goes on, and those of the front of a text.
-use Rattle.std.proofs.Common.{◌≡◌, ℕ, zero, suc, ◌+◌, ◌-◌, ◌<◌, ◌≤◌, Bool, true, false, List, [], ◌∷◌, ⊎_elim, length, take, drop, refl, ap, sym, ◌∙◌, arith, inl, inr, eqb, not, ◌&&◌, ◌||◌, get_or, subst, Option, Some, None, ◌⊎◌, IfSome, slice_range, leb, ltb, if◌then◌else◌}
+use Rattle.std.proofs.Common.{◌≡◌, ℕ, zero, suc, ◌+◌, ◌-◌, ◌<◌, ◌≤◌, Bool, true, false, List, [], ◌∷◌, ⊎_elim, length, take, drop, refl, ap, sym, ◌∙◌, arith, inl, inr, eqb, not, ◌&&◌, ◌||◌, get_or, subst, Option, Some, None, ◌⊎◌, IfSome, slice_range, leb, ltb, if◌then◌else◌, eqb-true, leb-true, ltb-true, get_or-drop, length-drop, length-take, drop-drop, take_all}
 use Rattle.std.specs.List.{prefix_len}
-use Rattle.std.proofs.lemmas.Bool.{cases_Bool, false≢true, cond_both, cond-true, cond-false, eqb-true, leb-true, ltb-true, or_cases, and_parts, cases_lt}
-use Rattle.std.proofs.lemmas.List.{get_or-drop, length-drop, length-take, drop-drop, drop-take, take_all}
+use Rattle.std.proofs.lemmas.Bool.{cases_Bool, false≢true, cond_both, cond-true, cond-false, or_cases, and_parts, cases_lt, not-true}
+use Rattle.std.proofs.lemmas.List.{drop-take}
 use Rattle.rdlpp_scan.specs.Bytes.{begins_block_comment, begins_line_comment, begins_perl, is_blank, is_closer, is_digit, is_letter, is_line_end, is_opener, is_quiet, is_word, takes_word}
 use Rattle.rdlpp_scan.specs.LexFaults.{is_calm}
 use Rattle.rdlpp_scan.specs.declared.token.Kind.{Kind}
@@ -11,6 +11,7 @@ use Rattle.rdlpp_scan.specs.declared.token.Mode.{Mode}
 use Rattle.rdlpp_scan.specs.declared.token.Mode.TheVariants.{Plain}
 use Rattle.rdlpp_scan.specs.declared.token.Token.{Token}
 use Rattle.rdlpp_scan.specs.Tokens.{plain_token, token_of, tokens_from, whole}
+use Rattle.rdlpp_scan.proofs.StopKinds.{both_first, no_calm}
 use Rattle.rdlpp_scan.proofs.TokenLens.{token_of-part}
 use Rattle.rdlpp_table.specs.declared.stop.Stop.{Stop}
 use Rattle.rdlpp_table.specs.declared.stop.Stop.TheVariants as stop
@@ -29,14 +30,6 @@ use Rattle.rdlpp_table.proofs.FirstStops.{IsFrom, back_when, begins, begins_end,
 record IsCalmToken (b : ℕ) (bs : List ℕ) (t : Token) : Type 0 where
   next : t.next_mode ≡ Plain
   short : is_blank b ≡ false → t.len ≤ 1 + prefix_len is_word bs
-
--- a byte that can begin a string, a comment or `<%` isn't calm
-no_calm : (b n : ℕ) → is_calm b ≡ true → is_calm n ≡ false → eqb b n ≡ true → ⊥
-no_calm b n s f e = false≢true (sym f ∙ subst (λ (k : ℕ). is_calm k ≡ true) (eqb-true b n e) s)
-
-both_first : (p q : Bool) → (p && q) ≡ true → p ≡ true
-both_first true q h = refl
-both_first false q h = absurd (false≢true h)
 
 word_run : (b : ℕ) (bs : List ℕ) → prefix_len is_word (b ∷ bs) ≤ 1 + prefix_len is_word bs
 word_run b bs =
@@ -78,17 +71,13 @@ blank_quiet b h =
 no_blank : (b : ℕ) → is_quiet b ≡ false → is_blank b ≡ false
 no_blank b q = ⊎_elim (λ h. absurd (false≢true (sym q ∙ blank_quiet b h))) (λ h. h) (cases_Bool (is_blank b))
 
-not_false : (p : Bool) → not p ≡ true → p ≡ false
-not_false true h = absurd (false≢true h)
-not_false false h = refl
-
 -- a quiet byte is none of a word
 quiet_apart : (b : ℕ) → is_quiet b ≡ true → is_word b ≡ false
 unfolding is_quiet is_word
 quiet_apart b q =
     let letter = and_parts (not (is_letter b)) _ q in
     let digit = and_parts (not (is_digit b)) _ letter.1 in
-    ap (λ (t : Bool). t || is_digit b) (not_false (is_letter b) letter.0) ∙ not_false (is_digit b) digit.0
+    ap (λ (t : Bool). t || is_digit b) (not-true (is_letter b) letter.0) ∙ not-true (is_digit b) digit.0
 
 -- a run ends where a byte isn't of it
 run_stops : (p : ℕ → Bool) (k : ℕ) (bs : List ℕ) → p (get_or bs k 0) ≡ false → prefix_len p bs ≤ k
@@ -432,7 +421,7 @@ known_range formals text start from to s k is e low order high =
     let before : to ≤ k.end - k.len = leb-true _ _ a.0 in
     let reached : to ≤ start + k.calm = leb-true _ _ b.0 in
     let sum : from + m ≡ to = omega (arith, order) in
-    let ends : is_word (get_or u m 0) ≡ false = ap is_word (get_or-drop from text m 0 ∙ ap (λ (n : ℕ). get_or text n 0) sum) ∙ not_false (is_word (get_or text to 0)) b.1 in
+    let ends : is_word (get_or u m 0) ≡ false = ap is_word (get_or-drop from text m 0 ∙ ap (λ (n : ℕ). get_or text n 0) sum) ∙ not-true (is_word (get_or text to 0)) b.1 in
     let run : m ≤ prefix_len is_calm u = run_further text start from m low (omega (arith, order, low, reached, is.few)) in
     let far : is_none s ≡ false → from + m ≤ begins s = λ h. ⊎_elim (λ p. omega (arith, order, before, p)) (λ z. omega (arith, order, reached, z, is.before h)) (is.place h) in
     sym (stop_behind (length u) formals from m u s (omega arith) run ends further far))

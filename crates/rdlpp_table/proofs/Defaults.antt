@@ -1,8 +1,8 @@
 -- The default texts of formals: read, clean, and read back from a table's bytes.
-use Rattle.std.proofs.Common.{◌≡◌, ℕ, zero, suc, ◌+◌, ◌-◌, ◌<◌, ◌≤◌, Bool, true, false, cond, not, ◌&&◌, List, [], ◌∷◌, ◌++◌, length, take, drop, get_or, eqb, Option, Some, None, is_none, refl, ap, sym, ◌∙◌, subst, ⊎_elim, arith, option_map, inl, inr, Ok, Err}
+use Rattle.std.proofs.Common.{◌≡◌, ℕ, zero, suc, ◌+◌, ◌-◌, ◌<◌, ◌≤◌, Bool, true, false, cond, not, ◌&&◌, List, [], ◌∷◌, ◌++◌, length, take, drop, get_or, eqb, Option, Some, None, is_none, refl, ap, sym, ◌∙◌, subst, ⊎_elim, arith, option_map, inl, inr, Ok, Err, ne_eqb, get_or-drop, length-drop, take-append-drop}
 use Rattle.std.specs.List.{AllByRecursion, list_all, prefix_len, concat}
-use Rattle.std.proofs.lemmas.Bool.{cases_Bool, cond-true, cond-false, and_parts, and_from, and_right, not-true, or_cases, false≢true, or_left, ne_eqb}
-use Rattle.std.proofs.lemmas.List.{drop-append-le, drop-take, get_or-drop, length-drop, take-append-drop, take-append-le}
+use Rattle.std.proofs.lemmas.Bool.{cases_Bool, cond-true, cond-false, and_parts, and_from, and_right, not-true, or_cases, false≢true, or_left}
+use Rattle.std.proofs.lemmas.List.{drop-append-le, drop-take, take-append-le}
 use Rattle.rdlpp_scan.specs.declared.token.Kind.{Kind}
 use Rattle.rdlpp_scan.specs.declared.token.Kind.TheVariants.{Blank, LineEnd, LineComment, Comma, Closer, Name, Word, Back, Str, BlockComment, Opener, Other, Perl as PerlKind, BareBackquote}
 use Rattle.rdlpp_scan.specs.declared.token.LexFault.{LexFault}
@@ -192,7 +192,7 @@ left_fill ts l text left some tokens texts =
     ∙ (others_fill ts l text ∙ sym (by_texts ts l text some))))
 
 -- a `,` at level 0
-comma_token : (rest : List ℕ) → token_of Plain (44 ∷ rest) ≡ whole Comma 1
+pub comma_token : (rest : List ℕ) → token_of Plain (44 ∷ rest) ≡ whole Comma 1
 unfolding token_of plain_token begins_perl is_line_end is_blank begins_line_comment begins_block_comment is_letter is_digit takes_word is_opener is_closer
 comma_token rest = refl
 

@@ -1,10 +1,10 @@
 -- The first stop of a text and of a range of it, and the first stops that an entry keeps.
-use Rattle.std.proofs.Common.{◌≡◌, ℕ, zero, suc, ◌+◌, ◌-◌, ◌<◌, ◌≤◌, Bool, true, false, cond, List, [], ◌∷◌, ⊎_elim, length, take, drop, Option, Some, None, refl, ap, sym, ◌∙◌, arith, ◌++◌, inl, slice_range, subst, if◌then◌else◌, IfSome, get_or, set, append_assoc, replicate, ◌⊎◌, ◌||◌}
+use Rattle.std.proofs.Common.{◌≡◌, ℕ, zero, suc, ◌+◌, ◌-◌, ◌<◌, ◌≤◌, Bool, true, false, cond, List, [], ◌∷◌, ⊎_elim, length, take, drop, Option, Some, None, refl, ap, sym, ◌∙◌, arith, ◌++◌, inl, slice_range, subst, if◌then◌else◌, IfSome, get_or, set, append_assoc, replicate, ◌⊎◌, ◌||◌, le-ltb, drop-set-lt, length-drop, take_all, drop-drop, length-take, take-append-drop}
 use Rattle.std.specs.List.{prefix_len}
-use Rattle.std.proofs.lemmas.Bool.{le-ltb, cases_Bool, false≢true, cond-false, cond-true}
-use Rattle.std.proofs.lemmas.List.{drop_more, take_more_set, drop-set-lt, drop-replicate, length-drop, nil_from_length, take_all, drop-drop, length-take, take-append-drop}
+use Rattle.std.proofs.lemmas.Bool.{cases_Bool, false≢true, cond-false, cond-true}
+use Rattle.std.proofs.lemmas.List.{drop_more, take_more_set, drop-replicate, nil_from_length}
 use Rattle.rdlpp_scan.specs.Bytes.{is_blank, is_digit, is_letter, is_quiet, is_word}
-use Rattle.rdlpp_scan.proofs.CalmFaults.{letter_token}
+use Rattle.rdlpp_scan.proofs.StopKinds.{AtBack, AtBare, AtBlockComment, AtLineComment, AtPerl, AtPlain, AtString, Row, letter_token, token_of-row}
 use Rattle.rdlpp_scan.specs.declared.token.Kind.{Kind}
 use Rattle.rdlpp_scan.specs.declared.token.Kind.TheVariants.{Name, Word, Back, Blank, LineEnd, Str, LineComment, BlockComment, Opener, Closer, Comma, Other, Perl, BareBackquote}
 use Rattle.rdlpp_scan.specs.declared.token.Mode.{Mode}
@@ -12,22 +12,21 @@ use Rattle.rdlpp_scan.specs.declared.token.Mode.TheVariants.{Plain}
 use Rattle.rdlpp_scan.specs.declared.token.Token.{Token}
 use Rattle.rdlpp_scan.specs.Tokens.{token_of, tokens_from, whole}
 use Rattle.rdlpp_scan.proofs.CleanTexts.{blank-step}
-use Rattle.rdlpp_scan.proofs.QuietTokens.{is_still, quiet_first, IsQuietToken}
+use Rattle.rdlpp_scan.proofs.OrdinaryLaws.{is_still, quiet_first, IsQuietToken}
 use Rattle.rdlpp_scan.proofs.TokenLens.{tokens_from-step, token_of-part}
 use Rattle.rdlpp_table.specs.declared.stop.Stop.{Stop}
 use Rattle.rdlpp_table.specs.Table.{Formal, Macro}
 use Rattle.rdlpp_table.specs.Stops.{first_stop, is_none, or_stop, stop_at, stop_name, stop_of, stop_in}
 use Rattle.rdlpp_table.specs.View.{formal_named, TableView, formals_of, macro_at}
 use Rattle.rdlpp_scan.specs.Ordinary.{is_plain_kind}
-use Rattle.rdlpp_scan.proofs.FirstTokens.{plain_token-run, IsRun}
+use Rattle.rdlpp_scan.proofs.RemainingLaws.{plain_token-run, IsRun}
 use Rattle.rdlpp_scan.proofs.RangeLaws.{token_of-front, EndsIn}
-use Rattle.rdlpp_scan.proofs.StopKinds.{Row, AtPerl, AtLineComment, AtBlockComment, AtString, AtBack, AtBare, AtPlain, token_of-row}
 use Rattle.rdlpp_table.specs.Kept.{stop_end, endless, first_stops, kept_from, kept_stop, stop_by, stop_kept, stops_behind}
 use Rattle.rdlpp_table.specs.declared.kept.FirstStops.{FirstStops}
 use Rattle.rdlpp_table.specs.declared.kept.Kept.{Kept}
 use Rattle.rdlpp_table.specs.declared.kept.KeptKind.{KeptKind}
 use Rattle.rdlpp_table.specs.declared.entry.Entry.{Entry}
-use Rattle.rdlpp_table.specs.Store.{body_of, macro_in}
+use Rattle.rdlpp_table.specs.Store.{macro_in}
 use Rattle.rdlpp_table.specs.Layout.{view_of}
 use Rattle.rdlpp_table.proofs.Sizes.{macro_at_entry}
 use Rattle.rdlpp_table.specs.declared.stop.Stop.TheVariants as stop
@@ -482,12 +481,6 @@ stop_next formals text all d k i start l h e q =
 pub macro_here : (bs bytes : List ℕ) (entries : List Entry) (a b : ℕ) (view : TableView) (i j : ℕ) (entry : Entry) → bs ≡ bytes → view_of bytes entries a b ≡ view → i ≡ j → i < length entries → entry ≡ get_or entries i entry → macro_in bs entry ≡ macro_at view.macros j
 macro_here bs bytes entries a b view i j entry p e s h q =
     ap (λ (x : List ℕ). macro_in x entry) p ∙ (ap (macro_in bytes) q ∙ (sym (macro_at_entry bytes entries a b view i entry e h) ∙ ap (macro_at view.macros) s))
-
--- its body, as it was read
-pub body_here : (bs bytes : List ℕ) (entries : List Entry) (a b : ℕ) (view : TableView) (i j : ℕ) (entry : Entry) (body : List ℕ) → bs ≡ bytes → view_of bytes entries a b ≡ view → i ≡ j → i < length entries → entry ≡ get_or entries i entry → body ≡ body_of bs entry → body ≡ (macro_at view.macros j).body
-unfolding macro_in
-body_here bs bytes entries a b view i j entry body p e s h q f =
-    f ∙ ap (λ (m : Macro). m.body) (macro_here bs bytes entries a b view i j entry p e s h q)
 
 pub formals_here : (bs bytes : List ℕ) (entries : List Entry) (a b : ℕ) (view : TableView) (i j : ℕ) (entry : Entry) (formals : List Formal) → bs ≡ bytes → view_of bytes entries a b ≡ view → i ≡ j → i < length entries → entry ≡ get_or entries i entry → formals ≡ formals_of (macro_in bs entry) → formals ≡ formals_of (macro_at view.macros j)
 formals_here bs bytes entries a b view i j entry formals p e s h q f =

@@ -1,19 +1,20 @@
--- The formals of a macro, read from a table's bytes, and the marks of where they begin.
-use Rattle.std.proofs.Common.{◌≡◌, ℕ, ◌+◌, ◌-◌, ◌*◌, ◌/◌, ◌%◌, ◌≤◌, Bool, true, false, not, eqb, nat_eq, inl, inr, List, [], ◌∷◌, ◌++◌, bytes_eq, length, take, drop, get_or, refl, ap, sym, ◌∙◌, arith, rules, length-append, length-drop, eq-eqb, suc, ◌<◌, cond, Option, Some, None, option_map, zero, sum_by, subst, append_assoc, length-take, add-zero}
-use Rattle.std.specs.List.{prefix_len, starts_with, flat_map, list_all}
+-- The formals of a macro, as a table has them and by their shapes.
+use Rattle.std.proofs.Common.{◌≡◌, ℕ, ◌+◌, ◌-◌, ◌*◌, ◌/◌, ◌%◌, ◌≤◌, Bool, true, false, not, eqb, nat_eq, inl, inr, List, [], ◌∷◌, ◌++◌, bytes_eq, length, take, drop, get_or, refl, ap, sym, ◌∙◌, arith, rules, length-append, length-drop, eq-eqb, suc, ◌<◌, cond, Option, Some, None, option_map, zero, sum_by, subst, append_assoc, length-take, add-zero, set, is_some, ⊎_elim, flat_map, eqb-true, le-ltb, lt-ltb, append-nil, drop-drop, drop_at, get_or-drop, get_or-set_other, get_or-set_same, length-set, length-take-le, take-append-drop, take_all, take_at}
 use Rattle.std.specs.Cmp.{unsigned_Decides}
-use Rattle.std.proofs.lemmas.Bool.{lt-ltb, le-ltb, cases_Bool, eqb-true, false≢true, cond-true, cond-false, and_parts}
+use Rattle.std.specs.List.{list_all, prefix_len, starts_with}
+use Rattle.std.proofs.lemmas.Bool.{and_parts, cases_Bool, cases_eq, cases_lt, cond-false, cond-true, false≢true}
 use Rattle.std.proofs.lemmas.Bool.Decides.{leb_tells}
-use Rattle.std.proofs.lemmas.List.{drop_at, drop-drop, get_or-drop, get_or_past, length-take-le, take_at, take-append-drop, take_all, take_more, drop_more, append-nil}
-use Rattle.std.proofs.lemmas.List.Sums.{prefix_len-le-length, prefix_len_stops, sum_by-cons, sum_by-append, sum_by-take-drop}
-use Rattle.std.proofs.lemmas.Slice.Eq.{bytes_eq-Decides, starts_is}
 use Rattle.std.proofs.lemmas.Grind.{flat_map-append}
-use Rattle.rdlpp_table.specs.Table.{Formal, default_bytes, formal_bytes, formal_size}
-use Rattle.rdlpp_table.specs.Store.{formal_behind, formal_read, is_name_byte, formals_read, StoredFormal, is_plain_formal, IsListed}
-use Rattle.rdlpp_table.specs.View.{formal_at, formal_named}
-use Rattle.rdlpp_table.proofs.Sizes.{position_first, length_formal_bytes, length_list_bytes, length_halves, length_start_halves, length_starts}
+use Rattle.std.proofs.lemmas.List.{drop_more, get_or_past, take_more}
+use Rattle.std.proofs.lemmas.List.Sums.{prefix_len-le-length, prefix_len_stops, sum_by-append, sum_by-cons, sum_by-take-drop}
+use Rattle.std.proofs.lemmas.Slice.Eq.{bytes_eq-Decides, starts_is}
 use Rattle.rdlpp_table.specs.Marks.{end_in, halves, is_marked, mark_in, marks_of, starts_of}
-use Rattle.rdlpp_table.proofs.RoundTrip.{read_formal}
+use Rattle.rdlpp_table.specs.Shapes.{AreShapes, shape, shapes_of}
+use Rattle.rdlpp_table.specs.Store.{IsListed, StoredFormal, formal_behind, formal_read, formals_read, is_name_byte, is_plain_formal}
+use Rattle.rdlpp_table.specs.Table.{Formal, default_bytes, formal_bytes, formal_size}
+use Rattle.rdlpp_table.specs.View.{formal_at, formal_named}
+use Rattle.rdlpp_table.proofs.RoundTrip.{count_read, read_formal}
+use Rattle.rdlpp_table.proofs.Sizes.{length_formal_bytes, length_halves, length_list_bytes, length_start_halves, length_starts, position_first}
 
 -- What is told of the formal with which bytes begin, from the bytes of its name and from its size.
 
@@ -211,12 +212,6 @@ passed_last bytes rest text count place i h k p t =
     ∙ ap (λ (fs : List Formal). formal_at fs 0) (read_first (count - (place + 1)) rest)))))
 
 -- Where the formals of a macro begin among their bytes, and what is kept of that.
-
--- as many formals are read as are asked for
-pub count_read : (n : ℕ) (bytes : List ℕ) → length (formals_read n bytes) ≡ n
-unfolding formals_read
-count_read zero bytes = refl
-count_read (suc n) bytes = ap suc (count_read n (formal_read bytes).behind)
 
 -- what is kept of formals that were read, by whether anything is
 pub marks_by : (b : Bool) (count : ℕ) (list : List ℕ) → flat_map formal_bytes (formals_read count list) ≡ list → b ≡ is_marked count (length list) → marks_of (formals_read count list) ≡ cond b (halves (starts_of 0 (formals_read count list))) []
@@ -455,3 +450,83 @@ alone_whole count list marks bytes i l m h e =
 -- the bytes between two places that were read
 pub sliced : (list : List ℕ) (start end from to : ℕ) → start ≡ from → end ≡ to → take (end - start) (drop start list) ≡ take (to - from) (drop from list)
 sliced list start end from to p q = rw (p, q) refl
+
+-- No name is a formal that has another shape than the formals have.
+
+-- what is told stays told
+told_still : (told : List Bool) (j k : ℕ) → get_or told k true ≡ true → get_or (set told j true) k true ≡ true
+told_still told j k h = ⊎_elim
+    (λ e. ⊎_elim
+    (λ l. ap (λ (n : ℕ). get_or (set told j true) n true) e ∙ get_or-set_same told j true true l)
+    (λ p. get_or_past (set told j true) k true (omega (arith, length-set told j true, e, p)))
+    (cases_lt j (length told)))
+    (λ n. get_or-set_other told j k true true n ∙ h)
+    (cases_eq k j)
+
+told_here : (told : List Bool) (k : ℕ) → get_or (set told k true) k true ≡ true
+told_here told k = ⊎_elim
+    (λ l. get_or-set_same told k true true l)
+    (λ p. get_or_past (set told k true) k true (omega (arith, length-set told k true, p)))
+    (cases_lt k (length told))
+
+still : (fs : List Formal) (told : List Bool) (k : ℕ) → get_or told k true ≡ true → get_or (shapes_of fs told) k true ≡ true
+unfolding shapes_of
+still [] told k h = h
+still (f ∷ fs) told k h = still fs (set told (shape f.name) true) k (told_still told (shape f.name) k h)
+
+some_shift : (o : Option ℕ) → is_some (option_map suc o) ≡ is_some o
+some_shift (Some n) = refl
+some_shift None = refl
+
+-- the shape of each formal is told
+pub shapes_told : (fs : List Formal) (told : List Bool) → AreShapes fs (shapes_of fs told)
+unfolding shapes_of
+shapes_told [] told name h = absurd (false≢true h)
+shapes_told (f ∷ fs) told name h =
+    let k = shape name in
+    let next = set told (shape f.name) true in
+    let named = formal_named fs name in
+    let first : formal_named (f ∷ fs) name ≡ cond (bytes_eq f.name name) (Some 0) (option_map suc named) = position_first (λ (g : Formal). bytes_eq g.name name) f fs in
+    ⊎_elim
+    (λ e. let same : f.name ≡ name = (bytes_eq-Decides f.name name).0 e in
+    still fs next k (subst (λ (n : List ℕ). get_or (set told (shape n) true) k true ≡ true) (sym same) (told_here told k)))
+    (λ e. shapes_told fs next name (sym (some_shift named) ∙ sym (ap is_some (first ∙ cond-false _ (Some 0) (option_map suc named) e)) ∙ h))
+    (cases_Bool (bytes_eq f.name name))
+
+-- a name of another shape is copied
+pub no_shape : (formals : List Formal) (told : List Bool) (name : List ℕ) → AreShapes formals told → get_or told (shape name) true ≡ false → None ≡ formal_named formals name
+no_shape formals told name h f = by (formal_named formals name) refl
+  where
+    by : (o : Option ℕ) → formal_named formals name ≡ o → None ≡ formal_named formals name
+    by None e = sym e
+    by (Some n) e = absurd (false≢true (sym f ∙ h name (ap is_some e)))
+
+-- so many formals are told as they are read
+pub told_more : (rest : List ℕ) (count place : ℕ) (told : List Bool) (name behind : List ℕ) → place < count → name ≡ (formal_read rest).formal.name → behind ≡ (formal_read rest).behind
+    → shapes_of (formals_read (count - place) rest) told ≡ shapes_of (formals_read (count - (place + 1)) behind) (set told (shape name) true)
+unfolding shapes_of
+told_more rest count place told name behind h e b =
+    let n : count - place ≡ suc (count - (place + 1)) = omega arith in
+    ap (λ (k : ℕ). shapes_of (formals_read k rest) told) n
+    ∙ ap (λ (fs : List Formal). shapes_of fs told) (read_first (count - (place + 1)) rest)
+    ∙ ap (λ (x : List ℕ). shapes_of (formals_read (count - (place + 1)) (formal_read rest).behind) (set told (shape x) true)) (sym e)
+    ∙ ap (λ (x : List ℕ). shapes_of (formals_read (count - (place + 1)) x) (set told (shape name) true)) (sym b)
+
+pub told_none : (rest : List ℕ) (count place : ℕ) (told : List Bool) → count < place + 1 → shapes_of (formals_read (count - place) rest) told ≡ told
+unfolding shapes_of formals_read
+told_none rest count place told h = let n : count - place ≡ 0 = omega arith in ap (λ (k : ℕ). shapes_of (formals_read k rest) told) n
+
+-- so is each formal where it begins
+pub told_at : (count place : ℕ) (list marks name : List ℕ) (told : List Bool) → IsListed count list marks → place < count → name ≡ (formal_read (flat_map formal_bytes (drop place (formals_read count list)))).formal.name
+    → shapes_of (formals_read (count - place) (flat_map formal_bytes (drop place (formals_read count list)))) told ≡ shapes_of (formals_read (count - (place + 1)) (flat_map formal_bytes (drop (place + 1) (formals_read count list)))) (set told (shape name) true)
+told_at count place list marks name told l h e =
+    let fs : List Formal = formals_read count list in
+    let rest : List ℕ = flat_map formal_bytes (drop place fs) in
+    let behind : flat_map formal_bytes (drop (place + 1) fs) ≡ (formal_read rest).behind = ap (λ (s : StoredFormal). s.behind) (sym (read_at fs place l.plain (omega (arith, count_read count list)))) in
+    told_more rest count place told name (flat_map formal_bytes (drop (place + 1) fs)) h e behind
+
+-- at first all of them are left
+pub told_start : (count : ℕ) (list marks : List ℕ) (told : List Bool) → IsListed count list marks → shapes_of (formals_read count list) told ≡ shapes_of (formals_read (count - 0) (flat_map formal_bytes (drop 0 (formals_read count list)))) told
+told_start count list marks told l =
+    let n : count - 0 ≡ count = omega arith in
+    ap (λ (x : List ℕ). shapes_of (formals_read count x) told) (sym l.whole) ∙ ap (λ (k : ℕ). shapes_of (formals_read k (flat_map formal_bytes (drop 0 (formals_read count list)))) told) (sym n)

@@ -1,8 +1,8 @@
 -- A macro that is to be stored: its body, its formals, and the lists of a table with it.
-use Rattle.std.proofs.Common.{◌≡◌, ℕ, true, false, List, [], ◌∷◌, ◌++◌, take, drop, Option, Some, None, Ok, Err, refl, ap, sym, ◌∙◌, inl, inr, zero, suc, ◌+◌, ◌<◌, ◌≤◌, Bool, cond, ◌||◌, eqb, ltb, length, get_or, map, bytes_eq, unwrap_or, subst, arith, length-append, ◌-◌, ◌*◌, ◌/◌, slice_range, is_some, option_map, sum_by, append_assoc, append-nil}
-use Rattle.std.proofs.lemmas.Bool.{cases_Bool, cond-true, cond-false, eqb-false, ltb-false}
-use Rattle.std.specs.List.{IsDistinct, list_any, flat_map, list_all}
-use Rattle.std.proofs.lemmas.List.{map-append, drop_at, nil_from_length}
+use Rattle.std.proofs.Common.{◌≡◌, ℕ, true, false, List, [], ◌∷◌, ◌++◌, take, drop, Option, Some, None, Ok, Err, refl, ap, sym, ◌∙◌, inl, inr, zero, suc, ◌+◌, ◌<◌, ◌≤◌, Bool, cond, ◌||◌, eqb, ltb, length, get_or, map, bytes_eq, unwrap_or, subst, arith, length-append, ◌-◌, ◌*◌, ◌/◌, slice_range, is_some, option_map, sum_by, append_assoc, append-nil, ltb-false, flat_map, drop_at}
+use Rattle.std.proofs.lemmas.Bool.{cases_Bool, cond-true, cond-false, eqb-false}
+use Rattle.std.specs.List.{IsDistinct, list_any, list_all}
+use Rattle.std.proofs.lemmas.List.{map-append, nil_from_length}
 use Rattle.std.proofs.lemmas.List.Elements.{All-nil, All-push}
 use Rattle.std.proofs.lemmas.Cmp.{nat_list_eq_equiv}
 use Rattle.std.proofs.lemmas.Map.Keys.{IsDistinct-push}

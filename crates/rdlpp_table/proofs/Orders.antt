@@ -1,21 +1,19 @@
--- The order of names, the parts of the index in which they stand, and a search by halving.
-use Rattle.std.proofs.Common.{◌≡◌, ℕ, zero, suc, ◌+◌, ◌-◌, ◌*◌, ◌<◌, ◌≤◌, true, false, List, [], ◌∷◌, length, get_or, take, drop, refl, sym, ap, ◌∙◌, subst, arith, ◌%◌, ◌^◌, Bool, cond, bytes_eq, ltb, Some, None, inl, inr}
-use Rattle.std.proofs.lemmas.Bool.{true≢false, cases_lt, cases_Bool, cond-true, cond-false, lt-ltb, le-ltb, false≢true}
-use Rattle.std.proofs.lemmas.List.{get_or-drop, length-drop, take_all, drop_all}
-use Rattle.std.specs.declared.cmp.Ordering.{Ordering}
-use Rattle.std.specs.declared.cmp.Ordering.TheVariants.{Less, Equal, Greater}
-use Rattle.std.specs.Ordering.{MatchOrdering, is_ne, nat_cmp, ordering_then, is_eq, ordering_reverse}
+-- The order of names, and of places in lists that a change moves.
+use Rattle.std.proofs.Common.{◌≡◌, ℕ, zero, suc, ◌+◌, ◌-◌, ◌*◌, ◌<◌, ◌≤◌, true, false, List, [], ◌∷◌, length, get_or, take, drop, refl, sym, ap, ◌∙◌, subst, arith, ◌%◌, ◌^◌, Bool, cond, bytes_eq, ltb, Some, None, inl, inr, ◌==◌, map, ◌++◌, length-append, remove, append_assoc, position, is_eq, nat_cmp, Ordering, Equal, Greater, Less, set, pow-suc, drop-cons, eq-eqb, le-ltb, lt-ltb, ne_eqb, true≢false, drop-drop, drop_at, get_or-append-add, get_or-drop, get_or-take, length-drop, length-take-le, take-take, take_all, take_at}
 use Rattle.std.specs.Cmp.{nat_cmp_is, ranks}
+use Rattle.std.specs.List.{AllByRecursion, IsDistinct}
+use Rattle.std.specs.Ordering.{MatchOrdering, is_ne, ordering_reverse, ordering_then}
 use Rattle.std.specs.Slice.Scan.{big_endian}
-use Rattle.std.proofs.Math.Seq.{drop-cons}
-use Rattle.std.specs.List.{position}
 use Rattle.std.proofs.Math.ListN.{get_or-map}
+use Rattle.std.proofs.lemmas.Bool.{cases_Bool, cases_lt, cond-false, cond-true, false≢true}
+use Rattle.std.proofs.lemmas.Cmp.{nat_list_cmp_total, nat_list_eq_equiv}
+use Rattle.std.proofs.lemmas.List.{drop-append-le, drop-take, drop_all, drop_more, get_or_append_left, get_or_at, length-map, map_more, set_at, take_more}
+use Rattle.std.proofs.lemmas.List.Quantifiers.{position-Some}
 use Rattle.std.proofs.lemmas.List.Sums.{position_or_len_is}
-use Rattle.std.proofs.lemmas.Cmp.{nat_list_cmp_total}
+use Rattle.std.proofs.lemmas.Map.Keys.{IsDistinct-head, IsDistinct-tail}
 use Rattle.std.proofs.lemmas.Map.Text.{is_eq-slice_cmp}
 use Rattle.std.proofs.lemmas.Slice.Eq.{bytes_eq-Decides}
-use Rattle.std.proofs.Math.Nat.{pow-suc}
-use Rattle.rdlpp_table.specs.Index.{name_order, rolled, stirred, stirred_through, IsGap, IsIndex, IsPlace, index_order, key_at, name_at, names_of, part_of, IsCounted, IsDivided, IsMiddle}
+use Rattle.rdlpp_table.specs.Index.{IsCounted, IsDivided, IsGap, IsIndex, IsMiddle, IsPlace, index_order, key_at, name_at, name_order, names_of, part_of, rolled, stirred, stirred_through}
 use Rattle.rdlpp_table.specs.Table.{Macro}
 use Rattle.rdlpp_table.specs.View.{macro_at, no_macro, place_named}
 
@@ -381,3 +379,221 @@ seek_down names order name low high first now middle next x s h m above e =
 pub seek_found : (names : List (List ℕ)) (order name : List ℕ) (low high first now middle : ℕ) → IsSeeking names order name low high first now → low < high → IsMiddle low high middle → name_order (key_at names order middle) name ≡ Equal → IsPlace names order name middle
 seek_found names order name low high first now middle s h m e =
     record { inside = omega (arith, s.fits, m.to); same = same_name _ name e }
+
+-- In a table with distinct names, and in a macro with distinct formals, place and name are one.
+
+all_at : {X : Type 0} (P : List ℕ → Type 0) (f : X → List ℕ) (xs : List X) (k : ℕ) (d : X) → AllByRecursion P (map f xs) → k < length xs → P (f (get_or xs k d))
+all_at P f [] k d h l = absurd (omega arith)
+all_at P f (x ∷ xs) zero d h l = h.0
+all_at P f (x ∷ xs) (suc k) d h l = all_at P f xs k d h.1 (omega arith)
+
+apart : {X : Type 0} (f : X → List ℕ) (xs : List X) (i j : ℕ) (d : X) → IsDistinct bytes_eq (map f xs) → i < j → j < length xs → bytes_eq (f (get_or xs i d)) (f (get_or xs j d)) ≡ false
+apart f [] i j d h l m = absurd (omega arith)
+apart f (x ∷ xs) i zero d h l m = absurd (omega arith)
+apart f (x ∷ xs) zero (suc j) d h l m = all_at (λ y. bytes_eq (f x) y ≡ false) f xs j d (IsDistinct-head bytes_eq (f x) (map f xs) h) (omega arith)
+apart f (x ∷ xs) (suc i) (suc j) d h l m = apart f xs i j d (IsDistinct-tail bytes_eq (f x) (map f xs) h) (omega arith) (omega arith)
+
+-- among distinct names, the one at the place of a name is that name, and no other is
+pub name_of_place : {X : Type 0} (f : X → List ℕ) (xs : List X) (d : X) (name : List ℕ) (i j : ℕ) → IsDistinct bytes_eq (map f xs) → position (λ x. bytes_eq (f x) name) xs ≡ Some i → j < length xs → bytes_eq name (f (get_or xs j d)) ≡ (i == j)
+name_of_place f xs d name i j h e l =
+    let p = position-Some (λ x. bytes_eq (f x) name) xs i d e in
+    let same : f (get_or xs i d) ≡ name = (bytes_eq-Decides (f (get_or xs i d)) name).0 p.1 in
+    elim (cases_lt i j) [
+      | inl b ↦
+          ap (λ (n : List ℕ). bytes_eq n (f (get_or xs j d))) (sym same) ∙ (apart f xs i j d h b l ∙ sym (ne_eqb i j (λ q. absurd (omega arith))))
+      | inr b ↦ elim (cases_lt j i) [
+        | inl c ↦
+            ap (λ (n : List ℕ). bytes_eq n (f (get_or xs j d))) (sym same) ∙ (nat_list_eq_equiv.symm (f (get_or xs i d)) (f (get_or xs j d)) ∙ (apart f xs j i d h c p.0 ∙ sym (ne_eqb i j (λ q. absurd (omega arith)))))
+        | inr c ↦
+            let here : i ≡ j = omega arith in
+            (bytes_eq-Decides name (f (get_or xs j d))).1 (sym same ∙ ap (λ (k : ℕ). f (get_or xs k d)) here) ∙ sym (eq-eqb i j here)
+      ]
+    ]
+
+-- the macro at a place has the name by which that place was found, and no other has
+pub place_of_name : (ms : List Macro) (name : List ℕ) (id j : ℕ) → IsDistinct bytes_eq (map (λ m. m.name) ms) → place_named ms name ≡ Some id → j < length ms → bytes_eq name (macro_at ms j).name ≡ (id == j)
+place_of_name ms name id j h e l = name_of_place (λ m. m.name) ms no_macro name id j h e l
+
+-- the macro at a place is the one that is found by its name
+pub place_of_own : (ms : List Macro) (name : List ℕ) (i : ℕ) → IsDistinct bytes_eq (map (λ m. m.name) ms) → i < length ms → (macro_at ms i).name ≡ name → place_named ms name ≡ Some i
+place_of_own ms name i d h e =
+    position_is (λ m. bytes_eq m.name name) ms i no_macro h
+    (λ k g. ap (bytes_eq (macro_at ms k).name) (sym e) ∙ apart (λ m. m.name) ms k i no_macro d g h)
+    ((bytes_eq-Decides _ _).1 e)
+
+-- the same, where the name at that place was compared with the one that is looked for
+pub place_compared : (ms : List Macro) (own name : List ℕ) (i : ℕ) → IsDistinct bytes_eq (map (λ m. m.name) ms) → i < length ms → own ≡ (macro_at ms i).name → bytes_eq own name ≡ true → Some i ≡ place_named ms name
+place_compared ms own name i d h e t = sym (place_of_own ms name i d h (sym e ∙ (bytes_eq-Decides own name).0 t))
+
+-- Lists of which what is behind a place comes a place to the front.
+
+-- the element that comes to a place is the one so many places behind it
+pub drawn : {A : Type 0} (f : A → A) (old now : List A) (by k : ℕ) (d e : A) → k + by < length old → now ≡ map f (take k (drop by old)) ++ drop k old → get_or (set now k (get_or now (k + by) d)) k e ≡ get_or (drop by old) k d
+drawn f old now by k d e h p =
+    let rest : List _ = drop by old in
+    let many : k < length rest = omega (arith, length-drop by old) in
+    let front : List _ = map f (take k rest) in
+    let long : length front ≡ k = length-map (take k rest) f ∙ length-take-le k rest (omega arith) in
+    let behind : List _ = drop (k + 1) old in
+    let x : _ = get_or now (k + by) d in
+    let split : now ≡ front ++ get_or old k d ∷ behind = p ∙ ap (λ (l : List _). front ++ l) (drop_more old k d (omega arith)) in
+    let once : set now k x ≡ front ++ x ∷ behind = ap (λ (l : List _). set l k x) split ∙ set_at front (get_or old k d) behind x k long in
+    let from : length front + by ≡ k + by = omega arith in
+    ap (λ (l : List _). get_or l k e) once
+    ∙ (get_or_at front x behind e k long
+    ∙ (ap (λ (l : List _). get_or l (k + by) d) p
+    ∙ (ap (λ (i : ℕ). get_or (front ++ drop k old) i d) (sym from)
+    ∙ (get_or-append-add front (drop k old) by d
+    ∙ (get_or-drop k old by d ∙ (ap (λ (i : ℕ). get_or old i d) (let s : k + by ≡ by + k = omega arith in s) ∙ sym (get_or-drop by old k d)))))))
+
+-- one more place: the element behind it comes there, and is changed
+pub drawn_more : {A : Type 0} (f : A → A) (old now : List A) (by k : ℕ) (z d e : A) → k + by < length old → now ≡ map f (take k (drop by old)) ++ drop k old → z ≡ f (get_or (set now k (get_or now (k + by) d)) k e) → set (set now k (get_or now (k + by) d)) k z ≡ map f (take (k + 1) (drop by old)) ++ drop (k + 1) old
+drawn_more f old now by k z d e h p q =
+    let rest : List _ = drop by old in
+    let many : k < length rest = omega (arith, length-drop by old) in
+    let front : List _ = map f (take k rest) in
+    let long : length front ≡ k = length-map (take k rest) f ∙ length-take-le k rest (omega arith) in
+    let behind : List _ = drop (k + 1) old in
+    let x : _ = get_or now (k + by) d in
+    let split : now ≡ front ++ get_or old k d ∷ behind = p ∙ ap (λ (l : List _). front ++ l) (drop_more old k d (omega arith)) in
+    let once : set now k x ≡ front ++ x ∷ behind = ap (λ (l : List _). set l k x) split ∙ set_at front (get_or old k d) behind x k long in
+    let twice : set (set now k x) k z ≡ front ++ z ∷ behind = ap (λ (l : List _). set l k z) once ∙ set_at front x behind z k long in
+    let changed : z ≡ f (get_or rest k d) = q ∙ ap f (drawn f old now by k d e h p) in
+    twice
+    ∙ (ap (λ (y : _). front ++ y ∷ behind) changed
+    ∙ (sym (append_assoc front (f (get_or rest k d) ∷ []) behind)
+    ∙ ap (λ (l : List _). l ++ behind) (sym (map_more f rest k d many))))
+
+-- the element that comes to a place is the one before it
+pub raised : {A : Type 0} (f : A → A) (old now : List A) (j k n : ℕ) (d e : A) → k ≡ j + 1 → k ≤ n → n < length old → now ≡ take (k + 1) old ++ map f (drop k (take n old)) → get_or (set now k (get_or now j d)) k e ≡ get_or (take n old) j d
+raised f old now j k n d e s h g p =
+    let behind : List _ = map f (drop k (take n old)) in
+    let x : _ = get_or now j d in
+    let long : length (take k old) ≡ k = length-take-le k old (omega arith) in
+    let more : length (take (k + 1) old) ≡ k + 1 = length-take-le (k + 1) old (omega arith) in
+    let split : now ≡ take k old ++ get_or old k d ∷ behind =
+    p ∙ (ap (λ (l : List _). l ++ behind) (take_more old k d (omega arith)) ∙ append_assoc (take k old) (get_or old k d ∷ []) behind) in
+    let once : set now k x ≡ take k old ++ x ∷ behind = ap (λ (l : List _). set l k x) split ∙ set_at (take k old) (get_or old k d) behind x k long in
+    ap (λ (l : List _). get_or l k e) once
+    ∙ (get_or_at (take k old) x behind e k long
+    ∙ (ap (λ (l : List _). get_or l j d) p
+    ∙ (get_or_append_left (take (k + 1) old) behind d j (omega arith)
+    ∙ (get_or-take (k + 1) old j d (omega arith) ∙ sym (get_or-take n old j d (omega arith))))))
+
+-- one more place: the element before it comes there, and is changed
+pub raised_more : {A : Type 0} (f : A → A) (old now : List A) (j k n : ℕ) (z d e : A) → k ≡ j + 1 → k ≤ n → n < length old → now ≡ take (k + 1) old ++ map f (drop k (take n old)) → z ≡ f (get_or (set now k (get_or now j d)) k e) → set (set now k (get_or now j d)) k z ≡ take (j + 1) old ++ map f (drop j (take n old))
+raised_more f old now j k n z d e s h g p q =
+    let behind : List _ = map f (drop k (take n old)) in
+    let x : _ = get_or now j d in
+    let long : length (take k old) ≡ k = length-take-le k old (omega arith) in
+    let some : j < length (take n old) = omega (arith, length-take-le n old (omega arith)) in
+    let split : now ≡ take k old ++ get_or old k d ∷ behind =
+    p ∙ (ap (λ (l : List _). l ++ behind) (take_more old k d (omega arith)) ∙ append_assoc (take k old) (get_or old k d ∷ []) behind) in
+    let once : set now k x ≡ take k old ++ x ∷ behind = ap (λ (l : List _). set l k x) split ∙ set_at (take k old) (get_or old k d) behind x k long in
+    let twice : set (set now k x) k z ≡ take k old ++ z ∷ behind = ap (λ (l : List _). set l k z) once ∙ set_at (take k old) x behind z k long in
+    let changed : z ≡ f (get_or (take n old) j d) = q ∙ ap f (raised f old now j k n d e s h g p) in
+    twice
+    ∙ (ap (λ (y : _). take k old ++ y ∷ behind) changed
+    ∙ (ap (λ (i : ℕ). take i old ++ f (get_or (take n old) j d) ∷ map f (drop i (take n old))) s
+    ∙ ap (λ (l : List _). take (j + 1) old ++ map f l) (sym (drop_more (take n old) j d some))))
+
+-- what is behind a place, once the element there was taken out
+pub behind_removed : {A : Type 0} (xs : List A) (place : ℕ) → place < length xs → drop place (remove xs place) ≡ drop 1 (drop place xs)
+behind_removed xs place h =
+    drop_at (take place xs) (drop (suc place) xs) place (length-take-le place xs (omega arith))
+    ∙ (ap (λ (k : ℕ). drop k xs) (let s : suc place ≡ place + 1 = omega arith in s) ∙ sym (drop-drop 1 place xs))
+
+-- what is before a place, once the element there was taken out
+pub before_removed : {A : Type 0} (xs : List A) (place : ℕ) → place < length xs → take place (remove xs place) ≡ take place xs
+before_removed xs place h = take_at (take place xs) (drop (suc place) xs) place (length-take-le place xs (omega arith))
+
+-- what is behind a place, as a part of a slice
+pub tail_of : {A : Type 0} (xs am : List A) (place : ℕ) → am ≡ xs → take (length am - place) (drop place am) ≡ drop place xs
+tail_of xs am place e = take_all (length am - place) (drop place am) (omega (arith, length-drop place am)) ∙ ap (drop place) e
+
+regrouped : {A : Type 0} (front moved last post junk : List A) → (front ++ ((moved ++ last) ++ post)) ++ junk ≡ (front ++ moved) ++ (last ++ (post ++ junk))
+regrouped front moved last post junk = simp append_assoc
+
+-- the list without its last place, once what is behind a place came to the front
+pub closed_list : {A : Type 0} (f : A → A) (xs am given left post junk : List A) (place len n : ℕ) → place < length xs → len ≡ length xs → n ≡ len → am ≡ xs → given ≡ map f (drop 1 (take (length am - place) (drop place am))) ++ drop (length (take (length am - place) (drop place am)) - 1) (take (length am - place) (drop place am)) → left ≡ take (n - 1) (take len ((take place am ++ (given ++ post)) ++ junk)) → left ≡ take place (remove xs place) ++ map f (drop place (remove xs place))
+closed_list f xs am given left post junk place len n h e m a g l =
+    let tail : List _ = drop place xs in
+    let moved : List _ = map f (drop 1 tail) in
+    let last : List _ = drop (length tail - 1) tail in
+    let parts : given ≡ moved ++ last = g ∙ ap (λ (t : List _). map f (drop 1 t) ++ drop (length t - 1) t) (tail_of xs am place a) in
+    let front : length (take place xs) ≡ place = length-take-le place xs (omega arith) in
+    let long : length (take place xs ++ moved) ≡ n - 1 = omega (arith, length-append (take place xs) moved, length-map (drop 1 tail) f, length-drop 1 tail, length-drop place xs) in
+    l
+    ∙ (take-take (n - 1) len _ (omega arith)
+    ∙ (ap (λ (y : List _). take (n - 1) ((take place y ++ (given ++ post)) ++ junk)) a
+    ∙ (ap (λ (y : List _). take (n - 1) ((take place xs ++ (y ++ post)) ++ junk)) parts
+    ∙ (ap (take (n - 1)) (regrouped (take place xs) moved last post junk)
+    ∙ (take_at (take place xs ++ moved) (last ++ (post ++ junk)) (n - 1) long
+    ∙ (ap (λ (y : List _). y ++ moved) (sym (before_removed xs place h))
+    ∙ ap (λ (y : List _). take place (remove xs place) ++ map f y) (sym (behind_removed xs place h))))))))
+
+regrouped_front : {A : Type 0} (front first moved back : List A) → front ++ ((first ++ moved) ++ back) ≡ (front ++ first) ++ (moved ++ back)
+regrouped_front front first moved back = simp append_assoc
+
+-- what is before a place behind so many others
+pub raised_low : {A : Type 0} (xs am : List A) (front place k : ℕ) → k ≡ place + 1 → front + place < length xs → am ≡ xs → take (length (take k (drop front am)) - 1) (take k (drop front am)) ≡ take place (remove (drop front xs) place)
+raised_low xs am front place k s h a =
+    let rest : List _ = drop front xs in
+    let some : place < length rest = omega (arith, length-drop front xs) in
+    let size : length (take (place + 1) rest) ≡ place + 1 = length-take-le (place + 1) rest (omega arith) in
+    let same : take k (drop front am) ≡ take (place + 1) rest = ap (λ (i : ℕ). take i (drop front am)) s ∙ ap (λ (y : List _). take (place + 1) (drop front y)) a in
+    ap (λ (y : List _). take (length y - 1) y) same
+    ∙ (ap (λ (i : ℕ). take i (take (place + 1) rest)) (let i : length (take (place + 1) rest) - 1 ≡ place = omega arith in i)
+    ∙ (take-take place (place + 1) rest (omega arith) ∙ sym (before_removed rest place some)))
+
+-- the list behind so many places, and one more, once what is before a place behind them came a place to the back
+pub raised_list : {A : Type 0} (f : A → A) (xs am given junk left : List A) (front place k len : ℕ) → k ≡ place + 1 → front + place < length xs → len ≡ length xs → am ≡ xs → given ≡ take 1 (take k (drop front am)) ++ map f (take (length (take k (drop front am)) - 1) (take k (drop front am))) → left ≡ take len ((take front am ++ (given ++ drop k (drop front am))) ++ junk) → drop (front + 1) left ≡ map f (take place (remove (drop front xs) place)) ++ drop place (remove (drop front xs) place)
+raised_list f xs am given junk left front place k len s h e a g l =
+    let rest : List _ = drop front xs in
+    let some : place < length rest = omega (arith, length-drop front xs) in
+    let part : List _ = take (place + 1) rest in
+    let size : length part ≡ place + 1 = length-take-le (place + 1) rest (omega arith) in
+    let moved : List _ = map f (take place rest) in
+    let same : take k (drop front am) ≡ part = ap (λ (i : ℕ). take i (drop front am)) s ∙ ap (λ (y : List _). take (place + 1) (drop front y)) a in
+    let shorter : take (length part - 1) part ≡ take place rest = ap (λ (i : ℕ). take i part) (let i : length part - 1 ≡ place = omega arith in i) ∙ take-take place (place + 1) rest (omega arith) in
+    let parts : given ≡ take 1 part ++ moved =
+    g ∙ (ap (λ (y : List _). take 1 y ++ map f (take (length y - 1) y)) same ∙ ap (λ (y : List _). take 1 part ++ map f y) shorter) in
+    let back : drop k (drop front am) ≡ drop (place + 1) rest = ap (λ (i : ℕ). drop i (drop front am)) s ∙ ap (λ (y : List _). drop (place + 1) (drop front y)) a in
+    let whole : take front am ++ (given ++ drop k (drop front am)) ≡ (take front xs ++ take 1 part) ++ (moved ++ drop (place + 1) rest) =
+    ap (λ (y : List _). take front y ++ (given ++ drop k (drop front am))) a
+    ∙ (ap (λ (y : List _). take front xs ++ (y ++ drop k (drop front am))) parts
+    ∙ (ap (λ (y : List _). take front xs ++ ((take 1 part ++ moved) ++ y)) back
+    ∙ regrouped_front (take front xs) (take 1 part) moved (drop (place + 1) rest))) in
+    let first : length (take front xs ++ take 1 part) ≡ front + 1 = omega (arith, length-append (take front xs) (take 1 part), length-take-le front xs (omega arith), length-take-le 1 part (omega arith)) in
+    let all : length (take front am ++ (given ++ drop k (drop front am))) ≡ len = omega (arith, ap length whole, length-append (take front xs ++ take 1 part) (moved ++ drop (place + 1) rest), first, length-append moved (drop (place + 1) rest), length-map (take place rest) f, length-take-le place rest (omega arith), length-drop (place + 1) rest, length-drop front xs, e) in
+    ap (drop (front + 1)) (l ∙ (take_at (take front am ++ (given ++ drop k (drop front am))) junk len all ∙ whole))
+    ∙ (drop_at (take front xs ++ take 1 part) (moved ++ drop (place + 1) rest) (front + 1) first
+    ∙ (ap (λ (y : List _). map f y ++ drop (place + 1) rest) (sym (before_removed rest place some))
+    ∙ ap (λ (y : List _). map f (take place (remove rest place)) ++ y) (sym (behind_removed rest place some ∙ drop-drop 1 place rest))))
+
+-- what is behind a place that is counted from the front, once the element there was taken out
+pub live_behind : {A : Type 0} (items : List A) (front place : ℕ) → front + place < length items → drop (front + place) (remove items (front + place)) ≡ drop place (remove (drop front items) place)
+live_behind items front place h =
+    behind_removed items (front + place) h
+    ∙ (ap (drop 1) (sym (drop-drop place front items)) ∙ sym (behind_removed (drop front items) place (omega (arith, length-drop front items))))
+
+-- the same, of the whole list
+pub live_taken : {A : Type 0} (f : A → A) (items left : List A) (front place : ℕ) → front + place < length items → left ≡ take (front + place) (remove items (front + place)) ++ map f (drop (front + place) (remove items (front + place))) → drop front left ≡ take place (remove (drop front items) place) ++ map f (drop place (remove (drop front items) place))
+live_taken f items left front place h e =
+    let back : List _ = map f (drop (front + place) (remove items (front + place))) in
+    let long : front ≤ length (take (front + place) items) = omega (arith, length-take-le (front + place) items (omega arith)) in
+    ap (drop front) (e ∙ ap (λ (y : List _). y ++ back) (before_removed items (front + place) h))
+    ∙ (drop-append-le front (take (front + place) items) back long
+    ∙ (ap (λ (y : List _). y ++ back) (drop-take front place items ∙ sym (before_removed (drop front items) place (omega (arith, length-drop front items))))
+    ∙ ap (λ (y : List _). take place (remove (drop front items) place) ++ map f y) (live_behind items front place h)))
+
+-- the list of what is behind so many places, once all of that came to the front
+pub settled_list : {A : Type 0} (f : A → A) (xs am given junk left : List A) (front len n : ℕ) → front ≤ length xs → len ≡ length xs → n ≡ len → am ≡ xs → given ≡ map f (drop front am) ++ drop (length am - front) am → left ≡ take (n - front) (take len (given ++ junk)) → left ≡ map f (drop front xs)
+settled_list f xs am given junk left front len n h e m a g l =
+    let parts : given ≡ map f (drop front xs) ++ drop (length xs - front) xs = g ∙ ap (λ (y : List _). map f (drop front y) ++ drop (length y - front) y) a in
+    let long : length (map f (drop front xs)) ≡ n - front = omega (arith, length-map (drop front xs) f, length-drop front xs) in
+    l
+    ∙ (take-take (n - front) len _ (omega arith)
+    ∙ (ap (λ (y : List _). take (n - front) (y ++ junk)) parts
+    ∙ (ap (take (n - front)) (append_assoc (map f (drop front xs)) _ junk)
+    ∙ take_at (map f (drop front xs)) _ (n - front) long)))

@@ -1,7 +1,7 @@
 -- A formal list as it is read, and its formals as they are appended to a table's bytes.
-use Rattle.std.proofs.Common.{◌≡◌, ℕ, zero, suc, ◌+◌, ◌-◌, ◌<◌, Bool, true, false, cond, not, ◌||◌, List, [], ◌∷◌, ◌++◌, length, map, take, drop, get_or, eqb, ltb, leb, bytes_eq, sum_by, unwrap_or, length-append, Option, Some, None, refl, ap, sym, ◌∙◌, arith, inl, inr, ◌⊎◌, one-add, ◌≤◌, is_some, append_assoc, append-nil, eq-eqb, Ok}
-use Rattle.std.specs.List.{list_any, list_all, prefix_len, flat_map}
-use Rattle.std.proofs.lemmas.Bool.{both_ways, cases_Bool, cond-false, and_from, eqb-true, false_from_ne_true, leb-true, leb-false, cond-true, false≢true, ne_eqb}
+use Rattle.std.proofs.Common.{◌≡◌, ℕ, zero, suc, ◌+◌, ◌-◌, ◌<◌, Bool, true, false, cond, not, ◌||◌, List, [], ◌∷◌, ◌++◌, length, map, take, drop, get_or, eqb, ltb, leb, bytes_eq, sum_by, unwrap_or, length-append, Option, Some, None, refl, ap, sym, ◌∙◌, arith, inl, inr, ◌⊎◌, one-add, ◌≤◌, is_some, append_assoc, append-nil, eq-eqb, Ok, flat_map, eqb-true, leb-true, leb-false, ne_eqb}
+use Rattle.std.specs.List.{list_any, list_all, prefix_len}
+use Rattle.std.proofs.lemmas.Bool.{both_ways, cases_Bool, cond-false, and_from, false_from_ne_true, cond-true, false≢true}
 use Rattle.std.proofs.lemmas.List.{map-append, length-map}
 use Rattle.std.proofs.lemmas.List.Folds.{list_all-append}
 use Rattle.std.proofs.lemmas.List.Sums.{sum_by-append}

@@ -1,29 +1,33 @@
--- Sizes are lengths, entries lie among the bytes, and what follows from how a table lies in its lists.
-use Rattle.std.proofs.Common.{◌≡◌, ℕ, zero, suc, ◌+◌, ◌-◌, ◌≤◌, Bool, cond, not, ltb, one-add, List, [], ◌∷◌, length, get_or, Option, Some, None, option_map, refl, ap, sym, ◌∙◌, arith, inl, inr, ◌*◌, ◌/◌, true, false, Vec, Global, vec_len, rules, ◌<◌, ◌++◌, take, unwrap_or, sum_by, length-append, add-zero, is_some, subst, drop}
-use Rattle.std.specs.List.{prefix_len, position_or_len, position, find, slice_get, All, flat_map, IsDistinct}
-use Rattle.std.proofs.lemmas.List.Folds.{find_at}
-use Rattle.std.proofs.lemmas.Option.{slice_get-get_or}
-use Rattle.std.proofs.lemmas.Bool.{cases_Bool, cases_lt, lt-ltb, le-ltb, cond-true, cond-false}
-use Rattle.std.proofs.lemmas.List.Elements.{All-cons, All-nil}
-use Rattle.std.proofs.lemmas.List.Sums.{sum_by-cons, sum_by-append}
+-- Sizes, the ranges of limits, and worked rows of both.
+use Rattle.std.proofs.Common.{◌≡◌, ℕ, zero, suc, ◌+◌, ◌-◌, ◌≤◌, Bool, cond, not, ltb, one-add, List, [], ◌∷◌, length, get_or, Option, Some, None, option_map, refl, ap, sym, ◌∙◌, arith, inl, inr, ◌*◌, ◌/◌, true, false, Vec, Global, vec_len, rules, ◌<◌, ◌++◌, take, unwrap_or, sum_by, length-append, add-zero, is_some, subst, drop, leb, codes, All, find, flat_map, position, le-leb, le-ltb, leb-true, lt-ltb, length-drop}
+use Rattle.std.specs.List.{IsDistinct, position_or_len, prefix_len}
+use Rattle.std.proofs.lemmas.Bool.{and_from, and_parts, cases_Bool, cases_lt, cond-false, cond-true}
 use Rattle.std.proofs.lemmas.Bool.Decides.{leb_tells}
-use Rattle.std.proofs.lemmas.List.{get_or_default, length-drop, length-map, get_or-map}
+use Rattle.std.proofs.lemmas.List.{get_or-map, get_or_default, length-map}
+use Rattle.std.proofs.lemmas.List.Elements.{All-cons, All-nil}
+use Rattle.std.proofs.lemmas.List.Folds.{find_at}
 use Rattle.std.proofs.lemmas.List.Quantifiers.{position-Some}
-use Rattle.rdlpp_table.specs.declared.entry.Entry.{Entry}
-use Rattle.rdlpp_table.specs.Table.{Formal, Macro, default_bytes, default_size, formal_size, macro_size, table_size, formal_bytes, macro_bytes, table_bytes, macro_named}
-use Rattle.rdlpp_table.specs.View.{macro_at, TableView, formals_of, no_macro, place_named}
-use Rattle.rdlpp_table.specs.Store.{entry_of, entries_of, entry_end, body_start, list_start, list_size, IsStored, macros_in, macro_in, body_of, name_of}
-use Rattle.rdlpp_table.specs.Marks.{halves, is_marked, macro_marks, marks_of, starts_of, table_marks}
-use Rattle.rdlpp_table.specs.Entries.{marks_len, AreWithin}
+use Rattle.std.proofs.lemmas.List.Sums.{sum_by-append, sum_by-cons}
+use Rattle.std.proofs.lemmas.Option.{slice_get-get_or, slice_get_past}
+use Rattle.rdlpp_scan.specs.Bytes.{begins_block_comment, begins_line_comment, begins_perl, ends_block_comment, is_blank, is_closer, is_digit, is_letter, is_line_end, is_opener, is_word, takes_word}
+use Rattle.rdlpp_scan.specs.LexFaults.{fault_of_tokens, is_perl, lex_fault_from, open_fault}
+use Rattle.rdlpp_scan.specs.Reserved.{is_reserved, reserved_names}
+use Rattle.rdlpp_scan.specs.SourceTokens.{is_continued, logical_len}
+use Rattle.rdlpp_scan.specs.Tokens.{block_token, first_place, plain_token, string_stop, string_token, token_of, tokens_from, whole}
+use Rattle.rdlpp_table.specs.Define.{Drawn, after_space, behind_name, continuation_len, default_in, default_of_tokens, ends_default, formal_fault, formal_in, formal_list, formal_name, formals_in, formals_of_list, is_space, leading_name, level_behind, logical_text, macro_from, macro_of, name_fault, onto_default, onto_trimmed, trimmed, trimmed_default, trimmed_of, unended, with_body, with_default, with_list, without_continuations, without_end, without_remarks}
+use Rattle.rdlpp_table.specs.Entries.{AreWithin, marks_len}
 use Rattle.rdlpp_table.specs.Kept.{first_stops}
-use Rattle.rdlpp_table.specs.Layout.{view_of, IsHeld}
+use Rattle.rdlpp_table.specs.Layout.{IsHeld, view_of}
+use Rattle.rdlpp_table.specs.Limits.{AreInRange, IsWithin, is_within, limit_fault}
+use Rattle.rdlpp_table.specs.Marks.{halves, is_marked, macro_marks, marks_of, starts_of, table_marks}
+use Rattle.rdlpp_table.specs.Store.{IsStored, body_start, entries_of, entry_end, entry_of, list_size, list_start, macro_in, macros_in}
+use Rattle.rdlpp_table.specs.Table.{Formal, Macro, default_bytes, default_size, formal_bytes, formal_size, macro_bytes, macro_named, macro_size, table_bytes, table_size}
+use Rattle.rdlpp_table.specs.View.{TableView, formals_of, macro_at, no_macro, place_named}
+use Rattle.rdlpp_table.specs.declared.entry.Entry.{Entry}
+use Rattle.rdlpp_table.specs.declared.limits.LimitFault.{LimitFault}
+use Rattle.rdlpp_table.specs.declared.limits.Limits.{Limits}
 
 -- Places in a list.
-
-slice_get_past : {X : Type 0} (xs : List X) (i : ℕ) → length xs ≤ i → slice_get xs i ≡ None
-slice_get_past [] i h = refl
-slice_get_past (x ∷ xs) zero h = absurd (omega arith)
-slice_get_past (x ∷ xs) (suc i) h = slice_get_past xs i (omega arith)
 
 pub find_by_position : {X : Type 0} (p : X → Bool) (xs : List X) (d : X) → find p xs ≡ option_map (λ i. get_or xs i d) (position p xs)
 find_by_position p xs d =
@@ -257,16 +261,6 @@ named_at ms name r e = named_by_place ms name ∙ ap (option_map (macro_at ms)) 
 pub entry_within : {from ahead : ℕ} (bs bytes : List ℕ) (entries : List Entry) (a b : ℕ) (i : ℕ) (entry : Entry) → bs ≡ bytes → IsHeld from ahead bytes entries a b → i < length entries → entry ≡ get_or entries i entry → entry_end entry ≤ length bs
 entry_within bs bytes entries a b i entry p held h q = rw (p, q) (stored_within bytes entries _ held.stored i entry h)
 
-pub body_at : (bs bytes : List ℕ) (entries : List Entry) (a b : ℕ) (view : TableView) (i j : ℕ) (entry : Entry) (r : List ℕ) → bs ≡ bytes → view_of bytes entries a b ≡ view → i ≡ j → i < length entries → entry ≡ get_or entries i entry → r ≡ body_of bs entry → r ≡ (macro_at view.macros j).body
-unfolding macro_in
-body_at bs bytes entries a b view i j entry r p e s h q f =
-    f ∙ (ap (λ (x : List ℕ). body_of x entry) p ∙ (ap (body_of bytes) q ∙ (sym (ap (λ (m : Macro). m.body) (macro_at_entry bytes entries a b view i entry e h)) ∙ ap (λ (k : ℕ). (macro_at view.macros k).body) s)))
-
-pub name_at : (bs bytes : List ℕ) (entries : List Entry) (a b : ℕ) (view : TableView) (i j : ℕ) (entry : Entry) (r : List ℕ) → bs ≡ bytes → view_of bytes entries a b ≡ view → i ≡ j → i < length entries → entry ≡ get_or entries i entry → r ≡ name_of bs entry → r ≡ (macro_at view.macros j).name
-unfolding macro_in
-name_at bs bytes entries a b view i j entry r p e s h q f =
-    f ∙ (ap (λ (x : List ℕ). name_of x entry) p ∙ (ap (name_of bytes) q ∙ (sym (ap (λ (m : Macro). m.name) (macro_at_entry bytes entries a b view i entry e h)) ∙ ap (λ (k : ℕ). (macro_at view.macros k).name) s)))
-
 pub arity_at : {from ahead : ℕ} (bytes : List ℕ) (entries : List Entry) (a b : ℕ) (view : TableView) (i j : ℕ) (entry : Entry) → view_of bytes entries a b ≡ view → IsHeld from ahead bytes entries a b → i ≡ j → i < length entries → entry ≡ get_or entries i entry → entry.arity ≡ option_map length (macro_at view.macros j).formals
 unfolding entry_of
 arity_at bytes entries a b view i j entry e held s h q =
@@ -290,3 +284,83 @@ some_map f (Some x) = refl
 
 pub is_named : (ms : List Macro) (name : List ℕ) (r : Option ℕ) → r ≡ place_named ms name → is_some r ≡ is_some (macro_named ms name)
 is_named ms name r e = some_map (macro_at ms) r ∙ ap is_some (sym (named_at ms name r e))
+
+-- Limits without a fault are in their ranges, and the other way round.
+
+within_true : (low high n : ℕ) → is_within low high n ≡ true → IsWithin low high n
+unfolding is_within
+within_true low high n e = let p = and_parts (leb low n) (leb n high) e in (leb-true _ _ p.0, leb-true _ _ p.1)
+
+true_within : (low high n : ℕ) → IsWithin low high n → is_within low high n ≡ true
+unfolding is_within
+true_within low high n h = and_from _ _ (le-leb _ _ h.0) (le-leb _ _ h.1)
+
+-- a test that isn't refused holds
+one_test : (c : Bool) (x : Option LimitFault) (f : LimitFault) → cond c x (Some f) ≡ None → (c ≡ true) × (x ≡ None)
+one_test true x f e = (refl, e)
+one_test false x f e = absurd (cc)
+
+pub in_range : (l : Limits) → limit_fault l ≡ None → AreInRange l
+unfolding limit_fault
+in_range l e =
+    let t1 = one_test _ _ _ e in
+    let t2 = one_test _ _ _ t1.1 in
+    let t3 = one_test _ _ _ t2.1 in
+    let t4 = one_test _ _ _ t3.1 in
+    let t5 = one_test _ _ _ t4.1 in
+    let t6 = one_test _ _ _ t5.1 in
+    let t7 = one_test _ _ _ t6.1 in
+    let t8 = one_test _ _ _ t7.1 in
+    let t9 = one_test _ _ _ t8.1 in
+    record {
+      depth = within_true _ _ _ t1.0;
+      includes = within_true _ _ _ t2.0;
+      line_bytes = within_true _ _ _ t3.0;
+      source_bytes = within_true _ _ _ t4.0;
+      argument_bytes = within_true _ _ _ t5.0;
+      definition_bytes = within_true _ _ _ t6.0;
+      definitions = within_true _ _ _ t7.0;
+      conditions = within_true _ _ _ t8.0;
+      output_bytes = within_true _ _ _ t9.0;
+    }
+
+pub no_fault : (l : Limits) → AreInRange l → limit_fault l ≡ None
+unfolding limit_fault
+no_fault l r =
+    cond-true _ _ _ (true_within _ _ _ r.depth)
+    ∙ (cond-true _ _ _ (true_within _ _ _ r.includes)
+    ∙ (cond-true _ _ _ (true_within _ _ _ r.line_bytes)
+    ∙ (cond-true _ _ _ (true_within _ _ _ r.source_bytes)
+    ∙ (cond-true _ _ _ (true_within _ _ _ r.argument_bytes)
+    ∙ (cond-true _ _ _ (true_within _ _ _ r.definition_bytes)
+    ∙ (cond-true _ _ _ (true_within _ _ _ r.definitions)
+    ∙ (cond-true _ _ _ (true_within _ _ _ r.conditions)
+    ∙ cond-true _ _ _ (true_within _ _ _ r.output_bytes))))))))
+
+pub fault_out_of_range : (l : Limits) (f : LimitFault) (r : Option LimitFault) → r ≡ limit_fault l → r ≡ Some f → AreInRange l → ⊥
+fault_out_of_range l f r e g h =
+    let same : (let n : Option LimitFault = None in n) ≡ Some f = sym (no_fault l h) ∙ (sym e ∙ g) in cc
+
+-- Worked rows of a `define` and of a table's bytes and size, by computation.
+
+list_row : macro_of (codes " F(x,y) x+y // s\n") ≡ Drawn (record { name = codes "F"; formals = Some (record { name = codes "x"; text = [] } ∷ record { name = codes "y"; text = [] } ∷ []); body = codes "x+y" })
+unfolding macro_of unended logical_text without_continuations continuation_len is_space after_space leading_name macro_from name_fault is_reserved reserved_names with_list formal_list with_body tokens_from token_of plain_token whole first_place string_stop string_token block_token without_remarks is_perl open_fault fault_of_tokens lex_fault_from onto_trimmed without_end trimmed_of trimmed is_blank is_line_end is_letter is_digit is_word is_opener is_closer takes_word begins_perl begins_line_comment begins_block_comment ends_block_comment is_continued logical_len ends_default level_behind onto_default default_of_tokens trimmed_default default_in formal_name behind_name formal_fault with_default formal_in formals_in formals_of_list
+list_row = refl
+
+-- a default text
+
+default_row : macro_of (codes " F(x, y = 2) x+y\n") ≡ Drawn (record { name = codes "F"; formals = Some (record { name = codes "x"; text = [] } ∷ record { name = codes "y"; text = codes "2" } ∷ []); body = codes "x+y" })
+unfolding macro_of unended logical_text without_continuations continuation_len is_space after_space leading_name macro_from name_fault is_reserved reserved_names with_list formal_list with_body tokens_from token_of plain_token whole first_place string_stop string_token block_token without_remarks is_perl open_fault fault_of_tokens lex_fault_from onto_trimmed without_end trimmed_of trimmed is_blank is_line_end is_letter is_digit is_word is_opener is_closer takes_word begins_perl begins_line_comment begins_block_comment ends_block_comment is_continued logical_len ends_default level_behind onto_default default_of_tokens trimmed_default default_in formal_name behind_name formal_fault with_default formal_in formals_in formals_of_list
+default_row = refl
+
+-- a table's bytes and size
+with_default_macro : Macro
+with_default_macro = record { name = codes "F"; formals = Some (record { name = codes "x"; text = [] } ∷ record { name = codes "y"; text = codes "2" } ∷ []); body = codes "x+y" }
+
+bytes_row : table_bytes (with_default_macro ∷ []) ≡ codes "Fx,y=2,x+y"
+unfolding table_bytes macro_bytes formal_bytes default_bytes with_default_macro
+bytes_row = refl
+
+size_row : table_size (with_default_macro ∷ []) ≡ 10
+unfolding table_size macro_size formal_size default_size with_default_macro
+size_row = refl

@@ -1,9 +1,9 @@
 -- The macros but the one of a name, and that macro taken out of the lists in which a table lies.
-use Rattle.std.proofs.Common.{◌≡◌, ℕ, ◌+◌, ◌<◌, ◌≤◌, Bool, true, false, cond, not, ◌||◌, List, [], ◌∷◌, ◌++◌, length, map, remove, bytes_eq, Option, Some, None, refl, ap, sym, ◌∙◌, subst, arith, one-add, inl, inr, suc, ◌-◌, take, drop, get_or, length-append, append_assoc, add-zero, add-one, zero-add, ◌^◌, Vec, Global, vec_capacity, slice_range}
-use Rattle.std.specs.List.{IsDistinct, AllByRecursion, position_or_len, filter, list_any, All, list_all, remove_range}
-use Rattle.std.proofs.lemmas.List.{get_or-drop, map-append, length-drop, take_at, drop_at, take-append-drop, drop_more, length-take-le}
+use Rattle.std.proofs.Common.{◌≡◌, ℕ, ◌+◌, ◌<◌, ◌≤◌, Bool, true, false, cond, not, ◌||◌, List, [], ◌∷◌, ◌++◌, length, map, remove, bytes_eq, Option, Some, None, refl, ap, sym, ◌∙◌, subst, arith, one-add, inl, inr, suc, ◌-◌, take, drop, get_or, length-append, append_assoc, add-zero, add-one, zero-add, ◌^◌, Vec, Global, vec_capacity, slice_range, filter, All, get_or-drop, length-drop, take_at, drop_at, take-append-drop, length-take-le, lt-ltb, le-ltb}
+use Rattle.std.specs.List.{IsDistinct, AllByRecursion, position_or_len, list_any, list_all, remove_range}
+use Rattle.std.proofs.lemmas.List.{map-append, drop_more}
 use Rattle.std.proofs.lemmas.Cmp.{nat_list_eq_equiv}
-use Rattle.std.proofs.lemmas.Bool.{cases_Bool, cases_lt, lt-ltb, le-ltb, cond-true, cond-false, and_parts, and_from}
+use Rattle.std.proofs.lemmas.Bool.{cases_Bool, cases_lt, cond-true, cond-false, and_parts, and_from}
 use Rattle.std.proofs.lemmas.Map.Keys.{IsDistinct-head, IsDistinct-tail, IsDistinct-cons, IsDistinct-push}
 use Rattle.std.proofs.lemmas.Grind.{flat_map-append}
 use Rattle.std.proofs.lemmas.List.Folds.{list_all-append}

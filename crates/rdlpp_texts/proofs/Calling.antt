@@ -1,50 +1,253 @@
--- A usage of a macro with a list in open texts: its call is bound and its body opens, or it is refused.
-use Rattle.rdlpp_meaning.specs.Actuals.{text_reads}
-use Rattle.rdlpp_meaning.specs.Expansion.{Opens, usage_of_formals}
-use Rattle.std.proofs.Common.{◌≡◌, ℕ, suc, ◌+◌, ◌-◌, ◌<◌, ◌≤◌, true, true≢false, List, [], ◌∷◌, map, length, drop, refl, sym, ap, subst, ◌∙◌, arith, Option, None, Some, is_some, unwrap_or, Err}
-use Rattle.std.specs.Prelude.{slice_range}
-use Rattle.std.specs.List.{AllByRecursion}
-use Rattle.std.proofs.lemmas.List.{length-take, length-drop, length-map}
-use Rattle.rdlpp_scan.specs.declared.token.Kind.TheVariants.{Back}
-use Rattle.rdlpp_scan.specs.declared.token.Mode.TheVariants.{Plain}
+-- Usages of a macro with a list, in open texts and in a source, whose call is bound.
+use Rattle.std.proofs.Common.{◌≡◌, ◌≤◌, ℕ, ◌+◌, ◌-◌, Bool, false, List, [], ◌∷◌, map, drop, ap, ◌∙◌, arith, Option, None, Some, suc, true, cond, take, refl, sym, true≢false, ◌<◌, length, subst, is_some, unwrap_or, Err, Global, Vec, bytes_eq, if◌then◌else◌, slice_range, vec_len, drop-drop, length-drop, length-take}
+use Rattle.std.specs.List.{AllByRecursion, list_any}
+use Rattle.std.proofs.lemmas.List.{length-map}
+use Rattle.std.proofs.lemmas.List.Elements.{All-cons, All-head, All-nil, All-tail}
+use Rattle.rdlpp_scan.specs.Reserved.{is_reserved}
 use Rattle.rdlpp_scan.specs.SourceTokens.{SourceToken}
-use Rattle.rdlpp_table.specs.Table.{Formal, Macro}
-use Rattle.rdlpp_table.specs.View.{TableView, IsSound, macro_at, formals_of}
-use Rattle.rdlpp_meaning.specs.declared.fault.FaultKind.{FaultKind}
-use Rattle.rdlpp_meaning.specs.declared.fault.FaultKind.TheVariants.{DepthPassed}
-use Rattle.rdlpp_meaning.specs.State.{Rules, State}
+use Rattle.rdlpp_scan.specs.declared.token.Kind.TheVariants.{Back}
+use Rattle.rdlpp_scan.specs.declared.token.Mode.{Mode}
+use Rattle.rdlpp_scan.specs.declared.token.Mode.TheVariants.{Plain}
+use Rattle.rdlpp_table.specs.Table.{Formal, Macro, macro_named}
+use Rattle.rdlpp_table.specs.View.{IsSound, TableView, formals_of, macro_at}
+use Rattle.rdlpp_meaning.specs.Actuals.{Bound, Broke, Call, Lacking, Reads, Role, actual_of, kept, map_call, source_reads, text_reads, token_role, trimmed}
+use Rattle.rdlpp_meaning.specs.CallScan.{all_parts, call_of, call_of_scan, is_kept, split}
+use Rattle.rdlpp_meaning.specs.Expansion.{Opens, Refuses, Usage, bound_parts, bytes_of, is_count, usage_of, usage_of_call, usage_of_formals, usage_of_macro, usage_token}
+use Rattle.rdlpp_meaning.specs.Items.{unlined}
+use Rattle.rdlpp_meaning.specs.Meaning.{Passage, Progress, goes_on, leaves}
 use Rattle.rdlpp_meaning.specs.OpenItems.{open_left}
+use Rattle.rdlpp_meaning.specs.Opens.{Open, OpenActual, OpenBody, OpenDefault, OpenKind, Part, Texts, open_behind, open_body, open_bytes, open_scope, own_text, part_tokens, scope_text, text_around}
+use Rattle.rdlpp_meaning.specs.Outcome.{Outcome}
+use Rattle.rdlpp_meaning.specs.Parts.{only_blanks}
+use Rattle.rdlpp_meaning.specs.Resumed.{Live, leading, resumed}
+use Rattle.rdlpp_meaning.specs.State.{Rules, State}
 use Rattle.rdlpp_meaning.specs.Substitution.{body_tokens}
-use Rattle.rdlpp_meaning.specs.Opens.{Part, OpenKind, OpenBody, OpenActual, OpenDefault, Open, Texts, part_tokens, own_text, scope_text, text_around, open_scope, open_bytes, open_behind, open_body}
-use Rattle.rdlpp_meaning.proofs.OpenCalls.{tokens_behind, first_usage, step-refused as left-refused, step-usage as left-usage, step-usage_deep as left-usage_deep}
-use Rattle.rdlpp_meaning.proofs.OpenScopes.{part-whole, text-around, next_is}
-use Rattle.rdlpp_meaning.proofs.TextRanges.{body_text}
+use Rattle.rdlpp_meaning.specs.TextTokens.{text_tokens}
+use Rattle.rdlpp_meaning.specs.declared.fault.FaultKind.{FaultKind}
+use Rattle.rdlpp_meaning.specs.declared.fault.FaultKind.TheVariants.{ArgumentCount, DepthPassed, DirectiveInText, RecursiveMacro, UndefinedMacro}
+use Rattle.rdlpp_meaning.proofs.OpenSteps.{first-left, first_usage, step-refused as left-refused, step-usage as left-usage, step-usage_deep as left-usage_deep, tokens_behind}
+use Rattle.rdlpp_meaning.proofs.OpenScopes.{next_is, part-whole, text-around}
+use Rattle.rdlpp_meaning.proofs.ReadCalls.{IsReadCall}
+use Rattle.rdlpp_meaning.proofs.SourceCalls.{actuals-unlined, resumed_opens}
+use Rattle.rdlpp_meaning.proofs.KeptTexts.{body_text}
+use Rattle.rdlpp_texts.specs.BoundCalls.{AreWithin, IsBoundAt, IsBoundCall, KeepsAll, actuals_of, range_part, ranges_tokens, usage_in}
+use Rattle.rdlpp_texts.specs.CallTokens.{IsFirstToken, role_meant}
+use Rattle.rdlpp_texts.specs.Calls.{IsCallBound, IsCallMiscounted, IsCallOpened, IsCallStarted, IsOpening}
+use Rattle.rdlpp_texts.specs.Digits.{IsFalling}
+use Rattle.rdlpp_texts.specs.Fronts.{IsFront, IsLook}
+use Rattle.rdlpp_texts.specs.KeptTexts.{keeps_each}
+use Rattle.rdlpp_texts.specs.Opened.{CursorsView, moved_to, opens_of}
+use Rattle.rdlpp_texts.specs.Places.{place_bytes, source_formals, source_text, texts_of}
+use Rattle.rdlpp_texts.specs.Scopes.{front_scope, front_source}
+use Rattle.rdlpp_texts.specs.SourceBound.{OpensBound}
+use Rattle.rdlpp_texts.specs.Steps.{AreSound, IsStep, StaysRefused, StepsTo, wordless}
+use Rattle.rdlpp_texts.specs.Usages.{IsUsed, front_name}
 use Rattle.rdlpp_texts.specs.declared.bindings.Range.{Range}
-use Rattle.rdlpp_texts.specs.BoundCalls.{range_part, ranges_tokens, usage_in, IsBoundAt, IsBoundCall, KeepsAll}
-use Rattle.rdlpp_texts.proofs.BoundUsages.{behind_part, parts_inside}
+use Rattle.rdlpp_texts.specs.declared.cursors.call.Opening.{Opening}
+use Rattle.rdlpp_texts.specs.declared.cursors.call.Opening.TheVariants as opening
 use Rattle.rdlpp_texts.specs.declared.front.Front.TheVariants as front
 use Rattle.rdlpp_texts.specs.declared.front.Look.{Look}
 use Rattle.rdlpp_texts.specs.declared.place.TextPlace.{TextPlace}
 use Rattle.rdlpp_texts.specs.declared.place.TextSource.{TextSource}
 use Rattle.rdlpp_texts.specs.declared.place.TextSource.TheVariants.{Arguments}
+use Rattle.rdlpp_texts.specs.declared.slot.Slot.{Slot}
 use Rattle.rdlpp_texts.specs.declared.step.CursorFault.{CursorFault}
-use Rattle.rdlpp_texts.specs.declared.step.CursorStep.TheVariants.{Silent, Refused}
-use Rattle.rdlpp_texts.specs.declared.cursors.call.Opening.{Opening}
-use Rattle.rdlpp_texts.specs.declared.cursors.call.Opening.TheVariants as opening
-use Rattle.rdlpp_texts.specs.Calls.{IsCallBound, IsCallOpened, IsOpening}
-use Rattle.rdlpp_texts.specs.Digits.{IsFalling}
-use Rattle.rdlpp_texts.specs.Fronts.{IsFront, IsLook}
-use Rattle.rdlpp_texts.specs.Opened.{moved_to, CursorsView}
-use Rattle.rdlpp_texts.specs.Places.{texts_of, place_bytes, source_text, source_formals}
-use Rattle.rdlpp_texts.specs.Scopes.{front_scope, front_source}
-use Rattle.rdlpp_texts.specs.Steps.{wordless, AreSound, IsStep, StepsTo, StaysRefused}
-use Rattle.rdlpp_texts.specs.Usages.{front_name, IsUsed}
+use Rattle.rdlpp_texts.specs.declared.step.CursorStep.TheVariants.{Refused, Silent}
+use Rattle.rdlpp_texts.specs.declared.tokens.CallRole.{CallRole}
+use Rattle.rdlpp_texts.specs.declared.tokens.CallRole.TheVariants.{LineComment}
+use Rattle.rdlpp_texts.specs.declared.tokens.CallToken.{CallToken}
+use Rattle.rdlpp_texts.proofs.BoundParts.{actuals_keep, all_bound, count_exact, ranges_keep}
 use Rattle.rdlpp_texts.proofs.Falling.{look-opens}
-use Rattle.rdlpp_texts.proofs.Keeping.{body-keeps, first-sound, sound-moved}
-use Rattle.rdlpp_texts.proofs.Passing.{no-word, IsPassed}
+use Rattle.rdlpp_texts.proofs.Passing.{IsPassed, body-keeps, fault-same, first-moved, first-sound, kind-first, no-word, sound-moved}
 use Rattle.rdlpp_texts.proofs.Scoping.{source-around}
-use Rattle.rdlpp_texts.proofs.Stepping.{fault-same, kind-first, first-moved}
+use Rattle.rdlpp_texts.proofs.Stacking.{room-first}
 use Rattle.rdlpp_texts.proofs.Usages.{back-closes, first-used, front-is, homes-out, scope-inside, usage-place, usage-word}
+
+-- A usage in an open text whose call was bound, by the ranges of the text that are its actuals.
+
+-- a usage of a macro that isn't recursive and has a list of formals, by what its call comes to
+pub usage_with_list : (reads : Reads SourceToken) (rules : Rules) (s : State) (line : ℕ) (o : List (List ℕ)) (name : List ℕ) (ts : List SourceToken) (m : Macro) (fs : List Formal) (u : Usage SourceToken)
+    → is_reserved name ≡ false → macro_named s.macros name ≡ Some m → list_any (bytes_eq name) o ≡ false → m.formals ≡ Some fs
+    → usage_of_formals rules reads line name ts m (Some fs) ≡ u → usage_of rules s reads line o name ts ≡ u
+unfolding usage_of usage_of_macro
+usage_with_list reads rules s line o name ts m fs u reserved found once formals e =
+    let named : Option Macro → Usage SourceToken = λ x. elim x [ None ↦ Refuses UndefinedMacro name line | Some y ↦ usage_of_macro rules reads line o name ts y ] in
+    let own : Usage SourceToken = usage_of_formals rules reads line name ts m m.formals in
+    ap (λ (b : Bool). if b then Refuses DirectiveInText name line else named (macro_named s.macros name)) reserved
+    ∙ ap named found
+    ∙ ap (λ (b : Bool). if b then Refuses RecursiveMacro name line else own) once
+    ∙ ap (usage_of_formals rules reads line name ts m) formals
+    ∙ e
+
+-- ranges between two places of a text lie in it as parts
+pub parts_inside : (size from to : ℕ) (ranges : List Range) → to ≤ size → AreWithin from to ranges → AllByRecursion (λ part. part.end ≤ size) (map range_part ranges)
+parts_inside size from to [] inside all = tt
+parts_inside size from to (r ∷ rs) inside all = let h = all.0.1.1 in (omega (arith, inside, h), parts_inside size from to rs inside all.1)
+
+-- what is left of an open text behind a bound call is read as plain text
+pub behind_part : (text : List ℕ) (from at end formals behind : ℕ) (ranges : List Range) (b : IsBoundAt text at end formals ranges behind) → from ≤ behind
+    → drop b.used (body_tokens (slice_range text at end)) ≡ part_tokens text (record { from = from + (behind - from); end = end; mode = Plain })
+unfolding part_tokens
+behind_part text from at end formals behind ranges b low =
+    let place : behind ≡ from + (behind - from) = omega (arith, low) in
+    b.behind_is ∙ body_text (slice_range text behind end) ∙ ap (λ (n : ℕ). part_tokens text (record { from = n; end = end; mode = Plain })) place
+
+-- A call in a source whose kept bytes were bound part by part: the usage opens those ranges, but for the lines of its tokens.
+
+-- a call that has these parts, but for lines
+record HasParts (c : Call SourceToken) (first : List SourceToken) (further : List (List SourceToken)) (used : ℕ) : Type 0 where
+  own : List SourceToken
+  others : List (List SourceToken)
+  call : c ≡ Bound own others used
+  first_is : map unlined own ≡ first
+  further_is : map (map unlined) others ≡ further
+
+-- one whose parts without lines are these has them
+has_parts : (c : Call SourceToken) (first : List SourceToken) (further : List (List SourceToken)) (used : ℕ) → map_call unlined c ≡ Bound first further used
+    → HasParts c first further used
+unfolding map_call
+has_parts (Lacking f) first further used e = absurd (cc)
+has_parts (Broke f line) first further used e = absurd (cc)
+has_parts (Bound own others n) first further used e = record {
+  own = own;
+  others = others;
+  call = ap (λ (k : ℕ). Bound own others k) cc;
+  first_is = cc;
+  further_is = cc;
+}
+
+-- a call that was read, by its parts: the actuals, but for lines, are those of the kept bytes
+record HasActuals (room : ℕ) (ts : List SourceToken) (bytes : List ℕ) (used : ℕ) : Type 0 where
+  first : List SourceToken
+  further : List (List SourceToken)
+  call : call_of token_role kept room (leading ts) ≡ Bound first further used
+  same : map (actual_of source_reads) (first ∷ further) ≡ actuals_of bytes
+
+-- it has them
+has_actuals : (room : ℕ) (ts : List SourceToken) (bytes : List ℕ) (behind : List SourceToken) (c : IsReadCall room ts bytes behind) → HasActuals room ts bytes c.used
+unfolding call_of_scan actuals_of all_parts actual_of kept
+has_actuals room ts bytes behind c =
+    let s = split token_role 0 (body_tokens bytes) in
+    let h = has_parts (call_of token_role kept room (leading ts)) s.first s.further c.used c.call in
+    record {
+      first = h.own;
+      further = h.others;
+      call = h.call;
+      same = actuals-unlined (h.own ∷ h.others)
+          ∙ ap (λ (x : List SourceToken). map (trimmed token_role) (x ∷ map (map unlined) h.others)) h.first_is
+          ∙ ap (λ (xs : List (List SourceToken)). map (trimmed token_role) (s.first ∷ xs)) h.further_is;
+    }
+
+-- a usage by whether its call has as many parts as formals
+usage_counted : (m : Macro) (fs : List Formal) (line : ℕ) (name : List ℕ) (first : List SourceToken) (further : List (List SourceToken)) (used : ℕ) (right : Bool) (parts : List (List SourceToken))
+    → map (actual_of source_reads) (first ∷ further) ≡ parts
+    → right ≡ is_count fs parts
+    → usage_of_call source_reads m fs line name (Bound first further used)
+    ≡ cond right (Opens m (bound_parts fs parts) used) (Refuses ArgumentCount name line)
+unfolding usage_of_call
+usage_counted m fs line name first further used right parts same e =
+    ap (λ (xs : List (List SourceToken)). cond (is_count fs xs) (Opens m (bound_parts fs xs) used) (Refuses ArgumentCount name line)) same
+    ∙ ap (λ (b : Bool). cond b (Opens m (bound_parts fs parts) used) (Refuses ArgumentCount name line)) (sym e)
+
+-- a call that was read and bound opens its macro so
+pub source_bound : (rules : Rules) (line : ℕ) (name : List ℕ) (ts : List SourceToken) (m : Macro) (fs : List Formal) (bytes : List ℕ) (ranges : List Range) (behind : List SourceToken)
+    → IsReadCall rules.argument_bytes ts bytes behind → true ≡ is_count fs (actuals_of bytes) → bound_parts fs (actuals_of bytes) ≡ ranges_tokens bytes ranges
+    → OpensBound rules line name ts m fs bytes ranges behind
+unfolding usage_of_formals
+source_bound rules line name ts m fs bytes ranges behind c count tokens =
+    let h = has_actuals rules.argument_bytes ts bytes behind c in
+    record {
+      used = c.used;
+      opens = ap (usage_of_call source_reads m fs line name) h.call
+          ∙ usage_counted m fs line name h.first h.further c.used true (actuals_of bytes) h.same count
+          ∙ ap (λ (xs : List (List SourceToken)). Opens m xs c.used) tokens;
+      rest = c.rest;
+    }
+
+-- one with more or fewer parts than formals is refused for that
+pub source_counted : (rules : Rules) (line : ℕ) (name : List ℕ) (ts : List SourceToken) (m : Macro) (fs : List Formal) (bytes : List ℕ) (behind : List SourceToken)
+    → IsReadCall rules.argument_bytes ts bytes behind → false ≡ is_count fs (actuals_of bytes)
+    → usage_of_formals rules source_reads line name (leading ts) m (Some fs) ≡ Refuses ArgumentCount name line
+unfolding usage_of_formals
+source_counted rules line name ts m fs bytes behind c count =
+    let h = has_actuals rules.argument_bytes ts bytes behind c in
+    ap (usage_of_call source_reads m fs line name) h.call
+    ∙ usage_counted m fs line name h.first h.further c.used false (actuals_of bytes) h.same count
+
+-- one that lacks something is refused for it
+pub source_lacks : (rules : Rules) (line : ℕ) (name : List ℕ) (ts : List SourceToken) (m : Macro) (fs : List Formal) (f : FaultKind)
+    → call_of token_role kept rules.argument_bytes (leading ts) ≡ Lacking f → usage_of_formals rules source_reads line name (leading ts) m (Some fs) ≡ Refuses f name line
+unfolding usage_of_formals usage_of_call
+source_lacks rules line name ts m fs f e = ap (usage_of_call source_reads m fs line name) e
+
+-- one with a broken token is refused for that, at its line
+pub source_breaks : (rules : Rules) (line : ℕ) (name : List ℕ) (ts : List SourceToken) (m : Macro) (fs : List Formal) (f : FaultKind) (own : ℕ)
+    → call_of token_role kept rules.argument_bytes (leading ts) ≡ Broke f own → usage_of_formals rules source_reads line name (leading ts) m (Some fs) ≡ Refuses f [] own
+unfolding usage_of_formals usage_of_call
+source_breaks rules line name ts m fs f own e = ap (usage_of_call source_reads m fs line name) e
+
+-- in live text, a usage of the macro at a place, whose call was read and bound, comes to what remains of that body with those
+-- ranges of the kept text as actuals, and then what remains behind its call
+pub resumed_open : (rules : Rules) (os : List Progress) (first : Bool) (name : List ℕ) (line : ℕ) (ts : List SourceToken) (s : State) (d : ℕ) (texts : Texts) (id : ℕ)
+    (fs : List Formal) (ranges : List Range) (behind : List SourceToken) (b : OpensBound rules line name ts (macro_at texts.macros id) fs texts.arguments ranges behind)
+    → is_reserved name ≡ false → rules.depth ≡ suc d → macro_named s.macros name ≡ Some (macro_at texts.macros id)
+    → (macro_at texts.macros id).formals ≡ Some fs
+    → resumed rules (Live os) first (usage_token name line ∷ ts) s
+    ≡ goes_on (leaves (open_left rules s line (suc d) texts (open_body texts id (map range_part ranges) 0 ∷ [])) s)
+    (λ after. resumed rules (Live os) (only_blanks first (bytes_of (take (suc b.used) (usage_token name line ∷ ts)))) behind after)
+resumed_open rules os first name line ts s d texts id fs ranges behind b reserved depth found formals =
+    let m = macro_at texts.macros id in
+    let flag = only_blanks first (bytes_of (take (suc b.used) (usage_token name line ∷ ts))) in
+    let further : List SourceToken → State → Passage = λ rest after. resumed rules (Live os) flag rest after in
+    let actuals = ranges_tokens texts.arguments ranges in
+    resumed_opens rules os first name line ts s d m actuals b.used reserved depth
+    (usage_with_list source_reads rules s line [] name (leading ts) m fs (Opens m actuals b.used) reserved found refl formals b.opens)
+    ∙ ap (λ (x : Outcome). goes_on (leaves x s) (further (drop b.used ts))) (sym (first-left rules s line d texts id (map range_part ranges)))
+    ∙ ap (λ (rest : List SourceToken). goes_on (leaves (open_left rules s line (suc d) texts (open_body texts id (map range_part ranges) 0 ∷ [])) s) (further rest)) b.rest
+
+-- The test whether a call in a text keeps each token.
+
+-- a call drops a `//` comment
+pub kept_comment : (r : CallRole) → r ≡ LineComment → is_kept (role_meant r) ≡ false
+unfolding is_kept role_meant
+kept_comment r e = ap (λ (q : CallRole). is_kept (role_meant q)) e
+
+-- and keeps any other token
+pub kept_other : (r : CallRole) → (r ≡ LineComment → ⊥) → is_kept (role_meant r) ≡ true
+unfolding is_kept role_meant
+kept_other LineComment other = absurd (other refl)
+kept_other r other = refl
+
+-- the test at a token
+pub kept_turn : (mode : Mode) (text : List ℕ) (at : ℕ) (token : CallToken) → IsFirstToken mode (drop at text) token
+    → keeps_each (text_tokens mode (drop at text)) ≡ cond (is_kept (role_meant token.role)) (keeps_each (text_tokens token.next_mode (drop (at + token.len) text))) false
+unfolding keeps_each
+kept_turn mode text at token f =
+    ap keeps_each f.tokens
+    ∙ ap (λ (r : Role). cond (is_kept r) (keeps_each (text_tokens token.next_mode (drop token.len (drop at text)))) false) f.role_is
+    ∙ ap (λ (x : List ℕ). cond (is_kept (role_meant token.role)) (keeps_each (text_tokens token.next_mode x)) false) (drop-drop token.len at text)
+
+-- tokens of which the test holds are all kept, by whether the first one is
+kept_by : (t : SourceToken) (ts : List SourceToken) (first : Bool) → is_kept (token_role t) ≡ first → cond first (keeps_each ts) false ≡ true → (keeps_each ts ≡ true → KeepsAll ts)
+    → KeepsAll (t ∷ ts)
+kept_by t ts true e h rest = All-cons (λ u. is_kept (token_role u) ≡ true) t ts e (rest h)
+kept_by t ts false e h rest = absurd (true≢false (sym h))
+
+-- tokens of which the test holds are all kept
+pub each_kept : (ts : List SourceToken) → keeps_each ts ≡ true → KeepsAll ts
+unfolding keeps_each
+each_kept [] h = All-nil (λ u. is_kept (token_role u) ≡ true)
+each_kept (t ∷ ts) h = kept_by t ts (is_kept (token_role t)) refl h (each_kept ts)
+
+-- it holds of tokens that are
+pub kept_each : (ts : List SourceToken) → KeepsAll ts → keeps_each ts ≡ true
+unfolding keeps_each
+kept_each [] all = refl
+kept_each (t ∷ ts) all =
+    let P : SourceToken → Type 0 = λ u. is_kept (token_role u) ≡ true in
+    ap (λ (b : Bool). cond b (keeps_each ts) false) (All-head P t ts all) ∙ kept_each ts (All-tail P t ts all)
+
+-- A usage of a macro with a list in open texts: its call is bound and its body opens, or it is refused.
 
 -- the list of formals of a macro that has one
 has-list : {A : Type 0} (o : Option A) → is_some o ≡ true → (x : A) × (o ≡ Some x)
@@ -415,3 +618,68 @@ unfolding IsOpening
 opening-open macros text at end id home old opening.Opened new some h = subst (λ (v : CursorsView). 0 < length v.opens) (sym h.opens) (omega arith)
 opening-open macros text at end id home old (opening.Refused kind) new some h = subst (λ (v : CursorsView). 0 < length v.opens) (sym h.0) some
 opening-open macros text at end id home old opening.Deep new some h = subst (λ (v : CursorsView). 0 < length v.opens) (sym h.0) some
+
+-- A call in a source, whose kept text is bound, opens the body of its macro.
+
+-- the body that a call in a source opens is sound
+sound-started : (table : TableView) (arguments : List ℕ) (id : ℕ) (ranges : List Range) → IsSound table → id < length table.macros → KeepsAll (body_tokens arguments)
+    → bound_parts (formals_of (macro_at table.macros id)) (actuals_of arguments) ≡ ranges_tokens arguments ranges → true ≡ is_count (formals_of (macro_at table.macros id)) (actuals_of arguments)
+    → AreWithin 0 (length arguments) ranges
+    → AreSound (texts_of table.macros arguments) (open_body (texts_of table.macros arguments) id (map range_part ranges) 0 ∷ [])
+unfolding open_body text_around own_text scope_text
+sound-started table arguments id ranges sound inside keeps tokens counted within =
+    let own = macro_at table.macros id in
+    let many = count_exact (formals_of own) (actuals_of arguments) counted in
+    let same : length (bound_parts (formals_of own) (actuals_of arguments)) ≡ length ranges = ap length tokens ∙ length-map (map range_part ranges) (part_tokens arguments) ∙ length-map ranges range_part in
+    let parts = length-map ranges range_part in
+    record {
+      are_open = (omega arith, ((omega (arith, many, same, parts), parts_inside (length arguments) 0 (length arguments) ranges (omega arith) within), tt));
+      are_inside = (inside, (omega arith, (refl, tt)));
+      are_kept = (
+        subst (λ (ts : List SourceToken). KeepsAll ts) (sym (part-whole own.body)) (body-keeps table id sound inside),
+        (parts-keep arguments ranges (ranges_keep arguments ranges (subst (λ (xs : List (List SourceToken)). AllByRecursion KeepsAll xs) tokens (all_bound KeepsAll (formals_of own) (actuals_of arguments) (actuals_keep arguments keeps)))), tt),
+      );
+    }
+
+-- a call whose parts are bound opens its body
+pub call-started : (table : TableView) (arguments : List ℕ) (id line : ℕ) (ranges : List Range) (old new : CursorsView) → IsSound table → id < length table.macros
+    → keeps_each (body_tokens arguments) ≡ true
+    → bound_parts (formals_of (macro_at table.macros id)) (actuals_of arguments) ≡ ranges_tokens arguments ranges → true ≡ is_count (formals_of (macro_at table.macros id)) (actuals_of arguments)
+    → AreWithin 0 (length arguments) ranges
+    → new ≡ record { opens = open_body (texts_of table.macros arguments) id (map range_part ranges) 0 ∷ []; line = line; depth = old.depth }
+    → IsCallStarted (texts_of table.macros arguments) id line old new
+call-started table arguments id line ranges old new sound inside keeps tokens counted within is =
+    record {
+      ranges = ranges;
+      actuals = tokens;
+      counted = sym counted;
+      opens = is;
+      sound = subst (λ (v : CursorsView). AreSound (texts_of table.macros arguments) v.opens) (sym is)
+          (sound-started table arguments id ranges sound inside (each_kept (body_tokens arguments) keeps) tokens counted within);
+    }
+
+-- a call with more or fewer parts
+pub call-miscounted : (table : TableView) (arguments : List ℕ) (id : ℕ) (kind : FaultKind) (old new : CursorsView) → kind ≡ ArgumentCount
+    → false ≡ is_count (formals_of (macro_at table.macros id)) (actuals_of arguments) → new ≡ old → IsCallMiscounted (texts_of table.macros arguments) id kind old new
+call-miscounted table arguments id kind old new k counted same = record { kind_is = k; same = same; counted = λ keeps. sym counted }
+
+-- a text in which a call drops a token is kept of no call
+pub call-dropped : (table : TableView) (arguments : List ℕ) (id : ℕ) (kind : FaultKind) (old new : CursorsView) → kind ≡ ArgumentCount
+    → keeps_each (body_tokens arguments) ≡ false → new ≡ old → IsCallMiscounted (texts_of table.macros arguments) id kind old new
+call-dropped table arguments id kind old new k dropped same =
+    record { kind_is = k; same = same; counted = λ keeps. absurd (true≢false (sym (kept_each (body_tokens arguments) keeps) ∙ dropped)) }
+
+-- there is room where no text is open
+pub room-closed : (v : Vec Slot Global) (depth first : ℕ) (bindings : List Range) → opens_of (drop first v.items) bindings ≡ [] → 0 < depth → vec_len v < first + depth
+room-closed v depth first bindings none room =
+    let size = ap (λ (os : List Open). length os) none in
+    room-first v depth first bindings (omega (arith, size, room))
+
+-- the body that a call opens where no text was open
+pub started-opens : (table : TableView) (arguments : List ℕ) (id : ℕ) (ranges : List Range) (body : List ℕ) (opens : List Open) → body ≡ (macro_at table.macros id).body → opens ≡ []
+    → record { part = record { from = 0; end = length body; mode = Plain }; home = 0; kind = OpenBody id (map range_part ranges) } ∷ opens
+    ≡ open_body (texts_of table.macros arguments) id (map range_part ranges) 0 ∷ []
+unfolding open_body
+started-opens table arguments id ranges body opens e none =
+    ap (λ (os : List Open). record { part = record { from = 0; end = length body; mode = Plain }; home = 0; kind = OpenBody id (map range_part ranges) } ∷ os) none
+    ∙ ap (λ (b : List ℕ). record { part = record { from = 0; end = length b; mode = Plain }; home = 0; kind = OpenBody id (map range_part ranges) } ∷ []) e

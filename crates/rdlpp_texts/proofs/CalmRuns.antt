@@ -1,27 +1,188 @@
--- The search for the end of a part passes what opens, closes and cuts nothing byte by byte, whatever tokens it has.
-use Rattle.std.proofs.Common.{◌≡◌, ◌⊎◌, ⊎_elim, inl, inr, ◌≤◌, ◌<◌, ℕ, zero, suc, ◌+◌, ◌&&◌, ◌||◌, ◌==◌, not, Bool, true, false, cond, List, [], ◌∷◌, nat_lt, length, drop, get_or, one-add, refl, sym, ap, ◌∙◌, subst, arith}
-use Rattle.std.specs.List.{prefix_len}
-use Rattle.std.proofs.lemmas.Bool.{false≢true, cases_Bool, cond_both, eqb-true, or_cases}
-use Rattle.std.proofs.lemmas.List.{drop_more}
+-- Text that is passed byte by byte: in the search for the end of a part, and up to a backquote.
+use Rattle.std.proofs.Common.{◌≡◌, ⊎_elim, ℕ, ◌<◌, ◌≤◌, ◌&&◌, ◌||◌, ◌==◌, not, nat_lt, cond, Bool, true, false, List, [], ◌∷◌, drop, length, get_or, refl, sym, ap, ◌∙◌, subst, arith, inl, inr, ◌⊎◌, zero, suc, ◌+◌, one-add, take, Option, Some, None, eqb-true, get_or-drop, get_or-take, length-drop, length-take-le}
+use Rattle.std.specs.List.{list_all, prefix_len}
+use Rattle.std.proofs.lemmas.Bool.{and_parts, both_ways, cases_Bool, cond_both, false_from_ne_true, false≢true, not-true, or_cases, or_left, or_parts}
+use Rattle.std.proofs.lemmas.List.{drop_all, drop_more}
 use Rattle.std.proofs.lemmas.List.Sums.{prefix_len-le-length}
-use Rattle.rdlpp_scan.specs.declared.token.Kind.{Kind}
-use Rattle.rdlpp_scan.specs.declared.token.Kind.TheVariants.{Word, Back, BareBackquote, Blank, LineEnd, Other}
-use Rattle.rdlpp_scan.specs.declared.token.Mode.TheVariants.{Plain}
-use Rattle.rdlpp_scan.specs.Bytes.{begins_perl, is_blank, is_line_end, is_letter, is_digit, is_word, is_opener, is_closer, takes_word}
-use Rattle.rdlpp_scan.specs.Tokens.{plain_token, token_of, whole}
+use Rattle.memchr.specs.Find.{IsFirstByte, is_byte, is_byte2}
+use Rattle.rdlpp_scan.specs.Bytes.{begins_perl, is_blank, is_closer, is_digit, is_letter, is_line_end, is_opener, is_word, takes_word}
 use Rattle.rdlpp_scan.specs.TokenParts.{kind_of, len_of, mark_kind, mode_behind, plain_kind, stop_of}
-use Rattle.rdlpp_scan.proofs.TokenParts.{parts, token_parts}
-use Rattle.rdlpp_meaning.specs.Actuals.{is_space, kind_role, level_behind}
+use Rattle.rdlpp_scan.specs.Tokens.{plain_token, token_of, tokens_from, whole}
+use Rattle.rdlpp_scan.specs.declared.token.Kind.{Kind}
+use Rattle.rdlpp_scan.specs.declared.token.Kind.TheVariants.{Back, BareBackquote, Blank, Closer, Comma, LineComment, LineEnd, Name, Opener, Other, Perl, Word}
+use Rattle.rdlpp_scan.specs.declared.token.Mode.{Mode}
+use Rattle.rdlpp_scan.specs.declared.token.Mode.TheVariants.{InBlock, InStr, Plain}
+use Rattle.rdlpp_scan.specs.declared.token.Token.{Token}
+use Rattle.rdlpp_scan.proofs.StopKinds.{both_first, digit_token, letter_token, parts, token_parts}
+use Rattle.rdlpp_scan.proofs.OrdinaryLaws.{no_first}
+use Rattle.rdlpp_scan.proofs.TokenLens.{token_of-part, tokens_from-step}
+use Rattle.rdlpp_meaning.specs.Actuals.{Down, End, Start, Up, is_space, kind_role, level_behind, token_role}
+use Rattle.rdlpp_meaning.specs.CallScan.{is_kept}
+use Rattle.rdlpp_meaning.specs.Substitution.{body_tokens}
 use Rattle.rdlpp_meaning.specs.TextTokens.{text_tokens}
+use Rattle.rdlpp_meaning.proofs.KeptTexts.{body_text, either_kept, first_spelled, text_nil, text_step}
 use Rattle.rdlpp_texts.specs.CallParts.{ends_call, ends_part, ends_text, is_white, part_from}
-use Rattle.rdlpp_texts.specs.CalmBytes.{byte_class, is_calm, is_calm_at}
-use Rattle.rdlpp_texts.specs.declared.calm.ByteClass.TheVariants.{White, Calm}
 use Rattle.rdlpp_texts.specs.CallTokens as call
-use Rattle.rdlpp_texts.specs.CallTokens.{role_meant, IsFirstToken}
+use Rattle.rdlpp_texts.specs.CallTokens.{IsFirstToken, role_meant}
+use Rattle.rdlpp_texts.specs.CalmBytes.{begins_white, byte_class, is_calm, is_calm_at}
+use Rattle.rdlpp_texts.specs.Fronts.{is_back, run_len}
+use Rattle.rdlpp_texts.specs.KeptTexts.{is_no_slash, keeps_each}
+use Rattle.rdlpp_texts.specs.declared.calm.ByteClass.TheVariants.{Calm, Mark, White}
 use Rattle.rdlpp_texts.specs.declared.tokens.CallRole.TheVariants as role
-use Rattle.rdlpp_texts.proofs.CalmBytes.{class_calm, class_white, white_calm}
-use Rattle.rdlpp_texts.proofs.QuickTokens.{blank_token, comma_here, named, word_text}
-use Rattle.rdlpp_texts.proofs.Searches.{rest_turn}
+use Rattle.rdlpp_texts.proofs.QuickTokens.{blank_token, comma_here, named, rest_turn, word_text}
+use Rattle.rdlpp_texts.proofs.Stopping.{passed, running-stop}
+
+-- White space is calm.
+
+white_in : (P : ℕ → Type 0) (b : ℕ) → P 32 → P 9 → P 13 → P 11 → P 12 → P 10 → is_white b ≡ true → P b
+unfolding is_white is_blank is_line_end
+white_in P b space tab return vertical form line h =
+    let at : (n : ℕ) → P n → (b == n) ≡ true → P b = λ n p e. subst P (sym (eqb-true b n e)) p in
+    ⊎_elim
+    (λ h5. ⊎_elim (λ h4. ⊎_elim (λ h3. ⊎_elim (λ h2. ⊎_elim (at 32 space) (at 9 tab) (or_cases _ _ h2)) (at 13 return) (or_cases _ _ h3)) (at 11 vertical) (or_cases _ _ h4)) (at 12 form) (or_cases _ _ h5))
+    (at 10 line) (or_cases _ _ h)
+
+pub white_calm : (level b : ℕ) → is_white b ≡ true → is_calm_at level b ≡ true
+unfolding is_calm_at is_calm is_opener is_closer
+white_calm level b h = or_left (is_calm b) _ (white_in (λ n. is_calm n ≡ true) b refl refl refl refl refl refl h)
+
+-- A class tells what a byte is.
+
+of_white : (w c : Bool) → White ≡ cond w White (cond c Calm Mark) → w ≡ true
+of_white true c h = refl
+of_white false true h = absurd (cc)
+of_white false false h = absurd (cc)
+
+of_calm : (w c : Bool) → Calm ≡ cond w White (cond c Calm Mark) → (w ≡ false) × (c ≡ true)
+of_calm true c h = absurd (cc)
+of_calm false true h = (refl, refl)
+of_calm false false h = absurd (cc)
+
+of_mark : (w c : Bool) → Mark ≡ cond w White (cond c Calm Mark) → w ≡ false
+of_mark true c h = absurd (cc)
+of_mark false c h = refl
+
+pub class_white : (level b : ℕ) → White ≡ byte_class level b → is_white b ≡ true
+unfolding byte_class
+class_white level b h = of_white (is_white b) (is_calm_at level b) h
+
+pub class_calm : (level b : ℕ) → Calm ≡ byte_class level b → (is_white b ≡ false) × (is_calm_at level b ≡ true)
+unfolding byte_class
+class_calm level b h = of_calm (is_white b) (is_calm_at level b) h
+
+class_mark : (level b : ℕ) → Mark ≡ byte_class level b → is_white b ≡ false
+unfolding byte_class
+class_mark level b h = of_mark (is_white b) (is_calm_at level b) h
+
+-- a text doesn't begin with white space at a mark
+pub mark_dark : (level : ℕ) (text : List ℕ) (at : ℕ) → at < length text → Mark ≡ byte_class level (get_or text at 0) → begins_white Plain (drop at text) ≡ false
+unfolding begins_white
+mark_dark level text at inside h = ap (begins_white Plain) (drop_more text at 0 inside) ∙ class_mark level (get_or text at 0) h
+
+-- nor where it ends
+pub end_dark : (text : List ℕ) (at : ℕ) → length text ≤ at → begins_white Plain (drop at text) ≡ false
+unfolding begins_white
+end_dark text at over = ap (begins_white Plain) (drop_all at text over)
+
+-- nor in a string or a comment
+pub other_dark : (mode : Mode) (text : List ℕ) → (mode ≡ Plain → ⊥) → begins_white mode text ≡ false
+unfolding begins_white
+other_dark Plain text h = absurd (h refl)
+other_dark InStr [] h = refl
+other_dark InStr (b ∷ bs) h = refl
+other_dark InBlock [] h = refl
+other_dark InBlock (b ∷ bs) h = refl
+
+-- The class of a byte by where it stands in the byte table.
+
+-- two numbers that lie apart
+unequal : (b n : ℕ) → (b ≡ n → ⊥) → (b == n) ≡ false
+unequal b n h = elim (cases_Bool (b == n)) [ inl e ↦ absurd (h (eqb-true b n e)) | inr e ↦ e ]
+
+or_none : (p : Bool) → p ≡ (p || false)
+or_none true = refl
+or_none false = refl
+
+-- the class of a byte that isn't white space
+dark_class : (level b : ℕ) (calm : Bool) → is_white b ≡ false → calm ≡ is_calm_at level b → cond calm Calm Mark ≡ byte_class level b
+unfolding byte_class
+dark_class level b calm dark is =
+    ap (λ (t : Bool). cond t Calm Mark) is ∙ sym (ap (λ (t : Bool). cond t White (cond (is_calm_at level b) Calm Mark)) dark)
+
+high_is : (o p c d : Bool) → (not o && (not p && (not c && not d))) ≡ (not ((false || o) || p) && (not ((false || c) || d) && true))
+high_is true p c d = refl
+high_is false true c d = refl
+high_is false false true d = refl
+high_is false false false true = refl
+high_is false false false false = refl
+
+calm_high : (b : ℕ) → 64 ≤ b → (not (b == 91) && (not (b == 123) && (not (b == 93) && not (b == 125)))) ≡ is_calm b
+unfolding is_calm is_opener is_closer
+calm_high b high =
+    rw (unequal b 40 (λ e. omega (arith, e, high)), unequal b 41 (λ e. omega (arith, e, high)), unequal b 44 (λ e. omega (arith, e, high)), unequal b 34 (λ e. omega (arith, e, high)), unequal b 47 (λ e. omega (arith, e, high)), unequal b 60 (λ e. omega (arith, e, high)))
+    (high_is (b == 91) (b == 123) (b == 93) (b == 125))
+
+dark_over : (b : ℕ) → 32 < b → is_white b ≡ false
+unfolding is_white is_blank is_line_end
+dark_over b over =
+    rw (unequal b 32 (λ e. omega (arith, e, over)), unequal b 9 (λ e. omega (arith, e, over)), unequal b 13 (λ e. omega (arith, e, over)), unequal b 11 (λ e. omega (arith, e, over)), unequal b 12 (λ e. omega (arith, e, over)), unequal b 10 (λ e. omega (arith, e, over)))
+    refl
+
+-- a byte from 64 on
+pub high_class : (level b : ℕ) (calm : Bool) → 64 ≤ b → calm ≡ (not (b == 91) && (not (b == 123) && (not (b == 93) && not (b == 125))))
+    → cond calm Calm Mark ≡ byte_class level b
+unfolding is_calm_at
+high_class level b calm high is =
+    dark_class level b calm (dark_over b (omega (arith, high)))
+    (is ∙ calm_high b high ∙ or_none (is_calm b) ∙ sym (ap (λ (t : Bool). is_calm b || (t && nat_lt 0 level)) (unequal b 44 (λ e. omega (arith, e, high)))))
+
+low_is : (o c x : Bool) → (not o && (not c && x)) ≡ (not ((o || false) || false) && (not ((c || false) || false) && x))
+low_is true c x = refl
+low_is false true x = refl
+low_is false false x = refl
+
+calm_low : (b : ℕ) → b < 64
+    → (not (b == 40) && (not (b == 41) && (not (b == 44) && (not (b == 34) && (not (b == 47) && not (b == 60)))))) ≡ is_calm b
+unfolding is_calm is_opener is_closer
+calm_low b low =
+    rw (unequal b 91 (λ e. omega (arith, e, low)), unequal b 123 (λ e. omega (arith, e, low)), unequal b 93 (λ e. omega (arith, e, low)), unequal b 125 (λ e. omega (arith, e, low)))
+    (low_is (b == 40) (b == 41) (not (b == 44) && (not (b == 34) && (not (b == 47) && not (b == 60)))))
+
+-- one between the blank and 64 that is no comma
+pub mark_class : (level b : ℕ) (calm : Bool) → b < 64 → 32 < b → (b ≡ 44 → ⊥)
+    → calm ≡ (not (b == 40) && (not (b == 41) && (not (b == 34) && (not (b == 47) && not (b == 60)))))
+    → cond calm Calm Mark ≡ byte_class level b
+unfolding is_calm_at
+mark_class level b calm low over other is =
+    let none = unequal b 44 other in
+    let rest = not (b == 34) && (not (b == 47) && not (b == 60)) in
+    dark_class level b calm (dark_over b over)
+    (is ∙ sym (ap (λ (t : Bool). not (b == 40) && (not (b == 41) && (not t && rest))) none) ∙ calm_low b low
+    ∙ or_none (is_calm b) ∙ sym (ap (λ (t : Bool). is_calm b || (t && nat_lt 0 level)) none))
+
+-- a comma, which is calm within further openers
+pub comma_class : (level b : ℕ) → b ≡ 44 → cond (nat_lt 0 level) Calm Mark ≡ byte_class level b
+unfolding byte_class is_white is_blank is_line_end is_calm_at is_calm is_opener is_closer
+comma_class level b e = subst (λ (n : ℕ). cond (nat_lt 0 level) Calm Mark ≡ byte_class level n) (sym e) refl
+
+-- the blank
+pub blank_class : (level b : ℕ) → b ≡ 32 → White ≡ byte_class level b
+unfolding byte_class is_white is_blank
+blank_class level b e = subst (λ (n : ℕ). White ≡ byte_class level n) (sym e) refl
+
+-- a byte below it is calm
+control_calm : (level b : ℕ) → b < 32 → is_calm_at level b ≡ true
+unfolding is_calm_at
+control_calm level b low =
+    or_left (is_calm b) _ (sym (calm_low b (omega (arith, low)))
+    ∙ rw (unequal b 40 (λ e. omega (arith, e, low)), unequal b 41 (λ e. omega (arith, e, low)), unequal b 44 (λ e. omega (arith, e, low)), unequal b 34 (λ e. omega (arith, e, low)), unequal b 47 (λ e. omega (arith, e, low)), unequal b 60 (λ e. omega (arith, e, low))) refl)
+
+-- so that only white space is told apart
+pub control_class : (level b : ℕ) → b < 32 → cond (is_white b) White Calm ≡ byte_class level b
+unfolding byte_class
+control_class level b low = sym (ap (λ (t : Bool). cond (is_white b) White (cond t Calm Mark)) (control_calm level b low))
+
+-- The search for the end of a part passes what opens, closes and cuts nothing byte by byte, whatever tokens it has.
 
 -- the search at a token of text
 text_turn : (closes : Bool) (start at level end : ℕ) (text : List ℕ) (n : ℕ) → IsFirstToken Plain text (call.plain_token role.Text n)
@@ -127,25 +288,6 @@ line_step closes start at level end b bs e =
 IsCalmFirst : ℕ → List ℕ → Type 0
 IsCalmFirst b bs = IsFirstToken Plain (b ∷ bs) (call.plain_token role.Text 1) ⊎ IsFirstToken Plain (b ∷ bs) (call.plain_token role.Text (suc (prefix_len is_word bs)))
 
-apart : (p : Bool) → p ≡ false → p ≡ true → ⊥
-apart p h g = false≢true (sym h ∙ g)
-
-both_first : (p q : Bool) → (p && q) ≡ true → p ≡ true
-both_first true q h = refl
-both_first false q h = absurd (false≢true h)
-
-no_first : (p q : Bool) → (not p && q) ≡ true → (p ≡ false) × (q ≡ true)
-no_first true q h = absurd (false≢true h)
-no_first false q h = (refl, h)
-
-no_last : (p : Bool) → not p ≡ true → p ≡ false
-no_last true h = absurd (false≢true h)
-no_last false h = refl
-
-two : (p q : Bool) → (p || q) ≡ false → (p ≡ false) × (q ≡ false)
-two true q h = absurd (false≢true (sym h))
-two false q h = (refl, h)
-
 -- the token of a byte alone
 alone : (b : ℕ) (bs : List ℕ) (k : Kind) → token_of Plain (b ∷ bs) ≡ whole k 1 → role_meant role.Text ≡ kind_role k (b ∷ []) → IsCalmFirst b bs
 unfolding whole IsCalmFirst
@@ -170,18 +312,18 @@ mark_first b bs calm line digit =
     let comma = no_first (b == 44) _ closer.1 in
     let quote = no_first (b == 34) _ comma.1 in
     let slash = no_first (b == 47) _ quote.1 in
-    let less = no_last (b == 60) slash.1 in
+    let less = not-true (b == 60) slash.1 in
     let P : Kind → Type 0 = λ k. token_of Plain T ≡ parts Plain k T → IsCalmFirst b bs in
-    cond_both (b == 44) _ _ P (λ h. absurd (apart _ comma.0 h)) (λ _.
-    cond_both (is_opener b) _ _ P (λ h. absurd (apart _ opener.0 h)) (λ _.
-    cond_both (is_closer b) _ _ P (λ h. absurd (apart _ closer.0 h)) (λ _.
-    cond_both (is_line_end b) _ _ P (λ h. absurd (apart _ line h)) (λ _.
+    cond_both (b == 44) _ _ P (λ h. absurd (both_ways _ comma.0 h)) (λ _.
+    cond_both (is_opener b) _ _ P (λ h. absurd (both_ways _ opener.0 h)) (λ _.
+    cond_both (is_closer b) _ _ P (λ h. absurd (both_ways _ closer.0 h)) (λ _.
+    cond_both (is_line_end b) _ _ P (λ h. absurd (both_ways _ line h)) (λ _.
     cond_both (b == 96 && is_letter c) _ _ P (λ _ e. along b bs Back e refl) (λ _.
     cond_both (b == 96) _ _ P (λ _ e. alone b bs BareBackquote e refl) (λ _.
-    cond_both (b == 34) _ _ P (λ h. absurd (apart _ quote.0 h)) (λ _.
-    cond_both (b == 47 && c == 47) _ _ P (λ h. absurd (apart _ slash.0 (both_first _ _ h))) (λ _.
-    cond_both (b == 47 && c == 42) _ _ P (λ h. absurd (apart _ slash.0 (both_first _ _ h))) (λ _.
-    cond_both (b == 60 && c == 37) _ _ P (λ h. absurd (apart _ less (both_first _ _ h))) (λ _.
+    cond_both (b == 34) _ _ P (λ h. absurd (both_ways _ quote.0 h)) (λ _.
+    cond_both (b == 47 && c == 47) _ _ P (λ h. absurd (both_ways _ slash.0 (both_first _ _ h))) (λ _.
+    cond_both (b == 47 && c == 42) _ _ P (λ h. absurd (both_ways _ slash.0 (both_first _ _ h))) (λ _.
+    cond_both (b == 60 && c == 37) _ _ P (λ h. absurd (both_ways _ less (both_first _ _ h))) (λ _.
     cond_both (takes_word b && is_word c) _ _ P (λ _ e. along b bs Word (e ∙ taken) refl) (λ _ e. alone b bs Other e refl)))))))))))
   where
     taken : parts Plain Word (b ∷ bs) ≡ whole Word (suc (prefix_len is_word bs))
@@ -193,7 +335,7 @@ mark_step : (closes : Bool) (start at level end b : ℕ) (bs : List ℕ) → is_
 unfolding is_word kind_of plain_kind IsCalmFirst
 mark_step closes start at level end b bs calm blank line word =
     let T = b ∷ bs in
-    let h = two (is_letter b) (is_digit b) word in
+    let h = or_parts (is_letter b) (is_digit b) word in
     let kind : plain_kind b (get_or T 1 0) ≡ mark_kind b (get_or T 1 0) = rw (h.0, blank, h.1) refl in
     let is : token_of Plain T ≡ parts Plain (mark_kind b (get_or T 1 0)) T = token_parts Plain T ∙ ap (λ (k : Kind). parts Plain k T) kind in
     ⊎_elim (λ f. text_turn closes start at level end T 1 f) (λ f. taken_step closes start at level end b bs f) (mark_first b bs calm line h.1 is)
@@ -207,7 +349,7 @@ calm_step closes start at level end b bs calm =
     cond_both (is_white b) _ _ G
     (λ white. ⊎_elim (blank_step closes start at level end b bs) (line_step closes start at level end b bs) (or_cases _ _ white))
     (λ dark.
-    let h = two (is_blank b) (is_line_end b) dark in
+    let h = or_parts (is_blank b) (is_line_end b) dark in
     ⊎_elim (word_step closes start at level end b bs) (mark_step closes start at level end b bs calm h.0 h.1) (cases_Bool (is_word b)))
 
 -- a comma within an opener is a token that the search passes
@@ -261,3 +403,253 @@ calm_passed closes text start at level end inside is =
     let c = class_calm level b is in
     ap (λ (t : Bool). part_from closes start (at + 1) level (cond t end (at + 1)) (text_tokens Plain (drop (at + 1) text))) (sym c.0)
     ∙ byte_passed closes text start at level end inside c.1
+
+-- A text without `/` has no `//` comment.
+
+-- a token of any other kind is kept
+kept_kind : (k : Kind) (bytes : List ℕ) → (k ≡ LineComment → ⊥) → is_kept (kind_role k bytes) ≡ true
+unfolding kind_role is_kept
+kept_kind Opener bytes other = either_kept (get_or bytes 0 0 == 40) Start Up refl refl
+kept_kind Closer bytes other = either_kept (get_or bytes 0 0 == 41) End Down refl refl
+kept_kind LineComment bytes other = absurd (other refl)
+kept_kind k bytes other = refl
+
+-- no `//` comment begins with another byte
+plain_other : (b c : ℕ) → (b == 47) ≡ false → plain_kind b c ≡ LineComment → ⊥
+unfolding plain_kind mark_kind
+plain_other b c slash =
+    let P : Kind → Type 0 = λ k. k ≡ LineComment → ⊥ in
+    cond_both (is_letter b) _ _ P (λ _ e. absurd (cc)) (λ _.
+    cond_both (is_blank b) _ _ P (λ _ e. absurd (cc)) (λ _.
+    cond_both (is_digit b) _ _ P (λ _ e. absurd (cc)) (λ _.
+    cond_both (b == 44) _ _ P (λ _ e. absurd (cc)) (λ _.
+    cond_both (is_opener b) _ _ P (λ _ e. absurd (cc)) (λ _.
+    cond_both (is_closer b) _ _ P (λ _ e. absurd (cc)) (λ _.
+    cond_both (is_line_end b) _ _ P (λ _ e. absurd (cc)) (λ _.
+    cond_both (b == 96 && is_letter c) _ _ P (λ _ e. absurd (cc)) (λ _.
+    cond_both (b == 96) _ _ P (λ _ e. absurd (cc)) (λ _.
+    cond_both (b == 34) _ _ P (λ _ e. absurd (cc)) (λ _.
+    cond_both (b == 47 && c == 47) _ _ P (λ h e. absurd (both_ways _ slash (both_first _ _ h))) (λ _.
+    cond_both (b == 47 && c == 42) _ _ P (λ h e. absurd (both_ways _ slash (both_first _ _ h))) (λ _.
+    cond_both (b == 60 && c == 37) _ _ P (λ _ e. absurd (cc)) (λ _.
+    cond_both (takes_word b && is_word c) _ _ P (λ _ e. absurd (cc)) (λ _ e. absurd (cc)))))))))))))))
+
+-- nor in a string or in a block comment
+other_kind : (m : Mode) (b : ℕ) (bs : List ℕ) → (b == 47) ≡ false → kind_of m (b ∷ bs) ≡ LineComment → ⊥
+unfolding kind_of
+other_kind Plain b bs slash = plain_other b (get_or (b ∷ bs) 1 0) slash
+other_kind InStr b bs slash = cond_both (begins_perl (b ∷ bs)) _ _ (λ k. k ≡ LineComment → ⊥) (λ _ e. absurd (cc)) (λ _ e. absurd (cc))
+other_kind InBlock b bs slash = λ e. absurd (cc)
+
+-- the first token of a text that begins so is kept
+first_kept : (m : Mode) (b : ℕ) (bs : List ℕ) → (b == 47) ≡ false → is_kept (token_role (first_spelled m (b ∷ bs))) ≡ true
+unfolding first_spelled token_role parts
+first_kept m b bs slash =
+    let T = b ∷ bs in
+    let bytes = take (token_of m T).len T in
+    ap (λ (t : Token). is_kept (kind_role t.kind bytes)) (token_parts m T) ∙ kept_kind (kind_of m T) bytes (other_kind m b bs slash)
+
+-- the rest of a text without `/` has none
+rest_all : (n : ℕ) (bs : List ℕ) → list_all is_no_slash bs ≡ true → list_all is_no_slash (drop n bs) ≡ true
+rest_all zero bs e = e
+rest_all (suc n) [] e = e
+rest_all (suc n) (b ∷ bs) e = rest_all n bs (and_parts (is_no_slash b) (list_all is_no_slash bs) e).1
+
+no_slash : (b : ℕ) → is_no_slash b ≡ true → (b == 47) ≡ false
+unfolding is_no_slash
+no_slash b e = not_true (b == 47) e
+  where
+    not_true : (p : Bool) → not p ≡ true → p ≡ false
+    not_true true h = absurd (false≢true h)
+    not_true false h = refl
+
+-- a call in such a text keeps each token
+kept_from : (n : ℕ) (m : Mode) (bs : List ℕ) → length bs ≤ n → list_all is_no_slash bs ≡ true → keeps_each (text_tokens m bs) ≡ true
+unfolding keeps_each
+kept_from n m [] low e = ap keeps_each (text_nil m)
+kept_from zero m (b ∷ bs) low e = absurd (omega (arith, low))
+kept_from (suc n) m (b ∷ bs) low e =
+    let T = b ∷ bs in
+    let t = token_of m T in
+    let some : 0 < length T = omega arith in
+    let size = length-drop t.len T in
+    let long = (token_of-part m T some).not_empty in
+    let later = text_tokens t.next_mode (drop t.len T) in
+    ap keeps_each (text_step m T some)
+    ∙ ap (λ (p : Bool). cond p (keeps_each later) false) (first_kept m b bs (no_slash b (and_parts (is_no_slash b) (list_all is_no_slash bs) e).0))
+    ∙ kept_from n t.next_mode (drop t.len T) (omega (arith, size, long, low)) (rest_all t.len T e)
+
+-- so the test of the bytes tells it
+pub kept_is : (text : List ℕ) (none : Bool) → none ≡ list_all is_no_slash text → none ≡ true → none ≡ keeps_each (body_tokens text)
+kept_is text none e h = h ∙ sym (ap keeps_each (body_text text) ∙ kept_from (length text) Plain text (omega arith) (sym e ∙ h))
+
+-- A text without formals is copied up to its first backquote, where no string and no comment begins before that.
+
+-- how many bytes are copied
+run : List ℕ → ℕ
+run bs = run_len [] (tokens_from Plain 0 bs) bs
+
+-- a token that is no stop is copied
+turn : (bs : List ℕ) (k : Kind) (n : ℕ) → 0 < length bs → token_of Plain bs ≡ whole k n → is_back k ≡ false → run bs ≡ n + run (drop n bs)
+unfolding run whole
+turn bs k n some is still =
+    let step : tokens_from Plain 0 bs ≡ whole k n ∷ tokens_from Plain 0 (drop n bs) =
+    tokens_from-step Plain bs some (token_of-part Plain bs some).not_empty ∙ ap (λ (t : Token). t ∷ tokens_from t.next_mode 0 (drop t.len bs)) is in
+    ap (λ (ts : List Token). run_len [] ts bs) step ∙ passed (whole k n) (tokens_from Plain 0 (drop n bs)) bs still
+
+-- the word at the front of a text is copied, if there is one
+run_word : (bs : List ℕ) (n : ℕ) → n ≡ prefix_len is_word bs → run bs ≡ n + run (drop n bs)
+unfolding is_word is_back
+run_word bs zero e = omega arith
+run_word [] (suc n) e = absurd (omega (arith, e))
+run_word (b ∷ bs) (suc n) e = elim (cases_Bool (is_letter b)) [
+  | inl l ↦ turn (b ∷ bs) Name (suc n) (omega arith) (letter_token b bs l ∙ ap (λ (k : ℕ). whole Name k) (sym e)) refl
+  | inr l ↦ elim (cases_Bool (is_digit b)) [
+    | inl d ↦ turn (b ∷ bs) Word (suc n) (omega arith) (digit_token b bs l d ∙ ap (λ (k : ℕ). whole Word k) (sym e)) refl
+    | inr d ↦
+        let none : prefix_len is_word (b ∷ bs) ≡ 0 = rw (l, d) refl in
+        absurd (omega (arith, e, none))
+  ]
+]
+
+-- so are blanks
+run_blank : (bs : List ℕ) (n : ℕ) → n ≡ prefix_len is_blank bs → run bs ≡ n + run (drop n bs)
+unfolding is_back
+run_blank bs zero e = omega arith
+run_blank [] (suc n) e = absurd (omega (arith, e))
+run_blank (b ∷ bs) (suc n) e = elim (cases_Bool (is_blank b)) [
+  | inl h ↦ turn (b ∷ bs) Blank (suc n) (omega arith) (blank_token b bs (blank_dark b h) h ∙ ap (λ (k : ℕ). whole Blank k) (sym e)) refl
+  | inr h ↦
+      let none : prefix_len is_blank (b ∷ bs) ≡ 0 = ap (λ (t : Bool). cond t (1 + prefix_len is_blank bs) 0) h in
+      absurd (omega (arith, e, none))
+]
+
+-- a byte of a run is copied, and then the rest of the run
+run_step : (p : ℕ → Bool) → ((bs : List ℕ) (n : ℕ) → n ≡ prefix_len p bs → run bs ≡ n + run (drop n bs)) → (b : ℕ) (bs : List ℕ) → p b ≡ true → run (b ∷ bs) ≡ 1 + run bs
+run_step p skip b bs e =
+    let k = prefix_len p bs in
+    let len : suc k ≡ prefix_len p (b ∷ bs) = sym (ap (λ (t : Bool). cond t (1 + k) 0) e ∙ one-add k) in
+    let all : run (b ∷ bs) ≡ suc k + run (drop k bs) = skip (b ∷ bs) (suc k) len in
+    let rest : run bs ≡ k + run (drop k bs) = skip bs k refl in
+    omega (arith, all, rest)
+
+-- a token of one byte
+one_step : (b : ℕ) (bs : List ℕ) (k : Kind) → token_of Plain (b ∷ bs) ≡ whole k 1 → is_back k ≡ false → run (b ∷ bs) ≡ 1 + run bs
+one_step b bs k e still = turn (b ∷ bs) k 1 (omega arith) e still
+
+-- a byte that takes the word behind it along
+run_taken : (b : ℕ) (bs : List ℕ) → token_of Plain (b ∷ bs) ≡ whole Word (suc (prefix_len is_word bs)) → run (b ∷ bs) ≡ 1 + run bs
+unfolding is_back
+run_taken b bs e =
+    let k = prefix_len is_word bs in
+    let all : run (b ∷ bs) ≡ suc k + run (drop k bs) = turn (b ∷ bs) Word (suc k) (omega arith) e refl in
+    let rest : run bs ≡ k + run (drop k bs) = run_word bs k refl in
+    omega (arith, all, rest)
+
+-- a `%` is a token by itself
+percent : (bs : List ℕ) → token_of Plain (37 ∷ bs) ≡ whole Other 1
+unfolding parts kind_of plain_kind mark_kind stop_of mode_behind len_of whole is_blank is_line_end is_letter is_digit is_opener is_closer takes_word
+percent bs = token_parts Plain (37 ∷ bs)
+
+-- so `<%` is copied byte by byte
+perl_step : (b : ℕ) (bs : List ℕ) → get_or (b ∷ bs) 1 0 ≡ 37 → token_of Plain (b ∷ bs) ≡ whole Perl 2 → run (b ∷ bs) ≡ 1 + run bs
+unfolding is_back
+perl_step b [] c e = absurd (omega (arith, c))
+perl_step b (x ∷ bs) c e =
+    let all : run (b ∷ x ∷ bs) ≡ 2 + run bs = turn (b ∷ x ∷ bs) Perl 2 (omega arith) e refl in
+    let rest : run (x ∷ bs) ≡ 1 + run bs = one_step x bs Other (ap (λ (n : ℕ). token_of Plain (n ∷ bs)) c ∙ percent bs) refl in
+    omega (arith, all, rest)
+
+-- a byte that stands in no run is copied, if it is no backquote and begins no string and no comment
+run_mark : (b : ℕ) (bs : List ℕ) → (b == 96) ≡ false → (b == 34) ≡ false → (b == 47) ≡ false → is_digit b ≡ false
+    → token_of Plain (b ∷ bs) ≡ parts Plain (mark_kind b (get_or (b ∷ bs) 1 0)) (b ∷ bs) → run (b ∷ bs) ≡ 1 + run bs
+unfolding parts stop_of mode_behind len_of mark_kind whole is_back
+run_mark b bs back quote slash digit =
+    let T = b ∷ bs in
+    let c = get_or T 1 0 in
+    let P : Kind → Type 0 = λ k. token_of Plain T ≡ parts Plain k T → run T ≡ 1 + run bs in
+    cond_both (b == 44) _ _ P (λ _ e. one_step b bs Comma e refl) (λ _.
+    cond_both (is_opener b) _ _ P (λ _ e. one_step b bs Opener e refl) (λ _.
+    cond_both (is_closer b) _ _ P (λ _ e. one_step b bs Closer e refl) (λ _.
+    cond_both (is_line_end b) _ _ P (λ _ e. one_step b bs LineEnd e refl) (λ _.
+    cond_both (b == 96 && is_letter c) _ _ P (λ h. absurd (both_ways _ back (both_first _ _ h))) (λ _.
+    cond_both (b == 96) _ _ P (λ h. absurd (both_ways _ back h)) (λ _.
+    cond_both (b == 34) _ _ P (λ h. absurd (both_ways _ quote h)) (λ _.
+    cond_both (b == 47 && c == 47) _ _ P (λ h. absurd (both_ways _ slash (both_first _ _ h))) (λ _.
+    cond_both (b == 47 && c == 42) _ _ P (λ h. absurd (both_ways _ slash (both_first _ _ h))) (λ _.
+    cond_both (b == 60 && c == 37) _ _ P (λ h e. perl_step b bs (eqb-true c 37 (and_parts (b == 60) (c == 37) h).1) e) (λ _.
+    cond_both (takes_word b && is_word c) _ _ P (λ _ e. run_taken b bs (e ∙ taken)) (λ _ e. one_step b bs Other e refl)))))))))))
+  where
+    taken : parts Plain Word (b ∷ bs) ≡ whole Word (suc (prefix_len is_word bs))
+    taken = ap (λ (t : Bool). whole Word (cond t (prefix_len is_word (b ∷ bs)) (suc (prefix_len is_word bs)))) digit
+
+-- each such byte is copied
+quiet_step : (b : ℕ) (bs : List ℕ) → (b == 96) ≡ false → (b == 34) ≡ false → (b == 47) ≡ false → run (b ∷ bs) ≡ 1 + run bs
+unfolding is_word kind_of plain_kind
+quiet_step b bs back quote slash = elim (cases_Bool (is_word b)) [
+  | inl w ↦ run_step is_word run_word b bs w
+  | inr w ↦ elim (cases_Bool (is_blank b)) [
+    | inl h ↦ run_step is_blank run_blank b bs h
+    | inr h ↦
+        let T = b ∷ bs in
+        let n = or_parts (is_letter b) (is_digit b) w in
+        let kind : plain_kind b (get_or T 1 0) ≡ mark_kind b (get_or T 1 0) = rw (n.0, h, n.1) refl in
+        run_mark b bs back quote slash n.1 (token_parts Plain T ∙ ap (λ (k : Kind). parts Plain k T) kind)
+  ]
+]
+
+-- and so are all in front of a backquote
+quiet_run : (bs : List ℕ) (n : ℕ) → n ≤ length bs
+    → ((i : ℕ) → i < n → ((get_or bs i 0 == 96) ≡ false) × ((get_or bs i 0 == 34) ≡ false) × ((get_or bs i 0 == 47) ≡ false)) → run bs ≡ n + run (drop n bs)
+quiet_run bs zero few quiet = omega arith
+quiet_run [] (suc n) few quiet = absurd (omega (arith, few))
+quiet_run (b ∷ bs) (suc n) few quiet =
+    let q = quiet 0 (omega arith) in
+    let first : run (b ∷ bs) ≡ 1 + run bs = quiet_step b bs q.0 q.1 q.2 in
+    let rest : run bs ≡ n + run (drop n bs) = quiet_run bs n (omega (arith, few)) (λ i h. quiet (suc i) (omega (arith, h))) in
+    omega (arith, first, rest)
+
+-- a text that begins with a backquote begins with a usage or a lone backquote
+back_first : (bs : List ℕ) → get_or bs 0 0 ≡ 96 → is_back (token_of Plain bs).kind ≡ true
+unfolding parts kind_of plain_kind mark_kind is_back is_blank is_line_end is_letter is_digit is_opener is_closer
+back_first bs e =
+    ap (λ (t : Token). is_back t.kind) (token_parts Plain bs)
+    ∙ ap (λ (n : ℕ). is_back (plain_kind n (get_or bs 1 0))) e
+    ∙ cond_both (is_letter (get_or bs 1 0)) Back BareBackquote (λ (k : Kind). is_back k ≡ true) (λ _. refl) (λ _. refl)
+
+-- the bytes in front of a place at or before the first backquote, where neither `"` nor `/` stands before it
+quiet_before : (text : List ℕ) (at k : ℕ) → IsFirstByte (is_byte 96) text (Some at) → k ≤ at → ((i : ℕ) → i < k → is_byte2 34 47 (get_or (take at text) i 0) ≡ true → ⊥)
+    → (i : ℕ) → i < k → ((get_or text i 0 == 96) ≡ false) × ((get_or text i 0 == 34) ≡ false) × ((get_or text i 0 == 47) ≡ false)
+quiet_before text at k first few h i l =
+    let same : get_or (take at text) i 0 ≡ get_or text i 0 = get_or-take at text i 0 (omega (arith, l, few)) in
+    let back = false_from_ne_true (get_or text i 0 == 96) (λ b. first.0.before i (omega arith) (omega (arith, l, few)) b) in
+    let marks = false_from_ne_true (get_or text i 0 == 34 || get_or text i 0 == 47) (λ b. h i l (ap (λ (n : ℕ). n == 34 || n == 47) same ∙ b)) in
+    let m = or_parts (get_or text i 0 == 34) (get_or text i 0 == 47) marks in
+    (back, m.0, m.1)
+
+-- so the run ends at the first backquote, where neither `"` nor `/` stands before it
+pub run_found : (text : List ℕ) (at : ℕ) (marks : Option ℕ) → IsFirstByte (is_byte 96) text (Some at) → marks ≡ None
+    → IsFirstByte (is_byte2 34 47) (take at text) marks → at ≡ run_len [] (tokens_from Plain 0 text) text
+unfolding run
+run_found text at (Some k) first e h = absurd (cc)
+run_found text at None first e h =
+    let inside : at < length text = first.0.high in
+    let size : length (take at text) ≡ at = length-take-le at text (omega arith) in
+    let quiet = quiet_before text at at first (omega arith) (λ i l. h i (omega arith) (omega (arith, size, l))) in
+    let whole : at + run (drop at text) ≡ run text = sym (quiet_run text at (omega arith) quiet) in
+    let zero_behind : at + 0 ≡ at = omega arith in
+    let here : get_or (drop at text) 0 0 ≡ 96 = get_or-drop at text 0 0 ∙ ap (λ (k : ℕ). get_or text k 0) zero_behind ∙ eqb-true (get_or text at 0) 96 first.1 in
+    running-stop text Plain at (token_of Plain (drop at text)) (record { inside = omega arith; same = whole }) inside refl (back_first (drop at text) here)
+
+-- and else goes on at the first of these, as in a text that begins there
+pub run_behind : (text : List ℕ) (at near : ℕ) (marks : Option ℕ) → IsFirstByte (is_byte 96) text (Some at) → marks ≡ Some near
+    → IsFirstByte (is_byte2 34 47) (take at text) marks → (near < length text) × (run_len [] (tokens_from Plain 0 text) text ≡ near + run_len [] (tokens_from Plain 0 (drop near text)) (drop near text))
+unfolding run
+run_behind text at near None first e h = absurd (cc)
+run_behind text at near (Some k) first e h =
+    let same : k ≡ near = cc in
+    let inside : at < length text = first.0.high in
+    let size : length (take at text) ≡ at = length-take-le at text (omega arith) in
+    let few : near < at = omega (arith, same, size, h.0.high) in
+    let quiet = quiet_before text at near first (omega (arith, few)) (λ i l. h.0.before i (omega arith) (omega (arith, same, l))) in
+    (omega (arith, few, inside), quiet_run text near (omega (arith, few, inside)) quiet)

@@ -1,18 +1,34 @@
--- The digits of open texts fall at each step that isn't refused.
-use Rattle.std.proofs.Common.{◌≡◌, ℕ, ◌+◌, ◌-◌, ◌<◌, ◌≤◌, inl, inr, List, [], ◌∷◌, ◌++◌, map, length, drop, refl, sym, ap, subst, ◌∙◌, append_assoc, arith}
-use Rattle.std.proofs.lemmas.List.{length-take, reverse-append}
-use Rattle.rdlpp_scan.specs.declared.token.Mode.TheVariants.{Plain}
+-- What a step over open texts leaves: fewer digits, the outermost text, and what it opens or closes.
+use Rattle.std.proofs.Common.{◌≡◌, ℕ, ◌+◌, ◌-◌, ◌<◌, ◌≤◌, inl, inr, List, [], ◌∷◌, ◌++◌, map, length, drop, refl, sym, ap, subst, ◌∙◌, append_assoc, arith, suc, Bool, true, false, rules, length-append, Option, None, Some, if◌then◌else◌, unwrap_or, ◌==◌, drop-drop, length-take}
+use Rattle.std.specs.List.{AllByRecursion}
+use Rattle.std.proofs.lemmas.List.{length-map, reverse-append}
+use Rattle.std.proofs.lemmas.List.Sums.{get_or-le-sum_by}
 use Rattle.rdlpp_scan.specs.Tokens.{token_of}
+use Rattle.rdlpp_scan.specs.declared.token.Mode.TheVariants.{Plain}
 use Rattle.rdlpp_scan.proofs.TokenLens.{token_of-part}
-use Rattle.rdlpp_meaning.specs.Opens.{Open, Texts, text_around, open_bytes}
+use Rattle.rdlpp_table.specs.Table.{Formal, Macro, formal_size, macro_size, table_size}
+use Rattle.rdlpp_table.specs.View.{formal_at, formals_of, macro_at, no_formal, no_macro}
+use Rattle.rdlpp_table.proofs.Sizes.{default_least}
+use Rattle.rdlpp_meaning.specs.Opens.{Open, OpenActual, OpenBody, OpenDefault, OpenKind, Texts, found_standing, open_body, open_bytes, own_text, scope_open, scope_text, text_around}
+use Rattle.rdlpp_texts.specs.BoundCalls.{IsBoundCall, range_part}
+use Rattle.rdlpp_texts.specs.Calls.{IsCallBound, IsOpening}
+use Rattle.rdlpp_texts.specs.Digits.{AreFalling, AreShort, cursor_digits, open_digit}
+use Rattle.rdlpp_texts.specs.Fronts.{AreCopied, IsFront, IsLook, IsLookAhead}
+use Rattle.rdlpp_texts.specs.Opened.{CursorsView, StaysOutermost, moved_to, usage_id}
+use Rattle.rdlpp_texts.specs.Places.{source_formals, texts_of}
+use Rattle.rdlpp_texts.specs.Scopes.{front_scope, front_source}
+use Rattle.rdlpp_texts.specs.Steps.{AreInside, IsKnown, IsUnlent}
+use Rattle.rdlpp_texts.specs.Turns.{Closes, HasFront, OpensBody, OpensStanding, Stays, Turned, TurnsOver}
+use Rattle.rdlpp_texts.specs.Usages.{IsUsed, front_name}
+use Rattle.rdlpp_texts.specs.declared.cursors.call.Opening.{Opening}
+use Rattle.rdlpp_texts.specs.declared.cursors.call.Opening.TheVariants.{Deep, Opened, Refused as Lacks}
 use Rattle.rdlpp_texts.specs.declared.front.Front.{Front}
 use Rattle.rdlpp_texts.specs.declared.front.Front.TheVariants as front
 use Rattle.rdlpp_texts.specs.declared.front.Look.{Look}
-use Rattle.rdlpp_texts.specs.Digits.{open_digit, cursor_digits, AreFalling}
-use Rattle.rdlpp_texts.specs.Fronts.{AreCopied, IsFront, IsLook, IsLookAhead}
-use Rattle.rdlpp_texts.specs.Opened.{moved_to}
-use Rattle.rdlpp_texts.specs.Places.{source_formals}
-use Rattle.rdlpp_texts.specs.Scopes.{front_source}
+use Rattle.rdlpp_texts.specs.declared.step.CursorStep.{CursorStep}
+use Rattle.rdlpp_texts.specs.declared.step.CursorStep.TheVariants.{Lends, Refused, Silent}
+
+-- The digits of open texts fall at each step that isn't refused.
 
 -- the digit of the innermost open text comes last
 pub digits-inner : (x : Open) (below : List Open) → cursor_digits (x ∷ below) ≡ cursor_digits below ++ open_digit x ∷ []
@@ -141,3 +157,185 @@ falls-twice (d ∷ xs) (e ∷ ys) (k ∷ zs) (inl f) (inl g) = inl (omega (arith
 falls-twice (d ∷ xs) (e ∷ ys) (k ∷ zs) (inl f) (inr g) = let same = g.0 in inl (omega (arith, f, same))
 falls-twice (d ∷ xs) (e ∷ ys) (k ∷ zs) (inr f) (inl g) = let same = f.0 in inl (omega (arith, same, g))
 falls-twice (d ∷ xs) (e ∷ ys) (k ∷ zs) (inr f) (inr g) = inr (g.0 ∙ f.0, falls-twice xs ys zs f.1 g.1)
+
+-- The digits of open texts are few, and none is more than the most bytes of a text, and one.
+
+-- a table counts the bytes of each body
+body-fits : (macros : List Macro) (id : ℕ) → id < length macros → length (macro_at macros id).body ≤ table_size macros
+unfolding table_size macro_size
+body-fits macros id h =
+    let whole = get_or-le-sum_by macro_size macros id no_macro h in
+    omega (arith, whole)
+
+-- and those of each default text
+text-fits : (macros : List Macro) (id place : ℕ) → id < length macros → place < length (formals_of (macro_at macros id))
+    → length (formal_at (formals_of (macro_at macros id)) place).text ≤ table_size macros
+unfolding table_size macro_size formal_size
+text-fits macros id place h k =
+    let whole = get_or-le-sum_by macro_size macros id no_macro h in
+    let formal = get_or-le-sum_by formal_size (formals_of (macro_at macros id)) place no_formal k in
+    let text = default_least (formal_at (formals_of (macro_at macros id)) place).text in
+    omega (arith, whole, formal, text)
+
+-- no text of an open text's own is longer
+own-short : (most : ℕ) (texts : Texts) (kind : OpenKind) → AreShort most texts → IsKnown texts.macros kind → length (own_text texts kind) ≤ most
+unfolding own_text
+own-short most texts (OpenBody id parts) h known =
+    let fits = body-fits texts.macros id known in
+    let all = h.definitions in
+    omega (arith, fits, all)
+own-short most texts OpenActual h known = omega arith
+own-short most texts (OpenDefault id place) h known =
+    let fits = text-fits texts.macros id place known.0 known.1 in
+    let all = h.definitions in
+    omega (arith, fits, all)
+
+-- nor is that of a scope
+scope-short : (most : ℕ) (texts : Texts) (opens : List Open) (k : ℕ) → AreShort most texts → AreInside texts opens → length (scope_text texts opens k) ≤ most
+unfolding scope_text
+scope-short most texts [] k h inside = h.arguments
+scope-short most texts (x ∷ below) k h inside =
+    by (k == suc (length below)) (own-short most texts x.kind h inside.0) (scope-short most texts below k h ((inside.1).1).1)
+  where
+    by : (here : Bool) → length (own_text texts x.kind) ≤ most → length (scope_text texts below k) ≤ most
+        → length (if here then own_text texts x.kind else scope_text texts below k) ≤ most
+    by true own rest = own
+    by false own rest = rest
+
+-- nor that in which an open text lies
+around-short : (most : ℕ) (texts : Texts) (kind : OpenKind) (home : ℕ) (below : List Open) → AreShort most texts → IsKnown texts.macros kind → AreInside texts below
+    → length (text_around texts kind home below) ≤ most
+unfolding text_around
+around-short most texts (OpenBody id parts) home below h known inside = own-short most texts (OpenBody id parts) h known
+around-short most texts OpenActual home below h known inside = scope-short most texts below home h inside
+around-short most texts (OpenDefault id place) home below h known inside = own-short most texts (OpenDefault id place) h known
+
+-- what holds of each of some and of one more holds of all
+all-more : (P : ℕ → Type 0) (ds : List ℕ) (d : ℕ) → AllByRecursion P ds → P d → AllByRecursion P (ds ++ d ∷ [])
+all-more P [] d all one = (one, tt)
+all-more P (e ∷ es) d all one = (all.0, all-more P es d all.1 one)
+
+-- there are as many digits as open texts
+pub digits-count : (opens : List Open) → length (cursor_digits opens) ≡ length opens
+unfolding cursor_digits
+digits-count [] = search rules
+digits-count (x ∷ below) =
+    let rest = digits-count below in
+    let more = ap (λ (ds : List ℕ). length ds) (digits-inner x below) ∙ length-append (cursor_digits below) (open_digit x ∷ []) in
+    omega (arith, rest, more)
+
+-- each is below the places of a digit, where no text has more bytes
+pub digits-short : (most places : ℕ) (texts : Texts) (opens : List Open) → AreShort most texts → AreInside texts opens → most + 1 < places
+    → AllByRecursion (λ d. d < places) (cursor_digits opens)
+unfolding cursor_digits
+digits-short most places texts [] h inside room = tt
+digits-short most places texts (x ∷ below) h inside room =
+    let around = around-short most texts x.kind x.home below h inside.0 ((inside.1).1).1 in
+    let ends = (inside.1).0 in
+    subst (λ (ds : List ℕ). AllByRecursion (λ d. d < places) ds) (sym (digits-inner x below))
+    (all-more (λ d. d < places) (cursor_digits below) (open_digit x) (digits-short most places texts below h ((inside.1).1).1 room) (omega (arith, around, ends, room)))
+
+-- The outermost of open texts stays.
+
+-- where the innermost goes on
+pub outer-moved : (at : ℕ) (opens : List Open) → usage_id (moved_to at opens) ≡ usage_id opens
+unfolding usage_id moved_to
+outer-moved at [] = refl
+outer-moved at (x ∷ []) = refl
+outer-moved at (x ∷ y ∷ below) = refl
+
+moved-many : (at : ℕ) (opens : List Open) → length (moved_to at opens) ≡ length opens
+unfolding moved_to
+moved-many at [] = refl
+moved-many at (x ∷ below) = refl
+
+-- where one more is open
+outer-more : (x : Open) (opens : List Open) → 0 < length opens → usage_id (x ∷ opens) ≡ usage_id opens
+unfolding usage_id
+outer-more x [] some = absurd (omega (arith, some))
+outer-more x (y ∷ below) some = refl
+
+-- where the innermost is closed
+outer-less : (opens : List Open) → StaysOutermost opens (drop 1 opens)
+unfolding usage_id
+outer-less [] = λ some. refl
+outer-less (x ∷ []) = λ some. absurd (omega (arith, some))
+outer-less (x ∷ y ∷ below) = λ some. refl
+
+pub outer-closed : (view new : CursorsView) → new ≡ record view { opens = drop 1 view.opens } → StaysOutermost view.opens new.opens
+outer-closed view new e = subst (λ (v : CursorsView). StaysOutermost view.opens v.opens) (sym e) (outer-less view.opens)
+
+-- one change and then another
+pub outer-on : (old mid new : List Open) → 0 < length mid → StaysOutermost old mid → StaysOutermost mid new → StaysOutermost old new
+outer-on old mid new some first then_ = λ more. then_ more ∙ first some
+
+-- where nothing changes
+pub outer-same : (view new : CursorsView) → new ≡ view → StaysOutermost view.opens new.opens
+outer-same view new e = λ some. ap (λ (v : CursorsView). usage_id v.opens) e
+
+-- where the innermost went on and one is opened in front of it
+pub outer-opened : (opens new : List Open) (x : Open) (at : ℕ) → 0 < length opens → new ≡ x ∷ moved_to at opens → StaysOutermost opens new
+outer-opened opens new x at some e =
+    let many = moved-many at opens in
+    λ more. ap usage_id e ∙ outer-more x (moved_to at opens) (omega (arith, many, some)) ∙ outer-moved at opens
+
+-- where a call is opened or not
+pub outer-called : (macros : List Macro) (text : List ℕ) (view new : CursorsView) (end id home at : ℕ) (o : Opening) → 0 < length view.opens → IsOpening macros text at end id home view o new → StaysOutermost view.opens new.opens
+unfolding IsOpening
+outer-called macros text view new end id home at Opened some b = outer-opened view.opens new.opens _ b.call.behind some (ap (λ (v : CursorsView). v.opens) b.opens)
+outer-called macros text view new end id home at (Lacks kind) some b = outer-same view new b.0
+outer-called macros text view new end id home at Deep some b = outer-same view new b.0
+
+-- where a step was taken from a place further on
+pub outer-ahead : (opens mid new : List Open) (at : ℕ) → mid ≡ moved_to at opens → StaysOutermost mid new → StaysOutermost opens new
+outer-ahead opens mid new at e stays = λ some. stays some ∙ ap usage_id e ∙ outer-moved at opens
+
+-- What a step over open texts opens or closes.
+
+-- what a look finds at the front
+look-front : (texts : Texts) (opens : List Open) (look : Look) (f : Front) → IsLook texts opens look → look.front ≡ f → HasFront texts opens look.at f
+unfolding IsLook
+look-front texts [] look f l e = absurd l
+look-front texts (x ∷ below) look f l e = (l.1, subst (λ (g : Front). IsFront (source_formals texts (front_source (x ∷ below))) (open_bytes texts x below) g) e l.3)
+
+-- what a formal stands for is opened
+pub turned-formal : (texts : Texts) (opens new : List Open) (look : Look) (len place : ℕ) (x : Open) → IsLook texts opens look → look.front ≡ front.Formal len place
+    → Some x ≡ found_standing texts.macros (scope_open opens (front_scope opens)) (front_scope opens) place → new ≡ x ∷ moved_to (look.at + len) opens → Turned texts opens new
+turned-formal texts opens new look len place x l f is e = OpensStanding look.at len place x (look-front texts opens look (front.Formal len place) l f) (sym is) e
+
+-- the body of a macro without a list is opened
+pub turned-usage : (macros : List Macro) (arguments : List ℕ) (opens new : List Open) (look : Look) (len id behind : ℕ) → IsLook (texts_of macros arguments) opens look → look.front ≡ front.Usage len
+    → IsUsed (texts_of macros arguments) opens (front_name (texts_of macros arguments) opens len) id → (macro_at macros id).formals ≡ None
+    → new ≡ open_body (texts_of macros []) id [] (front_scope opens) ∷ moved_to behind opens → Turned (texts_of macros arguments) opens new
+unfolding open_body
+turned-usage macros arguments opens new look len id behind l f used none e =
+    OpensBody look.at len id behind [] (look-front (texts_of macros arguments) opens look (front.Usage len) l f) used
+    (sym (ap (λ (o : Option (List Formal)). length (unwrap_or o [])) none)) e
+
+-- a call has bound as many ranges as its macro has formals
+bound-count : (macros : List Macro) (text : List ℕ) (at end id : ℕ) (b : IsCallBound macros text at end id) → length (map range_part b.ranges) ≡ length (formals_of (macro_at macros id))
+unfolding IsBoundCall
+bound-count macros text at end id b = length-map b.ranges range_part ∙ b.bound.count
+
+-- the body of a macro with a list is opened, or nothing changes
+pub turned-call : (macros : List Macro) (arguments text : List ℕ) (view new : CursorsView) (look : Look) (len at end id home : ℕ) (o : Opening) → IsLook (texts_of macros arguments) view.opens look
+    → look.front ≡ front.Usage len → IsUsed (texts_of macros arguments) view.opens (front_name (texts_of macros arguments) view.opens len) id → home ≡ front_scope view.opens
+    → IsOpening macros text at end id home view o new → Turned (texts_of macros arguments) view.opens new.opens
+unfolding IsOpening open_body
+turned-call macros arguments text view new look len at end id home Opened l f used scope b =
+    let parts = map range_part b.call.ranges in
+    OpensBody look.at len id b.call.behind parts (look-front (texts_of macros arguments) view.opens look (front.Usage len) l f) used
+    (bound-count macros text at end id b.call)
+    (ap (λ (v : CursorsView). v.opens) b.opens ∙ ap (λ (h : ℕ). open_body (texts_of macros []) id parts h ∷ moved_to b.call.behind view.opens) scope)
+turned-call macros arguments text view new look len at end id home (Lacks kind) l f used scope b = Stays (ap (λ (v : CursorsView). v.opens) b.0)
+turned-call macros arguments text view new look len at end id home Deep l f used scope b = Stays (ap (λ (v : CursorsView). v.opens) b.0)
+
+-- the innermost texts are closed, and then one more
+pub closes-more : (old mid new : List Open) → Closes old mid → new ≡ drop 1 mid → Closes old new
+closes-more old mid new c e = (c.0 + 1, e ∙ ap (λ (opens : List Open). drop 1 opens) c.1 ∙ drop-drop 1 c.0 old)
+
+-- where no run is lent
+pub turned-unlent : (texts : Texts) (opens new : List Open) (step : CursorStep) → IsUnlent step → TurnsOver texts opens step new → Turned texts opens new
+turned-unlent texts opens new (Lends place) none t = absurd none
+turned-unlent texts opens new Silent none t = t
+turned-unlent texts opens new (Refused fault) none t = t

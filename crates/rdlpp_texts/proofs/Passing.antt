@@ -1,18 +1,45 @@
--- A step of open texts where neither a formal nor a usage stands at the front of the innermost.
-use Rattle.std.proofs.Common.{◌≡◌, ℕ, ◌+◌, ◌-◌, ◌<◌, ◌≤◌, List, [], ◌∷◌, length, take, drop, refl, sym, ap, subst, ◌∙◌, arith, Option, None, Some, unwrap_or}
-use Rattle.std.specs.Prelude.{slice_range}
-use Rattle.std.specs.Option.{option_map}
-use Rattle.std.proofs.lemmas.List.{length-take, length-drop, take-take}
-use Rattle.rdlpp_scan.specs.SourceTokens.{SourceToken}
+-- Steps of open texts: runs that are copied, and fronts that are neither a formal nor a usage.
+use Rattle.std.proofs.Common.{◌≡◌, ℕ, suc, ◌+◌, ◌-◌, ◌<◌, ◌≤◌, Bool, true, false, true≢false, List, [], ◌∷◌, ◌++◌, length, take, drop, refl, sym, ap, subst, ◌∙◌, arith, Option, None, Some, zero, All, unwrap_or, option_map, if◌then◌else◌, nat_lt, slice_index, slice_index_or, slice_range, ◌==◌, take-add, drop-drop, length-drop, length-take, take-take}
+use Rattle.std.specs.List.{AllByRecursion}
+use Rattle.std.proofs.lemmas.List.Elements.{All-tail}
+use Rattle.rdlpp_scan.specs.Bytes.{begins_perl, ends_block_comment}
+use Rattle.rdlpp_scan.specs.CleanTexts.{IsCleanText}
+use Rattle.rdlpp_scan.specs.SourceTokens.{Ordinary, SourceToken}
+use Rattle.rdlpp_scan.specs.TokenKinds.{opens_mode}
+use Rattle.rdlpp_scan.specs.Tokens.{block_token, first_place, string_stop, string_token, token_of, tokens_from, whole}
+use Rattle.rdlpp_scan.specs.declared.token.Kind.{Kind}
+use Rattle.rdlpp_scan.specs.declared.token.Kind.TheVariants.{Back, BareBackquote, BlockComment, Name, Perl, Str}
+use Rattle.rdlpp_scan.specs.declared.token.Mode.{Mode}
+use Rattle.rdlpp_scan.specs.declared.token.Mode.TheVariants.{InBlock, InStr, Plain}
+use Rattle.rdlpp_scan.specs.declared.token.Token.{Token}
+use Rattle.rdlpp_scan.proofs.RangeLaws.{tokens_from-first}
+use Rattle.rdlpp_scan.proofs.StopKinds.{closed_kind_plain}
+use Rattle.rdlpp_scan.proofs.TokenLens.{token_of-part, tokens_from-step}
+use Rattle.rdlpp_table.specs.Stops.{is_none, stop_at, stop_name}
 use Rattle.rdlpp_table.specs.Table.{Formal}
-use Rattle.rdlpp_table.specs.View.{TableView, IsSound, macro_at}
-use Rattle.rdlpp_meaning.specs.declared.fault.FaultKind.TheVariants.{BareBackquote as NoName}
-use Rattle.rdlpp_meaning.specs.Opens.{Open, Texts, own_text, text_around, open_bytes, open_body}
-use Rattle.rdlpp_meaning.specs.Outcome.{Outcome, gives, and_then}
-use Rattle.rdlpp_meaning.specs.State.{Rules, State}
+use Rattle.rdlpp_table.specs.View.{IsSound, TableView, formal_at, formal_named, formals_of, macro_at, no_formal, no_macro}
+use Rattle.rdlpp_meaning.specs.Actuals.{token_role}
+use Rattle.rdlpp_meaning.specs.CallScan.{is_kept}
+use Rattle.rdlpp_meaning.specs.Expansion.{is_copied}
 use Rattle.rdlpp_meaning.specs.OpenItems.{open_left}
-use Rattle.rdlpp_meaning.proofs.OpenScopes.{part-whole}
+use Rattle.rdlpp_meaning.specs.Opens.{AreOpen, Open, Texts, found_standing, open_behind, open_body, open_bytes, open_scope, own_text, part_tokens, scope_formals, scope_open, text_around}
+use Rattle.rdlpp_meaning.specs.Outcome.{Outcome, and_then, fails, gives}
+use Rattle.rdlpp_meaning.specs.State.{Rules, State, fault_at}
+use Rattle.rdlpp_meaning.specs.Substitution.{body_tokens}
+use Rattle.rdlpp_meaning.specs.TextTokens.{text_tokens}
+use Rattle.rdlpp_meaning.specs.declared.fault.FaultKind.{FaultKind}
+use Rattle.rdlpp_meaning.specs.declared.fault.FaultKind.TheVariants.{BareBackquote as NoName, DepthPassed}
+use Rattle.rdlpp_meaning.proofs.OpenScopes.{Alone, behind-formals, behind-open, first_behind, first_bytes, first_kind, part-whole, range_behind, standing-found}
+use Rattle.rdlpp_meaning.proofs.OpenSteps.{first_token, left-mode, step-bare as left-bare, step-closes, step-copies, step-formal as left-formal, step-formal_deep as left-formal_deep}
+use Rattle.rdlpp_meaning.proofs.Outcomes.{and_then-gives_gives, and_then-gives_nil}
+use Rattle.rdlpp_meaning.proofs.KeptTexts.{HasCleanTexts, clean_keeps_all, clean_table, first_spelled, text_nil, text_step}
 use Rattle.rdlpp_texts.specs.BoundCalls.{KeepsAll}
+use Rattle.rdlpp_texts.specs.Digits.{IsFalling, cursor_digits}
+use Rattle.rdlpp_texts.specs.Fronts.{AreCopied, IsFront, IsLook, IsLookAhead, run_len}
+use Rattle.rdlpp_texts.specs.Opened.{CursorsView, moved_to}
+use Rattle.rdlpp_texts.specs.Places.{place_bytes, source_formals, source_text, texts_of}
+use Rattle.rdlpp_texts.specs.Scopes.{front_source}
+use Rattle.rdlpp_texts.specs.Steps.{AreSound, IsStep, IsUnlent, StaysRefused, StepsTo, wordless}
 use Rattle.rdlpp_texts.specs.declared.front.Front.{Front}
 use Rattle.rdlpp_texts.specs.declared.front.Front.TheVariants as front
 use Rattle.rdlpp_texts.specs.declared.front.Look.{Look}
@@ -21,17 +48,457 @@ use Rattle.rdlpp_texts.specs.declared.place.TextSource.{TextSource}
 use Rattle.rdlpp_texts.specs.declared.place.TextSource.TheVariants.{Arguments}
 use Rattle.rdlpp_texts.specs.declared.step.CursorFault.{CursorFault}
 use Rattle.rdlpp_texts.specs.declared.step.CursorStep.{CursorStep}
-use Rattle.rdlpp_texts.specs.declared.step.CursorStep.TheVariants.{Lends, Silent, Refused}
-use Rattle.rdlpp_texts.specs.Fronts.{AreCopied, IsFront, IsLook, IsLookAhead}
-use Rattle.rdlpp_texts.specs.Opened.{moved_to, CursorsView}
-use Rattle.rdlpp_texts.specs.Places.{texts_of, place_bytes, source_text, source_formals}
-use Rattle.rdlpp_texts.specs.Scopes.{front_source}
-use Rattle.rdlpp_texts.specs.Steps.{AreSound, IsStep, IsUnlent, StaysRefused, StepsTo, wordless}
-use Rattle.rdlpp_texts.specs.Digits.{cursor_digits, IsFalling}
+use Rattle.rdlpp_texts.specs.declared.step.CursorStep.TheVariants.{Lends, Refused, Silent}
+use Rattle.rdlpp_texts.proofs.BoundParts.{keeps_all_by}
 use Rattle.rdlpp_texts.proofs.Falling.{falls-drop, falls-twice, look-moves}
-use Rattle.rdlpp_texts.proofs.Keeping.{body-keeps, run-sound}
-use Rattle.rdlpp_texts.proofs.Scoping.{source-around}
-use Rattle.rdlpp_texts.proofs.Stepping.{step-run, step-bare, look-ended}
+use Rattle.rdlpp_texts.proofs.Scoping.{front-formals, source-around}
+
+-- A run of tokens that are copied, up to the first stop of a text.
+
+-- a token of a kind
+of_kind : Kind → ℕ → Mode → Token
+of_kind kind len next = record { kind = kind; len = len; next_mode = next }
+
+-- a formal is a stop, and another name isn't
+name-stop : (at len : ℕ) (found : Option ℕ) → is_none (stop_name at len found) ≡ true → found ≡ None
+unfolding is_none stop_name
+name-stop at len None e = refl
+name-stop at len (Some place) e = absurd (true≢false (sym e))
+
+-- a token that is no stop is copied, by its kind
+copied-by : (formals : List Formal) (at len : ℕ) (next : Mode) (kind : Kind) (bytes own : List ℕ)
+    → is_none (stop_at formals at (of_kind kind len next) bytes) ≡ true
+    → is_copied (record { sort = Ordinary kind; bytes = own; line = 0 }) ≡ true
+unfolding is_none stop_at is_copied of_kind
+copied-by formals at len next Back bytes own e = absurd (true≢false (sym e))
+copied-by formals at len next BareBackquote bytes own e = absurd (true≢false (sym e))
+copied-by formals at len next kind bytes own e = refl
+
+-- and is no formal
+alone-by : (formals : List Formal) (at len : ℕ) (next : Mode) (kind : Kind) (bytes : List ℕ)
+    → is_none (stop_at formals at (of_kind kind len next) bytes) ≡ true → Alone kind (formal_named formals bytes)
+unfolding stop_at Alone of_kind
+alone-by formals at len next Name bytes e = name-stop at len (formal_named formals bytes) e
+alone-by formals at len next kind bytes e = tt
+
+-- the same of a choice of two tokens of which neither is a stop
+choice-none : (formals : List Formal) (at : ℕ) (bytes : List ℕ) (b : Bool) (t u : Token)
+    → is_none (stop_at formals at t bytes) ≡ true → is_none (stop_at formals at u bytes) ≡ true
+    → is_none (stop_at formals at (if b then t else u) bytes) ≡ true
+choice-none formals at bytes true t u h k = h
+choice-none formals at bytes false t u h k = k
+
+-- the rest of a string is no stop
+string-none : (formals : List Formal) (at from : ℕ) (text bytes : List ℕ) → is_none (stop_at formals at (string_token from text) bytes) ≡ true
+unfolding string_token whole stop_at is_none of_kind
+string-none formals at from text bytes =
+    let stop = from + string_stop false (drop from text) in
+    choice-none formals at bytes (slice_index text stop == 34) (whole Str (suc stop)) (of_kind Str stop InStr) refl refl
+
+-- nor is that of a comment
+block-none : (formals : List Formal) (at from : ℕ) (text bytes : List ℕ) → is_none (stop_at formals at (block_token from text) bytes) ≡ true
+unfolding block_token whole stop_at is_none of_kind
+block-none formals at from text bytes =
+    let stop = from + first_place ends_block_comment (drop from text) in
+    choice-none formals at bytes (nat_lt stop (length text)) (whole BlockComment (stop + 2)) (of_kind BlockComment stop InBlock) refl refl
+
+-- nor is `<%`
+perl-none : (formals : List Formal) (at : ℕ) (bytes : List ℕ) → is_none (stop_at formals at (whole Perl 2) bytes) ≡ true
+unfolding whole stop_at is_none
+perl-none formals at bytes = refl
+
+-- no test holds and fails
+holds-fails : {A : Type 0} (b : Bool) → b ≡ true → b ≡ false → A
+holds-fails b h k = absurd (true≢false (sym h ∙ k))
+
+-- a token that is a stop is read in plain text
+pub stop-plain : (formals : List Formal) (at : ℕ) (m : Mode) (text bytes : List ℕ)
+    → is_none (stop_at formals at (token_of m text) bytes) ≡ false → m ≡ Plain
+unfolding token_of
+stop-plain formals at Plain text bytes e = refl
+stop-plain formals at InStr text bytes e =
+    holds-fails (is_none (stop_at formals at (if begins_perl text then whole Perl 2 else string_token 0 text) bytes))
+    (choice-none formals at bytes (begins_perl text) (whole Perl 2) (string_token 0 text) (perl-none formals at bytes) (string-none formals at 0 text bytes)) e
+stop-plain formals at InBlock text bytes e =
+    holds-fails (is_none (stop_at formals at (block_token 0 text) bytes)) (block-none formals at 0 text bytes) e
+
+-- a part of a text behind some of its bytes
+pub slice-behind : (text : List ℕ) (from to n : ℕ) → n ≤ length (slice_range text from to) → slice_range text (from + n) to ≡ drop n (slice_range text from to)
+slice-behind text from to n h =
+    let size = length-take (to - from) (drop from text) in
+    sym (range_behind text from to n (omega (arith, h, size)))
+
+-- what is left of an open text behind some of its bytes
+pub bytes-behind : (texts : Texts) (x : Open) (below : List Open) (n : ℕ) (mode : Mode) → n ≤ length (open_bytes texts x below)
+    → open_bytes texts (open_behind x n mode) below ≡ drop n (open_bytes texts x below)
+unfolding open_bytes open_behind
+bytes-behind texts x below n mode h = slice-behind (text_around texts x.kind x.home below) x.part.from x.part.end n h
+
+-- an open text behind some bytes and then others
+behind-behind : (x : Open) (n m : ℕ) (mode next : Mode) → open_behind (open_behind x n mode) m next ≡ open_behind x (n + m) next
+unfolding open_behind
+behind-behind x n m mode next =
+    let e : x.part.from + n + m ≡ x.part.from + (n + m) = omega arith in
+    ap (λ (from : ℕ). record { part = record { from = from; end = x.part.end; mode = next }; home = x.home; kind = x.kind }) e
+
+-- the formals of the scope of an open text
+abbrev pub HasFormals : Texts → List Formal → Open → List Open → Type 0
+HasFormals texts formals x below = formals ≡ scope_formals texts.macros (x ∷ below) (open_scope x below)
+
+-- they are so behind some of its bytes too
+formals-behind : (texts : Texts) (formals : List Formal) (x : Open) (below : List Open) (n : ℕ) (mode : Mode) → HasFormals texts formals x below
+    → HasFormals texts formals (open_behind x n mode) below
+unfolding open_scope open_behind
+formals-behind texts formals x below n mode h = h ∙ sym (behind-formals texts.macros x below (open_scope x below) n mode)
+
+-- the first token of an open text is lent where it is no stop
+first-goes : (rules : Rules) (s : State) (line depth : ℕ) (texts : Texts) (formals : List Formal) (x : Open) (below : List Open)
+    → AreOpen texts (x ∷ below) → HasFormals texts formals x below → 0 < length (open_bytes texts x below)
+    → is_none (stop_at formals 0 (token_of x.part.mode (open_bytes texts x below)) (first_bytes texts x below)) ≡ true
+    → open_left rules s line depth texts (x ∷ below)
+    ≡ and_then (gives (first_bytes texts x below)) (open_left rules s line depth texts (first_behind texts x below ∷ below))
+unfolding first_kind first_bytes first_token of_kind
+first-goes rules s line depth texts formals x below h f some e =
+    let t = token_of x.part.mode (open_bytes texts x below) in
+    let own = take t.len (open_bytes texts x below) in
+    step-copies rules s line depth texts x below h some
+    (copied-by formals 0 t.len t.next_mode t.kind own own e)
+    (subst (λ (fs : List Formal). Alone t.kind (formal_named fs own)) f (alone-by formals 0 t.len t.next_mode t.kind own e))
+
+-- what is reached behind the tokens before the first stop
+pub record IsRun (rules : Rules) (s : State) (line depth : ℕ) (texts : Texts) (x : Open) (below : List Open) (n : ℕ) : Type 0 where
+  pub inside : n ≤ length (open_bytes texts x below)
+  pub mode : Mode
+  pub plain : text_tokens mode (drop n (open_bytes texts x below)) ≡ text_tokens Plain (drop n (open_bytes texts x below))
+  pub goes : open_left rules s line depth texts (x ∷ below)
+      ≡ and_then (gives (take n (open_bytes texts x below))) (open_left rules s line depth texts (open_behind x n mode ∷ below))
+
+-- no tokens
+run-none : (rules : Rules) (s : State) (line depth : ℕ) (texts : Texts) (x : Open) (below : List Open)
+    → text_tokens x.part.mode (open_bytes texts x below) ≡ text_tokens Plain (open_bytes texts x below)
+    → IsRun rules s line depth texts x below 0
+unfolding open_behind
+run-none rules s line depth texts x below e = record {
+  inside = omega arith;
+  mode = x.part.mode;
+  plain = e;
+  goes = ap (λ (y : Open). open_left rules s line depth texts (y ∷ below)) same
+      ∙ sym (and_then-gives_nil (open_left rules s line depth texts (open_behind x 0 x.part.mode ∷ below)));
+}
+  where
+    same : x ≡ open_behind x 0 x.part.mode
+    same =
+        let e : x.part.from ≡ x.part.from + 0 = omega arith in
+        ap (λ (from : ℕ). record { part = record { from = from; end = x.part.end; mode = x.part.mode }; home = x.home; kind = x.kind }) e
+
+-- one more token
+run-more : (rules : Rules) (s : State) (line depth : ℕ) (texts : Texts) (formals : List Formal) (x : Open) (below : List Open) (n : ℕ)
+    → AreOpen texts (x ∷ below) → HasFormals texts formals x below → 0 < length (open_bytes texts x below)
+    → is_none (stop_at formals 0 (token_of x.part.mode (open_bytes texts x below)) (first_bytes texts x below)) ≡ true
+    → IsRun rules s line depth texts (first_behind texts x below) below n
+    → IsRun rules s line depth texts x below ((token_of x.part.mode (open_bytes texts x below)).len + n)
+unfolding first_bytes first_behind
+run-more rules s line depth texts formals x below n h f some e r =
+    let bytes = open_bytes texts x below in
+    let t = token_of x.part.mode bytes in
+    let part = token_of-part x.part.mode bytes some in
+    let rest : open_bytes texts (open_behind x t.len t.next_mode) below ≡ drop t.len bytes = bytes-behind texts x below t.len t.next_mode part.inside in
+    let own : take t.len bytes ++ take n (open_bytes texts (open_behind x t.len t.next_mode) below) ≡ take (t.len + n) bytes =
+    ap (λ (b : List ℕ). take t.len bytes ++ take n b) rest ∙ sym (take-add t.len n bytes) in
+    let left : drop n (open_bytes texts (open_behind x t.len t.next_mode) below) ≡ drop (t.len + n) bytes =
+    ap (λ (b : List ℕ). drop n b) rest ∙ drop-drop n t.len bytes in
+    let last : Outcome = open_left rules s line depth texts (open_behind (open_behind x t.len t.next_mode) n r.mode ∷ below) in
+    record {
+      inside = fits t.len n (open_bytes texts (open_behind x t.len t.next_mode) below) bytes rest part.inside r.inside;
+      mode = r.mode;
+      plain = subst (λ (b : List ℕ). text_tokens r.mode b ≡ text_tokens Plain b) left r.plain;
+      goes = first-goes rules s line depth texts formals x below h f some e
+          ∙ ap (λ (o : Outcome). and_then (gives (take t.len bytes)) o) r.goes
+          ∙ and_then-gives_gives (take t.len bytes) (take n (open_bytes texts (open_behind x t.len t.next_mode) below)) last
+          ∙ ap (λ (b : List ℕ). and_then (gives b) last) own
+          ∙ ap (λ (y : Open). and_then (gives (take (t.len + n) bytes)) (open_left rules s line depth texts (y ∷ below))) (behind-behind x t.len n t.next_mode r.mode);
+    }
+  where
+    fits : (a b : ℕ) (xs ys : List ℕ) → xs ≡ drop a ys → a ≤ length ys → b ≤ length xs → a + b ≤ length ys
+    fits a b xs ys e p q = let l = length-drop a ys in let k = ap (λ (zs : List ℕ). length zs) e in omega (arith, l, k, p, q)
+
+-- an empty text has the same tokens in each mode
+pub nil-same : (m : Mode) (bytes : List ℕ) → tokens_from m 0 bytes ≡ [] → text_tokens m bytes ≡ text_tokens Plain bytes
+nil-same m [] e = text_nil m ∙ sym (text_nil Plain)
+nil-same m (b ∷ bs) e =
+    let some : 0 < length (b ∷ bs) = omega arith in
+    absurd (none (token_of m (b ∷ bs)) (tokens_from m 0 (b ∷ bs)) _ e (tokens_from-step m (b ∷ bs) some (token_of-part m (b ∷ bs) some).not_empty))
+  where
+    none : (t : Token) (xs ys : List Token) → xs ≡ [] → xs ≡ t ∷ ys → ⊥
+    none t xs ys p q = cc
+
+-- the tokens before the first stop are a run, by whether the first one is a stop
+run-by : (rules : Rules) (s : State) (line depth : ℕ) (texts : Texts) (formals : List Formal) (ts : List Token) (x : Open) (below : List Open) (none : Bool)
+    → AreOpen texts (x ∷ below) → HasFormals texts formals x below → 0 < length (open_bytes texts x below)
+    → is_none (stop_at formals 0 (token_of x.part.mode (open_bytes texts x below)) (first_bytes texts x below)) ≡ none
+    → IsRun rules s line depth texts (first_behind texts x below) below (run_len formals ts (drop (token_of x.part.mode (open_bytes texts x below)).len (open_bytes texts x below)))
+    → IsRun rules s line depth texts x below (if none then (token_of x.part.mode (open_bytes texts x below)).len + run_len formals ts (drop (token_of x.part.mode (open_bytes texts x below)).len (open_bytes texts x below)) else 0)
+run-by rules s line depth texts formals ts x below true h f some e r =
+    run-more rules s line depth texts formals x below _ h f some e r
+run-by rules s line depth texts formals ts x below false h f some e r =
+    let m : x.part.mode ≡ Plain = stop-plain formals 0 x.part.mode (open_bytes texts x below) (first_bytes texts x below) e in
+    run-none rules s line depth texts x below (ap (λ (mode : Mode). text_tokens mode (open_bytes texts x below)) m)
+
+-- the tokens before the first stop are a run
+pub run-is : (rules : Rules) (s : State) (line depth : ℕ) (texts : Texts) (formals : List Formal) (ts : List Token) (x : Open) (below : List Open)
+    → AreOpen texts (x ∷ below) → HasFormals texts formals x below
+    → tokens_from x.part.mode 0 (open_bytes texts x below) ≡ ts
+    → IsRun rules s line depth texts x below (run_len formals ts (open_bytes texts x below))
+unfolding run_len first_bytes first_behind open_behind
+run-is rules s line depth texts formals [] x below h f e =
+    run-none rules s line depth texts x below (nil-same x.part.mode (open_bytes texts x below) e)
+run-is rules s line depth texts formals (t ∷ ts) x below h f e =
+    let bytes = open_bytes texts x below in
+    let p = tokens_from-first x.part.mode bytes t ts e in
+    let T = token_of x.part.mode bytes in
+    let rest : open_bytes texts (first_behind texts x below) below ≡ drop T.len bytes =
+    bytes-behind texts x below T.len T.next_mode (token_of-part x.part.mode bytes p.0).inside in
+    let same : T ≡ t = p.1.0 in
+    let tokens : tokens_from T.next_mode 0 (open_bytes texts (first_behind texts x below) below) ≡ ts =
+    ap (λ (b : List ℕ). tokens_from T.next_mode 0 b) rest ∙ ap (λ (u : Token). tokens_from u.next_mode 0 (drop u.len bytes)) same ∙ p.1.1 in
+    let inner : IsRun rules s line depth texts (first_behind texts x below) below (run_len formals ts (drop T.len bytes)) =
+    subst (λ (b : List ℕ). IsRun rules s line depth texts (first_behind texts x below) below (run_len formals ts b)) rest
+    (run-is rules s line depth texts formals ts (first_behind texts x below) below (behind-open texts x below T.len T.next_mode h)
+    (formals-behind texts formals x below T.len T.next_mode f) tokens) in
+    subst (λ (u : Token). IsRun rules s line depth texts x below
+    (if is_none (stop_at formals 0 u (take u.len bytes)) then u.len + run_len formals ts (drop u.len bytes) else 0)) same
+    (run-by rules s line depth texts formals ts x below (is_none (stop_at formals 0 T (take T.len bytes))) h f p.0 refl inner)
+
+-- a run before the first stop is lent in one piece
+pub run-goes : (rules : Rules) (s : State) (line depth : ℕ) (texts : Texts) (formals : List Formal) (x : Open) (below : List Open) (n : ℕ)
+    → AreOpen texts (x ∷ below) → HasFormals texts formals x below
+    → run_len formals (tokens_from x.part.mode 0 (open_bytes texts x below)) (open_bytes texts x below) ≡ n
+    → open_left rules s line depth texts (x ∷ below)
+    ≡ and_then (gives (take n (open_bytes texts x below))) (open_left rules s line depth texts (open_behind x n Plain ∷ below))
+run-goes rules s line depth texts formals x below n h f e =
+    let r : IsRun rules s line depth texts x below n =
+    subst (λ (k : ℕ). IsRun rules s line depth texts x below k) e
+    (run-is rules s line depth texts formals (tokens_from x.part.mode 0 (open_bytes texts x below)) x below h f refl) in
+    r.goes
+    ∙ ap (λ (o : Outcome). and_then (gives (take n (open_bytes texts x below))) o)
+    (left-mode rules s line depth texts x below n r.mode Plain
+    (subst (λ (b : List ℕ). text_tokens r.mode b ≡ text_tokens Plain b) (sym (bytes-behind texts x below n r.mode r.inside)) r.plain))
+
+-- Open texts in which no call drops a token.
+
+-- what holds of each thing holds of that at a place
+pub at-each : {A : Type 0} (P : A → Type 0) (xs : List A) (place : ℕ) (d : A) → AllByRecursion P xs → place < length xs → P (slice_index_or xs place d)
+at-each P [] place d all h = absurd (omega (arith, h))
+at-each P (x ∷ xs) zero d all h = all.0
+at-each P (x ∷ xs) (suc place) d all h = at-each P xs place d all.1 (omega (arith, h))
+
+-- no call in the body of a table's macro drops a token
+pub body-keeps : (table : TableView) (id : ℕ) → IsSound table → id < length table.macros → KeepsAll (body_tokens (macro_at table.macros id).body)
+body-keeps table id sound h =
+    let clean = at-each HasCleanTexts table.macros id no_macro (clean_table table sound) h in
+    keeps_all_by (body_tokens (macro_at table.macros id).body) (clean_keeps_all (macro_at table.macros id).body clean.body)
+
+-- nor one in the default text of a formal
+pub default-keeps : (table : TableView) (id place : ℕ) → IsSound table → id < length table.macros → place < length (formals_of (macro_at table.macros id))
+    → KeepsAll (body_tokens (formal_at (formals_of (macro_at table.macros id)) place).text)
+default-keeps table id place sound h k =
+    let clean = at-each HasCleanTexts table.macros id no_macro (clean_table table sound) h in
+    let fs = formals_of (macro_at table.macros id) in
+    keeps_all_by (body_tokens (formal_at fs place).text) (clean_keeps_all (formal_at fs place).text
+    (at-each (λ (f : Formal). IsCleanText f.text) fs place no_formal clean.defaults k))
+
+-- what holds of the tokens of a text holds of those behind the first
+behind-first : (P : SourceToken → Type 0) (m : Mode) (bytes : List ℕ) → 0 < length bytes → All P (text_tokens m bytes)
+    → All P (text_tokens (token_of m bytes).next_mode (drop (token_of m bytes).len bytes))
+behind-first P m bytes some all =
+    let rest = text_tokens (token_of m bytes).next_mode (drop (token_of m bytes).len bytes) in
+    All-tail P (first_spelled m bytes) rest (subst (λ (ts : List SourceToken). All P ts) (text_step m bytes some) all)
+
+-- and of those behind a run, by whether the first is of it
+behind-by : (P : SourceToken → Type 0) (formals : List Formal) (m : Mode) (bytes : List ℕ) (n : ℕ) (none : Bool)
+    → is_none (stop_at formals 0 (token_of m bytes) (take (token_of m bytes).len bytes)) ≡ none → All P (text_tokens m bytes)
+    → All P (text_tokens Plain (drop n (drop (token_of m bytes).len bytes)))
+    → All P (text_tokens Plain (drop (if none then (token_of m bytes).len + n else 0) bytes))
+behind-by P formals m bytes n true e all rest = subst (λ (b : List ℕ). All P (text_tokens Plain b)) (drop-drop n (token_of m bytes).len bytes) rest
+behind-by P formals m bytes n false e all rest =
+    subst (λ (mode : Mode). All P (text_tokens mode bytes)) (stop-plain formals 0 m bytes (take (token_of m bytes).len bytes) e) all
+
+-- and of those behind a run
+behind-run : (P : SourceToken → Type 0) (formals : List Formal) (ts : List Token) (m : Mode) (bytes : List ℕ) → tokens_from m 0 bytes ≡ ts → All P (text_tokens m bytes)
+    → All P (text_tokens Plain (drop (run_len formals ts bytes) bytes))
+unfolding run_len
+behind-run P formals [] m bytes e all = subst (λ (us : List SourceToken). All P us) (nil-same m bytes e) all
+behind-run P formals (t ∷ ts) m bytes e all =
+    let p = tokens_from-first m bytes t ts e in
+    let T = token_of m bytes in
+    let same : T ≡ t = p.1.0 in
+    let tokens : tokens_from T.next_mode 0 (drop T.len bytes) ≡ ts = ap (λ (u : Token). tokens_from u.next_mode 0 (drop u.len bytes)) same ∙ p.1.1 in
+    let rest = behind-run P formals ts T.next_mode (drop T.len bytes) tokens (behind-first P m bytes p.0 all) in
+    subst (λ (u : Token). All P (text_tokens Plain (drop (if is_none (stop_at formals 0 u (take u.len bytes)) then u.len + run_len formals ts (drop u.len bytes) else 0) bytes))) same
+    (behind-by P formals m bytes (run_len formals ts (drop T.len bytes)) (is_none (stop_at formals 0 T (take T.len bytes))) refl all rest)
+
+-- open texts of which the innermost goes on at a place are sound, where no call in what is left then drops a token
+pub sound-moved : (texts : Texts) (x : Open) (below : List Open) (at : ℕ) → AreSound texts (x ∷ below)
+    → KeepsAll (part_tokens (text_around texts x.kind x.home below) (record { from = at; end = x.part.end; mode = Plain }))
+    → AreSound texts (moved_to at (x ∷ below))
+unfolding moved_to
+sound-moved texts x below at h keeps = record {
+  are_open = h.are_open;
+  are_inside = ((h.are_inside).0, (((h.are_inside).1).0, (refl, (((h.are_inside).1).1).1)));
+  are_kept = (keeps, (h.are_kept).1);
+}
+
+-- they are behind some bytes, where it is so of these bytes
+bytes-sound : (texts : Texts) (x : Open) (below : List Open) (n : ℕ) → AreSound texts (x ∷ below) → n ≤ length (open_bytes texts x below)
+    → KeepsAll (text_tokens Plain (drop n (open_bytes texts x below))) → AreSound texts (moved_to (x.part.from + n) (x ∷ below))
+unfolding part_tokens open_bytes open_behind
+bytes-sound texts x below n h inside keeps =
+    sound-moved texts x below (x.part.from + n) h
+    (subst (λ (b : List ℕ). KeepsAll (text_tokens Plain b)) (sym (bytes-behind texts x below n Plain inside)) keeps)
+
+-- no call in the bytes that are left of the innermost drops a token
+pub left-keeps : (texts : Texts) (x : Open) (below : List Open) → AreSound texts (x ∷ below) → KeepsAll (text_tokens Plain (open_bytes texts x below))
+unfolding part_tokens open_bytes
+left-keeps texts x below h = subst (λ (m : Mode). KeepsAll (text_tokens m (open_bytes texts x below))) (h.are_inside).1.1.0 (h.are_kept).0
+
+-- so are open texts of which the innermost goes on behind a run
+pub run-sound : (texts : Texts) (formals : List Formal) (x : Open) (below : List Open) (n : ℕ) → AreSound texts (x ∷ below) → n ≤ length (open_bytes texts x below)
+    → run_len formals (tokens_from Plain 0 (open_bytes texts x below)) (open_bytes texts x below) ≡ n
+    → AreSound texts (moved_to (x.part.from + n) (x ∷ below))
+run-sound texts formals x below n h inside e =
+    let bytes = open_bytes texts x below in
+    bytes-sound texts x below n h inside
+    (subst (λ (k : ℕ). KeepsAll (text_tokens Plain (drop k bytes))) e
+    (behind-run (λ u. is_kept (token_role u) ≡ true) formals (tokens_from Plain 0 bytes) Plain bytes refl (left-keeps texts x below h)))
+
+-- and behind a first token of a kind that closes, as a name and a usage do
+pub first-sound : (texts : Texts) (x : Open) (below : List Open) (len : ℕ) → AreSound texts (x ∷ below) → 0 < length (open_bytes texts x below)
+    → opens_mode (token_of Plain (open_bytes texts x below)).kind ≡ false → (token_of Plain (open_bytes texts x below)).len ≡ len
+    → AreSound texts (moved_to (x.part.from + len) (x ∷ below))
+first-sound texts x below len h some closes e =
+    let bytes = open_bytes texts x below in
+    let part = token_of-part Plain bytes some in
+    subst (λ (n : ℕ). AreSound texts (moved_to (x.part.from + n) (x ∷ below))) e
+    (bytes-sound texts x below (token_of Plain bytes).len h part.inside
+    (subst (λ (m : Mode). KeepsAll (text_tokens m (drop (token_of Plain bytes).len bytes))) (closed_kind_plain Plain bytes closes)
+    (behind-first (λ u. is_kept (token_role u) ≡ true) Plain bytes some (left-keeps texts x below h))))
+
+-- One step of open texts, by what stands at the front of the innermost.
+
+-- an open text of which nothing is left is closed
+pub step-ended : (line depth : ℕ) (texts : Texts) (x : Open) (below : List Open) → AreSound texts (x ∷ below)
+    → IsFront (source_formals texts (front_source (x ∷ below))) (open_bytes texts x below) front.Ended
+    → IsStep line depth texts (x ∷ below) Silent below
+unfolding IsStep StepsTo IsFront
+step-ended line depth texts x below h e rules s m =
+    step-closes rules s line depth texts x below e
+
+-- a run is lent
+pub step-run : (line depth : ℕ) (texts : Texts) (x : Open) (below : List Open) (n : ℕ) (place : TextPlace) → AreSound texts (x ∷ below)
+    → 0 < n → AreCopied (source_formals texts (front_source (x ∷ below))) (open_bytes texts x below) n
+    → take n (open_bytes texts x below) ≡ place_bytes texts place
+    → IsStep line depth texts (x ∷ below) (Lends place) (moved_to (x.part.from + n) (x ∷ below))
+unfolding IsStep StepsTo AreCopied moved_to open_behind
+step-run line depth texts x below n place h some f p rules s m =
+    let mode : x.part.mode ≡ Plain = (h.are_inside).1.1.0 in
+    (run-goes rules s line depth texts (source_formals texts (front_source (x ∷ below))) x below n h.are_open (front-formals texts x below (h.are_open).0)
+    (ap (λ (md : Mode). run_len (source_formals texts (front_source (x ∷ below))) (tokens_from md 0 (open_bytes texts x below)) (open_bytes texts x below)) mode ∙ f.1))
+    ∙ ap (λ (bytes : List ℕ). and_then (gives bytes) (open_left rules s line depth texts (open_behind x n Plain ∷ below))) p
+
+-- the kind of the first token
+pub kind-first : (texts : Texts) (x : Open) (below : List Open) (kind : Kind) → x.part.mode ≡ Plain → (token_of Plain (open_bytes texts x below)).kind ≡ kind
+    → first_kind texts x below ≡ kind
+unfolding first_kind
+kind-first texts x below kind m e = ap (λ (md : Mode). (token_of md (open_bytes texts x below)).kind) m ∙ e
+
+-- a fault that is told
+pub fault-same : (s : State) (line : ℕ) (texts : Texts) (fault : CursorFault) (kind : FaultKind) (word : List ℕ) → fault.kind ≡ kind → place_bytes texts fault.word ≡ word
+    → fails (fault_at fault.kind line (place_bytes texts fault.word) s) ≡ fails (fault_at kind line word s)
+fault-same s line texts fault kind word k w =
+    ap (λ (c : FaultKind). fails (fault_at c line (place_bytes texts fault.word) s)) k ∙ ap (λ (bytes : List ℕ). fails (fault_at kind line bytes s)) w
+
+-- a lone backquote is a fault
+pub step-bare : (line depth : ℕ) (texts : Texts) (x : Open) (below : List Open) (new : List Open) (fault : CursorFault) → AreSound texts (x ∷ below)
+    → IsFront (source_formals texts (front_source (x ∷ below))) (open_bytes texts x below) front.Bare
+    → fault.kind ≡ NoName → place_bytes texts fault.word ≡ []
+    → IsStep line depth texts (x ∷ below) (Refused fault) new
+unfolding IsStep StepsTo IsFront
+step-bare line depth texts x below new fault h f k w rules s m =
+    left-bare rules s line depth texts x below f.0 (kind-first texts x below BareBackquote (h.are_inside).1.1.0 f.1)
+    ∙ sym (fault-same s line texts fault NoName [] k w)
+
+-- the bytes of the first token
+pub bytes-first : (texts : Texts) (x : Open) (below : List Open) (len : ℕ) → x.part.mode ≡ Plain → (token_of Plain (open_bytes texts x below)).len ≡ len
+    → first_bytes texts x below ≡ take len (open_bytes texts x below)
+unfolding first_bytes
+bytes-first texts x below len m e =
+    ap (λ (md : Mode). take (token_of md (open_bytes texts x below)).len (open_bytes texts x below)) m
+    ∙ ap (λ (n : ℕ). take n (open_bytes texts x below)) e
+
+-- behind a first token of a kind that closes, the open text goes on as plain text
+pub first-moved : (texts : Texts) (x : Open) (below : List Open) (len : ℕ) → x.part.mode ≡ Plain → opens_mode (token_of Plain (open_bytes texts x below)).kind ≡ false
+    → (token_of Plain (open_bytes texts x below)).len ≡ len → first_behind texts x below ≡ open_behind x len Plain
+unfolding first_behind
+first-moved texts x below len m k e =
+    let bytes = open_bytes texts x below in
+    ap (λ (md : Mode). open_behind x (token_of md bytes).len (token_of md bytes).next_mode) m
+    ∙ ap (λ (md : Mode). open_behind x (token_of Plain bytes).len md) (closed_kind_plain Plain bytes k)
+    ∙ ap (λ (n : ℕ). open_behind x n Plain) e
+
+-- a name closes
+pub name-closes : (kind : Kind) → kind ≡ Name → opens_mode kind ≡ false
+unfolding opens_mode
+name-closes kind e = ap (λ (k : Kind). opens_mode k) e
+
+-- the first token names the formal that a look tells
+pub first-formal : (texts : Texts) (x : Open) (below : List Open) (len place : ℕ) → x.part.mode ≡ Plain → x.home ≤ length below
+    → (token_of Plain (open_bytes texts x below)).len ≡ len
+    → formal_named (source_formals texts (front_source (x ∷ below))) (take len (open_bytes texts x below)) ≡ Some place
+    → formal_named (scope_formals texts.macros (x ∷ below) (open_scope x below)) (first_bytes texts x below) ≡ Some place
+first-formal texts x below len place mode h e named =
+    ap (λ (name : List ℕ). formal_named (scope_formals texts.macros (x ∷ below) (open_scope x below)) name) (bytes-first texts x below len mode e)
+    ∙ sym (ap (λ (fs : List Formal). formal_named fs (take len (open_bytes texts x below))) (front-formals texts x below h))
+    ∙ named
+
+-- what a formal stands for is opened, where there is room
+pub step-formal : (line depth : ℕ) (texts : Texts) (x : Open) (below : List Open) (len place : ℕ) (new : Open) → AreSound texts (x ∷ below)
+    → IsFront (source_formals texts (front_source (x ∷ below))) (open_bytes texts x below) (front.Formal len place)
+    → found_standing texts.macros (scope_open (x ∷ below) (open_scope x below)) (open_scope x below) place ≡ Some new
+    → length (x ∷ below) < depth
+    → IsStep line depth texts (x ∷ below) Silent (new ∷ moved_to (x.part.from + len) (x ∷ below))
+unfolding IsStep StepsTo IsFront moved_to open_behind
+step-formal line depth texts x below len place new h f standing room rules s m =
+    let mode : x.part.mode ≡ Plain = (h.are_inside).1.1.0 in
+    let named : formal_named (scope_formals texts.macros (x ∷ below) (open_scope x below)) (first_bytes texts x below) ≡ Some place = first-formal texts x below len place mode (h.are_open).0 f.2 f.3 in
+    left-formal rules s line depth texts x below place new h.are_open f.0 (kind-first texts x below Name mode f.1) named standing room
+    ∙ ap (λ (y : Open). open_left rules s line depth texts (new ∷ y ∷ below)) (first-moved texts x below len mode (name-closes _ f.1) f.2)
+
+-- and is a fault where there is none
+pub step-formal_deep : (line depth : ℕ) (texts : Texts) (x : Open) (below : List Open) (len place : ℕ) (new : List Open) (fault : CursorFault) → AreSound texts (x ∷ below)
+    → IsFront (source_formals texts (front_source (x ∷ below))) (open_bytes texts x below) (front.Formal len place)
+    → depth ≤ length (x ∷ below) → fault.kind ≡ DepthPassed → place_bytes texts fault.word ≡ []
+    → IsStep line depth texts (x ∷ below) (Refused fault) new
+unfolding IsStep StepsTo IsFront
+step-formal_deep line depth texts x below len place new fault h f deep k w rules s m =
+    let mode : x.part.mode ≡ Plain = (h.are_inside).1.1.0 in
+    let named : formal_named (scope_formals texts.macros (x ∷ below) (open_scope x below)) (first_bytes texts x below) ≡ Some place = first-formal texts x below len place mode (h.are_open).0 f.2 f.3 in
+    let y = standing-found texts.macros (scope_open (x ∷ below) (open_scope x below)) (open_scope x below) place (first_bytes texts x below) named in
+    left-formal_deep rules s line depth texts x below place y.0 h.are_open f.0 (kind-first texts x below Name mode f.1) named y.1 deep
+    ∙ sym (fault-same s line texts fault DepthPassed [] k w)
+
+-- the texts around the innermost are sound
+pub sound-tail : (texts : Texts) (x : Open) (below : List Open) → AreSound texts (x ∷ below) → AreSound texts below
+sound-tail texts x below h = record { are_open = ((h.are_open).1).1; are_inside = (((h.are_inside).1).1).1; are_kept = ((h.are_kept).1).1 }
+
+-- a step by a look: nothing is left
+pub look-ended : (line depth : ℕ) (texts : Texts) (opens : List Open) (look : Look) → AreSound texts opens → IsLook texts opens look → look.front ≡ front.Ended
+    → IsStep line depth texts opens Silent (drop 1 opens) × AreSound texts (drop 1 opens)
+unfolding IsLook
+look-ended line depth texts [] look h l e = absurd l
+look-ended line depth texts (x ∷ below) look h l e =
+    (step-ended line depth texts x below h (subst (λ (f : Front). IsFront (source_formals texts (front_source (x ∷ below))) (open_bytes texts x below) f) e l.3), sound-tail texts x below h)
+
+-- A step of open texts where neither a formal nor a usage stands at the front of the innermost.
 
 -- the first bytes of a range of a text are those of a range of another one, which is the same if it has a byte
 pub same-front : (text other : List ℕ) (from end n : ℕ) → 0 < n → n ≤ length (slice_range text from end) → (0 < length text → other ≡ text)

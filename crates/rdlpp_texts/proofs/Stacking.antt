@@ -1,21 +1,221 @@
--- The slots of open texts and the ranges that they have bound, as one text moves, opens or closes.
-use Rattle.std.proofs.Common.{◌≡◌, ℕ, ◌+◌, ◌-◌, ◌*◌, ◌<◌, ◌≤◌, List, [], ◌∷◌, map, length, take, drop, get_or, refl, sym, ap, subst, ◌∙◌, arith, Global, Bool, true, false}
-use Rattle.std.proofs.lemmas.Bool.{eqb-true, eqb-false, le-leb, lt-leb}
-use Rattle.std.specs.Prelude.{vec_capacity, vec_len, Vec, ◌==◌, nat_le}
-use Rattle.std.proofs.lemmas.List.{drop-set, drop_all, length-drop, length-take, length-map, take_all, take_rest}
-use Rattle.std.proofs.Math.ListN.{set, length-set}
+-- The slots of open texts and the ranges that they have bound.
+use Rattle.std.proofs.Common.{◌≡◌, ℕ, suc, ◌+◌, ◌-◌, ◌<◌, ◌≤◌, Bool, true, false, List, [], ◌∷◌, length, take, drop, get_or, refl, sym, ap, subst, ◌∙◌, arith, ◌⊎◌, inl, inr, ◌*◌, map, Global, ◌++◌, Option, None, Some, unwrap_or, Ok, Err, option_map, Result, Vec, if◌then◌else◌, nat_le, nat_lt, vec_capacity, vec_len, ◌==◌, ◌||◌, length-set, set, eqb-true, le-leb, ltb-true, ne_eqb, length-append, length-drop, length-take, take_all}
+use Rattle.std.specs.List.{AllByRecursion, list_any}
+use Rattle.std.proofs.Math.Seq.{drop-append_seam, take-append_seam}
+use Rattle.std.proofs.lemmas.Bool.{eqb-false, lt-leb}
+use Rattle.std.proofs.lemmas.List.{drop-set, drop_all, drop_more, length-map, take_rest}
+use Rattle.std.proofs.lemmas.List.Elements.{recursion_from_All}
 use Rattle.rdlpp_scan.specs.declared.token.Mode.TheVariants.{Plain}
-use Rattle.rdlpp_meaning.specs.Opens.{Open, OpenBody}
-use Rattle.rdlpp_texts.specs.BoundCalls.{range_part}
-use Rattle.rdlpp_texts.specs.declared.bindings.Range.{Range}
+use Rattle.rdlpp_table.specs.Table.{Formal, Macro}
+use Rattle.rdlpp_table.specs.View.{IsSound, IsSoundMacro, TableView, formals_of, macro_at, no_macro}
 use Rattle.rdlpp_table.proofs.Sizes.{count_items}
+use Rattle.rdlpp_meaning.specs.Opens.{Open, OpenBody, open_body}
+use Rattle.rdlpp_meaning.specs.declared.fault.FaultKind.{FaultKind}
+use Rattle.rdlpp_texts.specs.BoundCalls.{AreWithin, IsBoundCall, range_part}
+use Rattle.rdlpp_texts.specs.Calls.{IsCallBound, IsOpening}
+use Rattle.rdlpp_texts.specs.Opened.{AreBounded, AreLaid, CursorsView, IsFree, IsNoBody, IsStack, IsWithin, bindings_below, bound_by, is_excluded, is_spent, kept_by, kind_of, moved_to, open_of, opens_of}
+use Rattle.rdlpp_texts.specs.Scopes.{own_ids, writer_ids}
+use Rattle.rdlpp_texts.specs.declared.bindings.Range.{Range}
+use Rattle.rdlpp_texts.specs.declared.cursors.call.Opening.TheVariants.{Deep, Opened, Refused}
+use Rattle.rdlpp_texts.specs.declared.slot.Bounds.{Bounds}
 use Rattle.rdlpp_texts.specs.declared.slot.Slot.{Slot}
 use Rattle.rdlpp_texts.specs.declared.slot.SlotKind.{SlotKind}
 use Rattle.rdlpp_texts.specs.declared.slot.SlotKind.TheVariants as slot
-use Rattle.rdlpp_texts.specs.Opened.{bindings_below, open_of, opens_of, AreLaid, IsFree, IsStack, bound_by, moved_to, is_spent, kept_by, IsNoBody, CursorsView, AreBounded}
-use Rattle.rdlpp_texts.specs.declared.slot.Bounds.{Bounds}
-use Rattle.rdlpp_texts.proofs.Bounding.{closed-bounded, more-bounded, moved-bounded, none-bounded, slots-at, IsBoundedOn}
+use Rattle.rdlpp_texts.proofs.Passing.{at-each}
 use Rattle.rdlpp_texts.proofs.Scoping.{opens-length}
+
+-- The macros in whose text a scope is lie within the bounds of its slot.
+
+-- the slot at a place, in front of those behind it
+pub slots-at : (slots : List Slot) (first : ℕ) (own : Slot) → first < length slots → own ≡ get_or slots first own
+    → drop first slots ≡ own ∷ drop (first + 1) slots
+slots-at slots first own inside e = drop_more slots first own inside ∙ ap (λ (y : Slot). y ∷ drop (first + 1) slots) (sym e)
+
+-- the ranges of a slot say nothing of the macros in whose text it is
+kind-ids : (kind : SlotKind) (xs ys : List Range) (ids : List ℕ) → own_ids (kind_of kind xs) ids ≡ own_ids (kind_of kind ys) ids
+kind-ids (slot.Body id first) xs ys ids = refl
+kind-ids slot.Actual xs ys ids = refl
+kind-ids (slot.Default id place) xs ys ids = refl
+
+-- nor do those of any
+ids-same : (slots : List Slot) (xs ys : List Range) (k : ℕ) → writer_ids (opens_of slots xs) k ≡ writer_ids (opens_of slots ys) k
+unfolding opens_of writer_ids
+ids-same [] xs ys k = refl
+ids-same (y ∷ below) xs ys k =
+    let inner : List Range → List Open = λ (bs : List Range). opens_of below (bindings_below y.kind bs) in
+    let own : List Range → List ℕ = λ (bs : List Range). own_ids (kind_of y.kind bs) (writer_ids (inner bs) y.home) in
+    let owns : own xs ≡ own ys =
+    ap (λ (ids : List ℕ). own_ids (kind_of y.kind xs) ids) (ids-same below (bindings_below y.kind xs) (bindings_below y.kind ys) y.home)
+    ∙ kind-ids y.kind xs ys (writer_ids (inner ys) y.home) in
+    ap (λ (m : ℕ). if k == suc m then own xs else writer_ids (inner xs) k) (opens-length below (bindings_below y.kind xs))
+    ∙ ap (λ (ids : List ℕ). if k == suc (length below) then ids else writer_ids (inner xs) k) owns
+    ∙ ap (λ (ids : List ℕ). if k == suc (length below) then own ys else ids) (ids-same below (bindings_below y.kind xs) (bindings_below y.kind ys) k)
+    ∙ sym (ap (λ (m : ℕ). if k == suc m then own ys else writer_ids (inner ys) k) (opens-length below (bindings_below y.kind ys)))
+
+-- a scope that no slot is is in no macro's text
+pub ids-none : (slots : List Slot) (bindings : List Range) (k : ℕ) → (k ≡ 0) ⊎ ((k ≡ 0 → ⊥) × (length slots < k)) → writer_ids (opens_of slots bindings) k ≡ []
+unfolding opens_of writer_ids
+ids-none [] bindings k h = refl
+ids-none (y ∷ ys) bindings k h =
+    let n = opens-length ys (bindings_below y.kind bindings) in
+    let apart : (k == suc (length (opens_of ys (bindings_below y.kind bindings)))) ≡ false =
+    ne_eqb k (suc (length (opens_of ys (bindings_below y.kind bindings)))) (λ e. beyond h (omega (arith, n, e))) in
+    rw apart (ids-none ys (bindings_below y.kind bindings) k (further h))
+  where
+    beyond : (k ≡ 0) ⊎ ((k ≡ 0 → ⊥) × (length (y ∷ ys) < k)) → k ≡ suc (length ys) → ⊥
+    beyond (inl e) f = omega (arith, e, f)
+    beyond (inr e) f = let more = e.1 in omega (arith, more, f)
+
+    further : (k ≡ 0) ⊎ ((k ≡ 0 → ⊥) × (length (y ∷ ys) < k)) → (k ≡ 0) ⊎ ((k ≡ 0 → ⊥) × (length ys < k))
+    further (inl e) = inl e
+    further (inr e) = let more = e.1 in inr (e.0, omega (arith, more))
+
+-- a scope's macros are within the bounds of its slot
+pub bounded-at : (slots : List Slot) (bindings : List Range) (k : ℕ) (own : Slot) → AreBounded slots → 0 < k → k ≤ length slots
+    → own ≡ get_or slots (length slots - k) own → AllByRecursion (IsWithin own.bounds) (writer_ids (opens_of slots bindings) k)
+unfolding opens_of writer_ids AreBounded
+bounded-at [] bindings k own bounded positive inside e = absurd (omega (arith, positive, inside))
+bounded-at (y ∷ ys) bindings k own bounded positive inside e =
+    by (k == suc (length ys)) refl (λ (less : k ≤ length ys) (f : own ≡ get_or ys (length ys - k) own). bounded-at ys (bindings_below y.kind bindings) k own bounded.1 positive less f)
+  where
+    inner : List Open
+    inner = opens_of ys (bindings_below y.kind bindings)
+
+    n : length inner ≡ length ys
+    n = opens-length ys (bindings_below y.kind bindings)
+
+    here-is : (here : Bool) → (k == suc (length ys)) ≡ here
+        → writer_ids (opens_of (y ∷ ys) bindings) k ≡ (if here then own_ids (kind_of y.kind bindings) (writer_ids inner y.home) else writer_ids inner k)
+    here-is here h =
+        ap (λ (m : ℕ). if k == suc m then own_ids (kind_of y.kind bindings) (writer_ids inner y.home) else writer_ids inner k) n
+        ∙ ap (λ (b : Bool). if b then own_ids (kind_of y.kind bindings) (writer_ids inner y.home) else writer_ids inner k) h
+
+    by : (here : Bool) → (k == suc (length ys)) ≡ here
+        → (k ≤ length ys → own ≡ get_or ys (length ys - k) own → AllByRecursion (IsWithin own.bounds) (writer_ids inner k))
+        → AllByRecursion (IsWithin own.bounds) (writer_ids (opens_of (y ∷ ys) bindings) k)
+    by true h rest =
+        let last : k ≡ suc (length ys) = eqb-true k (suc (length ys)) h in
+        let zeroth : suc (length ys) - k ≡ 0 = omega (arith, last) in
+        let is : own ≡ y = e ∙ ap (λ (i : ℕ). get_or (y ∷ ys) i own) zeroth in
+        let ids : own_ids (kind_of y.kind []) (writer_ids (opens_of ys []) y.home) ≡ writer_ids (opens_of (y ∷ ys) bindings) k =
+        ap (λ (ids : List ℕ). own_ids (kind_of y.kind []) ids) (ids-same ys [] (bindings_below y.kind bindings) y.home)
+        ∙ kind-ids y.kind [] bindings (writer_ids inner y.home)
+        ∙ sym (here-is true h) in
+        subst (λ (z : Slot). AllByRecursion (IsWithin z.bounds) (writer_ids (opens_of (y ∷ ys) bindings) k)) (sym is)
+        (subst (λ (ids : List ℕ). AllByRecursion (IsWithin y.bounds) ids) ids bounded.0)
+    by false h rest =
+        let apart : k ≡ suc (length ys) → ⊥ = eqb-false k (suc (length ys)) h in
+        let less : k ≤ length ys = omega (arith, apart, inside) in
+        let next : suc (length ys) - k ≡ suc (length ys - k) = omega (arith, less) in
+        subst (λ (ids : List ℕ). AllByRecursion (IsWithin own.bounds) ids) (sym (here-is false h))
+        (rest less (e ∙ ap (λ (i : ℕ). get_or (y ∷ ys) i own) next))
+
+-- what is within bounds is within wider ones
+pub within-wider : (ids : List ℕ) (a b : Bounds) → b.least ≤ a.least → a.greatest ≤ b.greatest → AllByRecursion (IsWithin a) ids → AllByRecursion (IsWithin b) ids
+within-wider [] a b low high h = h
+within-wider (id ∷ ids) a b low high h =
+    let least = h.0.0 in
+    let greatest = h.0.1 in
+    ((omega (arith, low, least), omega (arith, high, greatest)), within-wider ids a b low high h.1)
+
+-- a macro that bounds exclude is none of those within them
+pub excluded-none : (ids : List ℕ) (bounds : Bounds) (id : ℕ) → is_excluded bounds id ≡ true → AllByRecursion (IsWithin bounds) ids → list_any (λ j. id == j) ids ≡ false
+excluded-none [] bounds id out h = refl
+excluded-none (j ∷ ids) bounds id out h =
+    let least = h.0.0 in
+    let greatest = h.0.1 in
+    let outside = out-is (nat_lt id bounds.least) refl out in
+    let apart : (id == j) ≡ false = ne_eqb id j (λ e. omega (arith, e, least, greatest, outside)) in
+    rw apart (excluded-none ids bounds id out h.1)
+  where
+    out-is : (below : Bool) → nat_lt id bounds.least ≡ below → (below || nat_lt bounds.greatest id) ≡ true → (id < bounds.least) ⊎ (bounds.greatest < id)
+    out-is true e f = inl (ltb-true id bounds.least e)
+    out-is false e f = inr (ltb-true bounds.greatest id f)
+
+-- a scope whose slot's bounds exclude a macro isn't in its text
+pub bounded-excluded : (slots : List Slot) (bindings : List Range) (k scope id : ℕ) (own : Slot) → AreBounded slots → 0 < k → k ≤ length slots
+    → own ≡ get_or slots (length slots - k) own → is_excluded own.bounds id ≡ true
+    → list_any (λ j. id == j) (writer_ids (opens_of slots bindings) k) ≡ list_any (λ j. id == j) (writer_ids (opens_of slots bindings) scope)
+    → false ≡ list_any (λ j. id == j) (writer_ids (opens_of slots bindings) scope)
+bounded-excluded slots bindings k scope id own bounded positive inside e out same =
+    sym (excluded-none (writer_ids (opens_of slots bindings) k) own.bounds id out (bounded-at slots bindings k own bounded positive inside e)) ∙ same
+
+-- the bounds of a text that is no body are those of its home
+pub text-bounded : (kind : SlotKind) (bounds : Bounds) (ids : List ℕ) → IsNoBody kind → AllByRecursion (IsWithin bounds) ids
+    → AllByRecursion (IsWithin bounds) (own_ids (kind_of kind []) ids)
+text-bounded (slot.Body id first) bounds ids nobody h = absurd nobody
+text-bounded slot.Actual bounds ids nobody h = tt
+text-bounded (slot.Default id place) bounds ids nobody h = h
+
+-- open texts of which the innermost goes on at a place are as they were
+pub moved-bounded : (slots : List Slot) (first at : ℕ) (own : Slot) → first < length slots → own ≡ get_or slots first own → AreBounded (drop first slots)
+    → AreBounded (drop first (set slots first (record own { from = at })))
+unfolding AreBounded
+moved-bounded slots first at own inside e h =
+    let both : AreBounded (own ∷ drop (first + 1) slots) = subst (λ (s : List Slot). AreBounded s) (slots-at slots first own inside e) h in
+    subst (λ (s : List Slot). AreBounded s) (sym (drop-set slots first (record own { from = at }) inside)) both
+
+-- so are those behind one that is closed
+pub closed-bounded : (slots : List Slot) (first : ℕ) (own : Slot) → first < length slots → own ≡ get_or slots first own → AreBounded (drop first slots)
+    → AreBounded (drop (first + 1) slots)
+unfolding AreBounded
+closed-bounded slots first own inside e h =
+    let both : AreBounded (own ∷ drop (first + 1) slots) = subst (λ (s : List Slot). AreBounded s) (slots-at slots first own inside e) h in
+    both.1
+
+-- what is asked of the bounds of a slot in front of others
+abbrev pub IsBoundedOn : Slot → List Slot → Type 0
+IsBoundedOn new slots = AllByRecursion (IsWithin new.bounds) (own_ids (kind_of new.kind []) (writer_ids (opens_of slots []) new.home))
+
+-- no open text is bounded
+pub none-bounded : AreBounded []
+unfolding AreBounded
+none-bounded = tt
+
+-- nor does one more that is bounded change the others
+pub more-bounded : (new : Slot) (slots : List Slot) → IsBoundedOn new slots → AreBounded slots → AreBounded (new ∷ slots)
+unfolding AreBounded
+more-bounded new slots own h = (own, h)
+
+-- the bounds of a slot are asked of the same macros where the innermost goes on at a place
+pub moved-on : (new : Slot) (slots : List Slot) (first at : ℕ) (own : Slot) → first < length slots → own ≡ get_or slots first own → IsBoundedOn new (drop first slots)
+    → IsBoundedOn new (drop first (set slots first (record own { from = at })))
+unfolding opens_of writer_ids
+moved-on new slots first at own inside e h =
+    let both : IsBoundedOn new (own ∷ drop (first + 1) slots) = subst (λ (s : List Slot). IsBoundedOn new s) (slots-at slots first own inside e) h in
+    subst (λ (s : List Slot). IsBoundedOn new s) (sym (drop-set slots first (record own { from = at }) inside)) both
+
+-- the open slots as they are lent
+pub lent-bounded : (slots lent : List Slot) (first : ℕ) → lent ≡ slots → AreBounded (drop first slots) → AreBounded (take (length lent - first) (drop first lent))
+lent-bounded slots lent first e h =
+    let size = length-drop first lent in
+    subst (λ (s : List Slot). AreBounded s) (sym (take_all (length lent - first) (drop first lent) (omega (arith, size))))
+    (subst (λ (s : List Slot). AreBounded (drop first s)) (sym e) h)
+
+-- the bounds of the body of a macro that are told of the slots as they are lent
+pub lent-body : (slots lent : List Slot) (first id home : ℕ) (bounds : Bounds) → lent ≡ slots
+    → ((bindings : List Range) → AllByRecursion (IsWithin bounds) (id ∷ writer_ids (opens_of (take (length lent - first) (drop first lent)) bindings) home))
+    → AllByRecursion (IsWithin bounds) (id ∷ writer_ids (opens_of (drop first slots) []) home)
+lent-body slots lent first id home bounds e h =
+    let size = length-drop first lent in
+    subst (λ (s : List Slot). AllByRecursion (IsWithin bounds) (id ∷ writer_ids (opens_of s []) home))
+    (take_all (length lent - first) (drop first lent) (omega (arith, size)) ∙ ap (λ (s : List Slot). drop first s) e) (h [])
+
+-- those of a text that is no body
+pub lent-text : (slots lent : List Slot) (first home : ℕ) (kind : SlotKind) (bounds : Bounds) → lent ≡ slots → IsNoBody kind
+    → ((bindings : List Range) → AllByRecursion (IsWithin bounds) (writer_ids (opens_of (take (length lent - first) (drop first lent)) bindings) home))
+    → AllByRecursion (IsWithin bounds) (own_ids (kind_of kind []) (writer_ids (opens_of (drop first slots) []) home))
+lent-text slots lent first home kind bounds e nobody h =
+    let size = length-drop first lent in
+    text-bounded kind bounds (writer_ids (opens_of (drop first slots) []) home) nobody
+    (subst (λ (s : List Slot). AllByRecursion (IsWithin bounds) (writer_ids (opens_of s []) home))
+    (take_all (length lent - first) (drop first lent) (omega (arith, size)) ∙ ap (λ (s : List Slot). drop first s) e) (h []))
+
+-- no macro is within no bounds, and none is asked for
+pub none-within : (ids : List ℕ) (bounds : Bounds) → ids ≡ [] → AllByRecursion (IsWithin bounds) ids
+none-within ids bounds e = subst (λ (xs : List ℕ). AllByRecursion (IsWithin bounds) xs) (sym e) tt
+
+-- The slots of open texts and the ranges that they have bound, as one text moves, opens or closes.
 
 -- some text is open
 pub some-open : (slots : List Slot) (first : ℕ) (bindings : List Range) → 0 < length (opens_of (drop first slots) bindings) → first < length slots
@@ -287,3 +487,163 @@ pub lent-some : (slots lent : List Slot) (first : ℕ) (bindings : List Range) �
 lent-some slots lent first bindings e some =
     subst (λ (s : List Slot). 0 < length s) (sym (tail-is lent slots first e))
     (let n = opens-length (drop first slots) bindings in omega (arith, n, some))
+
+-- The slots of open texts and the ranges that they have bound, as a call is bound and its body opens.
+
+-- how many formals a macro has, whether it has a list or not
+pub arity-count : (formals : Option (List Formal)) → unwrap_or (option_map (λ (fs : List Formal). length fs) formals) 0 ≡ length (unwrap_or formals [])
+arity-count None = refl
+arity-count (Some fs) = refl
+
+-- it has no more than a table takes
+pub formals-few : (table : TableView) (id : ℕ) → IsSound table → id < length table.macros → length (formals_of (macro_at table.macros id)) ≤ 255
+formals-few table id sound h =
+    (at-each IsSoundMacro table.macros id no_macro (recursion_from_All IsSoundMacro table.macros sound.each) h).formals.few
+
+-- a part of a list is no longer than it
+drop-few : (slots : List Slot) (first : ℕ) (size : ℕ) → size ≤ 255 * length (drop first slots) → first ≤ length slots → size ≤ 255 * length slots
+drop-few slots first size h inside = let n = length-drop first slots in omega (arith, h, n, inside)
+
+-- there is room for the ranges of one call more
+pub call-room : (slots : List Slot) (memory depth first n : ℕ) (bindings : Vec Range Global) → IsStack slots memory depth first bindings → n ≤ 255
+    → vec_len bindings + n ≤ vec_capacity bindings
+call-room slots memory depth first n bindings h few =
+    let room = h.room in
+    let most = h.few in
+    let size = count_items bindings in
+    let all = drop-few slots first (length bindings.items) (laid-few (drop first slots) bindings.items h.laid) h.inside in
+    omega (arith, room, most, size, all, few)
+
+-- a slot for the body of a macro whose ranges stand behind so many
+abbrev pub body-slot : ℕ → ℕ → ℕ → ℕ → Bounds → Slot
+body-slot id end home n bounds = record { from = 0; end = end; home = home; kind = slot.Body id n; bounds = bounds }
+
+-- the open texts where a body is opened whose call has bound ranges
+pub entered-opens : (slots wide : List Slot) (depth first place : ℕ) (bindings more new : List Range) (id end home n : ℕ) (bounds : Bounds) → IsFree slots wide depth first place
+    → n ≡ length bindings → new ≡ bindings ++ more
+    → opens_of (drop place (set wide place (body-slot id end home n bounds))) new
+    ≡ record { part = record { from = 0; end = end; mode = Plain }; home = home; kind = OpenBody id (map range_part more) } ∷ opens_of (drop first slots) bindings
+unfolding opens_of
+entered-opens slots wide depth first place bindings more new id end home n bounds free is whole =
+    let body : List Range → List Open → List Open = λ bs os. record { part = record { from = 0; end = end; mode = Plain }; home = home; kind = OpenBody id (map range_part bs) } ∷ os in
+    ap (λ (bs : List Range). opens_of (drop place (set wide place (body-slot id end home n bounds))) bs) whole
+    ∙ ap (λ (s : List Slot). opens_of s (bindings ++ more)) (entered slots wide depth first place (body-slot id end home n bounds) free)
+    ∙ ap (λ (k : ℕ). body (drop k (bindings ++ more)) (opens_of (drop first slots) (take k (bindings ++ more)))) is
+    ∙ ap (λ (bs : List Range). body bs (opens_of (drop first slots) (take (length bindings) (bindings ++ more)))) (drop-append_seam bindings more)
+    ∙ ap (λ (bs : List Range). body more (opens_of (drop first slots) bs)) (take-append_seam bindings more)
+
+-- they lie as slots do
+entered-laid : (slots wide : List Slot) (depth first place : ℕ) (bindings more : List Range) (id end home n : ℕ) (bounds : Bounds) → IsFree slots wide depth first place
+    → n ≡ length bindings → length more ≤ 255
+    → AreLaid (drop first slots) bindings → AreLaid (drop place (set wide place (body-slot id end home n bounds))) (bindings ++ more)
+unfolding AreLaid
+entered-laid slots wide depth first place bindings more id end home n bounds free is few laid =
+    let less = laid-few (drop first slots) bindings laid in
+    let both = length-append bindings more in
+    let front : take n (bindings ++ more) ≡ bindings = ap (λ (k : ℕ). take k (bindings ++ more)) is ∙ take-append_seam bindings more in
+    subst (λ (s : List Slot). AreLaid s (bindings ++ more)) (sym (entered slots wide depth first place (body-slot id end home n bounds) free))
+    (omega (arith, less, both, few), subst (λ (bs : List Range). AreLaid (drop first slots) bs) (sym front) laid)
+
+-- and are so with their room
+pub stack-entered : (slots wide : List Slot) (memory same_memory depth first place : ℕ) (bindings new : Vec Range Global) (more : List Range) (id end home n m : ℕ) (bounds : Bounds)
+    → IsFree slots wide depth first place → same_memory ≡ memory → n ≡ vec_len bindings → m ≤ 255
+    → vec_len new ≤ vec_len bindings + m → new.items ≡ bindings.items ++ more → vec_capacity new ≡ vec_capacity bindings
+    → IsBoundedOn (body-slot id end home n bounds) (drop first slots) → IsStack slots memory depth first bindings
+    → IsStack (set wide place (body-slot id end home n bounds)) same_memory depth place new
+stack-entered slots wide memory same_memory depth first place bindings new more id end home n m bounds free kept is few size whole same own h =
+    let one = length-set wide place (body-slot id end home n bounds) in
+    let inside = free.inside in
+    let wide_few = free.few in
+    let reserved = h.reserved in
+    let room = h.room in
+    let old_n = count_items bindings in
+    let new_n = count_items new in
+    let both = length-append bindings.items more in
+    let all = ap (λ (bs : List Range). length bs) whole in
+    let most : length more ≤ 255 = omega (arith, old_n, new_n, both, all, size, few) in
+    record {
+      inside = omega (arith, one, inside);
+      few = omega (arith, one, wide_few);
+      reserved = omega (arith, kept, reserved);
+      laid = subst (λ (bs : List Range). AreLaid (drop place (set wide place (body-slot id end home n bounds))) bs) (sym whole)
+          (entered-laid slots wide depth first place bindings.items more id end home n bounds free (is ∙ old_n) most h.laid);
+      bounded = subst (λ (s : List Slot). AreBounded s) (sym (entered slots wide depth first place (body-slot id end home n bounds) free)) (more-bounded (body-slot id end home n bounds) (drop first slots) own h.bounded);
+      room = omega (arith, room, same);
+    }
+
+-- the slots where the innermost goes on at a place
+abbrev pub moved : List Slot → ℕ → ℕ → Slot → List Slot
+moved slots first behind own = set slots first (record own { from = behind })
+
+-- the open texts where the body of a call is opened then
+pub called-opens : (slots wide : List Slot) (depth first place behind : ℕ) (bindings more new : List Range) (own : Slot) (id end home n : ℕ) (bounds : Bounds)
+    → IsFree (moved slots first behind own) wide depth first place → first < length slots
+    → own ≡ get_or slots first own → n ≡ length bindings → new ≡ bindings ++ more
+    → opens_of (drop place (set wide place (body-slot id end home n bounds))) new
+    ≡ record { part = record { from = 0; end = end; mode = Plain }; home = home; kind = OpenBody id (map range_part more) } ∷ moved_to behind (opens_of (drop first slots) bindings)
+called-opens slots wide depth first place behind bindings more new own id end home n bounds free inside e is whole =
+    entered-opens (moved slots first behind own) wide depth first place bindings more new id end home n bounds free is whole
+    ∙ ap (λ (os : List Open). record { part = record { from = 0; end = end; mode = Plain }; home = home; kind = OpenBody id (map range_part more) } ∷ os)
+    (moved-opens slots first behind bindings own inside e)
+
+-- they lie as slots do, with their room
+pub stack-called : (slots wide : List Slot) (memory same_memory depth first place behind : ℕ) (bindings new : Vec Range Global) (more : List Range) (own : Slot) (id end home n m : ℕ) (bounds : Bounds)
+    → IsFree (moved slots first behind own) wide depth first place → same_memory ≡ memory → first < length slots
+    → own ≡ get_or slots first own → n ≡ vec_len bindings → m ≤ 255 → vec_len new ≤ vec_len bindings + m
+    → new.items ≡ bindings.items ++ more → vec_capacity new ≡ vec_capacity bindings
+    → IsBoundedOn (body-slot id end home n bounds) (drop first slots) → IsStack slots memory depth first bindings
+    → IsStack (set wide place (body-slot id end home n bounds)) same_memory depth place new
+stack-called slots wide memory same_memory depth first place behind bindings new more own id end home n m bounds free kept inside e is few size whole same on h =
+    stack-entered (moved slots first behind own) wide memory same_memory depth first place bindings new more id end home n m bounds free kept is few size whole same
+    (moved-on (body-slot id end home n bounds) slots first behind own inside e on) (stack-moved slots memory depth first behind bindings own inside e h)
+
+-- a call that is refused
+pub opening-refused : (macros : List Macro) (text : List ℕ) (at end id home n : ℕ) (old new : CursorsView) (ranges : List Range) (kind : FaultKind) (r : Result ℕ FaultKind)
+    → r ≡ Err kind → n ≡ length (formals_of (macro_at macros id)) → IsBoundCall text at end n ranges r → new ≡ old
+    → IsOpening macros text at end id home old (Refused kind) new
+unfolding IsOpening IsBoundCall
+opening-refused macros text at end id home n old new ranges kind r e k b is =
+    (is, subst (λ (m : ℕ). IsBoundCall text at end m ranges (Err kind)) k (subst (λ (x : Result ℕ FaultKind). IsBoundCall text at end n ranges x) e b))
+
+-- a call that is bound
+pub call-bound : (macros : List Macro) (text : List ℕ) (at end id n : ℕ) (ranges : List Range) (behind : ℕ) (r : Result ℕ FaultKind)
+    → r ≡ Ok behind → n ≡ length (formals_of (macro_at macros id)) → IsBoundCall text at end n ranges r → AreWithin at end ranges → (at ≤ behind) × (behind ≤ end)
+    → IsCallBound macros text at end id
+call-bound macros text at end id n ranges behind r e k b within place = record {
+  ranges = ranges;
+  behind = behind;
+  within = within;
+  place = place;
+  bound = subst (λ (m : ℕ). IsBoundCall text at end m ranges (Ok behind)) k (subst (λ (x : Result ℕ FaultKind). IsBoundCall text at end n ranges x) e b);
+}
+
+-- a call that is bound where no further text may be open
+pub opening-deep : (macros : List Macro) (text : List ℕ) (at end id home : ℕ) (old new : CursorsView) → IsCallBound macros text at end id → new ≡ old → old.depth ≤ length old.opens
+    → IsOpening macros text at end id home old Deep new
+unfolding IsOpening
+opening-deep macros text at end id home old new call is deep = (is, (deep, call))
+
+-- a call that is bound opens its body
+pub opening-opened : (macros : List Macro) (text body : List ℕ) (at end id home n : ℕ) (old new : CursorsView) (ranges : List Range) (behind : ℕ) (r : Result ℕ FaultKind)
+    → r ≡ Ok behind → n ≡ length (formals_of (macro_at macros id)) → IsBoundCall text at end n ranges r → AreWithin at end ranges → (at ≤ behind) × (behind ≤ end)
+    → body ≡ (macro_at macros id).body → length old.opens < old.depth
+    → new ≡ record old { opens = record { part = record { from = 0; end = length body; mode = Plain }; home = home; kind = OpenBody id (map range_part ranges) } ∷ moved_to behind old.opens }
+    → IsOpening macros text at end id home old Opened new
+unfolding IsOpening open_body
+opening-opened macros text body at end id home n old new ranges behind r e k b within place same room is = record {
+  call = record {
+    ranges = ranges;
+    behind = behind;
+    within = within;
+    place = place;
+    bound = subst (λ (m : ℕ). IsBoundCall text at end m ranges (Ok behind)) k (subst (λ (x : Result ℕ FaultKind). IsBoundCall text at end n ranges x) e b);
+  };
+  room = room;
+  opens = is ∙ ap (λ (bytes : List ℕ). record old {
+    opens = record { part = record { from = 0; end = length bytes; mode = Plain }; home = home; kind = OpenBody id (map range_part ranges) } ∷ moved_to behind old.opens;
+  }) same;
+}
+
+-- the ranges that stood there before, where those of a call are taken away
+pub taken-back : (old new : List Range) (more : List Range) (n : ℕ) → new ≡ old ++ more → n ≡ length old → take n new ≡ old
+taken-back old new more n whole e = ap (λ (k : ℕ). take k new) e ∙ ap (λ (bs : List Range). take (length old) bs) whole ∙ take-append_seam old more

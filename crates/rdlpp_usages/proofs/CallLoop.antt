@@ -1,6 +1,5 @@
 -- The reading of a call as it goes on over bytes that are used: what was read so far, and what each turn makes of it.
-use Rattle.std.proofs.Common.{◌≡◌, ℕ, ◌+◌, ◌-◌, ◌≤◌, ◌<◌, List, [], ◌∷◌, ◌++◌, length, take, drop, refl, sym, ap, ◌∙◌, append_assoc, arith, ◌≢◌, Bool, true, false, subst, append-nil}
-use Rattle.std.proofs.lemmas.List.{drop-drop, length-append, length-drop, length-take, length-take-le}
+use Rattle.std.proofs.Common.{◌≡◌, ℕ, ◌+◌, ◌-◌, ◌≤◌, ◌<◌, List, [], ◌∷◌, ◌++◌, length, take, drop, refl, sym, ap, ◌∙◌, append_assoc, arith, ◌≢◌, Bool, true, false, subst, append-nil, drop-drop, length-append, length-drop, length-take, length-take-le}
 use Rattle.rdlpp_scan.specs.declared.token.Mode.{Mode}
 use Rattle.rdlpp_scan.specs.declared.token.Mode.TheVariants.{Plain, InStr, InBlock}
 use Rattle.rdlpp_scan.specs.SourceTokens.{line_ends, SourceToken, remaining_tokens}
@@ -10,14 +9,12 @@ use Rattle.rdlpp_meaning.specs.CallReading.{ReadRefused, ReadStopped, ReadClosed
 use Rattle.rdlpp_meaning.specs.CallScan.{Stand, Before, fault_at_end}
 use Rattle.rdlpp_meaning.specs.Expansion.{bytes_of}
 use Rattle.rdlpp_meaning.specs.Parts.{only_blanks}
-use Rattle.rdlpp_meaning.proofs.CallReadings.{onto_kept-append, onto_kept-nil}
-use Rattle.rdlpp_meaning.proofs.TokenWrites.{only_blanks-append}
+use Rattle.rdlpp_meaning.proofs.ReadCalls.{onto_kept-append, onto_kept-nil, read_closed, read_refused, read_stopped}
+use Rattle.rdlpp_meaning.proofs.LiveText.{only_blanks-append}
 use Rattle.rdlpp_read.specs.Buffer.{BufferView, EndsHeld, MovesOver, ahead_of, entered_mode, held_of, rest_of, text_left, tokens_left, unused_of}
 use Rattle.rdlpp_read.specs.Files.{FilesView, consumed_file, inner_buffer, torn_after, with_buffer, with_inner}
 use Rattle.rdlpp_read.specs.declared.files.File.{File}
-use Rattle.rdlpp_read.proofs.Sliding.{moves-past, text-past, moves-on, moves-told, text-on}
-use Rattle.rdlpp_read.proofs.Slots.{torn_after-append}
-use Rattle.rdlpp_read.proofs.BufferTokens.{ends_line}
+use Rattle.rdlpp_read.proofs.BufferTokens.{ends_line, moves-on, moves-past, moves-told, text-on, text-past, torn_after-append}
 use Rattle.rdlpp_usages.specs.CallReads.{TellsCall, used_buffer, with_used, IsEndOfText, IsEnded, IsExactCall, IsTaken, ReadsCall, ReadsUpTo, is_failed_call, IsCallOf, MeansCall}
 use Rattle.rdlpp_usages.specs.Reads.{Closes, GoesOn, reading}
 use Rattle.rdlpp_usages.specs.Taking.{Around, IsAround, IsClose, IsUse, kept_of, stand_meant, tokens_at, tokens_behind, IsTaking, level_in}
@@ -35,7 +32,6 @@ use Rattle.rdlpp_usages.specs.Store.{StoreView}
 use Rattle.rdlpp_usages.specs.declared.taking.Taking.TheVariants.{Refused as RefusedTaking, Perl}
 use Rattle.rdlpp_usages.proofs.Halts.{broken_reads}
 use Rattle.rdlpp_scan.proofs.RemainingLaws.{course}
-use Rattle.rdlpp_meaning.proofs.ReadCalls.{read_closed, read_refused, read_stopped}
 
 -- Reading a call goes on over bytes that are used, token by token and over refills.
 

@@ -1,8 +1,7 @@
 -- The first token of held bytes as a call reads it, and where a call is halted by a directive or broken.
-use Rattle.std.proofs.Common.{◌≡◌, ◌≢◌, ℕ, ◌+◌, ◌-◌, ◌≤◌, ◌<◌, Bool, true, false, ◌==◌, List, [], ◌∷◌, ◌++◌, length, take, drop, slice_index, refl, sym, ap, ◌∙◌, subst, append_assoc, append-nil, arith, suc, cond, ◌||◌, Option, None, Some}
-use Rattle.std.specs.Prelude.{nat_le, nat_lt, bytes_eq, codes, is_some}
-use Rattle.std.proofs.lemmas.Bool.{false≢true, eqb-true, and_parts, le-leb, cond_both, or_parts}
-use Rattle.std.proofs.lemmas.List.{length-take-le, length-drop, take_all, drop_all, length-append}
+use Rattle.std.proofs.Common.{◌≡◌, ◌≢◌, ℕ, ◌+◌, ◌-◌, ◌≤◌, ◌<◌, Bool, true, false, ◌==◌, List, [], ◌∷◌, ◌++◌, length, take, drop, slice_index, refl, sym, ap, ◌∙◌, subst, append_assoc, append-nil, arith, suc, cond, ◌||◌, Option, None, Some, nat_le, nat_lt, bytes_eq, codes, is_some, eqb-true, le-leb, length-take-le, length-drop, take_all, length-append}
+use Rattle.std.proofs.lemmas.Bool.{false≢true, and_parts, cond_both, or_parts}
+use Rattle.std.proofs.lemmas.List.{drop_all}
 use Rattle.rdlpp_scan.specs.declared.token.Kind.{Kind}
 use Rattle.rdlpp_scan.specs.declared.token.Kind.TheVariants.{Str, BlockComment, Back, Perl}
 use Rattle.rdlpp_scan.specs.declared.token.Mode.{Mode}
@@ -17,7 +16,7 @@ use Rattle.rdlpp_scan.proofs.RemainingLaws.{remaining-opened, behind, course, re
 use Rattle.rdlpp_scan.specs.Ordinary.{is_plain_kind}
 use Rattle.rdlpp_scan.specs.Pieces.{is_open}
 use Rattle.rdlpp_scan.proofs.Seams.{Seam, Closed, BeforePerl, OpenString, OpenComment}
-use Rattle.rdlpp_texts.proofs.FirstTokens.{front_byte}
+use Rattle.rdlpp_texts.proofs.QuickTokens.{front_byte}
 use Rattle.rdlpp_scan.proofs.StopKinds.{block_token-kind, Row, AtPerl, AtLineComment, AtBlockComment, AtString, AtBack, AtBare, AtPlain, token_of-row}
 use Rattle.rdlpp_scan.proofs.TokenLens.{token_of-part}
 use Rattle.rdlpp_scan.proofs.TokenSteps.{is_kept_kind, back_held, next_held}
@@ -27,16 +26,14 @@ use Rattle.rdlpp_meaning.specs.CallReading.{Reading, ReadRefused, is_part_sort, 
 use Rattle.rdlpp_meaning.specs.CallScan.{Stand, Before, Inside, Keeps, turn, turn_before, turn_inside, turn_fitting, stand_behind, stand_behind_lead, room_behind, source_role, fault_at_end}
 use Rattle.rdlpp_meaning.specs.Expansion.{bytes_of, usage_token}
 use Rattle.rdlpp_meaning.specs.Parts.{directive_of, directive_named}
-use Rattle.rdlpp_meaning.proofs.CallReadings.{part_inside, comment_part_before, open_comment_before, string_before, open_string_before}
-use Rattle.rdlpp_meaning.proofs.RestTokens.{IsRest, WholeRest, BrokenRest, string_remains, comment_remains}
-use Rattle.rdlpp_meaning.proofs.TornSources.{row-string}
+use Rattle.rdlpp_meaning.proofs.ReadCalls.{BrokenRest, IsRest, WholeRest, comment_part_before, comment_remains, open_comment_before, open_string_before, part_inside, string_before, string_remains}
+use Rattle.rdlpp_meaning.proofs.LargerRuns.{row-string}
 use Rattle.rdlpp_usages.specs.Taking.{Around, IsAround, tokens_at, tokens_behind}
 use Rattle.rdlpp_scan.specs.declared.token.Directive.{Directive}
 use Rattle.rdlpp_scan.specs.declared.token.Directive.TheVariants.{Undef, Ifdef, Ifndef, Elsif, Else, Endif, Include}
 use Rattle.rdlpp_scan.specs.Reserved.{is_reserved, reserved_names}
 use Rattle.rdlpp_meaning.specs.State.{breach_kind}
-use Rattle.rdlpp_meaning.proofs.SourceScans.{source_role_directive, source_role_text}
-use Rattle.rdlpp_meaning.proofs.TokenWrites.{usage_text}
+use Rattle.rdlpp_meaning.proofs.LiveText.{source_role_directive, source_role_text, usage_text}
 
 -- The first token of held bytes, or the part of it that is held, as a call reads it.
 

@@ -1,43 +1,104 @@
--- What is done with the first token of held bytes is what reading the call comes to there.
-use Rattle.std.proofs.Common.{◌≡◌, ◌≢◌, ℕ, ◌-◌, ◌≤◌, ◌<◌, Bool, true, false, not, cond, ◌&&◌, ◌==◌, List, [], ◌∷◌, ◌++◌, length, take, drop, slice_index, refl, sym, ap, ◌∙◌, subst, inl, arith, zero, suc, ◌+◌, get_or, inr, append_assoc}
-use Rattle.std.specs.Prelude.{nat_le}
-use Rattle.std.proofs.lemmas.Bool.{cond_both, cases_Bool, eqb-true, false≢true, leb-true, leb-false}
-use Rattle.std.proofs.lemmas.List.{length-take-le, drop-drop}
+-- What is done with the first token of held bytes as a call is read, and the faults of reading.
+use Rattle.std.proofs.Common.{◌≡◌, ◌≢◌, ℕ, zero, suc, ◌+◌, ◌-◌, ◌≤◌, ◌<◌, Bool, true, false, refl, ap, ◌∙◌, arith, cond, ◌&&◌, ◌==◌, List, [], ◌∷◌, ◌++◌, length, take, drop, slice_index, sym, subst, inl, get_or, inr, append_assoc, nat_le, take-add, eqb-true, le-leb, leb-false, leb-true, drop-drop, length-take-le}
 use Rattle.std.specs.List.{prefix_len}
-use Rattle.std.proofs.Math.Seq.{take-add}
+use Rattle.std.proofs.lemmas.Bool.{both_ways, cases_Bool, cond_both, false≢true, lt-leb, not-true}
 use Rattle.std.proofs.lemmas.List.Sums.{prefix_len-le-length, prefix_len_passes}
-use Rattle.rdlpp_scan.specs.declared.token.Kind.{Kind}
-use Rattle.rdlpp_scan.specs.declared.token.Kind.TheVariants.{Opener, Closer, Back, Perl, Name, Word, Blank, Comma, Other}
-use Rattle.rdlpp_scan.specs.declared.token.Mode.{Mode}
-use Rattle.rdlpp_scan.specs.declared.token.Mode.TheVariants.{Plain, InStr, InBlock}
-use Rattle.rdlpp_scan.specs.declared.token.Token.{Token}
-use Rattle.rdlpp_scan.specs.SourceTokens.{SourceToken, line_ends, remaining_tokens}
-use Rattle.rdlpp_scan.specs.Reserved.{is_reserved}
-use Rattle.rdlpp_scan.specs.TokenKinds.{opens_mode, is_one_byte}
 use Rattle.rdlpp_scan.specs.Bytes.{begins_block_comment, begins_line_comment, begins_perl, is_blank, is_closer, is_digit, is_letter, is_line_end, is_opener, is_word, takes_word}
-use Rattle.rdlpp_scan.specs.Tokens.{plain_token, token_of, whole, string_token}
 use Rattle.rdlpp_scan.specs.Pieces.{is_open}
-use Rattle.rdlpp_scan.proofs.StopKinds.{string_token-kind, block_token-kind, closed_kind_plain, one_byte_len}
-use Rattle.rdlpp_scan.proofs.Seams.{Seam, Closed, BeforePerl, OpenString, OpenComment, token_of-seam}
+use Rattle.rdlpp_scan.specs.Reserved.{is_reserved}
+use Rattle.rdlpp_scan.specs.Resumed.{opening}
+use Rattle.rdlpp_scan.specs.SourceTokens.{SourceToken, line_ends, remaining_tokens}
+use Rattle.rdlpp_scan.specs.TokenKinds.{is_one_byte, opens_mode}
+use Rattle.rdlpp_scan.specs.Tokens.{plain_token, string_token, token_of, whole}
+use Rattle.rdlpp_scan.specs.declared.token.Kind.{Kind}
+use Rattle.rdlpp_scan.specs.declared.token.Kind.TheVariants.{Back, Blank, Closer, Comma, Name, Opener, Other, Perl, Word}
+use Rattle.rdlpp_scan.specs.declared.token.Mode.{Mode}
+use Rattle.rdlpp_scan.specs.declared.token.Mode.TheVariants.{InBlock, InStr, Plain}
+use Rattle.rdlpp_scan.specs.declared.token.Token.{Token}
+use Rattle.rdlpp_scan.proofs.StopKinds.{block_token-kind, both_first, closed_kind_plain, one_byte_len, string_token-kind}
+use Rattle.rdlpp_scan.proofs.SourceLaws.{EndsLine-drop, line_ends-miss, line_ends-part}
+use Rattle.rdlpp_scan.proofs.OrdinaryLaws.{no_first}
+use Rattle.rdlpp_scan.proofs.Seams.{BeforePerl, Closed, OpenComment, OpenString, Seam, token_of-seam}
 use Rattle.rdlpp_scan.proofs.TokenLens.{token_of-part}
 use Rattle.rdlpp_scan.proofs.TokenSteps.{is_kept_kind}
-use Rattle.rdlpp_meaning.specs.declared.fault.FaultKind.{FaultKind}
-use Rattle.rdlpp_meaning.specs.Actuals.{Role, Space, Remark, Start, Dropped, Halt, End, Stops, Text, kind_role, kept_size, level_behind}
-use Rattle.rdlpp_meaning.specs.CallReading.{Reading, ReadRefused, ReadClosed, onto_kept, read, read_by}
-use Rattle.rdlpp_meaning.specs.CallScan.{Stand, Before, Inside, Turn, Keeps, Passes, Closes, Refuses, turn, turn_before, turn_fitting, turn_inside, fault_at_end, stand_behind, stand_behind_lead, room_behind}
+use Rattle.rdlpp_meaning.specs.Actuals as role
+use Rattle.rdlpp_meaning.specs.Actuals.{Dropped, End, Ends, Halt, Remark, Role, Space, Start, Stops, Text, kept_size, kind_role, level_behind}
+use Rattle.rdlpp_meaning.specs.CallReading.{ReadClosed, Reading, ReadRefused, ReadStopped, onto_kept, read, read_by, role_in}
+use Rattle.rdlpp_meaning.specs.CallScan.{Before, Breaks, Closes, Inside, Keeps, Passes, Refuses, Stand, Turn, fault_at_end, room_behind, stand_behind, stand_behind_lead, turn, turn_before, turn_fitting, turn_inside}
 use Rattle.rdlpp_meaning.specs.Expansion.{bytes_of}
-use Rattle.rdlpp_meaning.proofs.CallReadings.{onto_kept-nil, onto_kept-append}
-use Rattle.rdlpp_texts.proofs.FirstTokens.{first_byte, front_byte}
-use Rattle.rdlpp_usages.specs.Taking.{Answers, Around, IsAround, IsClose, IsStep, IsTaking, IsUse, kept_len, kept_of, level_in, stand_meant, tokens_at, tokens_behind, IsKeptAt, is_calm}
-use Rattle.rdlpp_usages.specs.declared.taking.Taking.{Taking}
-use Rattle.rdlpp_usages.specs.declared.taking.Taking.TheVariants.{Uses, Closes as ClosesCall, Refused, Perl as PerlFound}
-use Rattle.rdlpp_usages.specs.declared.taking.Use.{Use}
-use Rattle.rdlpp_usages.proofs.Halts.{IsFirst, own_token, token_first, directive_reads, name_first, perl_reads}
-use Rattle.rdlpp_scan.specs.Resumed.{opening}
-use Rattle.rdlpp_scan.proofs.SourceLaws.{line_ends-miss, line_ends-part}
-use Rattle.rdlpp_scan.proofs.LineLaws.{EndsLine-drop}
+use Rattle.rdlpp_meaning.specs.declared.fault.FaultKind.{FaultKind}
+use Rattle.rdlpp_meaning.specs.declared.fault.FaultKind.TheVariants as fault
+use Rattle.rdlpp_meaning.specs.declared.fault.FaultKind.TheVariants.{ArgumentBytes, EmbeddedPerl, LineTooLong, SourceTooLong}
+use Rattle.rdlpp_meaning.proofs.ReadCalls.{onto_kept-append, onto_kept-nil}
+use Rattle.rdlpp_texts.specs.CallParts.{ends_call}
+use Rattle.rdlpp_texts.specs.CallTokens.{role_meant}
+use Rattle.rdlpp_texts.specs.declared.tokens.CallRole.{CallRole}
+use Rattle.rdlpp_texts.specs.declared.tokens.CallRole.TheVariants.{End as CallEnd, LineComment}
+use Rattle.rdlpp_texts.proofs.QuickTokens.{first_byte, front_byte}
+use Rattle.rdlpp_read.specs.Buffer.{tokens_left}
+use Rattle.rdlpp_read.specs.Files.{inner_buffer}
+use Rattle.rdlpp_read.specs.declared.files.File.{File}
+use Rattle.rdlpp_usages.specs.CallReads.{IsEnded, is_read_fault}
+use Rattle.rdlpp_usages.specs.Reads.{reading}
+use Rattle.rdlpp_usages.specs.Taking.{Answers, Around, IsAround, IsClose, IsKeptAt, IsStep, IsTaking, IsUse, is_calm, kept_len, kept_of, level_in, stand_meant, tokens_at, tokens_behind}
+use Rattle.rdlpp_usages.specs.declared.reading.CallRead.TheVariants as call
 use Rattle.rdlpp_usages.specs.declared.taking.Stand.TheVariants.{Inside as InsideCall}
-use Rattle.rdlpp_usages.proofs.Turns.{keeps_step}
+use Rattle.rdlpp_usages.specs.declared.taking.Taking.{Taking}
+use Rattle.rdlpp_usages.specs.declared.taking.Taking.TheVariants.{Closes as ClosesCall, Perl as PerlFound, Refused, Uses}
+use Rattle.rdlpp_usages.specs.declared.taking.Use.{Use}
+use Rattle.rdlpp_usages.proofs.Halts.{IsFirst, directive_reads, name_first, own_token, perl_reads, token_first}
+
+-- What is answered at a token behind the `(`, by its role.
+
+-- the `)` of a call
+pub closing : (r : CallRole) (k : ℕ) (fits : Bool) → ends_call (role_meant r) k ≡ true → turn (Inside k) (role_meant r) fits ≡ Closes
+unfolding ends_call role_meant turn turn_inside
+closing CallEnd zero fits e = refl
+closing CallEnd (suc k) fits e = absurd (cc)
+closing r k fits e = absurd (cc)
+
+-- a token that is neither the `)` nor a `//` comment
+pub kept_at : (r : CallRole) (k : ℕ) → ends_call (role_meant r) k ≡ false → r ≢ LineComment → IsKeptAt (role_meant r) k
+unfolding ends_call role_meant turn_inside kept_size
+kept_at CallEnd zero e other = absurd (cc)
+kept_at CallEnd (suc k) e other = record { turns = λ fits. refl; size = λ n. refl }
+kept_at LineComment k e other = absurd (other refl)
+kept_at r k e other = record { turns = λ fits. refl; size = λ n. refl }
+
+-- it is refused where it doesn't fit
+pub passes_room : (r : Role) (k room n : ℕ) → IsKeptAt r k → room < n → turn (Inside k) r (nat_le n room) ≡ Refuses ArgumentBytes
+unfolding turn turn_fitting
+passes_room r k room n kept more = kept.turns (nat_le n room) ∙ ap (λ b. turn_fitting b Keeps) (lt-leb n room more)
+
+-- a token adds a level at most
+one_level : (r : Role) (k : ℕ) → level_behind r k ≤ k + 1
+unfolding level_behind
+one_level role.Start k = omega arith
+one_level role.Up k = omega arith
+one_level role.End k = omega arith
+one_level role.Down k = omega arith
+one_level r k = omega arith
+
+-- and is kept where it fits
+pub keeps_step : (r : Role) (k room : ℕ) (t : Token) (level : ℕ) → IsKeptAt r k → t.len ≤ room → 0 < t.len → level ≡ level_behind r k
+    → IsStep (Inside k) r room t (record { len = t.len; next_mode = t.next_mode; stand = InsideCall level; is_kept = true })
+unfolding turn turn_fitting stand_meant stand_behind room_behind level_in
+keeps_step r k room t level kept fits some is =
+    record {
+      len = refl;
+      mode = refl;
+      stand = ap Inside is;
+      turns = kept.turns (nat_le t.len room) ∙ ap (λ b. turn_fitting b Keeps) (le-leb t.len room fits);
+      left = ap (λ n. room - n) (kept.size t.len);
+      fits = fits;
+      level = omega (arith, one_level r k);
+    }
+
+-- a `//` comment is passed
+pub comment_step : (k room : ℕ) (t : Token) → IsStep (Inside k) role.Dropped room t (record { len = t.len; next_mode = t.next_mode; stand = InsideCall k; is_kept = false })
+unfolding turn turn_inside stand_meant stand_behind room_behind level_in level_behind kept_size
+comment_step k room t =
+    record { len = refl; mode = refl; stand = refl; turns = refl; left = refl; fits = omega arith; level = omega arith }
 
 -- What is done with the first token of held bytes is what reading the call comes to there.
 
@@ -336,21 +397,6 @@ blank_calm : (b : ℕ) → is_blank b ≡ true → is_calm b ≡ true
 unfolding is_blank
 blank_calm b e = calm_by b is_blank e refl refl refl refl refl refl refl refl refl refl refl
 
-apart : (p : Bool) → p ≡ false → p ≡ true → ⊥
-apart p h g = false≢true (sym h ∙ g)
-
-no_first : (p q : Bool) → (not p && q) ≡ true → (p ≡ false) × (q ≡ true)
-no_first true q h = absurd (false≢true h)
-no_first false q h = (refl, h)
-
-no_last : (p : Bool) → not p ≡ true → p ≡ false
-no_last true h = absurd (false≢true h)
-no_last false h = refl
-
-both_first : (p q : Bool) → (p && q) ≡ true → p ≡ true
-both_first true q h = refl
-both_first false q h = absurd (false≢true h)
-
 -- such a byte begins one of these tokens
 calm_token : (b : ℕ) (bs : List ℕ) → is_calm b ≡ true → IsCalmToken (b ∷ bs) (token_of Plain (b ∷ bs))
 unfolding is_calm token_of plain_token whole begins_perl begins_line_comment begins_block_comment
@@ -361,26 +407,26 @@ calm_token b bs calm =
     let quote = no_first (b == 34) _ closer.1 in
     let slash = no_first (b == 47) _ quote.1 in
     let less = no_first (b == 60) _ slash.1 in
-    let back = no_last (b == 96) less.1 in
+    let back = not-true (b == 96) less.1 in
     let held = b ∷ bs in
     let first : prefix_len is_calm held ≡ 1 + prefix_len is_calm bs = ap (λ (t : Bool). cond t (1 + prefix_len is_calm bs) 0) calm in
     let P : Token → Type 0 = λ t. IsCalmToken held t in
     let word = longer is_word is_calm word_calm held in
     let taken = longer is_word is_calm word_calm bs in
     let one : (kind : Kind) → IsCalmKind kind → P (whole kind 1) = λ kind k. record { size = omega (arith, first); next = refl; kind = k } in
-    cond_both (begins_perl held) _ _ P (λ h. absurd (apart _ less.0 (both_first _ _ h))) (λ _.
-    cond_both (is_line_end b) _ _ P (λ h. absurd (apart _ line.0 h)) (λ _.
+    cond_both (begins_perl held) _ _ P (λ h. absurd (both_ways _ less.0 (both_first _ _ h))) (λ _.
+    cond_both (is_line_end b) _ _ P (λ h. absurd (both_ways _ line.0 h)) (λ _.
     cond_both (is_blank b) _ _ P (λ _. record { size = longer is_blank is_calm blank_calm held; next = refl; kind = calm_blank }) (λ _.
-    cond_both (begins_line_comment held) _ _ P (λ h. absurd (apart _ slash.0 (both_first _ _ h))) (λ _.
-    cond_both (begins_block_comment held) _ _ P (λ h. absurd (apart _ slash.0 (both_first _ _ h))) (λ _.
-    cond_both (b == 34) _ _ P (λ h. absurd (apart _ quote.0 h)) (λ _.
+    cond_both (begins_line_comment held) _ _ P (λ h. absurd (both_ways _ slash.0 (both_first _ _ h))) (λ _.
+    cond_both (begins_block_comment held) _ _ P (λ h. absurd (both_ways _ slash.0 (both_first _ _ h))) (λ _.
+    cond_both (b == 34) _ _ P (λ h. absurd (both_ways _ quote.0 h)) (λ _.
     cond_both (is_letter b) _ _ P (λ _. record { size = word; next = refl; kind = calm_name }) (λ _.
     cond_both (is_digit b) _ _ P (λ _. record { size = word; next = refl; kind = calm_word }) (λ _.
     cond_both (takes_word b && is_word (get_or held 1 0)) _ _ P (λ _. record { size = omega (arith, first, taken); next = refl; kind = calm_word }) (λ _.
-    cond_both (b == 96 && is_letter (get_or held 1 0)) _ _ P (λ h. absurd (apart _ back (both_first _ _ h))) (λ _.
-    cond_both (b == 96) _ _ P (λ h. absurd (apart _ back h)) (λ _.
-    cond_both (is_opener b) _ _ P (λ h. absurd (apart _ opener.0 h)) (λ _.
-    cond_both (is_closer b) _ _ P (λ h. absurd (apart _ closer.0 h)) (λ _.
+    cond_both (b == 96 && is_letter (get_or held 1 0)) _ _ P (λ h. absurd (both_ways _ back (both_first _ _ h))) (λ _.
+    cond_both (b == 96) _ _ P (λ h. absurd (both_ways _ back h)) (λ _.
+    cond_both (is_opener b) _ _ P (λ h. absurd (both_ways _ opener.0 h)) (λ _.
+    cond_both (is_closer b) _ _ P (λ h. absurd (both_ways _ closer.0 h)) (λ _.
     cond_both (b == 44) _ _ P (λ _. one Comma calm_comma) (λ _. one Other calm_other))))))))))))))
 
 calm_first : (held : List ℕ) → 0 < prefix_len is_calm held → IsCalmToken held (token_of Plain held)
@@ -496,3 +542,108 @@ pub calm_used : (k room n : ℕ) (held : List ℕ) → n ≡ prefix_len is_calm 
 calm_used k room n held is some fits =
     subst (λ (x : ℕ). IsUse (Inside k) Plain room held (calm_use k x)) (sym is)
     (calm_run (prefix_len is_calm held) k room held (omega arith) (omega (arith, is, some)) (omega (arith, is, fits)))
+
+-- The faults that the reading of a call ends with.
+
+-- what a turn refuses a call for
+abbrev RefusesCall : Turn → Type 0
+RefusesCall (Refuses f) = is_read_fault f ≡ true
+RefusesCall t = Unit
+
+-- before the `(`
+before : (r : Role) → RefusesCall (turn_before r)
+unfolding turn_before is_read_fault
+before Space = tt
+before Dropped = tt
+before Remark = tt
+before Start = tt
+before (Stops f line) = tt
+before r = refl
+
+-- what is text of a call
+fitting : (fits : Bool) (t : Turn) → RefusesCall t → RefusesCall (turn_fitting fits t)
+unfolding turn_fitting is_read_fault
+fitting true t h = h
+fitting false t h = refl
+
+-- behind the `(`
+inside : (r : Role) (k : ℕ) (fits : Bool) → RefusesCall (turn_inside r k fits)
+unfolding turn_inside is_read_fault
+inside End zero fits = tt
+inside End (suc k) fits = fitting fits Keeps tt
+inside Dropped k fits = tt
+inside Halt k fits = refl
+inside (Ends f line) k fits = fitting fits (Breaks f line) tt
+inside (Stops f line) k fits = fitting fits (Breaks f line) tt
+inside r k fits = fitting fits Keeps tt
+
+-- at any turn
+at_turn : (at : Stand) (r : Role) (fits : Bool) → RefusesCall (turn at r fits)
+unfolding turn
+at_turn Before r fits = before r
+at_turn (Inside k) r fits = inside r k fits
+
+-- where nothing follows
+pub end_fault : (at : Stand) → is_read_fault (fault_at_end at) ≡ true
+unfolding fault_at_end is_read_fault
+end_fault Before = refl
+end_fault (Inside k) = refl
+
+-- a reading that is refused with kept bytes in front is refused without them
+without_kept : (bytes : List ℕ) (r : Reading) (f : FaultKind) → onto_kept bytes r ≡ ReadRefused f → r ≡ ReadRefused f
+unfolding onto_kept
+without_kept bytes (ReadRefused g) f e = e
+without_kept bytes (ReadStopped g line) f e = cc
+without_kept bytes (ReadClosed kept behind) f e = cc
+
+-- one fault
+same_fault : (g f : FaultKind) → ReadRefused g ≡ ReadRefused f → g ≡ f
+same_fault g f e = cc
+
+-- a reading that is refused, by what the scan does at its first token
+by_turn : (u : Turn) (t : SourceToken) (ts : List SourceToken) (rest : Reading) (f : FaultKind) → RefusesCall u → (rest ≡ ReadRefused f → is_read_fault f ≡ true)
+    → read_by u t ts rest ≡ ReadRefused f → is_read_fault f ≡ true
+unfolding read_by
+by_turn Passes t ts rest f own further e = further e
+by_turn Keeps t ts rest f own further e = further (without_kept t.bytes rest f e)
+by_turn Closes t ts rest f own further e = cc
+by_turn (Refuses g) t ts rest f own further e = subst (λ (k : FaultKind). is_read_fault k ≡ true) (same_fault g f e) own
+by_turn (Breaks g line) t ts rest f own further e = cc
+
+-- a reading that is refused is so for a fault of a call
+pub refused_fault : (at : Stand) (part : Bool) (room : ℕ) (ts : List SourceToken) (f : FaultKind) → read at part room ts ≡ ReadRefused f → is_read_fault f ≡ true
+unfolding read
+refused_fault at part room [] f e = subst (λ (k : FaultKind). is_read_fault k ≡ true) (same_fault (fault_at_end at) f e) (end_fault at)
+refused_fault at part room (t ∷ ts) f e =
+    let r = role_in part t in
+    by_turn (turn at r (nat_le (length t.bytes) room)) t ts (read (stand_behind at r) false (room_behind at room r (length t.bytes)) ts) f
+    (at_turn at r (nat_le (length t.bytes) room)) (refused_fault (stand_behind at r) false (room_behind at room r (length t.bytes)) ts f) e
+
+-- so it is where a call ends at a token
+pub ended_fault : {R : Type 0} (at : Stand) (room : ℕ) (old_bytes new_bytes : List ℕ) (old new : List (File R)) (f : FaultKind)
+    → IsEnded at room old_bytes new_bytes old new (call.Refused f) → is_read_fault f ≡ true
+unfolding reading
+ended_fault {R} at room old_bytes new_bytes old new f h =
+    let unread : R → List ℕ = λ reader. [] in
+    refused_fault at (is_open (inner_buffer old).mode) room (tokens_left unread (inner_buffer old)) f ((h.reads unread).answer tt)
+
+-- the faults of broken tokens are faults of reading
+pub perl_fault : is_read_fault EmbeddedPerl ≡ true
+unfolding is_read_fault
+perl_fault = refl
+
+pub string_fault : is_read_fault fault.OpenString ≡ true
+unfolding is_read_fault
+string_fault = refl
+
+pub comment_fault : is_read_fault fault.OpenComment ≡ true
+unfolding is_read_fault
+comment_fault = refl
+
+pub line_fault : is_read_fault LineTooLong ≡ true
+unfolding is_read_fault
+line_fault = refl
+
+pub source_fault : is_read_fault SourceTooLong ≡ true
+unfolding is_read_fault
+source_fault = refl

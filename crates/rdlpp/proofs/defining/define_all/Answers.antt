@@ -1,6 +1,6 @@
 use Rattle.std.proofs.Common.{◌∙◌, arith, ap, refl, sym}
 use Rattle.rdlpp.specs.Definitions.{Declined}
-use Rattle.rdlpp.proofs.FreshRuns.{declined, taken_all, taken_more}
+use Rattle.rdlpp.proofs.Runs.{declined, taken_all, taken_more}
 use Rattle.rdlpp.proofs.defining.define_all.Goals as goal
 
 pub loop-index-init : goal.loop-index-init

@@ -1,5 +1,5 @@
 -- The definitions so far were taken.
-use Rattle.rdlpp.proofs.FreshRuns.{AreTaken}
+use Rattle.rdlpp.proofs.Runs.{AreTaken}
 use Rattle.rdlpp.proofs.defining.define_all.Given as goal
 
 abbrev pub invariant-loop-index : goal.invariant-loop-index

@@ -1,7 +1,7 @@
 use Rattle.std.proofs.Common.{◌∙◌, ap, sym}
 use Rattle.rdlpp.specs.Definitions.{given_in}
 use Rattle.rdlpp_state.specs.Opening.{fresh_engine}
-use Rattle.rdlpp.proofs.FreshRuns.{declines, opens_given, opens_output}
+use Rattle.rdlpp.proofs.Runs.{declines, opens_given, opens_output}
 use Rattle.rdlpp.proofs.opening.open_reading.Goals as goal
 
 pub define_all-requires : goal.define_all-requires

@@ -1,6 +1,6 @@
 use Rattle.std.proofs.Common.{subst, sym}
 use Rattle.rdlpp.specs.Preprocess.{Tells, output_of}
-use Rattle.rdlpp.proofs.RunsFrom.{preprocesses_none, preprocesses_of, tells_none}
+use Rattle.rdlpp.proofs.Runs.{preprocesses_none, preprocesses_of, tells_none}
 use Rattle.rdlpp.proofs.preprocessing.preprocess.Goals as goal
 
 pub returns-in-Ok-clause-outcome : goal.returns-in-Ok-clause-outcome

@@ -1,5 +1,5 @@
 use Rattle.std.proofs.Common.{◌∙◌}
-use Rattle.rdlpp.proofs.ReportLines.{reports_limit, reports_memory}
+use Rattle.rdlpp.proofs.Runs.{reports_limit, reports_memory}
 use Rattle.rdlpp.proofs.reporting.report.Goals as goal
 
 pub returns-in-BadLimits : goal.returns-in-BadLimits

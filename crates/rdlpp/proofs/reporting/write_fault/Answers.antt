@@ -1,8 +1,8 @@
 use Rattle.std.proofs.Common.{◌∙◌, ap, decimal, refl}
 use Rattle.std.proofs.lemmas.Result.{err_from_is_err_and}
 use Rattle.rdlpp.specs.Report.{line_end}
-use Rattle.rdlpp_reports.proofs.Parts.{writes_part, writes_then, writes_whole}
-use Rattle.rdlpp.proofs.ReportLines.{reports_fault}
+use Rattle.rdlpp_reports.proofs.Written.{writes_part, writes_then, writes_whole}
+use Rattle.rdlpp.proofs.Runs.{reports_fault}
 use Rattle.rdlpp.proofs.reporting.write_fault.Goals as goal
 
 pub returns-in_err-write_parts : goal.returns-in_err-write_parts

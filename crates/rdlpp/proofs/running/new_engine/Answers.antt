@@ -1,4 +1,4 @@
-use Rattle.rdlpp.proofs.RunsFrom.{fresh_of}
+use Rattle.rdlpp.proofs.Runs.{fresh_of}
 use Rattle.rdlpp.proofs.running.new_engine.Goals as goal
 
 pub returns-in-Ok : goal.returns-in-Ok

@@ -1,10 +1,10 @@
 use Rattle.std.proofs.Common.{◌∙◌, ap, sym}
+use Rattle.rdlpp_expand.proofs.RunFacts.{shows_none}
 use Rattle.rdlpp.specs.Definitions.{given_in}
 use Rattle.rdlpp.specs.Preprocess.{given_by}
 use Rattle.rdlpp_state.specs.Opening.{fresh_engine}
 use Rattle.rdlpp_expand.specs.Run.{count_of, fault_of}
-use Rattle.rdlpp.proofs.FreshRuns.{follows_output}
-use Rattle.rdlpp.proofs.RunsFrom.{follows_from, follows_of, refused_from, shows_nothing}
+use Rattle.rdlpp.proofs.Runs.{follows_from, follows_of, follows_output, refused_from}
 use Rattle.rdlpp.proofs.running.run_watched_from.Goals as goal
 
 pub define_all-requires : goal.define_all-requires
@@ -26,7 +26,7 @@ returns-in-Err-clause-output g c =
     (follows_of g.S.Sources g.W.Sink c.args.options.now (given_by c.args.options.now) c.args.engine.now _ _ _ _ _ _ (returns-in-Err-clause-outcome g c))
 
 pub returns-in-Err-clause-shows : goal.returns-in-Err-clause-shows
-returns-in-Err-clause-shows g c = shows_nothing g.W.Sink g.V.Watcher _ _
+returns-in-Err-clause-shows g c = shows_none g.W.Sink g.V.Watcher _ _
 
 pub returns-in-Ok-clause-outcome : goal.returns-in-Ok-clause-outcome
 returns-in-Ok-clause-outcome g c =

@@ -1,6 +1,5 @@
 -- The words and the bytes so far are mixed.
-use Rattle.std.proofs.Common.{◌≡◌, ◌+◌, ◌*◌, ◌/◌, length}
-use Rattle.std.specs.Prelude.{slice_index}
+use Rattle.std.proofs.Common.{◌≡◌, ◌+◌, ◌*◌, ◌/◌, length, slice_index}
 use Rattle.rdlpp_c.specs.Digest.{digest_of_words, mixed_all}
 use Rattle.rdlpp_c.proofs.digest.digest_of.Given as goal
 

@@ -1,6 +1,6 @@
 use Rattle.std.proofs.Common.{subst}
 use Rattle.rdlpp_c.specs.Telling.{TellsText}
-use Rattle.rdlpp_c.proofs.FaultTexts.{no_text, text_numbered}
+use Rattle.rdlpp_c.proofs.Quiet.{no_text, text_numbered}
 use Rattle.rdlpp_c.proofs.exports.rdlpp_fault_text.Goals as goal
 
 pub returns : goal.returns

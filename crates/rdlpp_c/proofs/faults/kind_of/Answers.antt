@@ -1,5 +1,5 @@
 use Rattle.rdlpp_meaning.specs.declared.fault.FaultKind.TheVariants.{EmbeddedPerl}
-use Rattle.rdlpp_c.proofs.FaultTexts.{not_numbered, numbered_from}
+use Rattle.rdlpp_c.proofs.Quiet.{not_numbered, numbered_from}
 use Rattle.rdlpp_c.proofs.faults.kind_of.Goals as goal
 
 pub returns-then-place-eq0 : goal.returns-then-place-eq0

@@ -1,7 +1,6 @@
-use Rattle.std.proofs.Common.{Some, ap, sym, ◌∙◌}
-use Rattle.std.specs.Option.{option_map}
+use Rattle.std.proofs.Common.{Some, ap, sym, ◌∙◌, option_map}
 use Rattle.rdlpp_c.specs.Streaming.{boxed}
-use Rattle.rdlpp_c.proofs.Handles.{gives_held}
+use Rattle.rdlpp_c.proofs.Onces.{gives_held}
 use Rattle.rdlpp_c.proofs.giving.rdlpp_give_absent.Goals as goal
 
 pub returns : goal.returns

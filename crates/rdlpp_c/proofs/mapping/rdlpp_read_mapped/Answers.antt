@@ -1,8 +1,6 @@
-use Rattle.std.proofs.Common.{Some, ap, sym, ◌∙◌}
-use Rattle.std.specs.Option.{option_map}
+use Rattle.std.proofs.Common.{Some, ap, sym, ◌∙◌, option_map}
 use Rattle.rdlpp_c.specs.Streaming.{boxed}
-use Rattle.rdlpp_c.proofs.MappedReads.{maps_held}
-use Rattle.rdlpp_c.proofs.Quiet.{held_quietly}
+use Rattle.rdlpp_c.proofs.Quiet.{held_quietly, maps_held}
 use Rattle.rdlpp_c.proofs.mapping.rdlpp_read_mapped.Goals as goal
 
 pub returns-clause-reads : goal.returns-clause-reads

@@ -1,9 +1,8 @@
 -- Parts of pieces are read, one behind the other, until the buffer is full, the map's has no room for a line, or the output ends.
-use Rattle.std.proofs.Common.{◌≡◌, ◌-◌, ◌⊎◌, length, true, refl, sym, ◌∙◌, arith, inl, inr}
-use Rattle.std.specs.Option.{is_some}
+use Rattle.std.proofs.Common.{◌≡◌, ◌-◌, ◌⊎◌, length, true, refl, sym, ◌∙◌, arith, inl, inr, is_some}
 use Rattle.rdlpp_expand.proofs.Readings.{given_none}
 use Rattle.rdlpp_c.specs.Streaming.{owned_sources}
-use Rattle.rdlpp_c.proofs.MappedReads.{lines_going, lines_stopped, only_more, part_goes_on, part_into, put_length, whole_put}
+use Rattle.rdlpp_c.proofs.Quiet.{lines_going, lines_stopped, only_more, part_goes_on, part_into, put_length, whole_put}
 use Rattle.rdlpp_c.proofs.mapping.read_lines.Goals.{then-is_some-via-then-is_some, then-is_some-via-else-is_some+then-read-eq0}
 use Rattle.rdlpp_c.proofs.mapping.read_lines.Goals as goal
 

@@ -3,7 +3,7 @@ use Rattle.std.proofs.Common.{ℕ, ◌-◌, length, sym, ap, subst}
 use Rattle.rdlpp_c.specs.Streaming.{StaysQuiet}
 use Rattle.rdlpp_c.specs.declared.mapping.Mapped.{Mapped}
 use Rattle.rdlpp_c.specs.declared.telling.Outcome.{Outcome as Numbers}
-use Rattle.rdlpp_c.proofs.MappedReads.{maps_open, maps_quietly}
+use Rattle.rdlpp_c.proofs.Quiet.{maps_open, maps_quietly}
 use Rattle.rdlpp_c.proofs.mapping.read_mapped.Goals as goal
 
 pub returns-clause-reads : goal.returns-clause-reads

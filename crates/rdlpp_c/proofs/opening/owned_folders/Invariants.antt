@@ -1,6 +1,5 @@
 -- The folders so far were made.
-use Rattle.std.proofs.Common.{◌≡◌, map, take}
-use Rattle.std.specs.String.{string_bytes}
+use Rattle.std.proofs.Common.{◌≡◌, map, take, string_bytes}
 use Rattle.rdlpp_c.proofs.opening.owned_folders.Given as goal
 
 abbrev pub invariant-loop-folder : goal.invariant-loop-folder

@@ -1,5 +1,5 @@
 use Rattle.std.proofs.Common.{arith, refl, ◌∙◌}
-use Rattle.rdlpp_c.proofs.WholeReads.{counted_end, fills_as, leaves_as, left_falls, passed_more, passed_none}
+use Rattle.rdlpp_c.proofs.Outputs.{counted_end, fills_as, leaves_as, left_falls, passed_more, passed_none}
 use Rattle.rdlpp_c.proofs.output.count_rest.Goals as goal
 
 pub loop-ending-init : goal.loop-ending-init

@@ -1,7 +1,7 @@
 use Rattle.std.proofs.Common.{◌≡◌, length}
 use Rattle.rdlpp_expand.specs.Reading.{reading_left}
 use Rattle.rdlpp_c.specs.Answer.{text_sources}
-use Rattle.rdlpp_c.proofs.WholeReads.{Passed}
+use Rattle.rdlpp_c.proofs.Outputs.{Passed}
 use Rattle.rdlpp_c.proofs.output.count_rest.Given as goal
 
 abbrev pub invariant-loop-ending : goal.invariant-loop-ending

@@ -1,4 +1,4 @@
-use Rattle.rdlpp_c.proofs.WholeReads.{fills_as, leaves_as, read_rest, read_whole}
+use Rattle.rdlpp_c.proofs.Outputs.{fills_as, leaves_as, read_rest, read_whole}
 use Rattle.rdlpp_c.proofs.output.read_output.Goals as goal
 
 pub returns-in-Some : goal.returns-in-Some

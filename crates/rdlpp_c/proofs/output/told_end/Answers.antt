@@ -1,5 +1,4 @@
-use Rattle.std.proofs.Common.{sym, ap, ◌∙◌}
-use Rattle.std.specs.Option.{option_map}
+use Rattle.std.proofs.Common.{sym, ap, ◌∙◌, option_map}
 use Rattle.rdlpp_meaning.specs.Outcome.{told}
 use Rattle.rdlpp_c.proofs.output.told_end.Goals as goal
 

@@ -1,5 +1,4 @@
-use Rattle.std.proofs.Common.{Some, ap, sym, ◌∙◌}
-use Rattle.std.specs.Option.{option_map}
+use Rattle.std.proofs.Common.{Some, ap, sym, ◌∙◌, option_map}
 use Rattle.rdlpp_c.specs.Streaming.{boxed}
 use Rattle.rdlpp_c.proofs.Outputs.{reads_held}
 use Rattle.rdlpp_c.proofs.Quiet.{held_quietly}

@@ -1,5 +1,5 @@
 use Rattle.std.proofs.Common.{sym, ◌∙◌, arith}
-use Rattle.rdlpp_conditions.proofs.SkipSteps.{passes_token, stops_by}
+use Rattle.rdlpp_conditions.proofs.Stacks.{passes_token, stops_by}
 use Rattle.rdlpp_conditions.proofs.skipped_text.pass_once.Goals as goal
 
 pub returns-then-stops_skipping-clause-none : goal.returns-then-stops_skipping-clause-none

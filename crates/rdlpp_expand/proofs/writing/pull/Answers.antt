@@ -1,7 +1,6 @@
 use Rattle.std.proofs.Common.{Ok, sym, ap, ◌∙◌}
 use Rattle.rdlpp_state.specs.Pieces.{answer_of}
-use Rattle.rdlpp_expand.proofs.RunFacts.{answer_step, pulled_written, pulled_none, pulled_fault, pulled_silent}
-use Rattle.rdlpp_expand.proofs.Shown.{shows_none}
+use Rattle.rdlpp_expand.proofs.RunFacts.{answer_step, pulled_fault, pulled_none, pulled_silent, pulled_written, shows_none}
 use Rattle.rdlpp_expand.proofs.writing.pull.Goals as goal
 
 pub returns-in-Ok-Bytes-clause-pulls : goal.returns-in-Ok-Bytes-clause-pulls

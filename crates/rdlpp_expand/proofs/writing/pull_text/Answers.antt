@@ -1,7 +1,6 @@
 use Rattle.std.proofs.Common.{Ok, Some, ap}
-use Rattle.rdlpp_expand.proofs.RunFacts.{answer_step, pulled_fault, pulled_silent, pulled_written}
+use Rattle.rdlpp_expand.proofs.RunFacts.{answer_step, pulled_fault, pulled_silent, pulled_written, shows_none}
 use Rattle.rdlpp_expand.proofs.TextFacts.{answer-kept, kept-some, open-texts}
-use Rattle.rdlpp_expand.proofs.Shown.{shows_none}
 use Rattle.rdlpp_expand.proofs.writing.pull_text.Goals as goal
 
 pub text-requires : goal.text-requires

@@ -1,6 +1,5 @@
 use Rattle.std.proofs.Common.{false, true, not, Some, refl, sym, ap}
-use Rattle.rdlpp_expand.proofs.RunFacts.{wrote_at, flushes_as, runs_whole, runs_stopped, runs_unflushed, runs_broken, runs_unchanged}
-use Rattle.rdlpp_expand.proofs.Shown.{shows_kept}
+use Rattle.rdlpp_expand.proofs.RunFacts.{flushes_as, runs_broken, runs_stopped, runs_unchanged, runs_unflushed, runs_whole, shows_kept, wrote_at}
 use Rattle.rdlpp_expand.proofs.writing.run_watched.Goals as goal
 
 pub returns-then-is_flushed-clause-runs : goal.returns-then-is_flushed-clause-runs

@@ -1,6 +1,5 @@
 use Rattle.std.proofs.Common.{sym}
-use Rattle.rdlpp_expand.proofs.RunFacts.{wrote_none, wrote_more, wrote_at}
-use Rattle.rdlpp_expand.proofs.Shown.{shows_more, shows_none}
+use Rattle.rdlpp_expand.proofs.RunFacts.{shows_more, shows_none, wrote_at, wrote_more, wrote_none}
 use Rattle.rdlpp_expand.proofs.writing.write_output.Goals as goal
 
 pub loop-in_texts-init : goal.loop-in_texts-init

@@ -1,5 +1,4 @@
-use Rattle.std.proofs.Common.{None}
-use Rattle.std.specs.Prelude.{◌↔◌, IsTrue}
+use Rattle.std.proofs.Common.{None, ◌↔◌, IsTrue}
 use Rattle.rdlpp_expand.specs.Run.{Wrote}
 use Rattle.rdlpp_expand.specs.Texts.{IsInTexts}
 use Rattle.rdlpp_expand.specs.Watching.{Shows}

@@ -1,6 +1,5 @@
-use Rattle.std.proofs.Common.{arith}
+use Rattle.std.proofs.Common.{arith, take-add}
 use Rattle.std.proofs.lemmas.Grind.{common_steps}
-use Rattle.std.proofs.Math.Seq.{take-add}
 use Rattle.rdlpp_expand.proofs.RunFacts.{appends_more}
 use Rattle.rdlpp_expand.proofs.writing.write_part.Goals as goal
 

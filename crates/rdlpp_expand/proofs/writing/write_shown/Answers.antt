@@ -1,5 +1,5 @@
 use Rattle.std.proofs.Common.{refl}
-use Rattle.rdlpp_expand.proofs.Shown.{shows_part}
+use Rattle.rdlpp_expand.proofs.RunFacts.{shows_part}
 use Rattle.rdlpp_expand.proofs.writing.write_shown.Goals as goal
 
 pub returns-clause-shows : goal.returns-clause-shows

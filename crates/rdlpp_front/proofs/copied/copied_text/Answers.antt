@@ -1,5 +1,4 @@
-use Rattle.std.proofs.Common.{ℕ, sym, subst}
-use Rattle.std.specs.Prelude.{IfNone}
+use Rattle.std.proofs.Common.{ℕ, sym, subst, IfNone}
 use Rattle.rdlpp_scan.specs.declared.token.Mode.{Mode}
 use Rattle.rdlpp_front.specs.Fronts.{IsText}
 use Rattle.rdlpp_front.proofs.copied.copied_text.Goals as goal

@@ -1,6 +1,6 @@
 use Rattle.std.proofs.Common.{sym, refl, arith}
 use Rattle.rdlpp_front.specs.Fronts.{AtOrdinary}
-use Rattle.rdlpp_front.proofs.PassedText.{no_text_at_backquote, plain_some}
+use Rattle.rdlpp_front.proofs.Insides.{no_text_at_backquote, plain_some}
 use Rattle.rdlpp_front.proofs.copied.plain_copied.Goals as goal
 
 pub returns-then-held-eq96-clause-none : goal.returns-then-held-eq96-clause-none

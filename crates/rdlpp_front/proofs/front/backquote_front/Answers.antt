@@ -1,6 +1,5 @@
-use Rattle.std.proofs.Common.{◌≡◌, ◌∙◌, ◌-◌, true, false, slice_index, length, take, drop, sym, refl, ap, arith}
+use Rattle.std.proofs.Common.{◌≡◌, ◌∙◌, ◌-◌, true, false, slice_index, length, take, drop, sym, refl, ap, arith, length-drop, take_all}
 use Rattle.std.specs.List.{prefix_len}
-use Rattle.std.proofs.lemmas.List.{length-drop, take_all}
 use Rattle.rdlpp_scan.specs.Bytes.{is_letter, is_word}
 use Rattle.rdlpp_front.specs.Fronts.{AtBare}
 use Rattle.rdlpp_front.proofs.Insides.{back_at_letter, back_len, bare_at_other}

@@ -1,5 +1,4 @@
-use Rattle.std.proofs.Common.{◌∙◌, sym}
-use Rattle.std.proofs.lemmas.Bool.{eqb-true}
+use Rattle.std.proofs.Common.{◌∙◌, sym, eqb-true}
 use Rattle.rdlpp_lines.proofs.Joins.{none_first}
 use Rattle.rdlpp_lines.proofs.first.split_first.Goals as goal
 

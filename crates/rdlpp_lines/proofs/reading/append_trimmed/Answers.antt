@@ -1,5 +1,4 @@
-use Rattle.std.proofs.Common.{◌≡◌, ◌++◌, ◌∙◌, Bool, false, true, List, ℕ, Ok, length, sym, subst, ap, arith}
-use Rattle.std.specs.Prelude.{None}
+use Rattle.std.proofs.Common.{◌≡◌, ◌++◌, ◌∙◌, Bool, false, true, List, ℕ, Ok, length, sym, subst, ap, arith, None}
 use Rattle.rdlpp_lines.specs.Continuations.{joined}
 use Rattle.rdlpp_lines.specs.OnePiece.{is_one_piece}
 use Rattle.rdlpp_lines.specs.Texts.{cleared, start_level, trimmed_left, trimmed_len, trims}

@@ -1,7 +1,6 @@
-use Rattle.std.proofs.Common.{◌≡◌, ◌∙◌, sym, arith, []}
+use Rattle.std.proofs.Common.{◌≡◌, ◌∙◌, sym, arith, [], None}
 use Rattle.rdlpp_lines.specs.Texts.{Sound, cleared}
 use Rattle.rdlpp_lines.specs.Continuations.{joined}
-use Rattle.std.specs.Prelude.{None}
 use Rattle.rdlpp_lines.proofs.Measures.{piece_fault, piece_sound, sound_measured, sound_nothing}
 use Rattle.rdlpp_lines.proofs.reading.piece_len.Goals as goal
 

@@ -1,5 +1,4 @@
-use Rattle.std.proofs.Common.{◌≡◌, Bool, Ok, Err, sym, subst}
-use Rattle.std.specs.Prelude.{IfOk, MatchResult}
+use Rattle.std.proofs.Common.{◌≡◌, Bool, Ok, Err, sym, subst, IfOk, MatchResult}
 use Rattle.rdlpp_lines.specs.Continuations.{joined}
 use Rattle.rdlpp_lines.specs.Texts.{cleared, start_level, text_behind, trimmed_len, trims}
 use Rattle.rdlpp_lines.proofs.reading.trimmed_len.Goals as goal

@@ -1,6 +1,5 @@
 -- The laws that the function ensures.
-use Rattle.rdlpp_meaning.proofs.LiteralSubstitution.{literal_substitution}
-use Rattle.rdlpp_meaning.proofs.Cover.{body_covered}
+use Rattle.rdlpp_meaning.proofs.LiteralSubstitution.{body_covered, literal_substitution}
 use Rattle.rdlpp_meaning.proofs.laws.literal_substitution.Goals as goal
 
 pub returns-clause-substituted : goal.returns-clause-substituted

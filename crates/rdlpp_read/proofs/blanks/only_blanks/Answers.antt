@@ -1,7 +1,6 @@
-use Rattle.std.proofs.Common.{◌≡◌, ◌∙◌, ◌<◌, ◌≤◌, length, sym, arith, take, ap, ℕ, refl}
-use Rattle.std.proofs.lemmas.List.{take_all}
+use Rattle.std.proofs.Common.{◌≡◌, ◌∙◌, ◌<◌, ◌≤◌, length, sym, arith, take, ap, ℕ, refl, take_all}
 use Rattle.rdlpp_meaning.specs.Parts.{only_blanks}
-use Rattle.rdlpp_read.proofs.BlankFacts.{blanks_line_end, blanks_other, blanks_blank}
+use Rattle.rdlpp_read.proofs.LogicalLines.{blanks_line_end, blanks_other, blanks_blank}
 use Rattle.rdlpp_read.proofs.blanks.only_blanks.Goals as goal
 
 pub loop-at-init : goal.loop-at-init

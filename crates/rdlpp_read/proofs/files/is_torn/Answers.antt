@@ -1,7 +1,7 @@
 use Rattle.std.proofs.Common.{◌≡◌, ◌<◌, length, refl, sym, arith}
 use Rattle.std.proofs.lemmas.Bool.Decides.{nat_tests}
 use Rattle.rdlpp_scan.specs.Bytes.{is_line_end}
-use Rattle.rdlpp_read.proofs.Slots.{torn-last, torn-none}
+use Rattle.rdlpp_read.proofs.BufferTokens.{torn-last, torn-none}
 use Rattle.rdlpp_read.proofs.files.is_torn.Goals as goal
 
 pub returns-then-is_empty : goal.returns-then-is_empty

@@ -2,7 +2,7 @@
 use Rattle.std.proofs.Common.{arith, ◌∙◌}
 use Rattle.std.proofs.lemmas.Bool.Decides.{nat_tests}
 use Rattle.rdlpp_table.specs.View.{formal_at, formals_of, macro_at}
-use Rattle.rdlpp_reports.proofs.Behind.{behind_default, behind_plain}
+use Rattle.rdlpp_reports.proofs.Written.{behind_default, behind_plain}
 use Rattle.rdlpp_reports.proofs.definitions.behind_formal.Goals as goal
 
 pub returns-then-is_empty : goal.returns-then-is_empty

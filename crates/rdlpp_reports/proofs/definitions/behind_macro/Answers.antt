@@ -1,9 +1,8 @@
 -- Behind its name, each of its formals, and its body.
-use Rattle.std.proofs.Common.{◌+◌, ◌++◌, drop, arith, ◌∙◌}
-use Rattle.std.specs.List.{flat_map}
+use Rattle.std.proofs.Common.{◌+◌, ◌++◌, drop, arith, ◌∙◌, flat_map}
 use Rattle.rdlpp_table.specs.Table.{formal_bytes}
 use Rattle.rdlpp_table.specs.View.{formals_of, macro_at, no_formal}
-use Rattle.rdlpp_reports.proofs.Behind.{body_behind, count_formals, formals_behind, formals_end, formals_from}
+use Rattle.rdlpp_reports.proofs.Written.{body_behind, count_formals, formals_behind, formals_end, formals_from}
 use Rattle.rdlpp_reports.proofs.definitions.behind_macro.Goals as goal
 
 pub loop-place-init : goal.loop-place-init

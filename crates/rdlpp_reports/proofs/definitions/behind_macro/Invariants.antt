@@ -1,6 +1,5 @@
 -- The formals from a place on are left, and the body.
-use Rattle.std.proofs.Common.{◌≡◌, ℕ, List, ◌++◌, drop}
-use Rattle.std.specs.List.{flat_map}
+use Rattle.std.proofs.Common.{◌≡◌, ℕ, List, ◌++◌, drop, flat_map}
 use Rattle.rdlpp_table.specs.Table.{formal_bytes, macro_bytes}
 use Rattle.rdlpp_table.specs.View.{AreSoundFormals, formals_of, macro_at}
 use Rattle.rdlpp_reports.proofs.definitions.behind_macro.Given as goal

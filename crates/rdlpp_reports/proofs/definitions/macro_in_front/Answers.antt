@@ -1,9 +1,8 @@
 -- The name is found where it is looked up.
-use Rattle.std.proofs.Common.{arith, sym, ◌∙◌, length, ◌≤◌, ap}
-use Rattle.std.proofs.lemmas.List.{length-append}
+use Rattle.std.proofs.Common.{arith, sym, ◌∙◌, length, ◌≤◌, ap, length-append}
 use Rattle.std.proofs.lemmas.List.Elements.{All-get_or}
 use Rattle.rdlpp_table.specs.View.{IsSoundMacro, macro_at, no_macro}
-use Rattle.rdlpp_reports.proofs.Places.{found_at, is_longer}
+use Rattle.rdlpp_reports.proofs.Written.{found_at, is_longer}
 use Rattle.rdlpp_reports.proofs.definitions.macro_in_front.Goals as goal
 
 pub loop-len-init : goal.loop-len-init

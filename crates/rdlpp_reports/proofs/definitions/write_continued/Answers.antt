@@ -1,7 +1,7 @@
 -- One byte more was written.
 use Rattle.std.proofs.lemmas.Result.{err_from_is_err_and}
 use Rattle.rdlpp_reports.specs.Definitions.{continued_byte}
-use Rattle.rdlpp_reports.proofs.Parts.{flat-fails, flat-grows}
+use Rattle.rdlpp_reports.proofs.Written.{flat-fails, flat-grows}
 use Rattle.rdlpp_reports.proofs.definitions.write_continued.Goals as goal
 
 pub returns-in_err-write_continued_byte : goal.returns-in_err-write_continued_byte

@@ -1,6 +1,5 @@
 -- The bytes so far were written.
-use Rattle.std.proofs.Common.{take}
-use Rattle.std.specs.List.{flat_map}
+use Rattle.std.proofs.Common.{take, flat_map}
 use Rattle.std.specs.Io.KnownBytes.{Appends}
 use Rattle.rdlpp_reports.specs.Definitions.{continued_byte}
 use Rattle.rdlpp_reports.proofs.definitions.write_continued.Given as goal

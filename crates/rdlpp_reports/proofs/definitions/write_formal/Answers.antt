@@ -1,6 +1,6 @@
 -- The name was written, and then the default text.
 use Rattle.std.proofs.lemmas.Result.{err_from_is_err_and}
-use Rattle.rdlpp_reports.proofs.Parts.{writes_part, writes_then, writes_whole}
+use Rattle.rdlpp_reports.proofs.Written.{writes_part, writes_then, writes_whole}
 use Rattle.rdlpp_reports.proofs.definitions.write_formal.Goals as goal
 
 pub returns-in_err-write_whole : goal.returns-in_err-write_whole

@@ -2,8 +2,7 @@
 use Rattle.std.proofs.Common.{arith}
 use Rattle.std.proofs.lemmas.Bool.Decides.{nat_tests}
 use Rattle.std.proofs.lemmas.Result.{err_from_is_err_and}
-use Rattle.rdlpp_reports.proofs.Formals.{first_part, further_part}
-use Rattle.rdlpp_reports.proofs.Parts.{writes_by, writes_part, writes_then, writes_whole}
+use Rattle.rdlpp_reports.proofs.Written.{first_part, further_part, writes_by, writes_part, writes_then, writes_whole}
 use Rattle.rdlpp_reports.proofs.definitions.write_formal_at.Goals as goal
 
 pub returns-then-place-eq0 : goal.returns-then-place-eq0

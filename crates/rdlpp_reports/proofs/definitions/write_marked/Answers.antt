@@ -2,8 +2,7 @@
 use Rattle.std.proofs.Common.{arith}
 use Rattle.std.proofs.lemmas.Bool.Decides.{nat_tests}
 use Rattle.std.proofs.lemmas.Result.{err_from_is_err_and}
-use Rattle.rdlpp_reports.proofs.Marked.{marked-none, marked-some}
-use Rattle.rdlpp_reports.proofs.Parts.{writes_by, writes_part, writes_then, writes_whole}
+use Rattle.rdlpp_reports.proofs.Written.{marked-none, marked-some, writes_by, writes_part, writes_then, writes_whole}
 use Rattle.rdlpp_reports.proofs.definitions.write_marked.Goals as goal
 
 pub returns-then-is_empty : goal.returns-then-is_empty

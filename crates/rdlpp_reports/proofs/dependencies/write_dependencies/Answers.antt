@@ -1,10 +1,8 @@
 -- The parts of the rules were written one after another.
-use Rattle.std.proofs.Common.{◌++◌, codes, ap}
-use Rattle.std.specs.String.{string_bytes}
+use Rattle.std.proofs.Common.{◌++◌, codes, ap, string_bytes}
 use Rattle.std.proofs.lemmas.Result.{err_from_is_err_and}
 use Rattle.rdlpp_reports.specs.Dependencies.{rule_name}
-use Rattle.rdlpp_reports.proofs.Names.{rules-behind, sources-behind}
-use Rattle.rdlpp_reports.proofs.Parts.{writes_by, writes_part, writes_then, writes_whole}
+use Rattle.rdlpp_reports.proofs.Written.{rules-behind, sources-behind, writes_by, writes_part, writes_then, writes_whole}
 use Rattle.rdlpp_reports.proofs.dependencies.write_dependencies.Goals as goal
 
 pub returns-in_err-write_name : goal.returns-in_err-write_name

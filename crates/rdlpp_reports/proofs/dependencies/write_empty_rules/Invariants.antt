@@ -1,7 +1,5 @@
 -- The paths so far were appended.
-use Rattle.std.proofs.Common.{take}
-use Rattle.std.specs.List.{flat_map}
-use Rattle.std.specs.String.{string_bytes}
+use Rattle.std.proofs.Common.{take, flat_map, string_bytes}
 use Rattle.std.specs.Io.KnownBytes.{Appends}
 use Rattle.rdlpp_reports.specs.Dependencies.{empty_rule}
 use Rattle.rdlpp_reports.proofs.dependencies.write_empty_rules.Given as goal

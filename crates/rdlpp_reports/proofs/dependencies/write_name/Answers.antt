@@ -3,8 +3,7 @@ use Rattle.std.proofs.Common.{[], ◌∷◌, ap}
 use Rattle.std.specs.List.{concat}
 use Rattle.std.proofs.lemmas.List.{nil_from_length}
 use Rattle.std.proofs.lemmas.Result.{err_from_is_err_and}
-use Rattle.rdlpp_reports.proofs.Names.{name-ends, name-fails, name-grows}
-use Rattle.rdlpp_reports.proofs.Parts.{writes_by}
+use Rattle.rdlpp_reports.proofs.Written.{name-ends, name-fails, name-grows, writes_by}
 use Rattle.rdlpp_reports.proofs.dependencies.write_name.Goals as goal
 
 pub returns-in_err-write_parts : goal.returns-in_err-write_parts

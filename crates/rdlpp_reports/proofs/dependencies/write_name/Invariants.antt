@@ -1,6 +1,6 @@
 -- What is gone of the name was written.
 use Rattle.std.proofs.Common.{length}
-use Rattle.rdlpp_reports.proofs.Names.{NameWritten}
+use Rattle.rdlpp_reports.proofs.Written.{NameWritten}
 use Rattle.rdlpp_reports.proofs.dependencies.write_name.Given as goal
 
 abbrev pub invariant-loop-byte : goal.invariant-loop-byte

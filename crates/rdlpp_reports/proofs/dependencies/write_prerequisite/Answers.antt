@@ -1,8 +1,7 @@
 -- What was written of a source's name.
 use Rattle.std.proofs.Common.{◌∙◌, sym}
 use Rattle.std.proofs.lemmas.Result.{err_from_is_err_and}
-use Rattle.rdlpp_reports.proofs.Names.{prerequisite-input, prerequisite-named}
-use Rattle.rdlpp_reports.proofs.Parts.{writes_by, writes_part, writes_then, writes_whole}
+use Rattle.rdlpp_reports.proofs.Written.{prerequisite-input, prerequisite-named, writes_by, writes_part, writes_then, writes_whole}
 use Rattle.rdlpp_reports.proofs.dependencies.write_prerequisite.Goals as goal
 
 pub returns-then-eq : goal.returns-then-eq

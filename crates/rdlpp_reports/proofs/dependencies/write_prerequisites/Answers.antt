@@ -1,9 +1,8 @@
 -- One path more was written.
-use Rattle.std.proofs.Common.{ap, ◌∙◌}
-use Rattle.std.specs.String.{string_bytes}
+use Rattle.std.proofs.Common.{ap, ◌∙◌, string_bytes}
 use Rattle.std.proofs.lemmas.Result.{err_from_is_err_and}
 use Rattle.rdlpp_reports.specs.Dependencies.{prerequisite}
-use Rattle.rdlpp_reports.proofs.Parts.{flat-fails, flat-grows, writes_by}
+use Rattle.rdlpp_reports.proofs.Written.{flat-fails, flat-grows, writes_by}
 use Rattle.rdlpp_reports.proofs.dependencies.write_prerequisites.Goals as goal
 
 pub returns-in_err-write_prerequisite : goal.returns-in_err-write_prerequisite

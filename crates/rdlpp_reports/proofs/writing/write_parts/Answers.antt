@@ -1,13 +1,12 @@
 -- One part more was appended.
-use Rattle.std.proofs.Common.{◌≡◌, ℕ, suc, List, map, ◌+◌, ◌<◌, length, take, drop, take-append-drop, [], ◌∷◌, ◌++◌, Bor, slice_index_or, ap, ◌∙◌, sym, subst, add-one, append-nil}
+use Rattle.std.proofs.Common.{◌≡◌, ℕ, suc, List, map, ◌+◌, ◌<◌, length, take, drop, take-append-drop, [], ◌∷◌, ◌++◌, Bor, slice_index_or, ap, ◌∙◌, sym, subst, add-one, append-nil, drop-cons, take-suc}
 use Rattle.std.specs.List.{concat}
 use Rattle.std.specs.Io.KnownBytes.{Appends}
 use Rattle.std.proofs.KnownBytes.{Appends-trans}
-use Rattle.std.proofs.Math.Seq.{drop-cons, take-suc}
 use Rattle.std.proofs.lemmas.List.{map-append}
 use Rattle.std.proofs.lemmas.List.Folds.{concat-append}
 use Rattle.std.proofs.lemmas.Result.{err_from_is_err_and}
-use Rattle.rdlpp_reports.proofs.Parts.{writes_by, writes_part, writes_then, writes_whole}
+use Rattle.rdlpp_reports.proofs.Written.{writes_by, writes_part, writes_then, writes_whole}
 use Rattle.rdlpp_reports.proofs.writing.write_parts.Goals as goal
 
 concat-take-suc : (parts : List (Bor (List ℕ))) (i : ℕ) (d : Bor (List ℕ)) → i < length parts

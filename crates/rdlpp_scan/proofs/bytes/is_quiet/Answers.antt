@@ -1,7 +1,7 @@
 use Rattle.std.proofs.Common.{refl, arith}
 use Rattle.rdlpp_scan.specs.declared.bytes.TheConstants.{CLASSES}
 use Rattle.rdlpp_scan.specs.Bytes.{is_quiet, is_letter, is_digit, takes_word}
-use Rattle.rdlpp_scan.proofs.Classes.{agree_below, told}
+use Rattle.rdlpp_scan.proofs.TokenLens.{agree_below, told}
 use Rattle.rdlpp_scan.proofs.bytes.is_quiet.Goals as goal
 
 pub returns : goal.returns

@@ -1,7 +1,7 @@
 use Rattle.std.proofs.Common.{refl, arith}
 use Rattle.rdlpp_scan.specs.declared.bytes.TheConstants.{CLASSES}
 use Rattle.rdlpp_scan.specs.Bytes.{is_word, is_letter, is_digit}
-use Rattle.rdlpp_scan.proofs.Classes.{agree_below, told}
+use Rattle.rdlpp_scan.proofs.TokenLens.{agree_below, told}
 use Rattle.rdlpp_scan.proofs.bytes.is_word.Goals as goal
 
 pub returns : goal.returns

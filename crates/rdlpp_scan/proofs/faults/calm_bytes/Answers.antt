@@ -1,7 +1,7 @@
 use Rattle.std.proofs.Common.{◌∙◌}
 use Rattle.memchr.specs.Find.{is_byte3}
 use Rattle.rdlpp_scan.specs.LexFaults.{is_calm}
-use Rattle.rdlpp_scan.proofs.Searches.{prefix_len-search}
+use Rattle.rdlpp_scan.proofs.TokenLens.{prefix_len-search}
 use Rattle.rdlpp_scan.proofs.faults.calm_bytes.Goals as goal
 
 pub returns-clause-value : goal.returns-clause-value

@@ -1,12 +1,11 @@
-use Rattle.std.proofs.Common.{◌≡◌, ◌-◌, ℕ, List, Bool, true, false, length, drop, take, ◌+◌, sym, ap, ◌∙◌, subst, arith}
-use Rattle.std.proofs.lemmas.List.{drop-drop, length-drop, length-take}
+use Rattle.std.proofs.Common.{◌≡◌, ◌-◌, ℕ, List, Bool, true, false, length, drop, take, ◌+◌, sym, ap, ◌∙◌, subst, arith, drop-drop, length-drop, length-take}
 use Rattle.std.proofs.lemmas.Slice.{between_to_end}
 use Rattle.rdlpp_scan.specs.declared.token.Mode.{Mode}
 use Rattle.rdlpp_scan.specs.declared.token.Token.{Token}
 use Rattle.rdlpp_scan.specs.Tokens.{token_of, tokens_from}
 use Rattle.rdlpp_scan.specs.declared.token.Mode.TheVariants.{Plain}
 use Rattle.rdlpp_scan.specs.LexFaults.{calm_len, lex_fault_from, fault_of_tokens, is_perl}
-use Rattle.rdlpp_scan.proofs.CalmFaults.{calm_passed}
+use Rattle.rdlpp_scan.proofs.StopKinds.{calm_passed}
 use Rattle.rdlpp_scan.proofs.TokenLens.{fault-perl, fault-next, fault-end}
 use Rattle.rdlpp_scan.proofs.faults.lex_fault.Goals as goal
 

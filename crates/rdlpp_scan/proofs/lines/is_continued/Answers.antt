@@ -1,4 +1,4 @@
-use Rattle.rdlpp_scan.proofs.LineLaws.{ends_continued-back}
+use Rattle.rdlpp_scan.proofs.SourceLaws.{ends_continued-back}
 use Rattle.rdlpp_scan.proofs.lines.is_continued.Goals as goal
 
 pub returns : goal.returns

@@ -1,5 +1,5 @@
 use Rattle.std.proofs.Common.{sym, arith}
-use Rattle.rdlpp_scan.proofs.Searches.{whole_lines_len-none, whole_lines_len-some}
+use Rattle.rdlpp_scan.proofs.TokenLens.{whole_lines_len-none, whole_lines_len-some}
 use Rattle.rdlpp_scan.proofs.lines.last_line_end.Goals as goal
 
 pub returns-in-Some : goal.returns-in-Some

@@ -1,6 +1,5 @@
-use Rattle.std.proofs.Common.{◌≡◌, ◌∙◌, ap, length, arith}
-use Rattle.std.specs.Option.{unwrap_or}
-use Rattle.rdlpp_scan.proofs.LineLaws.{line_len-ended, line_len-le}
+use Rattle.std.proofs.Common.{◌≡◌, ◌∙◌, ap, length, arith, unwrap_or}
+use Rattle.rdlpp_scan.proofs.SourceLaws.{line_len-ended, line_len-le}
 use Rattle.rdlpp_scan.specs.SourceTokens.{line_len}
 use Rattle.rdlpp_scan.proofs.lines.line_len.Goals as goal
 

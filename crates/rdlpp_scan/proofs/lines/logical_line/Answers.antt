@@ -1,9 +1,8 @@
-use Rattle.std.proofs.Common.{◌≡◌, ◌-◌, ◌+◌, ℕ, List, Option, Some, None, Bool, sym, subst, length, take, drop, arith}
+use Rattle.std.proofs.Common.{◌≡◌, ◌-◌, ◌+◌, ℕ, List, Option, Some, None, Bool, sym, subst, length, take, drop, arith, length-drop}
 use Rattle.std.proofs.lemmas.Slice.{between_to_end}
-use Rattle.std.proofs.lemmas.List.{length-drop}
 use Rattle.memchr.specs.Find.{IsFirstByte, is_byte}
 use Rattle.rdlpp_scan.specs.Lines.{ends_continued}
-use Rattle.rdlpp_scan.proofs.LineLaws.{logical_len-goes_on, logical_len-ends, logical_len-no_end}
+use Rattle.rdlpp_scan.proofs.SourceLaws.{logical_len-goes_on, logical_len-ends, logical_len-no_end}
 use Rattle.rdlpp_scan.proofs.lines.logical_line.Goals as goal
 
 found : (bs : List ℕ) (at : ℕ) (r : Option ℕ) → IsFirstByte (is_byte 10) (take (length bs - at) (drop at bs)) r → IsFirstByte (is_byte 10) (drop at bs) r

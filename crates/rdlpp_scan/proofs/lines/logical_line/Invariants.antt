@@ -1,5 +1,4 @@
-use Rattle.std.proofs.Common.{◌≡◌, ◌+◌, ◌-◌, ◌≤◌, length, drop}
-use Rattle.std.specs.Option.{option_map}
+use Rattle.std.proofs.Common.{◌≡◌, ◌+◌, ◌-◌, ◌≤◌, length, drop, option_map}
 use Rattle.rdlpp_scan.specs.SourceTokens.{logical_len}
 use Rattle.rdlpp_scan.proofs.lines.logical_line.Given as goal
 

@@ -1,6 +1,5 @@
-use Rattle.std.proofs.Common.{Some, suc, ap, sym, ◌∙◌, arith}
-use Rattle.std.specs.Option.{option_map}
-use Rattle.rdlpp_scan.proofs.Searches.{ended_line_len-search}
+use Rattle.std.proofs.Common.{Some, suc, ap, sym, ◌∙◌, arith, option_map}
+use Rattle.rdlpp_scan.proofs.TokenLens.{ended_line_len-search}
 use Rattle.rdlpp_scan.proofs.lines.rest_of_line.Goals as goal
 
 pub returns-in_err-memchr : goal.returns-in_err-memchr

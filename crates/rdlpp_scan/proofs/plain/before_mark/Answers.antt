@@ -1,5 +1,5 @@
 use Rattle.std.proofs.Common.{rules, ◌+◌, arith}
-use Rattle.rdlpp_scan.proofs.PlainBlocks.{passed_fits, passed_part}
+use Rattle.rdlpp_scan.proofs.OrdinaryLaws.{passed_fits, passed_part}
 use Rattle.rdlpp_scan.proofs.plain.before_mark.Goals as goal
 
 pub overflow_add-result-2 : goal.overflow_add-result-2

@@ -1,5 +1,5 @@
 use Rattle.std.proofs.Common.{rules, ◌+◌, arith}
-use Rattle.rdlpp_scan.proofs.PlainBlocks.{passed_block, passed_fits}
+use Rattle.rdlpp_scan.proofs.OrdinaryLaws.{passed_block, passed_fits}
 use Rattle.rdlpp_scan.proofs.plain.before_marked_block.Goals as goal
 
 pub overflow_add-run-in-loop-run : goal.overflow_add-run-in-loop-run

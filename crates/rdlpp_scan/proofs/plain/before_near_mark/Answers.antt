@@ -1,5 +1,5 @@
 use Rattle.std.proofs.Common.{sym}
-use Rattle.rdlpp_scan.proofs.PlainBlocks.{quiet_byte}
+use Rattle.rdlpp_scan.proofs.OrdinaryLaws.{quiet_byte}
 use Rattle.rdlpp_scan.proofs.plain.before_near_mark.Goals as goal
 
 pub behind_byte-run-requires-clause-goes_on : goal.behind_byte-run-requires-clause-goes_on

@@ -1,6 +1,6 @@
 use Rattle.std.proofs.Common.{rules, ◌+◌, ◌∙◌, ap, arith}
 use Rattle.rdlpp_scan.proofs.SourceLaws.{line_ends-most}
-use Rattle.rdlpp_scan.proofs.Searches.{quiet_through}
+use Rattle.rdlpp_scan.proofs.TokenLens.{quiet_through}
 use Rattle.rdlpp_scan.proofs.plain.behind_byte.Goals as goal
 
 pub overflow_add-result-2 : goal.overflow_add-result-2

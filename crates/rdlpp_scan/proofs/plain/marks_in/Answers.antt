@@ -1,4 +1,4 @@
-use Rattle.rdlpp_scan.proofs.PlainBlocks.{low_inside, marks_mask}
+use Rattle.rdlpp_scan.proofs.OrdinaryLaws.{low_inside, marks_mask}
 use Rattle.rdlpp_scan.proofs.plain.marks_in.Goals as goal
 
 pub swizzle-like : goal.swizzle-like

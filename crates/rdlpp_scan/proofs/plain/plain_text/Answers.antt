@@ -1,8 +1,8 @@
 use Rattle.std.proofs.Common.{◌≡◌, true, length, sym, subst, arith}
 use Rattle.std.proofs.lemmas.Slice.{between_to_end}
 use Rattle.rdlpp_scan.specs.Tokens.{stops_plain_text}
-use Rattle.rdlpp_scan.proofs.Searches.{plain_len-found, plain_len-to_end}
-use Rattle.rdlpp_scan.proofs.PlainBlocks.{passed_none}
+use Rattle.rdlpp_scan.proofs.TokenLens.{plain_len-found, plain_len-to_end}
+use Rattle.rdlpp_scan.proofs.OrdinaryLaws.{passed_none}
 use Rattle.rdlpp_scan.proofs.plain.plain_text.Goals as goal
 
 pub before_mark-run-requires : goal.before_mark-run-requires

@@ -1,4 +1,4 @@
-use Rattle.rdlpp_scan.proofs.PlainBlocks.{first_front, front_len, front_lines}
+use Rattle.rdlpp_scan.proofs.OrdinaryLaws.{first_front, front_len, front_lines}
 use Rattle.rdlpp_scan.proofs.plain.quiet_front.Goals as goal
 
 pub returns-clause-few : goal.returns-clause-few

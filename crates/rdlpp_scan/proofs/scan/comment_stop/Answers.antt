@@ -1,5 +1,5 @@
 use Rattle.std.proofs.Common.{◌∙◌}
-use Rattle.rdlpp_scan.proofs.Searches.{comment_stop-search}
+use Rattle.rdlpp_scan.proofs.TokenLens.{comment_stop-search}
 use Rattle.rdlpp_scan.proofs.scan.comment_stop.Goals as goal
 
 pub returns-clause-value : goal.returns-clause-value

@@ -3,7 +3,7 @@ use Rattle.rdlpp_scan.specs.declared.token.Kind.{Kind}
 use Rattle.rdlpp_scan.specs.declared.token.Token.{Token}
 use Rattle.rdlpp_scan.specs.TokenParts.{stop_of}
 use Rattle.rdlpp_scan.proofs.TokenLens.{token_of-part}
-use Rattle.rdlpp_scan.proofs.TokenParts.{built_token, stop_room}
+use Rattle.rdlpp_scan.proofs.StopKinds.{built_token, stop_room}
 use Rattle.rdlpp_scan.proofs.Seams.{tokens_of_cuts}
 use Rattle.rdlpp_scan.proofs.scan.first_token.Goals as goal
 

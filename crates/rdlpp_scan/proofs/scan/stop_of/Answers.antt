@@ -1,5 +1,5 @@
 use Rattle.std.proofs.Common.{arith, ◌∙◌, sym}
-use Rattle.rdlpp_scan.proofs.TokenParts.{block_room, opened-most}
+use Rattle.rdlpp_scan.proofs.StopKinds.{block_room, opened-most}
 use Rattle.rdlpp_scan.proofs.scan.stop_of.Goals as goal
 
 pub string_stop_from-requires : goal.string_stop_from-requires

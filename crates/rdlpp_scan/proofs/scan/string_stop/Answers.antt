@@ -3,7 +3,7 @@ use Rattle.std.proofs.lemmas.Slice.{between_to_end}
 use Rattle.memchr.specs.Find.{IsFirstByte, is_byte3}
 use Rattle.rdlpp_scan.specs.Bytes.{begins_perl}
 use Rattle.rdlpp_scan.specs.Tokens.{string_stop}
-use Rattle.rdlpp_scan.proofs.Searches.{found-within, found-escape, found-stop, found-other, found-none}
+use Rattle.rdlpp_scan.proofs.TokenLens.{found-within, found-escape, found-stop, found-other, found-none}
 use Rattle.rdlpp_scan.proofs.scan.string_stop.Goals as goal
 
 found : (bs : List ℕ) (at : ℕ) (r : Option ℕ) → IsFirstByte (is_byte3 34 92 60) (take (length bs - at) (drop at bs)) r → IsFirstByte (is_byte3 34 92 60) (drop at bs) r

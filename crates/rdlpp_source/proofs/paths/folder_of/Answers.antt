@@ -1,6 +1,5 @@
-use Rattle.std.proofs.Common.{arith, ◌≡◌, ◌+◌, sym, ◌∙◌, take}
+use Rattle.std.proofs.Common.{arith, ◌≡◌, ◌+◌, sym, ◌∙◌, take, slice_range}
 use Rattle.std.proofs.lemmas.Grind.{common_steps}
-use Rattle.std.specs.Prelude.{slice_range}
 use Rattle.rdlpp_source.proofs.Searches.{folder_of-none, folder_of-at, lacks_slash}
 use Rattle.rdlpp_source.proofs.paths.folder_of.Goals as goal
 

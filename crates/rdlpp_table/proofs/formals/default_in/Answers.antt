@@ -1,5 +1,4 @@
-use Rattle.std.proofs.Common.{◌≡◌, ℕ, List, Option, None, get_or, eqb, true, refl, ap, subst, sym, ◌∙◌, eq-eqb, ne_eqb, false}
-use Rattle.std.specs.Option.{MatchOption}
+use Rattle.std.proofs.Common.{◌≡◌, ℕ, List, Option, None, get_or, eqb, true, refl, ap, subst, sym, ◌∙◌, eq-eqb, ne_eqb, false, MatchOption}
 use Rattle.rdlpp_lines.specs.Continuations.{joined}
 use Rattle.rdlpp_table.specs.Define.{DefaultText}
 use Rattle.rdlpp_table.specs.Formals.{IsDefault}

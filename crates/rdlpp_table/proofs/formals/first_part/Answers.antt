@@ -1,5 +1,5 @@
 use Rattle.std.proofs.Common.{refl}
-use Rattle.rdlpp_table.proofs.Headers.{part_read}
+use Rattle.rdlpp_table.proofs.RoundTrip.{part_read}
 use Rattle.rdlpp_table.proofs.formals.first_part.Goals as goal
 
 pub returns-clause-part : goal.returns-clause-part

@@ -1,5 +1,5 @@
-use Rattle.std.proofs.Common.{◌∙◌, sym, arith, true, false, refl, length}
-use Rattle.std.proofs.lemmas.Bool.{lt-ltb, le-ltb, le-leb, lt-leb}
+use Rattle.std.proofs.Common.{◌∙◌, sym, arith, true, false, refl, length, lt-ltb, le-ltb, le-leb}
+use Rattle.std.proofs.lemmas.Bool.{lt-leb}
 use Rattle.rdlpp_table.proofs.Reading.{fault_by}
 use Rattle.rdlpp_table.proofs.formals.formal_fault.Goals as goal
 

@@ -1,5 +1,4 @@
-use Rattle.std.proofs.Common.{◌≡◌, ℕ, List, get_or, eqb, false, true, ap, sym, ◌∙◌, subst, ne_eqb}
-use Rattle.std.specs.Result.{MatchResult}
+use Rattle.std.proofs.Common.{◌≡◌, ℕ, List, get_or, eqb, false, true, ap, sym, ◌∙◌, subst, ne_eqb, MatchResult}
 use Rattle.rdlpp_lines.specs.Continuations.{joined}
 use Rattle.rdlpp_table.specs.Table.{Formal}
 use Rattle.rdlpp_table.specs.Define.{FormalList, Unlisted, after_space}

@@ -1,5 +1,5 @@
 use Rattle.std.proofs.Common.{◌∙◌, sym, arith}
-use Rattle.rdlpp_table.proofs.Headers.{none_space, skip_space, stop_space}
+use Rattle.rdlpp_table.proofs.RoundTrip.{none_space, skip_space, stop_space}
 use Rattle.rdlpp_table.proofs.header.after_space.Goals as goal
 
 pub returns-then-not-is_space-clause-value : goal.returns-then-not-is_space-clause-value

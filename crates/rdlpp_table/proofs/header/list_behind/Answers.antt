@@ -1,5 +1,5 @@
 use Rattle.std.proofs.Common.{eq-eqb, ne_eqb}
-use Rattle.rdlpp_table.proofs.Headers.{list_follows, no_list, nothing_follows}
+use Rattle.rdlpp_table.proofs.RoundTrip.{list_follows, no_list, nothing_follows}
 use Rattle.rdlpp_table.proofs.header.list_behind.Goals as goal
 
 pub returns-then-b-eq40 : goal.returns-then-b-eq40

@@ -1,5 +1,5 @@
-use Rattle.std.proofs.Common.{◌≤◌, ◌∙◌, length, sym, arith}
-use Rattle.std.proofs.lemmas.List.{get_or-take, get_or_default}
+use Rattle.std.proofs.Common.{◌≤◌, ◌∙◌, length, sym, arith, get_or-take}
+use Rattle.std.proofs.lemmas.List.{get_or_default}
 use Rattle.rdlpp_table.proofs.Indexed.{closed_front}
 use Rattle.rdlpp_table.proofs.Sizes.{count_items}
 use Rattle.rdlpp_table.proofs.index.leave.Goals as goal

@@ -1,5 +1,5 @@
 use Rattle.std.proofs.Common.{refl, sym}
-use Rattle.rdlpp_table.proofs.Keyed.{gapped, placed}
+use Rattle.rdlpp_table.proofs.Indexed.{gapped, placed}
 use Rattle.rdlpp_table.proofs.Orders.{indexed_gap, indexed_place}
 use Rattle.rdlpp_table.proofs.index.place_in.Goals as goal
 

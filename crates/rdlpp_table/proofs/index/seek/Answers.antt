@@ -1,5 +1,5 @@
 use Rattle.std.proofs.Common.{◌<◌, length, arith, refl}
-use Rattle.rdlpp_table.proofs.Keyed.{compared_key, end_of_entry, entry_inside, index_length}
+use Rattle.rdlpp_table.proofs.Indexed.{compared_key, end_of_entry, entry_inside, index_length}
 use Rattle.rdlpp_table.proofs.Orders.{start_seeking, seek_down, seek_found, seek_up}
 use Rattle.rdlpp_table.proofs.Sizes.{no_entry}
 use Rattle.rdlpp_table.proofs.index.seek.Goals as goal

@@ -1,5 +1,4 @@
-use Rattle.std.proofs.Common.{ap, arith, get_or, ℕ, ◌<◌, ◌≡◌}
-use Rattle.std.proofs.lemmas.List.{get_or-take}
+use Rattle.std.proofs.Common.{ap, arith, get_or, ℕ, ◌<◌, ◌≡◌, get_or-take}
 use Rattle.rdlpp_table.proofs.FirstStops.{all_stops, no_stop, stop_next}
 use Rattle.rdlpp_table.proofs.kept.candidate_at.Goals as goal
 

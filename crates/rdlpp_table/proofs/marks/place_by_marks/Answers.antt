@@ -1,5 +1,4 @@
-use Rattle.std.proofs.Common.{◌≤◌, ◌∙◌, List, ℕ, bytes_eq, length, drop, ap, sym, arith, rules, refl}
-use Rattle.std.specs.List.{flat_map}
+use Rattle.std.proofs.Common.{◌≤◌, ◌∙◌, List, ℕ, bytes_eq, length, drop, ap, sym, arith, rules, refl, flat_map}
 use Rattle.std.proofs.lemmas.List.{take_rest}
 use Rattle.rdlpp_table.specs.Table.{formal_bytes}
 use Rattle.rdlpp_table.specs.Store.{formal_read, formals_read}

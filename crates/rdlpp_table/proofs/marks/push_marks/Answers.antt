@@ -1,8 +1,8 @@
-use Rattle.std.proofs.Common.{◌≡◌, ◌∙◌, ◌++◌, List, ℕ, length, ap, sym, refl, arith}
-use Rattle.std.proofs.lemmas.List.{append-nil}
+use Rattle.std.proofs.Common.{◌≡◌, ◌∙◌, ◌++◌, List, ℕ, length, ap, sym, refl, arith, append-nil}
 use Rattle.rdlpp_table.specs.Store.{formals_read}
 use Rattle.rdlpp_table.specs.Table.{Formal}
-use Rattle.rdlpp_table.proofs.Marked.{count_read, marking_at, marking_count, marking_end, marking_more, marking_start, marks_by}
+use Rattle.rdlpp_table.proofs.Marked.{marking_at, marking_count, marking_end, marking_more, marking_start, marks_by}
+use Rattle.rdlpp_table.proofs.RoundTrip.{count_read}
 use Rattle.rdlpp_table.proofs.Sizes.{count_items, length_start_halves}
 use Rattle.rdlpp_table.proofs.marks.push_marks.Goals as goal
 

@@ -1,11 +1,9 @@
-use Rattle.std.proofs.Common.{◌≤◌, ◌-◌, ◌+◌, ◌∙◌, List, ℕ, false, length, drop, replicate, set, true, ap, sym, arith, rules, refl}
-use Rattle.std.specs.List.{flat_map}
-use Rattle.std.proofs.lemmas.List.{length-set, take_rest}
+use Rattle.std.proofs.Common.{◌≤◌, ◌-◌, ◌+◌, ◌∙◌, List, ℕ, false, length, drop, replicate, set, true, ap, sym, arith, rules, refl, flat_map, length-set}
+use Rattle.std.proofs.lemmas.List.{take_rest}
 use Rattle.rdlpp_table.specs.Shapes.{shapes_of}
 use Rattle.rdlpp_table.specs.Table.{formal_bytes}
 use Rattle.rdlpp_table.specs.Store.{formal_read, formals_read}
-use Rattle.rdlpp_table.proofs.Marked.{bytes_from, count_marks, mark_inside}
-use Rattle.rdlpp_table.proofs.Shapes.{told_at, told_more, told_none, told_start}
+use Rattle.rdlpp_table.proofs.Marked.{bytes_from, count_marks, mark_inside, told_at, told_more, told_none, told_start}
 use Rattle.rdlpp_table.proofs.marks.shapes.Goals as goal
 
 pub loop-place-init : goal.loop-place-init

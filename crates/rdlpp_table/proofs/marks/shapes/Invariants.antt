@@ -1,6 +1,5 @@
 -- Those of the formals that are left are told with them.
-use Rattle.std.proofs.Common.{◌≡◌, ◌-◌, drop, false, length, replicate}
-use Rattle.std.specs.List.{flat_map}
+use Rattle.std.proofs.Common.{◌≡◌, ◌-◌, drop, false, length, replicate, flat_map}
 use Rattle.rdlpp_table.specs.Shapes.{shapes_of}
 use Rattle.rdlpp_table.specs.Store.{formals_read}
 use Rattle.rdlpp_table.specs.Table.{formal_bytes}

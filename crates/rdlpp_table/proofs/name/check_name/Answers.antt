@@ -1,5 +1,5 @@
 use Rattle.std.proofs.Common.{sym, ◌∙◌}
-use Rattle.rdlpp_table.proofs.Headers.{empty_name, reserved_name, long_name, good_name}
+use Rattle.rdlpp_table.proofs.RoundTrip.{empty_name, reserved_name, long_name, good_name}
 use Rattle.rdlpp_table.proofs.name.check_name.Goals as goal
 
 pub returns-then-is_empty-clause-value : goal.returns-then-is_empty-clause-value

@@ -1,7 +1,7 @@
 use Rattle.std.proofs.Common.{◌<◌, ◌+◌, length, refl, sym, subst, List, arith}
 use Rattle.rdlpp_table.specs.declared.entry.Entry.{Entry}
 use Rattle.rdlpp_table.specs.Entries.{moved_up, AreLow}
-use Rattle.rdlpp_table.proofs.Moves.{raised_low, raised_list}
+use Rattle.rdlpp_table.proofs.Orders.{raised_low, raised_list}
 use Rattle.rdlpp_table.proofs.Sizes.{count_items}
 use Rattle.rdlpp_table.proofs.removal.cover_entry.Goals as goal
 

@@ -1,8 +1,7 @@
-use Rattle.std.proofs.Common.{◌<◌, ◌≤◌, ◌+◌, length, drop, sym, subst, arith}
-use Rattle.std.proofs.lemmas.List.{length-drop}
+use Rattle.std.proofs.Common.{◌<◌, ◌≤◌, ◌+◌, length, drop, sym, subst, arith, length-drop}
 use Rattle.rdlpp_table.specs.declared.entry.Entry.{Entry}
 use Rattle.rdlpp_table.specs.Entries.{moved_down}
-use Rattle.rdlpp_table.proofs.Moves.{drawn, drawn_more}
+use Rattle.rdlpp_table.proofs.Orders.{drawn, drawn_more}
 use Rattle.rdlpp_table.proofs.Sizes.{no_entry}
 use Rattle.rdlpp_table.proofs.removal.draw_down.Goals as goal
 

@@ -1,8 +1,7 @@
-use Rattle.std.proofs.Common.{◌<◌, ◌+◌, ◌-◌, ◌^◌, length, take, sym, subst, arith}
-use Rattle.std.proofs.lemmas.List.{length-take-le}
+use Rattle.std.proofs.Common.{◌<◌, ◌+◌, ◌-◌, ◌^◌, length, take, sym, subst, arith, length-take-le}
 use Rattle.rdlpp_table.specs.declared.entry.Entry.{Entry}
 use Rattle.rdlpp_table.specs.Entries.{moved_up}
-use Rattle.rdlpp_table.proofs.Moves.{raised, raised_more}
+use Rattle.rdlpp_table.proofs.Orders.{raised, raised_more}
 use Rattle.rdlpp_table.proofs.Sizes.{no_entry}
 use Rattle.rdlpp_table.proofs.removal.draw_up.Goals as goal
 

@@ -1,7 +1,7 @@
 use Rattle.std.proofs.Common.{◌≤◌, length, drop, sym, ap, subst, List, arith}
 use Rattle.rdlpp_table.specs.declared.entry.Entry.{Entry}
 use Rattle.rdlpp_table.specs.Entries.{moved_down, AreBehind}
-use Rattle.rdlpp_table.proofs.Moves.{settled_list}
+use Rattle.rdlpp_table.proofs.Orders.{settled_list}
 use Rattle.rdlpp_table.proofs.Sizes.{count_items}
 use Rattle.rdlpp_table.proofs.Taken.{settled_stored, stored_behind}
 use Rattle.rdlpp_table.proofs.removal.settle.Goals as goal

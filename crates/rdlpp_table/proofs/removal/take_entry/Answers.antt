@@ -1,7 +1,7 @@
 use Rattle.std.proofs.Common.{◌<◌, ◌∙◌, length, drop, ap, sym, subst, List, arith}
 use Rattle.rdlpp_table.specs.declared.entry.Entry.{Entry}
 use Rattle.rdlpp_table.specs.Entries.{moved_down, AreBehind}
-use Rattle.rdlpp_table.proofs.Moves.{behind_removed, tail_of, closed_list}
+use Rattle.rdlpp_table.proofs.Orders.{behind_removed, tail_of, closed_list}
 use Rattle.rdlpp_table.proofs.Sizes.{count_items}
 use Rattle.rdlpp_table.proofs.removal.take_entry.Goals as goal
 

@@ -1,10 +1,8 @@
-use Rattle.std.proofs.Common.{◌≡◌, ◌-◌, ◌∙◌, ℕ, Some, None, ap, arith, drop, get_or, length, map, remove, sym, take}
-use Rattle.std.proofs.lemmas.List.{length-take-le}
+use Rattle.std.proofs.Common.{◌≡◌, ◌-◌, ◌∙◌, ℕ, Some, None, ap, arith, drop, get_or, length, map, remove, sym, take, length-take-le}
 use Rattle.rdlpp_table.specs.Index.{closed}
 use Rattle.rdlpp_table.proofs.Sizes.{count_items, live_count, is_named, stored_slices_within}
 use Rattle.rdlpp_table.proofs.RoundTrip.{stored_without, stored_nowhere}
-use Rattle.rdlpp_table.proofs.Keyed.{entry_inside, gapped, index_front, left_nowhere, left_without, gap_without, marks_nowhere, length_front, marks_without, placed}
-use Rattle.rdlpp_table.proofs.Indexed.{sooner_is, sooner_more}
+use Rattle.rdlpp_table.proofs.Indexed.{entry_inside, gap_without, gapped, index_front, left_nowhere, left_without, length_front, marks_nowhere, marks_without, placed, sooner_is, sooner_more}
 use Rattle.rdlpp_table.proofs.Orders.{indexed_gap, indexed_place}
 use Rattle.rdlpp_table.proofs.removal.take_out_named.Goals as goal
 

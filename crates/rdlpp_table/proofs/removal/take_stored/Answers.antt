@@ -2,7 +2,7 @@ use Rattle.std.proofs.Common.{◌<◌, ◌+◌, ◌∙◌, ◌^◌, length, drop
 use Rattle.rdlpp_table.specs.declared.entry.Entry.{Entry}
 use Rattle.rdlpp_table.specs.Entries.{moved_down, AreBehind}
 use Rattle.rdlpp_table.specs.Store.{macros_in}
-use Rattle.rdlpp_table.proofs.Moves.{live_behind, live_taken}
+use Rattle.rdlpp_table.proofs.Orders.{live_behind, live_taken}
 use Rattle.rdlpp_table.proofs.Sizes.{count_items, length_macros_in, live_count}
 use Rattle.rdlpp_table.proofs.Taken.{bytes_fit, covered_stored, taken_behind, taken_live, taken_low, taken_range, taken_stored}
 use Rattle.rdlpp_table.proofs.removal.take_stored.Goals as goal

@@ -1,5 +1,4 @@
-use Rattle.std.proofs.Common.{◌∙◌, ◌<◌, ap, length, arith, sym}
-use Rattle.std.proofs.lemmas.Bool.{eqb-true}
+use Rattle.std.proofs.Common.{◌∙◌, ◌<◌, ap, length, arith, sym, eqb-true}
 use Rattle.rdlpp_table.specs.Kept.{stop_end}
 use Rattle.rdlpp_table.specs.Store.{formals_read}
 use Rattle.rdlpp_table.proofs.FirstStops.{none_end, token_end, stopping_ended, stopping_found, stopping_more, stopping_quiet, stopping_start}

@@ -2,7 +2,7 @@ use Rattle.std.proofs.Common.{◌∙◌, ◌≡◌, true, false, get_or, sym}
 use Rattle.rdlpp_table.specs.Shapes.{shape}
 use Rattle.rdlpp_table.specs.Store.{formals_read}
 use Rattle.rdlpp_table.proofs.FirstStops.{name_stop, none_stop, some_stop}
-use Rattle.rdlpp_table.proofs.Shapes.{no_shape}
+use Rattle.rdlpp_table.proofs.Marked.{no_shape}
 use Rattle.rdlpp_table.proofs.stop.stop_at.Goals as goal
 
 pub returns-in-Some : goal.returns-in-Some

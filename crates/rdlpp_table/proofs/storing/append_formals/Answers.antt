@@ -1,5 +1,4 @@
-use Rattle.std.proofs.Common.{◌≡◌, ◌<◌, ◌++◌, ◌∙◌, List, unwrap_or, ap, sym, arith, sum_by}
-use Rattle.std.specs.List.{flat_map}
+use Rattle.std.proofs.Common.{◌≡◌, ◌<◌, ◌++◌, ◌∙◌, List, unwrap_or, ap, sym, arith, sum_by, flat_map}
 use Rattle.rdlpp_table.specs.Table.{Formal, formal_bytes, formal_size}
 use Rattle.rdlpp_table.proofs.News.{has_formals, no_formals}
 use Rattle.rdlpp_table.proofs.storing.append_formals.Goals as goal

@@ -1,16 +1,14 @@
-use Rattle.std.proofs.Common.{Option, ◌≡◌, ◌+◌, ◌-◌, ◌∙◌, ◌++◌, drop, take, ◌∷◌, [], ap, arith, length, length-append, unwrap_or, List, ℕ}
-use Rattle.std.specs.List.{flat_map}
+use Rattle.std.proofs.Common.{Option, ◌≡◌, ◌+◌, ◌-◌, ◌∙◌, ◌++◌, drop, take, ◌∷◌, [], ap, arith, length, length-append, unwrap_or, List, ℕ, flat_map, length-drop}
 use Rattle.rdlpp_lines.specs.Texts.{start_level}
 use Rattle.rdlpp_table.specs.Table.{Formal, formal_bytes}
 use Rattle.rdlpp_table.proofs.Sizes.{count_items, few_marks, length_list_bytes, live_count}
 use Rattle.rdlpp_table.specs.declared.entry.Entry.{Entry}
-use Rattle.rdlpp_table.specs.New.{list_formals, new_macro}
-use Rattle.std.proofs.lemmas.List.{drop-append-le, length-drop, take-append-le}
+use Rattle.rdlpp_table.specs.New.{list_formals, new_macro, stops_told}
+use Rattle.std.proofs.lemmas.List.{drop-append-le, take-append-le}
 use Rattle.rdlpp_table.specs.Marks.{marks_of, table_marks}
 use Rattle.rdlpp_table.specs.Store.{macros_in}
 use Rattle.rdlpp_table.proofs.RoundTrip.{put_marks, put_stored, stored_length}
 use Rattle.rdlpp_table.proofs.News.{appended_between, appended_few, appended_last, appended_listed, appended_marks, body_is, new_bytes, new_stops, new_entry, new_plain}
-use Rattle.rdlpp_table.specs.New.{stops_told}
 use Rattle.rdlpp_table.proofs.storing.put.Goals as goal
 
 pub append_trimmed-requires-clause-len : goal.append_trimmed-requires-clause-len

@@ -1,14 +1,12 @@
-use Rattle.std.proofs.Common.{refl, ◌≡◌, ◌+◌, ◌-◌, ◌≤◌, ◌++◌, ◌∷◌, ◌∙◌, [], List, ap, drop, insert, length, subst, sym, take, arith, ℕ}
-use Rattle.std.proofs.lemmas.List.{length-drop, length-take-le}
+use Rattle.std.proofs.Common.{refl, ◌≡◌, ◌+◌, ◌-◌, ◌≤◌, ◌++◌, ◌∷◌, ◌∙◌, [], List, ap, drop, insert, length, subst, sym, take, arith, ℕ, length-drop, length-take-le}
 use Rattle.rdlpp_table.specs.Marks.{table_marks}
 use Rattle.rdlpp_table.specs.Table.{Macro, table_size, without}
 use Rattle.rdlpp_table.specs.New.{new_macro}
 use Rattle.rdlpp_table.specs.Store.{IsStored, macros_in}
-use Rattle.rdlpp_table.proofs.Indexed.{entered_front, few_starts, later_is}
+use Rattle.rdlpp_table.proofs.Indexed.{entered_front, entered_with, few_left, few_starts, index_front, indexed_after, later_is}
 use Rattle.rdlpp_table.proofs.Sizes.{count_items, few_marks, length_macros_in, live_count}
 use Rattle.rdlpp_table.proofs.RoundTrip.{read_back, stored_again, stored_count}
 use Rattle.rdlpp_table.proofs.Orders.{count_names}
-use Rattle.rdlpp_table.proofs.Keyed.{entered_with, few_left, index_front, indexed_after}
 use Rattle.rdlpp_table.proofs.storing.replace.Goals as goal
 
 pub enter-requires-clause-gap : goal.enter-requires-clause-gap

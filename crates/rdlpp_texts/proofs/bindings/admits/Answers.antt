@@ -1,10 +1,8 @@
-use Rattle.std.proofs.Common.{◌≡◌, ap, ◌∙◌, ◌&&◌, not, sym, subst, drop, length, List, ℕ, arith, Bool, false, refl}
-use Rattle.std.specs.Prelude.{◌==◌, nat_lt}
-use Rattle.std.proofs.lemmas.Bool.{ne_eqb}
+use Rattle.std.proofs.Common.{◌≡◌, ap, ◌∙◌, ◌&&◌, not, sym, subst, drop, length, List, ℕ, arith, Bool, false, refl, ◌==◌, nat_lt, ne_eqb}
 use Rattle.std.proofs.lemmas.Slice.{between_to_end}
 use Rattle.rdlpp_meaning.specs.Actuals.{trimmed, token_role}
 use Rattle.rdlpp_texts.specs.CallParts.{parts_in, IsNextPart}
-use Rattle.rdlpp_texts.proofs.PartCounts.{count_none, count_some}
+use Rattle.rdlpp_texts.proofs.BoundParts.{count_none, count_some}
 use Rattle.rdlpp_texts.proofs.bindings.admits.Goals as goal
 
 pub returns-then-formals-gt0 : goal.returns-then-formals-gt0

@@ -1,7 +1,7 @@
 use Rattle.std.proofs.Common.{◌≡◌, ◌<◌, ◌∙◌, sym, arith, length, true, true≢false}
 use Rattle.rdlpp_table.proofs.Sizes.{count_items}
 use Rattle.rdlpp_texts.specs.BoundCalls.{IsBound, added}
-use Rattle.rdlpp_texts.proofs.Binding.{taken-back}
+use Rattle.rdlpp_texts.proofs.Stacking.{taken-back}
 use Rattle.rdlpp_texts.proofs.BoundParts.{bound_to, within_wider}
 use Rattle.rdlpp_texts.proofs.bindings.bind.Goals as goal
 use Rattle.rdlpp_texts.proofs.bindings.bind.Goals.{else-closes-via-then-closes+else-pushed-text, else-closes-via-else-closes}

@@ -1,9 +1,7 @@
-use Rattle.std.proofs.Common.{◌+◌, arith, length, subst, sym, take, true, ◌∙◌}
-use Rattle.std.proofs.lemmas.List.{length-take}
+use Rattle.std.proofs.Common.{◌+◌, arith, length, subst, sym, take, true, ◌∙◌, length-take}
 use Rattle.rdlpp_texts.specs.BoundCalls.{added, IsBound}
 use Rattle.rdlpp_texts.specs.declared.bindings.Bound.{Bound}
-use Rattle.rdlpp_texts.proofs.BoundActuals.{IsOpenedAt, bound, bound_place, miscounted, missing, unclosed}
-use Rattle.rdlpp_texts.proofs.BoundParts.{within_wider}
+use Rattle.rdlpp_texts.proofs.BoundParts.{IsOpenedAt, bound, bound_place, miscounted, missing, unclosed, within_wider}
 use Rattle.rdlpp_texts.proofs.bindings.bind_call.Goals as goal
 
 pub returns-in_default-clause-call : goal.returns-in_default-clause-call

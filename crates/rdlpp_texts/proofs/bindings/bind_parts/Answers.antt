@@ -2,7 +2,7 @@ use Rattle.std.proofs.Common.{◌∙◌, ap, false, refl, subst, sym}
 use Rattle.rdlpp_meaning.specs.Expansion.{bound_parts, is_count}
 use Rattle.rdlpp_texts.specs.BoundCalls.{IsBound}
 use Rattle.rdlpp_texts.specs.declared.bindings.Bound.{Bound}
-use Rattle.rdlpp_texts.proofs.BoundActuals.{kept_actuals, kept_refused}
+use Rattle.rdlpp_texts.proofs.BoundParts.{kept_actuals, kept_refused}
 use Rattle.rdlpp_texts.proofs.bindings.bind_parts.Goals as goal
 
 pub returns-in-To-clause-actuals : goal.returns-in-To-clause-actuals

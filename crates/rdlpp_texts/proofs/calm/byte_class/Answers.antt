@@ -1,6 +1,5 @@
-use Rattle.std.proofs.Common.{◌∙◌, ap, arith, Bool, sym}
-use Rattle.std.specs.Prelude.{if◌then◌else◌}
-use Rattle.rdlpp_texts.proofs.CalmBytes.{blank_class, comma_class, control_class, high_class, mark_class}
+use Rattle.std.proofs.Common.{◌∙◌, ap, arith, Bool, sym, if◌then◌else◌}
+use Rattle.rdlpp_texts.proofs.CalmRuns.{blank_class, comma_class, control_class, high_class, mark_class}
 use Rattle.rdlpp_texts.specs.declared.calm.ByteClass.TheVariants.{White, Calm}
 use Rattle.rdlpp_texts.proofs.calm.byte_class.Goals as goal
 

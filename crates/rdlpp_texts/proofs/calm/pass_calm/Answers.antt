@@ -1,5 +1,5 @@
 use Rattle.std.proofs.Common.{refl, arith}
-use Rattle.rdlpp_texts.proofs.CalmBytes.{other_dark}
+use Rattle.rdlpp_texts.proofs.CalmRuns.{other_dark}
 use Rattle.rdlpp_texts.proofs.calm.pass_calm.Goals as goal
 
 pub returns-in_default : goal.returns-in_default

@@ -1,6 +1,5 @@
 use Rattle.std.proofs.Common.{◌∙◌, sym, arith}
-use Rattle.rdlpp_texts.proofs.CalmBytes.{end_dark, mark_dark}
-use Rattle.rdlpp_texts.proofs.CalmRuns.{calm_passed, white_passed}
+use Rattle.rdlpp_texts.proofs.CalmRuns.{calm_passed, end_dark, mark_dark, white_passed}
 use Rattle.rdlpp_texts.proofs.calm.pass_plain.Goals as goal
 
 pub loop-at-preserved-in-White : goal.loop-at-preserved-in-White

@@ -1,5 +1,5 @@
 use Rattle.rdlpp_texts.specs.Places.{texts_of}
-use Rattle.rdlpp_texts.proofs.Looking.{look-is, look-known}
+use Rattle.rdlpp_texts.proofs.Usages.{look-is, look-known}
 use Rattle.std.proofs.Common.{refl}
 use Rattle.rdlpp_texts.proofs.front.look_at.Goals as goal
 

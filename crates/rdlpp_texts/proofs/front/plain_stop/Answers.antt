@@ -1,5 +1,4 @@
-use Rattle.std.proofs.Common.{◌∙◌, arith, sym}
-use Rattle.std.proofs.lemmas.Bool.{eqb-true}
+use Rattle.std.proofs.Common.{◌∙◌, arith, sym, eqb-true}
 use Rattle.std.proofs.lemmas.List.{nil_from_length}
 use Rattle.rdlpp_texts.specs.Fronts.{IsFront}
 use Rattle.rdlpp_texts.proofs.Stopping.{front-plain}

@@ -1,9 +1,9 @@
 use Rattle.std.proofs.Common.{◌+◌, cond, drop, sym, ap, ◌∙◌, arith, false}
 use Rattle.rdlpp_meaning.specs.TextTokens.{text_tokens}
-use Rattle.rdlpp_meaning.proofs.TextRanges.{body_text}
+use Rattle.rdlpp_meaning.proofs.KeptTexts.{body_text}
 use Rattle.rdlpp_texts.specs.KeptTexts.{keeps_each}
-use Rattle.rdlpp_texts.proofs.KeptTexts.{kept_comment, kept_other, kept_turn}
-use Rattle.rdlpp_texts.proofs.Searches.{token_at, token_inside, none_left}
+use Rattle.rdlpp_texts.proofs.Calling.{kept_comment, kept_other, kept_turn}
+use Rattle.rdlpp_texts.proofs.QuickTokens.{token_at, token_inside, none_left}
 use Rattle.rdlpp_texts.proofs.kept.keeps_each_token.Goals as goal
 
 pub loop-at-init : goal.loop-at-init

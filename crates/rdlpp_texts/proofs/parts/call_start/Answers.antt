@@ -1,5 +1,5 @@
 use Rattle.std.proofs.Common.{sym, ◌∙◌}
-use Rattle.rdlpp_texts.proofs.FirstOpeners.{opener_first}
+use Rattle.rdlpp_texts.proofs.CallLaws.{opener_first}
 use Rattle.rdlpp_texts.proofs.parts.call_start.Goals as goal
 
 pub returns-then-byte_at-eq40-clause-value : goal.returns-then-byte_at-eq40-clause-value

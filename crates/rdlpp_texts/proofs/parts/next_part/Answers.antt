@@ -2,7 +2,7 @@ use Rattle.std.proofs.Common.{◌≡◌, ℕ, drop, subst}
 use Rattle.rdlpp_meaning.specs.Substitution.{body_tokens}
 use Rattle.rdlpp_texts.specs.CallParts.{part_from}
 use Rattle.rdlpp_texts.proofs.PartLaws.{next_part_is}
-use Rattle.rdlpp_texts.proofs.WhiteSpace.{white_is}
+use Rattle.rdlpp_texts.proofs.QuickTokens.{white_is}
 use Rattle.rdlpp_texts.proofs.parts.next_part.Goals as goal
 
 pub returns-clause-value : goal.returns-clause-value

@@ -1,5 +1,5 @@
 use Rattle.std.proofs.Common.{◌∙◌, sym}
-use Rattle.rdlpp_texts.proofs.WordParts.{word_at, comma_part, closed_part}
+use Rattle.rdlpp_texts.proofs.QuickTokens.{word_at, comma_part, closed_part}
 use Rattle.rdlpp_texts.proofs.parts.part_at.Goals as goal
 
 pub returns-then-next-eq44 : goal.returns-then-next-eq44

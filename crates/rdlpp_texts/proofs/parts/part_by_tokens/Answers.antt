@@ -1,14 +1,12 @@
-use Rattle.std.proofs.Common.{◌≡◌, ℕ, ◌+◌, false, cond, drop, sym, ap, ◌∙◌, arith}
-use Rattle.std.proofs.lemmas.List.{length-drop}
+use Rattle.std.proofs.Common.{◌≡◌, ℕ, ◌+◌, false, cond, drop, sym, ap, ◌∙◌, arith, length-drop}
 use Rattle.rdlpp_meaning.specs.Actuals.{level_behind, is_space}
 use Rattle.rdlpp_meaning.specs.TextTokens.{text_tokens}
-use Rattle.rdlpp_meaning.proofs.TextRanges.{body_text}
+use Rattle.rdlpp_meaning.proofs.KeptTexts.{body_text}
 use Rattle.rdlpp_texts.specs.CallParts.{ends_part, part_from}
 use Rattle.rdlpp_texts.specs.CallTokens.{role_meant}
 use Rattle.rdlpp_texts.specs.declared.parts.Part.{Part}
 use Rattle.rdlpp_texts.specs.declared.parts.PartEnd.TheVariants.{Comma, Last}
-use Rattle.rdlpp_texts.proofs.DarkTokens.{dark_token}
-use Rattle.rdlpp_texts.proofs.Searches.{token_at, token_inside, part_turn, level_low, none_left}
+use Rattle.rdlpp_texts.proofs.QuickTokens.{dark_token, level_low, none_left, part_turn, token_at, token_inside}
 use Rattle.rdlpp_texts.proofs.parts.part_by_tokens.Goals as goal
 
 pub loop-passed-init : goal.loop-passed-init

@@ -1,10 +1,10 @@
 use Rattle.std.proofs.Common.{◌+◌, drop, sym, ap, ◌∙◌, arith}
 use Rattle.rdlpp_meaning.specs.TextTokens.{text_tokens}
-use Rattle.rdlpp_meaning.proofs.TextRanges.{body_text}
+use Rattle.rdlpp_meaning.proofs.KeptTexts.{body_text}
 use Rattle.rdlpp_texts.specs.CallParts.{opener_by, opener_from}
 use Rattle.rdlpp_texts.specs.CallTokens.{role_meant}
 use Rattle.rdlpp_texts.specs.declared.tokens.CallRole.{CallRole}
-use Rattle.rdlpp_texts.proofs.Searches.{token_at, token_inside, opener_turn, opener_passes, opener_lacks, none_left}
+use Rattle.rdlpp_texts.proofs.QuickTokens.{token_at, token_inside, opener_turn, opener_passes, opener_lacks, none_left}
 use Rattle.rdlpp_texts.proofs.parts.spaced_start.Goals as goal
 
 pub loop-at-init : goal.loop-at-init

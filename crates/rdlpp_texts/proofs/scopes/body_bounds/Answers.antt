@@ -1,5 +1,5 @@
 use Rattle.std.proofs.Common.{arith}
-use Rattle.rdlpp_texts.proofs.Bounding.{within-wider}
+use Rattle.rdlpp_texts.proofs.Stacking.{within-wider}
 use Rattle.rdlpp_texts.proofs.scopes.body_bounds.Goals as goal
 
 pub returns : goal.returns

@@ -1,5 +1,4 @@
-use Rattle.std.proofs.Common.{ap, ℕ, Some, ◌∙◌, sym}
-use Rattle.std.proofs.lemmas.Bool.{eqb-true}
+use Rattle.std.proofs.Common.{ap, ℕ, Some, ◌∙◌, sym, eqb-true}
 use Rattle.rdlpp_texts.proofs.Scoping.{innermost-is, innermost-none}
 use Rattle.rdlpp_texts.proofs.scopes.innermost_place.Goals as goal
 

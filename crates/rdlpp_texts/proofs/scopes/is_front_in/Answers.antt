@@ -1,9 +1,8 @@
-use Rattle.std.proofs.Common.{◌≡◌, ◌-◌, ℕ, [], ap, arith, get_or, length, sym, ◌∙◌}
+use Rattle.std.proofs.Common.{◌≡◌, ◌-◌, ℕ, [], ap, arith, get_or, length, sym, ◌∙◌, ◌==◌}
 use Rattle.std.specs.List.{list_any}
-use Rattle.std.specs.Prelude.{◌==◌}
 use Rattle.rdlpp_texts.specs.Opened.{opens_of}
 use Rattle.rdlpp_texts.specs.Scopes.{writer_ids}
-use Rattle.rdlpp_texts.proofs.Bounding.{bounded-excluded}
+use Rattle.rdlpp_texts.proofs.Stacking.{bounded-excluded}
 use Rattle.rdlpp_texts.proofs.Scoping.{front-within}
 use Rattle.rdlpp_texts.proofs.scopes.is_front_in.Goals as goal
 

@@ -1,5 +1,5 @@
 use Rattle.std.proofs.Common.{◌≤◌, arith, sym, ◌∙◌, []}
-use Rattle.rdlpp_texts.proofs.Bounding.{bounded-excluded}
+use Rattle.rdlpp_texts.proofs.Stacking.{bounded-excluded}
 use Rattle.rdlpp_texts.proofs.Scoping.{written-found, written-further, written-source, written-step}
 use Rattle.rdlpp_texts.proofs.scopes.is_written_in.Goals as goal
 

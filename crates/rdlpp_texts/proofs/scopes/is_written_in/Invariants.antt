@@ -1,6 +1,5 @@
-use Rattle.std.proofs.Common.{◌≤◌, ◌≡◌, length, List}
+use Rattle.std.proofs.Common.{◌≤◌, ◌≡◌, length, List, ◌==◌}
 use Rattle.std.specs.List.{list_any}
-use Rattle.std.specs.Prelude.{◌==◌}
 use Rattle.rdlpp_texts.specs.declared.bindings.Range.{Range}
 use Rattle.rdlpp_texts.specs.Opened.{opens_of}
 use Rattle.rdlpp_texts.specs.Scopes.{writer_ids}

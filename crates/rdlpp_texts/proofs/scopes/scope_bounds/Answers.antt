@@ -1,5 +1,5 @@
 use Rattle.std.proofs.Common.{arith}
-use Rattle.rdlpp_texts.proofs.Bounding.{bounded-at, ids-none, none-within}
+use Rattle.rdlpp_texts.proofs.Stacking.{bounded-at, ids-none, none-within}
 use Rattle.rdlpp_texts.proofs.scopes.scope_bounds.Goals as goal
 
 pub returns-then-scope-eq0 : goal.returns-then-scope-eq0

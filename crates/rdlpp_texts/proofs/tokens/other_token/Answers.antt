@@ -1,4 +1,4 @@
-use Rattle.rdlpp_texts.proofs.FirstTokens.{first_token_is}
+use Rattle.rdlpp_texts.proofs.QuickTokens.{first_token_is}
 use Rattle.rdlpp_texts.proofs.tokens.other_token.Goals as goal
 
 pub returns : goal.returns

@@ -1,6 +1,5 @@
 use Rattle.std.proofs.Common.{ap}
-use Rattle.rdlpp_usages.proofs.UsageOpens.{count_usage}
-use Rattle.rdlpp_usages.proofs.UsageSteps.{alone_called, bindings_called, body_usage}
+use Rattle.rdlpp_usages.proofs.UsageOpens.{alone_called, bindings_called, body_usage, count_usage}
 use Rattle.rdlpp_usages.proofs.expansion.bind_kept.Goals as goal
 
 pub returns-in-Err-clause-fault : goal.returns-in-Err-clause-fault

@@ -2,8 +2,7 @@ use Rattle.std.proofs.Common.{refl}
 use Rattle.rdlpp_read.specs.Files.{inner_buffer}
 use Rattle.rdlpp_usages.specs.declared.reading.CallRead.TheVariants as call
 use Rattle.rdlpp_usages.specs.declared.expansion.Opening.TheVariants.{Refused, Broken, Failed}
-use Rattle.rdlpp_usages.proofs.UsageOpens.{call_breaks, call_lacks, read_usage}
-use Rattle.rdlpp_usages.proofs.UsageSteps.{kept_call, kept_tells, uses_call}
+use Rattle.rdlpp_usages.proofs.UsageOpens.{call_breaks, call_lacks, kept_call, kept_tells, read_usage, uses_call}
 use Rattle.rdlpp_usages.proofs.expansion.open_call.Goals as goal
 
 pub returns-in-Closed-clause-tells : goal.returns-in-Closed-clause-tells

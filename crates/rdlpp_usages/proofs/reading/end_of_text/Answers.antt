@@ -7,7 +7,7 @@ use Rattle.rdlpp_read.specs.Files.{inner_buffer}
 use Rattle.rdlpp_usages.specs.CallReads.{is_read_fault}
 use Rattle.rdlpp_usages.specs.Taking.{stand_meant}
 use Rattle.rdlpp_usages.proofs.CallLoop.{end_comment, end_plain, end_string}
-use Rattle.rdlpp_usages.proofs.Faults.{comment_fault, end_fault, string_fault}
+use Rattle.rdlpp_usages.proofs.Takes.{comment_fault, end_fault, string_fault}
 use Rattle.rdlpp_usages.proofs.reading.end_of_text.Goals as goal
 
 pub returns-in-Plain-clause-text : goal.returns-in-Plain-clause-text

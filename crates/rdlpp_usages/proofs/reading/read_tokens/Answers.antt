@@ -5,11 +5,11 @@ use Rattle.rdlpp_meaning.specs.State.{breach_kind}
 use Rattle.rdlpp_read.specs.Calls.{SourcesRead}
 use Rattle.rdlpp_read.specs.Files.{inner_buffer}
 use Rattle.rdlpp_read.proofs.Growing.{calls-on}
-use Rattle.rdlpp_read.proofs.Sliding.{moves-slid, moves-told}
+use Rattle.rdlpp_read.proofs.BufferTokens.{moves-slid, moves-told}
 use Rattle.rdlpp_usages.specs.CallReads.{is_failed_call}
 use Rattle.rdlpp_usages.specs.Taking.{stand_meant}
 use Rattle.rdlpp_usages.proofs.CallLoop.{answered_failed, answered_token, answered_unfilled, break_tells, end_read, end_tells, filled, less_left, reading_starts, taken}
-use Rattle.rdlpp_usages.proofs.Faults.{line_fault, source_fault}
+use Rattle.rdlpp_usages.proofs.Takes.{line_fault, source_fault}
 use Rattle.rdlpp_usages.proofs.reading.read_tokens.Goals as goal
 
 pub tokens-init : goal.tokens-init

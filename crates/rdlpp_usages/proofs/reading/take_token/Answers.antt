@@ -2,7 +2,7 @@ use Rattle.std.proofs.Common.{ap, ◌∙◌, subst, arith}
 use Rattle.rdlpp_read.specs.Buffer.{EndsHeld, held_of}
 use Rattle.rdlpp_usages.specs.Taking.{stand_meant}
 use Rattle.rdlpp_usages.proofs.CallLoop.{token_closed, token_perl, token_refused, token_used}
-use Rattle.rdlpp_usages.proofs.Faults.{ended_fault, perl_fault}
+use Rattle.rdlpp_usages.proofs.Takes.{ended_fault, perl_fault}
 use Rattle.rdlpp_usages.proofs.reading.take_token.Goals as goal
 
 pub taking_of-requires-clause-level : goal.taking_of-requires-clause-level

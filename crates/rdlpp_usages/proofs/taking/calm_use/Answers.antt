@@ -1,5 +1,4 @@
-use Rattle.std.proofs.Common.{sym, subst}
-use Rattle.std.specs.Prelude.{IfSome}
+use Rattle.std.proofs.Common.{sym, subst, IfSome}
 use Rattle.rdlpp_scan.specs.declared.token.Mode.{Mode}
 use Rattle.rdlpp_usages.specs.Taking.{IsUse, stand_meant}
 use Rattle.rdlpp_usages.specs.declared.taking.Stand.{Stand}

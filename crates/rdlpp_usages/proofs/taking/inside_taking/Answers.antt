@@ -1,7 +1,6 @@
-use Rattle.std.proofs.Common.{sym, ◌∙◌}
-use Rattle.std.specs.Prelude.{nat_le}
+use Rattle.std.proofs.Common.{sym, ◌∙◌, nat_le}
 use Rattle.rdlpp_texts.specs.CallTokens.{role_meant}
-use Rattle.rdlpp_usages.proofs.Turns.{closing, comment_step, kept_at}
+use Rattle.rdlpp_usages.proofs.Takes.{closing, comment_step, kept_at}
 use Rattle.rdlpp_usages.proofs.taking.inside_taking.Goals as goal
 
 pub returns-then-ends_call : goal.returns-then-ends_call

@@ -1,4 +1,4 @@
-use Rattle.rdlpp_usages.proofs.Turns.{keeps_step, passes_room}
+use Rattle.rdlpp_usages.proofs.Takes.{keeps_step, passes_room}
 use Rattle.rdlpp_texts.specs.CallTokens.{role_meant}
 use Rattle.rdlpp_usages.proofs.taking.kept_taking.Goals as goal
 

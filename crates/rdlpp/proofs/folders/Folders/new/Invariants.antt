@@ -1,6 +1,5 @@
 -- The folders so far were kept.
-use Rattle.std.proofs.Common.{◌≡◌, map, take}
-use Rattle.std.specs.String.{string_bytes}
+use Rattle.std.proofs.Common.{◌≡◌, map, take, string_bytes}
 use Rattle.rdlpp.proofs.folders.Folders.new.Given as goal
 
 abbrev pub invariant-loop-folder : goal.invariant-loop-folder

@@ -1,7 +1,6 @@
 -- Each candidate before the one that the search comes to is short.
-use Rattle.std.proofs.Common.{rules, ◌≡◌, ◌+◌, ◌≤◌, suc, false, true, length, map, refl, arith}
+use Rattle.std.proofs.Common.{rules, ◌≡◌, ◌+◌, ◌≤◌, suc, false, true, length, map, refl, arith, string_bytes}
 use Rattle.std.proofs.lemmas.List.{length-map}
-use Rattle.std.specs.String.{string_bytes}
 use Rattle.rdlpp_source.specs.Search.{joined_path}
 use Rattle.rdlpp.specs.Answers.{is_absent}
 use Rattle.rdlpp.specs.Folders.{include_folders, searched_folders}

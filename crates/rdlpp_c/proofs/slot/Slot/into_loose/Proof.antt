@@ -1,5 +1,5 @@
 -- `into_loose` hands on what a slot owns.
-use Rattle.std.proofs.Common.{◌≡◌, List, [], ◌∷◌, ◌++◌, refl, sym, subst}
+use Rattle.std.proofs.Common.{◌≡◌, List, [], ◌∷◌, ◌++◌, refl, sym, subst, Option, is_some, Some}
 use mathlib.Core.Bool.{true}
 use mir.Val.{Val, vptr}
 use base.Logic.{SProp, ent, emp, id⊢, fst∗, never}
@@ -20,9 +20,6 @@ use denote.RawPtr.{Ptr, block_ptr, null_ptr, ptr_val, in_a_block}
 use denote.Steps.{nothing, heard}
 use denote.Triple.Walked.{Stays, stay_dropped, walk_of, Goes-dropped}
 use mir.Raw.{raw as bare}
-use Rattle.std.specs.declared.option.Option.{Option}
-use Rattle.std.specs.Option.{is_some}
-use Rattle.std.specs.declared.option.Option.TheVariants.{Some}
 use Rattle.std.specs.contracts.impls.GlobalAllocator.TheImpl.{ghosts}
 use Rattle.std.proofs.alloc.Global.TheLaws as heap_laws
 use Rattle.std.proofs.raw_atomic.Walks.{proved_at, leaves}

@@ -1,5 +1,5 @@
 use Rattle.std.proofs.Common.{refl}
-use Rattle.rdlpp_c.proofs.Handles.{searches}
+use Rattle.rdlpp_c.proofs.Onces.{searches}
 use Rattle.rdlpp_c.proofs.stream.Stream.search_again.Goals as goal
 
 pub returns : goal.returns

@@ -1,7 +1,6 @@
-use Rattle.std.proofs.Common.{◌≡◌, ap, sym, ◌∙◌}
-use Rattle.std.specs.Option.{is_some}
+use Rattle.std.proofs.Common.{◌≡◌, ap, sym, ◌∙◌, is_some}
 use Rattle.rdlpp_source.specs.declared.asked.AskedTexts.{AskedTexts}
-use Rattle.rdlpp_c.proofs.Handles.{takes_again}
+use Rattle.rdlpp_c.proofs.Onces.{takes_again}
 use Rattle.rdlpp_c.proofs.stream.Stream.take_up.Goals as goal
 
 pub returns-then-is_some : goal.returns-then-is_some

@@ -1,9 +1,8 @@
-use Rattle.std.proofs.Common.{◌≡◌, ◌-◌, ℕ, List, length, Option, ap, ◌∙◌, refl, arith}
+use Rattle.std.proofs.Common.{◌≡◌, ◌-◌, ℕ, List, length, Option, ap, ◌∙◌, refl, arith, set}
 use Rattle.rdlpp_meaning.specs.Meaning.{Progress}
 use Rattle.rdlpp_conditions.specs.Conditions.{ConditionsView, seen_of}
 use Rattle.rdlpp_conditions.specs.Moves.{turned_open, turned_with}
 use Rattle.rdlpp_conditions.proofs.Stacks.{count_seen, turned_seen}
-use Rattle.std.proofs.Math.ListN.{set}
 use Rattle.rdlpp_conditions.proofs.conditions.Conditions.turn.Goals as goal
 
 pub overflow_sub-last : goal.overflow_sub-last

@@ -1,6 +1,6 @@
 use Rattle.std.proofs.Common.{◌≡◌, ◌+◌, ◌*◌, ◌∙◌}
 use Rattle.rdlpp_state.specs.Held.{bound_of}
-use Rattle.rdlpp_state.proofs.Bounds.{slots_fit}
+use Rattle.rdlpp_state.proofs.OpeningFacts.{slots_fit}
 use Rattle.rdlpp_expand.proofs.engine.Engine.capacity.Goals as goal
 
 pub capacity-requires-3 : goal.capacity-requires-3

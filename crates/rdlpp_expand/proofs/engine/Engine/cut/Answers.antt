@@ -2,7 +2,7 @@ use Rattle.std.proofs.Common.{ap, subst}
 use Rattle.rdlpp_state.specs.Pieces.{lent_answer, IsPlaced}
 use Rattle.rdlpp_state.specs.Steps.{WalksOver}
 use Rattle.rdlpp_state.specs.Silences.{most_silent}
-use Rattle.rdlpp_state.proofs.Cuts.{cut_end, cut_kept, cut_owed, cut_source, cut_text, owed_placed, text_cut_placed}
+use Rattle.rdlpp_state.proofs.LentPieces.{cut_end, cut_kept, cut_owed, cut_source, cut_text, owed_placed, text_cut_placed}
 use Rattle.rdlpp_expand.proofs.engine.Engine.cut.Goals as goal
 
 pub returns-in-Source-clause-steps : goal.returns-in-Source-clause-steps

@@ -1,11 +1,11 @@
 use Rattle.std.proofs.Common.{false, true, [], ap, ◌∙◌, refl}
 use Rattle.rdlpp_meaning.specs.declared.fault.FaultKind.TheVariants as fault
 use Rattle.rdlpp_read.specs.Files.{inner_buffer}
-use Rattle.rdlpp_front.proofs.DefineLeft.{define_inside, define_rest_whole}
+use Rattle.rdlpp_front.proofs.TextLeft.{define_inside, define_rest_whole}
 use Rattle.rdlpp_state.proofs.EngineSteps.{called}
 use Rattle.rdlpp_state.proofs.FrontSteps.{IsRead, defined_placed, defined_steps, held_few, fails_reading, left_cut_define, left_long_define, left_unheld, opened_phase, refuses, slid, reading_define}
 use Rattle.rdlpp_expand.proofs.engine.Engine.define_line.Goals as goal
-use Rattle.rdlpp_state.proofs.GoingOn.{own_kind}
+use Rattle.rdlpp_state.proofs.Stores.{own_kind}
 
 pub read_define-requires : goal.read_define-requires
 read_define-requires g c =

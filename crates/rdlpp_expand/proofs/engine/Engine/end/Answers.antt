@@ -4,9 +4,9 @@ use Rattle.rdlpp_scan.specs.declared.token.Mode.TheVariants.{InStr, InBlock}
 use Rattle.rdlpp_meaning.specs.State.{breach_kind}
 use Rattle.rdlpp_read.specs.Files.{inner_buffer}
 use Rattle.rdlpp_state.proofs.Soundness.{inner_facts}
-use Rattle.rdlpp_state.proofs.EndSteps.{stops_open}
+use Rattle.rdlpp_state.proofs.IncludeSteps.{stops_open}
 use Rattle.rdlpp_expand.proofs.engine.Engine.end.Goals as goal
-use Rattle.rdlpp_state.proofs.GoingOn.{own_kind}
+use Rattle.rdlpp_state.proofs.Stores.{own_kind}
 
 pub refuse_at-requires-clause-line : goal.refuse_at-requires-clause-line
 refuse_at-requires-clause-line g c =

@@ -2,8 +2,7 @@ use Rattle.std.proofs.Common.{◌≡◌, Some, None, sym, ap, ◌∙◌, arith}
 use Rattle.rdlpp_conditions.specs.Conditions.{place_of}
 use Rattle.rdlpp_conditions.specs.Moves.{IsUnclosed}
 use Rattle.rdlpp_state.specs.OpenConditionals.{inner_below}
-use Rattle.rdlpp_state.proofs.EndFacts.{ended_alone, leaves_here, stops_unclosed}
-use Rattle.rdlpp_state.proofs.OpenSteps.{inner_most}
+use Rattle.rdlpp_state.proofs.Soundness.{ended_alone, inner_most, leaves_here, stops_unclosed}
 use Rattle.rdlpp_expand.proofs.engine.Engine.end_plain.Goals as goal
 
 pub unclosed-requires : goal.unclosed-requires

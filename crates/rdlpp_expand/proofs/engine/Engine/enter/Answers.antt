@@ -1,7 +1,7 @@
 use Rattle.std.proofs.Common.{◌≡◌, refl, ap, ◌∙◌, arith}
 use Rattle.rdlpp_read.specs.Buffer.{opened_buffer, unused_of}
 use Rattle.rdlpp_read.specs.Files.{inner_buffer}
-use Rattle.rdlpp_state.proofs.EnterSteps.{included_by}
+use Rattle.rdlpp_state.proofs.IncludeSteps.{included_by}
 use Rattle.rdlpp_state.proofs.Soundness.{inner_facts, whole_entered}
 use Rattle.rdlpp_expand.proofs.engine.Engine.enter.Goals as goal
 

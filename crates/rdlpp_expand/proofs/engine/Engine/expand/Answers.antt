@@ -8,7 +8,7 @@ use Rattle.rdlpp_front.proofs.Insides.{usage_inside, usage_word}
 use Rattle.rdlpp_state.proofs.EngineSteps.{not_called}
 use Rattle.rdlpp_state.proofs.FrontSteps.{kept_cut, left_undefined, read_nothing, refuses}
 use Rattle.rdlpp_expand.proofs.engine.Engine.expand.Goals as goal
-use Rattle.rdlpp_state.proofs.GoingOn.{own_kind}
+use Rattle.rdlpp_state.proofs.Stores.{own_kind}
 
 pub name_of-name-requires-clause-some : goal.name_of-name-requires-clause-some
 name_of-name-requires-clause-some g c = (usage_inside _ _ c.requires.some c.requires.usage).0

@@ -1,4 +1,4 @@
-use Rattle.rdlpp_state.proofs.Bounds.{is_bounded}
+use Rattle.rdlpp_state.proofs.OpeningFacts.{is_bounded}
 use Rattle.rdlpp_expand.proofs.engine.Engine.facts.Goals as goal
 
 pub returns : goal.returns

@@ -1,5 +1,5 @@
 use Rattle.std.proofs.Common.{ap, sym, length, ◌∙◌}
-use Rattle.rdlpp_expand.proofs.Retries.{none_held}
+use Rattle.rdlpp_expand.proofs.Readings.{none_held}
 use Rattle.rdlpp_expand.proofs.engine.Engine.front.Goals as goal
 
 pub returns-then-len-eq0 : goal.returns-then-len-eq0

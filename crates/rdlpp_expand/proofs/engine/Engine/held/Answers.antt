@@ -1,8 +1,8 @@
 use Rattle.std.proofs.Common.{◌≡◌, length, sum_by, ◌∙◌, sym}
 use Rattle.rdlpp_read.specs.Files.{held_windows}
-use Rattle.rdlpp_read.proofs.Slots.{held_windows-len}
+use Rattle.rdlpp_read.proofs.BufferTokens.{held_windows-len}
 use Rattle.rdlpp_state.specs.Held.{held_told, stores_of}
-use Rattle.rdlpp_state.proofs.Bounds.{closed_holds, slots_fit}
+use Rattle.rdlpp_state.proofs.OpeningFacts.{closed_holds, slots_fit}
 use Rattle.rdlpp_expand.proofs.engine.Engine.held.Goals as goal
 
 pub held_len-requires : goal.held_len-requires

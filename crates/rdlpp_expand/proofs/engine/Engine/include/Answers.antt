@@ -1,4 +1,4 @@
-use Rattle.rdlpp_state.proofs.EnterSteps.{denied_steps, entered_steps}
+use Rattle.rdlpp_state.proofs.IncludeSteps.{denied_steps, entered_steps}
 use Rattle.rdlpp_expand.proofs.engine.Engine.include.Goals as goal
 
 pub returns-in-Ok-clause-walks : goal.returns-in-Ok-clause-walks

@@ -1,5 +1,5 @@
 use Rattle.std.proofs.Common.{◌-◌, slice_get, sym, ap, ◌∙◌, arith}
-use Rattle.rdlpp_expand.proofs.Includers.{included_line, slot_number}
+use Rattle.rdlpp_expand.proofs.TextFacts.{included_line, slot_number}
 use Rattle.rdlpp_expand.proofs.engine.Engine.including.Goals as goal
 
 pub shown_line-requires : goal.shown_line-requires

@@ -1,7 +1,7 @@
 use Rattle.std.proofs.Common.{◌≡◌, sym, ap, ◌∙◌}
 use Rattle.rdlpp_meaning.specs.State.{shown_line}
 use Rattle.rdlpp_read.specs.Files.{inner_buffer, shift_of}
-use Rattle.rdlpp_state.proofs.PlaceFacts.{first_shift}
+use Rattle.rdlpp_state.proofs.LentPieces.{first_shift}
 use Rattle.rdlpp_expand.proofs.engine.Engine.inner_source.Goals as goal
 
 pub returns-clause-line : goal.returns-clause-line

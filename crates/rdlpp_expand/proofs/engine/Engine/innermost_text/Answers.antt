@@ -1,8 +1,7 @@
-use Rattle.std.proofs.Common.{ap, subst, sym, ◌∙◌}
-use Rattle.std.specs.Prelude.{IfSome}
+use Rattle.std.proofs.Common.{ap, subst, sym, ◌∙◌, IfSome}
 use Rattle.rdlpp_texts.specs.Places.{IsPlaced}
 use Rattle.rdlpp_texts.specs.Scopes.{innermost_place}
-use Rattle.rdlpp_texts.proofs.Looking.{innermost-placed}
+use Rattle.rdlpp_texts.proofs.Usages.{innermost-placed}
 use Rattle.rdlpp_state.specs.Pieces.{held_texts}
 use Rattle.rdlpp_expand.proofs.engine.Engine.innermost_text.Goals as goal
 

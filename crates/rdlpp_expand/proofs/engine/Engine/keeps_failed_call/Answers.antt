@@ -1,7 +1,6 @@
-use Rattle.std.proofs.Common.{ap, sym, ◌∙◌}
-use Rattle.std.specs.Option.{option_map}
+use Rattle.std.proofs.Common.{ap, sym, ◌∙◌, option_map}
 use Rattle.rdlpp_meaning.specs.Outcome.{told}
-use Rattle.rdlpp_expand.proofs.Retries.{failed_by, failed_none}
+use Rattle.rdlpp_expand.proofs.Readings.{failed_by, failed_none}
 use Rattle.rdlpp_expand.proofs.engine.Engine.keeps_failed_call.Goals as goal
 
 pub returns-in-Some : goal.returns-in-Some

@@ -1,5 +1,5 @@
 use Rattle.rdlpp_state.specs.Searches.{is_failed_search}
-use Rattle.rdlpp_expand.proofs.Retries.{both_tests, first_test}
+use Rattle.rdlpp_expand.proofs.Readings.{both_tests, first_test}
 use Rattle.rdlpp_expand.proofs.engine.Engine.keeps_failed_search.Goals as goal
 
 pub returns-then-keeps_failed_call : goal.returns-then-keeps_failed_call

@@ -1,6 +1,6 @@
 use Rattle.std.proofs.Common.{ap, ◌∙◌}
 use Rattle.rdlpp_state.specs.Searches.{is_failed_start, is_over}
-use Rattle.rdlpp_expand.proofs.Retries.{both_tests, first_test}
+use Rattle.rdlpp_expand.proofs.Readings.{both_tests, first_test}
 use Rattle.rdlpp_expand.proofs.engine.Engine.keeps_failed_start.Goals as goal
 
 pub returns-then-keeps_failed_call : goal.returns-then-keeps_failed_call

@@ -1,5 +1,4 @@
-use Rattle.std.proofs.Common.{◌≡◌, Some, ap, ◌∙◌}
-use Rattle.std.specs.Option.{option_map}
+use Rattle.std.proofs.Common.{◌≡◌, Some, ap, ◌∙◌, option_map}
 use Rattle.rdlpp_meaning.specs.Outcome.{told}
 use Rattle.rdlpp_state.proofs.EngineSteps.{write_failed_by}
 use Rattle.rdlpp_expand.proofs.engine.Engine.keeps_write_failure.Goals as goal

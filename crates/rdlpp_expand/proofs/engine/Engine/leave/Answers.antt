@@ -1,8 +1,7 @@
-use Rattle.std.proofs.Common.{◌≡◌, refl, sym, ap, ◌∙◌, arith}
-use Rattle.std.specs.Prelude.{if◌then◌else◌}
+use Rattle.std.proofs.Common.{◌≡◌, refl, sym, ap, ◌∙◌, arith, if◌then◌else◌}
 use Rattle.rdlpp_state.specs.Includes.{left_engine, marks_behind, owed_behind}
 use Rattle.rdlpp_state.specs.Owed.{nothing_owed}
-use Rattle.rdlpp_state.proofs.EndSteps.{around_few, ends_few, line_few, marks_two, owes_behind}
+use Rattle.rdlpp_state.proofs.IncludeSteps.{around_few, ends_few, line_few, marks_two, owes_behind}
 use Rattle.rdlpp_state.proofs.Soundness.{whole_left}
 use Rattle.rdlpp_expand.proofs.engine.Engine.leave.Goals as goal
 use Rattle.rdlpp_expand.proofs.engine.Engine.leave.Goals.{then-file, else-file}

@@ -1,11 +1,10 @@
-use Rattle.std.proofs.Common.{◌≡◌, ◌+◌, length, take, ap, ◌∙◌, refl, arith}
-use Rattle.std.proofs.lemmas.List.{length-take-le}
+use Rattle.std.proofs.Common.{◌≡◌, ◌+◌, length, take, ap, ◌∙◌, refl, arith, length-take-le}
 use Rattle.rdlpp_read.specs.Buffer.{held_of}
 use Rattle.rdlpp_read.specs.Files.{consumed_file, inner_buffer, with_inner}
-use Rattle.rdlpp_read.proofs.Slices.{line_ends_le}
+use Rattle.rdlpp_read.proofs.Growing.{line_ends_le}
 use Rattle.rdlpp_front.proofs.Insides.{text_inside}
 use Rattle.rdlpp_state.specs.Marks.{lends_line}
-use Rattle.rdlpp_state.proofs.PlaceFacts.{marking}
+use Rattle.rdlpp_state.proofs.LentPieces.{marking}
 use Rattle.rdlpp_state.proofs.Soundness.{inner_facts}
 use Rattle.rdlpp_state.proofs.FrontSteps.{entered_at, entered_holds, room_of, take_text, text_placed}
 use Rattle.rdlpp_expand.proofs.engine.Engine.lend_copied.Goals as goal

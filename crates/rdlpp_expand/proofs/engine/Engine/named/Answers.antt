@@ -8,7 +8,7 @@ use Rattle.rdlpp_front.specs.declared.front.Argument.{Argument}
 use Rattle.rdlpp_front.proofs.Insides.{name_word}
 use Rattle.rdlpp_state.specs.Moves.{LooksAtName}
 use Rattle.rdlpp_state.proofs.FrontSteps.{kept_cut}
-use Rattle.rdlpp_state.proofs.GoingOn.{own_kind}
+use Rattle.rdlpp_state.proofs.Stores.{own_kind}
 use Rattle.rdlpp_expand.proofs.engine.Engine.named.Goals as goal
 
 pub word_of-word-requires : goal.word_of-word-requires

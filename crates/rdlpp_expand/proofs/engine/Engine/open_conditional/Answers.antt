@@ -1,5 +1,4 @@
-use Rattle.std.proofs.Common.{◌≡◌, Bool, Some, Ok, ap, subst, ◌∙◌}
-use Rattle.std.specs.Option.{is_some, option_map}
+use Rattle.std.proofs.Common.{◌≡◌, Bool, Some, Ok, ap, subst, ◌∙◌, is_some, option_map}
 use Rattle.rdlpp_table.specs.Table.{macro_named}
 use Rattle.rdlpp_table.specs.View.{macro_at}
 use Rattle.rdlpp_read.specs.Buffer.{held_of}
@@ -7,7 +6,7 @@ use Rattle.rdlpp_read.specs.Files.{inner_buffer}
 use Rattle.rdlpp_front.specs.Fronts.{IsNamed, argument_name}
 use Rattle.rdlpp_state.specs.Conditionals.{OpensOne, opening_word, test_of}
 use Rattle.rdlpp_state.specs.Moves.{LooksAtName}
-use Rattle.rdlpp_state.proofs.BranchSteps.{found_by, opening_named, opening_unnamed}
+use Rattle.rdlpp_state.proofs.DirectiveSteps.{found_by, opening_named, opening_unnamed}
 use Rattle.rdlpp_expand.proofs.engine.Engine.open_conditional.Goals as goal
 
 pub named-requires-clause-given : goal.named-requires-clause-given

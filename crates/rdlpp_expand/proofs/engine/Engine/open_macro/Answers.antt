@@ -1,5 +1,4 @@
-use Rattle.std.proofs.Common.{◌≡◌, ◌<◌, ◌≤◌, ◌^◌, ℕ, ap, ◌∙◌, refl, subst, arith}
-use Rattle.std.specs.Prelude.{if◌then◌else◌}
+use Rattle.std.proofs.Common.{◌≡◌, ◌<◌, ◌≤◌, ◌^◌, ℕ, ap, ◌∙◌, refl, subst, arith, if◌then◌else◌}
 use Rattle.rdlpp_table.specs.View.{macro_at}
 use Rattle.rdlpp_read.specs.Buffer.{unused_of}
 use Rattle.rdlpp_read.specs.Files.{inner_buffer}
@@ -8,7 +7,7 @@ use Rattle.rdlpp_usages.specs.declared.expansion.Opening.{Opening}
 use Rattle.rdlpp_usages.specs.declared.expansion.Opening.TheVariants.{Opened, Refused, Broken, Failed}
 use Rattle.rdlpp_state.proofs.Soundness.{inner_facts, whole_usage}
 use Rattle.rdlpp_state.proofs.Stores.{called_by}
-use Rattle.rdlpp_state.proofs.UsageOpenings.{used_file}
+use Rattle.rdlpp_state.proofs.UsageSteps.{used_file}
 use Rattle.rdlpp_expand.proofs.engine.Engine.open_macro.Goals as goal
 
 pub open_usage-opening-requires-clause-room : goal.open_usage-opening-requires-clause-room

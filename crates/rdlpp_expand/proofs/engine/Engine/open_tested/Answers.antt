@@ -5,9 +5,8 @@ use Rattle.rdlpp_read.specs.Files.{inner_buffer, shift_of}
 use Rattle.rdlpp_state.specs.Conditionals.{goes_past}
 use Rattle.rdlpp_state.specs.OpenConditionals.{inner_shown}
 use Rattle.rdlpp_state.specs.Remaining.{state_of}
-use Rattle.rdlpp_state.proofs.BranchSteps.{opened_by, unopened_by}
-use Rattle.rdlpp_state.proofs.OpenSteps.{conditions_one, one_opens, whole_with}
-use Rattle.rdlpp_state.proofs.Soundness.{inner_facts, inner_number}
+use Rattle.rdlpp_state.proofs.DirectiveSteps.{opened_by, unopened_by}
+use Rattle.rdlpp_state.proofs.Soundness.{conditions_one, inner_facts, inner_number, one_opens, whole_with}
 use Rattle.rdlpp_expand.proofs.engine.Engine.open_tested.Goals as goal
 
 pub shown_line-line-requires : goal.shown_line-line-requires

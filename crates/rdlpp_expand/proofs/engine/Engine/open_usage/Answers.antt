@@ -6,9 +6,9 @@ use Rattle.rdlpp_front.proofs.Insides.{usage_word}
 use Rattle.rdlpp_usages.specs.declared.expansion.Opening.{Opening}
 use Rattle.rdlpp_state.specs.Standing.{OpensUsage}
 use Rattle.rdlpp_state.proofs.FrontSteps.{kept_cut}
-use Rattle.rdlpp_state.proofs.UsageWalks.{breaks_step, fails_step, opens_step, refuses_step}
+use Rattle.rdlpp_state.proofs.UsageSteps.{breaks_step, fails_step, opens_step, refuses_step}
 use Rattle.rdlpp_state.proofs.Soundness.{inner_facts}
-use Rattle.rdlpp_expand.proofs.UsageNames.{used_name}
+use Rattle.rdlpp_expand.proofs.TextFacts.{used_name}
 use Rattle.rdlpp_expand.proofs.engine.Engine.open_usage.Goals as goal
 
 pub returns-in-Opened-clause-walks : goal.returns-in-Opened-clause-walks

@@ -1,7 +1,7 @@
 use Rattle.std.proofs.Common.{◌≡◌, ◌+◌, ap, ◌∙◌, arith}
 use Rattle.rdlpp_state.specs.Owed.{OwedView, nothing_owed}
 use Rattle.rdlpp_state.proofs.FrontSteps.{owing}
-use Rattle.rdlpp_state.proofs.PassSteps.{passes_by}
+use Rattle.rdlpp_state.proofs.DirectiveSteps.{passes_by}
 use Rattle.rdlpp_expand.proofs.engine.Engine.pass_held.Goals as goal
 
 pub owe_line_ends-requires : goal.owe_line_ends-requires

@@ -1,8 +1,7 @@
-use Rattle.std.proofs.Common.{◌≡◌, false, true, sym, ◌∙◌, subst}
-use Rattle.std.specs.Prelude.{is_some}
+use Rattle.std.proofs.Common.{◌≡◌, false, true, sym, ◌∙◌, subst, is_some}
 use Rattle.rdlpp_state.specs.Engine.{is_open}
-use Rattle.rdlpp_state.proofs.PlaceFacts.{nowhere_closed, nowhere_kept}
-use Rattle.rdlpp_expand.proofs.PositionFacts.{position-by, told-some}
+use Rattle.rdlpp_state.proofs.LentPieces.{nowhere_closed, nowhere_kept}
+use Rattle.rdlpp_expand.proofs.TextFacts.{position-by, told-some}
 use Rattle.rdlpp_expand.proofs.engine.Engine.position.Goals as goal
 
 pub returns-then-is_some : goal.returns-then-is_some

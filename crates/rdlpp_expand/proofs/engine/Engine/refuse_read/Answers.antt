@@ -1,7 +1,7 @@
 use Rattle.std.proofs.Common.{◌≡◌, ap, ◌∙◌, refl, arith}
 use Rattle.rdlpp_read.specs.Buffer.{held_of, reading_line_of}
 use Rattle.rdlpp_read.specs.Files.{inner_buffer}
-use Rattle.rdlpp_read.proofs.Slices.{line_ends_le}
+use Rattle.rdlpp_read.proofs.Growing.{line_ends_le}
 use Rattle.rdlpp_state.proofs.Soundness.{inner_facts}
 use Rattle.rdlpp_state.proofs.WorkFacts.{held_room}
 use Rattle.rdlpp_expand.proofs.engine.Engine.refuse_read.Goals as goal

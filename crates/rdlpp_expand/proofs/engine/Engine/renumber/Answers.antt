@@ -1,13 +1,12 @@
-use Rattle.std.proofs.Common.{◌≡◌, ◌+◌, length, take, ap, ◌∙◌, arith}
-use Rattle.std.proofs.lemmas.List.{length-take-le}
+use Rattle.std.proofs.Common.{◌≡◌, ◌+◌, length, take, ap, ◌∙◌, arith, length-take-le}
 use Rattle.rdlpp_scan.specs.SourceTokens.{line_ends}
 use Rattle.rdlpp_read.specs.Buffer.{held_of}
 use Rattle.rdlpp_read.specs.Files.{inner_buffer}
-use Rattle.rdlpp_read.proofs.Slices.{line_ends_le}
+use Rattle.rdlpp_read.proofs.Growing.{line_ends_le}
 use Rattle.rdlpp_state.specs.Owed.{OwedView, nothing_owed, origin_owed}
 use Rattle.rdlpp_state.specs.Marks.{ends_line}
-use Rattle.rdlpp_state.proofs.PlaceFacts.{owing_marked}
-use Rattle.rdlpp_state.proofs.LineSteps.{renumbers_by}
+use Rattle.rdlpp_state.proofs.LentPieces.{owing_marked}
+use Rattle.rdlpp_state.proofs.DirectiveSteps.{renumbers_by}
 use Rattle.rdlpp_expand.proofs.engine.Engine.renumber.Goals as goal
 
 pub consume-requires-clause-lines : goal.consume-requires-clause-lines

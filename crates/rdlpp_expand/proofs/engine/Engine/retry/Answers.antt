@@ -1,6 +1,6 @@
 use Rattle.std.proofs.Common.{refl, sym, ◌∙◌}
 use Rattle.std.proofs.lemmas.Bool.{false≢true}
-use Rattle.rdlpp_expand.proofs.Retries.{retries}
+use Rattle.rdlpp_expand.proofs.Readings.{retries}
 use Rattle.rdlpp_expand.proofs.engine.Engine.retry.Goals as goal
 
 pub returns-then-keeps_failed_search : goal.returns-then-keeps_failed_search

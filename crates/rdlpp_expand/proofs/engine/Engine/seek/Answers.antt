@@ -3,7 +3,7 @@ use Rattle.rdlpp_front.specs.Fronts.{include_name}
 use Rattle.rdlpp_read.specs.Buffer.{held_of}
 use Rattle.rdlpp_read.specs.Files.{inner_buffer}
 use Rattle.rdlpp_state.specs.Includes.{Refuses, inner_path, is_bad_name}
-use Rattle.rdlpp_state.proofs.EnterSteps.{searches_by}
+use Rattle.rdlpp_state.proofs.IncludeSteps.{searches_by}
 use Rattle.rdlpp_expand.proofs.engine.Engine.seek.Goals as goal
 use Rattle.rdlpp_expand.proofs.engine.Engine.seek.Goals.{in-Ok, in-Err}
 

@@ -1,7 +1,7 @@
 use Rattle.std.proofs.Common.{◌≡◌, sym, ap, ◌∙◌, arith}
 use Rattle.rdlpp_meaning.specs.State.{shown_line}
 use Rattle.rdlpp_read.specs.Files.{inner_buffer, shift_of}
-use Rattle.rdlpp_state.proofs.PlaceFacts.{first_name, first_shift}
+use Rattle.rdlpp_state.proofs.LentPieces.{first_name, first_shift}
 use Rattle.rdlpp_state.proofs.Soundness.{inner_facts, inner_number}
 use Rattle.rdlpp_expand.proofs.engine.Engine.shown_place.Goals as goal
 

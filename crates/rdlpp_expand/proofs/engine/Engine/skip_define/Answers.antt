@@ -1,16 +1,15 @@
-use Rattle.std.proofs.Common.{◌≡◌, true, false, length, take, [], sym, ap, ◌∙◌, arith, refl}
-use Rattle.std.proofs.lemmas.List.{length-take-le}
+use Rattle.std.proofs.Common.{◌≡◌, true, false, length, take, [], sym, ap, ◌∙◌, arith, refl, length-take-le}
 use Rattle.rdlpp_scan.specs.SourceTokens.{line_ends}
 use Rattle.rdlpp_meaning.specs.declared.fault.FaultKind.TheVariants as fault
 use Rattle.rdlpp_read.specs.Buffer.{held_of}
 use Rattle.rdlpp_read.specs.Files.{inner_buffer}
-use Rattle.rdlpp_read.proofs.Slices.{line_ends_le}
-use Rattle.rdlpp_front.proofs.DefineLeft.{define_inside}
+use Rattle.rdlpp_read.proofs.Growing.{line_ends_le}
+use Rattle.rdlpp_front.proofs.TextLeft.{define_inside}
 use Rattle.rdlpp_state.proofs.EngineSteps.{called}
 use Rattle.rdlpp_state.proofs.FrontSteps.{IsRead, fails_reading, held_few, left_unheld, opened_phase, refuses, slid, reading_define}
-use Rattle.rdlpp_state.proofs.PassSteps.{define_steps, left_cut, left_long, skipping}
+use Rattle.rdlpp_state.proofs.DirectiveSteps.{define_steps, left_cut, left_long, skipping}
 use Rattle.rdlpp_expand.proofs.engine.Engine.skip_define.Goals as goal
-use Rattle.rdlpp_state.proofs.GoingOn.{own_kind}
+use Rattle.rdlpp_state.proofs.Stores.{own_kind}
 
 pub slice_bounds-line_ends_in-end : goal.slice_bounds-line_ends_in-end
 slice_bounds-line_ends_in-end g c =

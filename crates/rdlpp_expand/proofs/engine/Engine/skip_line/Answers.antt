@@ -1,10 +1,9 @@
-use Rattle.std.proofs.Common.{◌≡◌, take, ap, ◌∙◌, arith}
-use Rattle.std.proofs.lemmas.List.{length-take-le}
+use Rattle.std.proofs.Common.{◌≡◌, take, ap, ◌∙◌, arith, length-take-le}
 use Rattle.rdlpp_scan.specs.SourceTokens.{line_ends, line_len}
 use Rattle.rdlpp_read.specs.Buffer.{held_of}
 use Rattle.rdlpp_read.specs.Files.{inner_buffer}
-use Rattle.rdlpp_read.proofs.Slices.{line_ends_le}
-use Rattle.rdlpp_state.proofs.PassSteps.{line_steps, skipping}
+use Rattle.rdlpp_read.proofs.Growing.{line_ends_le}
+use Rattle.rdlpp_state.proofs.DirectiveSteps.{line_steps, skipping}
 use Rattle.rdlpp_expand.proofs.engine.Engine.skip_line.Goals as goal
 
 pub pass-requires-clause-inside : goal.pass-requires-clause-inside

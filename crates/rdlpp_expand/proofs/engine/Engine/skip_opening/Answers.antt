@@ -4,8 +4,8 @@ use Rattle.rdlpp_read.specs.Buffer.{held_of}
 use Rattle.rdlpp_read.specs.Files.{inner_buffer}
 use Rattle.rdlpp_state.specs.Conditionals.{goes_past, opening_word}
 use Rattle.rdlpp_front.proofs.NamedDirectives.{word_within}
-use Rattle.rdlpp_state.proofs.OpenSteps.{whole_with}
-use Rattle.rdlpp_state.proofs.PassSteps.{counts_one, opening_conditions, opening_steps, skipping, with_conditions}
+use Rattle.rdlpp_state.proofs.Soundness.{whole_with}
+use Rattle.rdlpp_state.proofs.DirectiveSteps.{counts_one, opening_conditions, opening_steps, skipping, with_conditions}
 use Rattle.rdlpp_expand.proofs.engine.Engine.skip_opening.Goals as goal
 
 pub consume-requires-clause-inside : goal.consume-requires-clause-inside

@@ -1,12 +1,11 @@
-use Rattle.std.proofs.Common.{◌≡◌, length, take, sym, ap, ◌∙◌, arith}
-use Rattle.std.proofs.lemmas.List.{length-take-le}
+use Rattle.std.proofs.Common.{◌≡◌, length, take, sym, ap, ◌∙◌, arith, length-take-le}
 use Rattle.rdlpp_scan.specs.SourceTokens.{line_ends}
 use Rattle.rdlpp_read.specs.Buffer.{held_of}
 use Rattle.rdlpp_read.specs.Files.{inner_buffer}
-use Rattle.rdlpp_read.proofs.Slices.{line_ends_le}
+use Rattle.rdlpp_read.proofs.Growing.{line_ends_le}
 use Rattle.rdlpp_front.proofs.Insides.{text_inside}
 use Rattle.rdlpp_state.proofs.FrontSteps.{entered_holds}
-use Rattle.rdlpp_state.proofs.PassSteps.{part_steps, skipping}
+use Rattle.rdlpp_state.proofs.DirectiveSteps.{part_steps, skipping}
 use Rattle.rdlpp_expand.proofs.engine.Engine.skip_part.Goals as goal
 
 pub slice_bounds-line_ends_in-end : goal.slice_bounds-line_ends_in-end

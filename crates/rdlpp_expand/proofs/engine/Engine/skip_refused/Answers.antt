@@ -2,9 +2,9 @@ use Rattle.std.proofs.Common.{[], refl}
 use Rattle.rdlpp_meaning.specs.declared.fault.FaultKind.TheVariants as fault
 use Rattle.rdlpp_state.proofs.EngineSteps.{not_called}
 use Rattle.rdlpp_state.proofs.FrontSteps.{read_nothing, refuses}
-use Rattle.rdlpp_state.proofs.PassSteps.{bare_is, left_perl, perl_is, skipping}
+use Rattle.rdlpp_state.proofs.DirectiveSteps.{bare_is, left_perl, perl_is, skipping}
 use Rattle.rdlpp_expand.proofs.engine.Engine.skip_refused.Goals as goal
-use Rattle.rdlpp_state.proofs.GoingOn.{own_kind}
+use Rattle.rdlpp_state.proofs.Stores.{own_kind}
 
 pub returns-in-EmbeddedPerl-clause-walks : goal.returns-in-EmbeddedPerl-clause-walks
 returns-in-EmbeddedPerl-clause-walks g c = λ bounded.

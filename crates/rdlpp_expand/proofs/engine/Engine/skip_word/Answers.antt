@@ -1,4 +1,4 @@
-use Rattle.rdlpp_state.proofs.PassSteps.{skipped_within, skipping, word_steps}
+use Rattle.rdlpp_state.proofs.DirectiveSteps.{skipped_within, skipping, word_steps}
 use Rattle.rdlpp_expand.proofs.engine.Engine.skip_word.Goals as goal
 
 pub pass-requires-clause-inside : goal.pass-requires-clause-inside

@@ -1,9 +1,8 @@
-use Rattle.std.proofs.Common.{ap, sym, ◌∙◌}
-use Rattle.std.specs.Option.{option_map}
+use Rattle.std.proofs.Common.{ap, sym, ◌∙◌, option_map}
 use Rattle.rdlpp_meaning.specs.Outcome.{told}
 use Rattle.rdlpp_state.specs.Failures.{is_failed_start, is_over}
 use Rattle.rdlpp_state.specs.Opening.{start_fault}
-use Rattle.rdlpp_expand.proofs.Retries.{failed_over, fresh_whole, starts_again, starts_never}
+use Rattle.rdlpp_expand.proofs.Readings.{failed_over, fresh_whole, starts_again, starts_never}
 use Rattle.rdlpp_expand.proofs.engine.Engine.start_again.Goals as goal
 
 pub invariant_of-self : goal.invariant_of-self

@@ -1,10 +1,10 @@
 use Rattle.std.proofs.Common.{false, true, [], inl, arith, refl}
 use Rattle.rdlpp_meaning.specs.declared.fault.FaultKind.TheVariants as fault
 use Rattle.rdlpp_state.proofs.EngineSteps.{called, silent_then, wider}
-use Rattle.rdlpp_state.proofs.EndSteps.{ended_placed, ended_steps}
+use Rattle.rdlpp_state.proofs.IncludeSteps.{ended_placed, ended_steps}
 use Rattle.rdlpp_state.proofs.FrontSteps.{IsRead, fails_reading, left_long_line, left_long_source, left_unfilled, ready_filled, refuses, silent_fill, slid}
 use Rattle.rdlpp_expand.proofs.engine.Engine.step_filled.Goals as goal
-use Rattle.rdlpp_state.proofs.GoingOn.{own_kind}
+use Rattle.rdlpp_state.proofs.Stores.{own_kind}
 
 pub take_held-requires : goal.take_held-requires
 take_held-requires g c =

@@ -1,10 +1,9 @@
-use Rattle.std.proofs.Common.{ap, refl, subst, ◌∙◌, arith}
-use Rattle.std.specs.Prelude.{is_some}
+use Rattle.std.proofs.Common.{ap, refl, subst, ◌∙◌, arith, is_some}
 use Rattle.rdlpp_usages.specs.Usages.{StaysLent, StaysOpen, TakesUsageStep}
 use Rattle.rdlpp_state.specs.declared.place.Place.TheVariants as place
 use Rattle.rdlpp_expand.proofs.TextFacts.{lent-texts, unowed-texts}
-use Rattle.rdlpp_state.proofs.PlaceFacts.{marked_usage}
-use Rattle.rdlpp_state.proofs.TextSteps.{HoldsTexts, fault_text, lend_step, opening, placed_lent, placed_word, refuse_step, turn_step}
+use Rattle.rdlpp_state.proofs.LentPieces.{marked_usage}
+use Rattle.rdlpp_state.proofs.UsageSteps.{HoldsTexts, fault_text, lend_step, opening, placed_lent, placed_word, refuse_step, turn_step}
 use Rattle.rdlpp_expand.proofs.engine.Engine.step_text.Goals as goal
 
 pub refuse_text-kept-requires-clause-placed : goal.refuse_text-kept-requires-clause-placed

@@ -4,8 +4,8 @@ use Rattle.rdlpp_conditions.specs.Moves.{IsBranch}
 use Rattle.rdlpp_conditions.specs.declared.conditions.Branch.TheVariants.{Decided, Inner, Refused}
 use Rattle.rdlpp_state.specs.Conditionals.{goes_past}
 use Rattle.rdlpp_state.specs.OpenConditionals.{inner_below}
-use Rattle.rdlpp_state.proofs.BranchSteps.{decided_steps, inner_steps, meets_here, own_here, refused_steps}
-use Rattle.rdlpp_state.proofs.OpenSteps.{own_open}
+use Rattle.rdlpp_state.proofs.DirectiveSteps.{decided_steps, inner_steps, meets_here, own_here, refused_steps}
+use Rattle.rdlpp_state.proofs.Soundness.{own_open}
 use Rattle.rdlpp_expand.proofs.engine.Engine.take_branch.Goals as goal
 
 pub returns-in_Inner-self-clause-walks : goal.returns-in_Inner-self-clause-walks

@@ -9,8 +9,8 @@ use Rattle.rdlpp_state.specs.Conditionals.{goes_past}
 use Rattle.rdlpp_state.specs.OpenConditionals.{inner_below}
 use Rattle.rdlpp_state.specs.Remaining.{state_of}
 use Rattle.rdlpp_front.proofs.NamedDirectives.{word_within}
-use Rattle.rdlpp_state.proofs.BranchSteps.{end_closes, end_refused, ends_here}
-use Rattle.rdlpp_state.proofs.OpenSteps.{conditions_end, inner_most, whole_with}
+use Rattle.rdlpp_state.proofs.DirectiveSteps.{end_closes, end_refused, ends_here}
+use Rattle.rdlpp_state.proofs.Soundness.{conditions_end, inner_most, whole_with}
 use Rattle.rdlpp_expand.proofs.engine.Engine.take_endif.Goals as goal
 
 pub close-requires : goal.close-requires

@@ -1,10 +1,10 @@
 use Rattle.std.proofs.Common.{[], refl}
 use Rattle.rdlpp_meaning.specs.declared.fault.FaultKind.TheVariants as fault
 use Rattle.rdlpp_state.proofs.EngineSteps.{not_called}
-use Rattle.rdlpp_state.proofs.EnterSteps.{left_nameless_include}
+use Rattle.rdlpp_state.proofs.IncludeSteps.{left_nameless_include}
 use Rattle.rdlpp_state.proofs.FrontSteps.{read_nothing, refuses}
 use Rattle.rdlpp_expand.proofs.engine.Engine.take_include.Goals as goal
-use Rattle.rdlpp_state.proofs.GoingOn.{own_kind}
+use Rattle.rdlpp_state.proofs.Stores.{own_kind}
 
 pub returns-in-None-clause-walks : goal.returns-in-None-clause-walks
 returns-in-None-clause-walks g c = λ bounded.

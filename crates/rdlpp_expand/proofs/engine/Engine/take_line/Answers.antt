@@ -5,13 +5,13 @@ use Rattle.rdlpp_meaning.specs.declared.fault.FaultKind.TheVariants as fault
 use Rattle.rdlpp_read.specs.Arguments.{LineGiven}
 use Rattle.rdlpp_read.specs.Buffer.{held_of}
 use Rattle.rdlpp_read.specs.Files.{inner_buffer}
-use Rattle.rdlpp_front.proofs.DefineLeft.{word_held}
+use Rattle.rdlpp_front.proofs.TextLeft.{word_held}
 use Rattle.rdlpp_state.specs.Lines.{inner_blanks}
 use Rattle.rdlpp_state.proofs.EngineSteps.{not_called}
 use Rattle.rdlpp_state.proofs.FrontSteps.{read_nothing, refuses}
-use Rattle.rdlpp_state.proofs.LineSteps.{held_short, left_bad_line, left_late_line, take_renumbered}
+use Rattle.rdlpp_state.proofs.DirectiveSteps.{held_short, left_bad_line, left_late_line, take_renumbered}
 use Rattle.rdlpp_expand.proofs.engine.Engine.take_line.Goals as goal
-use Rattle.rdlpp_state.proofs.GoingOn.{own_kind}
+use Rattle.rdlpp_state.proofs.Stores.{own_kind}
 
 pub returns-then-not-file-clause-walks : goal.returns-then-not-file-clause-walks
 returns-then-not-file-clause-walks g c = λ bounded.

@@ -1,7 +1,7 @@
 use Rattle.std.proofs.Common.{◌≡◌, length, sym, ap, ◌∙◌, arith}
 use Rattle.rdlpp_read.specs.Files.{inner_buffer}
 use Rattle.rdlpp_state.specs.Remaining.{inner_name}
-use Rattle.rdlpp_state.proofs.PlaceFacts.{takes_marked, untaken}
+use Rattle.rdlpp_state.proofs.LentPieces.{takes_marked, untaken}
 use Rattle.rdlpp_state.proofs.Soundness.{inner_facts}
 use Rattle.rdlpp_expand.proofs.engine.Engine.take_owed.Goals as goal
 

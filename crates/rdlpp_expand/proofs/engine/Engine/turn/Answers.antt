@@ -1,6 +1,6 @@
 use Rattle.std.proofs.Common.{arith}
 use Rattle.rdlpp_state.specs.Conditionals.{goes_past}
-use Rattle.rdlpp_state.proofs.OpenSteps.{conditions_turned, whole_with}
+use Rattle.rdlpp_state.proofs.Soundness.{conditions_turned, whole_with}
 use Rattle.rdlpp_expand.proofs.engine.Engine.turn.Goals as goal
 
 pub turn-requires : goal.turn-requires

@@ -1,5 +1,4 @@
-use Rattle.std.proofs.Common.{◌≡◌, Bool, Some, Ok, refl, ap, subst, ◌∙◌}
-use Rattle.std.specs.Option.{is_some, option_map}
+use Rattle.std.proofs.Common.{◌≡◌, Bool, Some, Ok, refl, ap, subst, ◌∙◌, is_some, option_map}
 use Rattle.rdlpp_table.specs.Table.{macro_named}
 use Rattle.rdlpp_table.specs.View.{macro_at}
 use Rattle.rdlpp_read.specs.Buffer.{held_of}
@@ -10,8 +9,8 @@ use Rattle.rdlpp_conditions.specs.Moves.{turned_with}
 use Rattle.rdlpp_conditions.specs.declared.conditions.Branch.TheVariants.{Named}
 use Rattle.rdlpp_state.specs.Conditionals.{IsGivenBranch, goes_past}
 use Rattle.rdlpp_state.specs.Moves.{LooksAtName}
-use Rattle.rdlpp_state.proofs.BranchSteps.{found_by, given_begins, given_named, own_here, turn_named, turn_unnamed}
-use Rattle.rdlpp_state.proofs.OpenSteps.{own_open}
+use Rattle.rdlpp_state.proofs.DirectiveSteps.{found_by, given_begins, given_named, own_here, turn_named, turn_unnamed}
+use Rattle.rdlpp_state.proofs.Soundness.{own_open}
 use Rattle.rdlpp_expand.proofs.engine.Engine.turn_named.Goals as goal
 
 pub named-requires-clause-given : goal.named-requires-clause-given

@@ -1,6 +1,6 @@
 use Rattle.std.proofs.Common.{◌<◌, inl, length, refl, subst, sym, ◌∙◌, arith}
 use Rattle.rdlpp_state.proofs.EngineSteps.{passes_more, passes_on}
-use Rattle.rdlpp_state.proofs.TextSteps.{some_open}
+use Rattle.rdlpp_state.proofs.UsageSteps.{some_open}
 use Rattle.rdlpp_expand.proofs.TextFacts.{other-leaves}
 use Rattle.rdlpp_expand.proofs.engine.Engine.walk_texts.Goals as goal
 

@@ -1,8 +1,7 @@
-use Rattle.std.proofs.Common.{◌≡◌, ◌-◌, true, length, take, drop, sym, ap, ◌∙◌}
-use Rattle.std.specs.Prelude.{◌==◌}
+use Rattle.std.proofs.Common.{◌≡◌, ◌-◌, true, length, take, drop, sym, ap, ◌∙◌, ◌==◌}
 use Rattle.std.specs.Str.{is_utf8}
 use Rattle.std.proofs.lemmas.Str.{is_utf8-from_IsUtf8}
-use Rattle.rdlpp_state.proofs.EnterSteps.{bad_empty, bad_utf8, good_name, name_taken, not_utf8}
+use Rattle.rdlpp_state.proofs.IncludeSteps.{bad_empty, bad_utf8, good_name, name_taken, not_utf8}
 use Rattle.rdlpp_expand.proofs.engine.include.name_in.Goals as goal
 
 pub returns-then-is_empty-clause-bad : goal.returns-then-is_empty-clause-bad

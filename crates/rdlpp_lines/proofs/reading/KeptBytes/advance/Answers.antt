@@ -1,5 +1,4 @@
-use Rattle.std.proofs.Common.{◌∙◌, sym, refl, arith}
-use Rattle.std.proofs.lemmas.Bool.{eqb-true}
+use Rattle.std.proofs.Common.{◌∙◌, sym, refl, arith, eqb-true}
 use Rattle.rdlpp_lines.specs.Reading.{IsAdvanced}
 use Rattle.rdlpp_lines.proofs.Joins.{none_first}
 use Rattle.rdlpp_lines.proofs.Measures.{fault_end, sound_end, some_from, left_perl, left_stop, left_on}

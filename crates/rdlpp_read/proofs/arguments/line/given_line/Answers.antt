@@ -1,11 +1,11 @@
-use Rattle.std.proofs.Common.{◌≡◌, ◌∙◌, ap, sym, arith, ℕ, ◌<◌, ◌≤◌, List, take, drop}
-use Rattle.std.proofs.lemmas.List.{length-take-le, take_rest}
+use Rattle.std.proofs.Common.{◌≡◌, ◌∙◌, ap, sym, arith, ℕ, ◌<◌, ◌≤◌, List, take, drop, length-take-le}
+use Rattle.std.proofs.lemmas.List.{take_rest}
 use Rattle.std.specs.List.{prefix_len}
 use Rattle.rdlpp_scan.specs.Bytes.{is_digit}
 use Rattle.rdlpp_scan.specs.SourceTokens.{line_len}
-use Rattle.rdlpp_scan.proofs.LineLaws.{line_len-le}
+use Rattle.rdlpp_scan.proofs.SourceLaws.{line_len-le}
 use Rattle.rdlpp_meaning.specs.Meaning.{digits_value, past_blank_bytes, renumbered, renumbered_name}
-use Rattle.rdlpp_read.proofs.LineArguments.{line_numbered, line_rest, line_unnumbered}
+use Rattle.rdlpp_read.proofs.LogicalLines.{line_numbered, line_rest, line_unnumbered}
 use Rattle.rdlpp_read.proofs.arguments.line.given_line.Goals as goal
 
 -- the name behind the number

@@ -1,7 +1,6 @@
-use Rattle.std.proofs.Common.{◌≡◌, suc, drop, get_or, ◌∙◌, sym, arith}
-use Rattle.std.specs.Prelude.{fold}
+use Rattle.std.proofs.Common.{◌≡◌, suc, drop, get_or, ◌∙◌, sym, arith, fold}
 use Rattle.rdlpp_meaning.specs.Meaning.{digits_value}
-use Rattle.rdlpp_read.proofs.LineArguments.{digit_next, digits_at, digits_grow, number_past, with_digit}
+use Rattle.rdlpp_read.proofs.LogicalLines.{digit_next, digits_at, digits_grow, number_past, with_digit}
 use Rattle.rdlpp_read.proofs.arguments.line.line_number.Goals as goal
 
 pub loop-digit-init : goal.loop-digit-init

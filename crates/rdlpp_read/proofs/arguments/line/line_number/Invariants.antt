@@ -1,7 +1,6 @@
-use Rattle.std.proofs.Common.{◌≡◌, ◌≤◌, drop}
-use Rattle.std.specs.Prelude.{fold}
+use Rattle.std.proofs.Common.{◌≡◌, ◌≤◌, drop, fold}
 use Rattle.rdlpp_meaning.specs.Meaning.{digits_value}
-use Rattle.rdlpp_read.proofs.LineArguments.{with_digit}
+use Rattle.rdlpp_read.proofs.LogicalLines.{with_digit}
 use Rattle.rdlpp_read.proofs.arguments.line.line_number.Given as goal
 
 abbrev pub invariant-loop-digit : goal.invariant-loop-digit

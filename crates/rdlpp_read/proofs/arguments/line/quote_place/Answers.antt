@@ -1,6 +1,6 @@
 use Rattle.std.proofs.Common.{◌∙◌, sym, ap, ◌+◌, drop, Bool}
 use Rattle.rdlpp_meaning.specs.Meaning.{quote_place}
-use Rattle.rdlpp_read.proofs.LineArguments.{moved, quote_at, quote_at_other, quote_at_taken, quote_over}
+use Rattle.rdlpp_read.proofs.LogicalLines.{moved, quote_at, quote_at_other, quote_at_taken, quote_over}
 use Rattle.rdlpp_read.proofs.arguments.line.quote_place.Goals as goal
 use Rattle.rdlpp_read.proofs.arguments.line.quote_place.Goals.{then-taken, else-taken+else-byte-eq34}
 

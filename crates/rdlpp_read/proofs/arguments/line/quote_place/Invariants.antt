@@ -1,6 +1,6 @@
 use Rattle.std.proofs.Common.{◌≡◌, false, drop}
 use Rattle.rdlpp_meaning.specs.Meaning.{quote_place}
-use Rattle.rdlpp_read.proofs.LineArguments.{moved}
+use Rattle.rdlpp_read.proofs.LogicalLines.{moved}
 use Rattle.rdlpp_read.proofs.arguments.line.quote_place.Given as goal
 
 abbrev pub invariant-loop-place : goal.invariant-loop-place

@@ -1,15 +1,15 @@
-use Rattle.std.proofs.Common.{◌≡◌, ◌<◌, ℕ, ◌+◌, ◌-◌, Bool, true, false, leb, List, length, take, drop, get_or, ◌≢◌, Some, None, sym, subst, ap, ◌∙◌, arith}
-use Rattle.std.specs.Str.{IsUtf8, is_utf8}
+use Rattle.std.proofs.Common.{◌≡◌, ◌<◌, ℕ, ◌+◌, ◌-◌, Bool, true, false, leb, List, length, take, drop, get_or, ◌≢◌, Some, None, sym, subst, ap, ◌∙◌, arith, IsUtf8, ne_eqb}
+use Rattle.std.specs.Str.{is_utf8}
 use Rattle.std.proofs.lemmas.List.{take_rest}
 use Rattle.rdlpp_meaning.specs.Meaning.{is_level, past_blank_bytes, quote_place}
-use Rattle.rdlpp_read.proofs.LineArguments.{IsQuoted, fails_first, fails_fourth, name_no_text, name_open, name_refused, name_text, no_number, unnamed, unnamed_none}
+use Rattle.rdlpp_read.proofs.LogicalLines.{IsQuoted, fails_first, fails_fourth, name_no_text, name_open, name_refused, name_text, unnamed, unnamed_none}
 use Rattle.rdlpp_read.proofs.arguments.line.shown_name.Goals as goal
 use Rattle.rdlpp_read.proofs.arguments.line.shown_name.Goals.{then-is_empty-via-then-is_empty, then-is_empty-via-else-is_empty+then-bytes-ne34}
 
 pub returns-then-is_empty : goal.returns-then-is_empty
 returns-then-is_empty c = elim c.then-is_empty.branch [
   | then-is_empty-via-then-is_empty w ↦ λ number. unnamed_none number c.args.bytes.now (sym c.is_empty.ensures ∙ w.if-is_empty.true)
-  | then-is_empty-via-else-is_empty+then-bytes-ne34 w ↦ λ number. unnamed number c.args.bytes.now (no_number (get_or c.args.bytes.now 0 0) 34 w.if-bytes-ne34.true)
+  | then-is_empty-via-else-is_empty+then-bytes-ne34 w ↦ λ number. unnamed number c.args.bytes.now (ne_eqb (get_or c.args.bytes.now 0 0) 34 w.if-bytes-ne34.true)
 ]
 
 pub returns-in_err-len : goal.returns-in_err-len

@@ -1,5 +1,4 @@
-use Rattle.std.proofs.Common.{◌-◌, ◌≤◌, take, arith}
-use Rattle.std.proofs.lemmas.List.{length-drop, length-take}
+use Rattle.std.proofs.Common.{◌-◌, ◌≤◌, take, arith, length-drop, length-take}
 use Rattle.rdlpp_read.specs.Buffer.{ahead_of}
 use Rattle.rdlpp_read.proofs.buffer.SourceBuffer.accept_lines.Goals as goal
 

@@ -1,5 +1,5 @@
 use Rattle.rdlpp_read.specs.Buffer.{ahead_of}
-use Rattle.rdlpp_read.proofs.Slices.{ahead_slice}
+use Rattle.rdlpp_read.proofs.Growing.{ahead_slice}
 use Rattle.rdlpp_read.proofs.buffer.SourceBuffer.ahead.Goals as goal
 
 pub returns : goal.returns

@@ -1,5 +1,5 @@
 use Rattle.std.proofs.Common.{◌≡◌, ◌≤◌, ◌-◌, length, take, drop, ap, ◌∙◌, arith, rules}
-use Rattle.rdlpp_read.proofs.Slices.{shifted}
+use Rattle.rdlpp_read.proofs.Growing.{shifted}
 use Rattle.rdlpp_read.proofs.buffer.SourceBuffer.compact.Goals as goal
 
 pub returns-then-at-gt0-clause-becomes : goal.returns-then-at-gt0-clause-becomes

@@ -1,7 +1,7 @@
 use Rattle.std.proofs.Common.{◌-◌, ◌≤◌, arith, refl}
 use Rattle.rdlpp_read.specs.Buffer.{held_of}
 use Rattle.rdlpp_read.proofs.BufferTokens.{consumed_ends}
-use Rattle.rdlpp_read.proofs.Slices.{held_le}
+use Rattle.rdlpp_read.proofs.Growing.{held_le}
 use Rattle.rdlpp_read.proofs.buffer.SourceBuffer.consume.Goals as goal
 
 pub overflow_add-self : goal.overflow_add-self

@@ -1,5 +1,5 @@
 use Rattle.rdlpp_read.specs.Buffer.{held_of}
-use Rattle.rdlpp_read.proofs.Slices.{held_slice}
+use Rattle.rdlpp_read.proofs.Growing.{held_slice}
 use Rattle.rdlpp_read.proofs.buffer.SourceBuffer.held.Goals as goal
 
 pub returns-clause-value : goal.returns-clause-value

@@ -1,7 +1,7 @@
 use Rattle.std.proofs.Common.{◌≤◌, ◌+◌, length, refl, ap, ◌∙◌, arith}
 use Rattle.rdlpp_scan.specs.SourceTokens.{line_ends}
 use Rattle.rdlpp_read.specs.Buffer.{held_of, reading_line_of}
-use Rattle.rdlpp_read.proofs.Slices.{held_le, line_ends_le}
+use Rattle.rdlpp_read.proofs.Growing.{held_le, line_ends_le}
 use Rattle.rdlpp_read.proofs.buffer.SourceBuffer.reading_line.Goals as goal
 
 pub overflow_add-result : goal.overflow_add-result

@@ -1,5 +1,5 @@
 use Rattle.std.proofs.Common.{arith}
-use Rattle.rdlpp_read.proofs.FirstLines.{past-last}
+use Rattle.rdlpp_read.proofs.Growing.{past-last}
 use Rattle.rdlpp_read.proofs.buffer.ahead.last_line.Goals as goal
 
 pub returns-then-bytes-bytes_left : goal.returns-then-bytes-bytes_left

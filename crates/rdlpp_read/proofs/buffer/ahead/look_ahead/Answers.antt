@@ -1,5 +1,5 @@
 use Rattle.std.proofs.Common.{arith}
-use Rattle.rdlpp_read.proofs.WholeLines.{found_behind, none_behind}
+use Rattle.rdlpp_read.proofs.Growing.{found_behind, none_behind}
 use Rattle.rdlpp_read.proofs.buffer.ahead.look_ahead.Goals as goal
 
 pub whole_lines-requires : goal.whole_lines-requires

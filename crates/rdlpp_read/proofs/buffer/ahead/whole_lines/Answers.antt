@@ -1,9 +1,7 @@
-use Rattle.std.proofs.Common.{◌≤◌, take, sym, ◌∙◌, arith, inl}
-use Rattle.std.proofs.lemmas.List.{length-take}
+use Rattle.std.proofs.Common.{◌≤◌, take, sym, ◌∙◌, arith, inl, length-take}
 use Rattle.rdlpp_scan.specs.Lines.{IsWholeLines}
-use Rattle.rdlpp_scan.proofs.LineLaws.{whole_lines_len-le}
-use Rattle.rdlpp_read.proofs.FirstLines.{past-whole}
-use Rattle.rdlpp_read.proofs.WholeLines.{whole_within}
+use Rattle.rdlpp_scan.proofs.SourceLaws.{whole_lines_len-le}
+use Rattle.rdlpp_read.proofs.Growing.{past-whole, whole_within}
 use Rattle.rdlpp_read.proofs.buffer.ahead.whole_lines.Goals as goal
 
 pub returns-then-len-eq0 : goal.returns-then-len-eq0

@@ -1,9 +1,8 @@
-use Rattle.std.proofs.Common.{◌-◌, length, take, drop, sym, ap, ◌∙◌, arith}
-use Rattle.rdlpp_scan.proofs.DefineSteps.{logical_len-within}
-use Rattle.std.proofs.lemmas.List.{length-drop, length-take}
+use Rattle.std.proofs.Common.{◌-◌, length, take, drop, sym, ap, ◌∙◌, arith, length-drop, length-take}
+use Rattle.rdlpp_scan.proofs.TokenSteps.{logical_len-within}
 use Rattle.rdlpp_read.specs.Buffer.{held_of}
 use Rattle.rdlpp_read.proofs.BufferTokens.{compacts, compacts-ends, compacts-grows}
-use Rattle.rdlpp_read.proofs.Extending.{continues-on, continues-starts, cut-line, failed-line, fewer-lines, found-line, last-line, long-line, none-at}
+use Rattle.rdlpp_read.proofs.LogicalLines.{continues-on, continues-starts, cut-line, failed-line, fewer-lines, found-line, last-line, long-line, none-at}
 use Rattle.rdlpp_read.proofs.buffer.extending.hold_logical_line.Goals as goal
 
 pub lines-init : goal.lines-init

@@ -1,5 +1,5 @@
-use Rattle.std.proofs.Common.{◌≡◌, [], ◌≤◌, length, take, arith, rules}
-use Rattle.std.proofs.lemmas.List.{drop_all, length-take}
+use Rattle.std.proofs.Common.{◌≡◌, [], ◌≤◌, length, take, arith, rules, length-take}
+use Rattle.std.proofs.lemmas.List.{drop_all}
 use Rattle.rdlpp_read.proofs.BufferTokens.{compacts, compacts-ends, compacts-grows, grows-fills, held-fills}
 use Rattle.rdlpp_read.specs.Buffer.{held_of}
 use Rattle.rdlpp_read.proofs.buffer.filling.fill_buffer.Goals as goal

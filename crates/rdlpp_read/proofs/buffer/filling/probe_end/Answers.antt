@@ -1,6 +1,5 @@
-use Rattle.std.proofs.Common.{refl, sym, ◌∙◌, arith}
-use Rattle.std.proofs.lemmas.List.{length-take}
-use Rattle.rdlpp_read.proofs.ReadFacts.{ended_turn, failed_turn, long_turn, none_left, some_left}
+use Rattle.std.proofs.Common.{refl, sym, ◌∙◌, arith, length-take}
+use Rattle.rdlpp_read.proofs.Growing.{ended_turn, failed_turn, long_turn, none_left, some_left}
 use Rattle.rdlpp_read.proofs.buffer.filling.probe_end.Goals as goal
 
 pub returns-in-Ok-eq0-clause-turn : goal.returns-in-Ok-eq0-clause-turn

@@ -1,6 +1,5 @@
-use Rattle.std.proofs.Common.{◌≡◌, ◌≤◌, ◌<◌, length, take, drop, sym, ◌∙◌, arith, rules, vec_len}
-use Rattle.std.proofs.lemmas.List.{length-take, length-drop}
-use Rattle.rdlpp_read.proofs.ReadFacts.{ended_turn, failed_turn, gained_turn, none_left, window_after}
+use Rattle.std.proofs.Common.{◌≡◌, ◌≤◌, ◌<◌, length, take, drop, sym, ◌∙◌, arith, rules, vec_len, length-take, length-drop}
+use Rattle.rdlpp_read.proofs.Growing.{ended_turn, failed_turn, gained_turn, none_left, window_after}
 use Rattle.rdlpp_read.proofs.buffer.filling.read_on.Goals as goal
 
 pub returns-in-Ok-eq0-clause-turn : goal.returns-in-Ok-eq0-clause-turn

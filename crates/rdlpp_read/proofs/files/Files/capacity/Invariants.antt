@@ -1,5 +1,4 @@
-use Rattle.std.proofs.Common.{◌≡◌, ◌*◌, length}
-use Rattle.std.specs.List.{All}
+use Rattle.std.proofs.Common.{◌≡◌, ◌*◌, length, All}
 use Rattle.rdlpp_read.specs.Files.{IsSlot}
 use Rattle.rdlpp_read.proofs.files.Files.capacity.Given as goal
 

@@ -1,6 +1,6 @@
 use Rattle.std.proofs.Common.{ap, ◌∙◌}
 use Rattle.rdlpp_read.specs.Files.{IsSlot}
-use Rattle.rdlpp_read.proofs.Slots.{slot-inner, slots-kept}
+use Rattle.rdlpp_read.proofs.BufferTokens.{slot-inner, slots-kept}
 use Rattle.rdlpp_read.proofs.files.Files.consume.Goals as goal
 
 pub invariant_of-self : goal.invariant_of-self

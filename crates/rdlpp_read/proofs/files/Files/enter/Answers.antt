@@ -1,8 +1,7 @@
-use Rattle.std.proofs.Common.{◌<◌, ◌-◌, ap, ◌∙◌, arith}
-use Rattle.std.proofs.lemmas.List.{length-drop}
+use Rattle.std.proofs.Common.{◌<◌, ◌-◌, ap, ◌∙◌, arith, length-drop}
 use Rattle.rdlpp_read.specs.Buffer.{opened_buffer}
 use Rattle.rdlpp_read.specs.Files.{IsSlot}
-use Rattle.rdlpp_read.proofs.Slots.{entered-nest, slot-at, slots-entered}
+use Rattle.rdlpp_read.proofs.BufferTokens.{entered-nest, slot-at, slots-entered}
 use Rattle.rdlpp_read.proofs.files.Files.enter.Goals as goal
 
 pub invariant_of-self : goal.invariant_of-self

@@ -1,6 +1,6 @@
 use Rattle.std.proofs.Common.{ap, ◌∙◌}
 use Rattle.rdlpp_read.specs.Files.{IsSlot}
-use Rattle.rdlpp_read.proofs.Slots.{moded-ends, slot-inner, slots-kept}
+use Rattle.rdlpp_read.proofs.BufferTokens.{moded-ends, slot-inner, slots-kept}
 use Rattle.rdlpp_read.specs.Buffer.{entered_mode}
 use Rattle.rdlpp_read.proofs.files.Files.enter_mode.Goals as goal
 

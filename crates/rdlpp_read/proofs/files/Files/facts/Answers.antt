@@ -1,5 +1,5 @@
 use Rattle.std.proofs.Common.{arith}
-use Rattle.rdlpp_read.proofs.Slots.{slots-open}
+use Rattle.rdlpp_read.proofs.BufferTokens.{slots-open}
 use Rattle.rdlpp_read.proofs.files.Files.facts.Goals as goal
 
 pub returns : goal.returns

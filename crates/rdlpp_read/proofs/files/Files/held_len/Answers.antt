@@ -1,6 +1,6 @@
 use Rattle.std.proofs.Common.{arith}
 use Rattle.rdlpp_read.specs.Files.{AreOpen}
-use Rattle.rdlpp_read.proofs.Slots.{held-part, slots-open}
+use Rattle.rdlpp_read.proofs.BufferTokens.{held-part, slots-open}
 use Rattle.rdlpp_read.proofs.files.Files.held_len.Goals as goal
 
 pub overflow_add-len : goal.overflow_add-len

@@ -1,6 +1,6 @@
 use Rattle.std.proofs.Common.{◌∙◌}
 use Rattle.rdlpp_read.specs.Files.{IsSlot}
-use Rattle.rdlpp_read.proofs.Slots.{slot-inner, slots-kept}
+use Rattle.rdlpp_read.proofs.BufferTokens.{slot-inner, slots-kept}
 use Rattle.rdlpp_read.proofs.files.Files.hold_line.Goals as goal
 
 pub hold_logical_line-line-requires : goal.hold_logical_line-line-requires

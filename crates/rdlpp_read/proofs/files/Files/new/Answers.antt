@@ -1,9 +1,9 @@
-use Rattle.std.proofs.Common.{◌≡◌, ◌+◌, [], ◌∷◌, length, refl, ap, ◌∙◌, arith, vec_len}
-use Rattle.std.proofs.lemmas.List.{drop_all, length-append}
+use Rattle.std.proofs.Common.{◌≡◌, ◌+◌, [], ◌∷◌, length, refl, ap, ◌∙◌, arith, vec_len, length-append}
+use Rattle.std.proofs.lemmas.List.{drop_all}
 use Rattle.std.proofs.lemmas.List.Elements.{All-nil, All-push, All-same}
 use Rattle.rdlpp_read.specs.Buffer.{closed_buffer}
 use Rattle.rdlpp_read.specs.Files.{IsClosed, IsSlot}
-use Rattle.rdlpp_read.proofs.Slots.{closed-reader, closed-slot, slots-made}
+use Rattle.rdlpp_read.proofs.BufferTokens.{closed-reader, closed-slot, slots-made}
 use Rattle.rdlpp_read.proofs.files.Files.new.Goals as goal
 
 pub loop-slot-init : goal.loop-slot-init

@@ -1,6 +1,4 @@
-use Rattle.std.proofs.Common.{◌≡◌, ◌≤◌, length}
-use Rattle.std.specs.List.{All}
-use Rattle.std.specs.Vec.{vec_capacity}
+use Rattle.std.proofs.Common.{◌≡◌, ◌≤◌, length, All, vec_capacity}
 use Rattle.rdlpp_read.specs.Files.{IsClosed, IsSlot}
 use Rattle.rdlpp_read.proofs.files.Files.new.Given as goal
 

@@ -1,6 +1,5 @@
 -- What the folders from here on come to is what all come to.
-use Rattle.std.proofs.Common.{◌≡◌, map, drop}
-use Rattle.std.specs.String.{string_bytes}
+use Rattle.std.proofs.Common.{◌≡◌, map, drop, string_bytes}
 use Rattle.rdlpp_source.specs.Search.{joined_path}
 use Rattle.rdlpp_source.specs.Asked.{first_search, folders_of}
 use Rattle.rdlpp_source.proofs.asked.AskedTexts.open_in_folders.Given as goal

@@ -2,7 +2,7 @@
 use Rattle.std.proofs.Common.{ap}
 use Rattle.rdlpp_source.specs.Asked.{asked_catalog, standing_at}
 use Rattle.rdlpp_source.specs.declared.asked.AskedTexts.{AskedTexts}
-use Rattle.rdlpp_source.proofs.AskedSearches.{failures_rise}
+use Rattle.rdlpp_source.proofs.Searches.{failures_rise}
 use Rattle.rdlpp_source.proofs.asked.AskedTextsSources.TheImpl.Goals as goal
 
 pub top-tells : goal.top-tells

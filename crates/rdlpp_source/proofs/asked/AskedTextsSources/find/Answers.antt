@@ -1,6 +1,6 @@
 -- The search for a name answers as it ended within, and gives the answer of the catalog.
 use Rattle.rdlpp_source.specs.Asked.{search_of, wanted_of}
-use Rattle.rdlpp_source.proofs.AskedSearches.{answers_of, finds_named, named_unfailed}
+use Rattle.rdlpp_source.proofs.Searches.{answers_of, finds_named, named_unfailed}
 use Rattle.rdlpp_source.proofs.asked.AskedTextsSources.find.Goals as goal
 
 pub returns-clause-answer : goal.returns-clause-answer

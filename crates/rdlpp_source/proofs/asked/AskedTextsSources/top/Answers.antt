@@ -1,6 +1,6 @@
 -- The search for a path answers as it ended within, and gives the answer of the catalog.
 use Rattle.rdlpp_source.specs.Asked.{search_at, wanted_of}
-use Rattle.rdlpp_source.proofs.AskedSearches.{answers_of, finds_top, top_unfailed}
+use Rattle.rdlpp_source.proofs.Searches.{answers_of, finds_top, top_unfailed}
 use Rattle.rdlpp_source.proofs.asked.AskedTextsSources.top.Goals as goal
 
 pub returns-clause-answer : goal.returns-clause-answer

@@ -1,6 +1,4 @@
-use Rattle.std.proofs.Common.{◌≡◌, Bool, true, false, not, Option, None, Some, refl, sym, ap, ◌∙◌}
-use Rattle.std.specs.Prelude.{is_some, nat_eq}
-use Rattle.std.proofs.lemmas.Bool.{eqb-true, true≢false}
+use Rattle.std.proofs.Common.{◌≡◌, Bool, true, false, not, Option, None, Some, refl, sym, ap, ◌∙◌, is_some, nat_eq, eqb-true, true≢false}
 use Rattle.rdlpp_state.specs.Owed.{OriginView, nothing_owed}
 use Rattle.rdlpp_state.proofs.owed.Owed.is_nothing.Goals as goal
 

@@ -2,7 +2,7 @@ use Rattle.std.proofs.Common.{◌≡◌, ◌-◌, ℕ, Bool, List, Option, None,
 use Rattle.rdlpp_state.specs.Owed.{OriginView, OwedView, TakesPiece, nothing_owed}
 use Rattle.rdlpp_state.specs.declared.owed.OwedPart.TheVariants.{LineEnds}
 use Rattle.rdlpp_state.specs.declared.owed.OwedPiece.{OwedPiece}
-use Rattle.rdlpp_state.proofs.OwedPieces.{takes_first, takes_line_ends}
+use Rattle.rdlpp_state.proofs.LentPieces.{takes_first, takes_line_ends}
 use Rattle.rdlpp_state.proofs.owed.Owed.take.Goals as goal
 
 -- a piece is taken out of what is owed by its other name

@@ -1,6 +1,6 @@
 use Rattle.std.proofs.Common.{◌-◌, sym, ap, ◌∙◌}
 use Rattle.rdlpp_state.specs.Marks.{MarksView, lends_owed}
-use Rattle.rdlpp_state.proofs.PlaceFacts.{marks_ending, marks_line, marks_nothing, marks_origin}
+use Rattle.rdlpp_state.proofs.LentPieces.{marks_ending, marks_line, marks_nothing, marks_origin}
 use Rattle.rdlpp_state.proofs.positions.Marks.lend_owed.Goals as goal
 
 pub returns-in-Some : goal.returns-in-Some

@@ -1,5 +1,5 @@
 use Rattle.std.proofs.Common.{◌∙◌, sym}
-use Rattle.rdlpp_table.proofs.Ranges.{in_range, fault_out_of_range}
+use Rattle.rdlpp_table.proofs.Sizes.{in_range, fault_out_of_range}
 use Rattle.rdlpp_table.proofs.limits.Limits.check.Goals as goal
 
 pub returns-in-Some-clause-refused : goal.returns-in-Some-clause-refused

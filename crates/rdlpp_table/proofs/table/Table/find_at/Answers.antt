@@ -4,7 +4,7 @@ use Rattle.std.proofs.lemmas.List.Quantifiers.{position-Some}
 use Rattle.rdlpp_table.specs.Table.{Macro}
 use Rattle.rdlpp_table.specs.View.{no_macro}
 use Rattle.rdlpp_table.proofs.Sizes.{named_at}
-use Rattle.rdlpp_table.proofs.Places.{place_compared}
+use Rattle.rdlpp_table.proofs.Orders.{place_compared}
 use Rattle.rdlpp_table.proofs.table.Table.find_at.Goals as goal
 use Rattle.rdlpp_table.proofs.table.Table.find_at.Goals.{else-place-len-via-then-place-len+else-eq, else-place-len-via-else-place-len}
 

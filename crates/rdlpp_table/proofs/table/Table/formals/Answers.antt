@@ -2,7 +2,7 @@ use Rattle.std.proofs.Common.{◌≡◌, ◌<◌, ◌∙◌, ℕ, List, ap, drop
 use Rattle.rdlpp_table.specs.declared.entry.Entry.{Entry}
 use Rattle.rdlpp_table.specs.Marks.{table_marks}
 use Rattle.rdlpp_table.specs.Store.{formals_read, macros_in, IsStored}
-use Rattle.rdlpp_table.proofs.Keyed.{index_front}
+use Rattle.rdlpp_table.proofs.Indexed.{index_front}
 use Rattle.rdlpp_table.proofs.Sizes.{entry_within, len_of_view, live_read, no_entry}
 use Rattle.rdlpp_table.proofs.RoundTrip.{entry_listed, listed_as, read_here}
 use Rattle.rdlpp_table.proofs.FirstStops.{formals_here}

@@ -1,7 +1,7 @@
 use Rattle.std.proofs.Common.{arith, refl}
 use Rattle.std.proofs.lemmas.List.{get_or-replicate}
 use Rattle.rdlpp_table.proofs.Sizes.{held_when_empty, empty_view}
-use Rattle.rdlpp_table.proofs.Keyed.{index_of_nothing, nothing_front, nothing_marked}
+use Rattle.rdlpp_table.proofs.Indexed.{index_of_nothing, nothing_front, nothing_marked}
 use Rattle.rdlpp_table.proofs.table.Table.new.Goals as goal
 
 pub invariant_of-result : goal.invariant_of-result

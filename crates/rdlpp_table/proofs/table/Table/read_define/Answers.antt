@@ -1,6 +1,6 @@
 use Rattle.std.proofs.Common.{◌∙◌, length}
 use Rattle.std.proofs.lemmas.List.{take_rest}
-use Rattle.rdlpp_table.proofs.Headers.{define_stores, define_refuses}
+use Rattle.rdlpp_table.proofs.RoundTrip.{define_stores, define_refuses}
 use Rattle.rdlpp_table.proofs.table.Table.read_define.Goals as goal
 
 pub returns-in-Ok-clause-outcome : goal.returns-in-Ok-clause-outcome

@@ -4,7 +4,7 @@ use Rattle.rdlpp_table.specs.View.{TableView}
 use Rattle.rdlpp_table.specs.Layout.{view_of}
 use Rattle.rdlpp_table.proofs.Sizes.{count_items}
 use Rattle.rdlpp_table.proofs.RoundTrip.{table_of, held_of, view_after, sound_without}
-use Rattle.rdlpp_table.proofs.Keyed.{few_entries, indexed_after, marked_after}
+use Rattle.rdlpp_table.proofs.Indexed.{few_entries, indexed_after, marked_after}
 use Rattle.rdlpp_table.proofs.table.Table.remove.Goals as goal
 
 pub take_out_named-requires-clause-stored : goal.take_out_named-requires-clause-stored

@@ -1,7 +1,6 @@
-use Rattle.std.proofs.Common.{◌-◌, List, ℕ, ap, arith, drop, length, sym}
-use Rattle.std.proofs.lemmas.List.{length-take-le}
+use Rattle.std.proofs.Common.{◌-◌, List, ℕ, ap, arith, drop, length, sym, length-take-le}
 use Rattle.rdlpp_table.specs.declared.entry.Entry.{Entry}
-use Rattle.rdlpp_table.proofs.Keyed.{few_entries, index_front}
+use Rattle.rdlpp_table.proofs.Indexed.{few_entries, index_front}
 use Rattle.rdlpp_table.proofs.Sizes.{live_count}
 use Rattle.rdlpp_table.proofs.table.Table.rest.Goals as goal
 

@@ -1,8 +1,7 @@
-use Rattle.std.proofs.Common.{◌∙◌, ℕ, Some, ap, arith, drop, length, sym}
-use Rattle.std.proofs.lemmas.List.{length-take-le}
+use Rattle.std.proofs.Common.{◌∙◌, ℕ, Some, ap, arith, drop, length, sym, length-take-le}
 use Rattle.rdlpp_table.specs.declared.entry.Entry.{Entry}
 use Rattle.rdlpp_table.proofs.Sizes.{named_at, stored_slices_within}
-use Rattle.rdlpp_table.proofs.Keyed.{few_entries, index_front, viewed_place}
+use Rattle.rdlpp_table.proofs.Indexed.{few_entries, index_front, viewed_place}
 use Rattle.rdlpp_table.proofs.table.Table.search.Goals as goal
 
 pub slice_bounds-place_in-end : goal.slice_bounds-place_in-end

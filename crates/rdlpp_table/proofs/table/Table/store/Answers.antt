@@ -9,7 +9,7 @@ use Rattle.rdlpp_table.proofs.Sizes.{count_items}
 use Rattle.rdlpp_table.proofs.RoundTrip.{read_back, held_of, sound_with, too_large, too_many, fits, refused_is, accepted_is}
 use Rattle.rdlpp_table.proofs.News.{new_size}
 use Rattle.rdlpp_table.proofs.Taken.{without_size, capacity_small}
-use Rattle.rdlpp_table.proofs.Keyed.{few_entries, indexed_after, marked_after}
+use Rattle.rdlpp_table.proofs.Indexed.{few_entries, indexed_after, marked_after}
 use Rattle.rdlpp_table.proofs.table.Table.store.Goals as goal
 
 pub overflow_sub-self-inside : goal.overflow_sub-self-inside

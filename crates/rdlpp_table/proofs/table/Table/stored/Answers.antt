@@ -1,5 +1,4 @@
-use Rattle.std.proofs.Common.{◌≡◌, ◌<◌, ◌∙◌, drop, get_or, length, sym, arith}
-use Rattle.std.proofs.lemmas.List.{get_or-drop}
+use Rattle.std.proofs.Common.{◌≡◌, ◌<◌, ◌∙◌, drop, get_or, length, sym, arith, get_or-drop}
 use Rattle.rdlpp_table.proofs.FirstStops.{macro_here}
 use Rattle.rdlpp_table.proofs.Sizes.{arity_at, entry_within, len_of_view, live_count, stops_at}
 use Rattle.rdlpp_table.proofs.table.Table.stored.Goals as goal

@@ -1,5 +1,4 @@
-use Rattle.rdlpp_texts.proofs.Bounding.{lent-bounded}
-use Rattle.rdlpp_texts.proofs.Stacking.{lent-some}
+use Rattle.rdlpp_texts.proofs.Stacking.{lent-bounded, lent-some}
 use Rattle.rdlpp_texts.proofs.Usages.{rest-homed}
 use Rattle.rdlpp_texts.proofs.cursors.Cursors.is_inside.Goals as goal
 

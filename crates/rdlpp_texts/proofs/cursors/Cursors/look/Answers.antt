@@ -1,5 +1,4 @@
-use Rattle.std.proofs.Common.{◌<◌, ◌≡◌, ◌-◌, length, drop, List, ap, arith}
-use Rattle.std.proofs.lemmas.List.{length-drop, length-take}
+use Rattle.std.proofs.Common.{◌<◌, ◌≡◌, ◌-◌, length, drop, List, ap, arith, length-drop, length-take}
 use Rattle.rdlpp_texts.specs.declared.slot.Slot.{Slot}
 use Rattle.rdlpp_texts.proofs.Stacking.{some-open}
 use Rattle.rdlpp_texts.proofs.cursors.Cursors.look.Goals as goal

@@ -1,13 +1,10 @@
-use Rattle.std.proofs.Common.{◌∙◌, ◌<◌, List, Option, unwrap_or, ℕ, length, drop, ap, refl, sym, arith}
-use Rattle.std.proofs.lemmas.Bool.{leb-false, leb-true}
+use Rattle.std.proofs.Common.{◌∙◌, ◌<◌, List, Option, unwrap_or, ℕ, length, drop, ap, refl, sym, arith, leb-false, leb-true}
 use Rattle.rdlpp_texts.specs.BoundCalls.{added}
 use Rattle.rdlpp_texts.specs.declared.bindings.Range.{Range}
 use Rattle.rdlpp_table.specs.View.{macro_at}
 use Rattle.rdlpp_table.proofs.Sizes.{count_items}
 use Rattle.rdlpp_texts.specs.Opened.{opens_of}
-use Rattle.rdlpp_texts.proofs.Binding.{arity-count, call-bound, call-room, called-opens, formals-few, opening-deep, opening-opened, opening-refused, stack-called, taken-back}
-use Rattle.rdlpp_texts.proofs.Bounding.{lent-body, lent-bounded}
-use Rattle.rdlpp_texts.proofs.Stacking.{first-inside, room-first, some-open, view-is}
+use Rattle.rdlpp_texts.proofs.Stacking.{arity-count, call-bound, call-room, called-opens, first-inside, formals-few, lent-body, lent-bounded, opening-deep, opening-opened, opening-refused, room-first, some-open, stack-called, taken-back, view-is}
 use Rattle.rdlpp_texts.proofs.cursors.Cursors.open_bound.Goals as goal
 
 pub bind_call-requires-clause-room : goal.bind_call-requires-clause-room

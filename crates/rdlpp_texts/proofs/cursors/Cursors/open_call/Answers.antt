@@ -5,10 +5,8 @@ use Rattle.rdlpp_texts.specs.declared.bindings.Range.{Range}
 use Rattle.rdlpp_table.specs.View.{macro_at, formals_of}
 use Rattle.rdlpp_table.proofs.Sizes.{count_items}
 use Rattle.rdlpp_texts.specs.Opened.{opens_of, CursorsView}
-use Rattle.rdlpp_texts.proofs.Binding.{arity-count, call-room, entered-opens, formals-few, stack-entered}
-use Rattle.rdlpp_texts.proofs.Bounding.{lent-body, lent-bounded}
-use Rattle.rdlpp_texts.proofs.Stacking.{view-is}
-use Rattle.rdlpp_texts.proofs.Starting.{call-dropped, call-miscounted, call-started, room-closed, started-opens}
+use Rattle.rdlpp_texts.proofs.Stacking.{arity-count, call-room, entered-opens, formals-few, lent-body, lent-bounded, stack-entered, view-is}
+use Rattle.rdlpp_texts.proofs.Calling.{call-dropped, call-miscounted, call-started, room-closed, started-opens}
 use Rattle.rdlpp_texts.proofs.cursors.Cursors.open_call.Goals as goal
 
 pub bind_parts-requires : goal.bind_parts-requires

@@ -1,6 +1,5 @@
-use Rattle.std.proofs.Common.{◌≡◌, true, false, length, sym, ◌∙◌, arith}
-use Rattle.std.specs.Prelude.{nat_le}
-use Rattle.std.proofs.lemmas.Bool.{true≢false, le-leb, lt-leb}
+use Rattle.std.proofs.Common.{◌≡◌, true, false, length, sym, ◌∙◌, arith, nat_le, true≢false, le-leb}
+use Rattle.std.proofs.lemmas.Bool.{lt-leb}
 use Rattle.rdlpp_texts.specs.Places.{texts_of}
 use Rattle.rdlpp_texts.proofs.Passing.{pass-bare}
 use Rattle.rdlpp_texts.proofs.Taking.{ended-spent, idle-closed, idle-formal, idle-last, idle-usage, takes-wordless}

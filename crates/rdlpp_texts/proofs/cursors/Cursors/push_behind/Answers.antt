@@ -1,9 +1,6 @@
-use Rattle.std.proofs.Common.{◌∙◌, ◌<◌, [], length, refl, sym, arith}
-use Rattle.std.proofs.lemmas.List.{append-nil}
+use Rattle.std.proofs.Common.{◌∙◌, ◌<◌, [], length, refl, sym, arith, append-nil}
 use Rattle.rdlpp_table.proofs.Sizes.{count_items}
-use Rattle.rdlpp_texts.proofs.Binding.{called-opens, stack-called}
-use Rattle.rdlpp_texts.proofs.Bounding.{lent-body, lent-bounded}
-use Rattle.rdlpp_texts.proofs.Stacking.{first-inside, room-first, some-open, view-is}
+use Rattle.rdlpp_texts.proofs.Stacking.{called-opens, first-inside, lent-body, lent-bounded, room-first, some-open, stack-called, view-is}
 use Rattle.rdlpp_texts.proofs.cursors.Cursors.push_behind.Goals as goal
 
 pub index_mut-requires : goal.index_mut-requires

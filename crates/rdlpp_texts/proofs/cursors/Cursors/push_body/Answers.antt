@@ -1,8 +1,6 @@
-use Rattle.std.proofs.Common.{◌≡◌, length, refl, arith, ◌∙◌}
-use Rattle.std.proofs.lemmas.List.{take_all}
+use Rattle.std.proofs.Common.{◌≡◌, length, refl, arith, ◌∙◌, take_all}
 use Rattle.rdlpp_table.proofs.Sizes.{count_items}
-use Rattle.rdlpp_texts.proofs.Bounding.{lent-body, lent-bounded}
-use Rattle.rdlpp_texts.proofs.Stacking.{body-opens, room-first, stack-pushed, view-is}
+use Rattle.rdlpp_texts.proofs.Stacking.{body-opens, lent-body, lent-bounded, room-first, stack-pushed, view-is}
 use Rattle.rdlpp_texts.proofs.cursors.Cursors.push_body.Goals as goal
 
 pub free_slot-first-requires-clause-room : goal.free_slot-first-requires-clause-room

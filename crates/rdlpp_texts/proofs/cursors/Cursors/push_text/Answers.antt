@@ -1,6 +1,5 @@
 use Rattle.std.proofs.Common.{refl}
-use Rattle.rdlpp_texts.proofs.Bounding.{lent-bounded, lent-text}
-use Rattle.rdlpp_texts.proofs.Stacking.{no-body_below, pushed-opens, room-first, stack-pushed, view-is}
+use Rattle.rdlpp_texts.proofs.Stacking.{lent-bounded, lent-text, no-body_below, pushed-opens, room-first, stack-pushed, view-is}
 use Rattle.rdlpp_texts.proofs.cursors.Cursors.push_text.Goals as goal
 
 pub free_slot-first-requires-clause-room : goal.free_slot-first-requires-clause-room

@@ -1,10 +1,9 @@
-use Rattle.std.proofs.Common.{Bool, not, sym, ap, ◌∙◌, subst}
-use Rattle.std.specs.Prelude.{is_some}
+use Rattle.std.proofs.Common.{Bool, not, sym, ap, ◌∙◌, subst, is_some}
 use Rattle.rdlpp_read.specs.Buffer.{EndsHeld}
 use Rattle.rdlpp_table.specs.View.{macro_at}
 use Rattle.rdlpp_front.proofs.Insides.{usage_inside}
 use Rattle.rdlpp_usages.specs.declared.expansion.Opening.TheVariants.{Opened}
-use Rattle.rdlpp_usages.proofs.UsageSteps.{alone_plain, bindings_plain, body_means, body_usage, call_means_by, is_list, keeps_listed_by, keeps_plain, no_list, opened_line, uses_more, uses_name}
+use Rattle.rdlpp_usages.proofs.UsageOpens.{alone_plain, bindings_plain, body_means, body_usage, call_means_by, is_list, keeps_listed_by, keeps_plain, no_list, opened_line, uses_more, uses_name}
 use Rattle.rdlpp_usages.proofs.expansion.Expansion.open_usage.Goals as goal
 
 pub consume-requires-clause-inside : goal.consume-requires-clause-inside

@@ -1,6 +1,4 @@
-use Rattle.std.proofs.Common.{ap, length, sym, ◌∙◌}
-use Rattle.std.specs.Prelude.{◌==◌}
-use Rattle.std.proofs.lemmas.Bool.{true≢false}
+use Rattle.std.proofs.Common.{ap, length, sym, ◌∙◌, ◌==◌, true≢false}
 use Rattle.rdlpp_usages.proofs.UsageOpens.{not-silent, step_kept, step_last, still_open}
 use Rattle.rdlpp_usages.proofs.expansion.Expansion.step.Goals as goal
 

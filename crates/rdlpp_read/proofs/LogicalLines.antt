@@ -1,0 +1,505 @@
+-- Logical lines that are taken in over several lines, and what a `line` is given.
+use Rattle.std.proofs.Common.{◌≡◌, ℕ, ◌+◌, ◌-◌, ◌≤◌, ◌<◌, false, List, [], ◌∷◌, ◌++◌, length, take, drop, None, Some, refl, sym, ap, subst, ◌∙◌, arith, inl, inr, ◌≢◌, suc, Bool, true, ◌&&◌, ◌||◌, get_or, ◌⊎◌, ◌*◌, eqb, leb, Option, option_map, unwrap_or, Err, IfOk, IsOk, Ok, Result, bytes_eq, fold, if◌then◌else◌, IsUtf8, drop_of_length-le, drop-cons, take-suc, eqb-true, le-leb, ne_eqb, append-nil, append_assoc, drop-drop, length-append, length-drop, length-take-le, take-append-drop}
+use Rattle.std.specs.List.{prefix_len}
+use Rattle.std.specs.Result.{result_ok}
+use Rattle.std.specs.Str.{is_utf8}
+use Rattle.std.proofs.Math.Bool.{and-false}
+use Rattle.std.proofs.Math.Seq.{drop-length, take-append_seam, take-length}
+use Rattle.std.proofs.lemmas.Bool.{false_from_ne_true, lt-leb}
+use Rattle.std.proofs.lemmas.Bool.Decides.{eqb_tells, leb_tells}
+use Rattle.std.proofs.lemmas.Str.{IsUtf8-from_is_utf8, is_utf8-from_IsUtf8}
+use Rattle.arrayvec.specs.declared.array_string.ArrayString.{ArrayString}
+use Rattle.rdlpp_scan.specs.Bytes.{is_blank, is_digit, is_line_end}
+use Rattle.rdlpp_scan.specs.Defines.{HoldsDefine}
+use Rattle.rdlpp_scan.specs.Front.{DefineCut, DefineLong}
+use Rattle.rdlpp_scan.specs.Lines.{IsWholeLines, ended_line_len, whole_lines_len}
+use Rattle.rdlpp_scan.specs.SourceTokens.{Definition, line_ends, line_len, logical_len, remaining_tokens}
+use Rattle.rdlpp_scan.specs.declared.token.Mode.TheVariants.{Plain}
+use Rattle.rdlpp_scan.proofs.TokenSteps.{HoldsDefine-more, logical_len-behind_lines, logical_len-within}
+use Rattle.rdlpp_scan.proofs.SourceLaws.{line_len-ended}
+use Rattle.rdlpp_scan.proofs.RemainingLaws.{remaining-end, remaining-logical, remaining-logical_full, remaining-logical_last, remaining-logical_source, remaining-opened}
+use Rattle.rdlpp_meaning.specs.Meaning.{Renumbered, digits_value, is_level, past_blank_bytes, quote_place, renumbered, renumbered_name}
+use Rattle.rdlpp_meaning.specs.Parts.{only_blanks}
+use Rattle.rdlpp_meaning.proofs.LiveText.{only_blanks-append}
+use Rattle.rdlpp_source.specs.declared.sources.Sources.{Ghosts}
+use Rattle.rdlpp_read.specs.Arguments.{IsShownName}
+use Rattle.rdlpp_read.specs.Buffer.{BufferView, EndsHeld, IsBuffer, Slides, ahead_of, consumed, held_of, rest_of, tokens_left}
+use Rattle.rdlpp_read.specs.Calls.{SourcesRead}
+use Rattle.rdlpp_read.specs.Filling.{Grows, IsExact, Stays, only_broken}
+use Rattle.rdlpp_read.specs.LogicalLines.{Continues, Extends, HoldsLine, IsExactLine, SameTokens}
+use Rattle.rdlpp_read.specs.declared.buffer.extending.LogicalLine.{LogicalLine}
+use Rattle.rdlpp_read.specs.declared.buffer.extending.LogicalLine.TheVariants.{Failed as LineFailed, SourceLong as LineCut, TooLong, Whole}
+use Rattle.rdlpp_read.specs.declared.buffer.filling.Fill.{Fill}
+use Rattle.rdlpp_read.specs.declared.buffer.filling.Fill.TheVariants.{End, Failed, Held, LineLong, SourceLong}
+use Rattle.rdlpp_read.proofs.BufferTokens.{grows-text, lengthens-tokens, slides-on, slides-same, tokens-same}
+use Rattle.rdlpp_read.proofs.Growing.{calls-on, held-le}
+
+-- How a logical line is taken in over several lines, and what its tokens are.
+
+-- before the first line is taken in
+pub continues-starts : {S R : Type 0} (g : Ghosts S R) (sources : S) (f : BufferView R) → EndsHeld f → Continues g sources sources f f 0
+unfolding whole_lines_len logical_len
+continues-starts g sources f ends = record {
+  extends = record { line = refl; line_bytes = refl; mode = refl; open_token_line = refl; unused = refl; more = []; held = sym (append-nil (held_of f)) };
+  slides = slides-same (g.tells sources) Unit g.unread f;
+  tokens = λ t. refl;
+  text = λ t. refl;
+  define = λ t h. h;
+  place = omega arith;
+  whole = refl;
+  none = refl;
+  ends = ends;
+  call = record { failures = refl; refusals = refl; tells = λ t. t; catalog = refl };
+}
+
+-- the search goes on behind the first bytes, which are whole lines
+logical-from : (h : List ℕ) (seen : ℕ) → seen ≤ length h → IsWholeLines (take seen h) → logical_len 0 0 (take seen h) ≡ None →
+    logical_len 0 0 h ≡ option_map (λ n. seen + n) (logical_len 0 0 (take (length h - seen) (drop seen h)))
+logical-from h seen inside whole none =
+    let law = logical_len-behind_lines (take seen h) (drop seen h) whole none in
+    let tail : take (length h - seen) (drop seen h) ≡ drop seen h = rw (← length-drop seen h) (take-length (drop seen h)) in
+    let size : length (take seen h) ≡ seen = length-take-le seen h inside in
+    ap (logical_len 0 0) (sym (take-append-drop seen h)) ∙ (law ∙ rw (size, tail) refl)
+
+-- the end of the logical line was found behind the first bytes
+found-at : (h : List ℕ) (seen len : ℕ) → seen ≤ length h → IsWholeLines (take seen h) → logical_len 0 0 (take seen h) ≡ None →
+    logical_len 0 0 (take (length h - seen) (drop seen h)) ≡ Some len → logical_len 0 0 h ≡ Some (seen + len)
+found-at h seen len inside whole none found = logical-from h seen inside whole none ∙ ap (option_map (λ n. seen + n)) found
+
+-- no end was found behind them
+pub none-at : (h : List ℕ) (seen : ℕ) → seen ≤ length h → IsWholeLines (take seen h) → logical_len 0 0 (take seen h) ≡ None →
+    logical_len 0 0 (take (length h - seen) (drop seen h)) ≡ None → logical_len 0 0 h ≡ None
+none-at h seen inside whole none found = logical-from h seen inside whole none ∙ ap (option_map (λ n. seen + n)) found
+
+-- what isn't used behind what is consumed
+consumed-held : {R : Type 0} (f : BufferView R) (n : ℕ) → held_of (consumed f n) ≡ drop n (held_of f)
+unfolding held_of consumed
+consumed-held f n = sym (drop-drop n f.at (take f.accepted f.window))
+
+-- the tokens behind what is consumed of plain text
+consumed-tokens : {R : Type 0} (unread : R → List ℕ) (f : BufferView R) (n : ℕ) → f.mode ≡ Plain →
+    tokens_left unread (consumed f n) ≡ remaining_tokens f.line_bytes Plain f.line (f.line + line_ends (take n (held_of f))) (drop n (held_of f)) f.bytes_left (rest_of unread f)
+unfolding tokens_left consumed rest_of held_of ahead_of
+consumed-tokens unread f n plain =
+    rw (consumed-held f n, plain) (remaining-opened f.line_bytes f.open_token_line f.line (f.line + line_ends (take n (held_of f))) (drop n (held_of f)) f.bytes_left (rest_of unread f))
+
+-- the tokens of a `define` whose logical line is held
+define-whole : {R : Type 0} (unread : R → List ℕ) (f : BufferView R) (n : ℕ) → f.mode ≡ Plain → HoldsDefine (held_of f) (rest_of unread f) → logical_len 0 0 (held_of f) ≡ Some n →
+    length (held_of f) ≤ f.line_bytes → tokens_left unread f ≡ record { sort = Definition; bytes = take n (held_of f); line = f.line } ∷ tokens_left unread (consumed f n)
+unfolding tokens_left held_of rest_of ahead_of
+define-whole unread f n plain holds found short =
+    let within = logical_len-within 0 0 (held_of f) n found in
+    rw (consumed-tokens unread f n plain, plain)
+    (remaining-logical f.line_bytes f.open_token_line f.line (held_of f) f.bytes_left (rest_of unread f) n holds found (omega arith))
+
+-- the tokens of a `define` that goes on up to the end of the text
+define-last : {R : Type 0} (unread : R → List ℕ) (f : BufferView R) → f.mode ≡ Plain → HoldsDefine (held_of f) (rest_of unread f) → logical_len 0 0 (held_of f) ≡ None →
+    rest_of unread f ≡ [] → length (held_of f) ≤ f.line_bytes →
+    tokens_left unread f ≡ record { sort = Definition; bytes = take (length (held_of f)) (held_of f); line = f.line } ∷ tokens_left unread (consumed f (length (held_of f)))
+unfolding tokens_left remaining_tokens held_of line_ends rest_of ahead_of
+define-last unread f plain holds none ended short =
+    let law = remaining-logical_last f.line_bytes f.open_token_line f.line (held_of f) f.bytes_left (rw ended at holds) none short in
+    rw (consumed-tokens unread f (length (held_of f)) plain, plain, ended, take-length, drop-length, remaining-end) law
+
+-- no more is held than a line may have
+held-short : {R : Type 0} (f : BufferView R) → IsBuffer f → length (held_of f) ≤ f.line_bytes
+held-short f sound = let within = sound.within in omega (arith, held-le f)
+
+-- the window moved on, and then once more behind the last reading
+slides-behind : {S R : Type 0} (g : Ghosts S R) (first now : S) (fill : Fill) (answer : LogicalLine) (old mid new : BufferView R) (seen : ℕ) → Continues g first now old mid seen →
+    (IsExactLine answer → IsExact fill) → Grows (g.tells now) g.unread fill mid new → Slides (g.tells first) (IsExactLine answer) g.unread old new
+slides-behind g first now fill answer old mid new seen c exact grows =
+    slides-on (g.tells first) (g.tells first) (g.tells now) (IsExactLine answer) (IsExact fill) g.unread old mid new (λ t. t) c.call.tells exact c.slides grows.slides
+
+-- the logical line was found
+pub found-line : {S R : Type 0} (g : Ghosts S R) (first now : S) (old mid : BufferView R) (seen len : ℕ) → Continues g first now old mid seen → IsBuffer mid →
+    logical_len 0 0 (take (length (held_of mid) - seen) (drop seen (held_of mid))) ≡ Some len → HoldsLine (g.tells first) g.unread (Whole (seen + len)) old mid
+found-line g first now old mid seen len c sound some =
+    let found = found-at (held_of mid) seen len c.place c.whole c.none some in
+    let within = logical_len-within 0 0 (held_of mid) (seen + len) found in
+    let line = c.extends.line in
+    record {
+      extends = c.extends;
+      has = (within.1, inl found, c.tokens);
+      slides = slides-on (g.tells first) (g.tells first) (g.tells first) (IsExactLine (Whole (seen + len))) Unit g.unread old mid mid (λ t. t) (λ t. t) (λ e. tt) c.slides (slides-same (g.tells first) Unit g.unread mid);
+      text = λ other t. c.text t;
+      define = λ t plain holds. sym (c.tokens t)
+          ∙ (define-whole g.unread mid (seen + len) (c.extends.mode ∙ plain) (c.define t holds) found (held-short mid sound)
+          ∙ ap (λ l. record { sort = Definition; bytes = take (seen + len) (held_of mid); line = l } ∷ tokens_left g.unread (consumed mid (seen + len))) line);
+    }
+
+-- nothing came
+extends-stays : {R : Type 0} (tells : Type 0) (unread : R → List ℕ) (fill : Fill) (old mid new : BufferView R) → Extends old mid → Grows tells unread fill mid new → Stays mid new → Extends old new
+extends-stays tells unread fill old mid new e grows stays = record {
+  line = grows.line ∙ e.line;
+  line_bytes = grows.line_bytes ∙ e.line_bytes;
+  mode = grows.mode ∙ e.mode;
+  open_token_line = grows.open_token_line ∙ e.open_token_line;
+  unused = grows.unused ∙ e.unused;
+  more = e.more;
+  held = stays.held ∙ e.held;
+}
+
+-- the tokens stay where nothing came and nothing was lost
+stays-tokens : {S R : Type 0} (g : Ghosts S R) (first now : S) (fill : Fill) (old mid new : BufferView R) (seen : ℕ) → Continues g first now old mid seen → Grows (g.tells now) g.unread fill mid new → Stays mid new →
+    (g.tells now → rest_of g.unread new ≡ rest_of g.unread mid) → SameTokens (g.tells first) g.unread old new
+stays-tokens g first now fill old mid new seen c grows stays rest t =
+    tokens-same g.unread mid new grows.line grows.line_bytes grows.mode grows.open_token_line stays.bytes_left stays.held (rest (c.call.tells t)) ∙ c.tokens t
+
+-- the logical line goes on up to the end of the text
+pub last-line : {S R : Type 0} (g : Ghosts S R) (first now : S) (old mid new : BufferView R) (seen len : ℕ) → Continues g first now old mid seen → IsBuffer mid → logical_len 0 0 (held_of mid) ≡ None → len ≡ length (held_of mid) →
+    Grows (g.tells now) g.unread End mid new → HoldsLine (g.tells first) g.unread (Whole len) old new
+last-line g first now old mid new seen len c sound none all grows =
+    let stays = grows.by.0 in
+    let held = stays.held in
+    let none_now : logical_len 0 0 (held_of new) ≡ None = ap (logical_len 0 0) held ∙ none in
+    let size : len ≡ length (held_of new) = all ∙ ap length (sym held) in
+    let tokens = stays-tokens g first now End old mid new seen c grows stays (λ t. grows.by.2 ∙ sym (grows.by.1 t)) in
+    let e = extends-stays (g.tells now) g.unread End old mid new c.extends grows stays in
+    let short : length (held_of new) ≤ new.line_bytes = (let s = held-short mid sound in let most = grows.line_bytes in omega arith) in
+    record {
+      extends = e;
+      has = (omega arith, inr (none_now, size, λ t. grows.by.2), tokens);
+      slides = slides-behind g first now End (Whole len) old mid new seen c (λ x e. cc) grows;
+      text = λ other t. grows-text (g.tells now) g.unread End mid new grows.by (λ e. cc) (c.call.tells t) ∙ c.text t;
+      define = λ t plain holds.
+          let here : HoldsDefine (held_of new) (rest_of g.unread new) = rw (held, grows.by.2) (rw (grows.by.1 (c.call.tells t)) at (c.define t holds)) in
+          sym (tokens t) ∙ (define-last g.unread new (e.mode ∙ plain) here none_now grows.by.2 short
+          ∙ rw (size, e.line) refl);
+    }
+
+-- with its next line the logical line is too long
+pub long-line : {S R : Type 0} (g : Ghosts S R) (first now : S) (old mid new : BufferView R) (seen : ℕ) → Continues g first now old mid seen → logical_len 0 0 (held_of mid) ≡ None →
+    Grows (g.tells now) g.unread LineLong mid new → HoldsLine (g.tells first) g.unread TooLong old new
+unfolding tokens_left
+long-line g first now old mid new seen c none grows = record {
+  extends = extends-stays (g.tells now) g.unread LineLong old mid new c.extends grows grows.by.0;
+  has = tt;
+  slides = slides-behind g first now LineLong TooLong old mid new seen c (λ x. absurd (x refl)) grows;
+  text = λ other t. absurd (other refl);
+  define = λ t plain holds.
+      sym (c.tokens t) ∙ (ap (λ m. remaining_tokens mid.line_bytes m mid.open_token_line mid.line (held_of mid) mid.bytes_left (rest_of g.unread mid)) (c.extends.mode ∙ plain)
+      ∙ (remaining-logical_full mid.line_bytes mid.open_token_line mid.line (held_of mid) mid.bytes_left (rest_of g.unread mid) (c.define t holds) none (grows.by.2 (c.call.tells t)) (grows.by.1 (c.call.tells t))
+      ∙ ap (only_broken DefineLong) c.extends.line));
+}
+
+-- the next line is beyond what the source may still have
+pub cut-line : {S R : Type 0} (g : Ghosts S R) (first now : S) (old mid new : BufferView R) (seen : ℕ) → Continues g first now old mid seen → logical_len 0 0 (held_of mid) ≡ None →
+    Grows (g.tells now) g.unread SourceLong mid new → HoldsLine (g.tells first) g.unread LineCut old new
+unfolding tokens_left
+cut-line g first now old mid new seen c none grows = record {
+  extends = extends-stays (g.tells now) g.unread SourceLong old mid new c.extends grows grows.by.0;
+  has = stays-tokens g first now SourceLong old mid new seen c grows grows.by.0 grows.by.3;
+  slides = slides-behind g first now SourceLong LineCut old mid new seen c (λ x e. cc) grows;
+  text = λ other t. grows-text (g.tells now) g.unread SourceLong mid new grows.by (λ e. cc) (c.call.tells t) ∙ c.text t;
+  define = λ t plain holds.
+      sym (c.tokens t) ∙ (ap (λ m. remaining_tokens mid.line_bytes m mid.open_token_line mid.line (held_of mid) mid.bytes_left (rest_of g.unread mid)) (c.extends.mode ∙ plain)
+      ∙ (remaining-logical_source mid.line_bytes mid.open_token_line mid.line (held_of mid) mid.bytes_left (rest_of g.unread mid) (c.define t holds) none (grows.by.1 (c.call.tells t)) (grows.by.2 (c.call.tells t))
+      ∙ ap (only_broken DefineCut) c.extends.line));
+}
+
+-- a read failed
+pub failed-line : {S R : Type 0} (g : Ghosts S R) (first now : S) (old mid new : BufferView R) (seen : ℕ) → Continues g first now old mid seen →
+    Grows (g.tells now) g.unread Failed mid new → HoldsLine (g.tells first) g.unread LineFailed old new
+failed-line g first now old mid new seen c grows = record {
+  extends = extends-stays (g.tells now) g.unread Failed old mid new c.extends grows grows.by.0;
+  has = stays-tokens g first now Failed old mid new seen c grows grows.by.0 grows.by.1;
+  slides = slides-behind g first now Failed LineFailed old mid new seen c (λ x e. cc) grows;
+  text = λ other t. grows-text (g.tells now) g.unread Failed mid new grows.by (λ e. cc) (c.call.tells t) ∙ c.text t;
+  define = λ t plain holds. tt;
+}
+
+-- more lines came
+pub continues-on : {S R : Type 0} (g : Ghosts S R) (first now after : S) (old mid new : BufferView R) (seen len : ℕ) → Continues g first now old mid seen → logical_len 0 0 (held_of mid) ≡ None → len ≡ length (held_of mid) →
+    EndsHeld new → Grows (g.tells now) g.unread Held mid new → SourcesRead g false now after → Continues g first after old new len
+continues-on g first now after old mid new seen len c none all ends grows call =
+    let l = grows.by in
+    let e = c.extends in
+    let size : length (held_of new) ≡ length (held_of mid) + length l.lines = ap length l.held ∙ length-append (held_of mid) l.lines in
+    let front_part : take len (held_of new) ≡ held_of mid = rw (all, l.held) (take-append_seam (held_of mid) l.lines) in
+    record {
+      extends = record {
+        line = grows.line ∙ e.line;
+        line_bytes = grows.line_bytes ∙ e.line_bytes;
+        mode = grows.mode ∙ e.mode;
+        open_token_line = grows.open_token_line ∙ e.open_token_line;
+        unused = grows.unused ∙ e.unused;
+        more = e.more ++ l.lines;
+        held = l.held ∙ (ap (λ h. h ++ l.lines) e.held ∙ append_assoc (held_of old) e.more l.lines);
+      };
+      slides = slides-on (g.tells first) (g.tells first) (g.tells now) Unit (IsExact Held) g.unread old mid new (λ t. t) c.call.tells (λ _ e. cc) c.slides grows.slides;
+      tokens = λ t. lengthens-tokens (g.tells now) g.unread mid new grows.line grows.line_bytes grows.mode grows.open_token_line l (c.call.tells t) ∙ c.tokens t;
+      text = λ t. grows-text (g.tells now) g.unread Held mid new grows.by (λ e. cc) (c.call.tells t) ∙ c.text t;
+      define = λ t holds.
+          let here : HoldsDefine (held_of mid) (l.lines ++ rest_of g.unread new) = rw (l.rest (c.call.tells t)) at (c.define t holds) in
+          rw l.held (HoldsDefine-more (held_of mid) l.lines (rest_of g.unread new) here l.some l.ends);
+      place = omega arith;
+      whole = subst IsWholeLines (sym front_part) l.before;
+      none = ap (logical_len 0 0) front_part ∙ none;
+      ends = ends;
+      call = calls-on g false first now after c.call call;
+    }
+
+-- more is held
+pub fewer-lines : {R : Type 0} (tells : Type 0) (unread : R → List ℕ) (mid new : BufferView R) → Grows tells unread Held mid new → new.line_bytes - length (held_of new) < mid.line_bytes - length (held_of mid)
+fewer-lines tells unread mid new grows =
+    let l = grows.by in
+    let size : length (held_of new) ≡ length (held_of mid) + length l.lines = ap length l.held ∙ length-append (held_of mid) l.lines in
+    let most = grows.line_bytes in
+    let short = l.short in
+    let some = l.some in
+    omega arith
+
+-- Whether only blanks stand behind bytes, by their last one.
+
+-- by the last byte
+blanks_last : (first : Bool) (at : ℕ) (bs : List ℕ) → 0 < at → at ≤ length bs
+    → only_blanks first (take at bs) ≡ (is_line_end (get_or bs (at - 1) 0) || is_blank (get_or bs (at - 1) 0) && only_blanks first (take (at - 1) bs))
+unfolding only_blanks
+blanks_last first at bs some within =
+    let n = at - 1 in
+    let same : at ≡ suc n = omega arith in
+    let inside : n < length bs = omega arith in
+    ap (λ (k : ℕ). only_blanks first (take k bs)) same
+    ∙ ap (only_blanks first) (take-suc bs n 0 inside) ∙ only_blanks-append first (take n bs) (get_or bs n 0 ∷ [])
+
+-- behind an LF only blanks stand
+pub blanks_line_end : (first : Bool) (at : ℕ) (bs : List ℕ) → 0 < at → at ≤ length bs → get_or bs (at - 1) 0 ≡ 10
+    → only_blanks first (take at bs) ≡ true
+unfolding is_line_end
+blanks_line_end first at bs some within e = blanks_last first at bs some within ∙ rw e refl
+
+-- a byte that isn't LF
+not_line_end : (b : ℕ) → b ≢ 10 → is_line_end b ≡ false
+unfolding is_line_end
+not_line_end b ne = elim (eqb_tells b 10) [ inl h ↦ absurd (ne h.1) | inr h ↦ h.0 ]
+
+-- behind another byte that is no blank they don't
+pub blanks_other : (first : Bool) (at : ℕ) (bs : List ℕ) → 0 < at → at ≤ length bs → get_or bs (at - 1) 0 ≢ 10 → is_blank (get_or bs (at - 1) 0) ≡ false
+    → only_blanks first (take at bs) ≡ false
+blanks_other first at bs some within ne e = blanks_last first at bs some within ∙ rw (not_line_end (get_or bs (at - 1) 0) ne, e) refl
+
+-- behind a blank it is as before it
+pub blanks_blank : (first : Bool) (at : ℕ) (bs : List ℕ) → 0 < at → at ≤ length bs → get_or bs (at - 1) 0 ≢ 10 → is_blank (get_or bs (at - 1) 0) ≡ true
+    → only_blanks first (take at bs) ≡ only_blanks first (take (at - 1) bs)
+blanks_blank first at bs some within ne e = blanks_last first at bs some within ∙ rw (not_line_end (get_or bs (at - 1) 0) ne, e) refl
+
+-- What a `line` is given, byte by byte.
+
+-- a text that doesn't begin with a level is none
+pub level_other : (bytes : List ℕ) → (get_or bytes 0 0 < 48) ⊎ (50 < get_or bytes 0 0) → is_level bytes ≡ false
+unfolding is_level
+level_other bytes (inl low) = rw (lt-leb 48 (get_or bytes 0 0) low) refl
+level_other bytes (inr high) =
+    let n = get_or bytes 0 0 in
+    rw (le-leb 48 n (omega arith), lt-leb n 50 high) refl
+
+-- no text is no level
+pub level_none : (bytes : List ℕ) → eqb (length bytes) 0 ≡ true → is_level bytes ≡ false
+level_none [] none = level_other [] (inl (omega arith))
+level_none (b ∷ bs) none = let zero_is : length (b ∷ bs) ≡ 0 = eqb-true (length (b ∷ bs)) 0 none in absurd (omega arith)
+
+-- one that does is a level where blanks end its line
+pub level_digit : (bytes : List ℕ) → 48 ≤ get_or bytes 0 0 → get_or bytes 0 0 ≤ 50
+    → is_level bytes ≡ (eqb (length (past_blank_bytes (drop 1 bytes))) 0 || bytes_eq (past_blank_bytes (drop 1 bytes)) (10 ∷ []))
+unfolding is_level
+level_digit bytes low high =
+    let n = get_or bytes 0 0 in
+    rw (le-leb 48 n low, le-leb n 50 high) refl
+
+-- a number with one more digit
+abbrev pub with_digit : ℕ → ℕ → ℕ
+with_digit number digit = number * 10 + (digit - 48)
+
+-- more digits make no smaller number
+pub digits_grow : (number : ℕ) (digits : List ℕ) → number ≤ fold with_digit number digits
+digits_grow number [] = omega arith
+digits_grow number (d ∷ ds) = omega (arith, digits_grow (with_digit number d) ds)
+
+-- the number of all digits, by those up to a place and the rest
+pub digits_at : (digits : List ℕ) → fold with_digit 0 digits ≡ digits_value digits
+unfolding digits_value
+digits_at digits = refl
+
+-- the next digit counts
+pub digit_next : (digits : List ℕ) (at number : ℕ) → at < length digits → fold with_digit number (drop at digits) ≡ fold with_digit (with_digit number (get_or digits at 0)) (drop (suc at) digits)
+digit_next digits at number more = ap (fold with_digit number) (drop-cons digits at 0 more)
+
+-- a number past the greatest is none that a line may have
+pub number_past : (value : ℕ) → 2147483647 < value → (leb 1 value && leb value 2147483647) ≡ false
+number_past value past = ap (λ t. leb 1 value && t) (lt-leb value 2147483647 past) ∙ and-false (leb 1 value)
+
+-- a place further back
+abbrev pub moved : ℕ → Option ℕ → Option ℕ
+moved n place = option_map (λ k. n + k) place
+
+moved_once : (n : ℕ) (place : Option ℕ) → moved n (elim place [ None ↦ None | Some k ↦ Some (suc k) ]) ≡ moved (suc n) place
+moved_once n None = refl
+moved_once n (Some k) = ap Some (omega arith)
+
+-- a byte that a backslash takes along closes no string
+pub quote_taken : (n b : ℕ) (bytes : List ℕ) → moved n (quote_place true (b ∷ bytes)) ≡ moved (suc n) (quote_place false bytes)
+unfolding quote_place
+quote_taken n b bytes = moved_once n (quote_place false bytes)
+
+-- a quote does
+pub quote_here : (n b : ℕ) (bytes : List ℕ) → b ≡ 34 → moved n (quote_place false (b ∷ bytes)) ≡ Some n
+unfolding quote_place
+quote_here n b bytes is = ap (λ x. moved n (quote_place false (x ∷ bytes))) is ∙ ap Some (omega arith)
+
+-- another byte doesn't
+pub quote_later : (n b : ℕ) (bytes : List ℕ) → eqb b 34 ≡ false → moved n (quote_place false (b ∷ bytes)) ≡ moved (suc n) (quote_place (eqb b 92) bytes)
+unfolding quote_place
+quote_later n b bytes other = rw other (moved_once n (quote_place (eqb b 92) bytes))
+
+-- no text has no closing quote
+quote_none : (taken : Bool) → quote_place taken [] ≡ None
+unfolding quote_place
+quote_none true = refl
+quote_none false = refl
+
+-- behind the last byte
+pub quote_over : (taken : Bool) (place : ℕ) (bytes : List ℕ) → length bytes ≤ place → moved place (quote_place taken (drop place bytes)) ≡ None
+quote_over taken place bytes over = ap (λ (x : List ℕ). moved place (quote_place taken x)) (drop_of_length-le bytes over) ∙ ap (moved place) (quote_none taken)
+
+-- at a byte that is taken along
+pub quote_at_taken : (taken : Bool) (place : ℕ) (bytes : List ℕ) → place < length bytes → taken ≡ true
+    → moved place (quote_place taken (drop place bytes)) ≡ moved (place + 1) (quote_place false (drop (place + 1) bytes))
+quote_at_taken taken place bytes more is =
+    let one : suc place ≡ place + 1 = omega arith in
+    ap (λ (t : Bool). moved place (quote_place t (drop place bytes))) is
+    ∙ ap (λ (x : List ℕ). moved place (quote_place true x)) (drop-cons bytes place 0 more)
+    ∙ quote_taken place (get_or bytes place 0) (drop (suc place) bytes)
+    ∙ ap (λ (n : ℕ). moved n (quote_place false (drop n bytes))) one
+
+-- at the closing quote
+pub quote_at : (taken : Bool) (place : ℕ) (bytes : List ℕ) → place < length bytes → taken ≡ false → get_or bytes place 0 ≡ 34
+    → moved place (quote_place taken (drop place bytes)) ≡ Some place
+quote_at taken place bytes more is quote =
+    ap (λ (t : Bool). moved place (quote_place t (drop place bytes))) is
+    ∙ ap (λ (x : List ℕ). moved place (quote_place false x)) (drop-cons bytes place 0 more)
+    ∙ quote_here place (get_or bytes place 0) (drop (suc place) bytes) quote
+
+-- at another byte
+pub quote_at_other : (taken : Bool) (place : ℕ) (bytes : List ℕ) → place < length bytes → taken ≡ false → (get_or bytes place 0 ≡ 34 → ⊥)
+    → moved place (quote_place taken (drop place bytes)) ≡ moved (place + 1) (quote_place (eqb (get_or bytes place 0) 92) (drop (place + 1) bytes))
+quote_at_other taken place bytes more is other =
+    let b = get_or bytes place 0 in
+    let one : suc place ≡ place + 1 = omega arith in
+    ap (λ (t : Bool). moved place (quote_place t (drop place bytes))) is
+    ∙ ap (λ (x : List ℕ). moved place (quote_place false x)) (drop-cons bytes place 0 more)
+    ∙ quote_later place b (drop (suc place) bytes) (ne_eqb b 34 other)
+    ∙ ap (λ (n : ℕ). moved n (quote_place (eqb b 92) (drop n bytes))) one
+
+-- a text that doesn't begin with a quote gives no name
+pub unnamed : (number : ℕ) (bytes : List ℕ) → eqb (get_or bytes 0 0) 34 ≡ false → renumbered_name number bytes ≡ None
+unfolding renumbered_name
+unnamed number bytes other = rw other refl
+
+-- no text gives none
+pub unnamed_none : (number : ℕ) (bytes : List ℕ) → eqb (length bytes) 0 ≡ true → renumbered_name number bytes ≡ None
+unnamed_none number [] none = unnamed number [] refl
+unnamed_none number (b ∷ bs) none = let zero_is : length (b ∷ bs) ≡ 0 = eqb-true (length (b ∷ bs)) 0 none in absurd (omega arith)
+
+-- one whose string isn't closed gives none
+pub name_open : (number : ℕ) (bytes : List ℕ) → quote_place false (drop 1 bytes) ≡ None → renumbered_name number bytes ≡ None
+unfolding renumbered_name
+name_open number bytes open_is =
+    let P : Bool → Type 0 = λ t. (if t then elim (quote_place false (drop 1 bytes)) as (λ _. Option Renumbered) [
+      | None ↦ None
+      | Some n ↦ if leb 1 n && leb n 1024 && is_utf8 (take n (drop 1 bytes)) && is_level (past_blank_bytes (drop (n + 2) bytes))
+          then Some (record { number = number; name = take n (drop 1 bytes) }) else None
+    ] else None) ≡ None in
+    elim (eqb (get_or bytes 0 0) 34) as P [ true ↦ rw open_is refl | false ↦ refl ]
+
+-- whether a name of so many bytes is one that a `line` may give
+abbrev pub may_name : ℕ → List ℕ → Bool
+may_name n bytes = leb 1 n && leb n 1024 && is_utf8 (take n (drop 1 bytes)) && is_level (past_blank_bytes (drop (n + 2) bytes))
+
+-- one whose string is closed gives a name or none
+pub name_closed : (number n : ℕ) (bytes : List ℕ) → get_or bytes 0 0 ≡ 34 → quote_place false (drop 1 bytes) ≡ Some n
+    → renumbered_name number bytes ≡ (if may_name n bytes then Some (record { number = number; name = take n (drop 1 bytes) }) else None)
+unfolding renumbered_name
+name_closed number n bytes quote place = rw (quote, place) refl
+
+-- it gives none where one of the tests fails
+pub name_refused : (number n : ℕ) (bytes : List ℕ) → get_or bytes 0 0 ≡ 34 → quote_place false (drop 1 bytes) ≡ Some n → may_name n bytes ≡ false
+    → renumbered_name number bytes ≡ None
+name_refused number n bytes quote place refused = name_closed number n bytes quote place ∙ rw refused refl
+
+-- and one where they hold
+pub name_accepted : (number n : ℕ) (bytes : List ℕ) → get_or bytes 0 0 ≡ 34 → quote_place false (drop 1 bytes) ≡ Some n → may_name n bytes ≡ true
+    → renumbered_name number bytes ≡ Some (record { number = number; name = take n (drop 1 bytes) })
+name_accepted number n bytes quote place accepted = name_closed number n bytes quote place ∙ rw accepted refl
+
+-- four tests
+pub fails_first : (b c d : Bool) (a : Bool) → a ≡ false → (a && b && c && d) ≡ false
+fails_first b c d a e = rw e refl
+
+pub fails_second : (a c d : Bool) (b : Bool) → b ≡ false → (a && b && c && d) ≡ false
+fails_second true c d b e = rw e refl
+fails_second false c d b e = refl
+
+pub fails_third : (a b d : Bool) (c : Bool) → c ≡ false → (a && b && c && d) ≡ false
+fails_third true true d c e = rw e refl
+fails_third true false d c e = refl
+fails_third false b d c e = refl
+
+pub fails_fourth : (a b c : Bool) (d : Bool) → d ≡ false → (a && b && c && d) ≡ false
+fails_fourth true true true d e = e
+fails_fourth true true false d e = refl
+fails_fourth true false c d e = refl
+fails_fourth false b c d e = refl
+
+pub all_four : (a b c d : Bool) → a ≡ true → b ≡ true → c ≡ true → d ≡ true → (a && b && c && d) ≡ true
+all_four a b c d e f g h = rw (e, f, g, h) refl
+
+-- the number of a line that gives none, and what stands behind the number
+pub line_unnumbered : (rest : List ℕ) → (leb 1 (digits_value (take (prefix_len is_digit (past_blank_bytes rest)) (past_blank_bytes rest)))
+    && leb (digits_value (take (prefix_len is_digit (past_blank_bytes rest)) (past_blank_bytes rest))) 2147483647) ≡ false
+    → renumbered rest ≡ None
+unfolding renumbered
+line_unnumbered rest e = rw e refl
+
+pub line_numbered : (rest : List ℕ) (number : ℕ) → number ≡ digits_value (take (prefix_len is_digit (past_blank_bytes rest)) (past_blank_bytes rest)) → 0 < number → number ≤ 2147483647
+    → renumbered rest ≡ renumbered_name number (past_blank_bytes (drop (prefix_len is_digit (past_blank_bytes rest)) (past_blank_bytes rest)))
+unfolding renumbered
+line_numbered rest number is some most = rw (← is, le-leb 1 number (omega arith), le-leb number 2147483647 most) refl
+
+-- the rest of a line as the code takes it
+pub line_rest : (bytes : List ℕ) (stop : ℕ) (ended : Option ℕ) → ended ≡ ended_line_len bytes → stop ≡ unwrap_or ended (length bytes) → stop ≡ line_len bytes
+line_rest bytes stop ended e is = is ∙ ap (λ o. unwrap_or o (length bytes)) e ∙ line_len-ended bytes
+
+-- what stands between the quotes, as text
+pub record IsQuoted (bytes : List ℕ) (n : ℕ) : Type 0 where
+  pub quote : get_or bytes 0 0 ≡ 34
+  pub place : quote_place false (drop 1 bytes) ≡ Some n
+  pub some : n ≢ 0
+  pub inside : n ≤ length (drop 1 bytes)
+  pub level : is_level (past_blank_bytes (drop (n + 2) bytes)) ≡ true
+
+-- what isn't UTF-8 is no name
+pub name_no_text : (number n : ℕ) (bytes : List ℕ) → IsQuoted bytes n → (IsUtf8 (take n (drop 1 bytes)) → ⊥) → renumbered_name number bytes ≡ None
+name_no_text number n bytes q other =
+    let text = take n (drop 1 bytes) in
+    let no : is_utf8 text ≡ false = false_from_ne_true (is_utf8 text) (λ e. other (IsUtf8-from_is_utf8 text e)) in
+    name_refused number n bytes q.quote q.place
+    (fails_third (leb 1 n) (leb n 1024) (is_level (past_blank_bytes (drop (n + 2) bytes))) (is_utf8 text) no)
+
+-- text of 1 to 1,024 bytes is, and a longer one isn't
+pub name_text : {E : Type 0} (n : ℕ) (bytes text : List ℕ) (name : Result (ArrayString 1024) E) → IsQuoted bytes n → text ≡ take n (drop 1 bytes) → IsUtf8 (take n (drop 1 bytes))
+    → (IsOk name → length text ≤ 1024) × (length text ≤ 1024 → IsOk name) → IfOk name (λ t. t.bytes ≡ text) → IsShownName (result_ok name) bytes
+name_text n bytes text (Ok t) q is utf8 short same = λ number.
+    let size : length text ≡ n = ap length is ∙ length-take-le n (drop 1 bytes) q.inside in
+    let some = q.some in
+    let fits = short.0 refl in
+    let own : take n (drop 1 bytes) ≡ t.bytes = sym (same ∙ is) in
+    name_accepted number n bytes q.quote q.place
+    (all_four (leb 1 n) (leb n 1024) (is_utf8 (take n (drop 1 bytes))) (is_level (past_blank_bytes (drop (n + 2) bytes)))
+    (le-leb 1 n (omega arith)) (le-leb n 1024 (omega arith)) (is_utf8-from_IsUtf8 (take n (drop 1 bytes)) utf8) q.level)
+    ∙ ap (λ (x : List ℕ). Some (record { number = number; name = x })) own
+name_text n bytes text (Err e) q is utf8 short same = λ number.
+    let size : length text ≡ n = ap length is ∙ length-take-le n (drop 1 bytes) q.inside in
+    let long : leb n 1024 ≡ false = elim (leb_tells n 1024) [ inl h ↦ absurd (let no : false ≡ true = short.1 (let most = h.1 in omega arith) in cc) | inr h ↦ h.0 ] in
+    name_refused number n bytes q.quote q.place
+    (fails_second (leb 1 n) (is_utf8 (take n (drop 1 bytes))) (is_level (past_blank_bytes (drop (n + 2) bytes))) (leb n 1024) long)

@@ -1,0 +1,657 @@
+-- Pieces that are lent: out of what is owed, where they stand, and cut to a limit.
+use Rattle.std.proofs.Common.{◌≡◌, ℕ, ◌+◌, ◌-◌, ◌≤◌, ◌<◌, List, ◌++◌, length, take, replicate, Option, Some, refl, sym, ap, ◌∙◌, append_assoc, arith, ◌^◌, Bool, true, false, [], ◌∷◌, ◌==◌, None, subst, drop, Ok, Err, inl, inr, slice_range, IfNone, IfSome, codes, decimal, if◌then◌else◌, is_some, eqb-true, ne_eqb, length-drop, length-take-le, take-take, take_all}
+use Rattle.std.proofs.lemmas.Bool.{cases_lt}
+use Rattle.std.proofs.lemmas.List.{length-replicate, replicate-append-replicate, take-replicate}
+use Rattle.rdlpp_scan.specs.SourceTokens.{line_ends}
+use Rattle.rdlpp_scan.specs.declared.token.Mode.{Mode}
+use Rattle.rdlpp_table.specs.Table.{Macro}
+use Rattle.rdlpp_table.specs.declared.limits.Limits.{Limits}
+use Rattle.rdlpp_meaning.specs.Meaning.{behind_bytes, origin_line}
+use Rattle.rdlpp_meaning.specs.Outcome.{Outcome, Told, and_then, fails, gives}
+use Rattle.rdlpp_meaning.specs.OutputLimit.{limited}
+use Rattle.rdlpp_meaning.specs.Parts.{line_ends_of}
+use Rattle.rdlpp_meaning.specs.Profile.{rules_of}
+use Rattle.rdlpp_meaning.specs.State.{Rules, Shift, State}
+use Rattle.rdlpp_meaning.proofs.Outcomes.{limited-fails, limited-gives, limited-past, limited-within}
+use Rattle.rdlpp_meaning.proofs.Skipping.{line_ends_of-owed}
+use Rattle.rdlpp_source.specs.Sources.{Catalog}
+use Rattle.rdlpp_source.specs.declared.sources.Sources.{Ghosts}
+use Rattle.rdlpp_texts.specs.Places.{IsPlaced as IsTextPlaced, place_bytes, source_text, texts_of}
+use Rattle.rdlpp_texts.specs.declared.place.TextPlace.{TextPlace}
+use Rattle.rdlpp_conditions.specs.Conditions.{ConditionsView}
+use Rattle.rdlpp_read.specs.Buffer.{entered_mode}
+use Rattle.rdlpp_read.specs.Files.{consumed_file, inner_buffer, shift_of, with_buffer, with_inner}
+use Rattle.rdlpp_read.specs.declared.files.File.{File}
+use Rattle.rdlpp_usages.specs.Usages.{ExpansionView}
+use Rattle.rdlpp_state.specs.Engine.{EngineView, is_open}
+use Rattle.rdlpp_state.specs.Held.{IsBounded, stores_of}
+use Rattle.rdlpp_state.specs.Marks.{MarksView, PlaceView, lends_line, lends_line_end, lends_origin, lends_owed, lends_usage, marked_place}
+use Rattle.rdlpp_state.specs.Owed.{OriginView, OwedView, TakesPiece, behind_piece, cut_to, digits_of, first_piece, line_from, nothing_owed, origin_bytes, origin_owed, origin_pieces, owed_bytes, owed_number, owed_pieces, part_bytes, pieces_from}
+use Rattle.rdlpp_state.specs.Pieces.{IsPlaced, held_texts, kept_answer, lent_answer, owed_part}
+use Rattle.rdlpp_state.specs.Positions.{TakesOwed, line_end_place, origin_place, owed_place, place_at, position_of, source_place, usage_place}
+use Rattle.rdlpp_state.specs.Remaining.{file_state, inner_name, kept_uncut, left_of, nest_state, output_fault, phase_uncut, source_rules, state_of, text_of, uncut_of, work_left}
+use Rattle.rdlpp_state.specs.Silences.{most_silent}
+use Rattle.rdlpp_state.specs.Standing.{StandsIn}
+use Rattle.rdlpp_state.specs.Steps.{Steps, WalksOver, all_of, has_met, is_call_failed, lent_len, may_follow, no_len}
+use Rattle.rdlpp_state.specs.Stored.{HoldsStores, LetsGo}
+use Rattle.rdlpp_state.specs.declared.owed.OwedPart.{OwedPart}
+use Rattle.rdlpp_state.specs.declared.owed.OwedPart.TheVariants.{Colon, Digits, Label, LineEnds, Name}
+use Rattle.rdlpp_state.specs.declared.owed.OwedPiece.{OwedPiece}
+use Rattle.rdlpp_state.specs.declared.phase.Phase.{Phase}
+use Rattle.rdlpp_state.specs.declared.phase.Phase.TheVariants.{Closed, Fresh, Open, Passed}
+use Rattle.rdlpp_state.specs.declared.place.Place.TheVariants.{Owed, Source, Text}
+use Rattle.rdlpp_state.specs.declared.positions.Lent.TheVariants.{Ending, Line, Origin}
+use Rattle.rdlpp_state.specs.declared.positions.LineStep.TheVariants.{Next}
+use Rattle.rdlpp_state.proofs.EngineSteps.{free_before, ok_not_met}
+use Rattle.rdlpp_state.proofs.Stores.{keeps_phase}
+
+-- Pieces taken out of the texts that are owed.
+
+-- all of a list, and then another
+whole_behind : (xs ys : List ℕ) → xs ++ ys ≡ take (length xs) xs ++ ys
+whole_behind xs ys = ap (λ (zs : List ℕ). zs ++ ys) (sym (take_all (length xs) xs (omega arith)))
+
+-- LF bytes are taken out
+pub takes_line_ends : (name : List ℕ) (owed : OwedView) (len : ℕ) → 0 < len → len ≤ 16 → len ≤ owed.line_ends
+    → TakesPiece name owed (record { line_ends = owed.line_ends - len; origin = owed.origin }) (record { part = LineEnds; len = len })
+unfolding part_bytes owed_bytes owed_pieces
+takes_line_ends name owed len some few within =
+    let rest = owed.line_ends - len in
+    let split : owed.line_ends ≡ len + rest = omega arith in
+    let joined : replicate {A = ℕ} owed.line_ends 10 ≡ replicate len 10 ++ replicate rest 10 =
+    ap (λ n. replicate n 10) split ∙ sym (replicate-append-replicate len rest 10) in
+    record {
+      inside = omega (arith, length-replicate {A = ℕ} 16 10);
+      bytes = ap (λ (x : List ℕ). x ++ origin_bytes name owed.origin) joined
+          ∙ (append_assoc (replicate len 10) (replicate rest 10) (origin_bytes name owed.origin)
+          ∙ ap (λ (x : List ℕ). x ++ (replicate rest 10 ++ origin_bytes name owed.origin)) (sym (take-replicate len 16 10 few)));
+      fewer = omega arith;
+    }
+
+-- the first piece of an origin line is taken out
+pub takes_origin : (part : OwedPart) (name : List ℕ) (number : ℕ)
+    → let origin : OriginView = record { part = part; number = number } in
+    TakesPiece name (record { line_ends = 0; origin = Some origin }) (record { line_ends = 0; origin = behind_piece origin }) (first_piece (length name) origin)
+unfolding part_bytes owed_bytes owed_pieces origin_bytes origin_pieces line_from pieces_from behind_piece first_piece digits_of
+takes_origin LineEnds name number = record { inside = omega arith; bytes = refl; fewer = omega arith }
+takes_origin Label name number = record { inside = omega arith; bytes = refl; fewer = omega arith }
+takes_origin Name name number = record { inside = omega arith; bytes = whole_behind name _; fewer = omega arith }
+takes_origin Colon name number = record { inside = omega arith; bytes = refl; fewer = omega arith }
+takes_origin Digits name number = record { inside = omega arith; bytes = whole_behind (decimal number) _; fewer = omega arith }
+
+-- so it is where nothing stands before it
+pub takes_first : (name : List ℕ) (name_len lines : ℕ) (at behind : Option OriginView) (origin : OriginView) (piece : OwedPiece)
+    → length name ≡ name_len → lines ≤ 0 → at ≡ Some origin → behind_piece origin ≡ behind → piece ≡ first_piece name_len origin
+    → TakesPiece name (record { line_ends = lines; origin = at }) (record { line_ends = lines; origin = behind }) piece
+takes_first name name_len lines at behind origin piece size none is rest first =
+    let zero : lines ≡ 0 = omega arith in
+    rw (first, ← rest, ← size, zero, is) (takes_origin origin.part name origin.number)
+
+-- The origin lines that are owed, as the meaning has them.
+
+-- a whole origin line
+whole_line : (name digits : List ℕ) → line_from Label name digits ≡ codes "// origin: " ++ name ++ 58 ∷ digits ++ 10 ∷ []
+unfolding line_from
+whole_line name digits = ap (λ (x : List ℕ). codes "// origin: " ++ x) (sym (append_assoc name (58 ∷ digits) (10 ∷ [])))
+
+-- the origin line that is owed where it is asked for
+origin_line_owed : (origins : Bool) (rules : Rules) (name : List ℕ) (number : ℕ) → rules.origins ≡ origins → origin_bytes name (origin_owed origins number) ≡ origin_line rules name number
+unfolding origin_bytes origin_owed origin_line
+origin_line_owed true rules name number asked = rw asked (whole_line name (decimal number))
+origin_line_owed false rules name number asked = rw asked refl
+
+-- it has a few pieces
+origin_few : (origins : Bool) (number : ℕ) → origin_pieces (origin_owed origins number) ≤ 5
+unfolding origin_pieces origin_owed pieces_from
+origin_few true number = omega arith
+origin_few false number = omega arith
+
+-- it alone is owed
+pub owed_origin : (c : Catalog) (limits : Limits) (origins : Bool) (name : List ℕ) (number : ℕ)
+    → owed_bytes name (record { line_ends = 0; origin = origin_owed origins number }) ≡ origin_line (source_rules c limits origins) name number
+unfolding owed_bytes source_rules rules_of
+owed_origin c limits origins name number = origin_line_owed origins (source_rules c limits origins) name number refl
+
+-- LF bytes that are owed, and an origin line behind them
+pub owed_with_origin : (c : Catalog) (limits : Limits) (origins : Bool) (name w : List ℕ) (lines number : ℕ) → lines ≡ line_ends w
+    → owed_bytes name (record { line_ends = lines; origin = origin_owed origins number }) ≡ line_ends_of w ++ origin_line (source_rules c limits origins) name number
+unfolding owed_bytes source_rules rules_of
+owed_with_origin c limits origins name w lines number counted =
+    ap (λ (x : List ℕ). replicate lines 10 ++ x) (origin_line_owed origins (source_rules c limits origins) name number refl)
+    ∙ ap (λ (x : List ℕ). x ++ origin_line (source_rules c limits origins) name number) (ap (λ n. replicate n 10) counted ∙ sym (line_ends_of-owed w))
+
+-- an LF that is owed where a text ends in mid-line, and an origin line behind it
+pub owed_torn : (c : Catalog) (limits : Limits) (origins : Bool) (name : List ℕ) (torn : Bool) (number : ℕ)
+    → owed_bytes name (record { line_ends = if torn then 1 else 0; origin = origin_owed origins number }) ≡ (if torn then 10 ∷ [] else []) ++ origin_line (source_rules c limits origins) name number
+unfolding owed_bytes source_rules rules_of
+owed_torn c limits origins name true number = ap (λ (x : List ℕ). 10 ∷ x) (origin_line_owed origins (source_rules c limits origins) name number refl)
+owed_torn c limits origins name false number = origin_line_owed origins (source_rules c limits origins) name number refl
+
+-- they can be counted
+pub owed_few : (origins : Bool) (lines number : ℕ) → lines + 5 < 2 ^ 31 → owed_pieces (record { line_ends = lines; origin = origin_owed origins number }) < 2 ^ 31
+unfolding owed_pieces
+owed_few origins lines number few = let least = origin_few origins number in omega arith
+
+-- The places of pieces, as the marks have them.
+
+-- the place that an engine tells which keeps no fault and whose main text is open
+pub position_open : {S R : Type 0} (e : EngineView S R) → e.kept ≡ None → is_open e.phase ≡ true → position_of e ≡ marked_place e.marks (state_of e).name (state_of e).shift
+unfolding position_of
+position_open e free opens = rw (free, opens) refl
+
+-- the innermost source shows the same name and numbers where bytes of it are used
+used_name : {R : Type 0} (limits : Limits) (macros : List Macro) (v : ConditionsView) (nest : List (File R)) (len lines : ℕ) (next : Mode)
+    → (nest_state limits macros v (with_inner (consumed_file len lines) (with_buffer (entered_mode (inner_buffer nest) next) nest))).name ≡ (nest_state limits macros v nest).name
+unfolding nest_state file_state
+used_name limits macros v [] len lines next = refl
+used_name limits macros v (f ∷ outer) len lines next = refl
+
+used_shift : {R : Type 0} (limits : Limits) (macros : List Macro) (v : ConditionsView) (nest : List (File R)) (len lines : ℕ) (next : Mode)
+    → (nest_state limits macros v (with_inner (consumed_file len lines) (with_buffer (entered_mode (inner_buffer nest) next) nest))).shift ≡ (nest_state limits macros v nest).shift
+unfolding nest_state file_state
+used_shift limits macros v [] len lines next = refl
+used_shift limits macros v (f ∷ outer) len lines next = refl
+
+-- a line of a source is marked
+marked_line : (m : MarksView) (line : ℕ) (name : List ℕ) (shift : Shift) (s : State) → name ≡ s.name → shift ≡ s.shift → marked_place (lends_line line m) name shift ≡ Some (place_at Next line s)
+unfolding marked_place lends_line place_at
+marked_line m line name shift s named shifted = rw (named, shifted) refl
+
+-- text of the innermost source is lent
+pub source_position : {S R : Type 0} (old : EngineView S R) (len lines : ℕ) (next : Mode) → old.kept ≡ None → old.phase ≡ Open
+    → position_of (record old { files = record old.files { nest = with_inner (consumed_file len lines) (with_buffer (entered_mode (inner_buffer old.files.nest) next) old.files.nest) }; marks = lends_line (inner_buffer old.files.nest).line old.marks })
+    ≡ Some (source_place old)
+unfolding state_of is_open
+source_position old len lines next free open_ =
+    position_open _ free (ap is_open open_)
+    ∙ marked_line old.marks (inner_buffer old.files.nest).line _ _ (state_of old)
+    (used_name old.limits old.table.macros old.conditions old.files.nest len lines next) (used_shift old.limits old.table.macros old.conditions old.files.nest len lines next)
+
+-- text of a usage is lent
+pub usage_position : {S R : Type 0} (old : EngineView S R) (x : ExpansionView) → old.kept ≡ None → old.phase ≡ Open
+    → position_of (record old { expansion = x; marks = lends_usage old.expansion.line old.marks }) ≡ Some (usage_place old)
+unfolding state_of is_open marked_place lends_usage place_at
+usage_position old x free open_ = position_open _ free (ap is_open open_)
+
+-- the first of the LF bytes that are owed is lent
+marked_end : (ending : Bool) (m : MarksView) (ends line : ℕ) (s : State) → m.ending ≡ ending
+    → marked_place (lends_line_end ends line m) s.name s.shift ≡ Some (if ending then record { name = m.name; line = m.line; step = Next } else place_at Next (line - ends) s)
+unfolding marked_place lends_line_end place_at
+marked_end true m ends line s is = rw is refl
+marked_end false m ends line s is = rw is refl
+
+-- a piece of an origin line is lent
+marked_origin : (origin : Option OriginView) (m : MarksView) (s : State) → 0 < origin_pieces origin → marked_place (lends_origin origin m) s.name s.shift ≡ origin_place s.name origin
+unfolding marked_place lends_origin origin_place origin_pieces
+marked_origin None m s some = absurd (omega arith)
+marked_origin (Some origin) m s some = refl
+
+-- one that falls isn't 0
+some_pieces : (owed rest : OwedView) → owed_pieces rest < owed_pieces owed → (owed.line_ends == 0) ≡ true → 0 < origin_pieces owed.origin
+unfolding owed_pieces
+some_pieces owed rest fewer none = let zeroth = eqb-true owed.line_ends 0 none in omega arith
+
+-- the first piece of what is owed is lent
+marked_owed : {S R : Type 0} (b : Bool) (e : EngineView S R) (rest : OwedView) → (e.owed.line_ends == 0) ≡ b → owed_pieces rest < owed_pieces e.owed
+    → marked_place (lends_owed e.owed (inner_buffer e.files.nest).line e.marks) (state_of e).name (state_of e).shift ≡ owed_place e
+unfolding lends_owed owed_place line_end_place
+marked_owed true e rest is fewer = rw is (marked_origin e.owed.origin e.marks (state_of e) (some_pieces e.owed rest fewer is))
+marked_owed false e rest is fewer = rw is (marked_end e.marks.ending e.marks e.owed.line_ends (inner_buffer e.files.nest).line (state_of e) refl)
+
+pub owed_position : {S R : Type 0} (old : EngineView S R) (rest : OwedView) (piece : OwedPiece) → TakesPiece (inner_name old.files.nest) old.owed rest piece → old.kept ≡ None → old.phase ≡ Open
+    → position_of (record old { owed = rest; marks = lends_owed old.owed (inner_buffer old.files.nest).line old.marks }) ≡ owed_place old
+unfolding state_of is_open
+owed_position old rest piece takes free open_ = position_open _ free (ap is_open open_) ∙ marked_owed (old.owed.line_ends == 0) old rest refl takes.fewer
+
+-- nothing is marked where nothing is owed
+pub unowed_marks : (line : ℕ) (m : MarksView) → lends_owed nothing_owed line m ≡ m
+unfolding lends_owed lends_origin nothing_owed
+unowed_marks line m = refl
+
+-- how far an engine is, and what may still be lent, doesn't change the place while its main text is open
+pub position_kept : {S R : Type 0} (mid new : EngineView S R) → new ≡ record mid { phase = new.phase; quota = new.quota } → mid.kept ≡ None → is_open mid.phase ≡ true → is_open new.phase ≡ true
+    → position_of new ≡ position_of mid
+unfolding state_of
+position_kept {S} {R} mid new becomes free opens still =
+    let none : new.kept ≡ None = ap (λ e. e.kept) becomes ∙ free in
+    position_open new none still
+    ∙ (ap (λ (e : EngineView S R). marked_place e.marks (state_of e).name (state_of e).shift) becomes ∙ sym (position_open mid free opens))
+
+-- the marks of an engine were changed, and nothing else
+pub marking : {S R : Type 0} (inside e after : EngineView S R) (m : MarksView) (change : MarksView → MarksView) → inside ≡ e → e ≡ after → m ≡ change inside.marks
+    → record inside { marks = m } ≡ record after { marks = change after.marks }
+marking {S} {R} inside e after m change is becomes marks =
+    ap (λ (n : MarksView). record inside { marks = n }) marks ∙ ap (λ (x : EngineView S R). record x { marks = change x.marks }) (is ∙ becomes)
+
+-- no fault is kept
+no_fault : (kept : Option Told) → is_some kept ≡ false → kept ≡ None
+no_fault None e = refl
+no_fault (Some f) e = cc e
+
+-- the place where a fault is kept, and where no main text is open
+nowhere_by : {S R : Type 0} (e : EngineView S R) (kept : Option Told) → e.kept ≡ kept → is_some kept ≡ true → position_of e ≡ None
+unfolding position_of
+nowhere_by e None is some = cc some
+nowhere_by e (Some f) is some = rw is refl
+
+pub nowhere_kept : {S R : Type 0} (e : EngineView S R) → is_some e.kept ≡ true → position_of e ≡ None
+nowhere_kept e some = nowhere_by e e.kept refl some
+
+nowhere_free : {S R : Type 0} (e : EngineView S R) (kept : Option Told) → e.kept ≡ kept → is_open e.phase ≡ false → position_of e ≡ None
+unfolding position_of
+nowhere_free e None is closed = rw (is, closed) refl
+nowhere_free e (Some f) is closed = rw is refl
+
+pub nowhere_closed : {S R : Type 0} (e : EngineView S R) → is_open e.phase ≡ false → position_of e ≡ None
+nowhere_closed e closed = nowhere_free e e.kept refl closed
+
+-- what the innermost source shows
+pub first_name : {S R : Type 0} (e : EngineView S R) (f : File R) (outer : List (File R)) → e.files.nest ≡ f ∷ outer → (state_of e).name ≡ f.name.bytes
+unfolding state_of nest_state file_state
+first_name {S} {R} e f outer is = ap (λ (ns : List (File R)). (nest_state e.limits e.table.macros e.conditions ns).name) is
+
+pub first_shift : {S R : Type 0} (e : EngineView S R) (f : File R) (outer : List (File R)) → e.files.nest ≡ f ∷ outer → (state_of e).shift ≡ shift_of f.shift
+unfolding state_of nest_state file_state
+first_shift {S} {R} e f outer is = ap (λ (ns : List (File R)). (nest_state e.limits e.table.macros e.conditions ns).shift) is
+
+pub position_first : {S R : Type 0} (e : EngineView S R) (f : File R) (outer : List (File R)) → e.files.nest ≡ f ∷ outer → is_some e.kept ≡ false → is_open e.phase ≡ true
+    → position_of e ≡ marked_place e.marks f.name.bytes (shift_of f.shift)
+position_first e f outer is none opens =
+    position_open e (no_fault e.kept none) opens ∙ (ap (λ (n : List ℕ). marked_place e.marks n (state_of e).shift) (first_name e f outer is) ∙ ap (marked_place e.marks f.name.bytes) (first_shift e f outer is))
+
+-- nothing is taken out of what is owed, and nothing is marked
+pub untaken : {S R : Type 0} (result : Option OwedPiece) (inside old : EngineView S R) (m : MarksView) (rest : OwedView) (line : ℕ) → inside ≡ old → m ≡ lends_owed inside.owed line inside.marks
+    → IfNone result ((inside.owed ≡ nothing_owed) × (rest ≡ inside.owed)) → IfNone result ((old.owed ≡ nothing_owed) × (record inside { marks = m; owed = rest } ≡ old))
+untaken (Some piece) inside old m rest line is marks none = tt
+untaken None inside old m rest line is marks none = (
+  ap (λ e. e.owed) (sym is) ∙ none.0,
+  ap (λ (n : MarksView). record inside { marks = n; owed = rest }) (marks ∙ (ap (λ (o : OwedView). lends_owed o line inside.marks) none.0 ∙ unowed_marks line inside.marks))
+      ∙ (ap (λ (o : OwedView). record inside { owed = o }) none.1 ∙ is),
+)
+
+-- the first piece is taken out, and its place is marked
+pub takes_marked : {S R : Type 0} (result : Option OwedPiece) (inside old : EngineView S R) (m : MarksView) (rest : OwedView) (line name_len : ℕ) → inside ≡ old → m ≡ lends_owed inside.owed line inside.marks
+    → line ≡ (inner_buffer old.files.nest).line → length (inner_name old.files.nest) ≡ name_len
+    → IfSome result (λ piece. (name : List ℕ) → length name ≡ name_len → TakesPiece name inside.owed rest piece) → IfSome result (TakesOwed old (record inside { marks = m; owed = rest }))
+takes_marked None inside old m rest line name_len is marks here size takes = tt
+takes_marked {S} {R} (Some piece) inside old m rest line name_len is marks here size takes =
+    let name = inner_name old.files.nest in
+    record {
+      rest = rest;
+      takes = subst (λ (o : OwedView). TakesPiece name o rest piece) (ap (λ e. e.owed) is) (takes name size);
+      becomes = ap (λ (n : MarksView). record inside { marks = n; owed = rest }) marks
+          ∙ (ap (λ (e : EngineView S R). record e { owed = rest; marks = lends_owed e.owed line e.marks }) is
+          ∙ ap (λ (n : ℕ). record old { owed = rest; marks = lends_owed old.owed n old.marks }) here);
+    }
+
+-- and so is what is owed, or the open texts
+pub owing_marked : {S R : Type 0} (inside e : EngineView S R) (owed : OwedView) (m : MarksView) (change : MarksView → MarksView) → inside ≡ e → m ≡ change inside.marks
+    → record inside { owed = owed; marks = m } ≡ record e { owed = owed; marks = change e.marks }
+owing_marked {S} {R} inside e owed m change is marks =
+    ap (λ (n : MarksView). record inside { owed = owed; marks = n }) marks ∙ ap (λ (x : EngineView S R). record x { owed = owed; marks = change x.marks }) is
+
+pub marked_usage : {S R : Type 0} (inside old : EngineView S R) (x : ExpansionView) (m : MarksView) (line : ℕ) → inside ≡ old → m ≡ lends_usage line inside.marks → line ≡ old.expansion.line
+    → record inside { expansion = x; marks = m } ≡ record old { expansion = x; marks = lends_usage old.expansion.line old.marks }
+marked_usage {S} {R} inside old x m line is marks here =
+    ap (λ (n : MarksView). record inside { expansion = x; marks = n }) marks
+    ∙ (ap (λ (e : EngineView S R). record e { expansion = x; marks = lends_usage line e.marks }) is ∙ ap (λ (n : ℕ). record old { expansion = x; marks = lends_usage n old.marks }) here)
+
+-- what is marked where a piece of what is owed is lent, by what is owed
+origin_marked : (origin : Option OriginView) (m : MarksView) (n : ℕ) → owed_number origin ≡ Some n → record m { lent = Origin n } ≡ lends_origin origin m
+unfolding lends_origin
+origin_marked None m n is = cc is
+origin_marked (Some origin) m n is = let same : n ≡ origin.number = cc is in ap (λ (k : ℕ). record m { lent = Origin k }) same
+
+origin_unmarked : (origin : Option OriginView) (m : MarksView) → owed_number origin ≡ None → m ≡ lends_origin origin m
+unfolding lends_origin
+origin_unmarked None m is = refl
+origin_unmarked (Some origin) m is = cc is
+
+pub marks_origin : (owed : OwedView) (line : ℕ) (m : MarksView) (n : ℕ) → owed.line_ends ≡ 0 → owed_number owed.origin ≡ Some n → record m { lent = Origin n } ≡ lends_owed owed line m
+unfolding lends_owed
+marks_origin owed line m n none is = rw none (origin_marked owed.origin m n is)
+
+pub marks_nothing : (owed : OwedView) (line : ℕ) (m : MarksView) → owed.line_ends ≡ 0 → owed_number owed.origin ≡ None → m ≡ lends_owed owed line m
+unfolding lends_owed
+marks_nothing owed line m none is = rw none (origin_unmarked owed.origin m is)
+
+pub marks_ending : (owed : OwedView) (line : ℕ) (m : MarksView) → (owed.line_ends ≡ 0 → ⊥) → m.ending ≡ true → record m { lent = Ending; ending = false } ≡ lends_owed owed line m
+unfolding lends_owed lends_line_end
+marks_ending owed line m some is = rw (ne_eqb owed.line_ends 0 some, is) refl
+
+pub marks_line : (owed : OwedView) (line n : ℕ) (m : MarksView) → (owed.line_ends ≡ 0 → ⊥) → m.ending ≡ false → n ≡ line - owed.line_ends → record m { lent = Line n } ≡ lends_owed owed line m
+unfolding lends_owed lends_line_end
+marks_line owed line n m some is here = rw (ne_eqb owed.line_ends 0 some, is, here) refl
+
+-- A step cut to the bytes that may still be lent.
+
+-- how long a part is
+pub part_len : (xs : List ℕ) (from to : ℕ) → from ≤ to → to ≤ length xs → length (slice_range xs from to) ≡ to - from
+part_len xs from to order inside = length-take-le (to - from) (drop from xs) (omega (arith, length-drop from xs))
+
+-- the first bytes of a part
+pub part_cut : (xs : List ℕ) (from to len : ℕ) → len ≤ to - from → slice_range xs from (from + len) ≡ take len (slice_range xs from to)
+part_cut xs from to len h =
+    let same : from + len - from ≡ len = omega arith in
+    ap (λ k. take k (drop from xs)) same ∙ sym (take-take len (to - from) (drop from xs) h)
+
+-- an outcome without bytes is within each limit
+tells_end : (over : Told) (quota : ℕ) (o : Outcome) → o ≡ gives [] → limited over quota o ≡ gives []
+unfolding gives
+tells_end over quota o is = ap (limited over quota) is ∙ limited-within over quota (gives []) (omega arith)
+
+-- a step that ends the output, or tells its fault
+module _ {S R : Type 0} (g : Ghosts S R) (old new : EngineView S R) where
+  pub cut_end : WalksOver g most_silent old new (Ok None) → Steps g old new (Ok None)
+  unfolding left_of no_len lent_len
+  cut_end w = record {
+    limits = w.limits;
+    origins = w.origins;
+    main = w.main;
+    started = w.started;
+    kept = w.kept;
+    ended = w.ended;
+    passed = w.passed;
+    keeps = w.keeps;
+    free = w.free;
+    own = w.own;
+    ends = w.ends;
+    failed = w.failed;
+    call = w.call;
+    tells = λ own t. (let told = w.tells own t in (tells_end _ _ _ told.0, tells_end _ _ _ told.1));
+    text = w.text;
+    reads = w.reads;
+    halts = w.halts;
+    falls = w.falls;
+    lends = λ bytes e. absurd (cc);
+    quota = w.quota;
+    most_bytes = w.most_bytes;
+    most_macros = w.most_macros;
+    bounded = w.bounded;
+    stands = λ _ _ bytes e. absurd (cc);
+    lets_go = w.lets_go;
+    stores = w.stores;
+  }
+
+  pub cut_fault : (f : Told) → WalksOver g most_silent old new (Err f) → Steps g old new (Err f)
+  unfolding left_of no_len lent_len
+  cut_fault f w = record {
+    limits = w.limits;
+    origins = w.origins;
+    main = w.main;
+    started = w.started;
+    kept = w.kept;
+    ended = w.ended;
+    passed = w.passed;
+    keeps = w.keeps;
+    free = w.free;
+    own = w.own;
+    ends = w.ends;
+    failed = w.failed;
+    call = w.call;
+    tells = λ own t. ap (limited (output_fault old.main) old.quota) (w.tells own t) ∙ limited-fails (output_fault old.main) old.quota f;
+    text = w.text;
+    reads = w.reads;
+    halts = w.halts;
+    falls = w.falls;
+    lends = λ bytes e. absurd (cc);
+    quota = w.quota;
+    most_bytes = w.most_bytes;
+    most_macros = w.most_macros;
+    bounded = w.bounded;
+    stands = λ _ _ bytes e. absurd (cc);
+    lets_go = w.lets_go;
+    stores = w.stores;
+  }
+
+-- what remains without the limit doesn't hang on what may still be lent
+module _ {S R : Type 0} (g : Ghosts S R) (e : EngineView S R) (quota : ℕ) where
+  phase_same : (phase : Phase) → phase_uncut g phase (record e { quota = quota }) ≡ phase_uncut g phase e
+  unfolding phase_uncut text_of state_of
+  phase_same Fresh = refl
+  phase_same Open = refl
+  phase_same Passed = refl
+  phase_same Closed = refl
+
+  kept_same : (kept : Option Told) → kept_uncut g kept (record e { quota = quota }) ≡ kept_uncut g kept e
+  unfolding kept_uncut
+  kept_same None = phase_same e.phase
+  kept_same (Some f) = refl
+
+  uncut_same : uncut_of g (record e { quota = quota }) ≡ uncut_of g e
+  unfolding uncut_of
+  uncut_same = kept_same e.kept
+
+-- where bytes may follow, the main text is open
+follows_open : (p : Phase) → may_follow p ≡ true → is_open p ≡ true
+unfolding may_follow is_open
+follows_open Fresh h = cc h
+follows_open Open h = refl
+follows_open Passed h = cc h
+follows_open Closed h = cc h
+
+-- the text, the work left and what is held don't hang on how far an engine is, nor on what may still be lent
+same_text : {S R : Type 0} (g : Ghosts S R) (e : EngineView S R) (phase : Phase) (quota : ℕ) → text_of g (record e { phase = phase; quota = quota }) ≡ text_of g e
+unfolding text_of state_of
+same_text g e phase quota = refl
+
+same_work : {S R : Type 0} (e : EngineView S R) (phase : Phase) (quota : ℕ) → work_left (record e { phase = phase; quota = quota }) ≡ work_left e
+unfolding work_left
+same_work e phase quota = refl
+
+same_bound : {S R : Type 0} (e : EngineView S R) (phase : Phase) (quota : ℕ) → IsBounded e → IsBounded (record e { phase = phase; quota = quota })
+unfolding stores_of
+same_bound e phase quota b = record { bytes = b.bytes; windows = b.windows; cursors = b.cursors; bindings = b.bindings; conditions = b.conditions; sources = b.sources; texts = b.texts }
+
+-- what a walk that lent bytes says of what remains
+module _ {S R : Type 0} (g : Ghosts S R) (old mid new : EngineView S R) (xs : List ℕ) (w : WalksOver g most_silent old mid (Ok (Some xs))) where
+  free_old : old.kept ≡ None
+  free_old = free_before g (uncut_of g) no_len all_of may_follow old mid old.kept (Some xs) refl w
+
+  uncut_tells : g.tells old.sources → uncut_of g old ≡ and_then (gives xs) (uncut_of g mid)
+  uncut_tells t = w.tells (ok_not_met is_call_failed old.kept (Some xs)) t
+
+  -- a walk that lent bytes, and then only what may be lent and how far the engine is changed
+  lent_step : (ys : List ℕ) → new ≡ record mid { phase = new.phase; quota = new.quota } → (new.phase ≡ Fresh → ⊥) → is_open new.phase ≡ true
+      → (g.tells old.sources → left_of g old ≡ and_then (gives ys) (left_of g new)) → ys ≡ take old.quota xs → new.quota + length ys ≡ old.quota
+      → Steps g old new (Ok (Some ys))
+  unfolding has_met lent_len all_of
+  lent_step ys becomes started opens tells part quota =
+      let limits : new.limits ≡ mid.limits = ap (λ e. e.limits) becomes in
+      let sources : new.sources ≡ mid.sources = ap (λ e. e.sources) becomes in
+      let none : has_met is_call_failed old.kept (Ok (Some xs)) ≡ false = ok_not_met is_call_failed old.kept (Some xs) in
+      record {
+        limits = limits ∙ w.limits;
+        origins = ap (λ e. e.origins) becomes ∙ w.origins;
+        main = ap (λ e. e.main) becomes ∙ w.main;
+        started = started;
+        kept = λ f is. absurd (let no : None ≡ Some f = sym free_old ∙ is in cc);
+        ended = λ _ closed. absurd (let no : Ok (Some xs) ≡ Ok None = (w.ended free_old closed).0 in cc);
+        passed = λ _ past. absurd (let no : Ok (Some xs) ≡ Err (output_fault old.main) = (w.passed free_old past).0 in cc);
+        keeps = tt;
+        free = ap (λ e. e.kept) becomes ∙ w.free;
+        own = λ _. tt;
+        ends = λ e. absurd (cc);
+        failed = λ met. absurd (let no : false ≡ _ = rw free_old at met in cc);
+        call = rw (free_old, sources) (rw free_old at w.call);
+        tells = λ own t. tells t;
+        text = λ free open_ own t.
+            let piece = w.text free open_ none t in
+            record {
+              piece = piece.piece;
+              lent = part ∙ ap (take old.quota) piece.lent;
+              text = piece.text ∙ ap (behind_bytes piece.piece) (sym (ap (text_of g) becomes ∙ same_text g mid new.phase new.quota));
+            };
+        reads = λ met. absurd (let no : false ≡ true = rw free_old at met in cc);
+        halts = λ _ _. tt;
+        falls = λ bytes e. (let less = w.falls xs refl in let same : work_left new ≡ work_left mid = ap work_left becomes ∙ same_work mid new.phase new.quota in omega arith);
+        lends = λ bytes e. ((w.lends xs refl).0, opens);
+        quota = quota;
+        most_bytes = ap (λ e. e.table.most_bytes) becomes ∙ w.most_bytes;
+        most_macros = ap (λ e. e.table.most_macros) becomes ∙ w.most_macros;
+        bounded = subst IsBounded (sym becomes) (same_bound mid new.phase new.quota w.bounded);
+        stands = λ free open_ bytes e.
+            let l = w.stands free open_ xs refl in
+            let same : ys ≡ bytes = cc e in
+            record {
+              at = l.at;
+              reached = l.reached;
+              few = l.few;
+              text = l.text;
+              after = l.after;
+              becomes = becomes ∙ ap (λ (m : EngineView S R). record m { phase = new.phase; quota = new.quota }) l.becomes;
+              piece = l.piece;
+              lent = sym same ∙ part ∙ ap (take old.quota) l.lent;
+              stands = subst (λ (p : Option PlaceView). StandsIn g l.at l.after l.piece p) (sym (position_kept mid new becomes w.free (follows_open mid.phase (w.lends xs refl).1) opens)) l.stands;
+            };
+        lets_go = λ h. subst LetsGo (sym becomes) ((keeps_phase g mid new.phase new.quota w.free).lets_go (w.lets_go h));
+        stores = λ t h. subst (HoldsStores g) (sym becomes) ((keeps_phase g mid new.phase new.quota w.free).stores (w.call.tells t) (w.stores t h));
+      }
+
+  -- the whole piece may be lent
+  pub cut_fits : length xs ≤ old.quota → new ≡ record mid { quota = mid.quota - length xs } → Steps g old new (Ok (Some xs))
+  unfolding left_of no_len
+  cut_fits fits becomes =
+      let quota : mid.quota ≡ old.quota = (let q = w.quota in omega arith) in
+      let phase : new.phase ≡ mid.phase = ap (λ e. e.phase) becomes in
+      let spent : new.quota ≡ mid.quota - length xs = ap (λ e. e.quota) becomes in
+      let changes : Phase → ℕ → EngineView S R = λ p q. record mid { phase = p; quota = q } in
+      lent_step xs (becomes ∙ (ap (changes mid.phase) (sym spent) ∙ ap (λ p. changes p new.quota) (sym phase))) (λ e. w.started (sym phase ∙ e)) (ap is_open phase ∙ follows_open mid.phase (w.lends xs refl).1)
+      (λ t. ap (limited (output_fault old.main) old.quota) (uncut_tells t)
+      ∙ limited-gives (output_fault old.main) old.quota xs (uncut_of g mid) fits
+      ∙ ap (λ (n : List ℕ). and_then (gives xs) (limited (output_fault n) (old.quota - length xs) (uncut_of g mid))) (sym w.main)
+      ∙ ap (λ (q : ℕ). and_then (gives xs) (limited (output_fault mid.main) (q - length xs) (uncut_of g mid))) (sym quota)
+      ∙ ap (λ (o : Outcome). and_then (gives xs) (limited (output_fault mid.main) (mid.quota - length xs) o)) (sym (uncut_same g mid (mid.quota - length xs)))
+      ∙ ap (λ (e : EngineView S R). and_then (gives xs) (left_of g e)) (sym becomes))
+      (sym (take_all old.quota xs fits)) (omega arith)
+
+  -- a part of the piece may be lent
+  pub cut_passes : old.quota < length xs → new ≡ record mid { phase = Passed; quota = 0 } → Steps g old new (Ok (Some (take old.quota xs)))
+  unfolding left_of uncut_of kept_uncut phase_uncut no_len is_open
+  cut_passes passes becomes =
+      let phase : new.phase ≡ Passed = ap (λ e. e.phase) becomes in
+      let none : new.quota ≡ 0 = ap (λ e. e.quota) becomes in
+      let changes : Phase → ℕ → EngineView S R = λ p q. record mid { phase = p; quota = q } in
+      let size : length (take old.quota xs) ≡ old.quota = length-take-le old.quota xs (omega arith) in
+      let over : left_of g new ≡ fails (output_fault mid.main) =
+      ap (left_of g) becomes ∙ rw w.free (limited-fails (output_fault mid.main) 0 (output_fault mid.main)) in
+      lent_step (take old.quota xs) (becomes ∙ (ap (changes Passed) (sym none) ∙ ap (λ p. changes p new.quota) (sym phase))) (λ e. (let no : Passed ≡ Fresh = sym phase ∙ e in cc)) (ap is_open phase)
+      (λ t. ap (limited (output_fault old.main) old.quota) (uncut_tells t)
+      ∙ limited-past (output_fault old.main) old.quota xs (uncut_of g mid) passes
+      ∙ ap (λ (n : List ℕ). and_then (gives (take old.quota xs)) (fails (output_fault n))) (sym w.main)
+      ∙ ap (λ (o : Outcome). and_then (gives (take old.quota xs)) o) (sym over))
+      refl (omega arith)
+
+-- a piece of so many bytes, of which so many were lent
+pub record IsSpent {S R : Type 0} (mid new : EngineView S R) (n len : ℕ) : Type 0 where
+  pub fits : n ≤ mid.quota → (len ≡ n) × (new ≡ record mid { quota = mid.quota - n })
+  pub passes : mid.quota < n → (len ≡ mid.quota) × (new ≡ record mid { phase = Passed; quota = 0 })
+
+-- no more than the piece has, and only what may be lent and how far the engine is changed
+pub record IsPart {S R : Type 0} (mid new : EngineView S R) (n len : ℕ) : Type 0 where
+  pub inside : len ≤ n
+  pub files : new.files ≡ mid.files
+  pub table : new.table ≡ mid.table
+  pub owed : new.owed ≡ mid.owed
+  pub expansion : new.expansion ≡ mid.expansion
+
+spent_part : {S R : Type 0} (mid new : EngineView S R) (n len : ℕ) → IsSpent mid new n len → IsPart mid new n len
+spent_part mid new n len spent =
+    elim (cases_lt mid.quota n) [
+      | inl over ↦ (let p = spent.passes over in record { inside = omega (arith, p.0); files = ap (λ e. e.files) p.1; table = ap (λ e. e.table) p.1; owed = ap (λ e. e.owed) p.1; expansion = ap (λ e. e.expansion) p.1 })
+      | inr under ↦ (let p = spent.fits under in record { inside = omega (arith, p.0); files = ap (λ e. e.files) p.1; table = ap (λ e. e.table) p.1; owed = ap (λ e. e.owed) p.1; expansion = ap (λ e. e.expansion) p.1 })
+    ]
+
+-- a piece, cut to what may still be lent
+pub cut_piece : {S R : Type 0} (g : Ghosts S R) (old mid new : EngineView S R) (xs : List ℕ) (n len : ℕ) → WalksOver g most_silent old mid (Ok (Some xs)) → length xs ≡ n → IsSpent mid new n len → Steps g old new (Ok (Some (take len xs)))
+unfolding no_len
+cut_piece {S} {R} g old mid new xs n len w size spent =
+    let quota : mid.quota ≡ old.quota = (let q = w.quota in omega arith) in
+    let P : List ℕ → Type 0 = λ ys. Steps g old new (Ok (Some ys)) in
+    let keeps : ℕ → EngineView S R = λ k. record mid { quota = mid.quota - k } in
+    elim (cases_lt mid.quota n) [
+      | inl over ↦
+          let p = spent.passes over in
+          subst P (ap (λ k. take k xs) (sym quota ∙ sym p.0)) (cut_passes g old mid new xs w (omega arith) p.1)
+      | inr under ↦
+          let p = spent.fits under in
+          subst P (sym (take_all len xs (omega (arith, p.0)))) (cut_fits g old mid new xs w (omega arith) (p.1 ∙ ap keeps (sym size)))
+    ]
+
+-- a step of which the same bytes are told
+told_bytes : {S R : Type 0} (g : Ghosts S R) (old new : EngineView S R) (xs ys : List ℕ) → ys ≡ xs → Steps g old new (Ok (Some xs)) → Steps g old new (Ok (Some ys))
+told_bytes g old new xs ys same steps = subst (λ (zs : List ℕ). Steps g old new (Ok (Some zs))) (sym same) steps
+
+-- a part of the open source's buffer, cut to what may still be lent
+pub cut_source : {S R : Type 0} (g : Ghosts S R) (old mid new : EngineView S R) (from to len : ℕ) → WalksOver g most_silent old mid (lent_answer mid (Source from to))
+    → IsPlaced mid (Source from to) → IsSpent mid new (to - from) len → Steps g old new (lent_answer new (Source from (from + len)))
+cut_source {S} {R} g old mid new from to len w placed spent =
+    let part = spent_part mid new (to - from) len spent in
+    let xs = slice_range (inner_buffer mid.files.nest).window from to in
+    told_bytes g old new (take len xs) (slice_range (inner_buffer new.files.nest).window from (from + len))
+    (ap (λ f. slice_range (inner_buffer f.nest).window from (from + len)) part.files ∙ part_cut (inner_buffer mid.files.nest).window from to len part.inside)
+    (cut_piece g old mid new xs (to - from) len w (part_len (inner_buffer mid.files.nest).window from to placed.1 placed.2) spent)
+
+-- the beginning of a place of an open text
+abbrev pub cut_place : TextPlace → ℕ → TextPlace
+cut_place place len = record { source = place.source; from = place.from; end = place.from + len }
+
+-- the texts are the same
+texts_same : {S R : Type 0} (mid new : EngineView S R) (n len : ℕ) → IsPart mid new n len → held_texts new ≡ held_texts mid
+texts_same mid new n len part = ap (λ t. texts_of t.macros new.expansion.arguments) part.table ∙ ap (λ x. texts_of mid.table.macros x.arguments) part.expansion
+
+-- a part of an open text, cut to what may still be lent
+pub cut_text : {S R : Type 0} (g : Ghosts S R) (old mid new : EngineView S R) (place : TextPlace) (len : ℕ) → WalksOver g most_silent old mid (lent_answer mid (Text place))
+    → IsPlaced mid (Text place) → IsSpent mid new (place.end - place.from) len → Steps g old new (lent_answer new (Text (cut_place place len)))
+unfolding place_bytes
+cut_text {S} {R} g old mid new place len w placed spent =
+    let part = spent_part mid new (place.end - place.from) len spent in
+    let text = source_text (held_texts mid) place.source in
+    told_bytes g old new (take len (slice_range text place.from place.end)) (slice_range (source_text (held_texts new) place.source) place.from (place.from + len))
+    (ap (λ ts. slice_range (source_text ts place.source) place.from (place.from + len)) (texts_same mid new (place.end - place.from) len part) ∙ part_cut text place.from place.end len part.inside)
+    (cut_piece g old mid new (slice_range text place.from place.end) (place.end - place.from) len w (part_len text place.from place.end placed.order placed.inside) spent)
+
+-- it lies in that text
+pub text_cut_placed : {S R : Type 0} (mid new : EngineView S R) (place : TextPlace) (len : ℕ) → IsPlaced mid (Text place) → IsSpent mid new (place.end - place.from) len → IsPlaced new (Text (cut_place place len))
+text_cut_placed {S} {R} mid new place len placed spent =
+    let part = spent_part mid new (place.end - place.from) len spent in
+    let less = part.inside in
+    let order = placed.order in
+    let inside = placed.inside in
+    subst (λ ts. IsTextPlaced ts (cut_place place len)) (sym (texts_same mid new (place.end - place.from) len part))
+    (record { source = placed.source; order = omega arith; inside = omega arith })
+
+-- the fault that is kept, or the end where none is
+pub cut_kept : {S R : Type 0} (g : Ghosts S R) (old new : EngineView S R) (kept : Option Told) → WalksOver g most_silent old new (kept_answer kept) → Steps g old new (kept_answer kept)
+cut_kept g old new None w = cut_end g old new w
+cut_kept g old new (Some f) w = cut_fault g old new f w
+
+-- the part is the same where only what may be lent and how far the engine is changed
+part_same : {S R : Type 0} (mid new : EngineView S R) (piece : OwedPiece) (n len k : ℕ) → IsPart mid new n len → owed_part new (cut_to piece k) ≡ owed_part mid piece
+unfolding cut_to
+part_same mid new piece n len k part =
+    ap (λ f. part_bytes piece.part (inner_name f.nest) (digits_of new.owed.origin)) part.files
+    ∙ ap (λ o. part_bytes piece.part (inner_name mid.files.nest) (digits_of o.origin)) part.owed
+
+-- a piece that is owed, cut to what may still be lent
+pub cut_owed : {S R : Type 0} (g : Ghosts S R) (old mid new : EngineView S R) (piece : OwedPiece) (len : ℕ) → WalksOver g most_silent old mid (lent_answer mid (Owed piece))
+    → IsPlaced mid (Owed piece) → IsSpent mid new piece.len len → Steps g old new (lent_answer new (Owed (cut_to piece len)))
+unfolding cut_to
+cut_owed g old mid new piece len w placed spent =
+    let part = spent_part mid new piece.len len spent in
+    let xs = owed_part mid piece in
+    told_bytes g old new (take len (take piece.len xs)) (take len (owed_part new (cut_to piece len)))
+    (ap (take len) (part_same mid new piece piece.len len len part) ∙ sym (take-take len piece.len xs part.inside))
+    (cut_piece g old mid new (take piece.len xs) piece.len len w (length-take-le piece.len xs placed.1) spent)
+
+-- such a piece is a place
+pub owed_placed : {S R : Type 0} (mid new : EngineView S R) (piece : OwedPiece) (len : ℕ) → IsPlaced mid (Owed piece) → IsSpent mid new piece.len len → IsPlaced new (Owed (cut_to piece len))
+unfolding cut_to
+owed_placed mid new piece len placed spent =
+    let part = spent_part mid new piece.len len spent in
+    let inside = part.inside in
+    let most = placed.1 in
+    let size : length (owed_part new (cut_to piece len)) ≡ length (owed_part mid piece) = ap length (part_same mid new piece piece.len len len part) in
+    let open_ : length new.files.nest ≡ length mid.files.nest = ap (λ f. length f.nest) part.files in
+    let some = placed.0 in
+    (omega arith, omega arith)
