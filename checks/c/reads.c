@@ -143,11 +143,48 @@ static void closes(void)
     check(rdlpp_read(&handle, none, 1, none, 0, none, 0).status == RDLPP_CLOSED && none[0] == 'x', "it is closed");
 }
 
+/* How many reads a text takes of lines that begin so and go on with 60,000 letters, between what stands before and after them. */
+static int count_reads(const char *before, const char *line, const char *after)
+{
+    enum { TIMES = 12, LENGTH = 60000 };
+    char *source = malloc(strlen(before) + TIMES * (strlen(line) + LENGTH + 1) + strlen(after) + 1);
+    char *end = source + sprintf(source, "%s", before);
+    rdlpp_handle handle = RDLPP_CLOSED_HANDLE;
+    rdlpp_outcome outcome;
+    char out[ROOM];
+    int reads = 0;
+    int i;
+    for (i = 0; i < TIMES; i += 1) {
+        end += sprintf(end, "%s", line);
+        memset(end, 'x', LENGTH);
+        end += LENGTH;
+        *end++ = '\n';
+    }
+    strcpy(end, after);
+    check(open_text(&handle, source, "W").status == RDLPP_WHOLE, "it opens");
+    free(source);
+    do {
+        outcome = rdlpp_read(&handle, out, ROOM, NULL, 0, NULL, 0);
+        reads += 1;
+    } while (outcome.status == RDLPP_MORE);
+    check(outcome.status == RDLPP_WHOLE, "it is read whole");
+    rdlpp_close(&handle);
+    return reads;
+}
+
+/* Long lines that give next to no bytes are spread over several reads, so that none takes long. */
+static void spreads_long_lines(void)
+{
+    check(count_reads("", "`define M ", "") > 5, "a read takes few long definitions");
+    check(count_reads("`ifdef N\n", "", "`endif\n") > 2, "a read takes few long lines of skipped text");
+}
+
 int main(void)
 {
     reads_in_pieces();
     tells_a_fault();
     refuses_to_open();
     closes();
+    spreads_long_lines();
     return failures == 0 ? EXIT_SUCCESS : EXIT_FAILURE;
 }
