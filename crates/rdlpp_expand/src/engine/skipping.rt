@@ -179,18 +179,7 @@ impl<S: Sources> Engine<S> {
         requires nothing { self.old.owed ≡ nothing_owed }
         ensures { self.new ≡ passes_over len lines self.old }
     {
-        self.pass_held(len, lines);
         self.taken = len / 4;
-    }
-
-    // Uses `len` held bytes of skipped text, and owes their `lines` LF bytes.
-    fn pass_held(&mut self, len: usize, lines: usize)
-        requires nest { 0 < length self.old.files.nest }
-        requires inside { len ≤ length (held_of (inner_buffer self.old.files.nest)) }
-        requires lines { lines ≤ len }
-        requires nothing { self.old.owed ≡ nothing_owed }
-        ensures { self.new ≡ passes_over len lines self.old }
-    {
         self.consume(len, lines);
         self.owed.owe_line_ends(lines);
     }
