@@ -1,7 +1,7 @@
 -- Tokens of a call that are told by their bytes: words, commas, brackets and white space.
 use Rattle.std.proofs.Common.{◌≡◌, ◌<◌, ◌≤◌, ℕ, zero, suc, subst, List, [], ◌∷◌, length, take, drop, slice_index, refl, sym, ap, ◌∙◌, arith, ◌==◌, ◌||◌, ◌+◌, Bool, true, false, cond, get_or, inl, inr, ⊎_elim, ◌⊎◌, ◌-◌, Option, None, ◌&&◌, one-add, eqb-true, drop-drop, get_or-drop, length-drop}
 use Rattle.std.specs.List.{prefix_len}
-use Rattle.std.proofs.lemmas.Bool.{both_ways, cases_Bool, cond_both, false≢true, or_cases, or_parts}
+use Rattle.std.proofs.lemmas.Bool.{both_ways, cases_Bool, cond_both, or_cases, or_parts}
 use Rattle.std.proofs.lemmas.List.{drop_all}
 use Rattle.std.proofs.lemmas.List.Folds.{length-prefix_len}
 use Rattle.std.proofs.lemmas.Slice.{between_to_end}
@@ -136,39 +136,6 @@ brace_ends bs = named (125 ∷ bs) (whole Closer 1) role.Closer refl (omega arit
 pub front_of : (n : ℕ) (text : List ℕ) (t : CallToken) → 0 < n → get_or text 0 0 ≡ n → ((bs : List ℕ) → IsFirstToken Plain (n ∷ bs) t) → IsFirstToken Plain text t
 front_of n [] t some e h = absurd (omega (arith, some, e))
 front_of n (b ∷ bs) t some e h = subst (λ (m : ℕ). IsFirstToken Plain (m ∷ bs) t) (sym e) (h bs)
-
--- a byte of a word is none of the others
-word_role : (b : ℕ) → is_word b ≡ true → call.quick_role b ≡ role.Text
-unfolding call.quick_role is_word is_letter is_digit is_opener is_closer
-word_role b w =
-    let W : ℕ → Type 0 = λ n. is_word n ≡ true in
-    let P : CallRole → Type 0 = λ r. r ≡ role.Text in
-    cond_both (b == 44) _ _ P (λ e. absurd (false≢true (subst W (eqb-true b 44 e) w))) (λ _.
-    cond_both (b == 40) _ _ P (λ e. absurd (false≢true (subst W (eqb-true b 40 e) w))) (λ _.
-    cond_both (b == 41) _ _ P (λ e. absurd (false≢true (subst W (eqb-true b 41 e) w))) (λ _.
-    cond_both (is_opener b) _ _ P (λ h. absurd (
-    ⊎_elim (λ i. ⊎_elim (λ e. false≢true (subst W (eqb-true b 40 e) w)) (λ e. false≢true (subst W (eqb-true b 91 e) w)) (or_cases _ _ i))
-    (λ e. false≢true (subst W (eqb-true b 123 e) w)) (or_cases _ _ h))) (λ _.
-    cond_both (is_closer b) _ _ P (λ h. absurd (
-    ⊎_elim (λ i. ⊎_elim (λ e. false≢true (subst W (eqb-true b 41 e) w)) (λ e. false≢true (subst W (eqb-true b 93 e) w)) (or_cases _ _ i))
-    (λ e. false≢true (subst W (eqb-true b 125 e) w)) (or_cases _ _ h))) (λ _. refl)))))
-
--- a word has such a first byte
-first_word : (text : List ℕ) → 0 < prefix_len is_word text → is_word (get_or text 0 0) ≡ true
-first_word [] some = absurd (omega (arith, some))
-first_word (b ∷ bs) some = elim (cases_Bool (is_word b)) [
-  | inl e ↦ e
-  | inr e ↦
-      let none : prefix_len is_word (b ∷ bs) ≡ 0 = ap (λ (t : Bool). cond t (1 + prefix_len is_word bs) 0) e in
-      absurd (omega (arith, none, some))
-]
-
--- a word is a token
-pub word_first : (text : List ℕ) (n : ℕ) → n ≡ prefix_len is_word text → 0 < n → n ≤ length text
-    → IsFirstToken Plain text (call.plain_token (call.quick_role (get_or text 0 0)) n)
-word_first text n is some inside =
-    let r = word_role (get_or text 0 0) (first_word text (omega (arith, is, some))) in
-    subst (λ (q : CallRole). IsFirstToken Plain text (call.plain_token q n)) (sym r) (word_text text n is some inside)
 
 -- a comma or a bracket is one
 pub mark_first : (text : List ℕ) → (get_or text 0 0 == 44 || (is_opener (get_or text 0 0) || is_closer (get_or text 0 0))) ≡ true

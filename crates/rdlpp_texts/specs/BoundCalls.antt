@@ -1,7 +1,7 @@
 -- The actuals of a call as ranges of the text in which the call stands.
 -- A definition that names no source is this project's own.
 use Rattle.rdlpp_meaning.specs.Expansion.{Usage, Refuses, Opens, bound_parts, is_count, usage_of_formals}
-use Rattle.std.specs.Prelude.{◌≡◌, ℕ, ◌+◌, ◌<◌, ◌≤◌, Bool, true, false, List, map, length, drop, slice_range, All, Some, Result, Ok, Err}
+use Rattle.std.specs.Prelude.{◌≡◌, ℕ, ◌+◌, ◌++◌, ◌<◌, ◌≤◌, Bool, true, false, List, Vec, map, length, drop, slice_range, vec_len, vec_capacity, All, Some, Result, Ok, Err}
 use Rattle.std.specs.List.{AllByRecursion}
 use Rattle.rdlpp_scan.specs.declared.token.Mode.TheVariants.{Plain}
 use Rattle.rdlpp_scan.specs.SourceTokens.{SourceToken}
@@ -33,6 +33,13 @@ added old new = drop (length old) new
 -- ranges between two places
 abbrev pub AreWithin : ℕ → ℕ → List Range → Type 0
 AreWithin from to ranges = AllByRecursion (λ r. (from ≤ r.from) × ((r.from ≤ r.to) × (r.to ≤ to))) ranges
+
+-- binding appends ranges that stand between two places of their text, at most so many, and asks for no memory
+pub record Binds {A : Type 0} (from to most : ℕ) (old new : Vec Range A) : Type 0 where
+  pub whole : new.items ≡ old.items ++ added old.items new.items
+  pub within : AreWithin from to (added old.items new.items)
+  pub len : vec_len new ≤ vec_len old + most
+  pub capacity : vec_capacity new ≡ vec_capacity old
 
 -- the actuals of a call by the text between its parentheses (source: this project's profile)
 unfoldable pub actuals_of : List ℕ → List (List SourceToken)

@@ -33,7 +33,7 @@ pub record IsFirstToken (mode : Mode) (text : List ℕ) (token : CallToken) : Ty
   pub not_empty : 0 < token.len
   pub inside : token.len ≤ length text
 
--- the role of a word, a comma or a bracket by its first byte (source: this project's profile)
+-- the role of a comma or a bracket by its byte, and of any other byte that of text (source: this project's profile)
 unfoldable pub quick_role : ℕ → CallRole
 quick_role b =
     if b == 44 then Comma

@@ -4,7 +4,7 @@ ghost use Rattle.rdlpp_meaning.specs.Expansion.{bound_parts, is_count};
 ghost use Rattle.rdlpp_meaning.specs.Substitution.{body_tokens};
 ghost use Rattle.rdlpp_meaning.specs.declared.fault.FaultKind.TheVariants.{ArgumentCount};
 ghost use Rattle.rdlpp_table.specs.Table.{Formal};
-ghost use Rattle.rdlpp_texts.specs.BoundCalls.{actuals_of, added, is_call_fault, ranges_tokens, AreWithin, IsBound, IsBoundCall, KeepsAll};
+ghost use Rattle.rdlpp_texts.specs.BoundCalls.{actuals_of, added, is_call_fault, ranges_tokens, Binds, IsBound, IsBoundCall, KeepsAll};
 ghost use Rattle.rdlpp_texts.specs.CallParts.{actuals_in, inner_size};
 
 use crate::parts::{PartEnd, call_start, next_part};
@@ -56,10 +56,7 @@ pub fn bind_call(
 ) -> Result<usize, FaultKind>
     requires range { (at ≤ end) × (end ≤ length text.now) }
     requires room { vec_len bindings.old + formals ≤ vec_capacity bindings.old }
-    ensures whole { bindings.new.items ≡ bindings.old.items ++ added bindings.old.items bindings.new.items }
-    ensures within { AreWithin at end (added bindings.old.items bindings.new.items) }
-    ensures len { vec_len bindings.new ≤ vec_len bindings.old + formals }
-    ensures capacity { vec_capacity bindings.new ≡ vec_capacity bindings.old }
+    ensures binds { Binds at end formals bindings.old bindings.new }
     ensures refused { IfErr result (λ _. bindings.new.items ≡ bindings.old.items) }
     ensures kind { IfErr result (λ kind. is_call_fault kind ≡ true) }
     ensures place { IfOk result (λ behind. (at ≤ behind) × (behind ≤ end)) }
@@ -88,10 +85,7 @@ pub fn bind_call(
 /// [`FaultKind::ArgumentCount`] where there are more or fewer parts. No binding is appended then.
 pub fn bind_parts(text: &[u8], formals: usize, bindings: &mut Vec<Range>) -> Result<(), FaultKind>
     requires room { vec_len bindings.old + formals ≤ vec_capacity bindings.old }
-    ensures whole { bindings.new.items ≡ bindings.old.items ++ added bindings.old.items bindings.new.items }
-    ensures within { AreWithin 0 (length text.now) (added bindings.old.items bindings.new.items) }
-    ensures len { vec_len bindings.new ≤ vec_len bindings.old + formals }
-    ensures capacity { vec_capacity bindings.new ≡ vec_capacity bindings.old }
+    ensures binds { Binds 0 (length text.now) formals bindings.old bindings.new }
     ensures refused { IfErr result (λ kind. (kind ≡ ArgumentCount) × (bindings.new.items ≡ bindings.old.items)) }
     ensures actuals { IfOk result (λ _. (fs : List Formal) → length fs ≡ formals → bound_parts fs (actuals_of text.now) ≡ ranges_tokens text.now (added bindings.old.items bindings.new.items)) }
     ensures count { (fs : List Formal) → length fs ≡ formals → is_ok result ≡ is_count fs (actuals_of text.now) }
@@ -107,10 +101,7 @@ pub fn bind_parts(text: &[u8], formals: usize, bindings: &mut Vec<Range>) -> Res
 fn bind(text: &[u8], from: usize, closes: bool, formals: usize, bindings: &mut Vec<Range>) -> Bound
     requires range { from ≤ length text.now }
     requires room { vec_len bindings.old + formals ≤ vec_capacity bindings.old }
-    ensures whole { bindings.new.items ≡ bindings.old.items ++ added bindings.old.items bindings.new.items }
-    ensures within { AreWithin from (length text.now) (added bindings.old.items bindings.new.items) }
-    ensures len { vec_len bindings.new ≤ vec_len bindings.old + formals }
-    ensures capacity { vec_capacity bindings.new ≡ vec_capacity bindings.old }
+    ensures binds { Binds from (length text.now) formals bindings.old bindings.new }
     ensures bound { IsBound closes text.now from formals bindings.old.items bindings.new.items result }
 {
     let kept = bindings.len();
@@ -136,10 +127,7 @@ fn push_parts(
 ) -> Pushed
     requires range { from ≤ length text.now }
     requires room { vec_len bindings.old + most ≤ vec_capacity bindings.old }
-    ensures whole { bindings.new.items ≡ bindings.old.items ++ added bindings.old.items bindings.new.items }
-    ensures len { vec_len bindings.new ≤ vec_len bindings.old + most }
-    ensures capacity { vec_capacity bindings.new ≡ vec_capacity bindings.old }
-    ensures within { AreWithin from result.to (added bindings.old.items bindings.new.items) }
+    ensures binds { Binds from result.to most bindings.old bindings.new }
     ensures end { result.to ≡ from + inner_size closes (drop from text.now) }
     ensures inside { result.to ≤ length text.now }
     ensures count { length (actuals_in closes (drop from text.now)) ≡ result.further + 1 }

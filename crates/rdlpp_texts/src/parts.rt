@@ -6,7 +6,7 @@ ghost use Rattle.rdlpp_texts.specs.CallParts.{IsNextPart, ends_text, is_white, o
 ghost use Rattle.rdlpp_texts.specs.CallTokens.{role_meant};
 
 use crate::calm::{Passed, is_white, pass_calm};
-use crate::tokens::{CallRole, ends_call, ends_part, level_behind, mark_in_call, token_in_call};
+use crate::tokens::{CallRole, ends_call, ends_part, level_behind, token_in_call};
 use rdlpp_scan::{Mode, byte_at, word_bytes};
 
 /// Where a part of a call ends.
@@ -133,7 +133,7 @@ fn part_by_tokens(text: &[u8], from: usize, closes: bool) -> Part
             break;
         }
         // It is no white space, all of which has been passed in front of it.
-        let token = mark_in_call(mode, &text[passed.at..]);
+        let token = token_in_call(mode, &text[passed.at..]);
         if ends_text(closes, token.role, level) {
             break;
         }

@@ -1,12 +1,12 @@
 // The tokens of a text by the role that each has in a call.
-ghost use Rattle.std.specs.Prelude.{◌≡◌, ◌+◌, ◌-◌, ◌<◌, ◌∷◌, ◌==◌, ◌||◌, [], length, slice_index};
+ghost use Rattle.std.specs.Prelude.{◌≡◌, ◌+◌, ◌-◌, ◌<◌, ◌∷◌, ◌==◌, ◌||◌, [], length};
 ghost use Rattle.rdlpp_scan.specs.Bytes.{is_closer, is_opener};
 ghost use Rattle.rdlpp_scan.specs.declared.token.Mode.TheVariants.{Plain};
 ghost use Rattle.rdlpp_meaning.specs.Actuals.{kind_role, level_behind};
 ghost use Rattle.rdlpp_texts.specs.CallParts.{ends_call, ends_part};
-ghost use Rattle.rdlpp_texts.specs.CallTokens.{plain_token, quick_role, role_meant, IsFirstToken};
+ghost use Rattle.rdlpp_texts.specs.CallTokens.{quick_role, role_meant, IsFirstToken};
 
-use rdlpp_scan::{Kind, Mode, first_token, word_bytes};
+use rdlpp_scan::{Kind, Mode, first_token};
 
 /// What a token is in a call (this project's profile).
 #[derive(Clone, Copy)]
@@ -39,26 +39,10 @@ pub(crate) struct CallToken {
     pub(crate) next_mode: Mode,
 }
 
-// The first token of a text that isn't empty. It is built once, from scalars: a copy of it costs more than most tokens.
+// The first token of a text that isn't empty: a comma or a bracket, as most tokens are that are asked for, or any other by its kind. It
+// is built once, from scalars: a copy of it costs more than most tokens.
 #[inline(always)]
 pub(crate) fn token_in_call(mode: Mode, text: &[u8]) -> CallToken
-    requires { 0 < length text.now }
-    ensures { IsFirstToken mode text.now result }
-{
-    let len = quick_len(mode, text);
-    if len > 0 {
-        return CallToken {
-            role: quick_role(text[0]),
-            len,
-            next_mode: Mode::Plain,
-        };
-    }
-    other_token(mode, text)
-}
-
-// The same, where it is most likely no word, and isn't asked whether it is one: a comma or a bracket, or any other by its kind.
-#[inline(always)]
-pub(crate) fn mark_in_call(mode: Mode, text: &[u8]) -> CallToken
     requires { 0 < length text.now }
     ensures { IsFirstToken mode text.now result }
 {
@@ -86,22 +70,6 @@ fn other_token(mode: Mode, text: &[u8]) -> CallToken
     }
 }
 
-// How many bytes the first token of a text has that isn't empty, if it is a word, a comma or a bracket, as most tokens of calls are;
-// else 0.
-fn quick_len(mode: Mode, text: &[u8]) -> usize
-    requires { 0 < length text.now }
-    ensures quick { 0 < result → IsFirstToken mode text.now (plain_token (quick_role (slice_index text.now 0)) result) }
-{
-    let word = match mode {
-        Mode::Plain => word_bytes(text),
-        _ => return 0,
-    };
-    if word > 0 {
-        return word;
-    }
-    if is_mark(text[0]) { 1 } else { 0 }
-}
-
 // Whether a byte is a comma or a bracket.
 #[tactic(auto, unfolding(rdlpp_scan::specs::Bytes::is_opener, rdlpp_scan::specs::Bytes::is_closer))]
 fn is_mark(b: u8) -> bool
@@ -110,7 +78,7 @@ fn is_mark(b: u8) -> bool
     b == b',' || ((b == b'(' || b == b'[' || b == b'{') || (b == b')' || b == b']' || b == b'}'))
 }
 
-// The role of a word, a comma or a bracket by its first byte.
+// The role of a comma or a bracket by its byte.
 #[tactic(auto, unfolding(crate::specs::CallTokens::quick_role, rdlpp_scan::specs::Bytes::is_opener, rdlpp_scan::specs::Bytes::is_closer))]
 fn quick_role(b: u8) -> CallRole
     ensures { result ≡ quick_role b }

@@ -9,7 +9,7 @@ use Rattle.rdlpp_texts.proofs.bindings.bind.Goals.{else-closes-via-then-closes+e
 pub returns-then-pushed-text-clause-bound : goal.returns-then-pushed-text-clause-bound
 unfolding IsBound
 returns-then-pushed-text-clause-bound c = record {
-  same = c.truncate.ensures.items ∙ taken-back c.args.bindings.now.items _ _ _ c.push_parts-pushed.ensures.whole (c.len-kept.ensures ∙ count_items c.args.bindings.now);
+  same = c.truncate.ensures.items ∙ taken-back c.args.bindings.now.items _ _ _ c.push_parts-pushed.ensures.binds.whole (c.len-kept.ensures ∙ count_items c.args.bindings.now);
   closes_is = c.if-closes.true;
   end = sym c.push_parts-pushed.ensures.end ∙ c.if-pushed-text.true;
 }
@@ -25,7 +25,7 @@ returns-then-not-admits-clause-bound c =
       | else-closes-via-else-closes w ↦ absurd (true≢false (sym h ∙ w.if-closes.false))
     ] in
     record {
-      same = c.truncate-then-not-admits.ensures.items ∙ taken-back c.args.bindings.now.items _ _ _ p.whole (c.len-kept.ensures ∙ count_items c.args.bindings.now);
+      same = c.truncate-then-not-admits.ensures.items ∙ taken-back c.args.bindings.now.items _ _ _ p.binds.whole (c.len-kept.ensures ∙ count_items c.args.bindings.now);
       closed = λ h. let less = closed h in omega (arith, less, end);
       count = λ fs is. sym c.if-not-admits.true ∙ c.admits.ensures fs is;
     }
@@ -40,9 +40,15 @@ returns-clause-bound c =
       | else-closes-via-else-closes w ↦ absurd (true≢false (sym h ∙ w.if-closes.false))
     ] in
     bound_to c.args.closes c.args.text.now c.args.from c.args.formals c.push_parts-pushed.result.further c.push_parts-pushed.result.to c.args.bindings.now.items c.push_parts-pushed.new.bindings.items
-    p.end closed p.within p.count p.actuals p.none (λ fs is. sym c.if-not-admits.false ∙ c.admits.ensures fs is)
+    p.end closed p.binds.within p.count p.actuals p.none (λ fs is. sym c.if-not-admits.false ∙ c.admits.ensures fs is)
 
-pub returns-clause-within : goal.returns-clause-within
-returns-clause-within c =
+pub returns-clause-binds : goal.returns-clause-binds
+returns-clause-binds c =
     let p = c.push_parts-pushed.ensures in
-    within_wider c.args.from c.push_parts-pushed.result.to c.args.from (length c.args.text.now) (added c.args.bindings.now.items c.push_parts-pushed.new.bindings.items) (omega arith) p.inside p.within
+    let b = p.binds in
+    record {
+      whole = b.whole;
+      within = within_wider c.args.from c.push_parts-pushed.result.to c.args.from (length c.args.text.now) (added c.args.bindings.now.items c.push_parts-pushed.new.bindings.items) (omega arith) p.inside b.within;
+      len = b.len;
+      capacity = b.capacity;
+    }

@@ -103,20 +103,35 @@ returns-in-Miscounted-clause-refused c =
     let b = subst (λ (x : Bound). IsBound true (take c.args.end text) (c.args.at + c.in-Some.len) c.args.formals old new x) c.in-Miscounted.is c.bind.ensures.bound in
     b.same
 
-pub returns-in-To-clause-within : goal.returns-in-To-clause-within
-returns-in-To-clause-within c =
+pub returns-in-To-clause-binds : goal.returns-in-To-clause-binds
+returns-in-To-clause-binds c =
     let n = length-take c.args.end c.args.text.now in
-    within_wider (c.args.at + c.in-Some.len) (length (take c.args.end c.args.text.now)) c.args.at c.args.end (added c.args.bindings.now.items c.bind.new.bindings.items) (omega arith) (omega (arith, n))
-    c.bind.ensures.within
+    let b = c.bind.ensures.binds in
+    record {
+      whole = b.whole;
+      within = within_wider (c.args.at + c.in-Some.len) (length (take c.args.end c.args.text.now)) c.args.at c.args.end (added c.args.bindings.now.items c.bind.new.bindings.items) (omega arith) (omega (arith, n)) b.within;
+      len = b.len;
+      capacity = b.capacity;
+    }
 
-pub returns-in-Open-clause-within : goal.returns-in-Open-clause-within
-returns-in-Open-clause-within c =
+pub returns-in-Open-clause-binds : goal.returns-in-Open-clause-binds
+returns-in-Open-clause-binds c =
     let n = length-take c.args.end c.args.text.now in
-    within_wider (c.args.at + c.in-Some.len) (length (take c.args.end c.args.text.now)) c.args.at c.args.end (added c.args.bindings.now.items c.bind.new.bindings.items) (omega arith) (omega (arith, n))
-    c.bind.ensures.within
+    let b = c.bind.ensures.binds in
+    record {
+      whole = b.whole;
+      within = within_wider (c.args.at + c.in-Some.len) (length (take c.args.end c.args.text.now)) c.args.at c.args.end (added c.args.bindings.now.items c.bind.new.bindings.items) (omega arith) (omega (arith, n)) b.within;
+      len = b.len;
+      capacity = b.capacity;
+    }
 
-pub returns-in-Miscounted-clause-within : goal.returns-in-Miscounted-clause-within
-returns-in-Miscounted-clause-within c =
+pub returns-in-Miscounted-clause-binds : goal.returns-in-Miscounted-clause-binds
+returns-in-Miscounted-clause-binds c =
     let n = length-take c.args.end c.args.text.now in
-    within_wider (c.args.at + c.in-Some.len) (length (take c.args.end c.args.text.now)) c.args.at c.args.end (added c.args.bindings.now.items c.bind.new.bindings.items) (omega arith) (omega (arith, n))
-    c.bind.ensures.within
+    let b = c.bind.ensures.binds in
+    record {
+      whole = b.whole;
+      within = within_wider (c.args.at + c.in-Some.len) (length (take c.args.end c.args.text.now)) c.args.at c.args.end (added c.args.bindings.now.items c.bind.new.bindings.items) (omega arith) (omega (arith, n)) b.within;
+      len = b.len;
+      capacity = b.capacity;
+    }

@@ -56,12 +56,18 @@ overflow_add-to c =
     let inside = e.inside in
     omega (arith, inside)
 
-pub returns-in-Last-clause-within : goal.returns-in-Last-clause-within
-returns-in-Last-clause-within c =
+pub returns-in-Last-clause-binds : goal.returns-in-Last-clause-binds
+returns-in-Last-clause-binds c =
     let i = c.parts.invariant in
     let e = read_last c.args.closes c.args.text.now c.args.from c.parts.at c.in-Last.end c.parts.further c.args.most c.args.bindings.now.items c.parts.bindings.items c.put.new.bindings.items
     c.next_part-part.result i.low i.inside i.bound c.next_part-part.ensures.part c.put.ensures.puts c.put.ensures.stays c.in-Last.is in
-    e.bound.within
+    let more = many-more _ _ c.parts.further c.args.most _ i.many c.put.ensures.longer c.put.ensures.len in
+    record {
+      whole = e.bound.whole;
+      within = e.bound.within;
+      len = omega (arith, more);
+      capacity = c.put.ensures.capacity ∙ i.capacity;
+    }
 
 pub returns-in-Last-clause-end : goal.returns-in-Last-clause-end
 returns-in-Last-clause-end c =
@@ -83,13 +89,6 @@ returns-in-Last-clause-none c =
     let e = read_last c.args.closes c.args.text.now c.args.from c.parts.at c.in-Last.end c.parts.further c.args.most c.args.bindings.now.items c.parts.bindings.items c.put.new.bindings.items
     c.next_part-part.result i.low i.inside i.bound c.next_part-part.ensures.part c.put.ensures.puts c.put.ensures.stays c.in-Last.is in
     e.bound.none
-
-pub returns-in-Last-clause-whole : goal.returns-in-Last-clause-whole
-returns-in-Last-clause-whole c =
-    let i = c.parts.invariant in
-    let e = read_last c.args.closes c.args.text.now c.args.from c.parts.at c.in-Last.end c.parts.further c.args.most c.args.bindings.now.items c.parts.bindings.items c.put.new.bindings.items
-    c.next_part-part.result i.low i.inside i.bound c.next_part-part.ensures.part c.put.ensures.puts c.put.ensures.stays c.in-Last.is in
-    e.bound.whole
 
 pub returns-in-Last-clause-count : goal.returns-in-Last-clause-count
 returns-in-Last-clause-count c =

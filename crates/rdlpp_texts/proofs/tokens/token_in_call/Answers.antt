@@ -4,7 +4,7 @@ use Rattle.rdlpp_texts.specs.CallTokens.{plain_token, IsFirstToken}
 use Rattle.rdlpp_texts.specs.declared.tokens.CallRole.{CallRole}
 use Rattle.rdlpp_scan.specs.declared.token.Mode.TheVariants.{Plain}
 use Rattle.rdlpp_texts.proofs.QuickTokens.{mark_first}
-use Rattle.rdlpp_texts.proofs.tokens.mark_in_call.Goals as goal
+use Rattle.rdlpp_texts.proofs.tokens.token_in_call.Goals as goal
 
 pub returns-in-Plain : goal.returns-in-Plain
 returns-in-Plain c =

@@ -25,7 +25,7 @@ invariant_of-self-2 c =
     let n = c.unwrap_or-formals.ensures ∙ ap (λ (o : Option ℕ). unwrap_or o 0) c.arity.ensures ∙ arity-count (macro_at c.args.table.now.macros c.args.id).formals in
     stack-entered c.self.inside.slots.items c.free_slot-first.new.slots.items _ _ c.self.inside.depth c.self.inside.first c.free_slot-first.result c.self.inside.bindings c.bind_parts.new.bindings
     (added c.self.inside.bindings.items c.bind_parts.new.bindings.items) c.args.id _ 0 c.len-bound.result
-    c.unwrap_or-formals.result c.body_bounds-bounds.result c.free_slot-first.ensures.free c.free_slot-first.ensures.capacity c.len-bound.ensures (omega (arith, few, n)) c.bind_parts.ensures.len c.bind_parts.ensures.whole c.bind_parts.ensures.capacity
+    c.unwrap_or-formals.result c.body_bounds-bounds.result c.free_slot-first.ensures.free c.free_slot-first.ensures.capacity c.len-bound.ensures (omega (arith, few, n)) c.bind_parts.ensures.binds.len c.bind_parts.ensures.binds.whole c.bind_parts.ensures.binds.capacity
     (lent-body c.self.inside.slots.items _ c.self.inside.first c.args.id 0 c.body_bounds-bounds.result c.as_slice.ensures.value c.body_bounds-bounds.ensures) c.self.invariant
 
 pub returns-in_err-bind_parts-clause-refused : goal.returns-in_err-bind_parts-clause-refused
@@ -43,10 +43,10 @@ returns-clause-opens c =
     call-started c.args.table.now c.args.arguments.now c.args.id c.args.line (added c.self.inside.bindings.items c.bind_parts.new.bindings.items) _ _ c.len-macros.ensures.sound c.requires.id
     (sym c.keeps_each.ensures ∙ c.if-not-keeps_each.false) (c.in_ok-bind_parts.ensures.actuals (formals_of (macro_at c.args.table.now.macros c.args.id)) (sym n))
     (c.in_ok-bind_parts.ensures.count (formals_of (macro_at c.args.table.now.macros c.args.id)) (sym n))
-    c.bind_parts.ensures.within
+    c.bind_parts.ensures.binds.within
     (view-is _ _ _ _ _
     (entered-opens c.self.inside.slots.items c.free_slot-first.new.slots.items c.self.inside.depth c.self.inside.first c.free_slot-first.result c.self.inside.bindings.items _ c.bind_parts.new.bindings.items c.args.id
-    (length c.body.result.now) 0 c.len-bound.result c.body_bounds-bounds.result c.free_slot-first.ensures.free (c.len-bound.ensures ∙ count_items c.self.inside.bindings) c.bind_parts.ensures.whole
+    (length c.body.result.now) 0 c.len-bound.result c.body_bounds-bounds.result c.free_slot-first.ensures.free (c.len-bound.ensures ∙ count_items c.self.inside.bindings) c.bind_parts.ensures.binds.whole
     ∙ started-opens c.args.table.now c.args.arguments.now c.args.id (added c.self.inside.bindings.items c.bind_parts.new.bindings.items) c.body.result.now _ c.body.ensures
     (rw (← c.self.view_is) at c.requires.closed))
     (ap (λ (v : CursorsView). v.depth) c.self.view_is))
