@@ -195,21 +195,6 @@ impl Table {
         Some(MacroId { index })
     }
 
-    /// As `find`, but looks at the macro at a guessed place first, which costs one comparison: a caller that keeps the
-    /// place at which a name was found last is answered without a search while that macro stays there. Places may have
-    /// changed since then, so that any number may be guessed: a guess is never trusted.
-    pub fn find_near(&self, guess: usize, name: &[u8]) -> Option<MacroId>
-        ensures value { result ≡ place_named self.now.macros name.now }
-        ensures inside { IfSome result (λ id. id < length self.now.macros) }
-        ensures named { macro_named self.now.macros name.now ≡ option_map (macro_at self.now.macros) result }
-        ensures sound { IsSound self.now }
-    {
-        match self.find_at(guess, name) {
-            Some(id) => Some(id),
-            None => self.find(name),
-        }
-    }
-
     /// The macro at a place, if it is that of a name; `None` where another one stands there, or none. Any number may be asked for.
     ///
     /// Costs one comparison.
@@ -253,28 +238,14 @@ impl Table {
         arity_in(self.stored(id).entry)
     }
 
-    /// The first place, from `from` on and before `to`, of the body of a macro that isn't copied as it stands:
-    /// a usage, a lone backquote or a formal of the macro. The bytes of the range are read as a text of their own,
-    /// from plain text on. `from` and `to` are counted in bytes from the front of the body.
+    /// The first place, from `from` on and before `to`, of the body of a macro that isn't copied as it stands: a usage, a lone backquote
+    /// or a formal of the macro, where the first ten stops of the body tell it; `None` where they don't. The bytes of the range are read
+    /// as a text of their own, from plain text on. `from` and `to` are counted in bytes from the front of the body.
     ///
-    /// Takes time linear in the distance to that place, or to `to` where there is none, but where the first ten stops of the body
-    /// tell it: then at most two bytes are read. They do where `from` is the front of the body or the end of the stop before it, or
-    /// stands behind a blank or a byte that is a token by itself, at most 255 bytes further on, none of which is `"`, `/` or `<`; and
-    /// `to` is the end of the body, or at most so many such bytes lie before the stop, which ends at `to` or before it, or before
-    /// `to`, where no word goes on and which the stop is behind.
-    pub fn stop(&self, id: MacroId, from: usize, to: usize) -> Stop
-        requires id { id < length self.now.macros }
-        requires order { from ≤ to }
-        requires inside { to ≤ length (macro_at self.now.macros id).body }
-        ensures { result ≡ stop_in (macro_at self.now.macros id) from to }
-    {
-        match self.kept_stop(id, from, to) {
-            Some(stop) => stop,
-            None => self.seek_stop(id, from, to),
-        }
-    }
-
-    /// As `stop`, where the first ten stops of the body tell it; `None` where they don't. Reads at most two bytes of the body.
+    /// Reads at most two bytes of the body. The first ten stops tell it where `from` is the front of the body or the end of the stop
+    /// before it, or stands behind a blank or a byte that is a token by itself, at most 255 bytes further on, none of which is `"`, `/`
+    /// or `<`; and `to` is the end of the body, or at most so many such bytes lie before the stop, which ends at `to` or before it, or
+    /// before `to`, where no word goes on and which the stop is behind.
     pub fn kept_stop(&self, id: MacroId, from: usize, to: usize) -> Option<Stop>
         requires id { id < length self.now.macros }
         requires order { from ≤ to }
@@ -286,7 +257,7 @@ impl Table {
         known_stop(&found.entry.stops, body, from, to)
     }
 
-    /// As `stop`, by reading the range: takes time linear in the distance to the stop, or to `to`.
+    /// The place of which `kept_stop` tells, by reading the range: takes time linear in the distance to it, or to `to` where there is none.
     #[inline(always)]
     pub fn seek_stop(&self, id: MacroId, from: usize, to: usize) -> Stop
         requires id { id < length self.now.macros }
