@@ -1,9 +1,8 @@
 -- Sources over files: which paths are opened, and what an open and a read answer.
 -- A definition that names no source is this project's own.
-use Rattle.std.specs.Prelude.{◌≡◌, ◌≢◌, ⊤, codes, ℕ, ◌<◌, ◌≤◌, ◌==◌, false, List, ◌∷◌, length, map, Option, None, Some, slice_get, Result, Ok, Err}
+use Rattle.std.specs.Prelude.{◌≡◌, ◌≢◌, ⊤, codes, ℕ, ◌<◌, ◌≤◌, ◌==◌, false, List, length, map, Option, None, Some, slice_get, Result, Ok, Err}
 use Rattle.std.specs.List.{list_any}
 use Rattle.std.specs.String.{string_bytes}
-use Rattle.rdlpp_source.specs.Search.{folder_of}
 use Rattle.rdlpp_source.specs.declared.sources.Found.{Found}
 use Rattle.rdlpp_source.specs.declared.sources.SourceFault.{SourceFault}
 use Rattle.rdlpp_source.specs.declared.sources.SourceFault.TheVariants.{Absent, PathTooLong, Device, NoMemory}
@@ -47,10 +46,6 @@ IsInput (File file id) = ⊥
 -- the reader of a main path: of `-` that of standard input, and of every other one a file (source: this project's profile)
 abbrev pub IsReaderOf : {I F : Type 0} → List ℕ → FolderReader I F → Type 0
 IsReaderOf path reader = (path ≡ codes "-" → IsInput reader) × (path ≢ codes "-" → IsFile reader)
-
--- the folders in which a name is searched: that of the including source, and then the include folders in order (source: this project's profile)
-abbrev pub searched_folders : List (List ℕ) → List ℕ → List (List ℕ)
-searched_folders folders from = folder_of from ∷ folders
 
 -- an open of one path gave a source under that very path, which has no LF byte; it was refused as too long exactly where the path is (source: this project's profile)
 abbrev pub OpensPath : {R : Type 0} → List ℕ → Result (Found R) SourceFault → Type 0

@@ -1,5 +1,5 @@
 //! Sources over files.
-ghost use Rattle.std.specs.Prelude.{◌≡◌, ◌≢◌, ℕ, ◌+◌, ◌-◌, ◌^◌, ◌≤◌, min, List, length, map, Option, Some, IfOk, IfErr, slice_get};
+ghost use Rattle.std.specs.Prelude.{◌≡◌, ◌≢◌, ℕ, ◌+◌, ◌-◌, ◌^◌, min, List, map, Option, IfOk, IfErr};
 ghost use Rattle.std.specs.Io.{ReadsAtMost};
 ghost use Rattle.std.specs.Io.KnownBytes.{ReadConsumes};
 ghost use Rattle.rdlpp_source.specs.Counts.{Counts};
@@ -10,7 +10,7 @@ ghost use Rattle.rdlpp.specs.Answers.{is_absent};
 use crate::written::FilePair;
 use arrayvec::ArrayString;
 use rdlpp_reports::{FileId, FileSources};
-use rdlpp_source::{Found, SourceFault, Sources, folder_of, joined_path};
+use rdlpp_source::{Found, SearchedFolders, SourceFault, Sources, candidate};
 use rdlpp_table::NoMemory;
 use std::alloc::Global;
 use std::cell::Cell;
@@ -98,7 +98,7 @@ impl<I: Read, F: Read> FolderReader<I, F> {
 }
 
 impl<'r, R: Files + Input> Folders<'r, R> {
-    ghost use Rattle.rdlpp.specs.Folders.{include_folders, device_failures, memory_refusals, searched_folders, IsFile, IsReaderOf, OpensPath, SearchesPaths};
+    ghost use Rattle.rdlpp.specs.Folders.{include_folders, device_failures, memory_refusals, IsFile, IsReaderOf, OpensPath, SearchesPaths};
 
     /// Sources over the files of `rt`, with these include folders in the order of the search.
     ///
@@ -167,22 +167,21 @@ impl<'r, R: Files + Input> Folders<'r, R> {
         self.failed.get()
     }
 
-    // The file at a path.
-    fn open(
+    // The file of a name in a folder.
+    fn open_in(
         &self,
-        path: ArrayString<1024>,
+        folder: &str,
+        name: &str,
     ) -> Result<Found<FolderReader<R::Reader, R::File>>, SourceFault>
-        ensures path { OpensPath path.bytes result }
+        ensures path { OpensPath (joined_path folder.now name.now) result }
         ensures file { IfOk result (λ found. IsFile found.reader) }
     {
-        if path.as_bytes().contains(&b'\n') {
-            return Err(SourceFault::Absent);
-        }
-        let Ok(candidate) = String::from_str(self.alloc, path.as_str()) else {
+        let path = candidate(folder, name)?;
+        let Ok(text) = String::from_str(self.alloc, path.as_str()) else {
             self.keep_failure(path, io::Error::from(ErrorKind::OutOfMemory));
             return Err(SourceFault::NoMemory);
         };
-        match File::open(self.rt, candidate.as_str()) {
+        match File::open(self.rt, text.as_str()) {
             Ok(file) => {
                 let id = self.looked_at(&file);
                 if self.is_written(id) {
@@ -208,61 +207,12 @@ impl<'r, R: Files + Input> Folders<'r, R> {
         ensures path { OpensPath path.now result }
         ensures reader { IfOk result (λ found. IsReaderOf path.now found.reader) }
     {
-        let Ok(path) = ArrayString::from(path) else {
-            return Err(SourceFault::PathTooLong);
-        };
-        if path.as_str() == STANDARD_INPUT {
+        if path == STANDARD_INPUT {
+            let path = candidate("", path)?;
             let reader = FolderReader::Input(self.rt.reader());
             return Ok(Found { path, reader });
         }
-        self.open(path)
-    }
-
-    // The file of a name in a folder.
-    fn open_in(
-        &self,
-        folder: &str,
-        name: &str,
-    ) -> Result<Found<FolderReader<R::Reader, R::File>>, SourceFault>
-        ensures path { OpensPath (joined_path folder.now name.now) result }
-        ensures file { IfOk result (λ found. IsFile found.reader) }
-    {
-        match joined_path(folder, name) {
-            Some(path) => self.open(path),
-            None => Err(SourceFault::PathTooLong),
-        }
-    }
-
-    // The folder of the candidate at a place, from 0: that of the including source, and then the
-    // include folders.
-    fn searched_folder<'s>(&'s self, from: &'s str, place: usize) -> &'s str
-        requires { place ≤ length (include_folders self.now) }
-        ensures { slice_get (searched_folders (include_folders self.now) from.now) place ≡ Some result.now }
-    {
-        if place == 0 {
-            folder_of(from)
-        } else {
-            self.folders[place - 1].as_str()
-        }
-    }
-
-    // The file of a name in the first of the searched folders that has it.
-    fn search_folders<'s>(
-        &'s self,
-        from: &'s str,
-        name: &str,
-    ) -> Result<Found<FolderReader<R::Reader, R::File>>, SourceFault>
-        ensures paths { SearchesPaths (map (λ folder. joined_path folder name.now)
-            (searched_folders (include_folders self.now) from.now)) result }
-        ensures file { IfOk result (λ found. IsFile found.reader) }
-    {
-        for place in 0..self.folders.len() + 1 {
-            let answer = self.open_in(self.searched_folder(from, place), name);
-            if !is_absent(&answer) {
-                return answer;
-            }
-        }
-        Err(SourceFault::Absent)
+        self.open_in("", path)
     }
 
     // The file of a name that a source includes.
@@ -274,10 +224,13 @@ impl<'r, R: Files + Input> Folders<'r, R> {
         ensures paths { SearchesPaths (candidates (include_folders self.now) from.now name.now) result }
         ensures file { IfOk result (λ found. IsFile found.reader) }
     {
-        if name.starts_with('/') {
-            return self.open_in("", name);
+        for folder in SearchedFolders::of(from, name, self.folders.as_slice()) {
+            let answer = self.open_in(folder, name);
+            if !is_absent(&answer) {
+                return answer;
+            }
         }
-        self.search_folders(from, name)
+        Err(SourceFault::Absent)
     }
 
     // Counts the failure or the refusal that an answer tells, and gives the answer.

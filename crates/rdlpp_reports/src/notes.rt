@@ -9,7 +9,7 @@ use itoa::Buffer;
 use rdlpp_expand::{Engine, Fault, FaultKind};
 use rdlpp_front::{Front, front_of};
 use rdlpp_scan::Mode;
-use rdlpp_source::{Sources, folder_of, joined_path};
+use rdlpp_source::{SearchedFolders, Sources, joined_path};
 use rdlpp_table::{Limits, MacroId};
 use rdlpp_texts::{PartEnd, TextSource, next_part, text_at};
 use std::io::{self, Write};
@@ -238,11 +238,7 @@ fn write_tried<W: Write>(
     folders: &[&str],
     writer: &mut W,
 ) -> io::Result<()> {
-    if name.starts_with('/') {
-        return write_candidate("", name, writer);
-    }
-    write_candidate(folder_of(from), name, writer)?;
-    for folder in folders {
+    for folder in SearchedFolders::of(from, name, folders) {
         write_candidate(folder, name, writer)?;
     }
     Ok(())

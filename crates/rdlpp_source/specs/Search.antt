@@ -1,8 +1,13 @@
 -- Which source a search finds: the candidates of a name, and the first of them that exists.
 -- A definition that names no source is this project's own.
-use Rattle.std.specs.Prelude.{ℕ, ◌==◌, ◌||◌, List, [], ◌∷◌, ◌++◌, length, map, Option, None, Some, nat_lt, slice_index, ◌-◌, if◌then◌else◌}
+use Rattle.std.specs.Prelude.{◌≡◌, ℕ, ◌<◌, ◌≤◌, ◌==◌, ◌||◌, true, false, List, [], ◌∷◌, ◌++◌, length, map, Option, None, Some, Result, Ok, Err, nat_lt, slice_index, ◌-◌, if◌then◌else◌}
 use Rattle.std.specs.List.{list_any}
+use Rattle.std.specs.Borrow.{Bor}
+use Rattle.arrayvec.specs.declared.array_string.ArrayString.{ArrayString}
 use Rattle.rdlpp_source.specs.Sources.{Answer, Missing, Overlong, Present}
+use Rattle.rdlpp_source.specs.declared.search.SearchedFolders.{SearchedFolders}
+use Rattle.rdlpp_source.specs.declared.sources.SourceFault.{SourceFault}
+use Rattle.rdlpp_source.specs.declared.sources.SourceFault.TheVariants.{Absent, PathTooLong, Device, NoMemory}
 
 -- the folder of a path: all up to and with its last `/`, or nothing (source: this project's profile)
 abbrev pub folder_of : List ℕ → List ℕ
@@ -20,6 +25,22 @@ abbrev pub candidates : List (List ℕ) → List ℕ → List ℕ → List (List
 candidates folders from name =
     if slice_index name 0 == 47 then name ∷ []
     else map (λ folder. joined_path folder name) (folder_of from ∷ folders)
+
+-- the folders that are left of a search, the first of which may be taken already
+abbrev pub folders_from : Option (Bor (List ℕ)) → List (List ℕ) → List (List ℕ)
+folders_from None folders = folders
+folders_from (Some first) folders = first.now ∷ folders
+
+abbrev pub folders_left : {F : Type 0} → (F → List ℕ) → SearchedFolders F → List (List ℕ)
+folders_left text s = folders_from s.first (map text s.others.now)
+
+-- a path is given where a source may stand there; more than 1,024 bytes are too long, and nothing stands at a path with an LF byte (source: this project's profile)
+abbrev pub IsCandidate : List ℕ → Result (ArrayString 1024) SourceFault → Type 0
+IsCandidate path (Ok found) = (found.bytes ≡ path) × (length path ≤ 1024) × (list_any (λ b. b == 10) path ≡ false)
+IsCandidate path (Err Absent) = (length path ≤ 1024) × (list_any (λ b. b == 10) path ≡ true)
+IsCandidate path (Err PathTooLong) = 1024 < length path
+IsCandidate path (Err Device) = ⊥
+IsCandidate path (Err NoMemory) = ⊥
 
 -- what stands at a path: nothing, or a text (source: this project's profile)
 abbrev pub at_path : List ℕ → Option (List ℕ) → Answer

@@ -8,7 +8,7 @@ ghost use Rattle.rdlpp_source.specs.Search.{joined_path};
 ghost use Rattle.rdlpp_source.specs.Counts.{Counts};
 ghost use Rattle.rdlpp_source.specs.Asked.{Answers, Comes, Adds, Ends, Opens, Stays, Stops, first_search, folders_of, is_failed, is_refused, search_at, search_of, standing_at, wanted_of};
 
-use crate::{Found, SourceFault, Sources, folder_of, joined_path};
+use crate::{Found, SearchedFolders, SourceFault, Sources, candidate};
 use arrayvec::ArrayString;
 use std::alloc::{AllocError, Global};
 use std::collections::BTreeMap;
@@ -173,13 +173,15 @@ impl AskedTexts {
         self.known.get(path)
     }
 
-    // The source at one candidate.
-    fn open(&self, path: ArrayString<1024>) -> Result<Found<AskedReader>, Stop>
-        ensures { Comes (search_at self.now path.bytes) result }
+    // The source of a name in a folder.
+    fn open_in(&self, folder: &str, name: &str) -> Result<Found<AskedReader>, Stop>
+        ensures { Comes (search_at self.now (joined_path folder.now name.now)) result }
     {
-        if path.as_bytes().contains(&b'\n') {
-            return Err(Stop::Absent);
-        }
+        let path = match candidate(folder, name) {
+            Ok(path) => path,
+            Err(SourceFault::PathTooLong) => return Err(Stop::PathTooLong),
+            Err(_) => return Err(Stop::Absent),
+        };
         match self.standing(path.as_str()) {
             Some(Standing::Text(text)) => open_text(path, text),
             Some(Standing::Absent) => Err(Stop::Absent),
@@ -195,53 +197,18 @@ impl AskedTexts {
         if self.asks { stop } else { Stop::Absent }
     }
 
-    // The source whose path is given.
-    fn open_top(&self, path: &str) -> Result<Found<AskedReader>, Stop>
-        ensures { Comes (search_at self.now path.now) result }
-    {
-        match ArrayString::from(path) {
-            Ok(path) => self.open(path),
-            Err(_) => Err(Stop::PathTooLong),
-        }
-    }
-
-    // The source of a name in a folder.
-    fn open_in(&self, folder: &str, name: &str) -> Result<Found<AskedReader>, Stop>
-        ensures { Comes (search_at self.now (joined_path folder.now name.now)) result }
-    {
-        match joined_path(folder, name) {
-            Some(path) => self.open(path),
-            None => Err(Stop::PathTooLong),
-        }
-    }
-
-    // The source of a name in the first of the include folders that has it.
-    #[tactic(auto, using(crate::proofs::Searches::found_or))]
-    fn open_in_folders(&self, name: &str) -> Result<Found<AskedReader>, Stop>
-        ensures { Comes (first_search self.now
-            (map (λ folder. joined_path folder name.now) (folders_of self.now))) result }
-    {
-        for folder in self.folders.iter() {
-            match self.open_in(folder.as_str(), name) {
-                Err(Stop::Absent) => {}
-                answer => return answer,
-            }
-        }
-        Err(Stop::Absent)
-    }
-
     // The source that a name of an include directive names.
     #[tactic(auto, using(crate::proofs::Searches::found_or))]
     fn open_named(&self, from: &str, name: &str) -> Result<Found<AskedReader>, Stop>
         ensures { Comes (search_of self.now from.now name.now) result }
     {
-        if name.starts_with('/') {
-            return self.open_top(name);
+        for folder in SearchedFolders::of(from, name, self.folders.as_slice()) {
+            match self.open_in(folder, name) {
+                Err(Stop::Absent) => {}
+                answer => return answer,
+            }
         }
-        match self.open_in(folder_of(from), name) {
-            Err(Stop::Absent) => self.open_in_folders(name),
-            answer => answer,
-        }
+        Err(Stop::Absent)
     }
 
     // Counts a failed search, and notes the path that it asked for.
@@ -343,7 +310,7 @@ impl Sources for AskedTexts {
         ensures refusals { Counts (is_no_memory result) self.old.refusals self.new.refusals }
         ensures only { self.new ≡ record self.old { wanted = self.new.wanted; failures = self.new.failures; refusals = self.new.refusals } }
     {
-        let answer = self.open_top(path);
+        let answer = self.open_in("", path);
         self.ended(answer)
     }
 

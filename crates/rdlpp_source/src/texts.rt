@@ -1,12 +1,11 @@
 //! Sources in memory.
-ghost use Rattle.std.specs.Prelude.{◌≡◌, map, min, drop, IfOk, length};
+ghost use Rattle.std.specs.Prelude.{◌≡◌, min, drop, IfOk, length};
 ghost use Rattle.std.specs.Option.{option_copied};
 ghost use Rattle.std.specs.Io.{ReadsAtMost};
 ghost use Rattle.rdlpp_source.specs.Sources.{Gives, Reads};
-ghost use Rattle.rdlpp_source.specs.Search.{joined_path, answer_at, first_answer};
+ghost use Rattle.rdlpp_source.specs.Search.{joined_path, answer_at};
 
-use crate::{Found, SourceFault, Sources, folder_of, joined_path};
-use arrayvec::ArrayString;
+use crate::{Found, SearchedFolders, SourceFault, Sources, candidate};
 
 /// Sources in memory, by this project's search rule.
 ///
@@ -29,7 +28,7 @@ pub struct TextReader<'a> {
 }
 
 impl<'a> Texts<'a> {
-    ghost use Rattle.rdlpp_source.specs.Texts.{text_at, folders_of, left_of};
+    ghost use Rattle.rdlpp_source.specs.Texts.{text_at, left_of};
 
     // The text of the first entry of a path.
     fn text_of(&self, path: &str) -> Option<&'a [u8]>
@@ -41,13 +40,11 @@ impl<'a> Texts<'a> {
             .map(|entry| entry.1)
     }
 
-    // The source at one candidate.
-    fn open(&self, path: ArrayString<1024>) -> Result<Found<TextReader<'a>>, SourceFault>
-        ensures { Gives left_of (answer_at (text_at self.now) path.bytes) result }
+    // The source of a name in a folder.
+    fn open_in(&self, folder: &str, name: &str) -> Result<Found<TextReader<'a>>, SourceFault>
+        ensures { Gives left_of (answer_at (text_at self.now) (joined_path folder.now name.now)) result }
     {
-        if path.as_bytes().contains(&b'\n') {
-            return Err(SourceFault::Absent);
-        }
+        let path = candidate(folder, name)?;
         match self.text_of(path.as_str()) {
             Some(left) => Ok(Found {
                 path,
@@ -55,30 +52,6 @@ impl<'a> Texts<'a> {
             }),
             None => Err(SourceFault::Absent),
         }
-    }
-
-    // The source of a name in a folder.
-    fn open_in(&self, folder: &str, name: &str) -> Result<Found<TextReader<'a>>, SourceFault>
-        ensures { Gives left_of (answer_at (text_at self.now) (joined_path folder.now name.now)) result }
-    {
-        match joined_path(folder, name) {
-            Some(path) => self.open(path),
-            None => Err(SourceFault::PathTooLong),
-        }
-    }
-
-    // The source of a name in the first of the include folders that has it.
-    fn open_in_folders(&self, name: &str) -> Result<Found<TextReader<'a>>, SourceFault>
-        ensures { Gives left_of (first_answer (text_at self.now)
-            (map (λ folder. joined_path folder name.now) (folders_of self.now))) result }
-    {
-        for folder in self.folders {
-            match self.open_in(folder, name) {
-                Err(SourceFault::Absent) => {}
-                answer => return answer,
-            }
-        }
-        Err(SourceFault::Absent)
     }
 }
 
@@ -102,23 +75,20 @@ impl<'a> Sources for Texts<'a> {
         ensures answer { Gives left_of ((texts_catalog self.old).top path.now) result }
         ensures unchanged { self.new ≡ self.old }
     {
-        match ArrayString::from(path) {
-            Ok(path) => self.open(path),
-            Err(_) => Err(SourceFault::PathTooLong),
-        }
+        self.open_in("", path)
     }
 
     fn find(&mut self, from: &str, name: &str) -> Result<Found<TextReader<'a>>, SourceFault>
         ensures answer { Gives left_of ((texts_catalog self.old).find from.now name.now) result }
         ensures unchanged { self.new ≡ self.old }
     {
-        if name.starts_with('/') {
-            return self.top(name);
+        for folder in SearchedFolders::of(from, name, self.folders) {
+            match self.open_in(folder, name) {
+                Err(SourceFault::Absent) => {}
+                answer => return answer,
+            }
         }
-        match self.open_in(folder_of(from), name) {
-            Err(SourceFault::Absent) => self.open_in_folders(name),
-            answer => answer,
-        }
+        Err(SourceFault::Absent)
     }
 
     fn read(&mut self, reader: &mut TextReader<'a>, to: &mut [u8]) -> Result<usize, SourceFault>

@@ -5,8 +5,8 @@ use Rattle.rdlpp_source.proofs.asked.AskedTextsSources.top.Goals as goal
 
 pub returns-clause-answer : goal.returns-clause-answer
 returns-clause-answer c =
-    answers_of (search_at c.args.self.now c.args.path.now) c.open_top-answer.result c.ended.result (wanted_of c.ended.new.self)
-    c.open_top-answer.ensures c.ended.ensures.answer
+    answers_of (search_at c.args.self.now c.args.path.now) c.open_in-answer.result c.ended.result (wanted_of c.ended.new.self)
+    c.open_in-answer.ensures c.ended.ensures.answer
 
 pub returns-clause-finds : goal.returns-clause-finds
 returns-clause-finds c = finds_top c.args.self.now c.args.path.now c.ended.result (wanted_of c.ended.new.self) (returns-clause-answer c)
