@@ -26,6 +26,9 @@ SMALL_PART = 65_536
 # The size from which on a file is read into the room of the output: a bytes object of that size is made of new pages each time.
 LARGE = 131_072
 
+# How a file is opened.
+HOW = os.O_RDONLY | os.O_CLOEXEC
+
 _part = ctypes.c_char * PART
 _last = ctypes.CDLL(None).memrchr
 _last.restype = ctypes.c_void_p
@@ -90,7 +93,7 @@ class Disk:
         if "\0" in path:
             raise Unreadable(ValueError(NUL_IN_NAME), False)
         try:
-            file = os.open(path.encode(), os.O_RDONLY | os.O_CLOEXEC)
+            file = os.open(path.encode(), HOW)
         except OSError as error:
             if error.errno is None:
                 raise
@@ -114,15 +117,16 @@ class Disk:
         self.stays = not is_regular
         self.file = (told.st_dev, told.st_ino) if is_regular else None
         if is_regular and told.st_size < LARGE:
-            return self._small_text(file, told.st_size)
+            return self._small_text(file)
         return self._large_text(file, told.st_size, written)
 
-    def _small_text(self, file: int, size: int) -> bytes:
-        """What a run can use of a file of this size."""
+    def _small_text(self, file: int) -> bytes:
+        """What a run can use of a small file."""
         parts: List[bytes] = []
         length = line = 0
         while length < self._most and line <= self._line:
-            part = os.read(file, min(max(size + 1 - length, SMALL_PART), self._most - length))
+            room = self._most - length
+            part = os.read(file, room if room < SMALL_PART else SMALL_PART)
             if not part:
                 break
             last = part.rfind(b"\n")

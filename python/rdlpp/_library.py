@@ -13,6 +13,7 @@ NAME_ROOM = 1024
 WORD_ROOM = 128
 TEXT_ROOM = 64
 MAP_ROOM = 65_536
+NAME_LENGTH, WORD_LENGTH, MAP_LENGTH = map(ctypes.c_size_t, (NAME_ROOM, WORD_ROOM, MAP_ROOM))
 
 
 class GivenLimits(ctypes.Structure):
@@ -99,12 +100,19 @@ def _declared(name: str, answer: Any, *parameters: Any) -> Callable[..., Any]:
     return call  # type: ignore[no-any-return]
 
 
+def _frequent(name: str, answer: Any) -> Callable[..., Any]:
+    """A call that is given objects of ctypes, and texts as bytes. Their types aren't looked at, which takes a third of a call."""
+    call = getattr(_library, name)
+    call.restype = answer
+    return call  # type: ignore[no-any-return]
+
+
 standard_limits = _declared("rdlpp_standard_limits", GivenLimits)
 open_handle = _declared("rdlpp_open", Outcome, ctypes.POINTER(Request), *_buffer, *_buffer, _handle)
-read_handle = _declared("rdlpp_read", Outcome, _handle, *_buffer, *_buffer, *_buffer)
-read_mapped = _declared("rdlpp_read_mapped", Mapped, _handle, *_buffer, *_buffer, *_buffer, *_buffer)
-give = _declared("rdlpp_give", ctypes.c_uint32, _handle, *_text, *_text)
-give_once = _declared("rdlpp_give_once", ctypes.c_uint32, _handle, *_text, *_text)
+read_handle = _frequent("rdlpp_read", Outcome)
+read_mapped = _frequent("rdlpp_read_mapped", Mapped)
+give = _frequent("rdlpp_give", ctypes.c_uint32)
+give_once = _frequent("rdlpp_give_once", ctypes.c_uint32)
 give_absent = _declared("rdlpp_give_absent", ctypes.c_uint32, _handle, *_text)
 give_failed = _declared("rdlpp_give_failed", ctypes.c_uint32, _handle, *_text)
 position = _declared("rdlpp_position", Outcome, _handle, *_buffer)
@@ -117,10 +125,10 @@ _version = _declared("rdlpp_version", ctypes.c_size_t, *_buffer)
 
 def lent(text: Union[Bytes, Part]) -> Tuple[Any, int]:
     """A text as the pointer and the length that a call takes; it is copied only where its memory can't be lent."""
-    if isinstance(text, Part):
-        return ctypes.c_char_p(text.place), text.length
     if isinstance(text, bytes):
         return text, len(text)
+    if isinstance(text, Part):
+        return ctypes.c_char_p(text.place), text.length
     view = memoryview(text)
     if view.readonly or not view.c_contiguous or not view.nbytes:
         return bytes(view), view.nbytes

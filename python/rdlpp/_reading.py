@@ -19,7 +19,7 @@ class Reading:
     """An output that is open. It is used by one call at a time.
 
     Attributes:
-        has_ended: whether all of the output was read.
+        is_over: whether nothing is left to read.
         fault: the fault that ended it, once it was read up to there.
         sources: the sources that were opened, in order, as the keys: of each file the path by which it was opened first, and of
             what lies in none each path.
@@ -30,7 +30,7 @@ class Reading:
     def __init__(self, request: Request, *, pieces: bool = False):
         self._handle = library.Handle()
         self._at = ctypes.byref(self._handle)
-        self.has_ended = False
+        self.is_over = False
         self.fault: Optional[Fault] = None
         self.sources: Dict[str, None] = {}
         self._files: Set[FileId] = set()
@@ -39,17 +39,23 @@ class Reading:
         self._asked, self._main = request.asked, request.path
         self._limits = request.limits
         self._unreadable: Optional[Tuple[str, Unreadable]] = None
-        self._buffers = (ctypes.c_char * (library.NAME_ROOM + library.WORD_ROOM))()
+        self._buffers: Any = (ctypes.c_char * (library.NAME_ROOM + library.WORD_ROOM))()
         self._name = ctypes.addressof(self._buffers)
         self._word = self._name + library.NAME_ROOM
-        self._told = (self._name, library.NAME_ROOM, self._word, library.WORD_ROOM)
-        self._map = (ctypes.c_char * 0)()
+        self._told = (
+            ctypes.c_void_p(self._name),
+            library.NAME_LENGTH,
+            ctypes.c_void_p(self._word),
+            library.WORD_LENGTH,
+        )
+        # where a read writes to, and what it is given
+        self._place, self._most = ctypes.c_void_p(), ctypes.c_size_t()
+        self._read = (self._at, self._place, self._most, *self._told)
+        self._map: Any = None
+        self._read_mapped: Tuple[Any, ...] = ()
+        # the lengths of a path and of the text that is given of it
+        self._lengths = ctypes.c_size_t(), ctypes.c_size_t()
         self._open(request, pieces)
-
-    @property
-    def is_over(self) -> bool:
-        """Whether nothing is left to read."""
-        return self.has_ended or self.fault is not None
 
     def _open(self, request: Request, pieces: bool) -> None:
         given = library.Request()
@@ -72,20 +78,27 @@ class Reading:
     def read(self, written: Written, most: int) -> None:
         """Reads once, at most so many bytes.
 
-        It may be none, also where more follow: `has_ended` and `fault` tell the end.
+        It may be none, also where more follow: `is_over` tells the end.
         """
-        outcome = library.read_handle(self._at, written.end(most), most, *self._told)
-        self._go_on(outcome, written)
+        self._place.value, self._most.value = written.end(most), most
+        outcome = library.read_handle(*self._read)
+        written.filled += outcome.length
+        if outcome.status != library.MORE:
+            self._go_on(outcome, written)
 
     def read_mapped(self, written: Written, most: int) -> None:
         """Reads once, as `read` does, and adds the lines of the line map for what it wrote to `runs`."""
-        if not self._map:
+        if self._map is None:
             self._map = (ctypes.c_char * library.MAP_ROOM)()
-        mapped = library.read_mapped(
-            self._at, written.end(most), most, ctypes.addressof(self._map), library.MAP_ROOM, *self._told
-        )
-        self.runs.append(ctypes.string_at(self._map, mapped.map_length))
-        self._go_on(mapped.outcome, written)
+            self._read_mapped = (*self._read[:3], self._map, library.MAP_LENGTH, *self._told)
+        self._place.value, self._most.value = written.end(most), most
+        mapped = library.read_mapped(*self._read_mapped)
+        if mapped.map_length:
+            self.runs.append(self._map[: mapped.map_length])
+        outcome = mapped.outcome
+        written.filled += outcome.length
+        if outcome.status != library.MORE:
+            self._go_on(outcome, written)
 
     def position(self) -> Optional[Position]:
         """The place of the first byte of what was read last, where there is one."""
@@ -100,7 +113,8 @@ class Reading:
 
     def close(self) -> None:
         """Gives back what is open."""
-        library.close_handle(self._at)
+        if self._handle.is_open:
+            library.close_handle(self._at)
 
     def __enter__(self) -> "Reading":
         return self
@@ -112,16 +126,16 @@ class Reading:
         self.close()
 
     def _go_on(self, outcome: library.Outcome, written: Written) -> None:
-        """Counts what a read wrote, and does what its outcome asks for, so that the next one goes on."""
-        written.filled += outcome.length
+        """Does what the outcome of a read asks for, which ended before its room was full, so that the next one goes on."""
         status = outcome.status
         if status == library.WANTED:
-            self._give(ctypes.string_at(self._name, outcome.name_length), written)
+            self._give(self._buffers[: outcome.name_length], written)
         elif status == library.WHOLE:
-            self.has_ended = True
+            self.is_over = True
         elif status == library.STOPPED:
             self.fault = self._fault(outcome)
-        elif status != library.MORE:
+            self.is_over = True
+        else:
             _raise_refusal(status)
 
     def _give(self, path: bytes, written: Written) -> None:
@@ -133,16 +147,21 @@ class Reading:
             self._unreadable = shown, unreadable
             if unreadable.is_open:
                 self._note(shown)
-            return _raise_refusal(library.give_failed(self._at, path, len(path)))
+            _raise_refusal(library.give_failed(self._at, path, len(path)))
+            return
         if text is None:
-            return _raise_refusal(library.give_absent(self._at, path, len(path)))
+            _raise_refusal(library.give_absent(self._at, path, len(path)))
+            return
         self._note(shown)
         place, length = library.lent(text)
         self.text_bytes += length
         # the main text is open up to the end
         give = library.give if self._asked.stays or path == self._main else library.give_once
-        status = give(self._at, path, len(path), place, length)
-        return None if status == library.CHANGED else _raise_refusal(status)
+        path_length, text_length = self._lengths
+        path_length.value, text_length.value = len(path), length
+        status = give(self._at, path, path_length, place, text_length)
+        if status not in (library.WHOLE, library.CHANGED):
+            _raise_refusal(status)
 
     def _note(self, path: str) -> None:
         """Notes a source that was opened, unless its file or its path is there."""
@@ -154,7 +173,8 @@ class Reading:
         self.sources[path] = None
 
     def _shown_name(self, outcome: library.Outcome) -> str:
-        return ctypes.string_at(self._name, outcome.name_length).decode()
+        name: bytes = self._buffers[: outcome.name_length]
+        return name.decode()
 
     def _fault(self, outcome: library.Outcome) -> Fault:
         """The fault that an outcome tells."""

@@ -15,6 +15,7 @@ Source = Union[Bytes, Path]
 Read = Callable[[str], Optional[Bytes]]
 
 TEXT_PATH = "-"
+STANDARD = Limits()
 
 
 class Request(NamedTuple):
@@ -120,10 +121,12 @@ def request_of(
     Raises:
         TypeError, ValueError, UnicodeError, LimitError: an argument isn't one.
     """
-    limits = Limits() if limits is None else limits
-    if not isinstance(limits, Limits):
+    if limits is None:
+        limits = STANDARD
+    elif not isinstance(limits, Limits):
         raise _wrong("limits", "an rdlpp.Limits", limits)
-    limits.check()
+    else:
+        limits.check()
     if not isinstance(origins, bool):
         raise _wrong("origins", "a bool", origins)
     path, texts = _main(source)

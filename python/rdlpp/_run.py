@@ -17,9 +17,10 @@ def _read_all(reading: Reading, read: Callable[[Written, int], None]) -> bytes:
     """All of an output, by reads that write so many bytes at most. It is often about as long as its sources."""
     written = Written(roomy(reading.text_bytes))
     while not reading.is_over:
-        if not written.left:
+        if written.filled == written.room:
             written.end(roomy(max(reading.text_bytes - written.filled, 0)))
-        read(written, min(written.left, PART))
+        left = written.room - written.filled
+        read(written, left if left < PART else PART)
     return written.take()
 
 

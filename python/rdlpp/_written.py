@@ -32,6 +32,9 @@ PAGE = 4_096
 HUGE_PAGES = 14
 # From here on the system's making of small pages costs more than writing into them.
 LARGE = 4_194_304
+HUGE_PAGE = 2_097_152
+# At least what the memory of a large room has beside it: the head of a bytes object and that of a block of malloc.
+BESIDE = 128
 
 
 def roomy(length: int) -> int:
@@ -61,6 +64,7 @@ class Written:
     _held = ctypes.c_void_p()
 
     def __init__(self, room: int):
+        room = _whole_pages(room, PAGE)
         self.filled = 0
         self.room = room
         # The one object without bytes is everybody's, so there is room for one byte more.
@@ -68,19 +72,12 @@ class Written:
         self._place: int = _place_of(self._held)
         _prefer_huge_pages(self._place, room)
 
-    @property
-    def left(self) -> int:
-        """How many more bytes there is room for."""
-        return self.room - self.filled
-
     def end(self, least: int) -> int:
         """The address behind the bytes that were written, with room for so many more at least. What stands there stays
         where room is made."""
-        if self.left < least:
-            self._grow(max(self.filled + least, self.room + self.room // 2))
-            # Room that grows by small steps is moved often, which costs more with huge pages.
-            if least >= LARGE:
-                _prefer_huge_pages(self._place, self.room)
+        if self.room - self.filled < least:
+            room = max(self.filled + least, self.room + self.room // 2)
+            self._grow(_whole_pages(room, HUGE_PAGE if self.room >= LARGE else PAGE))
         return self._place + self.filled
 
     def take(self) -> bytes:
@@ -91,13 +88,26 @@ class Written:
     def _grow(self, room: int) -> None:
         _resize(ctypes.byref(self._held), room + 1)
         self._place, self.room = _place_of(self._held), room
+        _prefer_huge_pages(self._place, room)
 
     def __del__(self) -> None:
         _forget(self._held)
 
 
+def _whole_pages(room: int, page: int) -> int:
+    """The room itself, or for a large one so much that its memory is a whole number of pages.
+
+    Large room that grows gets huge ones: the system lets it begin with one, and moves each whole when it grows again. New room
+    has small ones up to its first huge one, since the head of the object is written before huge ones are asked for.
+    """
+    return room if room < LARGE else (room + BESIDE + page - 1) // page * page - BESIDE
+
+
 def _prefer_huge_pages(place: int, room: int) -> None:
-    """Lets the system make huge pages for a large room, if it wants to; nothing else changes."""
+    """Lets the system make huge pages for a large room, if it wants to; nothing else changes.
+
+    It is asked for all of the room's memory: where it is asked for a part, the memory is two parts from then on, which
+    malloc can't have moved, but copies where the room grows.
+    """
     if room >= LARGE:
-        begin = (place + PAGE - 1) // PAGE * PAGE
-        _advise(begin, (place + room - begin) // PAGE * PAGE, HUGE_PAGES)
+        _advise(place // PAGE * PAGE, room + BESIDE, HUGE_PAGES)
