@@ -21,10 +21,30 @@ word_at text i = from_be_bytes w64
     (slice_index text i ∷ slice_index text (i + 1) ∷ slice_index text (i + 2) ∷ slice_index text (i + 3)
     ∷ slice_index text (i + 4) ∷ slice_index text (i + 5) ∷ slice_index text (i + 6) ∷ slice_index text (i + 7) ∷ [])
 
--- the whole words of a text, mixed in turn
-abbrev pub digest_of_words : List ℕ → ℕ
-digest_of_words text = mixed_all (λ i. word_at text (8 * i)) 1 (length text / 8)
+-- the first words of the first so many blocks of a text, each of four words, mixed in turn
+abbrev pub first_words : List ℕ → ℕ → ℕ
+first_words text n = mixed_all (λ i. word_at text (32 * i)) 1 n
 
--- the digest of a text: its whole words, and then the bytes that don't fill one
+-- their second words, mixed in turn
+abbrev pub second_words : List ℕ → ℕ → ℕ
+second_words text n = mixed_all (λ i. word_at text (32 * i + 8)) 1 n
+
+-- their third words, mixed in turn
+abbrev pub third_words : List ℕ → ℕ → ℕ
+third_words text n = mixed_all (λ i. word_at text (32 * i + 16)) 1 n
+
+-- their fourth words, mixed in turn
+abbrev pub fourth_words : List ℕ → ℕ → ℕ
+fourth_words text n = mixed_all (λ i. word_at text (32 * i + 24)) 1 n
+
+-- the first so many blocks of a text: what their words are mixed to, mixed in turn
+abbrev pub mixed_blocks : List ℕ → ℕ → ℕ
+mixed_blocks text n = mixed (mixed (mixed (first_words text n) (second_words text n)) (third_words text n)) (fourth_words text n)
+
+-- the whole blocks of a text
+abbrev pub digest_of_blocks : List ℕ → ℕ
+digest_of_blocks text = mixed_blocks text (length text / 32)
+
+-- the digest of a text: its whole blocks, and then the bytes that don't fill one
 abbrev pub digest_of : List ℕ → ℕ
-digest_of text = mixed_all (λ i. slice_index text (8 * (length text / 8) + i)) (digest_of_words text) (length text % 8)
+digest_of text = mixed_all (λ i. slice_index text (32 * (length text / 32) + i)) (digest_of_blocks text) (length text % 32)
