@@ -29,7 +29,7 @@ _advise.argtypes = [ctypes.c_void_p, ctypes.c_size_t, ctypes.c_int]
 
 MARGIN = 65_536
 PAGE = 4_096
-HUGE_PAGES = 14
+HUGE_PAGES, SMALL_PAGES = 14, 15
 # From here on the system's making of small pages costs more than writing into them.
 LARGE = 4_194_304
 HUGE_PAGE = 2_097_152
@@ -70,7 +70,7 @@ class Written:
         # The one object without bytes is everybody's, so there is room for one byte more.
         self._held = ctypes.c_void_p(_new(None, room + 1))
         self._place: int = _place_of(self._held)
-        _prefer_huge_pages(self._place, room)
+        _prefer(HUGE_PAGES, self._place, room)
 
     def end(self, least: int) -> int:
         """The address behind the bytes that were written, with room for so many more at least. What stands there stays
@@ -86,9 +86,11 @@ class Written:
         return cast(bytes, ctypes.cast(self._held, ctypes.py_object).value)
 
     def _grow(self, room: int) -> None:
+        # A zero byte is written behind the room, for which no huge page should be made.
+        _prefer(SMALL_PAGES, self._place, self.room)
         _resize(ctypes.byref(self._held), room + 1)
         self._place, self.room = _place_of(self._held), room
-        _prefer_huge_pages(self._place, room)
+        _prefer(HUGE_PAGES, self._place, room)
 
     def __del__(self) -> None:
         _forget(self._held)
@@ -103,11 +105,11 @@ def _whole_pages(room: int, page: int) -> int:
     return room if room < LARGE else (room + BESIDE + page - 1) // page * page - BESIDE
 
 
-def _prefer_huge_pages(place: int, room: int) -> None:
-    """Lets the system make huge pages for a large room, if it wants to; nothing else changes.
+def _prefer(pages: int, place: int, room: int) -> None:
+    """Lets the system make huge pages for a large room from now on, if it wants to, or small ones; nothing else changes.
 
     It is asked for all of the room's memory: where it is asked for a part, the memory is two parts from then on, which
     malloc can't have moved, but copies where the room grows.
     """
     if room >= LARGE:
-        _advise(place // PAGE * PAGE, room + BESIDE, HUGE_PAGES)
+        _advise(place // PAGE * PAGE, room + BESIDE, pages)
