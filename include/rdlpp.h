@@ -358,6 +358,7 @@ size_t rdlpp_definitions(rdlpp_handle *handle, char *out, size_t out_length);
 /*
  * Writes the notes of the fault that the last read told to `out`, in lines that end in LF, and answers their
  * whole length, which is 0 where the last read told none, of a closed handle, and where memory was refused.
+ * They are those of the program's --notes, but for the line that says where a macro was defined.
  */
 size_t rdlpp_notes(rdlpp_handle *handle, char *out, size_t out_length);
 

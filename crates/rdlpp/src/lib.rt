@@ -22,11 +22,11 @@ pub use opening::open_reading;
 pub use options::Options;
 pub use preprocessing::preprocess;
 pub use rdlpp_expand::{
-    Engine, Fault, FaultKind, Position, ReadEnd, ReadPart, Reading, RunFault, Watcher,
+    Engine, Fault, FaultKind, OpenSource, Position, ReadEnd, ReadPart, Reading, RunFault, Watcher,
 };
 pub use rdlpp_reports::{
-    FileId, FileSources, MapWriter, OpenedPaths, Recorded, write_definitions, write_dependencies,
-    write_failure, write_notes,
+    DefinitionPlaces, FileId, FileSources, MapWriter, OpenedPaths, Recorded, write_defined,
+    write_definitions, write_dependencies, write_failure, write_notes,
 };
 pub use rdlpp_source::{Buffered, Counted, Found, Sink, SinkFault, SourceFault, Sources, Texts};
 pub use rdlpp_table::{LimitFault, Limits, NoMemory, Table};

@@ -8,6 +8,7 @@ mod mapping;
 mod output;
 mod reports;
 mod telling;
+mod watching;
 mod words;
 
 use files::RunFiles;

@@ -13,6 +13,18 @@ pub struct Mapping {
 }
 
 impl Mapping {
+    /// Whether it is written.
+    pub fn is_open(&self) -> bool {
+        self.map.is_some()
+    }
+
+    /// Takes a piece of the output, with the place of its first byte.
+    pub fn saw(&mut self, piece: &[u8], position: Position<'_>) {
+        if let Some(map) = &mut self.map {
+            map.saw(piece, position);
+        }
+    }
+
     /// Writes what is left of the line map.
     ///
     /// # Errors
@@ -25,22 +37,6 @@ impl Mapping {
             map.finish()?;
         }
         Ok(())
-    }
-}
-
-impl Watcher for Mapping {
-    ghost use Rattle.std.specs.Option.{is_some};
-
-    ghost looks = { λ mapping. is_some mapping.map };
-
-    fn is_looking(&self) -> bool {
-        self.map.is_some()
-    }
-
-    fn saw(&mut self, piece: &[u8], position: Position<'_>) {
-        if let Some(map) = &mut self.map {
-            map.saw(piece, position);
-        }
     }
 }
 

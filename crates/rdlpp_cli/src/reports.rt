@@ -4,9 +4,9 @@ ghost use Rattle.rdlpp.specs.Running.{IsFreshOf};
 ghost use Rattle.rdlpp_cli.specs.Statuses.{report_status};
 
 use crate::files::{RunFiles, WriteFault};
-use crate::mapping::{Mapping, open_mapping};
 use crate::output::Output;
 use crate::telling::{tell_fault, tell_noted, tell_unwritten};
+use crate::watching::Watching;
 use crate::{OUTPUT_BYTES, folders_of};
 use rdlpp::{
     Buffered, Engine, Folders, Invocation, OpenedPaths, PrepFault, Recorded, Table, exit_status,
@@ -59,20 +59,19 @@ fn run_noted(
 ) -> u8
     requires { IsFreshOf invocation.now.options engine.old }
 {
-    let mut mapping = open_mapping(rt, files, invocation.reports.line_map.as_ref());
+    let mut watching = Watching::of(rt, invocation, files);
     let written = files.opened();
     if is_noting(invocation) || !written.is_empty() {
         engine.sources().sources().guard(written);
     }
-    let outcome = run_mapped(rt, invocation, engine, output, &mut mapping);
+    let outcome = run_watched(rt, invocation, engine, output, &mut watching);
     if let Err(fault) = &outcome {
-        if invocation.reports.notes {
-            tell_noted(rt, invocation, fault, engine, output.failure());
-        } else {
-            tell_fault(rt, fault);
+        match watching.places() {
+            Some(places) => tell_noted(rt, invocation, fault, engine, places, output.failure()),
+            None => tell_fault(rt, fault),
         }
     }
-    let mapped = mapping.finish();
+    let mapped = watching.finish();
     let mapped = told_status(rt, invocation.reports.line_map.as_ref(), &mapped);
     let opened = engine.sources().opened();
     let told = rest_status(rt, invocation, opened, engine.table(), files);
@@ -80,12 +79,12 @@ fn run_noted(
 }
 
 // Preprocesses the source of a command line.
-fn run_mapped(
+fn run_watched(
     rt: &HostRuntime,
     invocation: &Invocation,
     engine: &mut NotedEngine<'_>,
     output: &mut Output,
-    mapping: &mut Mapping,
+    watching: &mut Watching,
 ) -> Result<u64, PrepFault>
     requires { IsFreshOf invocation.now.options engine.old }
 {
@@ -97,7 +96,7 @@ fn run_mapped(
         &invocation.options,
         invocation.source.as_str(),
         &mut writer,
-        mapping,
+        watching,
     )
 }
 

@@ -2,7 +2,10 @@
 use crate::files::WriteFault;
 use crate::folders_in;
 use crate::reports::NotedEngine;
-use rdlpp::{Fault, FaultKind, Invocation, PrepFault, report, write_failure, write_notes};
+use rdlpp::{
+    DefinitionPlaces, Fault, FaultKind, Invocation, PrepFault, report, write_defined,
+    write_failure, write_notes,
+};
 use std::io::{self, BufWriter, Write};
 
 // The bytes of the buffer in front of the line that reports a fault, which is never longer.
@@ -21,12 +24,14 @@ pub fn tell_fault(rt: &HostRuntime, fault: &PrepFault) {
     }
 }
 
-/// Tells a fault on standard error, and notes on it behind it. `failure` is the output's last error, where it has one.
+/// Tells a fault on standard error, and notes on it behind it. `places` tells where macros were defined; `failure` is the output's
+/// last error, where it has one.
 pub fn tell_noted(
     rt: &HostRuntime,
     invocation: &Invocation,
     fault: &PrepFault,
     engine: &NotedEngine<'_>,
+    places: &DefinitionPlaces,
     failure: Option<io::Error>,
 ) {
     tell_fault(rt, fault);
@@ -37,6 +42,7 @@ pub fn tell_noted(
         return;
     };
     let _told = write_reason(invocation, &run.fault, engine, failure, &mut lines);
+    let _told = write_defined(&run.fault, places, &mut lines);
     if let Ok(folders) = folders_in(rt, invocation) {
         let _told = write_notes(&run.fault, engine, folders.as_slice(), &mut lines);
     }

@@ -642,6 +642,17 @@ runs_unchanged g h old new before after n fault test w is tests is_so =
 pub shows_none : {W V : Type 0} (h : SinkGhosts W) (v : WatcherGhosts V) (w : W) (x : V) → Shows h v w w x x
 shows_none h v w x = record { bytes = []; taken = appends_none (h.taken w); looks = refl; seen = λ _. appends_none (v.seen x); blind = λ _. refl }
 
+-- nothing was taken, and nothing shown, but a watcher that looks was told something else
+pub shows_told : {W V : Type 0} (h : SinkGhosts W) (v : WatcherGhosts V) (w : W) (was now : V) → v.looks now ≡ v.looks was → v.seen now ≡ v.seen was
+    → (v.looks was ≡ false → now ≡ was) → Shows h v w w was now
+shows_told h v w was now looks seen blind = record {
+  bytes = [];
+  taken = appends_none (h.taken w);
+  looks = looks;
+  seen = λ _. subst (λ s. Appends (v.seen was) s []) (sym seen) (appends_none (v.seen was));
+  blind = blind;
+}
+
 -- more was taken, and shown
 pub shows_more : {W V : Type 0} (h : SinkGhosts W) (v : WatcherGhosts V) (before between after : W) (was then_ now : V) → Shows h v before between was then_
     → Shows h v between after then_ now → Shows h v before after was now

@@ -93,6 +93,8 @@ pub struct Engine<S: Sources> {
     marks: Marks,
     // how many bytes were taken of a `define` or of skipped text, whose cost isn't counted yet
     taken: usize,
+    // the physical line of the `define` that was read last, until it is told
+    defined: Option<u64>,
     table: Table,
     conditions: Conditions,
     sources: S,
@@ -425,13 +427,16 @@ impl<S: Sources> Engine<S> {
         ensures place { IfSome result (IsPlaced self.new) }
         ensures reads { ReadsDefine len self.old self.new result }
     {
-        let line = &self.files.file().buffer.held()[..len];
+        let file = self.files.file();
+        let at = file.buffer.line();
+        let line = &file.buffer.held()[..len];
         let lines = line_ends_in(line);
         match self.table.read_define(&line[len.min(DEFINE_BYTES)..]) {
             Err(fault) => Some(self.refuse(fault_kind(fault.kind), fault.word)),
             Ok(()) => {
                 let _count = self.table.len();
                 self.taken = len;
+                self.defined = Some(at);
                 self.consume(len, lines);
                 self.owed.owe_line_ends(lines);
                 None

@@ -2,9 +2,11 @@
 ghost use Rattle.std.specs.Prelude.{◌≡◌, ℕ, Bool, true, false, List, Option, None};
 ghost use Rattle.std.specs.Io.KnownBytes.{Appends};
 
+use crate::engine::OpenSource;
 use rdlpp_state::Position;
+use rdlpp_table::Table;
 
-/// Is shown the output that a run writes, piece by piece, each with the place of its first byte.
+/// Is shown the output that a run writes, piece by piece, each with the place of its first byte, and told where macros are defined.
 ///
 /// A watcher says in contracts whether it looks at what it is shown, and which bytes it was shown,
 /// where it knows them. The rules are this project's.
@@ -24,6 +26,13 @@ pub trait Watcher {
     fn saw(&mut self, piece: &[u8], position: Position<'_>)
         ensures bytes { Appends (seen self.old) (seen self.new) piece.now }
         ensures looks { looks self.new ≡ looks self.old };
+
+    /// Is told that a `define` was read, whose macro is now the newest of a table, and where: the name
+    /// that its source shows, and the line of the directive. It goes on looking.
+    fn defined(&mut self, _table: &Table, _place: OpenSource<'_>)
+        ensures bytes { seen self.new ≡ seen self.old }
+        ensures looks { looks self.new ≡ looks self.old }
+    {}
 }
 
 /// Nobody watches: it is shown nothing.

@@ -8,7 +8,7 @@ ghost use Rattle.rdlpp_expand.specs.Watching.{Shows};
 ghost use Rattle.rdlpp_state.specs.Moves.{IsUnowed};
 ghost use Rattle.rdlpp_state.specs.Steps.{IsStarted};
 
-use crate::engine::{Engine, TextStep};
+use crate::engine::{Engine, OpenSource, TextStep};
 use crate::watching::{Unwatched, Watcher};
 use rdlpp_meaning::Fault;
 use rdlpp_source::{Sink, Sources};
@@ -40,7 +40,8 @@ pub fn run<S: Sources, W: Sink>(engine: &mut Engine<S>, writer: &mut W) -> Resul
 }
 
 /// Writes the output of an engine as `run` does, and shows a watcher what the writer took of each piece, before the next step,
-/// with the place of its first byte. A watcher that doesn't look, and a piece of which nothing was taken, aren't shown.
+/// with the place of its first byte. A watcher that doesn't look, and a piece of which nothing was taken, aren't shown. It tells a
+/// watcher that looks of each `define` that was read, before the next step too.
 ///
 /// What the watcher is shown is what the writer took, in its order. The answer, the faults and what the engine keeps are those of
 /// `run`.
@@ -231,6 +232,35 @@ fn show_part<S: Sources, V: Watcher>(engine: &Engine<S>, watcher: &mut V, part: 
     watcher.saw(part, position);
 }
 
+// Tells a watcher of the `define` that was read in the last step, if one was, where it looks.
+#[inline(always)]
+fn tell<S: Sources, V: Watcher>(engine: &mut Engine<S>, watcher: &mut V)
+    ensures same { engine.new ≡ engine.old }
+    ensures looks { V.looks watcher.new ≡ V.looks watcher.old }
+    ensures seen { V.seen watcher.new ≡ V.seen watcher.old }
+    ensures blind { V.looks watcher.old ≡ false → watcher.new ≡ watcher.old }
+{
+    if watcher.is_looking() {
+        tell_definition(engine, watcher);
+    }
+}
+
+// Tells a watcher of the `define` that was read in the last step, if one was.
+#[inline(never)]
+fn tell_definition<S: Sources, V: Watcher>(engine: &mut Engine<S>, watcher: &mut V)
+    ensures same { engine.new ≡ engine.old }
+    ensures looks { V.looks watcher.new ≡ V.looks watcher.old }
+    ensures seen { V.seen watcher.new ≡ V.seen watcher.old }
+{
+    let Some(line) = engine.take_definition() else {
+        return;
+    };
+    if let Some(source) = engine.inner_source() {
+        let name = source.name;
+        watcher.defined(engine.table(), OpenSource { name, line });
+    }
+}
+
 // Writes a part of a piece, as `write_part` does, and shows a watcher what the sink took of it.
 #[inline(always)]
 fn write_shown<S: Sources, W: Sink, V: Watcher>(
@@ -275,6 +305,7 @@ fn pull<S: Sources, W: Sink, V: Watcher>(
     ensures shows { Shows W.Sink V.Watcher writer.old writer.new watcher.old watcher.new }
 {
     let Some(place) = engine.advance_outside() else {
+        tell(engine, watcher);
         return Pulled {
             len: 0,
             ending: None,

@@ -15,7 +15,7 @@ use rdlpp_texts::{PartEnd, TextSource, next_part, text_at};
 use std::io::{self, Write};
 
 // What a note begins with.
-const NOTE: &[u8] = b"rdlpp: note: ";
+pub(crate) const NOTE: &[u8] = b"rdlpp: note: ";
 
 /// Writes the notes on the fault that ended a run, each a line `rdlpp: note: ..`, as far as the engine knows what they tell.
 ///

@@ -212,6 +212,18 @@ impl Table {
         None
     }
 
+    /// The macro that was defined last; `None` where there is none.
+    pub fn newest(&self) -> Option<MacroId>
+        ensures last { IfSome result (λ id. id + 1 ≡ length self.now.macros) }
+        ensures none { IfNone result (length self.now.macros ≡ 0) }
+    {
+        let len = self.len();
+        if len == 0 {
+            return None;
+        }
+        Some(MacroId { index: len - 1 })
+    }
+
     /// The name of a macro.
     pub fn name(&self, id: MacroId) -> &[u8]
         requires { id < length self.now.macros }

@@ -13,7 +13,7 @@ const USAGE_COST: usize = 16;
 
 impl<S: Sources> Engine<S> {
     // What the step costs that was taken last and came to no bytes. That of a `define`, of skipped text and of a call rises with
-    // the bytes that they have.
+    // the bytes that they have. A `define` is then no news any more.
     pub(super) fn cost(&mut self, in_texts: bool) -> usize
         ensures parts { further_parts in_texts < result }
         ensures same { self.new ≡ self.old }
@@ -21,6 +21,7 @@ impl<S: Sources> Engine<S> {
         if in_texts {
             1
         } else if self.expansion.is_empty() {
+            self.defined = None;
             mem::take(&mut self.taken).saturating_add(LINE_COST)
         } else {
             self.expansion.arguments().len().saturating_add(USAGE_COST)

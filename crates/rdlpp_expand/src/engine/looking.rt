@@ -78,6 +78,20 @@ impl<S: Sources> Engine<S> {
         })
     }
 
+    // The number that the line shows of the `define` which was read in the last step, if one was and it wasn't told yet. What stands
+    // next in its source is no earlier line.
+    pub(crate) fn take_definition(&mut self) -> Option<u64>
+        ensures { self.new ≡ self.old }
+    {
+        let line = self.defined.take()?;
+        if self.files.len() == 0 {
+            return None;
+        }
+        self.facts();
+        let file = self.files.file();
+        Some(file.shift.shown_line(line.min(file.buffer.line())))
+    }
+
     /// The bytes that are kept of the call that is open: none where none is.
     pub fn arguments(&self) -> &[u8]
         ensures { result.now ≡ self.now.expansion.arguments }

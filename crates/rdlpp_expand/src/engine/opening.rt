@@ -68,6 +68,7 @@ impl<S: Sources> Engine<S> {
             owed: Owed::nothing(),
             marks: Marks::new(),
             taken: 0,
+            defined: None,
             table,
             conditions,
             sources,

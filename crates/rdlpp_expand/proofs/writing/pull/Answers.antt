@@ -1,6 +1,6 @@
 use Rattle.std.proofs.Common.{Ok, sym, ap, ◌∙◌}
 use Rattle.rdlpp_state.specs.Pieces.{answer_of}
-use Rattle.rdlpp_expand.proofs.RunFacts.{answer_step, pulled_fault, pulled_none, pulled_silent, pulled_written, shows_none}
+use Rattle.rdlpp_expand.proofs.RunFacts.{answer_step, pulled_fault, pulled_none, pulled_silent, pulled_written, shows_none, shows_told}
 use Rattle.rdlpp_expand.proofs.writing.pull.Goals as goal
 
 pub returns-in-Ok-Bytes-clause-pulls : goal.returns-in-Ok-Bytes-clause-pulls
@@ -21,7 +21,7 @@ returns-in-Err-clause-pulls g c =
     (answer_step g.S.Sources _ _ _ _ c.in-Some.ensures.steps (sym (ap answer_of c.in-Err.is) ∙ c.answer.ensures))
 
 pub returns-in_default-clause-pulls : goal.returns-in_default-clause-pulls
-returns-in_default-clause-pulls g c = pulled_silent g.S.Sources g.W.Sink _ _ _ c.in_default.ensures.steps
+returns-in_default-clause-pulls g c = rw c.tell.ensures.same (pulled_silent g.S.Sources g.W.Sink _ _ _ c.in_default.ensures.steps)
 
 pub returns-in-Ok-Done-clause-shows : goal.returns-in-Ok-Done-clause-shows
 returns-in-Ok-Done-clause-shows g c = shows_none g.W.Sink g.V.Watcher _ _
@@ -30,4 +30,4 @@ pub returns-in-Err-clause-shows : goal.returns-in-Err-clause-shows
 returns-in-Err-clause-shows g c = shows_none g.W.Sink g.V.Watcher _ _
 
 pub returns-in_default-clause-shows : goal.returns-in_default-clause-shows
-returns-in_default-clause-shows g c = shows_none g.W.Sink g.V.Watcher _ _
+returns-in_default-clause-shows g c = shows_told g.W.Sink g.V.Watcher _ _ _ c.tell.ensures.looks c.tell.ensures.seen c.tell.ensures.blind
