@@ -143,24 +143,13 @@ static void closes(void)
     check(rdlpp_read(&handle, none, 1, none, 0, none, 0).status == RDLPP_CLOSED && none[0] == 'x', "it is closed");
 }
 
-/* How many reads a text takes of lines that begin so and go on with 60,000 letters, between what stands before and after them. */
-static int count_reads(const char *before, const char *line, const char *after)
+/* How many reads a text takes, which is freed. */
+static int count_all_reads(char *source)
 {
-    enum { TIMES = 12, LENGTH = 60000 };
-    char *source = malloc(strlen(before) + TIMES * (strlen(line) + LENGTH + 1) + strlen(after) + 1);
-    char *end = source + sprintf(source, "%s", before);
     rdlpp_handle handle = RDLPP_CLOSED_HANDLE;
     rdlpp_outcome outcome;
     char out[ROOM];
     int reads = 0;
-    int i;
-    for (i = 0; i < TIMES; i += 1) {
-        end += sprintf(end, "%s", line);
-        memset(end, 'x', LENGTH);
-        end += LENGTH;
-        *end++ = '\n';
-    }
-    strcpy(end, after);
     check(open_text(&handle, source, "W").status == RDLPP_WHOLE, "it opens");
     free(source);
     do {
@@ -172,11 +161,47 @@ static int count_reads(const char *before, const char *line, const char *after)
     return reads;
 }
 
-/* Long lines that give next to no bytes are spread over several reads, so that none takes long. */
+/* So of lines that begin so and go on with 60,000 letters, between what stands before and after them. */
+static int count_reads(const char *before, const char *line, const char *after)
+{
+    enum { TIMES = 12, LENGTH = 60000 };
+    char *source = malloc(strlen(before) + TIMES * (strlen(line) + LENGTH + 1) + strlen(after) + 1);
+    char *end = source + sprintf(source, "%s", before);
+    int i;
+    for (i = 0; i < TIMES; i += 1) {
+        end += sprintf(end, "%s", line);
+        memset(end, 'x', LENGTH);
+        end += LENGTH;
+        *end++ = '\n';
+    }
+    strcpy(end, after);
+    return count_all_reads(source);
+}
+
+/* So of a macro that uses another one 40 times, in whose text stands a call with 60,000 brackets. Each text begins so. */
+static int count_call_reads(const char *begin)
+{
+    enum { TIMES = 40, LENGTH = 60000 };
+    char *source = malloc(2 * LENGTH);
+    char *end = source + sprintf(source, "`define NONE(x)\n`define CALL %s`NONE(", begin);
+    int i;
+    memset(end, '[', LENGTH / 2);
+    memset(end + LENGTH / 2, ']', LENGTH / 2);
+    end += LENGTH;
+    end += sprintf(end, ")\n`define CALLS ");
+    for (i = 0; i < TIMES; i += 1)
+        end += sprintf(end, "`CALL");
+    strcpy(end, "\n`CALLS\n");
+    return count_all_reads(source);
+}
+
+/* Long lines and long calls that give next to no bytes are spread over several reads, so that none takes long. */
 static void spreads_long_lines(void)
 {
     check(count_reads("", "`define M ", "") > 5, "a read takes few long definitions");
     check(count_reads("`ifdef N\n", "", "`endif\n") > 2, "a read takes few long lines of skipped text");
+    check(count_call_reads("") > 15, "a read takes few long calls in macro text");
+    check(count_call_reads("x") > 15, "a read takes few long calls in macro text behind bytes");
 }
 
 int main(void)

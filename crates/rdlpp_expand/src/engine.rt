@@ -67,8 +67,8 @@ pub(crate) use texts::TextStep;
 use words::DEFINE_BYTES;
 
 /// What the steps that come to no bytes may cost in one read, or in one call of `Engine::next`, before one more: a step over open
-/// texts costs 1, the opening of a usage 16, and another one, which may take a line, 256. Each byte of a `define` and of what is
-/// kept of a call costs 1 more; of skipped text, which is passed faster, each fourth one.
+/// texts costs 1, the opening of a usage 16, and another one, which may take a line, 256. Each byte of a `define`, of what is kept of
+/// a call, and of a call in macro text costs 1 more; of skipped text, which is passed faster, each fourth one.
 pub const READ_ALLOWANCE: usize = 65_535;
 
 // No bytes, as of no LF bytes that are owed.
@@ -179,8 +179,8 @@ impl<S: Sources> Engine<S> {
     }
 
     // The step of `next`: goes on to the next piece, cut to what the limit on the output leaves, and answers where it stands.
-    // The steps on the way that come to no bytes are taken from what is left for them. Where that is too little, the piece is
-    // that of no LF bytes that are owed.
+    // The steps on the way that come to no bytes are taken from what is left for them, and so is a call that is read behind the
+    // piece. Where that is too little for a step, the piece is that of no LF bytes that are owed.
     pub(crate) fn advance(&mut self, left: &mut usize) -> Place
         requires started { IsStarted self.old }
         requires left { left.old ≤ 65535 }
@@ -189,7 +189,10 @@ impl<S: Sources> Engine<S> {
         ensures steps { Steps S.Sources self.old self.new (lent_answer self.new result) }
     {
         match self.walk(left) {
-            Some(place) => self.cut(place),
+            Some(place) => {
+                self.charge(left);
+                self.cut(place)
+            }
             None => {
                 self.facts();
                 Place::Owed(NO_BYTES)

@@ -27,6 +27,7 @@ use crate::step::CursorStep;
 use rdlpp_table::{MacroId, Table};
 use std::alloc::{AllocError, Global};
 use std::marker::Model;
+use std::mem;
 
 mod formal;
 mod opening;
@@ -50,6 +51,8 @@ pub struct Cursors {
     // the ranges that the calls of the open bodies have bound, those of the innermost last
     bindings: Vec<Range>,
     line: u64,
+    // how many bytes the call has that was read last, until they are told
+    read: usize,
     guesses: Guesses,
 }
 
@@ -96,6 +99,7 @@ impl Cursors {
             depth,
             bindings,
             line: 0,
+            read: 0,
             guesses: NO_GUESSES,
         })
     }
@@ -138,6 +142,14 @@ impl Cursors {
     {
         let _first = self.first;
         self.bindings.len()
+    }
+
+    /// How many bytes the call has that was read last in an open text, if one was and it wasn't told yet; else 0.
+    #[inline(always)]
+    pub fn take_read(&mut self) -> usize
+        ensures { self.new ≡ self.old }
+    {
+        mem::take(&mut self.read)
     }
 
     // Whether as many texts are open as may be.

@@ -1,5 +1,5 @@
 // What steps cost that come to no bytes.
-ghost use Rattle.std.specs.Prelude.{◌≡◌, ◌<◌};
+ghost use Rattle.std.specs.Prelude.{◌≡◌, ◌<◌, ◌≤◌};
 ghost use Rattle.rdlpp_expand.specs.Texts.{further_parts};
 
 use crate::engine::Engine;
@@ -19,12 +19,20 @@ impl<S: Sources> Engine<S> {
         ensures same { self.new ≡ self.old }
     {
         if in_texts {
-            1
+            self.expansion.take_read().saturating_add(1)
         } else if self.expansion.is_empty() {
             self.defined = None;
             mem::take(&mut self.taken).saturating_add(LINE_COST)
         } else {
             self.expansion.arguments().len().saturating_add(USAGE_COST)
         }
+    }
+
+    // Takes what a call costs that was read behind the piece of an open text from what is left, or all of that.
+    pub(super) fn charge(&mut self, left: &mut usize)
+        ensures same { self.new ≡ self.old }
+        ensures left { left.new ≤ left.old }
+    {
+        *left = left.saturating_sub(self.expansion.take_read());
     }
 }

@@ -131,6 +131,7 @@ impl Cursors {
             self.bindings.truncate(bound);
             return Opening::Deep;
         }
+        self.read = behind - at;
         self.slots[first].from = behind;
         let place = free_slot(&mut self.slots, first, self.depth);
         self.slots[place] = Slot {

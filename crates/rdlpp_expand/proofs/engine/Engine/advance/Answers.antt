@@ -6,10 +6,10 @@ use Rattle.rdlpp_expand.proofs.TextFacts.{allowed, open-lent, silent-steps}
 use Rattle.rdlpp_expand.proofs.engine.Engine.advance.Goals as goal
 
 pub cut-requires-clause-open : goal.cut-requires-clause-open
-cut-requires-clause-open g c lent e = open-lent g.S.Sources _ _ _ _ lent c.in-Some.ensures.walks e
+cut-requires-clause-open g c lent e = rw c.charge.ensures.same (open-lent g.S.Sources _ _ _ _ lent c.in-Some.ensures.walks (rw c.charge.ensures.same at e))
 
 pub returns-in-Some-clause-steps : goal.returns-in-Some-clause-steps
-returns-in-Some-clause-steps g c = c.cut.ensures.steps _ (wider g.S.Sources _ most_silent _ _ _ (allowed _ _ c.requires.left) c.in-Some.ensures.walks)
+returns-in-Some-clause-steps g c = c.cut.ensures.steps _ (rw c.charge.ensures.same (wider g.S.Sources _ most_silent _ _ _ (allowed _ _ c.requires.left) c.in-Some.ensures.walks))
 
 pub returns-in-None-clause-steps : goal.returns-in-None-clause-steps
 returns-in-None-clause-steps g c = silent-steps g.S.Sources _ _ (wider g.S.Sources _ most_silent _ _ _ (allowed _ _ c.requires.left) c.in-None.ensures.walks)
