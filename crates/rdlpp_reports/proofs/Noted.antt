@@ -1,5 +1,5 @@
 -- What is told of the places of macros behind changes.
-use Rattle.std.proofs.Common.{◌≡◌, ℕ, ◌⊎◌, inl, inr, IfSome, IfNone, Bool, true, false, List, bytes_eq, Option, None, Some, Result, Ok, Err, is_err, OnErr, refl, ap, sym, subst, ◌∙◌, cond, if◌then◌else◌, string_bytes, string_eq, String, option_map}
+use Rattle.std.proofs.Common.{◌≡◌, ℕ, ◌⊎◌, inl, inr, IfSome, IfNone, Bool, true, false, List, bytes_eq, Option, None, Some, Result, Ok, Err, is_err, OnErr, refl, ap, subst, ◌∙◌, cond, if◌then◌else◌, string_bytes, string_eq, String, option_map}
 use Rattle.std.specs.declared.alloc.Global.{Global}
 use Rattle.std.specs.HashMap.{HashMap, UpdatesBy, get_by_text}
 use Rattle.std.specs.Map.{lookup}
