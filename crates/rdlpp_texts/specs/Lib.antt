@@ -8,7 +8,7 @@ pub mod Calls
 pub mod Digits
 pub mod Taking
 pub mod Turns
-pub mod Guesses
+pub mod LookupHints
 pub mod CallTokens
 pub mod CallParts
 pub mod CalmBytes

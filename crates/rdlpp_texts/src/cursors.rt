@@ -18,7 +18,7 @@ mod usage;
 
 use crate::Range;
 use crate::front::{Sight, look_at};
-use crate::guesses::{Guesses, NO_GUESSES};
+use crate::hints::{LookupHints, NO_HINTS};
 use crate::place::{TextPlace, TextSource};
 use crate::scopes::{body_bounds, innermost_place, scope_bounds};
 use crate::slot::{Slot, SlotKind};
@@ -53,7 +53,7 @@ pub struct Cursors {
     line: u64,
     // how many bytes the call has that was read last, until they are told
     read: usize,
-    guesses: Guesses,
+    hints: LookupHints,
 }
 
 impl Model for Cursors {
@@ -100,7 +100,7 @@ impl Cursors {
             bindings,
             line: 0,
             read: 0,
-            guesses: NO_GUESSES,
+            hints: NO_HINTS,
         })
     }
 

@@ -6,7 +6,7 @@ mod bindings;
 mod calm;
 mod cursors;
 mod front;
-mod guesses;
+mod hints;
 mod kept;
 mod parts;
 mod place;

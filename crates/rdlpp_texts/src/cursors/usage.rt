@@ -71,7 +71,7 @@ impl Cursors {
         ensures used { MatchResult result (λ id. IsUsed (texts_of table.now.macros arguments.now) self.old.opens (front_name (texts_of table.now.macros arguments.now) self.old.opens len) id) (λ kind. IsRefused (texts_of table.now.macros arguments.now) self.old.opens (front_name (texts_of table.now.macros arguments.now) self.old.opens len) kind) }
     {
         let name = &text[look.at + 1..look.at + len];
-        let Some(id) = self.guesses.find(table, name) else {
+        let Some(id) = self.hints.find(table, name) else {
             return Err(unknown_kind(name));
         };
         if self.is_inside(id) {

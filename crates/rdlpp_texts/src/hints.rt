@@ -3,7 +3,7 @@ ghost use Rattle.std.specs.Prelude.{length, min, slice_index, IfSome, ◌<◌, �
 ghost use Rattle.std.specs.Option.{option_map};
 ghost use Rattle.rdlpp_table.specs.Table.{macro_named};
 ghost use Rattle.rdlpp_table.specs.View.{macro_at, place_named, IsSound};
-ghost use Rattle.rdlpp_texts.specs.Guesses.{key_of};
+ghost use Rattle.rdlpp_texts.specs.LookupHints.{key_of};
 
 use rdlpp_table::{MacroId, Table};
 
@@ -13,19 +13,19 @@ const GUESSES: usize = 512;
 // The largest place that is kept: the last of a table with the largest limits.
 const MOST: usize = 65535;
 
-// The place of the macro that was found last among those whose names have one key: a guess, since a later name of that key may
+// The place of the macro that was found last among those whose names have one key: a hint, since a later name of that key may
 // be another one, and a place may have another macro by then.
 #[derive(Clone, Copy)]
-pub(crate) struct Guesses {
+pub(crate) struct LookupHints {
     pub(crate) places: [u16; GUESSES],
 }
 
 // The first place for each name.
-pub(crate) const NO_GUESSES: Guesses = Guesses {
+pub(crate) const NO_HINTS: LookupHints = LookupHints {
     places: [0; GUESSES],
 };
 
-impl Guesses {
+impl LookupHints {
     // The macro of a name: the one at the place that is kept for it, or another one, whose place is kept from then on.
     pub(crate) fn find(&mut self, table: &Table, name: &[u8]) -> Option<MacroId>
         ensures value { result ≡ place_named table.now.macros name.now }
@@ -41,7 +41,7 @@ impl Guesses {
         }
     }
 
-    // The macro of a name that has a key, whose place is kept from then on. It stands apart, so that a right guess keeps its values in
+    // The macro of a name that has a key, whose place is kept from then on. It stands apart, so that a right hint keeps its values in
     // registers.
     #[cold]
     #[inline(never)]
@@ -61,7 +61,7 @@ impl Guesses {
 
 // The key of a name: its last two bytes and its length tell most names apart that are used near each other. Names of one length that end
 // in different digits have different keys.
-#[tactic(auto, unfolding(crate::specs::Guesses::key_of))]
+#[tactic(auto, unfolding(crate::specs::LookupHints::key_of))]
 fn key_of(name: &[u8]) -> usize
     ensures value { result ≡ key_of name.now }
     ensures inside { result < 512 }
