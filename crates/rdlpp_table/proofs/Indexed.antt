@@ -7,7 +7,7 @@ use Rattle.std.proofs.lemmas.Bool.{cases_lt, cond-false, cond-true}
 use Rattle.std.proofs.lemmas.List.{drop-append-le, drop-map, get_or-append_right, get_or-map, get_or_append_left, get_or_default, length-map, map-append, nil_from_length, take-append-le, take-map}
 use Rattle.std.proofs.lemmas.List.Edits.{get_or-insert_above, get_or-insert_at, get_or-insert_below, get_or-remove_above, get_or-remove_below, length-insert, length-remove}
 use Rattle.rdlpp_table.specs.Entries.{AreWithin}
-use Rattle.rdlpp_table.specs.Index.{IsDivided, IsGap, IsIndex, IsIndexed, IsPlace, closed, index_order, key_at, name_at, name_order, names_of, part_of}
+use Rattle.rdlpp_table.specs.Index.{IsDivided, IsGap, IsIndex, IsIndexed, IsPlace, closed, index_order, key_at, name_at, name_order, names_of, bucket_of}
 use Rattle.rdlpp_table.specs.Layout.{IsHeld, view_of}
 use Rattle.rdlpp_table.specs.Marks.{table_marks}
 use Rattle.rdlpp_table.specs.Store.{IsStored, entry_end, macro_in, macros_in, name_of}
@@ -313,145 +313,145 @@ entered_index names order name gap n x g e =
       sorted = λ j k h l. entered_sorted names order name gap n j k x g e h (omega arith) (spot gap j) (spot gap k);
     }
 
--- Where the parts of an index begin, once a place was taken out of it or put into it.
+-- Where the buckets of an index begin, once a place was taken out of it or put into it.
 
--- each part behind one begins a place later
-pub record IsLater (part : ℕ) (starts new : List ℕ) : Type 0 where
-  pub long : length new ≡ length starts
-  pub before : (p : ℕ) → p ≤ part → get_or new p 0 ≡ get_or starts p 0
-  pub behind : (p : ℕ) → part < p → p < length starts → get_or new p 0 ≡ get_or starts p 0 + 1
+-- each bucket behind one begins a place later
+pub record IsLater (bucket : ℕ) (bucket_starts new : List ℕ) : Type 0 where
+  pub long : length new ≡ length bucket_starts
+  pub before : (p : ℕ) → p ≤ bucket → get_or new p 0 ≡ get_or bucket_starts p 0
+  pub behind : (p : ℕ) → bucket < p → p < length bucket_starts → get_or new p 0 ≡ get_or bucket_starts p 0 + 1
 
--- each part behind one begins a place sooner
-pub record IsSooner (part : ℕ) (starts new : List ℕ) : Type 0 where
-  pub long : length new ≡ length starts
-  pub before : (p : ℕ) → p ≤ part → get_or new p 0 ≡ get_or starts p 0
-  pub behind : (p : ℕ) → part < p → p < length starts → get_or new p 0 ≡ get_or starts p 0 - 1
+-- each bucket behind one begins a place sooner
+pub record IsSooner (bucket : ℕ) (bucket_starts new : List ℕ) : Type 0 where
+  pub long : length new ≡ length bucket_starts
+  pub before : (p : ℕ) → p ≤ bucket → get_or new p 0 ≡ get_or bucket_starts p 0
+  pub behind : (p : ℕ) → bucket < p → p < length bucket_starts → get_or new p 0 ≡ get_or bucket_starts p 0 - 1
 
-module _ (f : ℕ → ℕ) (part : ℕ) (starts new : List ℕ) (h : part < length starts)
-    (e : new ≡ take (part + 1) starts ++ map f (drop (part + 1) starts)) where
+module _ (f : ℕ → ℕ) (bucket : ℕ) (bucket_starts new : List ℕ) (h : bucket < length bucket_starts)
+    (e : new ≡ take (bucket + 1) bucket_starts ++ map f (drop (bucket + 1) bucket_starts)) where
   abbrev front : List ℕ
-  front = take (part + 1) starts
+  front = take (bucket + 1) bucket_starts
 
   abbrev back : List ℕ
-  back = map f (drop (part + 1) starts)
+  back = map f (drop (bucket + 1) bucket_starts)
 
-  front_long : length front ≡ part + 1
-  front_long = length-take-le (part + 1) starts (omega arith)
+  front_long : length front ≡ bucket + 1
+  front_long = length-take-le (bucket + 1) bucket_starts (omega arith)
 
-  back_long : length back ≡ length starts - (part + 1)
-  back_long = length-map (drop (part + 1) starts) f ∙ length-drop (part + 1) starts
+  back_long : length back ≡ length bucket_starts - (bucket + 1)
+  back_long = length-map (drop (bucket + 1) bucket_starts) f ∙ length-drop (bucket + 1) bucket_starts
 
-  moved_long : length new ≡ length starts
+  moved_long : length new ≡ length bucket_starts
   moved_long = ap length e ∙ (length-append front back ∙ omega (arith, front_long, back_long))
 
-  moved_before : (p : ℕ) → p ≤ part → get_or new p 0 ≡ get_or starts p 0
+  moved_before : (p : ℕ) → p ≤ bucket → get_or new p 0 ≡ get_or bucket_starts p 0
   moved_before p l =
       ap (λ (xs : List ℕ). get_or xs p 0) e
       ∙ (get_or_append_left front back 0 p (omega (arith, front_long))
-      ∙ get_or-take (part + 1) starts p 0 (omega arith))
+      ∙ get_or-take (bucket + 1) bucket_starts p 0 (omega arith))
 
-  moved_behind : (p : ℕ) → part < p → p < length starts → get_or new p 0 ≡ f (get_or starts p 0)
+  moved_behind : (p : ℕ) → bucket < p → p < length bucket_starts → get_or new p 0 ≡ f (get_or bucket_starts p 0)
   moved_behind p l g =
-      let same : part + 1 + (p - (part + 1)) ≡ p = omega arith in
-      let inside : p - (part + 1) < length (drop (part + 1) starts) = omega (arith, length-drop (part + 1) starts) in
+      let same : bucket + 1 + (p - (bucket + 1)) ≡ p = omega arith in
+      let inside : p - (bucket + 1) < length (drop (bucket + 1) bucket_starts) = omega (arith, length-drop (bucket + 1) bucket_starts) in
       ap (λ (xs : List ℕ). get_or xs p 0) e
-      ∙ (get_or-append_right front back (part + 1) p 0 front_long (omega arith)
-      ∙ (get_or-map f (drop (part + 1) starts) (p - (part + 1)) 0 0 inside
-      ∙ ap f (get_or-drop (part + 1) starts (p - (part + 1)) 0 ∙ ap (λ (i : ℕ). get_or starts i 0) same)))
+      ∙ (get_or-append_right front back (bucket + 1) p 0 front_long (omega arith)
+      ∙ (get_or-map f (drop (bucket + 1) bucket_starts) (p - (bucket + 1)) 0 0 inside
+      ∙ ap f (get_or-drop (bucket + 1) bucket_starts (p - (bucket + 1)) 0 ∙ ap (λ (i : ℕ). get_or bucket_starts i 0) same)))
 
-pub later_is : (part : ℕ) (starts new : List ℕ) → part < length starts → new ≡ take (part + 1) starts ++ map (λ s. s + 1) (drop (part + 1) starts) → IsLater part starts new
-later_is part starts new h e = record {
-  long = moved_long (λ s. s + 1) part starts new h e;
-  before = moved_before (λ s. s + 1) part starts new h e;
-  behind = moved_behind (λ s. s + 1) part starts new h e;
+pub later_is : (bucket : ℕ) (bucket_starts new : List ℕ) → bucket < length bucket_starts → new ≡ take (bucket + 1) bucket_starts ++ map (λ s. s + 1) (drop (bucket + 1) bucket_starts) → IsLater bucket bucket_starts new
+later_is bucket bucket_starts new h e = record {
+  long = moved_long (λ s. s + 1) bucket bucket_starts new h e;
+  before = moved_before (λ s. s + 1) bucket bucket_starts new h e;
+  behind = moved_behind (λ s. s + 1) bucket bucket_starts new h e;
 }
 
--- the parts behind that of a name in the index begin behind its place
-pub sooner_more : (names : List (List ℕ)) (order starts name : List ℕ) (at part : ℕ) → IsDivided names order starts → IsPlace names order name at → part ≡ part_of name → All (λ s. 0 < s) (drop (part + 1) starts)
-sooner_more names order starts name at part v p e k d h =
-    let far : part + 1 + k < length starts = omega (arith, length-drop (part + 1) starts) in
-    let here : get_or (drop (part + 1) starts) k d ≡ get_or starts (part + 1 + k) 0 = get_or-drop (part + 1) starts k d ∙ get_or_default starts (part + 1 + k) d 0 far in
-    elim (cases_lt 0 (get_or starts (part + 1 + k) 0)) [
+-- the buckets behind that of a name in the index begin behind its place
+pub sooner_more : (names : List (List ℕ)) (order bucket_starts name : List ℕ) (at bucket : ℕ) → IsDivided names order bucket_starts → IsPlace names order name at → bucket ≡ bucket_of name → All (λ s. 0 < s) (drop (bucket + 1) bucket_starts)
+sooner_more names order bucket_starts name at bucket v p e k d h =
+    let far : bucket + 1 + k < length bucket_starts = omega (arith, length-drop (bucket + 1) bucket_starts) in
+    let here : get_or (drop (bucket + 1) bucket_starts) k d ≡ get_or bucket_starts (bucket + 1 + k) 0 = get_or-drop (bucket + 1) bucket_starts k d ∙ get_or_default bucket_starts (bucket + 1 + k) d 0 far in
+    elim (cases_lt 0 (get_or bucket_starts (bucket + 1 + k) 0)) [
       | inl l ↦ omega arith
       | inr l ↦
-          let above : part + 1 + k ≤ part_of (key_at names order at) = v.above (part + 1 + k) at (omega (arith, v.long)) (omega arith) p.inside in
-          absurd (omega (arith, ap part_of p.same))
+          let above : bucket + 1 + k ≤ bucket_of (key_at names order at) = v.above (bucket + 1 + k) at (omega (arith, v.long)) (omega arith) p.inside in
+          absurd (omega (arith, ap bucket_of p.same))
     ]
 
-pub sooner_is : (part : ℕ) (starts new : List ℕ) → part < length starts → new ≡ take (part + 1) starts ++ map (λ s. s - 1) (drop (part + 1) starts) → IsSooner part starts new
-sooner_is part starts new h e = record {
-  long = moved_long (λ s. s - 1) part starts new h e;
-  before = moved_before (λ s. s - 1) part starts new h e;
-  behind = moved_behind (λ s. s - 1) part starts new h e;
+pub sooner_is : (bucket : ℕ) (bucket_starts new : List ℕ) → bucket < length bucket_starts → new ≡ take (bucket + 1) bucket_starts ++ map (λ s. s - 1) (drop (bucket + 1) bucket_starts) → IsSooner bucket bucket_starts new
+sooner_is bucket bucket_starts new h e = record {
+  long = moved_long (λ s. s - 1) bucket bucket_starts new h e;
+  before = moved_before (λ s. s - 1) bucket bucket_starts new h e;
+  behind = moved_behind (λ s. s - 1) bucket bucket_starts new h e;
 }
 
-pub nothing_divided : (names : List (List ℕ)) (starts : List ℕ) → length starts ≡ 1025 → ((p : ℕ) → p < 1025 → get_or starts p 0 ≡ 0) → IsDivided names [] starts
-nothing_divided names starts l z = record {
+pub nothing_divided : (names : List (List ℕ)) (bucket_starts : List ℕ) → length bucket_starts ≡ 1025 → ((p : ℕ) → p < 1025 → get_or bucket_starts p 0 ≡ 0) → IsDivided names [] bucket_starts
+nothing_divided names bucket_starts l z = record {
   long = l;
   inside = λ p h. omega (arith, z p (omega arith));
   below = λ p k h g. absurd (omega (arith, z p (omega arith)));
   above = λ p k h g i. absurd (omega arith);
 }
 
--- no part begins past the end of the index
-pub few_starts : (names : List (List ℕ)) (order starts : List ℕ) (from : ℕ) → IsDivided names order starts → length order ≤ 65536 → All (λ s. s ≤ 65536) (drop from starts)
-few_starts names order starts from d h = λ i b l.
-    let inside : from + i < length starts = omega (arith, length-drop from starts) in
-    let fits : get_or starts (from + i) 0 ≤ length order = d.inside (from + i) (omega (arith, d.long)) in
-    omega (arith, get_or-drop from starts i b, get_or_default starts (from + i) b 0 inside)
+-- no bucket begins past the end of the index
+pub few_starts : (names : List (List ℕ)) (order bucket_starts : List ℕ) (from : ℕ) → IsDivided names order bucket_starts → length order ≤ 65536 → All (λ s. s ≤ 65536) (drop from bucket_starts)
+few_starts names order bucket_starts from d h = λ i b l.
+    let inside : from + i < length bucket_starts = omega (arith, length-drop from bucket_starts) in
+    let fits : get_or bucket_starts (from + i) 0 ≤ length order = d.inside (from + i) (omega (arith, d.long)) in
+    omega (arith, get_or-drop from bucket_starts i b, get_or_default bucket_starts (from + i) b 0 inside)
 
 -- where a place lies in the index with one place more: among those before, in its middle, or among those behind
-module _ (names : List (List ℕ)) (order starts new name : List ℕ) (gap n part : ℕ) (x : IsIndex names order) (g : IsGap names order name gap)
-    (d : IsDivided names order starts) (e : n ≡ length names) (here : part_of name ≡ part) (l : IsLater part starts new) where
+module _ (names : List (List ℕ)) (order bucket_starts new name : List ℕ) (gap n bucket : ℕ) (x : IsIndex names order) (g : IsGap names order name gap)
+    (d : IsDivided names order bucket_starts) (e : n ≡ length names) (here : bucket_of name ≡ bucket) (l : IsLater bucket bucket_starts new) where
   abbrev more : List (List ℕ)
   more = names ++ name ∷ []
 
   abbrev wider : List ℕ
   wider = insert order gap n
 
-  before_key : (k : ℕ) → k < gap → part_of (key_at more wider k) ≡ part_of (key_at names order k)
-  before_key k h = ap part_of (key_below names order name gap n k x g.fits h)
+  before_key : (k : ℕ) → k < gap → bucket_of (key_at more wider k) ≡ bucket_of (key_at names order k)
+  before_key k h = ap bucket_of (key_below names order name gap n k x g.fits h)
 
-  middle_key : (k : ℕ) → k ≡ gap → part_of (key_at more wider k) ≡ part
-  middle_key k h = ap (λ (i : ℕ). part_of (key_at more wider i)) h ∙ (ap part_of (key_new names order name gap n g.fits e) ∙ here)
+  middle_key : (k : ℕ) → k ≡ gap → bucket_of (key_at more wider k) ≡ bucket
+  middle_key k h = ap (λ (i : ℕ). bucket_of (key_at more wider i)) h ∙ (ap bucket_of (key_new names order name gap n g.fits e) ∙ here)
 
-  behind_key : (k i : ℕ) → k ≡ i + 1 → gap ≤ i → i < length order → part_of (key_at more wider k) ≡ part_of (key_at names order i)
-  behind_key k i h a b = ap (λ (j : ℕ). part_of (key_at more wider j)) h ∙ ap part_of (key_above names order name gap n i x g.fits a b)
+  behind_key : (k i : ℕ) → k ≡ i + 1 → gap ≤ i → i < length order → bucket_of (key_at more wider k) ≡ bucket_of (key_at names order i)
+  behind_key k i h a b = ap (λ (j : ℕ). bucket_of (key_at more wider j)) h ∙ ap bucket_of (key_above names order name gap n i x g.fits a b)
 
-  low_part : (k : ℕ) → k < gap → part_of (key_at names order k) ≤ part
+  low_part : (k : ℕ) → k < gap → bucket_of (key_at names order k) ≤ bucket
   low_part k h = omega (arith, less_part _ name (g.below k h))
 
-  high_part : (k : ℕ) → gap ≤ k → k < length order → part ≤ part_of (key_at names order k)
+  high_part : (k : ℕ) → gap ≤ k → k < length order → bucket ≤ bucket_of (key_at names order k)
   high_part k a b = omega (arith, more_part _ name (g.above k a b))
 
-  grown : (p : ℕ) → p ≤ 1024 → (get_or starts p 0 ≤ get_or new p 0) × (get_or new p 0 ≤ get_or starts p 0 + 1)
+  grown : (p : ℕ) → p ≤ 1024 → (get_or bucket_starts p 0 ≤ get_or new p 0) × (get_or new p 0 ≤ get_or bucket_starts p 0 + 1)
   grown p h =
-      elim (cases_lt part p) [
+      elim (cases_lt bucket p) [
         | inl a ↦ (omega (arith, l.behind p a (omega (arith, d.long))), omega (arith, l.behind p a (omega (arith, d.long))))
         | inr a ↦ (omega (arith, l.before p a), omega (arith, l.before p a))
       ]
 
-  entered_below : (p k : ℕ) → p ≤ 1024 → k < get_or new p 0 → part_of (key_at more wider k) < p
+  entered_below : (p k : ℕ) → p ≤ 1024 → k < get_or new p 0 → bucket_of (key_at more wider k) < p
   entered_below p k h b =
-      let size : get_or starts p 0 ≤ length order = d.inside p h in
+      let size : get_or bucket_starts p 0 ≤ length order = d.inside p h in
       let grow = grown p h in
       elim (cases_lt k gap) [
-        | inl a ↦ elim (cases_lt part p) [
+        | inl a ↦ elim (cases_lt bucket p) [
           | inl c ↦ omega (arith, before_key k a, low_part k a)
           | inr c ↦ omega (arith, before_key k a, d.below p k h (omega (arith, l.before p c)))
         ]
         | inr a ↦ elim (cases_lt gap k) [
           | inl c ↦ omega (arith, behind_key k (k - 1) (omega arith) (omega arith) (omega (arith, grow.1)), d.below p (k - 1) h (omega (arith, grow.1)))
-          | inr c ↦ elim (cases_lt part p) [
+          | inr c ↦ elim (cases_lt bucket p) [
             | inl f ↦ omega (arith, middle_key k (omega arith))
             | inr f ↦
-                let inside : gap < get_or starts p 0 = omega (arith, l.before p f) in
+                let inside : gap < get_or bucket_starts p 0 = omega (arith, l.before p f) in
                 absurd (omega (arith, d.below p gap h inside, high_part gap (omega arith) (omega arith)))
           ]
         ]
       ]
 
-  entered_above : (p k : ℕ) → p ≤ 1024 → get_or new p 0 ≤ k → k < length order + 1 → p ≤ part_of (key_at more wider k)
+  entered_above : (p k : ℕ) → p ≤ 1024 → get_or new p 0 ≤ k → k < length order + 1 → p ≤ bucket_of (key_at more wider k)
   entered_above p k h b c =
       let fits : gap ≤ length order = g.fits in
       let grow = grown p h in
@@ -459,14 +459,14 @@ module _ (names : List (List ℕ)) (order starts new name : List ℕ) (gap n par
         | inl a ↦ omega (arith, before_key k a, d.above p k h (omega (arith, grow.0)) (omega arith))
         | inr a ↦ elim (cases_lt gap k) [
           | inl f ↦
-              let key : part_of (key_at more wider k) ≡ part_of (key_at names order (k - 1)) = behind_key k (k - 1) (omega arith) (omega arith) (omega arith) in
-              elim (cases_lt part p) [
+              let key : bucket_of (key_at more wider k) ≡ bucket_of (key_at names order (k - 1)) = behind_key k (k - 1) (omega arith) (omega arith) (omega arith) in
+              elim (cases_lt bucket p) [
                 | inl q ↦ omega (arith, key, d.above p (k - 1) h (omega (arith, l.behind p q (omega (arith, d.long)))) (omega arith))
                 | inr q ↦ omega (arith, key, high_part (k - 1) (omega arith) (omega arith))
               ]
-          | inr f ↦ elim (cases_lt part p) [
+          | inr f ↦ elim (cases_lt bucket p) [
             | inl q ↦
-                let s : ℕ = get_or starts p 0 in
+                let s : ℕ = get_or bucket_starts p 0 in
                 let low : s < gap = omega (arith, l.behind p q (omega (arith, d.long))) in
                 absurd (omega (arith, low_part s low, d.above p s h (omega arith) (omega arith)))
             | inr q ↦ omega (arith, middle_key k (omega arith))
@@ -484,8 +484,8 @@ module _ (names : List (List ℕ)) (order starts new name : List ℕ) (gap n par
         above = λ p k h a b. entered_above p k h a (omega arith);
       }
 
-module _ (names : List (List ℕ)) (order starts new : List ℕ) (at taken part : ℕ) (x : IsIndex names order) (i : at < length order)
-    (e : taken ≡ get_or order at 0) (here : part_of (key_at names order at) ≡ part) (d : IsDivided names order starts) (l : IsSooner part starts new) where
+module _ (names : List (List ℕ)) (order bucket_starts new : List ℕ) (at taken bucket : ℕ) (x : IsIndex names order) (i : at < length order)
+    (e : taken ≡ get_or order at 0) (here : bucket_of (key_at names order at) ≡ bucket) (d : IsDivided names order bucket_starts) (l : IsSooner bucket bucket_starts new) where
   abbrev fewer : List (List ℕ)
   fewer = remove names taken
 
@@ -495,17 +495,17 @@ module _ (names : List (List ℕ)) (order starts new : List ℕ) (at taken part 
   closer_long : length closer ≡ length (remove order at)
   closer_long = length-map (remove order at) (closed taken)
 
-  -- a part up to that of the name ends before it, a later one behind it
-  ends_before : (p : ℕ) → p ≤ 1024 → p ≤ part → get_or starts p 0 ≤ at
+  -- a bucket up to that of the name ends before it, a later one behind it
+  ends_before : (p : ℕ) → p ≤ 1024 → p ≤ bucket → get_or bucket_starts p 0 ≤ at
   ends_before p h a =
-      elim (cases_lt at (get_or starts p 0)) [
+      elim (cases_lt at (get_or bucket_starts p 0)) [
         | inl b ↦ absurd (omega (arith, here, d.below p at h b))
         | inr b ↦ b
       ]
 
-  ends_behind : (p : ℕ) → p ≤ 1024 → part < p → at < get_or starts p 0
+  ends_behind : (p : ℕ) → p ≤ 1024 → bucket < p → at < get_or bucket_starts p 0
   ends_behind p h a =
-      elim (cases_lt at (get_or starts p 0)) [
+      elim (cases_lt at (get_or bucket_starts p 0)) [
         | inl b ↦ b
         | inr b ↦ absurd (omega (arith, here, d.above p at h b i))
       ]
@@ -516,9 +516,9 @@ module _ (names : List (List ℕ)) (order starts new : List ℕ) (at taken part 
   near j k (inr a) p s t (inl b) = (λ h. omega arith, λ h. omega arith)
   near j k (inr a) p s t (inr b) = (λ h. omega arith, λ h. omega arith)
 
-  fell : (p : ℕ) → p ≤ 1024 → (get_or starts p 0 ≤ at) × (get_or new p 0 ≡ get_or starts p 0) ⊎ (at < get_or starts p 0) × (get_or new p 0 ≡ get_or starts p 0 - 1)
+  fell : (p : ℕ) → p ≤ 1024 → (get_or bucket_starts p 0 ≤ at) × (get_or new p 0 ≡ get_or bucket_starts p 0) ⊎ (at < get_or bucket_starts p 0) × (get_or new p 0 ≡ get_or bucket_starts p 0 - 1)
   fell p h =
-      elim (cases_lt part p) [
+      elim (cases_lt bucket p) [
         | inl a ↦ inr (ends_behind p h a, l.behind p a (omega (arith, d.long)))
         | inr a ↦ inl (ends_before p h a, l.before p a)
       ]
@@ -527,18 +527,18 @@ module _ (names : List (List ℕ)) (order starts new : List ℕ) (at taken part 
   left_inside p s t h (inl a) = omega (arith, i)
   left_inside p s t h (inr a) = omega arith
 
-  left_below : (p j : ℕ) → p ≤ 1024 → j < length (remove order at) → j < get_or new p 0 → part_of (key_at fewer closer j) < p
+  left_below : (p j : ℕ) → p ≤ 1024 → j < length (remove order at) → j < get_or new p 0 → bucket_of (key_at fewer closer j) < p
   left_below p j h b c =
       let w = left_key names order at taken j x i e b in
-      let n = near j w.0 w.1.shift p (get_or starts p 0) (get_or new p 0) (fell p h) in
-      let same : part_of (key_at fewer closer j) ≡ part_of (key_at names order w.0) = ap part_of w.1.key in
+      let n = near j w.0 w.1.shift p (get_or bucket_starts p 0) (get_or new p 0) (fell p h) in
+      let same : bucket_of (key_at fewer closer j) ≡ bucket_of (key_at names order w.0) = ap bucket_of w.1.key in
       omega (arith, d.below p w.0 h (n.0 c))
 
-  left_above : (p j : ℕ) → p ≤ 1024 → j < length (remove order at) → get_or new p 0 ≤ j → p ≤ part_of (key_at fewer closer j)
+  left_above : (p j : ℕ) → p ≤ 1024 → j < length (remove order at) → get_or new p 0 ≤ j → p ≤ bucket_of (key_at fewer closer j)
   left_above p j h b c =
       let w = left_key names order at taken j x i e b in
-      let n = near j w.0 w.1.shift p (get_or starts p 0) (get_or new p 0) (fell p h) in
-      let same : part_of (key_at fewer closer j) ≡ part_of (key_at names order w.0) = ap part_of w.1.key in
+      let n = near j w.0 w.1.shift p (get_or bucket_starts p 0) (get_or new p 0) (fell p h) in
+      let same : bucket_of (key_at fewer closer j) ≡ bucket_of (key_at names order w.0) = ap bucket_of w.1.key in
       omega (arith, d.above p w.0 h (n.1 c) w.1.inside)
 
   pub left_divided : IsDivided (remove names taken) (map (closed taken) (remove order at)) new
@@ -547,9 +547,9 @@ module _ (names : List (List ℕ)) (order starts new : List ℕ) (at taken part 
       let long : length (map (closed taken) (remove order at)) ≡ length order - 1 = closer_long ∙ one in
       record {
         long = l.long ∙ d.long;
-        inside = λ p h. let fits : get_or new p 0 ≤ length order - 1 = left_inside p (get_or starts p 0) (get_or new p 0) (d.inside p h) (fell p h) in omega arith;
+        inside = λ p h. let fits : get_or new p 0 ≤ length order - 1 = left_inside p (get_or bucket_starts p 0) (get_or new p 0) (d.inside p h) (fell p h) in omega arith;
         below = λ p k h g.
-            let fits : get_or new p 0 ≤ length order - 1 = left_inside p (get_or starts p 0) (get_or new p 0) (d.inside p h) (fell p h) in
+            let fits : get_or new p 0 ≤ length order - 1 = left_inside p (get_or bucket_starts p 0) (get_or new p 0) (d.inside p h) (fell p h) in
             left_below p k h (omega arith) g;
         above = λ p k h g b. left_above p k h (omega arith) g;
       }
@@ -582,23 +582,23 @@ placed bs es os bytes entries order sought name at p q r s h = rw (p, q, r, s) a
 pub gapped : (bs : List ℕ) (es : List Entry) (os : List ℕ) (bytes : List ℕ) (entries : List Entry) (order sought name : List ℕ) (gap : ℕ) → bs ≡ bytes → es ≡ entries → os ≡ order → sought ≡ name → IsGap (names_of (macros_in bs es)) os sought gap → IsGap (names_of (macros_in bytes entries)) order name gap
 gapped bs es os bytes entries order sought name gap p q r s h = rw (p, q, r, s) at h
 
-pub indexed_slices : {from ahead : ℕ} (bs : List ℕ) (es : List Entry) (os : List ℕ) (bytes : List ℕ) (entries : List Entry) (order starts : List ℕ) (ms : List Macro) → bs ≡ bytes → es ≡ entries → os ≡ order → IsStored from ahead bytes entries ms → IsIndexed (names_of ms) order starts → IsIndexed (names_of (macros_in bs es)) os starts
-indexed_slices bs es os bytes entries order starts ms p q r s x =
-    let P : List Macro → Type 0 = λ l. IsIndexed (names_of l) order starts in
+pub indexed_slices : {from ahead : ℕ} (bs : List ℕ) (es : List Entry) (os : List ℕ) (bytes : List ℕ) (entries : List Entry) (order bucket_starts : List ℕ) (ms : List Macro) → bs ≡ bytes → es ≡ entries → os ≡ order → IsStored from ahead bytes entries ms → IsIndexed (names_of ms) order bucket_starts → IsIndexed (names_of (macros_in bs es)) os bucket_starts
+indexed_slices bs es os bytes entries order bucket_starts ms p q r s x =
+    let P : List Macro → Type 0 = λ l. IsIndexed (names_of l) order bucket_starts in
     rw (p, q, r) (subst P (sym (read_back bytes entries ms s)) x)
 
 pub few_left : {from ahead : ℕ} (bytes : List ℕ) (entries old_entries : List Entry) (old : List ℕ) (name : List ℕ) → IsStored from ahead bytes entries (without name (macros_in old old_entries)) → length old_entries ≤ 65536 → length entries ≤ 65536
 few_left bytes entries old_entries old name s h =
     omega (arith, stored_count bytes entries _ s, without_length name (macros_in old old_entries), length_macros_in old old_entries)
 
-pub left_without : (ms : List Macro) (order starts name : List ℕ) (at taken part : ℕ) (new begun : List ℕ) → IsDistinct bytes_eq (map (λ m. m.name) ms) → IsIndexed (names_of ms) order starts → IsPlace (names_of ms) order name at → taken ≡ get_or order at 0 → new ≡ map (closed taken) (remove order at) → part ≡ part_of name → IsSooner part starts begun → IsIndexed (names_of (without name ms)) new begun
-left_without ms order starts name at taken part new begun d x p e f q b =
+pub left_without : (ms : List Macro) (order bucket_starts name : List ℕ) (at taken bucket : ℕ) (new begun : List ℕ) → IsDistinct bytes_eq (map (λ m. m.name) ms) → IsIndexed (names_of ms) order bucket_starts → IsPlace (names_of ms) order name at → taken ≡ get_or order at 0 → new ≡ map (closed taken) (remove order at) → bucket ≡ bucket_of name → IsSooner bucket bucket_starts begun → IsIndexed (names_of (without name ms)) new begun
+left_without ms order bucket_starts name at taken bucket new begun d x p e f q b =
     let named : place_named ms name ≡ Some taken = indexed_place ms order name at x.index p ∙ ap Some (sym e) in
     let names : remove (names_of ms) taken ≡ names_of (without name ms) = sym (ap names_of (without_at name ms taken d named) ∙ names_left ms taken) in
-    let here : part_of (key_at (names_of ms) order at) ≡ part = ap part_of p.same ∙ sym q in
+    let here : bucket_of (key_at (names_of ms) order at) ≡ bucket = ap bucket_of p.same ∙ sym q in
     let left : IsIndexed (remove (names_of ms) taken) (map (closed taken) (remove order at)) begun = record {
       index = left_index (names_of ms) order at taken x.index p.inside e;
-      divided = left_divided (names_of ms) order starts begun at taken part x.index p.inside e here x.divided b;
+      divided = left_divided (names_of ms) order bucket_starts begun at taken bucket x.index p.inside e here x.divided b;
     } in
     let P : List (List ℕ) → Type 0 = λ n. IsIndexed n (map (closed taken) (remove order at)) begun in
     let Q : List ℕ → Type 0 = λ o. IsIndexed (names_of (without name ms)) o begun in
@@ -630,34 +630,34 @@ marks_without ms name place d e = ap table_marks (sym (without_at name ms place 
 pub marks_nowhere : (ms : List Macro) (name : List ℕ) → place_named ms name ≡ None → table_marks ms ≡ table_marks (without name ms)
 marks_nowhere ms name e = ap table_marks (sym (without_nowhere name ms e))
 
-pub left_nowhere : (ms : List Macro) (order starts name : List ℕ) → place_named ms name ≡ None → IsIndexed (names_of ms) order starts → IsIndexed (names_of (without name ms)) order starts
-left_nowhere ms order starts name at x =
-    let P : List Macro → Type 0 = λ l. IsIndexed (names_of l) order starts in
+pub left_nowhere : (ms : List Macro) (order bucket_starts name : List ℕ) → place_named ms name ≡ None → IsIndexed (names_of ms) order bucket_starts → IsIndexed (names_of (without name ms)) order bucket_starts
+left_nowhere ms order bucket_starts name at x =
+    let P : List Macro → Type 0 = λ l. IsIndexed (names_of l) order bucket_starts in
     subst P (sym (without_nowhere name ms at)) x
 
-pub entered_with : {from ahead : ℕ} (bs : List ℕ) (es : List Entry) (os : List ℕ) (bytes : List ℕ) (entries : List Entry) (order starts : List ℕ) (ms : List Macro) (m : Macro) (gap n part : ℕ) (new begun : List ℕ) → bs ≡ bytes → es ≡ entries → os ≡ order → IsStored from ahead bytes entries ms → IsIndexed (names_of ms) order starts → IsGap (names_of (macros_in bs es)) os m.name gap → n ≡ length entries → new ≡ insert order gap n → part ≡ part_of m.name → IsLater part starts begun → IsIndexed (names_of (ms ++ m ∷ [])) new begun
-entered_with bs es os bytes entries order starts ms m gap n part new begun p q r s x g e f a b =
+pub entered_with : {from ahead : ℕ} (bs : List ℕ) (es : List Entry) (os : List ℕ) (bytes : List ℕ) (entries : List Entry) (order bucket_starts : List ℕ) (ms : List Macro) (m : Macro) (gap n bucket : ℕ) (new begun : List ℕ) → bs ≡ bytes → es ≡ entries → os ≡ order → IsStored from ahead bytes entries ms → IsIndexed (names_of ms) order bucket_starts → IsGap (names_of (macros_in bs es)) os m.name gap → n ≡ length entries → new ≡ insert order gap n → bucket ≡ bucket_of m.name → IsLater bucket bucket_starts begun → IsIndexed (names_of (ms ++ m ∷ [])) new begun
+entered_with bs es os bytes entries order bucket_starts ms m gap n bucket new begun p q r s x g e f a b =
     let back : macros_in bytes entries ≡ ms = read_back bytes entries ms s in
     let P : List Macro → Type 0 = λ l. IsGap (names_of l) order m.name gap in
     let here : IsGap (names_of ms) order m.name gap = subst P back (gapped bs es os bytes entries order m.name m.name gap p q r refl g) in
     let count : n ≡ length (names_of ms) = e ∙ (stored_count bytes entries ms s ∙ sym (count_names ms)) in
     let more : IsIndexed (names_of ms ++ m.name ∷ []) (insert order gap n) begun = record {
       index = entered_index (names_of ms) order m.name gap n x.index here count;
-      divided = entered_divided (names_of ms) order starts begun m.name gap n part x.index here x.divided count (sym a) b;
+      divided = entered_divided (names_of ms) order bucket_starts begun m.name gap n bucket x.index here x.divided count (sym a) b;
     } in
     let Q : List (List ℕ) → Type 0 = λ l. IsIndexed l (insert order gap n) begun in
     let R : List ℕ → Type 0 = λ o. IsIndexed (names_of (ms ++ m ∷ [])) o begun in
     subst R (sym f) (subst Q (sym (map-append (λ (x : Macro). x.name) ms (m ∷ []))) more)
 
-pub index_of_nothing : (bytes : List ℕ) (entries : List Entry) (order starts : List ℕ) → entries ≡ [] → order ≡ [] → length starts ≡ 1025 → ((p : ℕ) → p < 1025 → get_or starts p 0 ≡ 0) → IsIndexed (names_of (macros_in bytes entries)) order starts
-index_of_nothing bytes entries order starts e f l z =
+pub index_of_nothing : (bytes : List ℕ) (entries : List Entry) (order bucket_starts : List ℕ) → entries ≡ [] → order ≡ [] → length bucket_starts ≡ 1025 → ((p : ℕ) → p < 1025 → get_or bucket_starts p 0 ≡ 0) → IsIndexed (names_of (macros_in bytes entries)) order bucket_starts
+index_of_nothing bytes entries order bucket_starts e f l z =
     let nothing : List ℕ = [] in
-    let none : IsIndexed (names_of []) nothing starts = record {
+    let none : IsIndexed (names_of []) nothing bucket_starts = record {
       index = record { long = refl; inside = λ k h. absurd (omega arith); whole = λ i h. absurd (omega arith); sorted = λ j k h l. absurd (omega arith) };
-      divided = nothing_divided (names_of []) starts l z;
+      divided = nothing_divided (names_of []) bucket_starts l z;
     } in
-    let P : List ℕ → Type 0 = λ o. IsIndexed (names_of []) o starts in
-    let Q : List Macro → Type 0 = λ l. IsIndexed (names_of l) order starts in
+    let P : List ℕ → Type 0 = λ o. IsIndexed (names_of []) o bucket_starts in
+    let Q : List Macro → Type 0 = λ l. IsIndexed (names_of l) order bucket_starts in
     subst Q (sym (macros_of_none bytes entries e)) (subst P (sym f) none)
 
 -- a list without anything has nothing behind it, and no marks
@@ -678,8 +678,8 @@ pub viewed_place : (bs : List ℕ) (es : List Entry) (bytes : List ℕ) (entries
 viewed_place bs es bytes entries a b view name r p q e h =
     h ∙ (ap (λ (l : List ℕ). place_named (macros_in l es) name) p ∙ (ap (λ (l : List Entry). place_named (macros_in bytes l) name) q ∙ ap (λ (v : TableView). place_named v.macros name) e))
 
-pub indexed_after : {from ahead : ℕ} (bytes : List ℕ) (entries : List Entry) (order starts : List ℕ) (ms : List Macro) → IsStored from ahead bytes entries ms → IsIndexed (names_of ms) order starts → IsIndexed (names_of (macros_in bytes entries)) order starts
-indexed_after bytes entries order starts ms s x = indexed_slices bytes entries order bytes entries order starts ms refl refl refl s x
+pub indexed_after : {from ahead : ℕ} (bytes : List ℕ) (entries : List Entry) (order bucket_starts : List ℕ) (ms : List Macro) → IsStored from ahead bytes entries ms → IsIndexed (names_of ms) order bucket_starts → IsIndexed (names_of (macros_in bytes entries)) order bucket_starts
+indexed_after bytes entries order bucket_starts ms s x = indexed_slices bytes entries order bytes entries order bucket_starts ms refl refl refl s x
 
 -- a table has no more entries than it takes
 pub few_entries : {from ahead : ℕ} (bytes : List ℕ) (entries : List Entry) (a b : ℕ) → IsHeld from ahead bytes entries a b → length entries ≤ b

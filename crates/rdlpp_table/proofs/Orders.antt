@@ -13,7 +13,7 @@ use Rattle.std.proofs.lemmas.List.Sums.{position_or_len_is}
 use Rattle.std.proofs.lemmas.Map.Keys.{IsDistinct-head, IsDistinct-tail}
 use Rattle.std.proofs.lemmas.Map.Text.{is_eq-slice_cmp}
 use Rattle.std.proofs.lemmas.Slice.Eq.{bytes_eq-Decides}
-use Rattle.rdlpp_table.specs.Index.{IsCounted, IsDivided, IsGap, IsIndex, IsMiddle, IsPlace, index_order, key_at, name_at, name_order, names_of, part_of, rolled, stirred, stirred_through}
+use Rattle.rdlpp_table.specs.Index.{IsCounted, IsDivided, IsGap, IsIndex, IsMiddle, IsPlace, index_order, key_at, name_at, name_order, names_of, bucket_of, fold_bytes, mix, mix_through}
 use Rattle.rdlpp_table.specs.Table.{Macro}
 use Rattle.rdlpp_table.specs.View.{macro_at, no_macro, place_named}
 
@@ -118,80 +118,80 @@ module _ (xs ys : List ℕ) (x y : ℕ) (o : Ordering) (p : 8 ≤ length xs) (q 
 
 -- The number that is stirred from a name, eight bytes at a time.
 
-pub stirred_on : (number : ℕ) (xs : List ℕ) → 8 ≤ length xs → stirred_through number xs ≡ stirred_through (stirred number (big_endian 0 (take 8 xs))) (drop 8 xs)
-unfolding stirred_through
-stirred_on number [] h = absurd (omega arith)
-stirred_on number (a ∷ []) le = absurd (omega arith)
-stirred_on number (a ∷ b ∷ []) le = absurd (omega arith)
-stirred_on number (a ∷ b ∷ c ∷ []) le = absurd (omega arith)
-stirred_on number (a ∷ b ∷ c ∷ d ∷ []) le = absurd (omega arith)
-stirred_on number (a ∷ b ∷ c ∷ d ∷ e ∷ []) le = absurd (omega arith)
-stirred_on number (a ∷ b ∷ c ∷ d ∷ e ∷ f ∷ []) le = absurd (omega arith)
-stirred_on number (a ∷ b ∷ c ∷ d ∷ e ∷ f ∷ g ∷ []) le = absurd (omega arith)
-stirred_on number (a ∷ b ∷ c ∷ d ∷ e ∷ f ∷ g ∷ h ∷ xs) le = refl
+pub mix_on : (number : ℕ) (xs : List ℕ) → 8 ≤ length xs → mix_through number xs ≡ mix_through (mix number (big_endian 0 (take 8 xs))) (drop 8 xs)
+unfolding mix_through
+mix_on number [] h = absurd (omega arith)
+mix_on number (a ∷ []) le = absurd (omega arith)
+mix_on number (a ∷ b ∷ []) le = absurd (omega arith)
+mix_on number (a ∷ b ∷ c ∷ []) le = absurd (omega arith)
+mix_on number (a ∷ b ∷ c ∷ d ∷ []) le = absurd (omega arith)
+mix_on number (a ∷ b ∷ c ∷ d ∷ e ∷ []) le = absurd (omega arith)
+mix_on number (a ∷ b ∷ c ∷ d ∷ e ∷ f ∷ []) le = absurd (omega arith)
+mix_on number (a ∷ b ∷ c ∷ d ∷ e ∷ f ∷ g ∷ []) le = absurd (omega arith)
+mix_on number (a ∷ b ∷ c ∷ d ∷ e ∷ f ∷ g ∷ h ∷ xs) le = refl
 
-pub stirred_last : (number : ℕ) (xs : List ℕ) → length xs < 8 → stirred_through number xs ≡ stirred number (rolled 0 xs)
-unfolding stirred_through
-stirred_last number [] h = refl
-stirred_last number (a ∷ []) le = refl
-stirred_last number (a ∷ b ∷ []) le = refl
-stirred_last number (a ∷ b ∷ c ∷ []) le = refl
-stirred_last number (a ∷ b ∷ c ∷ d ∷ []) le = refl
-stirred_last number (a ∷ b ∷ c ∷ d ∷ e ∷ []) le = refl
-stirred_last number (a ∷ b ∷ c ∷ d ∷ e ∷ f ∷ []) le = refl
-stirred_last number (a ∷ b ∷ c ∷ d ∷ e ∷ f ∷ g ∷ []) le = refl
-stirred_last number (a ∷ b ∷ c ∷ d ∷ e ∷ f ∷ g ∷ h ∷ xs) le = absurd (omega arith)
+pub mix_last : (number : ℕ) (xs : List ℕ) → length xs < 8 → mix_through number xs ≡ mix number (fold_bytes 0 xs)
+unfolding mix_through
+mix_last number [] h = refl
+mix_last number (a ∷ []) le = refl
+mix_last number (a ∷ b ∷ []) le = refl
+mix_last number (a ∷ b ∷ c ∷ []) le = refl
+mix_last number (a ∷ b ∷ c ∷ d ∷ []) le = refl
+mix_last number (a ∷ b ∷ c ∷ d ∷ e ∷ []) le = refl
+mix_last number (a ∷ b ∷ c ∷ d ∷ e ∷ f ∷ []) le = refl
+mix_last number (a ∷ b ∷ c ∷ d ∷ e ∷ f ∷ g ∷ []) le = refl
+mix_last number (a ∷ b ∷ c ∷ d ∷ e ∷ f ∷ g ∷ h ∷ xs) le = absurd (omega arith)
 
 -- eight bytes more
-pub stirred_next : (number : ℕ) (xs : List ℕ) (front next : ℕ) → 8 ≤ length xs → front ≡ big_endian 0 (take 8 xs) → next ≡ stirred number front → stirred_through next (take (length xs - 8) (drop 8 xs)) ≡ stirred_through number xs
-stirred_next number xs front next h e f =
-    ap (stirred_through next) (behind xs h)
-    ∙ (ap (λ (n : ℕ). stirred_through n (drop 8 xs)) (f ∙ ap (stirred number) e)
-    ∙ sym (stirred_on number xs h))
+pub mix_next : (number : ℕ) (xs : List ℕ) (front next : ℕ) → 8 ≤ length xs → front ≡ big_endian 0 (take 8 xs) → next ≡ mix number front → mix_through next (take (length xs - 8) (drop 8 xs)) ≡ mix_through number xs
+mix_next number xs front next h e f =
+    ap (mix_through next) (behind xs h)
+    ∙ (ap (λ (n : ℕ). mix_through n (drop 8 xs)) (f ∙ ap (mix number) e)
+    ∙ sym (mix_on number xs h))
 
 -- one byte more
-pub rolled_next : (number : ℕ) (xs : List ℕ) (i b : ℕ) → i < length xs → b ≡ get_or xs i 0 → rolled ((number * 256 % 2 ^ 64 + b) % 2 ^ 64) (drop (i + 1) xs) ≡ rolled number (drop i xs)
-unfolding rolled
-rolled_next number xs i b h e =
+pub fold_bytes_next : (number : ℕ) (xs : List ℕ) (i b : ℕ) → i < length xs → b ≡ get_or xs i 0 → fold_bytes ((number * 256 % 2 ^ 64 + b) % 2 ^ 64) (drop (i + 1) xs) ≡ fold_bytes number (drop i xs)
+unfolding fold_bytes
+fold_bytes_next number xs i b h e =
     let one : i + 1 ≡ suc i = omega arith in
-    ap (λ (x : ℕ). rolled ((number * 256 % 2 ^ 64 + x) % 2 ^ 64) (drop (i + 1) xs)) e
-    ∙ (ap (λ (k : ℕ). rolled ((number * 256 % 2 ^ 64 + get_or xs i 0) % 2 ^ 64) (drop k xs)) one
-    ∙ sym (ap (rolled number) (drop-cons xs i 0 h)))
+    ap (λ (x : ℕ). fold_bytes ((number * 256 % 2 ^ 64 + x) % 2 ^ 64) (drop (i + 1) xs)) e
+    ∙ (ap (λ (k : ℕ). fold_bytes ((number * 256 % 2 ^ 64 + get_or xs i 0) % 2 ^ 64) (drop k xs)) one
+    ∙ sym (ap (fold_bytes number) (drop-cons xs i 0 h)))
 
 -- no byte more
-pub rolled_whole : (number : ℕ) (xs : List ℕ) (i : ℕ) → length xs ≤ i → rolled number (drop i xs) ≡ number
-unfolding rolled
-rolled_whole number xs i h = ap (rolled number) (drop_all i xs h)
+pub fold_bytes_whole : (number : ℕ) (xs : List ℕ) (i : ℕ) → length xs ≤ i → fold_bytes number (drop i xs) ≡ number
+unfolding fold_bytes
+fold_bytes_whole number xs i h = ap (fold_bytes number) (drop_all i xs h)
 
 -- The order of names, and an index sorted by it.
 
--- a name with its part before it
+-- a name with its bucket before it
 abbrev parted : List ℕ → List ℕ
-parted name = part_of name ∷ name
+parted name = bucket_of name ∷ name
 
--- where the parts differ, they are the answer
-pub part_less : (a b : List ℕ) → part_of a < part_of b → index_order a b ≡ Less
-part_less a b h = ap (λ o. ordering_then o (name_order a b)) (below (part_of a) (part_of b) h)
+-- where the buckets differ, they are the answer
+pub bucket_less : (a b : List ℕ) → bucket_of a < bucket_of b → index_order a b ≡ Less
+bucket_less a b h = ap (λ o. ordering_then o (name_order a b)) (below (bucket_of a) (bucket_of b) h)
 
-pub part_more : (a b : List ℕ) → part_of b < part_of a → index_order a b ≡ Greater
-part_more a b h = ap (λ o. ordering_then o (name_order a b)) (above (part_of a) (part_of b) h)
+pub bucket_more : (a b : List ℕ) → bucket_of b < bucket_of a → index_order a b ≡ Greater
+bucket_more a b h = ap (λ o. ordering_then o (name_order a b)) (above (bucket_of a) (bucket_of b) h)
 
--- in one part the names are
-pub part_same : (a b : List ℕ) → part_of a ≡ part_of b → index_order a b ≡ name_order a b
-part_same a b h = ap (λ o. ordering_then o (name_order a b)) (level (part_of a) (part_of b) h)
+-- in one bucket the names are
+pub bucket_same : (a b : List ℕ) → bucket_of a ≡ bucket_of b → index_order a b ≡ name_order a b
+bucket_same a b h = ap (λ o. ordering_then o (name_order a b)) (level (bucket_of a) (bucket_of b) h)
 
--- a name that goes first stands in no later part
-pub less_part : (a b : List ℕ) → index_order a b ≡ Less → part_of a ≤ part_of b
+-- a name that goes first stands in no later bucket
+pub less_part : (a b : List ℕ) → index_order a b ≡ Less → bucket_of a ≤ bucket_of b
 less_part a b e =
-    elim (cases_lt (part_of b) (part_of a)) [
-      | inl h ↦ let none : Less ≡ Greater = sym e ∙ part_more a b h in absurd (cc)
+    elim (cases_lt (bucket_of b) (bucket_of a)) [
+      | inl h ↦ let none : Less ≡ Greater = sym e ∙ bucket_more a b h in absurd (cc)
       | inr h ↦ h
     ]
 
-pub more_part : (a b : List ℕ) → index_order a b ≡ Greater → part_of b ≤ part_of a
+pub more_part : (a b : List ℕ) → index_order a b ≡ Greater → bucket_of b ≤ bucket_of a
 more_part a b e =
-    elim (cases_lt (part_of a) (part_of b)) [
-      | inl h ↦ let none : Less ≡ Greater = sym (part_less a b h) ∙ e in absurd (cc)
+    elim (cases_lt (bucket_of a) (bucket_of b)) [
+      | inl h ↦ let none : Less ≡ Greater = sym (bucket_less a b h) ∙ e in absurd (cc)
       | inr h ↦ h
     ]
 
@@ -278,13 +278,14 @@ indexed_gap ms order name gap x g =
 
 -- A search by halving: what holds at each step.
 
--- where a search stands that began at so many steps: the name isn't before `low`, nor from `high` on, what is between them stands in its part, and the steps that are left halve what is between them
+-- where a search stands that began at so many steps: the name isn't before `low`, nor from `high` on, what is between them stands
+-- in its bucket, and the steps that are left halve what is between them
 pub record IsSeeking (names : List (List ℕ)) (order name : List ℕ) (low high first now : ℕ) : Type 0 where
   pub ordered : low ≤ high
   pub fits : high ≤ length order
   pub below : (k : ℕ) → k < low → index_order (key_at names order k) name ≡ Less
   pub above : (k : ℕ) → high ≤ k → k < length order → index_order (key_at names order k) name ≡ Greater
-  pub alike : (k : ℕ) → low ≤ k → k < high → part_of (key_at names order k) ≡ part_of name
+  pub alike : (k : ℕ) → low ≤ k → k < high → bucket_of (key_at names order k) ≡ bucket_of name
   pub budget : high - low < 2 ^ (first + 17 - now)
   pub counted : IsCounted first now
 
@@ -304,37 +305,37 @@ stepped first now next n m c h b d e =
     let P : ℕ → Type 0 = λ i. m < 2 ^ i in
     (subst P k r.1, record { more = omega (arith, c.more); few = omega (arith, c.few, r.0) })
 
--- a part begins where the one before it ends
-bounds_ordered : (names : List (List ℕ)) (order starts : List ℕ) (p : ℕ) → IsDivided names order starts → p < 1024 → get_or starts p 0 ≤ get_or starts (p + 1) 0
-bounds_ordered names order starts p d h =
-    elim (cases_lt (get_or starts (p + 1) 0) (get_or starts p 0)) [
+-- a bucket begins where the one before it ends
+bounds_ordered : (names : List (List ℕ)) (order bucket_starts : List ℕ) (p : ℕ) → IsDivided names order bucket_starts → p < 1024 → get_or bucket_starts p 0 ≤ get_or bucket_starts (p + 1) 0
+bounds_ordered names order bucket_starts p d h =
+    elim (cases_lt (get_or bucket_starts (p + 1) 0) (get_or bucket_starts p 0)) [
       | inl l ↦
-          let k : ℕ = get_or starts (p + 1) 0 in
-          let fits : get_or starts p 0 ≤ length order = d.inside p (omega arith) in
-          let low : part_of (key_at names order k) < p = d.below p k (omega arith) l in
-          let high : p + 1 ≤ part_of (key_at names order k) = d.above (p + 1) k (omega arith) (omega arith) (omega arith) in
+          let k : ℕ = get_or bucket_starts (p + 1) 0 in
+          let fits : get_or bucket_starts p 0 ≤ length order = d.inside p (omega arith) in
+          let low : bucket_of (key_at names order k) < p = d.below p k (omega arith) l in
+          let high : p + 1 ≤ bucket_of (key_at names order k) = d.above (p + 1) k (omega arith) (omega arith) (omega arith) in
           absurd (omega arith)
       | inr l ↦ l
     ]
 
--- a name that isn't in a part stands before it or behind it
-pub start_seeking : (names : List (List ℕ)) (order starts name : List ℕ) (part first low high : ℕ) → IsDivided names order starts → part ≡ part_of name → part < 1024 → low ≡ get_or starts part 0 → high ≡ get_or starts (part + 1) 0 → length order ≤ 65536 → IsSeeking names order name low high first first
-start_seeking names order starts name part first low high d p small e f h =
+-- a name that isn't in a bucket stands before it or behind it
+pub start_seeking : (names : List (List ℕ)) (order bucket_starts name : List ℕ) (bucket first low high : ℕ) → IsDivided names order bucket_starts → bucket ≡ bucket_of name → bucket < 1024 → low ≡ get_or bucket_starts bucket 0 → high ≡ get_or bucket_starts (bucket + 1) 0 → length order ≤ 65536 → IsSeeking names order name low high first first
+start_seeking names order bucket_starts name bucket first low high d p small e f h =
     let k : 17 ≡ first + 17 - first = omega arith in
-    let fits : high ≤ length order = omega (arith, d.inside (part + 1) (omega arith)) in
+    let fits : high ≤ length order = omega (arith, d.inside (bucket + 1) (omega arith)) in
     let P : ℕ → Type 0 = λ i. high - low < 2 ^ i in
     record {
-      ordered = omega (arith, bounds_ordered names order starts part d small);
+      ordered = omega (arith, bounds_ordered names order bucket_starts bucket d small);
       fits = fits;
       below = λ k g.
-          let before : part_of (key_at names order k) < part = d.below part k (omega arith) (omega arith) in
-          part_less _ name (omega arith);
+          let before : bucket_of (key_at names order k) < bucket = d.below bucket k (omega arith) (omega arith) in
+          bucket_less _ name (omega arith);
       above = λ k g l.
-          let behind : part + 1 ≤ part_of (key_at names order k) = d.above (part + 1) k (omega arith) (omega arith) l in
-          part_more _ name (omega arith);
+          let behind : bucket + 1 ≤ bucket_of (key_at names order k) = d.above (bucket + 1) k (omega arith) (omega arith) l in
+          bucket_more _ name (omega arith);
       alike = λ k g l.
-          let from : part ≤ part_of (key_at names order k) = d.above part k (omega arith) (omega arith) (omega arith) in
-          let to : part_of (key_at names order k) < part + 1 = d.below (part + 1) k (omega arith) (omega arith) in
+          let from : bucket ≤ bucket_of (key_at names order k) = d.above bucket k (omega arith) (omega arith) (omega arith) in
+          let to : bucket_of (key_at names order k) < bucket + 1 = d.below (bucket + 1) k (omega arith) (omega arith) in
           omega arith;
       budget = subst P k (let b : high - low < 131072 = omega arith in b);
       counted = record { more = omega arith; few = omega arith };
@@ -342,7 +343,7 @@ start_seeking names order starts name part first low high d p small e f h =
 
 pub seek_up : (names : List (List ℕ)) (order name : List ℕ) (low high first now middle next : ℕ) → IsIndex names order → IsSeeking names order name low high first now → low < high → IsMiddle low high middle → name_order (key_at names order middle) name ≡ Less → next ≡ now + 1 → IsSeeking names order name (middle + 1) high first next
 seek_up names order name low high first now middle next x s h m below e =
-    let less : index_order (key_at names order middle) name ≡ Less = part_same _ name (s.alike middle m.from m.to) ∙ below in
+    let less : index_order (key_at names order middle) name ≡ Less = bucket_same _ name (s.alike middle m.from m.to) ∙ below in
     let inside : middle < high = m.to in
     let r = stepped first now next (high - low) (high - (middle + 1)) s.counted (omega arith) s.budget (omega (arith, m.behind)) e in
     record {
@@ -360,7 +361,7 @@ seek_up names order name low high first now middle next x s h m below e =
 
 pub seek_down : (names : List (List ℕ)) (order name : List ℕ) (low high first now middle next : ℕ) → IsIndex names order → IsSeeking names order name low high first now → low < high → IsMiddle low high middle → name_order (key_at names order middle) name ≡ Greater → next ≡ now + 1 → IsSeeking names order name low middle first next
 seek_down names order name low high first now middle next x s h m above e =
-    let greater : index_order (key_at names order middle) name ≡ Greater = part_same _ name (s.alike middle m.from m.to) ∙ above in
+    let greater : index_order (key_at names order middle) name ≡ Greater = bucket_same _ name (s.alike middle m.from m.to) ∙ above in
     let inside : middle < high = m.to in
     let r = stepped first now next (high - low) (middle - low) s.counted (omega arith) s.budget (omega (arith, m.before)) e in
     record {
@@ -507,7 +508,7 @@ behind_removed xs place h =
 pub before_removed : {A : Type 0} (xs : List A) (place : ℕ) → place < length xs → take place (remove xs place) ≡ take place xs
 before_removed xs place h = take_at (take place xs) (drop (suc place) xs) place (length-take-le place xs (omega arith))
 
--- what is behind a place, as a part of a slice
+-- what is behind a place, as a bucket of a slice
 pub tail_of : {A : Type 0} (xs am : List A) (place : ℕ) → am ≡ xs → take (length am - place) (drop place am) ≡ drop place xs
 tail_of xs am place e = take_all (length am - place) (drop place am) (omega (arith, length-drop place am)) ∙ ap (drop place) e
 
@@ -520,13 +521,13 @@ closed_list f xs am given left post junk place len n h e m a g l =
     let tail : List _ = drop place xs in
     let moved : List _ = map f (drop 1 tail) in
     let last : List _ = drop (length tail - 1) tail in
-    let parts : given ≡ moved ++ last = g ∙ ap (λ (t : List _). map f (drop 1 t) ++ drop (length t - 1) t) (tail_of xs am place a) in
+    let buckets : given ≡ moved ++ last = g ∙ ap (λ (t : List _). map f (drop 1 t) ++ drop (length t - 1) t) (tail_of xs am place a) in
     let front : length (take place xs) ≡ place = length-take-le place xs (omega arith) in
     let long : length (take place xs ++ moved) ≡ n - 1 = omega (arith, length-append (take place xs) moved, length-map (drop 1 tail) f, length-drop 1 tail, length-drop place xs) in
     l
     ∙ (take-take (n - 1) len _ (omega arith)
     ∙ (ap (λ (y : List _). take (n - 1) ((take place y ++ (given ++ post)) ++ junk)) a
-    ∙ (ap (λ (y : List _). take (n - 1) ((take place xs ++ (y ++ post)) ++ junk)) parts
+    ∙ (ap (λ (y : List _). take (n - 1) ((take place xs ++ (y ++ post)) ++ junk)) buckets
     ∙ (ap (take (n - 1)) (regrouped (take place xs) moved last post junk)
     ∙ (take_at (take place xs ++ moved) (last ++ (post ++ junk)) (n - 1) long
     ∙ (ap (λ (y : List _). y ++ moved) (sym (before_removed xs place h))
@@ -551,23 +552,23 @@ pub raised_list : {A : Type 0} (f : A → A) (xs am given junk left : List A) (f
 raised_list f xs am given junk left front place k len s h e a g l =
     let rest : List _ = drop front xs in
     let some : place < length rest = omega (arith, length-drop front xs) in
-    let part : List _ = take (place + 1) rest in
-    let size : length part ≡ place + 1 = length-take-le (place + 1) rest (omega arith) in
+    let bucket : List _ = take (place + 1) rest in
+    let size : length bucket ≡ place + 1 = length-take-le (place + 1) rest (omega arith) in
     let moved : List _ = map f (take place rest) in
-    let same : take k (drop front am) ≡ part = ap (λ (i : ℕ). take i (drop front am)) s ∙ ap (λ (y : List _). take (place + 1) (drop front y)) a in
-    let shorter : take (length part - 1) part ≡ take place rest = ap (λ (i : ℕ). take i part) (let i : length part - 1 ≡ place = omega arith in i) ∙ take-take place (place + 1) rest (omega arith) in
-    let parts : given ≡ take 1 part ++ moved =
-    g ∙ (ap (λ (y : List _). take 1 y ++ map f (take (length y - 1) y)) same ∙ ap (λ (y : List _). take 1 part ++ map f y) shorter) in
+    let same : take k (drop front am) ≡ bucket = ap (λ (i : ℕ). take i (drop front am)) s ∙ ap (λ (y : List _). take (place + 1) (drop front y)) a in
+    let shorter : take (length bucket - 1) bucket ≡ take place rest = ap (λ (i : ℕ). take i bucket) (let i : length bucket - 1 ≡ place = omega arith in i) ∙ take-take place (place + 1) rest (omega arith) in
+    let buckets : given ≡ take 1 bucket ++ moved =
+    g ∙ (ap (λ (y : List _). take 1 y ++ map f (take (length y - 1) y)) same ∙ ap (λ (y : List _). take 1 bucket ++ map f y) shorter) in
     let back : drop k (drop front am) ≡ drop (place + 1) rest = ap (λ (i : ℕ). drop i (drop front am)) s ∙ ap (λ (y : List _). drop (place + 1) (drop front y)) a in
-    let whole : take front am ++ (given ++ drop k (drop front am)) ≡ (take front xs ++ take 1 part) ++ (moved ++ drop (place + 1) rest) =
+    let whole : take front am ++ (given ++ drop k (drop front am)) ≡ (take front xs ++ take 1 bucket) ++ (moved ++ drop (place + 1) rest) =
     ap (λ (y : List _). take front y ++ (given ++ drop k (drop front am))) a
-    ∙ (ap (λ (y : List _). take front xs ++ (y ++ drop k (drop front am))) parts
-    ∙ (ap (λ (y : List _). take front xs ++ ((take 1 part ++ moved) ++ y)) back
-    ∙ regrouped_front (take front xs) (take 1 part) moved (drop (place + 1) rest))) in
-    let first : length (take front xs ++ take 1 part) ≡ front + 1 = omega (arith, length-append (take front xs) (take 1 part), length-take-le front xs (omega arith), length-take-le 1 part (omega arith)) in
-    let all : length (take front am ++ (given ++ drop k (drop front am))) ≡ len = omega (arith, ap length whole, length-append (take front xs ++ take 1 part) (moved ++ drop (place + 1) rest), first, length-append moved (drop (place + 1) rest), length-map (take place rest) f, length-take-le place rest (omega arith), length-drop (place + 1) rest, length-drop front xs, e) in
+    ∙ (ap (λ (y : List _). take front xs ++ (y ++ drop k (drop front am))) buckets
+    ∙ (ap (λ (y : List _). take front xs ++ ((take 1 bucket ++ moved) ++ y)) back
+    ∙ regrouped_front (take front xs) (take 1 bucket) moved (drop (place + 1) rest))) in
+    let first : length (take front xs ++ take 1 bucket) ≡ front + 1 = omega (arith, length-append (take front xs) (take 1 bucket), length-take-le front xs (omega arith), length-take-le 1 bucket (omega arith)) in
+    let all : length (take front am ++ (given ++ drop k (drop front am))) ≡ len = omega (arith, ap length whole, length-append (take front xs ++ take 1 bucket) (moved ++ drop (place + 1) rest), first, length-append moved (drop (place + 1) rest), length-map (take place rest) f, length-take-le place rest (omega arith), length-drop (place + 1) rest, length-drop front xs, e) in
     ap (drop (front + 1)) (l ∙ (take_at (take front am ++ (given ++ drop k (drop front am))) junk len all ∙ whole))
-    ∙ (drop_at (take front xs ++ take 1 part) (moved ++ drop (place + 1) rest) (front + 1) first
+    ∙ (drop_at (take front xs ++ take 1 bucket) (moved ++ drop (place + 1) rest) (front + 1) first
     ∙ (ap (λ (y : List _). map f y ++ drop (place + 1) rest) (sym (before_removed rest place some))
     ∙ ap (λ (y : List _). map f (take place (remove rest place)) ++ y) (sym (behind_removed rest place some ∙ drop-drop 1 place rest))))
 
@@ -590,10 +591,10 @@ live_taken f items left front place h e =
 -- the list of what is behind so many places, once all of that came to the front
 pub settled_list : {A : Type 0} (f : A → A) (xs am given junk left : List A) (front len n : ℕ) → front ≤ length xs → len ≡ length xs → n ≡ len → am ≡ xs → given ≡ map f (drop front am) ++ drop (length am - front) am → left ≡ take (n - front) (take len (given ++ junk)) → left ≡ map f (drop front xs)
 settled_list f xs am given junk left front len n h e m a g l =
-    let parts : given ≡ map f (drop front xs) ++ drop (length xs - front) xs = g ∙ ap (λ (y : List _). map f (drop front y) ++ drop (length y - front) y) a in
+    let buckets : given ≡ map f (drop front xs) ++ drop (length xs - front) xs = g ∙ ap (λ (y : List _). map f (drop front y) ++ drop (length y - front) y) a in
     let long : length (map f (drop front xs)) ≡ n - front = omega (arith, length-map (drop front xs) f, length-drop front xs) in
     l
     ∙ (take-take (n - front) len _ (omega arith)
-    ∙ (ap (λ (y : List _). take (n - front) (y ++ junk)) parts
+    ∙ (ap (λ (y : List _). take (n - front) (y ++ junk)) buckets
     ∙ (ap (take (n - front)) (append_assoc (map f (drop front xs)) _ junk)
     ∙ take_at (map f (drop front xs)) _ (n - front) long)))

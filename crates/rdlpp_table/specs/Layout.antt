@@ -27,7 +27,7 @@ pub record IsLaidOut (t : Inside) : Type 0 where
   pub given_up : t.front.entries ≤ vec_len t.entries
   pub room : vec_capacity t.bytes ≡ t.most_bytes
   pub entry_room : vec_capacity t.entries ≡ t.most_macros
-  pub indexed : IsIndexed (names_of (macros_in t.bytes.items (live t.front.entries t.entries.items))) (take (length (live t.front.entries t.entries.items)) t.order.items) t.starts
+  pub indexed : IsIndexed (names_of (macros_in t.bytes.items (live t.front.entries t.entries.items))) (take (length (live t.front.entries t.entries.items)) t.order.items) t.bucket_starts
   pub marked : drop (length (live t.front.entries t.entries.items)) t.order.items ≡ table_marks (macros_in t.bytes.items (live t.front.entries t.entries.items))
   pub index_room : vec_capacity t.order ≡ 2 * (t.most_macros + t.most_bytes / 8)
   pub few : t.most_macros ≤ 65536

@@ -1,4 +1,4 @@
-// The index of a table: the places of its entries, sorted by the parts in which their names stand, and then by name. A table has at
+// The index of a table: the places of its entries, sorted by the buckets in which their names stand, and then by name. A table has at
 // most 65,536 macros, so that two bytes are enough for a place. Behind it, in the same list, lie the marks of its macros; a definition
 // moves two bytes for each place behind its own, and the marks.
 ghost use Rattle.std.specs.Prelude.{◌≡◌, ◌+◌, ◌<◌, ◌≤◌, ◌^◌, ◌-◌, ◌++◌, MatchResult, drop, insert, length, map, remove, slice_index, take, vec_capacity, vec_len};
@@ -20,24 +20,24 @@ fn middle_of(low: usize, high: usize) -> usize
 }
 
 // The place in the index of the entry of a name, or the place where it would stand, by halving
-// the part of the index in which the name stands.
+// the bucket of the index in which the name stands.
 pub(crate) fn seek(
     bytes: &[u8],
     entries: &[Entry],
     order: &[u16],
-    starts: &[u32],
+    bucket_starts: &[u32],
     sought: &Sought,
     steps: &mut Steps,
 ) -> Result<usize, usize>
     requires within { AreWithin (length bytes.now) entries.now }
-    requires indexed { IsIndexed (names_of (macros_in bytes.now entries.now)) order.now starts.now }
+    requires indexed { IsIndexed (names_of (macros_in bytes.now entries.now)) order.now bucket_starts.now }
     requires few { length entries.now ≤ 65536 }
     ensures found { MatchResult result (λ at. IsPlace (names_of (macros_in bytes.now entries.now)) order.now sought.now.name.now at) (λ gap. IsGap (names_of (macros_in bytes.now entries.now)) order.now sought.now.name.now gap) }
     ensures steps { IsCounted steps.old steps.new }
 {
-    let part = sought.part();
-    let mut low = starts[part] as usize;
-    let mut high = starts[part + 1] as usize;
+    let bucket = sought.bucket();
+    let mut low = bucket_starts[bucket] as usize;
+    let mut high = bucket_starts[bucket + 1] as usize;
     while low < high {
         let middle = middle_of(low, high);
         let name = name_in(bytes, &entries[order[middle] as usize]);
@@ -55,17 +55,17 @@ pub(crate) fn place_in(
     bytes: &[u8],
     entries: &[Entry],
     order: &[u16],
-    starts: &[u32],
+    bucket_starts: &[u32],
     name: &[u8],
     steps: &mut Steps,
 ) -> Option<usize>
     requires within { AreWithin (length bytes.now) entries.now }
-    requires indexed { IsIndexed (names_of (macros_in bytes.now entries.now)) order.now starts.now }
+    requires indexed { IsIndexed (names_of (macros_in bytes.now entries.now)) order.now bucket_starts.now }
     requires few { length entries.now ≤ 65536 }
     ensures value { result ≡ place_named (macros_in bytes.now entries.now) name.now }
     ensures steps { IsCounted steps.old steps.new }
 {
-    match seek(bytes, entries, order, starts, &Sought::new(name), steps) {
+    match seek(bytes, entries, order, bucket_starts, &Sought::new(name), steps) {
         Ok(at) => Some(order[at] as usize),
         Err(_) => None,
     }

@@ -1,6 +1,7 @@
 //! The macro table: limits, and a counted store of definitions.
 #![tactic(auto)]
 
+mod buckets;
 mod entry;
 mod fault;
 mod formals;
@@ -11,7 +12,6 @@ mod kept;
 mod limits;
 mod marks;
 mod name;
-mod parts;
 mod removal;
 mod sought;
 mod stop;

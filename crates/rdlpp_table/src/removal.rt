@@ -10,7 +10,7 @@ ghost use Rattle.rdlpp_table.specs.Store.{live, macros_in, IsStored};
 use crate::entry::{ENTRY_BYTES, Entry, marks_len};
 use crate::front::{Front, live};
 use crate::index::{leave, seek};
-use crate::parts::{begin_sooner, part_of};
+use crate::buckets::{begin_sooner, bucket_of};
 use crate::sought::{Sought, Steps};
 
 // The bytes of an entry were moved so much further to the front, and its marks as much as another number says.
@@ -229,14 +229,14 @@ pub(crate) fn take_out_named(
     entries: &mut Vec<Entry>,
     front: &mut Front,
     order: &mut Vec<u16>,
-    starts: &mut [u32],
+    bucket_starts: &mut [u32],
     name: &[u8],
 ) -> (bool, usize)
     requires stored { IsStored front.old.bytes front.old.marks bytes.old.items (live front.old.entries entries.old.items) (macros_in bytes.old.items (live front.old.entries entries.old.items)) }
     requires narrow { vec_capacity bytes.old < 2 ^ 32 }
     requires given_up { front.old.entries ≤ vec_len entries.old }
     requires distinct { IsDistinct bytes_eq (map (λ m. m.name) (macros_in bytes.old.items (live front.old.entries entries.old.items))) }
-    requires indexed { IsIndexed (names_of (macros_in bytes.old.items (live front.old.entries entries.old.items))) (take (length (live front.old.entries entries.old.items)) order.old.items) starts.old }
+    requires indexed { IsIndexed (names_of (macros_in bytes.old.items (live front.old.entries entries.old.items))) (take (length (live front.old.entries entries.old.items)) order.old.items) bucket_starts.old }
     requires marked { drop (length (live front.old.entries entries.old.items)) order.old.items ≡ table_marks (macros_in bytes.old.items (live front.old.entries entries.old.items)) }
     requires few { length (live front.old.entries entries.old.items) ≤ 65536 }
     ensures value { result.0 ≡ is_some (macro_named (macros_in bytes.old.items (live front.old.entries entries.old.items)) name.now) }
@@ -244,7 +244,7 @@ pub(crate) fn take_out_named(
     ensures stored { IsStored front.new.bytes front.new.marks bytes.new.items (live front.new.entries entries.new.items) (without name.now (macros_in bytes.old.items (live front.old.entries entries.old.items))) }
     ensures given_up { front.new.entries ≤ vec_len entries.new }
     ensures no_longer { (vec_len bytes.new ≤ vec_len bytes.old) × (vec_len entries.new ≤ vec_len entries.old) }
-    ensures indexed { IsIndexed (names_of (without name.now (macros_in bytes.old.items (live front.old.entries entries.old.items)))) (take (length (live front.new.entries entries.new.items)) order.new.items) starts.new }
+    ensures indexed { IsIndexed (names_of (without name.now (macros_in bytes.old.items (live front.old.entries entries.old.items)))) (take (length (live front.new.entries entries.new.items)) order.new.items) bucket_starts.new }
     ensures marked { drop (length (live front.new.entries entries.new.items)) order.new.items ≡ table_marks (without name.now (macros_in bytes.old.items (live front.old.entries entries.old.items))) }
     ensures capacity { (vec_capacity bytes.new ≡ vec_capacity bytes.old) × (vec_capacity entries.new ≡ vec_capacity entries.old) × (vec_capacity order.new ≡ vec_capacity order.old) }
 {
@@ -253,13 +253,13 @@ pub(crate) fn take_out_named(
         bytes,
         live(entries, front),
         &order[..count],
-        starts,
+        bucket_starts,
         &Sought::new(name),
         &mut Steps::new(),
     ) {
         Ok(at) => {
             let place = leave(order, count, at);
-            begin_sooner(starts, part_of(name));
+            begin_sooner(bucket_starts, bucket_of(name));
             take_out(bytes, entries, front, order, place);
             (true, at)
         }

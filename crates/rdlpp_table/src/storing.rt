@@ -39,7 +39,7 @@ use crate::front::{Front, live};
 use crate::index::{enter, place_in};
 use crate::kept::{FirstStops, first_stops};
 use crate::marks::{Listed, push_marks};
-use crate::parts::{begin_later, part_of};
+use crate::buckets::{begin_later, bucket_of};
 use crate::removal::{settle, size_of_entry, take_out_named};
 use crate::sought::Steps;
 use rdlpp_lines::{append_part, append_trimmed};
@@ -157,20 +157,20 @@ pub(crate) fn beside(
     entries: &[Entry],
     front: &Front,
     order: &[u16],
-    starts: &[u32],
+    bucket_starts: &[u32],
     name: &[u8],
 ) -> Rest
     requires stored { IsStored front.now.bytes front.now.marks bytes.now (live front.now.entries entries.now) (macros_in bytes.now (live front.now.entries entries.now)) }
     requires given_up { front.now.entries ≤ length entries.now }
     requires distinct { IsDistinct bytes_eq (map (λ m. m.name) (macros_in bytes.now (live front.now.entries entries.now))) }
-    requires indexed { IsIndexed (names_of (macros_in bytes.now (live front.now.entries entries.now))) order.now starts.now }
+    requires indexed { IsIndexed (names_of (macros_in bytes.now (live front.now.entries entries.now))) order.now bucket_starts.now }
     requires few { length (live front.now.entries entries.now) ≤ 65536 }
     ensures size { result.size ≡ table_size (without name.now (macros_in bytes.now (live front.now.entries entries.now))) }
     ensures count { result.count ≡ length (without name.now (macros_in bytes.now (live front.now.entries entries.now))) }
 {
     let entries = live(entries, front);
     let size = bytes.len() - front.bytes;
-    match place_in(bytes, entries, order, starts, name, &mut Steps::new()) {
+    match place_in(bytes, entries, order, bucket_starts, name, &mut Steps::new()) {
         Some(place) => Rest {
             size: size - size_of_entry(&entries[place]),
             count: entries.len() - 1,
@@ -219,13 +219,13 @@ pub(crate) fn replace(
     entries: &mut Vec<Entry>,
     front: &mut Front,
     order: &mut Vec<u16>,
-    starts: &mut [u32],
+    bucket_starts: &mut [u32],
     new: &New,
 )
     requires stored { IsStored front.old.bytes front.old.marks bytes.old.items (live front.old.entries entries.old.items) (macros_in bytes.old.items (live front.old.entries entries.old.items)) }
     requires given_up { front.old.entries ≤ vec_len entries.old }
     requires distinct { IsDistinct bytes_eq (map (λ m. m.name) (macros_in bytes.old.items (live front.old.entries entries.old.items))) }
-    requires indexed { IsIndexed (names_of (macros_in bytes.old.items (live front.old.entries entries.old.items))) (take (length (live front.old.entries entries.old.items)) order.old.items) starts.old }
+    requires indexed { IsIndexed (names_of (macros_in bytes.old.items (live front.old.entries entries.old.items))) (take (length (live front.old.entries entries.old.items)) order.old.items) bucket_starts.old }
     requires marked { drop (length (live front.old.entries entries.old.items)) order.old.items ≡ table_marks (macros_in bytes.old.items (live front.old.entries entries.old.items)) }
     requires few { length (live front.old.entries entries.old.items) ≤ 65536 }
     requires small { new.now.list_len < 2 ^ 32 }
@@ -240,13 +240,13 @@ pub(crate) fn replace(
     ensures stored { IsStored front.new.bytes front.new.marks bytes.new.items (live front.new.entries entries.new.items) (without new.now.name.now (macros_in bytes.old.items (live front.old.entries entries.old.items)) ++ new_macro new.now.name.now new.now.arity new.now.list.now new.now.is_logical new.now.text.now ∷ []) }
     ensures given_up { front.new.entries ≤ vec_len entries.new }
     ensures few_given_up { (front.new.bytes ≤ vec_len bytes.new - front.new.bytes) × (front.new.entries ≤ vec_len entries.new - front.new.entries) }
-    ensures indexed { IsIndexed (names_of (without new.now.name.now (macros_in bytes.old.items (live front.old.entries entries.old.items)) ++ new_macro new.now.name.now new.now.arity new.now.list.now new.now.is_logical new.now.text.now ∷ [])) (take (length (live front.new.entries entries.new.items)) order.new.items) starts.new }
+    ensures indexed { IsIndexed (names_of (without new.now.name.now (macros_in bytes.old.items (live front.old.entries entries.old.items)) ++ new_macro new.now.name.now new.now.arity new.now.list.now new.now.is_logical new.now.text.now ∷ [])) (take (length (live front.new.entries entries.new.items)) order.new.items) bucket_starts.new }
     ensures marked { drop (length (live front.new.entries entries.new.items)) order.new.items ≡ table_marks (without new.now.name.now (macros_in bytes.old.items (live front.old.entries entries.old.items)) ++ new_macro new.now.name.now new.now.arity new.now.list.now new.now.is_logical new.now.text.now ∷ []) }
     ensures capacity { (vec_capacity bytes.new ≡ vec_capacity bytes.old) × (vec_capacity entries.new ≡ vec_capacity entries.old) × (vec_capacity order.new ≡ vec_capacity order.old) }
 {
-    let (_, gap) = take_out_named(bytes, entries, front, order, starts, new.name);
+    let (_, gap) = take_out_named(bytes, entries, front, order, bucket_starts, new.name);
     enter(order, gap, entries.len() - front.entries);
-    begin_later(starts, part_of(new.name));
+    begin_later(bucket_starts, bucket_of(new.name));
     make_room(
         bytes,
         entries,

@@ -22,7 +22,7 @@ use crate::kept::known_stop;
 use crate::limits::Limits;
 use crate::marks::{LONG_FORMAL, Listed, default_of, place_of};
 use crate::name::check_name;
-use crate::parts::STARTS;
+use crate::buckets::BUCKET_STARTS;
 use crate::removal::take_out_named;
 use crate::sought::Steps;
 use crate::stop::{Stop, first_stop};
@@ -45,7 +45,7 @@ pub struct Table {
     // the formals of each macro begin among their bytes, where these are long: two numbers for each formal.
     order: Vec<u16>,
     // Where each part of the index begins, and where the last one ends.
-    starts: [u32; STARTS],
+    bucket_starts: [u32; BUCKET_STARTS],
     most_bytes: usize,
     most_macros: usize,
 }
@@ -127,7 +127,7 @@ impl Table {
                 marks: 0,
             },
             order,
-            starts: [0; STARTS],
+            bucket_starts: [0; BUCKET_STARTS],
             most_bytes: limits.definition_bytes,
             most_macros: limits.definitions,
         })
@@ -188,7 +188,7 @@ impl Table {
             &self.bytes,
             entries,
             &self.order[..entries.len()],
-            &self.starts,
+            &self.bucket_starts,
             name,
             steps,
         )?;
@@ -340,7 +340,7 @@ impl Table {
             &mut self.entries,
             &mut self.front,
             &mut self.order,
-            &mut self.starts,
+            &mut self.bucket_starts,
             name,
         )
         .0
@@ -406,7 +406,7 @@ impl Table {
             &self.entries,
             &self.front,
             &self.order[..self.entries.len() - self.front.entries],
-            &self.starts,
+            &self.bucket_starts,
             name,
         )
     }
@@ -484,7 +484,7 @@ impl Table {
             &mut self.entries,
             &mut self.front,
             &mut self.order,
-            &mut self.starts,
+            &mut self.bucket_starts,
             new,
         );
         Ok(())

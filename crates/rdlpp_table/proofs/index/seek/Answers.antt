@@ -5,7 +5,7 @@ use Rattle.rdlpp_table.proofs.Sizes.{no_entry}
 use Rattle.rdlpp_table.proofs.index.seek.Goals as goal
 
 pub loop-low-init : goal.loop-low-init
-loop-low-init c = start_seeking _ _ _ _ _ _ _ _ c.requires.indexed.divided c.part-part.ensures.value c.part-part.ensures.small refl refl (omega (arith, index_length _ _ _ c.requires.indexed.index, c.requires.few))
+loop-low-init c = start_seeking _ _ _ _ _ _ _ _ c.requires.indexed.divided c.bucket-bucket.ensures.value c.bucket-bucket.ensures.small refl refl (omega (arith, index_length _ _ _ c.requires.indexed.index, c.requires.few))
 
 pub bounds-entries-order : goal.bounds-entries-order
 bounds-entries-order c =

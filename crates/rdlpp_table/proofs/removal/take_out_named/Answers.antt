@@ -30,7 +30,7 @@ pub begin_sooner-requires-clause-more : goal.begin_sooner-requires-clause-more
 begin_sooner-requires-clause-more c =
     let n : c.len.result - c.args.front.now.entries ≡ length (drop c.args.front.now.entries c.args.entries.now.items) = omega (arith, c.len.ensures, live_count c.args.front.now.entries c.args.entries.now) in
     let p = placed _ _ _ _ _ _ _ _ _ c.deref.ensures.value (c.live.ensures ∙ ap (drop c.args.front.now.entries) c.deref-2.ensures.value) (ap (take (c.len.result - c.args.front.now.entries)) c.deref-3.ensures.value ∙ ap (λ (n : ℕ). take n c.args.order.now.items) n) c.new.ensures c.in-Ok.ensures.found in
-    sooner_more _ _ _ _ _ _ c.requires.indexed.divided p c.part_of.ensures.value
+    sooner_more _ _ _ _ _ _ c.requires.indexed.divided p c.bucket_of.ensures.value
 
 pub take_out-requires-clause-place : goal.take_out-requires-clause-place
 take_out-requires-clause-place c =
@@ -71,7 +71,7 @@ returns-in-Ok-clause-indexed c =
     ∙ (ap (λ (n : ℕ). take (n - 1) c.leave-place.new.order.items) (sym n)
     ∙ (c.leave-place.ensures.index
     ∙ ap (λ (n : ℕ). map (closed c.leave-place.result) (remove (take n c.args.order.now.items) c.in-Ok.at)) n)) in
-    left_without _ _ _ _ _ _ _ _ _ c.requires.distinct c.requires.indexed p value left c.part_of.ensures.value (sooner_is _ _ _ (omega (arith, c.part_of.ensures.small, c.requires.indexed.divided.long)) c.begin_sooner.ensures)
+    left_without _ _ _ _ _ _ _ _ _ c.requires.distinct c.requires.indexed p value left c.bucket_of.ensures.value (sooner_is _ _ _ (omega (arith, c.bucket_of.ensures.small, c.requires.indexed.divided.long)) c.begin_sooner.ensures)
 
 pub returns-in-Ok-clause-gap : goal.returns-in-Ok-clause-gap
 returns-in-Ok-clause-gap c =

@@ -84,7 +84,7 @@ returns-clause-indexed c =
     let fits = entered_front c.take_out_named-gap.new.order.items (length (drop c.take_out_named-gap.new.front.entries c.take_out_named-gap.new.entries.items)) c.take_out_named-gap.result.1 (c.len.result - c.take_out_named-gap.new.front.entries) (omega (arith, c.take_out_named-gap.ensures.gap.fits, length-take-le (length (drop c.take_out_named-gap.new.front.entries c.take_out_named-gap.new.entries.items)) c.take_out_named-gap.new.order.items inside)) inside in
     let m : Macro = new_macro c.args.new.now.name.now c.args.new.now.arity c.args.new.now.list.now c.args.new.now.is_logical c.args.new.now.text.now in
     let left : take (length (drop c.make_room.new.front.entries c.put.new.entries.items)) c.put.new.order.items ≡ insert (take (length (drop c.take_out_named-gap.new.front.entries c.take_out_named-gap.new.entries.items)) c.take_out_named-gap.new.order.items) c.take_out_named-gap.result.1 (c.len.result - c.take_out_named-gap.new.front.entries) = c.put.ensures.index ∙ (ap (λ (k : ℕ). take (k + 1) c.enter.new.order.items) many ∙ (ap (take (length (drop c.take_out_named-gap.new.front.entries c.take_out_named-gap.new.entries.items) + 1)) c.enter.ensures.items ∙ fits.0)) in
-    entered_with _ _ _ _ _ _ _ _ m _ _ _ _ _ refl refl refl c.take_out_named-gap.ensures.stored c.take_out_named-gap.ensures.indexed c.take_out_named-gap.ensures.gap n left c.part_of.ensures.value (later_is _ _ _ (omega (arith, c.part_of.ensures.small, c.take_out_named-gap.ensures.indexed.divided.long)) c.begin_later.ensures)
+    entered_with _ _ _ _ _ _ _ _ m _ _ _ _ _ refl refl refl c.take_out_named-gap.ensures.stored c.take_out_named-gap.ensures.indexed c.take_out_named-gap.ensures.gap n left c.bucket_of.ensures.value (later_is _ _ _ (omega (arith, c.bucket_of.ensures.small, c.take_out_named-gap.ensures.indexed.divided.long)) c.begin_later.ensures)
 
 pub returns-clause-marked : goal.returns-clause-marked
 returns-clause-marked c =
