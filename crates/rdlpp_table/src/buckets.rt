@@ -2,7 +2,7 @@
 ghost use Rattle.std.specs.Prelude.{◌≡◌, ◌+◌, ◌++◌, ◌-◌, ◌<◌, ◌≤◌, All, drop, length, map, take};
 ghost use Rattle.rdlpp_table.specs.Index.{bucket_of, fold_bytes, mix};
 
-use crate::sought::front_number;
+use crate::lookup::front_number;
 
 // How many places are kept: where each of the 1,024 buckets begins, and where the last one ends.
 pub(crate) const BUCKET_STARTS: usize = 1_025;

@@ -8,7 +8,7 @@ ghost use Rattle.rdlpp_table.specs.Store.{macros_in};
 ghost use Rattle.rdlpp_table.specs.View.{place_named};
 
 use crate::entry::{Entry, name_in};
-use crate::sought::{Sought, Steps};
+use crate::lookup::{LookupKey, Steps};
 use std::cmp::Ordering;
 
 // A place between two others, with at most half of what is between them on either side.
@@ -26,22 +26,22 @@ pub(crate) fn seek(
     entries: &[Entry],
     order: &[u16],
     bucket_starts: &[u32],
-    sought: &Sought,
+    key: &LookupKey,
     steps: &mut Steps,
 ) -> Result<usize, usize>
     requires within { AreWithin (length bytes.now) entries.now }
     requires indexed { IsIndexed (names_of (macros_in bytes.now entries.now)) order.now bucket_starts.now }
     requires few { length entries.now ≤ 65536 }
-    ensures found { MatchResult result (λ at. IsPlace (names_of (macros_in bytes.now entries.now)) order.now sought.now.name.now at) (λ gap. IsGap (names_of (macros_in bytes.now entries.now)) order.now sought.now.name.now gap) }
+    ensures found { MatchResult result (λ at. IsPlace (names_of (macros_in bytes.now entries.now)) order.now key.now.name.now at) (λ gap. IsGap (names_of (macros_in bytes.now entries.now)) order.now key.now.name.now gap) }
     ensures steps { IsCounted steps.old steps.new }
 {
-    let bucket = sought.bucket();
+    let bucket = key.bucket();
     let mut low = bucket_starts[bucket] as usize;
     let mut high = bucket_starts[bucket + 1] as usize;
     while low < high {
         let middle = middle_of(low, high);
         let name = name_in(bytes, &entries[order[middle] as usize]);
-        match sought.compare(name, steps) {
+        match key.compare(name, steps) {
             Ordering::Less => low = middle + 1,
             Ordering::Greater => high = middle,
             Ordering::Equal => return Ok(middle),
@@ -65,7 +65,7 @@ pub(crate) fn place_in(
     ensures value { result ≡ place_named (macros_in bytes.now entries.now) name.now }
     ensures steps { IsCounted steps.old steps.new }
 {
-    match seek(bytes, entries, order, bucket_starts, &Sought::new(name), steps) {
+    match seek(bytes, entries, order, bucket_starts, &LookupKey::new(name), steps) {
         Ok(at) => Some(order[at] as usize),
         Err(_) => None,
     }

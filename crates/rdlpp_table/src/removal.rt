@@ -11,7 +11,7 @@ use crate::entry::{ENTRY_BYTES, Entry, marks_len};
 use crate::front::{Front, live};
 use crate::index::{leave, seek};
 use crate::buckets::{begin_sooner, bucket_of};
-use crate::sought::{Sought, Steps};
+use crate::lookup::{LookupKey, Steps};
 
 // The bytes of an entry were moved so much further to the front, and its marks as much as another number says.
 #[inline(always)]
@@ -254,7 +254,7 @@ pub(crate) fn take_out_named(
         live(entries, front),
         &order[..count],
         bucket_starts,
-        &Sought::new(name),
+        &LookupKey::new(name),
         &mut Steps::new(),
     ) {
         Ok(at) => {

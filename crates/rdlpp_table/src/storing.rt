@@ -41,7 +41,7 @@ use crate::kept::{FirstStops, first_stops};
 use crate::marks::{Listed, push_marks};
 use crate::buckets::{begin_later, bucket_of};
 use crate::removal::{settle, size_of_entry, take_out_named};
-use crate::sought::Steps;
+use crate::lookup::Steps;
 use rdlpp_lines::{append_part, append_trimmed};
 
 // A macro that is to be stored: its body is read from a text, of a logical line or as it stands.

@@ -24,7 +24,7 @@ use crate::marks::{LONG_FORMAL, Listed, default_of, place_of};
 use crate::name::check_name;
 use crate::buckets::BUCKET_STARTS;
 use crate::removal::take_out_named;
-use crate::sought::Steps;
+use crate::lookup::Steps;
 use crate::stop::{Stop, first_stop};
 use crate::storing::{New, Rest, beside, replace};
 use rdlpp_lines::trimmed_len;

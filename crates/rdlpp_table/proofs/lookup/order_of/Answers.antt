@@ -1,6 +1,6 @@
 use Rattle.std.proofs.Common.{◌∙◌, refl, sym}
 use Rattle.rdlpp_table.proofs.Orders.{bytes_behind, order_apart, order_behind}
-use Rattle.rdlpp_table.proofs.sought.order_of.Goals as goal
+use Rattle.rdlpp_table.proofs.lookup.order_of.Goals as goal
 
 pub loop-left-init : goal.loop-left-init
 loop-left-init c = (refl, λ k. (c.type_inv.name k).fits, λ k. (c.type_inv.other k).fits)

@@ -47,15 +47,15 @@ impl Steps {
 
 // A name that is looked up. Only `compare` and `bucket` read it, so that each comparison is a step.
 #[derive(Clone, Copy, Drop)]
-pub(crate) struct Sought<'a> {
+pub(crate) struct LookupKey<'a> {
     name: &'a [u8],
 }
 
-impl<'a> Sought<'a> {
-    pub(crate) fn new(name: &'a [u8]) -> Sought<'a>
+impl<'a> LookupKey<'a> {
+    pub(crate) fn new(name: &'a [u8]) -> LookupKey<'a>
         ensures { result.name.now ≡ name.now }
     {
-        Sought { name }
+        LookupKey { name }
     }
 
     // The bucket of the index in which it is looked up.
