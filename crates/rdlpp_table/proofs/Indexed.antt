@@ -246,7 +246,7 @@ key_new names order name gap n g e =
 -- a place of an index with one place more: one of those before, the new one, or one of those behind
 data Spot (gap j : ℕ) : Type 0 where
   Before : j < gap → Spot gap j
-  New : j ≡ gap → Spot gap j
+  NewMacro : j ≡ gap → Spot gap j
   Behind : (i : ℕ) → gap ≤ i → j ≡ i + 1 → Spot gap j
 
 spot : (gap j : ℕ) → Spot gap j
@@ -255,27 +255,27 @@ spot gap j =
       | inl h ↦ Before h
       | inr h ↦ elim (cases_lt gap j) [
         | inl g ↦ Behind (j - 1) (omega arith) (omega arith)
-        | inr g ↦ New (omega arith)
+        | inr g ↦ NewMacro (omega arith)
       ]
     ]
 
 entered_sorted : (names : List (List ℕ)) (order name : List ℕ) (gap n j k : ℕ) → IsIndex names order → IsGap names order name gap → n ≡ length names → j < k → k < length order + 1 → Spot gap j → Spot gap k → index_order (key_at (names ++ name ∷ []) (insert order gap n) j) (key_at (names ++ name ∷ []) (insert order gap n) k) ≡ Less
 entered_sorted names order name gap n j k x g e h l (Before a) (Before b) =
     rw (key_below names order name gap n j x g.fits a, key_below names order name gap n k x g.fits b) (x.sorted j k h (omega (arith, g.fits)))
-entered_sorted names order name gap n j k x g e h l (Before a) (New b) =
+entered_sorted names order name gap n j k x g e h l (Before a) (NewMacro b) =
     ap (λ (i : ℕ). index_order (key_at (names ++ name ∷ []) (insert order gap n) j) (key_at (names ++ name ∷ []) (insert order gap n) i)) b
     ∙ rw (key_below names order name gap n j x g.fits a, key_new names order name gap n g.fits e) (g.below j a)
 entered_sorted names order name gap n j k x g e h l (Before a) (Behind i b f) =
     ap (λ (i : ℕ). index_order (key_at (names ++ name ∷ []) (insert order gap n) j) (key_at (names ++ name ∷ []) (insert order gap n) i)) f
     ∙ rw (key_below names order name gap n j x g.fits a, key_above names order name gap n i x g.fits b (omega arith)) (x.sorted j i (omega arith) (omega arith))
-entered_sorted names order name gap n j k x g e h l (New a) (Before b) = absurd (omega arith)
-entered_sorted names order name gap n j k x g e h l (New a) (New b) = absurd (omega arith)
-entered_sorted names order name gap n j k x g e h l (New a) (Behind i b f) =
+entered_sorted names order name gap n j k x g e h l (NewMacro a) (Before b) = absurd (omega arith)
+entered_sorted names order name gap n j k x g e h l (NewMacro a) (NewMacro b) = absurd (omega arith)
+entered_sorted names order name gap n j k x g e h l (NewMacro a) (Behind i b f) =
     ap (λ (i : ℕ). index_order (key_at (names ++ name ∷ []) (insert order gap n) j) (key_at (names ++ name ∷ []) (insert order gap n) i)) f
     ∙ (ap (λ (i' : ℕ). index_order (key_at (names ++ name ∷ []) (insert order gap n) i') (key_at (names ++ name ∷ []) (insert order gap n) (i + 1))) a
     ∙ rw (key_new names order name gap n g.fits e, key_above names order name gap n i x g.fits b (omega arith)) (turned _ name (g.above i b (omega arith))))
 entered_sorted names order name gap n j k x g e h l (Behind i a f) (Before b) = absurd (omega arith)
-entered_sorted names order name gap n j k x g e h l (Behind i a f) (New b) = absurd (omega arith)
+entered_sorted names order name gap n j k x g e h l (Behind i a f) (NewMacro b) = absurd (omega arith)
 entered_sorted names order name gap n j k x g e h l (Behind i a f) (Behind i2 b f2) =
     ap (λ (q : ℕ). index_order (key_at (names ++ name ∷ []) (insert order gap n) j) (key_at (names ++ name ∷ []) (insert order gap n) q)) f2
     ∙ (ap (λ (q : ℕ). index_order (key_at (names ++ name ∷ []) (insert order gap n) q) (key_at (names ++ name ∷ []) (insert order gap n) (i2 + 1))) f
@@ -284,7 +284,7 @@ entered_sorted names order name gap n j k x g e h l (Behind i a f) (Behind i2 b 
 entered_inside : (names : List (List ℕ)) (order name : List ℕ) (gap n j : ℕ) → IsIndex names order → gap ≤ length order → n ≡ length names → j < length order + 1 → Spot gap j → get_or (insert order gap n) j 0 < length (names ++ name ∷ [])
 entered_inside names order name gap n j x g e l (Before a) =
     omega (arith, get_or-insert_below order gap n 0 j a g, x.inside j (omega arith), length-append names (name ∷ []))
-entered_inside names order name gap n j x g e l (New a) =
+entered_inside names order name gap n j x g e l (NewMacro a) =
     omega (arith, ap (λ (i : ℕ). get_or (insert order gap n) i 0) a ∙ get_or-insert_at order gap n 0 g, length-append names (name ∷ []))
 entered_inside names order name gap n j x g e l (Behind i a f) =
     omega (arith, ap (λ (i' : ℕ). get_or (insert order gap n) i' 0) f ∙ get_or-insert_above order gap n 0 i a g, x.inside i (omega arith), length-append names (name ∷ []))

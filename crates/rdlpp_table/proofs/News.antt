@@ -24,7 +24,7 @@ use Rattle.rdlpp_table.specs.Define.{Draft, Drawn, Rejected, lexical, observed, 
 use Rattle.rdlpp_table.proofs.Taken.{between_parts}
 use Rattle.rdlpp_table.proofs.RoundTrip.{refused_is, read_list}
 use Rattle.rdlpp_table.specs.View.{AreSoundFormals, IsSoundMacro, formals_of}
-use Rattle.rdlpp_table.specs.New.{list_formals, new_macro, stops_told, IsList, IsNew}
+use Rattle.rdlpp_table.specs.NewMacro.{list_formals, new_macro, stops_told, IsList, IsNew}
 use Rattle.rdlpp_scan.specs.CleanTexts.{IsCleanText}
 use Rattle.rdlpp_scan.specs.Reserved.{is_reserved}
 use Rattle.rdlpp_table.proofs.Defaults.{default_in_clean, drawn_clean}

@@ -305,20 +305,20 @@ length_of_remove ms place h =
     ap (λ (k : ℕ). length (take place ms ++ drop k ms)) (sym (add-one place)) ∙ length-append (take place ms) _ in
     omega arith
 
-pub beside_size : {from ahead : ℕ} (bytes : List ℕ) (entries : List Entry) (ms : List Macro) (name : List ℕ) (place : ℕ) (d : Entry) → IsStored from ahead bytes entries ms → IsDistinct bytes_eq (map (λ m. m.name) ms) → place_named ms name ≡ Some place → from + ((get_or entries place d).name_len + (get_or entries place d).list_len + (get_or entries place d).body_len + table_size (without name ms)) ≡ length bytes
-beside_size {from = from} {ahead = ahead} bytes entries ms name place d s distinct at =
+pub usage_without_size : {from ahead : ℕ} (bytes : List ℕ) (entries : List Entry) (ms : List Macro) (name : List ℕ) (place : ℕ) (d : Entry) → IsStored from ahead bytes entries ms → IsDistinct bytes_eq (map (λ m. m.name) ms) → place_named ms name ≡ Some place → from + ((get_or entries place d).name_len + (get_or entries place d).list_len + (get_or entries place d).body_len + table_size (without name ms)) ≡ length bytes
+usage_without_size {from = from} {ahead = ahead} bytes entries ms name place d s distinct at =
     let h : place < length ms = inside_by_place ms name place at in
     let is : get_or entries place d ≡ entry_of (from + table_size (take place ms)) (ahead + length (table_marks (take place ms))) (macro_at ms place) = ap (λ (es : List Entry). get_or es place d) s.entries_are ∙ entry_of_macro from ahead ms place d h in
     let size : (get_or entries place d).name_len + (get_or entries place d).list_len + (get_or entries place d).body_len ≡ macro_size (macro_at ms place) = ap (λ (x : Entry). x.name_len + x.list_len + x.body_len) is ∙ size_of_entry _ _ (macro_at ms place) in
     omega (arith, ap table_size (without_at name ms place distinct at), size_of_remove ms place h, stored_length bytes entries ms s)
 
-pub beside_count : {from ahead : ℕ} (bytes : List ℕ) (entries : List Entry) (ms : List Macro) (name : List ℕ) (place : ℕ) → IsStored from ahead bytes entries ms → IsDistinct bytes_eq (map (λ m. m.name) ms) → place_named ms name ≡ Some place → length (without name ms) + 1 ≡ length entries
-beside_count bytes entries ms name place s distinct at =
+pub usage_without_count : {from ahead : ℕ} (bytes : List ℕ) (entries : List Entry) (ms : List Macro) (name : List ℕ) (place : ℕ) → IsStored from ahead bytes entries ms → IsDistinct bytes_eq (map (λ m. m.name) ms) → place_named ms name ≡ Some place → length (without name ms) + 1 ≡ length entries
+usage_without_count bytes entries ms name place s distinct at =
     let h : place < length ms = inside_by_place ms name place at in
     omega (arith, ap length (without_at name ms place distinct at), length_of_remove ms place h, stored_count bytes entries ms s)
 
-pub beside_none : {from ahead : ℕ} (bytes : List ℕ) (entries : List Entry) (ms : List Macro) (name : List ℕ) → IsStored from ahead bytes entries ms → place_named ms name ≡ None → (length bytes ≡ from + table_size (without name ms)) × (length entries ≡ length (without name ms))
-beside_none bytes entries ms name s at = (
+pub usage_without_none : {from ahead : ℕ} (bytes : List ℕ) (entries : List Entry) (ms : List Macro) (name : List ℕ) → IsStored from ahead bytes entries ms → place_named ms name ≡ None → (length bytes ≡ from + table_size (without name ms)) × (length entries ≡ length (without name ms))
+usage_without_none bytes entries ms name s at = (
   omega (arith, stored_length bytes entries ms s, ap table_size (without_nowhere name ms at)),
   stored_count bytes entries ms s ∙ sym (ap length (without_nowhere name ms at)),
 )

@@ -236,8 +236,8 @@ cut_middle a b c i j e f =
     ∙ ap (λ (l : List ℕ). a ++ l) (ap (drop j) (sym (append_assoc a b c)) ∙ drop_at (a ++ b) c j (omega (arith, length-append a b)))
 
 -- without the element at the end of a front
-remove_at : {A : Type 0} (front : List A) (x : A) (back : List A) (n : ℕ) → length front ≡ n → remove (front ++ x ∷ back) n ≡ front ++ back
-remove_at front x back n e =
+removed_between : {A : Type 0} (front : List A) (x : A) (back : List A) (n : ℕ) → length front ≡ n → remove (front ++ x ∷ back) n ≡ front ++ back
+removed_between front x back n e =
     let one : length (front ++ x ∷ []) ≡ suc n = omega (arith, length-append front (x ∷ [])) in
     ap (λ (l : List _). l ++ drop (suc n) (front ++ x ∷ back)) (take_at front (x ∷ back) n e)
     ∙ ap (λ (l : List _). front ++ l) (ap (drop (suc n)) (sym (append_assoc front (x ∷ []) back)) ∙ drop_at (front ++ x ∷ []) back (suc n) one)
@@ -295,7 +295,7 @@ taken from ahead entries rest entry ms place size marks e h q r z f =
     let n : length (entries_of from ahead xs) ≡ place = length_entries_of from ahead xs ∙ length-take-le place ms (omega arith) in
     let is : entry ≡ entry_of (from + table_size xs) (ahead + k) m = q ∙ (ap (λ (es : List Entry). get_or es place entry) e ∙ entry_of_macro from ahead ms place entry h) in
     let around : rest ≡ entries_of from ahead xs ++ entries_of (from + table_size xs + macro_size m) (ahead + k + length (macro_marks m)) ys =
-    r ∙ (ap (λ (es : List Entry). remove es place) (entries_between from ahead entries xs m ys (e ∙ ap (entries_of from ahead) (split_at ms place h))) ∙ remove_at (entries_of from ahead xs) _ _ place n) in
+    r ∙ (ap (λ (es : List Entry). remove es place) (entries_between from ahead entries xs m ys (e ∙ ap (entries_of from ahead) (split_at ms place h))) ∙ removed_between (entries_of from ahead xs) _ _ place n) in
     record {
       start = ap (λ (x : Entry). x.start) is ∙ start_of (from + table_size xs) (ahead + k) m;
       size_is = z ∙ (ap (λ (x : Entry). x.name_len + x.list_len + x.body_len) is ∙ size_of_entry (from + table_size xs) (ahead + k) m);

@@ -10,6 +10,6 @@ pub mod Define
 pub mod Store
 pub mod Entries
 pub mod Index
-pub mod New
+pub mod NewMacro
 pub mod Layout
 pub mod Formals

@@ -172,7 +172,7 @@ fn take_stored(bytes: &mut Vec<u8>, entries: &mut Vec<Entry>, front: &mut Front,
 }
 
 // Takes out the macro at a place, of which the index has no place any more.
-fn take_out(
+fn remove_at(
     bytes: &mut Vec<u8>,
     entries: &mut Vec<Entry>,
     front: &mut Front,
@@ -224,7 +224,7 @@ pub(crate) fn settle(bytes: &mut Vec<u8>, entries: &mut Vec<Entry>, front: &mut 
 
 // Takes out the macro of a name, and answers whether there was one, and where the name would stand in the index now: where the
 // search for it ended.
-pub(crate) fn take_out_named(
+pub(crate) fn remove_named(
     bytes: &mut Vec<u8>,
     entries: &mut Vec<Entry>,
     front: &mut Front,
@@ -260,7 +260,7 @@ pub(crate) fn take_out_named(
         Ok(at) => {
             let place = leave(order, count, at);
             begin_sooner(bucket_starts, bucket_of(name));
-            take_out(bytes, entries, front, order, place);
+            remove_at(bytes, entries, front, order, place);
             (true, at)
         }
         Err(gap) => (false, gap),

@@ -31,7 +31,7 @@ ghost use Rattle.rdlpp_table.specs.Index.{names_of, IsIndexed};
 ghost use Rattle.rdlpp_table.specs.Marks.{table_marks};
 ghost use Rattle.rdlpp_table.specs.Store.{live, macros_in, IsListed, IsStored};
 ghost use Rattle.rdlpp_table.specs.Table.{formal_bytes, table_size, without};
-ghost use Rattle.rdlpp_table.specs.New.{list_formals, new_macro, stops_told, IsList, IsNew};
+ghost use Rattle.rdlpp_table.specs.NewMacro.{list_formals, new_macro, stops_told, IsList, IsNew};
 
 use crate::entry::Entry;
 use crate::formals::append_list;
@@ -40,13 +40,13 @@ use crate::index::{enter, place_in};
 use crate::kept::{FirstStops, first_stops};
 use crate::marks::{Listed, push_marks};
 use crate::buckets::{begin_later, bucket_of};
-use crate::removal::{settle, size_of_entry, take_out_named};
+use crate::removal::{settle, size_of_entry, remove_named};
 use crate::lookup::Steps;
 use rdlpp_lines::{append_part, append_trimmed};
 
 // A macro that is to be stored: its body is read from a text, of a logical line or as it stands.
 #[derive(Clone, Copy, Drop)]
-pub(crate) struct New<'a> {
+pub(crate) struct NewMacro<'a> {
     pub(crate) name: &'a [u8],
     pub(crate) arity: Option<usize>,
     // The text of the formal list behind its `(`, where it has formals, and how many bytes they are.
@@ -58,7 +58,7 @@ pub(crate) struct New<'a> {
 }
 
 // Appends the formals of a macro.
-fn append_formals(bytes: &mut Vec<u8>, new: &New)
+fn append_formals(bytes: &mut Vec<u8>, new: &NewMacro)
     requires listed { IsList new.now.arity new.now.list.now new.now.list_len }
     requires room { vec_len bytes.old + new.now.list_len ≤ vec_capacity bytes.old }
     ensures items { bytes.new.items ≡ bytes.old.items ++ flat_map formal_bytes (unwrap_or (list_formals new.now.arity new.now.list.now) []) }
@@ -101,7 +101,7 @@ fn put(
     entries: &mut Vec<Entry>,
     front: &Front,
     order: &mut Vec<u16>,
-    new: &New,
+    new: &NewMacro,
 )
     requires stored { IsStored front.now.bytes front.now.marks bytes.old.items (live front.now.entries entries.old.items) (macros_in bytes.old.items (live front.now.entries entries.old.items)) }
     requires given_up { front.now.entries ≤ vec_len entries.old }
@@ -146,20 +146,20 @@ fn put(
 
 // How many bytes and how many definitions there are beside that of a name.
 #[derive(Clone, Copy, Drop)]
-pub(crate) struct Rest {
+pub(crate) struct UsageWithout {
     pub(crate) size: usize,
     pub(crate) count: usize,
 }
 
 // What there is beside the definition of a name.
-pub(crate) fn beside(
+pub(crate) fn usage_without(
     bytes: &[u8],
     entries: &[Entry],
     front: &Front,
     order: &[u16],
     bucket_starts: &[u32],
     name: &[u8],
-) -> Rest
+) -> UsageWithout
     requires stored { IsStored front.now.bytes front.now.marks bytes.now (live front.now.entries entries.now) (macros_in bytes.now (live front.now.entries entries.now)) }
     requires given_up { front.now.entries ≤ length entries.now }
     requires distinct { IsDistinct bytes_eq (map (λ m. m.name) (macros_in bytes.now (live front.now.entries entries.now))) }
@@ -171,11 +171,11 @@ pub(crate) fn beside(
     let entries = live(entries, front);
     let size = bytes.len() - front.bytes;
     match place_in(bytes, entries, order, bucket_starts, name, &mut Steps::new()) {
-        Some(place) => Rest {
+        Some(place) => UsageWithout {
             size: size - size_of_entry(&entries[place]),
             count: entries.len() - 1,
         },
-        None => Rest {
+        None => UsageWithout {
             size,
             count: entries.len(),
         },
@@ -220,7 +220,7 @@ pub(crate) fn replace(
     front: &mut Front,
     order: &mut Vec<u16>,
     bucket_starts: &mut [u32],
-    new: &New,
+    new: &NewMacro,
 )
     requires stored { IsStored front.old.bytes front.old.marks bytes.old.items (live front.old.entries entries.old.items) (macros_in bytes.old.items (live front.old.entries entries.old.items)) }
     requires given_up { front.old.entries ≤ vec_len entries.old }
@@ -244,7 +244,7 @@ pub(crate) fn replace(
     ensures marked { drop (length (live front.new.entries entries.new.items)) order.new.items ≡ table_marks (without new.now.name.now (macros_in bytes.old.items (live front.old.entries entries.old.items)) ++ new_macro new.now.name.now new.now.arity new.now.list.now new.now.is_logical new.now.text.now ∷ []) }
     ensures capacity { (vec_capacity bytes.new ≡ vec_capacity bytes.old) × (vec_capacity entries.new ≡ vec_capacity entries.old) × (vec_capacity order.new ≡ vec_capacity order.old) }
 {
-    let (_, gap) = take_out_named(bytes, entries, front, order, bucket_starts, new.name);
+    let (_, gap) = remove_named(bytes, entries, front, order, bucket_starts, new.name);
     enter(order, gap, entries.len() - front.entries);
     begin_later(bucket_starts, bucket_of(new.name));
     make_room(

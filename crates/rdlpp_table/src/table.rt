@@ -1,6 +1,6 @@
 // The table of macros: a list of bytes, one of entries and an index by name, all reserved when the table is made.
 ghost use Rattle.std.specs.Prelude.{◌≡◌, ◌≢◌, ◌<◌, ◌≤◌, ◌==◌, [], length, IfOk, IfSome, IfNone, OnOk, Some, None, is_some, option_map, OnErr, true, unwrap_or, ◌+◌};
-ghost use Rattle.rdlpp_table.specs.New.{list_formals, new_macro, IsList, IsNew};
+ghost use Rattle.rdlpp_table.specs.NewMacro.{list_formals, new_macro, IsList, IsNew};
 ghost use Rattle.rdlpp_lines.specs.Continuations.{joined};
 ghost use Rattle.rdlpp_table.specs.Index.{IsCounted};
 ghost use Rattle.rdlpp_table.specs.Limits.{AreInRange};
@@ -23,10 +23,10 @@ use crate::limits::Limits;
 use crate::marks::{LONG_FORMAL, Listed, default_of, place_of};
 use crate::name::check_name;
 use crate::buckets::BUCKET_STARTS;
-use crate::removal::take_out_named;
+use crate::removal::remove_named;
 use crate::lookup::Steps;
 use crate::stop::{Stop, first_stop};
-use crate::storing::{New, Rest, beside, replace};
+use crate::storing::{NewMacro, UsageWithout, usage_without, replace};
 use rdlpp_lines::trimmed_len;
 use rdlpp_scan::is_name;
 use std::alloc::Global;
@@ -335,7 +335,7 @@ impl Table {
         ensures value { result ≡ is_some (macro_named self.old.macros name.now) }
         ensures table { self.new ≡ record self.old { macros = without name.now self.old.macros } }
     {
-        take_out_named(
+        remove_named(
             &mut self.bytes,
             &mut self.entries,
             &mut self.front,
@@ -396,12 +396,12 @@ impl Table {
     }
 
     // What there is beside the macro of a name.
-    fn rest(&self, name: &[u8]) -> Rest
+    fn rest(&self, name: &[u8]) -> UsageWithout
         ensures size { result.size ≡ table_size (without name.now self.now.macros) }
         ensures count { result.count ≡ length (without name.now self.now.macros) }
         ensures sound { IsSound self.now }
     {
-        beside(
+        usage_without(
             &self.bytes,
             &self.entries,
             &self.front,
@@ -446,7 +446,7 @@ impl Table {
         ensures limits { (self.new.most_bytes ≡ self.old.most_bytes) × (self.new.most_macros ≡ self.old.most_macros) }
     {
         match trimmed_len(text, is_logical, false) {
-            Ok(body) => self.store(&New {
+            Ok(body) => self.store(&NewMacro {
                 name,
                 arity,
                 list,
@@ -460,7 +460,7 @@ impl Table {
     }
 
     // Stores a macro behind the others, in the place of one of its name.
-    fn store(&mut self, new: &New) -> Result<(), DefineFault>
+    fn store(&mut self, new: &NewMacro) -> Result<(), DefineFault>
         requires counted { IsNew new.now.name.now new.now.arity new.now.list.now new.now.list_len new.now.is_logical new.now.text.now new.now.body_len }
         requires sound { IsSoundMacro (new_macro new.now.name.now new.now.arity new.now.list.now new.now.is_logical new.now.text.now) }
         ensures outcome { observed result self.new.macros ≡ stored self.old.most_bytes self.old.most_macros self.old.macros (new_macro new.now.name.now new.now.arity new.now.list.now new.now.is_logical new.now.text.now) }

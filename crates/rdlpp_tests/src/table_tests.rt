@@ -166,7 +166,7 @@ fn size_beside(alloc: Global, all: &[Made], number: usize) -> Result<usize, Allo
 }
 
 // Takes the made macro of a name out of a list, and tells whether there was one.
-fn take_out(all: &mut Vec<Made>, number: usize) -> bool {
+fn remove_at(all: &mut Vec<Made>, number: usize) -> bool {
     match all.iter().position(|made| made.number == number) {
         Some(place) => {
             let _ = all.remove(place);
@@ -203,7 +203,7 @@ fn define<R: Abort + AllocGlobal>(
         Some(_) => panic!(rt; "a line ends"),
     }
     if wanted.is_none() {
-        let _old = take_out(all, made.number);
+        let _old = remove_at(all, made.number);
         all.push(made)?;
     }
     Ok(())
@@ -274,7 +274,7 @@ fn change<R: Abort + AllocGlobal>(rt: &R, bytes: usize, count: usize) -> Result<
         let old = all.get(place).map_or(step, |made| made.number);
         if step % 5 == 4 {
             let name = name_of(rt.alloc(), old)?;
-            assert_eq!(rt; table.remove(name.as_bytes()), take_out(&mut all, old));
+            assert_eq!(rt; table.remove(name.as_bytes()), remove_at(&mut all, old));
         } else {
             let made = Made {
                 number: if step % 3 == 0 { step } else { old },

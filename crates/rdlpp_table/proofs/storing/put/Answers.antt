@@ -3,7 +3,7 @@ use Rattle.rdlpp_lines.specs.Texts.{start_level}
 use Rattle.rdlpp_table.specs.Table.{Formal, formal_bytes}
 use Rattle.rdlpp_table.proofs.Sizes.{count_items, few_marks, length_list_bytes, live_count}
 use Rattle.rdlpp_table.specs.declared.entry.Entry.{Entry}
-use Rattle.rdlpp_table.specs.New.{list_formals, new_macro, stops_told}
+use Rattle.rdlpp_table.specs.NewMacro.{list_formals, new_macro, stops_told}
 use Rattle.std.proofs.lemmas.List.{drop-append-le, take-append-le}
 use Rattle.rdlpp_table.specs.Marks.{marks_of, table_marks}
 use Rattle.rdlpp_table.specs.Store.{macros_in}

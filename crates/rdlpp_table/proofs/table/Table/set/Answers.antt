@@ -1,5 +1,5 @@
 use Rattle.std.proofs.Common.{◌∙◌, sym}
-use Rattle.rdlpp_table.specs.New.{list_formals}
+use Rattle.rdlpp_table.specs.NewMacro.{list_formals}
 use Rattle.rdlpp_table.proofs.News.{no_list_is, set_nameless, set_refuses, set_stores, no_formals_sound}
 use Rattle.rdlpp_table.proofs.table.Table.set.Goals as goal
 

@@ -2,7 +2,7 @@ use Rattle.std.proofs.Common.{◌≡◌, ◌≤◌, ◌+◌, ◌∷◌, ◌++◌
 use Rattle.rdlpp_table.specs.Table.{Macro, without, table_size, macro_size}
 use Rattle.rdlpp_table.specs.View.{TableView}
 use Rattle.rdlpp_table.specs.Define.{Accepted}
-use Rattle.rdlpp_table.specs.New.{new_macro}
+use Rattle.rdlpp_table.specs.NewMacro.{new_macro}
 use Rattle.rdlpp_table.specs.Store.{macros_in}
 use Rattle.rdlpp_table.specs.Layout.{view_of}
 use Rattle.rdlpp_table.proofs.Sizes.{count_items}

@@ -1,5 +1,5 @@
 use Rattle.std.proofs.Common.{◌∙◌}
-use Rattle.rdlpp_table.specs.New.{list_formals}
+use Rattle.rdlpp_table.specs.NewMacro.{list_formals}
 use Rattle.rdlpp_table.proofs.News.{list_is, no_list_is, listed_sound, no_formals_sound}
 use Rattle.rdlpp_table.proofs.RoundTrip.{list_stores, list_refuses}
 use Rattle.rdlpp_table.proofs.table.Table.store_named.Goals as goal

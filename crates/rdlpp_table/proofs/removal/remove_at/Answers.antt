@@ -4,7 +4,7 @@ use Rattle.rdlpp_table.specs.Store.{macros_in}
 use Rattle.rdlpp_table.proofs.Sizes.{count_items, length_macros_in, live_count, live_read}
 use Rattle.rdlpp_table.proofs.RoundTrip.{stored_count, length_of_remove}
 use Rattle.rdlpp_table.proofs.Taken.{taken, taken_marks, marks_end, bytes_fit}
-use Rattle.rdlpp_table.proofs.removal.take_out.Goals as goal
+use Rattle.rdlpp_table.proofs.removal.remove_at.Goals as goal
 
 pub overflow_sub-first-3 : goal.overflow_sub-first-3
 overflow_sub-first-3 c =

@@ -4,7 +4,7 @@ use Rattle.rdlpp_table.proofs.Sizes.{count_items, live_count, is_named, stored_s
 use Rattle.rdlpp_table.proofs.RoundTrip.{stored_without, stored_nowhere}
 use Rattle.rdlpp_table.proofs.Indexed.{entry_inside, gap_without, gapped, index_front, left_nowhere, left_without, length_front, marks_nowhere, marks_without, placed, sooner_is, sooner_more}
 use Rattle.rdlpp_table.proofs.Orders.{indexed_gap, indexed_place}
-use Rattle.rdlpp_table.proofs.removal.take_out_named.Goals as goal
+use Rattle.rdlpp_table.proofs.removal.remove_named.Goals as goal
 
 pub slice_bounds-seek-end : goal.slice_bounds-seek-end
 slice_bounds-seek-end c =
@@ -32,19 +32,19 @@ begin_sooner-requires-clause-more c =
     let p = placed _ _ _ _ _ _ _ _ _ c.deref.ensures.value (c.live.ensures ∙ ap (drop c.args.front.now.entries) c.deref-2.ensures.value) (ap (take (c.len.result - c.args.front.now.entries)) c.deref-3.ensures.value ∙ ap (λ (n : ℕ). take n c.args.order.now.items) n) c.new.ensures c.in-Ok.ensures.found in
     sooner_more _ _ _ _ _ _ c.requires.indexed.divided p c.bucket_of.ensures.value
 
-pub take_out-requires-clause-place : goal.take_out-requires-clause-place
-take_out-requires-clause-place c =
+pub remove_at-requires-clause-place : goal.remove_at-requires-clause-place
+remove_at-requires-clause-place c =
     let n : c.len.result - c.args.front.now.entries ≡ length (drop c.args.front.now.entries c.args.entries.now.items) = omega (arith, c.len.ensures, live_count c.args.front.now.entries c.args.entries.now) in
     let p = placed _ _ _ _ _ _ _ _ _ c.deref.ensures.value (c.live.ensures ∙ ap (drop c.args.front.now.entries) c.deref-2.ensures.value) (ap (take (c.len.result - c.args.front.now.entries)) c.deref-3.ensures.value ∙ ap (λ (n : ℕ). take n c.args.order.now.items) n) c.new.ensures c.in-Ok.ensures.found in
     let value : c.leave-place.result ≡ get_or (take (length (drop c.args.front.now.entries c.args.entries.now.items)) c.args.order.now.items) c.in-Ok.at 0 = c.leave-place.ensures.value ∙ ap (λ (n : ℕ). get_or (take n c.args.order.now.items) c.in-Ok.at 0) n in
     omega (arith, value, entry_inside _ _ _ _ c.requires.indexed.index p.inside, count_items c.args.entries.now)
 
-pub take_out-requires-clause-index : goal.take_out-requires-clause-index
-take_out-requires-clause-index c =
+pub remove_at-requires-clause-index : goal.remove_at-requires-clause-index
+remove_at-requires-clause-index c =
     omega (arith, index_front c.args.bytes.now.items (drop c.args.front.now.entries c.args.entries.now.items) c.args.order.now.items c.requires.indexed.index, count_items c.args.order.now, c.leave-place.ensures.len)
 
-pub take_out-requires-clause-marked : goal.take_out-requires-clause-marked
-take_out-requires-clause-marked c =
+pub remove_at-requires-clause-marked : goal.remove_at-requires-clause-marked
+remove_at-requires-clause-marked c =
     let n : c.len.result - c.args.front.now.entries ≡ length (drop c.args.front.now.entries c.args.entries.now.items) = omega (arith, c.len.ensures, live_count c.args.front.now.entries c.args.entries.now) in
     ap (λ (n : ℕ). drop (n - 1) c.leave-place.new.order.items) (sym n) ∙ (c.leave-place.ensures.marks ∙ (ap (λ (n : ℕ). drop n c.args.order.now.items) n ∙ c.requires.marked))
 
@@ -59,15 +59,15 @@ returns-in-Ok-clause-stored c =
     let n : c.len.result - c.args.front.now.entries ≡ length (drop c.args.front.now.entries c.args.entries.now.items) = omega (arith, c.len.ensures, live_count c.args.front.now.entries c.args.entries.now) in
     let p = placed _ _ _ _ _ _ _ _ _ c.deref.ensures.value (c.live.ensures ∙ ap (drop c.args.front.now.entries) c.deref-2.ensures.value) (ap (take (c.len.result - c.args.front.now.entries)) c.deref-3.ensures.value ∙ ap (λ (n : ℕ). take n c.args.order.now.items) n) c.new.ensures c.in-Ok.ensures.found in
     let value : c.leave-place.result ≡ get_or (take (length (drop c.args.front.now.entries c.args.entries.now.items)) c.args.order.now.items) c.in-Ok.at 0 = c.leave-place.ensures.value ∙ ap (λ (n : ℕ). get_or (take n c.args.order.now.items) c.in-Ok.at 0) n in
-    stored_without _ _ _ _ _ c.requires.distinct (indexed_place _ _ _ _ c.requires.indexed.index p ∙ ap Some (sym value)) c.take_out.ensures.stored
+    stored_without _ _ _ _ _ c.requires.distinct (indexed_place _ _ _ _ c.requires.indexed.index p ∙ ap Some (sym value)) c.remove_at.ensures.stored
 
 pub returns-in-Ok-clause-indexed : goal.returns-in-Ok-clause-indexed
 returns-in-Ok-clause-indexed c =
     let n : c.len.result - c.args.front.now.entries ≡ length (drop c.args.front.now.entries c.args.entries.now.items) = omega (arith, c.len.ensures, live_count c.args.front.now.entries c.args.entries.now) in
     let p = placed _ _ _ _ _ _ _ _ _ c.deref.ensures.value (c.live.ensures ∙ ap (drop c.args.front.now.entries) c.deref-2.ensures.value) (ap (take (c.len.result - c.args.front.now.entries)) c.deref-3.ensures.value ∙ ap (λ (n : ℕ). take n c.args.order.now.items) n) c.new.ensures c.in-Ok.ensures.found in
     let value : c.leave-place.result ≡ get_or (take (length (drop c.args.front.now.entries c.args.entries.now.items)) c.args.order.now.items) c.in-Ok.at 0 = c.leave-place.ensures.value ∙ ap (λ (n : ℕ). get_or (take n c.args.order.now.items) c.in-Ok.at 0) n in
-    let left : take (length (drop c.take_out.new.front.entries c.take_out.new.entries.items)) c.take_out.new.order.items ≡ map (closed c.leave-place.result) (remove (take (length (drop c.args.front.now.entries c.args.entries.now.items)) c.args.order.now.items) c.in-Ok.at) =
-    c.take_out.ensures.index
+    let left : take (length (drop c.remove_at.new.front.entries c.remove_at.new.entries.items)) c.remove_at.new.order.items ≡ map (closed c.leave-place.result) (remove (take (length (drop c.args.front.now.entries c.args.entries.now.items)) c.args.order.now.items) c.in-Ok.at) =
+    c.remove_at.ensures.index
     ∙ (ap (λ (n : ℕ). take (n - 1) c.leave-place.new.order.items) (sym n)
     ∙ (c.leave-place.ensures.index
     ∙ ap (λ (n : ℕ). map (closed c.leave-place.result) (remove (take n c.args.order.now.items) c.in-Ok.at)) n)) in
@@ -78,20 +78,20 @@ returns-in-Ok-clause-gap c =
     let n : c.len.result - c.args.front.now.entries ≡ length (drop c.args.front.now.entries c.args.entries.now.items) = omega (arith, c.len.ensures, live_count c.args.front.now.entries c.args.entries.now) in
     let p = placed _ _ _ _ _ _ _ _ _ c.deref.ensures.value (c.live.ensures ∙ ap (drop c.args.front.now.entries) c.deref-2.ensures.value) (ap (take (c.len.result - c.args.front.now.entries)) c.deref-3.ensures.value ∙ ap (λ (n : ℕ). take n c.args.order.now.items) n) c.new.ensures c.in-Ok.ensures.found in
     let value : c.leave-place.result ≡ get_or (take (length (drop c.args.front.now.entries c.args.entries.now.items)) c.args.order.now.items) c.in-Ok.at 0 = c.leave-place.ensures.value ∙ ap (λ (n : ℕ). get_or (take n c.args.order.now.items) c.in-Ok.at 0) n in
-    let left : take (length (drop c.take_out.new.front.entries c.take_out.new.entries.items)) c.take_out.new.order.items ≡ map (closed c.leave-place.result) (remove (take (length (drop c.args.front.now.entries c.args.entries.now.items)) c.args.order.now.items) c.in-Ok.at) =
-    c.take_out.ensures.index
+    let left : take (length (drop c.remove_at.new.front.entries c.remove_at.new.entries.items)) c.remove_at.new.order.items ≡ map (closed c.leave-place.result) (remove (take (length (drop c.args.front.now.entries c.args.entries.now.items)) c.args.order.now.items) c.in-Ok.at) =
+    c.remove_at.ensures.index
     ∙ (ap (λ (n : ℕ). take (n - 1) c.leave-place.new.order.items) (sym n)
     ∙ (c.leave-place.ensures.index
     ∙ ap (λ (n : ℕ). map (closed c.leave-place.result) (remove (take n c.args.order.now.items) c.in-Ok.at)) n)) in
     gap_without _ _ _ _ _ _ _ _ c.requires.distinct c.requires.indexed.index p value left
-    (stored_without _ _ _ _ _ c.requires.distinct (indexed_place _ _ _ _ c.requires.indexed.index p ∙ ap Some (sym value)) c.take_out.ensures.stored)
+    (stored_without _ _ _ _ _ c.requires.distinct (indexed_place _ _ _ _ c.requires.indexed.index p ∙ ap Some (sym value)) c.remove_at.ensures.stored)
 
 pub returns-in-Ok-clause-marked : goal.returns-in-Ok-clause-marked
 returns-in-Ok-clause-marked c =
     let n : c.len.result - c.args.front.now.entries ≡ length (drop c.args.front.now.entries c.args.entries.now.items) = omega (arith, c.len.ensures, live_count c.args.front.now.entries c.args.entries.now) in
     let p = placed _ _ _ _ _ _ _ _ _ c.deref.ensures.value (c.live.ensures ∙ ap (drop c.args.front.now.entries) c.deref-2.ensures.value) (ap (take (c.len.result - c.args.front.now.entries)) c.deref-3.ensures.value ∙ ap (λ (n : ℕ). take n c.args.order.now.items) n) c.new.ensures c.in-Ok.ensures.found in
     let value : c.leave-place.result ≡ get_or (take (length (drop c.args.front.now.entries c.args.entries.now.items)) c.args.order.now.items) c.in-Ok.at 0 = c.leave-place.ensures.value ∙ ap (λ (n : ℕ). get_or (take n c.args.order.now.items) c.in-Ok.at 0) n in
-    c.take_out.ensures.marked ∙ marks_without _ _ _ c.requires.distinct (indexed_place _ _ _ _ c.requires.indexed.index p ∙ ap Some (sym value))
+    c.remove_at.ensures.marked ∙ marks_without _ _ _ c.requires.distinct (indexed_place _ _ _ _ c.requires.indexed.index p ∙ ap Some (sym value))
 
 pub returns-clause-value : goal.returns-clause-value
 returns-clause-value c =
