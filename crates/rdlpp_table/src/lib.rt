@@ -5,7 +5,7 @@ mod buckets;
 mod entry;
 mod fault;
 mod formals;
-mod front;
+mod given_up;
 mod header;
 mod index;
 mod kept;

@@ -8,7 +8,7 @@ ghost use Rattle.rdlpp_table.specs.Marks.{table_marks};
 ghost use Rattle.rdlpp_table.specs.Store.{live, macros_in, IsStored};
 
 use crate::entry::{ENTRY_BYTES, Entry, marks_len};
-use crate::front::{Front, live};
+use crate::given_up::{GivenUp, live};
 use crate::index::{leave, seek};
 use crate::buckets::{begin_sooner, bucket_of};
 use crate::lookup::{LookupKey, Steps};
@@ -130,7 +130,7 @@ pub(crate) fn size_of_entry(entry: &Entry) -> usize
 
 // Whether there is room behind for one more macro of so many bytes, or something is given up already, so that a move of all to the
 // front is due once the room behind is used up.
-fn has_room(bytes: &Vec<u8>, entries: &Vec<Entry>, front: &Front, size: usize) -> bool
+fn has_room(bytes: &Vec<u8>, entries: &Vec<Entry>, front: &GivenUp, size: usize) -> bool
     ensures { result ≡ (nat_lt 0 front.now.entries || nat_le size (vec_capacity bytes.now - vec_len bytes.now) && nat_lt (vec_len entries.now) (vec_capacity entries.now)) }
 {
     front.entries > 0
@@ -141,7 +141,7 @@ fn has_room(bytes: &Vec<u8>, entries: &Vec<Entry>, front: &Front, size: usize) -
 // third of what stands behind it, it is moved to the back, over the macro, and its old room at the front is given up; else what stands
 // behind the macro is moved to the front, and so it is where nothing is given up yet and there is no room for one more macro of this
 // size, which the next definition would have to make by a move of all.
-fn take_stored(bytes: &mut Vec<u8>, entries: &mut Vec<Entry>, front: &mut Front, place: usize)
+fn take_stored(bytes: &mut Vec<u8>, entries: &mut Vec<Entry>, front: &mut GivenUp, place: usize)
     requires stored { IsStored front.old.bytes front.old.marks bytes.old.items (live front.old.entries entries.old.items) (macros_in bytes.old.items (live front.old.entries entries.old.items)) }
     requires narrow { vec_capacity bytes.old < 2 ^ 32 }
     requires given_up { front.old.entries ≤ vec_len entries.old }
@@ -175,7 +175,7 @@ fn take_stored(bytes: &mut Vec<u8>, entries: &mut Vec<Entry>, front: &mut Front,
 fn remove_at(
     bytes: &mut Vec<u8>,
     entries: &mut Vec<Entry>,
-    front: &mut Front,
+    front: &mut GivenUp,
     order: &mut Vec<u16>,
     place: usize,
 )
@@ -200,7 +200,7 @@ fn remove_at(
 }
 
 // Moves all that isn't given up to the fronts of the lists, so that the room of what is given up lies behind it.
-pub(crate) fn settle(bytes: &mut Vec<u8>, entries: &mut Vec<Entry>, front: &mut Front)
+pub(crate) fn settle(bytes: &mut Vec<u8>, entries: &mut Vec<Entry>, front: &mut GivenUp)
     requires stored { IsStored front.old.bytes front.old.marks bytes.old.items (live front.old.entries entries.old.items) (macros_in bytes.old.items (live front.old.entries entries.old.items)) }
     requires given_up { front.old.entries ≤ vec_len entries.old }
     ensures stored { IsStored 0 0 bytes.new.items (live front.new.entries entries.new.items) (macros_in bytes.old.items (live front.old.entries entries.old.items)) }
@@ -215,7 +215,7 @@ pub(crate) fn settle(bytes: &mut Vec<u8>, entries: &mut Vec<Entry>, front: &mut 
         front.marks,
     );
     entries.truncate(entries.len() - front.entries);
-    *front = Front {
+    *front = GivenUp {
         bytes: 0,
         entries: 0,
         marks: 0,
@@ -227,7 +227,7 @@ pub(crate) fn settle(bytes: &mut Vec<u8>, entries: &mut Vec<Entry>, front: &mut 
 pub(crate) fn remove_named(
     bytes: &mut Vec<u8>,
     entries: &mut Vec<Entry>,
-    front: &mut Front,
+    front: &mut GivenUp,
     order: &mut Vec<u16>,
     bucket_starts: &mut [u32],
     name: &[u8],

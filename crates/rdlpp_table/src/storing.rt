@@ -35,7 +35,7 @@ ghost use Rattle.rdlpp_table.specs.NewMacro.{list_formals, new_macro, stops_told
 
 use crate::entry::Entry;
 use crate::formals::append_list;
-use crate::front::{Front, live};
+use crate::given_up::{GivenUp, live};
 use crate::index::{enter, place_in};
 use crate::kept::{FirstStops, first_stops};
 use crate::marks::{Listed, push_marks};
@@ -99,7 +99,7 @@ fn small_arity(arity: Option<usize>) -> Option<u8>
 fn put(
     bytes: &mut Vec<u8>,
     entries: &mut Vec<Entry>,
-    front: &Front,
+    front: &GivenUp,
     order: &mut Vec<u16>,
     new: &NewMacro,
 )
@@ -155,7 +155,7 @@ pub(crate) struct UsageWithout {
 pub(crate) fn usage_without(
     bytes: &[u8],
     entries: &[Entry],
-    front: &Front,
+    front: &GivenUp,
     order: &[u16],
     bucket_starts: &[u32],
     name: &[u8],
@@ -183,7 +183,7 @@ pub(crate) fn usage_without(
 }
 
 // Whether more bytes or more entries are given up at the fronts of a table's lists than are there.
-fn is_sparse(bytes: &Vec<u8>, entries: &Vec<Entry>, front: &Front) -> bool
+fn is_sparse(bytes: &Vec<u8>, entries: &Vec<Entry>, front: &GivenUp) -> bool
     requires { (front.now.bytes ≤ vec_len bytes.now) × (front.now.entries ≤ vec_len entries.now) }
     ensures { result ≡ (nat_lt (vec_len bytes.now - front.now.bytes) front.now.bytes || nat_lt (vec_len entries.now - front.now.entries) front.now.entries) }
 {
@@ -193,7 +193,7 @@ fn is_sparse(bytes: &Vec<u8>, entries: &Vec<Entry>, front: &Front) -> bool
 // Where there is no room behind for so many bytes or for one more entry, or more is given up than is there, all moves to the front:
 // room that was given up there becomes room behind. So no more is given up then than is there. A move is paid for by the last removal
 // that gave up room, which left in place three quarters or more of what there was, and by the definitions since.
-fn make_room(bytes: &mut Vec<u8>, entries: &mut Vec<Entry>, front: &mut Front, size: usize)
+fn make_room(bytes: &mut Vec<u8>, entries: &mut Vec<Entry>, front: &mut GivenUp, size: usize)
     requires stored { IsStored front.old.bytes front.old.marks bytes.old.items (live front.old.entries entries.old.items) (macros_in bytes.old.items (live front.old.entries entries.old.items)) }
     requires given_up { front.old.entries ≤ vec_len entries.old }
     requires room { table_size (macros_in bytes.old.items (live front.old.entries entries.old.items)) + size ≤ vec_capacity bytes.old }
@@ -217,7 +217,7 @@ fn make_room(bytes: &mut Vec<u8>, entries: &mut Vec<Entry>, front: &mut Front, s
 pub(crate) fn replace(
     bytes: &mut Vec<u8>,
     entries: &mut Vec<Entry>,
-    front: &mut Front,
+    front: &mut GivenUp,
     order: &mut Vec<u16>,
     bucket_starts: &mut [u32],
     new: &NewMacro,

@@ -15,7 +15,7 @@ ghost use Rattle.rdlpp_table.specs.View.{TableView, AreSoundFormals, IsSound, Is
 use crate::entry::{Entry, arity_in, body_in, listed_in, name_in};
 use crate::fault::{DefineFault, DefineKind, NoMemory, lexical, refusal};
 use crate::formals::read_list;
-use crate::front::{Front, live};
+use crate::given_up::{GivenUp, live};
 use crate::header::{after_space, leading_name, list_behind, unended};
 use crate::index::place_in;
 use crate::kept::known_stop;
@@ -40,7 +40,7 @@ pub struct Table {
     bytes: Vec<u8>,
     entries: Vec<Entry>,
     // What is given up at the fronts of the bytes and of the entries.
-    front: Front,
+    front: GivenUp,
     // The places of the entries, sorted by the parts in which their names stand, and then by name; and behind them where
     // the formals of each macro begin among their bytes, where these are long: two numbers for each formal.
     order: Vec<u16>,
@@ -121,7 +121,7 @@ impl Table {
         Ok(Table {
             bytes,
             entries,
-            front: Front {
+            front: GivenUp {
                 bytes: 0,
                 entries: 0,
                 marks: 0,

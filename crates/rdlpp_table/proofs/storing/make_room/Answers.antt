@@ -1,5 +1,5 @@
 use Rattle.std.proofs.Common.{◌≡◌, drop, ap, arith}
-use Rattle.rdlpp_table.specs.declared.front.Front.{Front}
+use Rattle.rdlpp_table.specs.declared.given_up.GivenUp.{GivenUp}
 use Rattle.rdlpp_table.proofs.Sizes.{count_items, length_macros_in, live_count}
 use Rattle.rdlpp_table.proofs.RoundTrip.{stored_count, stored_length}
 use Rattle.rdlpp_table.proofs.storing.make_room.Goals as goal
@@ -10,5 +10,5 @@ returns-then-capacity-len-clause-room c =
 
 pub returns-then-capacity-len-clause-entry_room : goal.returns-then-capacity-len-clause-entry_room
 returns-then-capacity-len-clause-entry_room c =
-    let front : c.settle.new.front.entries ≡ 0 = ap (λ (f : Front). f.entries) c.settle.ensures.front in
+    let front : c.settle.new.front.entries ≡ 0 = ap (λ (f : GivenUp). f.entries) c.settle.ensures.front in
     omega (arith, front, stored_count _ _ _ c.settle.ensures.stored, length_macros_in c.args.bytes.now.items (drop c.args.front.now.entries c.args.entries.now.items), live_count c.settle.new.front.entries c.settle.new.entries, c.requires.entry_room, c.settle.ensures.capacity.1, count_items c.settle.new.entries)

@@ -7,7 +7,7 @@ use crate::entry::Entry;
 // How many bytes and how many entries are given up, and how many marks the entries count that aren't there any more. An entry
 // counts its bytes and its marks from the front of all that was there, so that those behind stay as they are when a front is given up.
 #[derive(Clone, Copy, Drop)]
-pub(crate) struct Front {
+pub(crate) struct GivenUp {
     pub(crate) bytes: usize,
     pub(crate) entries: usize,
     pub(crate) marks: usize,
@@ -15,7 +15,7 @@ pub(crate) struct Front {
 
 // The entries that aren't given up.
 #[inline(always)]
-pub(crate) fn live<'a>(entries: &'a [Entry], front: &Front) -> &'a [Entry]
+pub(crate) fn live<'a>(entries: &'a [Entry], front: &GivenUp) -> &'a [Entry]
     requires { front.now.entries ≤ length entries.now }
     ensures { result.now ≡ live front.now.entries entries.now }
 {
