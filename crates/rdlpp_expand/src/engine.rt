@@ -15,7 +15,7 @@ ghost use Rattle.rdlpp_read.specs.Filling.{Fills, is_failed};
 ghost use Rattle.rdlpp_read.specs.LogicalLines.{HoldsLine, is_failed_line};
 ghost use Rattle.rdlpp_texts.specs.Places.{IsPlaced as IsTextPlaced, place_bytes};
 ghost use Rattle.rdlpp_front.specs.Names.{IsWordBytes};
-ghost use Rattle.rdlpp_front.specs.Fronts.{IsDirective, IsNamed, IsText, IsUsage, usage_name};
+ghost use Rattle.rdlpp_front.specs.SourceItems.{IsDirective, IsNamed, IsText, IsUsage, usage_name};
 ghost use Rattle.rdlpp_usages.specs.Usages.{IsRoomy};
 ghost use Rattle.rdlpp_state.specs.Conditionals.{unclosed_fault};
 ghost use Rattle.rdlpp_state.specs.Engine.{AreOpenTexts, EngineView, IsSoundEngine};
@@ -49,7 +49,7 @@ mod words;
 use arrayvec::ArrayString;
 pub use looking::OpenSource;
 use rdlpp_conditions::Conditions;
-use rdlpp_front::{Argument, Front, front_of};
+use rdlpp_front::{Argument, SourceItem, next_item};
 use rdlpp_meaning::{Fault, FaultKind};
 use rdlpp_read::{Files, Fill, LogicalLine};
 use rdlpp_scan::{Directive, Mode, line_ends_in, reserved};
@@ -378,19 +378,19 @@ impl<S: Sources> Engine<S> {
         ensures walks { IsBounded self.new → Walks S.Sources self.old self.new (step_answer self.new result) }
     {
         let buffer = &self.files.file().buffer;
-        match front_of(buffer.mode(), buffer.held()) {
-            Front::Text(..) => unreachable!(),
-            Front::Usage(len) => self.expand(len),
-            Front::Define => self.define_line(),
-            Front::Undef(argument) => self.undefine(argument),
-            Front::Ifdef(argument) => self.open_conditional(true, argument),
-            Front::Ifndef(argument) => self.open_conditional(false, argument),
-            Front::Elsif(argument) => self.take_branch(Directive::Elsif, argument),
-            Front::Else => self.take_branch(Directive::Else, None),
-            Front::Endif => self.take_endif(),
-            Front::Include(argument) => self.take_include(argument),
-            Front::Line => self.take_line(),
-            Front::Refused(kind) => Some(self.refuse(kind, ArrayString::new())),
+        match next_item(buffer.mode(), buffer.held()) {
+            SourceItem::Text(..) => unreachable!(),
+            SourceItem::Usage(len) => self.expand(len),
+            SourceItem::Define => self.define_line(),
+            SourceItem::Undef(argument) => self.undefine(argument),
+            SourceItem::Ifdef(argument) => self.open_conditional(true, argument),
+            SourceItem::Ifndef(argument) => self.open_conditional(false, argument),
+            SourceItem::Elsif(argument) => self.take_branch(Directive::Elsif, argument),
+            SourceItem::Else => self.take_branch(Directive::Else, None),
+            SourceItem::Endif => self.take_endif(),
+            SourceItem::Include(argument) => self.take_include(argument),
+            SourceItem::Line => self.take_line(),
+            SourceItem::Refused(kind) => Some(self.refuse(kind, ArrayString::new())),
         }
     }
 

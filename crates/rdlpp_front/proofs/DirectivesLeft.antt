@@ -42,7 +42,7 @@ use Rattle.rdlpp_read.specs.declared.buffer.extending.LogicalLine.TheVariants.{W
 use Rattle.rdlpp_read.specs.declared.buffer.filling.Fill.TheVariants as fill
 use Rattle.rdlpp_read.specs.declared.files.File.{File}
 use Rattle.rdlpp_read.proofs.BufferTokens.{ends_line}
-use Rattle.rdlpp_front.specs.Fronts.{HasString, IsDirective, IsUsage, LacksString, argument_name, given_name, include_name, usage_name, word_of}
+use Rattle.rdlpp_front.specs.SourceItems.{HasString, IsDirective, IsUsage, LacksString, argument_name, given_name, include_name, usage_name, word_of}
 use Rattle.rdlpp_front.specs.SourceLeft.{HoldsFront, source_left, with_file_buffer}
 use Rattle.rdlpp_front.proofs.TextLeft.{consumed_used, counted, line_buffer, line_text, not_counted, usage_text, usage_tokens}
 use Rattle.rdlpp_front.proofs.NamedDirectives.{Bare, Begins, GivenInFront, IsGiven, blank_lead, directive_move, given_in_front_of, given_of, gone_blanks, gone_word, in_front_of, name_of_front, nothing_in_front_of, nothing_tokens, refused_move, stands_bare, wants_word, word_at, word_directive, word_token, word_tokens}

@@ -37,9 +37,9 @@ use Rattle.rdlpp_meaning.proofs.Outcomes.{behind_bytes-nil, fails-goes_on}
 use Rattle.rdlpp_meaning.proofs.Skipping.{all_copied_skipped, resumed_skipped, resumed_skipped_broken, resumed_skipped_broken_parts, resumed_skipped_parts}
 use Rattle.rdlpp_read.specs.Arguments.{IsLead, Lacks, Leads, NoName, NoString}
 use Rattle.rdlpp_read.specs.Buffer.{BufferView, ahead_of, entered_mode, held_of, rest_of, tokens_left}
-use Rattle.rdlpp_front.specs.Fronts.{AtOrdinary, AtToken, HasName, IsDirective, IsGivenString, IsNameBehind, IsNamed, IsStringBehind, IsText, IsUsage, NameBehind, StringBehind, argument_name, is_text_kind, usage_name, word_of}
+use Rattle.rdlpp_front.specs.SourceItems.{AtOrdinary, AtToken, HasName, IsDirective, IsGivenString, IsNameBehind, IsNamed, IsStringBehind, IsText, IsUsage, NameBehind, StringBehind, argument_name, is_text_kind, usage_name, word_of}
 use Rattle.rdlpp_front.specs.Names.{IsWordBytes}
-use Rattle.rdlpp_front.specs.declared.front.Argument.{Argument}
+use Rattle.rdlpp_front.specs.declared.item.Argument.{Argument}
 
 -- What the bytes at the front of a text tell of its first token.
 

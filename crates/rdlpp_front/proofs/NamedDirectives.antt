@@ -23,8 +23,8 @@ use Rattle.rdlpp_meaning.proofs.Skipping.{has_own_token}
 use Rattle.rdlpp_meaning.proofs.Directives.{all_resumed_move, blank_token, name_token, resumed_bad_undef, resumed_undef, takes_name, takes_name_at_once, takes_name_behind_blanks, wants_name}
 use Rattle.rdlpp_read.specs.Arguments.{IsLead, Leads, Lacks}
 use Rattle.rdlpp_read.specs.Buffer.{BufferView, held_of, rest_of, tokens_left}
-use Rattle.rdlpp_front.specs.Fronts.{HasName, IsDirective, IsNamed, LacksName, argument_name, given_by, given_len, given_name, word_of}
-use Rattle.rdlpp_front.specs.declared.front.Argument.{Argument as Given}
+use Rattle.rdlpp_front.specs.SourceItems.{HasName, IsDirective, IsNamed, LacksName, argument_name, given_by, given_len, given_name, word_of}
+use Rattle.rdlpp_front.specs.declared.item.Argument.{Argument as Given}
 use Rattle.rdlpp_front.specs.SourceLeft.{HoldsFront, source_left}
 use Rattle.rdlpp_front.proofs.Insides.{all_resumed_refused, name_inside, tokens_used, used_buffer, word_len}
 use Rattle.rdlpp_read.proofs.BufferTokens.{ends_line}

@@ -48,7 +48,7 @@ use Rattle.rdlpp_read.specs.declared.buffer.filling.Fill.{Fill}
 use Rattle.rdlpp_read.specs.declared.buffer.filling.Fill.TheVariants as fill
 use Rattle.rdlpp_read.specs.declared.files.File.{File}
 use Rattle.rdlpp_read.proofs.BufferTokens.{ends_line}
-use Rattle.rdlpp_front.specs.Fronts.{AtBare, AtOrdinary, AtPerl, AtToken, IsDirective, IsRefused, IsText, IsUsage, is_text_kind, usage_name, word_of}
+use Rattle.rdlpp_front.specs.SourceItems.{AtBare, AtOrdinary, AtPerl, AtToken, IsDirective, IsRefused, IsText, IsUsage, is_text_kind, usage_name, word_of}
 use Rattle.rdlpp_front.specs.SourceLeft.{HoldsFront, source_left, with_file_buffer}
 use Rattle.rdlpp_front.proofs.Insides.{Writes, all_resumed_bad_define, all_resumed_bare, all_resumed_defined, all_resumed_only_broken, all_resumed_undefined, back_front, back_text, live_writes, open_copied, skipped_writes, tokens_entered, tokens_plain, tokens_used, used_buffer, word_len, writes_one}
 

@@ -1,3 +1,3 @@
 pub mod Names
-pub mod Fronts
+pub mod SourceItems
 pub mod SourceLeft

@@ -4,7 +4,7 @@ ghost use Rattle.rdlpp_scan.specs.SourceTokens.{line_ends};
 ghost use Rattle.rdlpp_scan.specs.Tokens.{stops_plain_text};
 ghost use Rattle.rdlpp_scan.specs.declared.token.Kind.TheVariants.{LineComment};
 ghost use Rattle.rdlpp_scan.specs.declared.token.Mode.TheVariants.{Plain};
-ghost use Rattle.rdlpp_front.specs.Fronts.{IsText};
+ghost use Rattle.rdlpp_front.specs.SourceItems.{IsText};
 
 use rdlpp_scan::{Kind, Mode, first_token, line_ends_in, plain_text, stops_plain_text};
 
@@ -22,7 +22,7 @@ pub struct Copied {
 /// The text that is copied with which held bytes begin: ordinary text, or a string or a comment, or
 /// the part of one that is held; `None` where none stands there, but a backquote or `<%`.
 ///
-/// It answers what `front_of` answers as `Front::Text`, with the count of the line ends in it, in one
+/// It answers what `next_item` answers as `SourceItem::Text`, with the count of the line ends in it, in one
 /// pass over ordinary text. There must be such bytes.
 ///
 /// Costs time linear in the bytes of the answer.

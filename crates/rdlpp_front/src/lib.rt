@@ -2,7 +2,7 @@
 #![tactic(auto)]
 
 mod copied;
-mod front;
+mod item;
 
 pub use copied::{Copied, copied_text};
-pub use front::{Argument, Front, front_of};
+pub use item::{Argument, SourceItem, next_item};

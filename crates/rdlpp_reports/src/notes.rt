@@ -7,7 +7,7 @@ use crate::left_out::is_left_out;
 use crate::writing::{write_parts, write_whole};
 use itoa::Buffer;
 use rdlpp_expand::{Engine, Fault, FaultKind};
-use rdlpp_front::{Front, front_of};
+use rdlpp_front::{SourceItem, next_item};
 use rdlpp_scan::Mode;
 use rdlpp_source::{SearchedFolders, Sources, joined_path};
 use rdlpp_table::{Limits, MacroId};
@@ -218,7 +218,7 @@ fn asked_name(front: &[u8]) -> Option<&str> {
     if front.is_empty() {
         return None;
     }
-    let Front::Include(Some(argument)) = front_of(Mode::Plain, front) else {
+    let SourceItem::Include(Some(argument)) = next_item(Mode::Plain, front) else {
         return None;
     };
     let stop = argument.stop.saturating_sub(1).min(front.len());

@@ -35,9 +35,9 @@ use Rattle.rdlpp_read.specs.declared.buffer.extending.LogicalLine.TheVariants as
 use Rattle.rdlpp_read.specs.declared.files.File.{File}
 use Rattle.rdlpp_read.proofs.Growing.{line_ends_le}
 use Rattle.rdlpp_read.proofs.BufferTokens.{slides-told}
-use Rattle.rdlpp_front.specs.Fronts.{AtBare, AtPerl, IsDirective, IsNamed, IsRefused, IsText, given_by, given_len, given_name, word_of}
+use Rattle.rdlpp_front.specs.SourceItems.{AtBare, AtPerl, IsDirective, IsNamed, IsRefused, IsText, given_by, given_len, given_name, word_of}
 use Rattle.rdlpp_front.specs.SourceLeft.{source_left}
-use Rattle.rdlpp_front.specs.declared.front.Argument.{Argument}
+use Rattle.rdlpp_front.specs.declared.item.Argument.{Argument}
 use Rattle.rdlpp_front.proofs.DirectivesLeft.{Branches, Ends, Opens as OpensWord, Turns, is_stray, opening_wants}
 use Rattle.rdlpp_front.proofs.TextLeft.{bad_line_left, given_text, late_line_left, line_behind, line_inside, line_text, renumbered_left}
 use Rattle.rdlpp_front.proofs.Insides.{held_entered, text_inside, usage_inside}

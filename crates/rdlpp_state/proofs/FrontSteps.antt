@@ -31,7 +31,7 @@ use Rattle.rdlpp_read.specs.declared.buffer.extending.LogicalLine.TheVariants as
 use Rattle.rdlpp_read.specs.declared.buffer.filling.Fill.TheVariants as fill
 use Rattle.rdlpp_read.specs.declared.files.File.{File}
 use Rattle.rdlpp_read.proofs.Growing.{line_ends_le}
-use Rattle.rdlpp_front.specs.Fronts.{AtBare, AtPerl, IsDirective, IsRefused, IsText, IsUsage, usage_name}
+use Rattle.rdlpp_front.specs.SourceItems.{AtBare, AtPerl, IsDirective, IsRefused, IsText, IsUsage, usage_name}
 use Rattle.rdlpp_front.proofs.Insides.{held_entered, text_inside}
 use Rattle.rdlpp_conditions.specs.Conditions.{ConditionsView}
 use Rattle.rdlpp_state.specs.Calls.{SourcesCalled}

@@ -35,7 +35,7 @@ use Rattle.rdlpp_read.specs.Filling.{Fills, ended_tokens, only_broken}
 use Rattle.rdlpp_read.specs.declared.buffer.filling.Fill.TheVariants as fill
 use Rattle.rdlpp_read.specs.declared.files.File.{File}
 use Rattle.rdlpp_read.proofs.BufferTokens.{ended-text}
-use Rattle.rdlpp_front.specs.Fronts.{HasString, LacksString, include_name, word_of}
+use Rattle.rdlpp_front.specs.SourceItems.{HasString, LacksString, include_name, word_of}
 use Rattle.rdlpp_front.specs.SourceLeft.{source_left}
 use Rattle.rdlpp_front.proofs.TextLeft.{ended_left}
 use Rattle.rdlpp_front.proofs.DirectivesLeft.{include_absent_left, include_bad_left, include_deep_left, include_left, include_nameless_left, include_overlong_left, waiting_file}

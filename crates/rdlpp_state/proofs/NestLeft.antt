@@ -30,7 +30,7 @@ use Rattle.rdlpp_read.specs.declared.buffer.extending.LogicalLine.TheVariants as
 use Rattle.rdlpp_read.specs.declared.buffer.filling.Fill.TheVariants as fill
 use Rattle.rdlpp_read.specs.declared.files.File.{File}
 use Rattle.rdlpp_read.proofs.BufferTokens.{torn_after-append}
-use Rattle.rdlpp_front.specs.Fronts.{IsDirective, IsRefused, IsText, IsUsage, given_name, usage_name, word_of}
+use Rattle.rdlpp_front.specs.SourceItems.{IsDirective, IsRefused, IsText, IsUsage, given_name, usage_name, word_of}
 use Rattle.rdlpp_front.specs.SourceLeft.{HoldsFront, source_left, with_file_buffer}
 use Rattle.rdlpp_front.proofs.DirectivesLeft.{Counts, Turns, branched, closed_left, counted_left, is_stray, opening_left, skipped_broken_left, stray_left, tested, turned_left}
 use Rattle.rdlpp_front.proofs.TextLeft.{broken_left, define_cut_left, define_left, define_long_left, define_refused_left, ended_left, filled_left, held_left, holds_define, refused_left, text_left as text_law, undefined_left}

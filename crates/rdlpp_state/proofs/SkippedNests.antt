@@ -46,7 +46,7 @@ use Rattle.rdlpp_read.specs.declared.buffer.extending.LogicalLine.TheVariants as
 use Rattle.rdlpp_read.specs.declared.buffer.filling.Fill.TheVariants as fill
 use Rattle.rdlpp_read.specs.declared.files.File.{File}
 use Rattle.rdlpp_read.proofs.BufferTokens.{consumed_ends}
-use Rattle.rdlpp_front.specs.Fronts.{AtOrdinary, AtToken, IsDirective, IsText, IsUsage, is_text_kind, word_of}
+use Rattle.rdlpp_front.specs.SourceItems.{AtOrdinary, AtToken, IsDirective, IsText, IsUsage, is_text_kind, word_of}
 use Rattle.rdlpp_front.specs.SourceLeft.{HoldsFront, source_left, with_file_buffer}
 use Rattle.rdlpp_front.proofs.TextLeft.{holds_define, line_text, perl_tokens, skipped_text_left, unclosed_left}
 use Rattle.rdlpp_front.proofs.Insides.{back_front, back_text, bare_at_front, held_used, named_word, stops_at_front, text_at_front, tokens_entered, tokens_plain, tokens_used, usage_word, used_buffer, word_len}

@@ -30,7 +30,7 @@ use Rattle.rdlpp_read.specs.Buffer.{BufferView, closed_buffer, held_of, reading_
 use Rattle.rdlpp_read.specs.Files.{FilesView, consumed_file, inner_buffer, source_digits, torn_after, with_inner}
 use Rattle.rdlpp_read.specs.declared.files.File.{File}
 use Rattle.rdlpp_read.proofs.BufferTokens.{moves-told, torn_after-append}
-use Rattle.rdlpp_front.specs.Fronts.{IsUsage, usage_name}
+use Rattle.rdlpp_front.specs.SourceItems.{IsUsage, usage_name}
 use Rattle.rdlpp_front.proofs.Insides.{usage_inside}
 use Rattle.rdlpp_usages.specs.Usages.{ExpansionView, IsExactOpening, IsRoomy, IsRun, KeepsUsage, StaysAt, StaysLent, StaysOpen, TakesUsageStep, TellsUsage, UsesSource, inner_left, is_opened, is_usage_fault, texts_left}
 use Rattle.rdlpp_usages.specs.declared.expansion.Opening.{Opening}

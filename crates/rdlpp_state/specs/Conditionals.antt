@@ -13,8 +13,8 @@ use Rattle.rdlpp_meaning.specs.State.{State, fault_at}
 use Rattle.rdlpp_conditions.specs.Conditions.{ConditionsView, conditions_left}
 use Rattle.rdlpp_conditions.specs.Moves.{opened_with}
 use Rattle.rdlpp_read.specs.Files.{consumed_file, inner_buffer, with_inner}
-use Rattle.rdlpp_front.specs.Fronts.{IsDirective, IsNamed, IsUsage, word_of}
-use Rattle.rdlpp_front.specs.declared.front.Argument.{Argument}
+use Rattle.rdlpp_front.specs.SourceItems.{IsDirective, IsNamed, IsUsage, word_of}
+use Rattle.rdlpp_front.specs.declared.item.Argument.{Argument}
 use Rattle.rdlpp_state.specs.Engine.{EngineView}
 use Rattle.rdlpp_state.specs.OpenConditionals.{inner_shown}
 use Rattle.rdlpp_state.specs.Owed.{line_ends_owed}

@@ -14,7 +14,7 @@ use Rattle.rdlpp_meaning.specs.declared.fault.FaultKind.TheVariants.{IncludeName
 use Rattle.rdlpp_read.specs.Buffer.{held_of}
 use Rattle.rdlpp_read.specs.Files.{consumed_file, entered_file, inner_buffer, shift_of, with_inner}
 use Rattle.rdlpp_read.specs.declared.files.File.{File}
-use Rattle.rdlpp_front.specs.Fronts.{HasString, include_name}
+use Rattle.rdlpp_front.specs.SourceItems.{HasString, include_name}
 use Rattle.rdlpp_state.specs.Calls.{SourcesCalled}
 use Rattle.rdlpp_state.specs.Engine.{EngineView}
 use Rattle.rdlpp_state.specs.Marks.{MarksView, ends_line}

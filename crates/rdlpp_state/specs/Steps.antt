@@ -11,7 +11,7 @@ use Rattle.rdlpp_meaning.specs.Outcome.{Told, Outcome, gives, fails, and_then}
 use Rattle.rdlpp_read.specs.Buffer.{BufferView, Slides, held_of, reading_line_of}
 use Rattle.rdlpp_table.specs.Table.{Macro, macro_named}
 use Rattle.rdlpp_read.specs.Files.{consumed_file, inner_buffer, with_buffer, with_inner}
-use Rattle.rdlpp_front.specs.Fronts.{IsUsage, usage_name}
+use Rattle.rdlpp_front.specs.SourceItems.{IsUsage, usage_name}
 use Rattle.rdlpp_usages.specs.Usages.{KeepsUsage, UsesSource, is_opened}
 use Rattle.rdlpp_usages.specs.declared.expansion.Opening.{Opening}
 use Rattle.rdlpp_state.specs.Calls.{SourcesCalled}

@@ -3,7 +3,7 @@
 use crate::runs::STANDARD;
 use rdlpp::{FaultKind, Limits, Sink, SinkFault, Sources, Texts};
 use rdlpp_expand::{Engine, Piece, run};
-use rdlpp_front::{Front, front_of};
+use rdlpp_front::{SourceItem, next_item};
 use rdlpp_read::{Files, Fill, LogicalLine};
 use rdlpp_scan::{Mode, line_ends_in};
 use std::test::Fail;
@@ -326,19 +326,19 @@ fn take_front<S: Sources>(
     if buffer.held().is_empty() {
         return Ok(false);
     }
-    match front_of(buffer.mode(), buffer.held()) {
-        Front::Text(len, next) => lend_text(nest, parts, len, next),
-        Front::Usage(len) => lend_usage(nest, parts, len),
-        Front::Define => pass_define(nest, sources, parts),
-        Front::Undef(Some(argument)) => Ok(pass(nest, argument.stop)),
-        Front::Include(Some(argument)) => {
+    match next_item(buffer.mode(), buffer.held()) {
+        SourceItem::Text(len, next) => lend_text(nest, parts, len, next),
+        SourceItem::Usage(len) => lend_usage(nest, parts, len),
+        SourceItem::Define => pass_define(nest, sources, parts),
+        SourceItem::Undef(Some(argument)) => Ok(pass(nest, argument.stop)),
+        SourceItem::Include(Some(argument)) => {
             Ok(pass(nest, argument.stop) && open(nest, sources, "j"))
         }
         _ => Ok(false),
     }
 }
 
-// The pieces that a source of known pieces is to be lent in, up to its end or its fault: what is held begins with what `front_of`
+// The pieces that a source of known pieces is to be lent in, up to its end or its fault: what is held begins with what `next_item`
 // says, and the line ends of text that is copied are counted behind it, as in an engine that doesn't ask `copied_text`.
 fn wanted<R: AllocGlobal, S: Sources>(
     rt: &R,
@@ -371,7 +371,7 @@ fn has_part(bytes: &[u8], part: &[u8]) -> bool {
     false
 }
 
-// An engine lends a source of known pieces as `front_of` cuts it. A short line is read in more than one part, so that strings and
+// An engine lends a source of known pieces as `next_item` cuts it. A short line is read in more than one part, so that strings and
 // comments are lent in parts too.
 #[test]
 fn lends_what_is_wanted(rt: HostRuntime) -> Result<(), Fail> {

@@ -44,7 +44,7 @@ use Rattle.rdlpp_read.specs.Buffer.{BufferView, EndsHeld, MovesOver, ahead_of, h
 use Rattle.rdlpp_read.specs.Files.{consumed_file, inner_buffer, torn_after, with_inner}
 use Rattle.rdlpp_read.specs.declared.files.File.{File}
 use Rattle.rdlpp_read.proofs.BufferTokens.{moves-on, moves-past, moves-told, text-on, text-past}
-use Rattle.rdlpp_front.specs.Fronts.{IsUsage, usage_name}
+use Rattle.rdlpp_front.specs.SourceItems.{IsUsage, usage_name}
 use Rattle.rdlpp_front.specs.SourceLeft.{HoldsFront, source_left}
 use Rattle.rdlpp_front.proofs.TextLeft.{usage_left, usage_text}
 use Rattle.rdlpp_usages.specs.CallReads.{IsCallOf, IsExactCall, MeansCall, ReadsCall, TellsCall, is_read_fault, with_used}

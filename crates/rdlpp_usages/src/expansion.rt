@@ -13,7 +13,7 @@ ghost use Rattle.rdlpp_texts.specs.Opened.{bound_by, usage_id};
 ghost use Rattle.rdlpp_texts.specs.Places.{texts_of};
 ghost use Rattle.rdlpp_texts.specs.Scopes.{innermost_place};
 ghost use Rattle.rdlpp_texts.specs.Steps.{AreSound};
-ghost use Rattle.rdlpp_front.specs.Fronts.{IsUsage, usage_name};
+ghost use Rattle.rdlpp_front.specs.SourceItems.{IsUsage, usage_name};
 ghost use Rattle.rdlpp_usages.specs.Usages.{BindsKept, IsOpenAlone, IsRun, KeepsOpening, KeepsUsage, TakesUsageStep, TellsCallUsage, TellsUsage, UsesCall, UsesSource, IsRoomy, is_failed_opening, is_opened, IsUsageFault, IsOwnLine};
 
 use crate::{ArgumentStore, CallRead, read_call};

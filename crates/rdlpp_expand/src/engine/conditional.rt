@@ -5,7 +5,7 @@ ghost use Rattle.rdlpp_conditions.specs.Conditions.{place_of};
 ghost use Rattle.rdlpp_conditions.specs.Moves.{IsBranch, turned_with};
 ghost use Rattle.rdlpp_read.specs.Buffer.{held_of};
 ghost use Rattle.rdlpp_read.specs.Files.{inner_buffer};
-ghost use Rattle.rdlpp_front.specs.Fronts.{IsDirective, IsNamed, given_len};
+ghost use Rattle.rdlpp_front.specs.SourceItems.{IsDirective, IsNamed, given_len};
 ghost use Rattle.rdlpp_state.specs.Conditionals.{IsGivenBranch, OpensOne, goes_past, opening_word, test_of};
 ghost use Rattle.rdlpp_state.specs.Held.{IsBounded};
 ghost use Rattle.rdlpp_state.specs.Moves.{IsReady};

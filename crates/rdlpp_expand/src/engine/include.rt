@@ -3,7 +3,7 @@ ghost use Rattle.std.specs.Prelude.{◌≡◌, ◌<◌, ◌≤◌, None, IfNone,
 ghost use Rattle.rdlpp_meaning.specs.Meaning.{unquoted};
 ghost use Rattle.rdlpp_read.specs.Buffer.{held_of};
 ghost use Rattle.rdlpp_read.specs.Files.{inner_buffer};
-ghost use Rattle.rdlpp_front.specs.Fronts.{HasString, IsGivenString, include_name};
+ghost use Rattle.rdlpp_front.specs.SourceItems.{HasString, IsGivenString, include_name};
 ghost use Rattle.rdlpp_state.specs.Held.{IsBounded};
 ghost use Rattle.rdlpp_state.specs.Includes.{Sought, included_engine, is_bad_name, left_engine};
 ghost use Rattle.rdlpp_state.specs.Moves.{IsReady};

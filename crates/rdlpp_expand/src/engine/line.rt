@@ -4,7 +4,7 @@ ghost use Rattle.rdlpp_scan.specs.declared.token.Directive.TheVariants.{Line};
 ghost use Rattle.rdlpp_read.specs.Buffer.{held_of};
 ghost use Rattle.rdlpp_read.specs.Arguments.{IsLineGiven};
 ghost use Rattle.rdlpp_read.specs.Files.{inner_buffer, with_inner};
-ghost use Rattle.rdlpp_front.specs.Fronts.{IsDirective};
+ghost use Rattle.rdlpp_front.specs.SourceItems.{IsDirective};
 ghost use Rattle.rdlpp_state.specs.Held.{IsBounded};
 ghost use Rattle.rdlpp_state.specs.Lines.{Renumbers, renumbered_file};
 ghost use Rattle.rdlpp_state.specs.Moves.{IsReady};

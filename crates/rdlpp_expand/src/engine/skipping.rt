@@ -3,7 +3,7 @@ ghost use Rattle.std.specs.Prelude.{◌≡◌, ◌≢◌, ◌+◌, ◌<◌, ◌�
 ghost use Rattle.rdlpp_scan.specs.declared.token.Directive.TheVariants.{Define, Line};
 ghost use Rattle.rdlpp_read.specs.Buffer.{held_of};
 ghost use Rattle.rdlpp_read.specs.Files.{inner_buffer};
-ghost use Rattle.rdlpp_front.specs.Fronts.{IsDirective, IsRefused, IsText, word_of};
+ghost use Rattle.rdlpp_front.specs.SourceItems.{IsDirective, IsRefused, IsText, word_of};
 ghost use Rattle.rdlpp_state.specs.Conditionals.{IsSkippedWord, opening_word, passes_over};
 ghost use Rattle.rdlpp_state.specs.Held.{IsBounded};
 ghost use Rattle.rdlpp_state.specs.Moves.{IsReady};
@@ -15,7 +15,7 @@ use super::Engine;
 use super::words::{IFDEF_BYTES, IFNDEF_BYTES, INCLUDE_BYTES, UNDEF_BYTES};
 use arrayvec::ArrayString;
 use rdlpp_conditions::skip_text;
-use rdlpp_front::{Front, front_of};
+use rdlpp_front::{SourceItem, next_item};
 use rdlpp_meaning::FaultKind;
 use rdlpp_read::LogicalLine;
 use rdlpp_scan::{Directive, Mode, line_ends_in, line_len};
@@ -51,19 +51,19 @@ impl<S: Sources> Engine<S> {
         ensures walks { IsBounded self.new → Walks S.Sources self.old self.new (step_answer self.new result) }
     {
         let buffer = &self.files.file().buffer;
-        match front_of(buffer.mode(), buffer.held()) {
-            Front::Text(len, next) => self.skip_part(len, next),
-            Front::Ifdef(_) => self.skip_opening(true),
-            Front::Ifndef(_) => self.skip_opening(false),
-            Front::Elsif(argument) => self.take_branch(Directive::Elsif, argument),
-            Front::Else => self.take_branch(Directive::Else, None),
-            Front::Endif => self.take_endif(),
-            Front::Define => self.skip_define(),
-            Front::Line => self.skip_line(),
-            Front::Refused(kind) => self.skip_refused(kind),
-            Front::Usage(len) => self.skip_word(len),
-            Front::Undef(_) => self.skip_word(UNDEF_BYTES),
-            Front::Include(_) => self.skip_word(INCLUDE_BYTES),
+        match next_item(buffer.mode(), buffer.held()) {
+            SourceItem::Text(len, next) => self.skip_part(len, next),
+            SourceItem::Ifdef(_) => self.skip_opening(true),
+            SourceItem::Ifndef(_) => self.skip_opening(false),
+            SourceItem::Elsif(argument) => self.take_branch(Directive::Elsif, argument),
+            SourceItem::Else => self.take_branch(Directive::Else, None),
+            SourceItem::Endif => self.take_endif(),
+            SourceItem::Define => self.skip_define(),
+            SourceItem::Line => self.skip_line(),
+            SourceItem::Refused(kind) => self.skip_refused(kind),
+            SourceItem::Usage(len) => self.skip_word(len),
+            SourceItem::Undef(_) => self.skip_word(UNDEF_BYTES),
+            SourceItem::Include(_) => self.skip_word(INCLUDE_BYTES),
         }
     }
 

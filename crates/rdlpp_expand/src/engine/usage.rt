@@ -4,7 +4,7 @@ ghost use Rattle.rdlpp_table.specs.Table.{macro_named};
 ghost use Rattle.rdlpp_table.specs.View.{macro_at};
 ghost use Rattle.rdlpp_read.specs.Buffer.{held_of};
 ghost use Rattle.rdlpp_read.specs.Files.{inner_buffer};
-ghost use Rattle.rdlpp_front.specs.Fronts.{IsUsage, usage_name};
+ghost use Rattle.rdlpp_front.specs.SourceItems.{IsUsage, usage_name};
 ghost use Rattle.rdlpp_state.specs.Held.{IsBounded};
 ghost use Rattle.rdlpp_state.specs.Moves.{IsReady};
 ghost use Rattle.rdlpp_state.specs.Standing.{OpensUsage};

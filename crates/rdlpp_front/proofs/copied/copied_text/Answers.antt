@@ -1,6 +1,6 @@
 use Rattle.std.proofs.Common.{ℕ, sym, subst, IfNone}
 use Rattle.rdlpp_scan.specs.declared.token.Mode.{Mode}
-use Rattle.rdlpp_front.specs.Fronts.{IsText}
+use Rattle.rdlpp_front.specs.SourceItems.{IsText}
 use Rattle.rdlpp_front.proofs.copied.copied_text.Goals as goal
 
 pub returns-in-Plain-clause-none : goal.returns-in-Plain-clause-none

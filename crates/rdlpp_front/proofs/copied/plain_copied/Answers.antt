@@ -1,5 +1,5 @@
 use Rattle.std.proofs.Common.{sym, refl, arith}
-use Rattle.rdlpp_front.specs.Fronts.{AtOrdinary}
+use Rattle.rdlpp_front.specs.SourceItems.{AtOrdinary}
 use Rattle.rdlpp_front.proofs.Insides.{no_text_at_backquote, plain_some}
 use Rattle.rdlpp_front.proofs.copied.plain_copied.Goals as goal
 

@@ -1,7 +1,7 @@
 use Rattle.std.proofs.Common.{◌≡◌, ◌∙◌, take, sym, subst, ap}
 use Rattle.rdlpp_scan.specs.declared.token.Token.{Token}
 use Rattle.rdlpp_scan.specs.SourceTokens.{line_ends}
-use Rattle.rdlpp_front.specs.Fronts.{AtToken, is_text_kind}
+use Rattle.rdlpp_front.specs.SourceItems.{AtToken, is_text_kind}
 use Rattle.rdlpp_front.proofs.Insides.{comment_without_ends, no_text, perl_kind, text_at_front}
 use Rattle.rdlpp_front.proofs.copied.token_copied.Goals as goal
 

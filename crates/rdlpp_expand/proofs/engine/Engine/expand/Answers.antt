@@ -3,7 +3,7 @@ use Rattle.rdlpp_table.specs.Table.{macro_named}
 use Rattle.rdlpp_meaning.specs.declared.fault.FaultKind.TheVariants as fault
 use Rattle.rdlpp_read.specs.Buffer.{held_of}
 use Rattle.rdlpp_read.specs.Files.{inner_buffer}
-use Rattle.rdlpp_front.specs.Fronts.{usage_name}
+use Rattle.rdlpp_front.specs.SourceItems.{usage_name}
 use Rattle.rdlpp_front.proofs.Insides.{usage_inside, usage_word}
 use Rattle.rdlpp_state.proofs.EngineSteps.{not_called}
 use Rattle.rdlpp_state.proofs.FrontSteps.{kept_cut, left_undefined, read_nothing, refuses}

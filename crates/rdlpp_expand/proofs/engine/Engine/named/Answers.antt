@@ -3,8 +3,8 @@ use Rattle.rdlpp_scan.specs.Reserved.{is_reserved}
 use Rattle.rdlpp_meaning.specs.declared.fault.FaultKind.TheVariants.{NameExpected, ReservedName}
 use Rattle.rdlpp_read.specs.Buffer.{held_of}
 use Rattle.rdlpp_read.specs.Files.{inner_buffer}
-use Rattle.rdlpp_front.specs.Fronts.{IsNamed, argument_name, given_name}
-use Rattle.rdlpp_front.specs.declared.front.Argument.{Argument}
+use Rattle.rdlpp_front.specs.SourceItems.{IsNamed, argument_name, given_name}
+use Rattle.rdlpp_front.specs.declared.item.Argument.{Argument}
 use Rattle.rdlpp_front.proofs.Insides.{name_word}
 use Rattle.rdlpp_state.specs.Moves.{LooksAtName}
 use Rattle.rdlpp_state.proofs.FrontSteps.{kept_cut}

@@ -3,7 +3,7 @@ use Rattle.rdlpp_table.specs.Table.{macro_named}
 use Rattle.rdlpp_table.specs.View.{macro_at}
 use Rattle.rdlpp_read.specs.Buffer.{held_of}
 use Rattle.rdlpp_read.specs.Files.{inner_buffer}
-use Rattle.rdlpp_front.specs.Fronts.{IsNamed, argument_name}
+use Rattle.rdlpp_front.specs.SourceItems.{IsNamed, argument_name}
 use Rattle.rdlpp_state.specs.Conditionals.{OpensOne, opening_word, test_of}
 use Rattle.rdlpp_state.specs.Moves.{LooksAtName}
 use Rattle.rdlpp_state.proofs.DirectiveSteps.{found_by, opening_named, opening_unnamed}

@@ -1,7 +1,7 @@
 use Rattle.std.proofs.Common.{◌≡◌, take, ap, ◌∙◌, subst, arith}
 use Rattle.rdlpp_read.specs.Buffer.{held_of}
 use Rattle.rdlpp_read.specs.Files.{inner_buffer}
-use Rattle.rdlpp_front.specs.Fronts.{usage_name}
+use Rattle.rdlpp_front.specs.SourceItems.{usage_name}
 use Rattle.rdlpp_front.proofs.Insides.{usage_word}
 use Rattle.rdlpp_usages.specs.declared.expansion.Opening.{Opening}
 use Rattle.rdlpp_state.specs.Standing.{OpensUsage}

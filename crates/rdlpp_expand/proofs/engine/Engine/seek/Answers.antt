@@ -1,5 +1,5 @@
 use Rattle.std.proofs.Common.{◌≡◌, ◌<◌, Ok, Err, false, length, sym, ap, ◌∙◌}
-use Rattle.rdlpp_front.specs.Fronts.{include_name}
+use Rattle.rdlpp_front.specs.SourceItems.{include_name}
 use Rattle.rdlpp_read.specs.Buffer.{held_of}
 use Rattle.rdlpp_read.specs.Files.{inner_buffer}
 use Rattle.rdlpp_state.specs.Includes.{Refuses, inner_path, is_bad_name}

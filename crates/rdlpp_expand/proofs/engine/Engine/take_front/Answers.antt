@@ -1,7 +1,7 @@
 use Rattle.std.proofs.Common.{◌≡◌, [], ap, ◌∙◌}
 use Rattle.rdlpp_read.specs.Buffer.{held_of}
 use Rattle.rdlpp_read.specs.Files.{inner_buffer}
-use Rattle.rdlpp_front.specs.Fronts.{IsRefused}
+use Rattle.rdlpp_front.specs.SourceItems.{IsRefused}
 use Rattle.rdlpp_state.proofs.EngineSteps.{not_called}
 use Rattle.rdlpp_state.proofs.FrontSteps.{left_refused, read_nothing, refused_kind, refuses}
 use Rattle.rdlpp_expand.proofs.engine.Engine.take_front.Goals as goal

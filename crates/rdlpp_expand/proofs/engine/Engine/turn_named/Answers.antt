@@ -3,7 +3,7 @@ use Rattle.rdlpp_table.specs.Table.{macro_named}
 use Rattle.rdlpp_table.specs.View.{macro_at}
 use Rattle.rdlpp_read.specs.Buffer.{held_of}
 use Rattle.rdlpp_read.specs.Files.{inner_buffer}
-use Rattle.rdlpp_front.specs.Fronts.{argument_name}
+use Rattle.rdlpp_front.specs.SourceItems.{argument_name}
 use Rattle.rdlpp_front.proofs.NamedDirectives.{begins_within}
 use Rattle.rdlpp_conditions.specs.Moves.{turned_with}
 use Rattle.rdlpp_conditions.specs.declared.conditions.Branch.TheVariants.{Named}

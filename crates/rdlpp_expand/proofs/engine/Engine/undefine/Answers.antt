@@ -3,7 +3,7 @@ use Rattle.rdlpp_scan.specs.declared.token.Directive.TheVariants.{Undef}
 use Rattle.rdlpp_table.specs.Table.{without}
 use Rattle.rdlpp_read.specs.Buffer.{held_of}
 use Rattle.rdlpp_read.specs.Files.{consumed_file, inner_buffer, with_inner}
-use Rattle.rdlpp_front.specs.Fronts.{IsNamed, argument_name}
+use Rattle.rdlpp_front.specs.SourceItems.{IsNamed, argument_name}
 use Rattle.rdlpp_state.specs.Moves.{LooksAtName}
 use Rattle.rdlpp_state.proofs.DirectiveSteps.{undef_named, undef_unnamed}
 use Rattle.rdlpp_expand.proofs.engine.Engine.undefine.Goals as goal

@@ -3,7 +3,7 @@ ghost use Rattle.std.specs.Prelude.{◌≡◌, ◌≢◌, ◌<◌, ◌≤◌, le
 ghost use Rattle.rdlpp_scan.specs.Tokens.{stops_plain_text, token_of};
 ghost use Rattle.rdlpp_scan.specs.declared.token.Kind.TheVariants.{Back};
 ghost use Rattle.rdlpp_scan.specs.declared.token.Mode.TheVariants.{Plain};
-ghost use Rattle.rdlpp_front.specs.Fronts.{IsDirective, IsFront, IsNameBehind, IsStringBehind};
+ghost use Rattle.rdlpp_front.specs.SourceItems.{IsDirective, IsSourceItem, IsNameBehind, IsStringBehind};
 
 use rdlpp_meaning::FaultKind;
 use rdlpp_read::{given_name, given_string};
@@ -22,7 +22,7 @@ pub struct Argument {
 
 /// What the held bytes of a source begin with.
 #[derive(Clone, Copy, Debug, PartialEq, Eq)]
-pub enum Front {
+pub enum SourceItem {
     /// So many bytes that are copied, and the mode behind them: ordinary text, or a string or a
     /// comment, or the part of one that is held.
     Text(usize, Mode),
@@ -61,90 +61,90 @@ pub enum Front {
 ///
 /// IEEE 1364-2001, compiler directives and macros; that `<%` and a backquote without a name end the
 /// output is this project's profile.
-pub fn front_of(mode: Mode, held: &[u8]) -> Front
+pub fn next_item(mode: Mode, held: &[u8]) -> SourceItem
     requires { 0 < length held.now }
-    ensures { IsFront mode held.now result }
+    ensures { IsSourceItem mode held.now result }
 {
     match mode {
-        Mode::Plain => plain_front(held),
-        _ => token_front(mode, held),
+        Mode::Plain => plain_item(held),
+        _ => token_item(mode, held),
     }
 }
 
 // What held bytes in plain text begin with.
-fn plain_front(held: &[u8]) -> Front
+fn plain_item(held: &[u8]) -> SourceItem
     requires { 0 < length held.now }
-    ensures { IsFront Plain held.now result }
+    ensures { IsSourceItem Plain held.now result }
 {
     if held[0] == b'`' {
-        return backquote_front(held);
+        return backquote_item(held);
     }
     let len = plain_text_len(held);
     if len > 0 {
-        return Front::Text(len, Mode::Plain);
+        return SourceItem::Text(len, Mode::Plain);
     }
-    token_front(Mode::Plain, held)
+    token_item(Mode::Plain, held)
 }
 
 // What held bytes begin with that begin with a string, a comment or `<%`.
-fn token_front(mode: Mode, held: &[u8]) -> Front
+fn token_item(mode: Mode, held: &[u8]) -> SourceItem
     requires some { 0 < length held.now }
     requires stops { mode ≡ Plain → (stops_plain_text held.now ≡ true) × (slice_index held.now 0 ≢ 96) }
-    ensures { IsFront mode held.now result }
+    ensures { IsSourceItem mode held.now result }
 {
     let token = first_token(mode, held);
     match token.kind {
-        Kind::Perl => Front::Refused(FaultKind::EmbeddedPerl),
-        _ => Front::Text(token.len, token.next_mode),
+        Kind::Perl => SourceItem::Refused(FaultKind::EmbeddedPerl),
+        _ => SourceItem::Text(token.len, token.next_mode),
     }
 }
 
 // What held bytes begin with that begin with a backquote.
-fn backquote_front(held: &[u8]) -> Front
+fn backquote_item(held: &[u8]) -> SourceItem
     requires some { 0 < length held.now }
     requires backquote { slice_index held.now 0 ≡ 96 }
-    ensures { IsFront Plain held.now result }
+    ensures { IsSourceItem Plain held.now result }
 {
     if is_letter(byte_at(held, 1)) {
-        name_front(held, 1 + word_bytes(&held[1..]))
+        name_item(held, 1 + word_bytes(&held[1..]))
     } else {
-        Front::Refused(FaultKind::BareBackquote)
+        SourceItem::Refused(FaultKind::BareBackquote)
     }
 }
 
 // What held bytes begin with that begin with a backquote and a name, of so many bytes together.
-fn name_front(held: &[u8], len: usize) -> Front
+fn name_item(held: &[u8], len: usize) -> SourceItem
     requires some { 0 < len }
     requires inside { len ≤ length held.now }
     requires backquote { slice_index held.now 0 ≡ 96 }
     requires kind { (token_of Plain held.now).kind ≡ Back }
     requires whole { len ≡ (token_of Plain held.now).len }
-    ensures { IsFront Plain held.now result }
+    ensures { IsSourceItem Plain held.now result }
 {
     match reserved(&held[1..len]) {
-        None => Front::Usage(len),
-        Some(directive) => directive_front(held, len, directive),
+        None => SourceItem::Usage(len),
+        Some(directive) => directive_item(held, len, directive),
     }
 }
 
 // What held bytes begin with that begin with the word of a directive, of so many bytes.
-fn directive_front(held: &[u8], len: usize, directive: Directive) -> Front
+fn directive_item(held: &[u8], len: usize, directive: Directive) -> SourceItem
     requires some { 0 < length held.now }
     requires inside { len ≤ length held.now }
     requires word { IsDirective directive held.now }
     requires whole { len ≡ (token_of Plain held.now).len }
-    ensures { IsFront Plain held.now result }
+    ensures { IsSourceItem Plain held.now result }
 {
     match directive {
-        Directive::Define => Front::Define,
-        Directive::Undef => Front::Undef(name_behind(held, len)),
-        Directive::Ifdef => Front::Ifdef(name_behind(held, len)),
-        Directive::Ifndef => Front::Ifndef(name_behind(held, len)),
-        Directive::Elsif => Front::Elsif(name_behind(held, len)),
-        Directive::Else => Front::Else,
-        Directive::Endif => Front::Endif,
-        Directive::Include => Front::Include(string_behind(held, len)),
-        Directive::Line => Front::Line,
+        Directive::Define => SourceItem::Define,
+        Directive::Undef => SourceItem::Undef(name_behind(held, len)),
+        Directive::Ifdef => SourceItem::Ifdef(name_behind(held, len)),
+        Directive::Ifndef => SourceItem::Ifndef(name_behind(held, len)),
+        Directive::Elsif => SourceItem::Elsif(name_behind(held, len)),
+        Directive::Else => SourceItem::Else,
+        Directive::Endif => SourceItem::Endif,
+        Directive::Include => SourceItem::Include(string_behind(held, len)),
+        Directive::Line => SourceItem::Line,
     }
 }
 

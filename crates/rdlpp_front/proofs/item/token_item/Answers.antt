@@ -1,8 +1,8 @@
 use Rattle.std.proofs.Common.{◌∙◌, sym, ap}
 use Rattle.rdlpp_scan.specs.declared.token.Token.{Token}
-use Rattle.rdlpp_front.specs.Fronts.{AtPerl, AtToken}
+use Rattle.rdlpp_front.specs.SourceItems.{AtPerl, AtToken}
 use Rattle.rdlpp_front.proofs.Insides.{text_at_front}
-use Rattle.rdlpp_front.proofs.front.token_front.Goals as goal
+use Rattle.rdlpp_front.proofs.item.token_item.Goals as goal
 
 pub returns-in-Perl : goal.returns-in-Perl
 returns-in-Perl c = AtPerl (sym (ap (λ (t : Token). t.kind) c.first_token-token.ensures.value) ∙ c.in-Perl.is)

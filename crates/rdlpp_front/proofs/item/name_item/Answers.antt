@@ -2,10 +2,10 @@ use Rattle.std.proofs.Common.{◌≡◌, ◌∙◌, ℕ, ◌-◌, ◌∷◌, sym
 use Rattle.rdlpp_scan.specs.Tokens.{token_of}
 use Rattle.rdlpp_scan.specs.declared.token.Mode.TheVariants.{Plain}
 use Rattle.rdlpp_front.proofs.Insides.{named_word, back_text}
-use Rattle.rdlpp_front.proofs.front.name_front.Goals as goal
+use Rattle.rdlpp_front.proofs.item.name_item.Goals as goal
 
-pub directive_front-requires : goal.directive_front-requires
-directive_front-requires c =
+pub directive_item-requires : goal.directive_item-requires
+directive_item-requires c =
     let held = c.args.held.now in
     let text : take (token_of Plain held).len held ≡ 96 ∷ take (c.args.len - 1) (drop 1 held) =
     back_text held c.requires.backquote c.requires.kind

@@ -1,7 +1,7 @@
 use Rattle.std.proofs.Common.{refl}
 use Rattle.rdlpp_scan.specs.declared.token.Directive.TheVariants.{Undef, Ifdef, Ifndef, Elsif}
 use Rattle.rdlpp_front.proofs.Insides.{named_here, string_here}
-use Rattle.rdlpp_front.proofs.front.directive_front.Goals as goal
+use Rattle.rdlpp_front.proofs.item.directive_item.Goals as goal
 
 pub returns-in-Undef : goal.returns-in-Undef
 returns-in-Undef c =

@@ -13,9 +13,9 @@ use Rattle.rdlpp_meaning.specs.declared.fault.FaultKind.{FaultKind}
 use Rattle.rdlpp_meaning.specs.declared.fault.FaultKind.TheVariants as fault
 use Rattle.rdlpp_meaning.specs.Meaning.{Checked, Faulty, Fine, unquoted}
 use Rattle.rdlpp_read.specs.Arguments.{NameGiven, NoName, NoString, StringGiven}
-use Rattle.rdlpp_front.specs.declared.front.Argument.{Argument}
-use Rattle.rdlpp_front.specs.declared.front.Front.{Front}
-use Rattle.rdlpp_front.specs.declared.front.Front.TheVariants.{Text, Usage, Define, Undef, Ifdef, Ifndef, Elsif, Else, Endif, Include, Line, Refused}
+use Rattle.rdlpp_front.specs.declared.item.Argument.{Argument}
+use Rattle.rdlpp_front.specs.declared.item.SourceItem.{SourceItem}
+use Rattle.rdlpp_front.specs.declared.item.SourceItem.TheVariants.{Text, Usage, Define, Undef, Ifdef, Ifndef, Elsif, Else, Endif, Include, Line, Refused}
 
 -- a kind of tokens that are copied, and may be copied in parts: strings and comments
 unfoldable pub is_text_kind : Kind → Bool
@@ -147,16 +147,16 @@ pub data IsRefused (mode : Mode) (held : List ℕ) : FaultKind → Type 0 where
   AtBare : mode ≡ Plain → (token_of Plain held).kind ≡ BareBackquote → IsRefused mode held fault.BareBackquote
 
 -- what held bytes begin with, in a mode
-abbrev pub IsFront : Mode → List ℕ → Front → Type 0
-IsFront mode held (Text len next) = IsText mode held len next
-IsFront mode held (Usage len) = (mode ≡ Plain) × IsUsage held len
-IsFront mode held Define = (mode ≡ Plain) × IsDirective directive.Define held
-IsFront mode held (Undef given) = (mode ≡ Plain) × IsNamed directive.Undef held given
-IsFront mode held (Ifdef given) = (mode ≡ Plain) × IsNamed directive.Ifdef held given
-IsFront mode held (Ifndef given) = (mode ≡ Plain) × IsNamed directive.Ifndef held given
-IsFront mode held (Elsif given) = (mode ≡ Plain) × IsNamed directive.Elsif held given
-IsFront mode held Else = (mode ≡ Plain) × IsDirective directive.Else held
-IsFront mode held Endif = (mode ≡ Plain) × IsDirective directive.Endif held
-IsFront mode held (Include given) = (mode ≡ Plain) × IsGivenString held given
-IsFront mode held Line = (mode ≡ Plain) × IsDirective directive.Line held
-IsFront mode held (Refused kind) = IsRefused mode held kind
+abbrev pub IsSourceItem : Mode → List ℕ → SourceItem → Type 0
+IsSourceItem mode held (Text len next) = IsText mode held len next
+IsSourceItem mode held (Usage len) = (mode ≡ Plain) × IsUsage held len
+IsSourceItem mode held Define = (mode ≡ Plain) × IsDirective directive.Define held
+IsSourceItem mode held (Undef given) = (mode ≡ Plain) × IsNamed directive.Undef held given
+IsSourceItem mode held (Ifdef given) = (mode ≡ Plain) × IsNamed directive.Ifdef held given
+IsSourceItem mode held (Ifndef given) = (mode ≡ Plain) × IsNamed directive.Ifndef held given
+IsSourceItem mode held (Elsif given) = (mode ≡ Plain) × IsNamed directive.Elsif held given
+IsSourceItem mode held Else = (mode ≡ Plain) × IsDirective directive.Else held
+IsSourceItem mode held Endif = (mode ≡ Plain) × IsDirective directive.Endif held
+IsSourceItem mode held (Include given) = (mode ≡ Plain) × IsGivenString held given
+IsSourceItem mode held Line = (mode ≡ Plain) × IsDirective directive.Line held
+IsSourceItem mode held (Refused kind) = IsRefused mode held kind
