@@ -12,7 +12,7 @@ use Rattle.rdlpp_read.specs.Buffer.{entered_mode, held_of}
 use Rattle.rdlpp_read.specs.Calls.{SourcesRead}
 use Rattle.rdlpp_read.specs.Files.{consumed_file, inner_buffer, with_buffer, with_inner}
 use Rattle.rdlpp_front.specs.SourceItems.{usage_name}
-use Rattle.rdlpp_texts.specs.Fronts.{IsFrontPlace}
+use Rattle.rdlpp_texts.specs.TextItems.{IsFrontPlace}
 use Rattle.rdlpp_texts.specs.Opened.{bound_by}
 use Rattle.rdlpp_texts.specs.Places.{place_bytes, texts_of}
 use Rattle.rdlpp_texts.specs.Steps.{AreSound, IsStep}

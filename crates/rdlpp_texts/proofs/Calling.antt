@@ -34,7 +34,7 @@ use Rattle.rdlpp_texts.specs.BoundCalls.{AreWithin, IsBoundAt, IsBoundCall, Keep
 use Rattle.rdlpp_texts.specs.CallTokens.{IsFirstToken, role_meant}
 use Rattle.rdlpp_texts.specs.Calls.{IsCallBound, IsCallMiscounted, IsCallOpened, IsCallStarted, IsOpening}
 use Rattle.rdlpp_texts.specs.Digits.{IsFalling}
-use Rattle.rdlpp_texts.specs.Fronts.{IsFront, IsLook}
+use Rattle.rdlpp_texts.specs.TextItems.{IsTextItem, IsPeek}
 use Rattle.rdlpp_texts.specs.KeptTexts.{keeps_each}
 use Rattle.rdlpp_texts.specs.Opened.{CursorsView, moved_to, opens_of}
 use Rattle.rdlpp_texts.specs.Places.{place_bytes, source_formals, source_text, texts_of}
@@ -45,8 +45,8 @@ use Rattle.rdlpp_texts.specs.Usages.{IsUsed, front_name}
 use Rattle.rdlpp_texts.specs.declared.bindings.Range.{Range}
 use Rattle.rdlpp_texts.specs.declared.cursors.call.Opening.{Opening}
 use Rattle.rdlpp_texts.specs.declared.cursors.call.Opening.TheVariants as opening
-use Rattle.rdlpp_texts.specs.declared.front.Front.TheVariants as front
-use Rattle.rdlpp_texts.specs.declared.front.Look.{Look}
+use Rattle.rdlpp_texts.specs.declared.peek.TextItem.TheVariants as front
+use Rattle.rdlpp_texts.specs.declared.peek.Peek.{Peek}
 use Rattle.rdlpp_texts.specs.declared.place.TextPlace.{TextPlace}
 use Rattle.rdlpp_texts.specs.declared.place.TextSource.{TextSource}
 use Rattle.rdlpp_texts.specs.declared.place.TextSource.TheVariants.{Arguments}
@@ -57,7 +57,7 @@ use Rattle.rdlpp_texts.specs.declared.tokens.CallRole.{CallRole}
 use Rattle.rdlpp_texts.specs.declared.tokens.CallRole.TheVariants.{LineComment}
 use Rattle.rdlpp_texts.specs.declared.tokens.CallToken.{CallToken}
 use Rattle.rdlpp_texts.proofs.BoundParts.{actuals_keep, all_bound, count_exact, ranges_keep}
-use Rattle.rdlpp_texts.proofs.Falling.{look-opens}
+use Rattle.rdlpp_texts.proofs.Falling.{peek-opens}
 use Rattle.rdlpp_texts.proofs.Passing.{IsPassed, body-keeps, fault-same, first-moved, first-sound, kind-first, no-word, sound-moved}
 use Rattle.rdlpp_texts.proofs.Scoping.{source-around}
 use Rattle.rdlpp_texts.proofs.Stacking.{room-first}
@@ -268,12 +268,12 @@ pub record IsCallPlace (texts : Texts) (x : Open) (below : List Open) (len : ℕ
   pub end_is : end ≡ x.part.end
 
 -- by a look
-call-place : (texts : Texts) (x : Open) (below : List Open) (look : Look) (len : ℕ) (text : List ℕ) (at : ℕ) → AreSound texts (x ∷ below) → IsLook texts (x ∷ below) look
-    → look.front ≡ front.Usage len → text ≡ source_text texts look.source → at ≡ look.at + len
-    → IsCallPlace texts x below len text at look.end
-unfolding IsLook IsFront open_bytes
-call-place texts x below look len text at h l e is k =
-    let f = front-is texts x below look len e l.3 in
+call-place : (texts : Texts) (x : Open) (below : List Open) (peek : Peek) (len : ℕ) (text : List ℕ) (at : ℕ) → AreSound texts (x ∷ below) → IsPeek texts (x ∷ below) peek
+    → peek.front ≡ front.Usage len → text ≡ source_text texts peek.source → at ≡ peek.at + len
+    → IsCallPlace texts x below len text at peek.end
+unfolding IsPeek IsTextItem open_bytes
+call-place texts x below peek len text at h l e is k =
+    let f = front-is texts x below peek len e l.3 in
     record {
       text_is = is ∙ ap (λ (s : TextSource). source_text texts s) l.0
           ∙ source-around texts x below (some-byte (text_around texts x.kind x.home below) x.part.from x.part.end f.0);
@@ -283,9 +283,9 @@ call-place texts x below look len text at h l e is k =
 
 -- the tokens behind a usage
 call-tokens : (texts : Texts) (x : Open) (below : List Open) (len : ℕ) (text : List ℕ) (at end : ℕ) → AreSound texts (x ∷ below) → IsCallPlace texts x below len text at end
-    → IsFront (source_formals texts (front_source (x ∷ below))) (open_bytes texts x below) (front.Usage len)
+    → IsTextItem (source_formals texts (front_source (x ∷ below))) (open_bytes texts x below) (front.Usage len)
     → tokens_behind texts x below ≡ body_tokens (slice_range text at end)
-unfolding IsFront tokens_behind part_tokens open_behind
+unfolding IsTextItem tokens_behind part_tokens open_behind
 call-tokens texts x below len text at end h p f =
     let mode = (h.are_inside).1.1.0 in
     ap (λ (y : Open). part_tokens (text_around texts x.kind x.home below) y.part) (first-moved texts x below len mode (back-closes _ f.1) f.2)
@@ -296,9 +296,9 @@ call-tokens texts x below len text at end h p f =
 
 -- no call in them drops one
 call-keeps : (texts : Texts) (x : Open) (below : List Open) (len : ℕ) (text : List ℕ) (at end : ℕ) → AreSound texts (x ∷ below) → IsCallPlace texts x below len text at end
-    → IsFront (source_formals texts (front_source (x ∷ below))) (open_bytes texts x below) (front.Usage len)
+    → IsTextItem (source_formals texts (front_source (x ∷ below))) (open_bytes texts x below) (front.Usage len)
     → KeepsAll (body_tokens (slice_range text at end))
-unfolding IsFront part_tokens moved_to
+unfolding IsTextItem part_tokens moved_to
 call-keeps texts x below len text at end h p f =
     let around = text_around texts x.kind x.home below in
     let sound = first-sound texts x below len h f.0 (back-closes _ f.1) f.2 in
@@ -311,11 +311,11 @@ call-keeps texts x below len text at end h p f =
 -- what the usage comes to
 call-usage : (rules : Rules) (s : State) (line : ℕ) (texts : Texts) (x : Open) (below : List Open) (len id : ℕ) (text : List ℕ) (at end : ℕ) (fs : List Formal) → AreSound texts (x ∷ below)
     → IsCallPlace texts x below len text at end
-    → IsFront (source_formals texts (front_source (x ∷ below))) (open_bytes texts x below) (front.Usage len)
+    → IsTextItem (source_formals texts (front_source (x ∷ below))) (open_bytes texts x below) (front.Usage len)
     → IsUsed texts (x ∷ below) (front_name texts (x ∷ below) len) id → (macro_at texts.macros id).formals ≡ Some fs
     → s.macros ≡ texts.macros
     → first_usage rules s line texts x below ≡ usage_in rules line (front_name texts (x ∷ below) len) (macro_at texts.macros id) fs text at end
-unfolding IsFront
+unfolding IsTextItem
 call-usage rules s line texts x below len id text at end fs h p f used list m =
     let name = front_name texts (x ∷ below) len in
     let own = macro_at texts.macros id in
@@ -330,12 +330,12 @@ list-count m fs e = sym (ap (λ (o : Option (List Formal)). length (unwrap_or o 
 -- a usage whose call is refused is its fault
 step-call_refused : (line depth : ℕ) (texts : Texts) (x : Open) (below : List Open) (len id : ℕ) (text : List ℕ) (at end : ℕ) (kind : FaultKind) (new : List Open) (fault : CursorFault)
     → AreSound texts (x ∷ below) → IsCallPlace texts x below len text at end
-    → IsFront (source_formals texts (front_source (x ∷ below))) (open_bytes texts x below) (front.Usage len)
+    → IsTextItem (source_formals texts (front_source (x ∷ below))) (open_bytes texts x below) (front.Usage len)
     → IsUsed texts (x ∷ below) (front_name texts (x ∷ below) len) id → is_some (macro_at texts.macros id).formals ≡ true
     → IsBoundCall text at end (length (formals_of (macro_at texts.macros id))) [] (Err kind)
     → fault.kind ≡ kind → place_bytes texts fault.word ≡ front_name texts (x ∷ below) len
     → IsStep line depth texts (x ∷ below) (Refused fault) new
-unfolding IsStep StepsTo IsFront IsBoundCall
+unfolding IsStep StepsTo IsTextItem IsBoundCall
 step-call_refused line depth texts x below len id text at end kind new fault h p f used list b k w rules s m =
     let mode = (h.are_inside).1.1.0 in
     let name = front_name texts (x ∷ below) len in
@@ -348,12 +348,12 @@ step-call_refused line depth texts x below len id text at end kind new fault h p
 -- so is one that is bound where no further text may be open
 step-call_deep : (line depth : ℕ) (texts : Texts) (x : Open) (below : List Open) (len id : ℕ) (text : List ℕ) (at end : ℕ) (new : List Open) (fault : CursorFault)
     → AreSound texts (x ∷ below) → IsCallPlace texts x below len text at end
-    → IsFront (source_formals texts (front_source (x ∷ below))) (open_bytes texts x below) (front.Usage len)
+    → IsTextItem (source_formals texts (front_source (x ∷ below))) (open_bytes texts x below) (front.Usage len)
     → IsUsed texts (x ∷ below) (front_name texts (x ∷ below) len) id → is_some (macro_at texts.macros id).formals ≡ true
     → IsCallBound texts.macros text at end id → depth ≤ length (x ∷ below)
     → fault.kind ≡ DepthPassed → place_bytes texts fault.word ≡ []
     → IsStep line depth texts (x ∷ below) (Refused fault) new
-unfolding IsStep StepsTo IsFront IsBoundCall
+unfolding IsStep StepsTo IsTextItem IsBoundCall
 step-call_deep line depth texts x below len id text at end new fault h p f used list c deep k w rules s m =
     let mode = (h.are_inside).1.1.0 in
     let name = front_name texts (x ∷ below) len in
@@ -382,7 +382,7 @@ scope-text texts x below part h = by x.kind
 -- what is left behind a call that is bound
 call-left : (texts : Texts) (x : Open) (below : List Open) (len : ℕ) (text : List ℕ) (at end formals : ℕ) (ranges : List Range) (behind : ℕ) (b : IsBoundAt text at end formals ranges behind)
     → AreSound texts (x ∷ below) → IsCallPlace texts x below len text at end
-    → IsFront (source_formals texts (front_source (x ∷ below))) (open_bytes texts x below) (front.Usage len) → at ≤ behind
+    → IsTextItem (source_formals texts (front_source (x ∷ below))) (open_bytes texts x below) (front.Usage len) → at ≤ behind
     → drop b.used (tokens_behind texts x below) ≡ part_tokens (text_around texts x.kind x.home below) (open_behind x (behind - x.part.from) Plain).part
 unfolding open_behind
 call-left texts x below len text at end formals ranges behind b h p f low =
@@ -396,11 +396,11 @@ call-left texts x below len text at end formals ranges behind b h p f low =
 -- a usage whose call is bound opens its body, where there is room
 step-call_opened : (line depth : ℕ) (texts : Texts) (x : Open) (below : List Open) (len id : ℕ) (text : List ℕ) (at end : ℕ) (c : IsCallBound texts.macros text at end id)
     → AreSound texts (x ∷ below) → IsCallPlace texts x below len text at end
-    → IsFront (source_formals texts (front_source (x ∷ below))) (open_bytes texts x below) (front.Usage len)
+    → IsTextItem (source_formals texts (front_source (x ∷ below))) (open_bytes texts x below) (front.Usage len)
     → IsUsed texts (x ∷ below) (front_name texts (x ∷ below) len) id → is_some (macro_at texts.macros id).formals ≡ true
     → length (x ∷ below) < depth
     → IsStep line depth texts (x ∷ below) Silent (open_body texts id (map range_part c.ranges) (open_scope x below) ∷ moved_to c.behind (x ∷ below))
-unfolding IsStep StepsTo IsFront IsBoundCall moved_to open_behind
+unfolding IsStep StepsTo IsTextItem IsBoundCall moved_to open_behind
 step-call_opened line depth texts x below len id text at end c h p f used list room rules s m =
     let mode = (h.are_inside).1.1.0 in
     let name = front_name texts (x ∷ below) len in
@@ -478,94 +478,94 @@ sound-called table arguments x below len id text at end c sound h p inside =
     whole body = omega arith
 
 -- where the call of a usage stands in its text, and that it drops no token
-pub record IsCallInside (look : Look) (text : List ℕ) (at : ℕ) : Type 0 where
-  pub ordered : at ≤ look.end
-  pub fits : look.end ≤ length text
-  pub keeps : KeepsAll (body_tokens (slice_range text at look.end))
+pub record IsCallInside (peek : Peek) (text : List ℕ) (at : ℕ) : Type 0 where
+  pub ordered : at ≤ peek.end
+  pub fits : peek.end ≤ length text
+  pub keeps : KeepsAll (body_tokens (slice_range text at peek.end))
 
 -- it stands so, by a look
-pub look-call : (texts : Texts) (opens : List Open) (look : Look) (len : ℕ) (text : List ℕ) (at : ℕ) → AreSound texts opens → IsLook texts opens look → look.front ≡ front.Usage len
-    → text ≡ source_text texts look.source → at ≡ look.at + len → IsCallInside look text at
-unfolding IsLook
-look-call texts opens look len text at h l e is k =
-    let place = usage-place texts opens look len h l e in
+pub peek-call : (texts : Texts) (opens : List Open) (peek : Peek) (len : ℕ) (text : List ℕ) (at : ℕ) → AreSound texts opens → IsPeek texts opens peek → peek.front ≡ front.Usage len
+    → text ≡ source_text texts peek.source → at ≡ peek.at + len → IsCallInside peek text at
+unfolding IsPeek
+peek-call texts opens peek len text at h l e is k =
+    let place = usage-place texts opens peek len h l e in
     let inside = place.inside in
     let within = place.within in
     record {
       ordered = omega (arith, inside, k);
-      fits = subst (λ (t : List ℕ). look.end ≤ length t) (sym is) within;
+      fits = subst (λ (t : List ℕ). peek.end ≤ length t) (sym is) within;
       keeps = by opens h l;
     }
   where
-    by : (opens : List Open) → AreSound texts opens → IsLook texts opens look → KeepsAll (body_tokens (slice_range text at look.end))
+    by : (opens : List Open) → AreSound texts opens → IsPeek texts opens peek → KeepsAll (body_tokens (slice_range text at peek.end))
     by [] h l = absurd l
-    by (x ∷ below) h l = call-keeps texts x below len text at look.end h (call-place texts x below look len text at h l e is k) (front-is texts x below look len e l.3)
+    by (x ∷ below) h l = call-keeps texts x below len text at peek.end h (call-place texts x below peek len text at h l e is k) (front-is texts x below peek len e l.3)
 
 -- a usage of a macro with a list at the front of open texts, whose call stands in a text from a place on
-pub record IsListUsed (texts : Texts) (opens : List Open) (look : Look) (len id : ℕ) (text : List ℕ) (at : ℕ) : Type 0 where
+pub record IsListUsed (texts : Texts) (opens : List Open) (peek : Peek) (len id : ℕ) (text : List ℕ) (at : ℕ) : Type 0 where
   pub sound : AreSound texts opens
-  pub look_is : IsLook texts opens look
-  pub front_is : look.front ≡ front.Usage len
+  pub look_is : IsPeek texts opens peek
+  pub front_is : peek.front ≡ front.Usage len
   pub used : IsUsed texts opens (front_name texts opens len) id
   pub list : is_some (macro_at texts.macros id).formals ≡ true
-  pub text_is : text ≡ source_text texts look.source
-  pub at_is : at ≡ look.at + len
+  pub text_is : text ≡ source_text texts peek.source
+  pub at_is : at ≡ peek.at + len
 
 -- that there is one
-pub list-used : (texts : Texts) (opens : List Open) (look : Look) (len id : ℕ) (text : List ℕ) (at : ℕ) → AreSound texts opens → IsLook texts opens look → look.front ≡ front.Usage len
-    → IsUsed texts opens (front_name texts opens len) id → is_some (macro_at texts.macros id).formals ≡ true → text ≡ source_text texts look.source → at ≡ look.at + len
-    → IsListUsed texts opens look len id text at
-list-used texts opens look len id text at h l e used list is k = record { sound = h; look_is = l; front_is = e; used = used; list = list; text_is = is; at_is = k }
+pub list-used : (texts : Texts) (opens : List Open) (peek : Peek) (len id : ℕ) (text : List ℕ) (at : ℕ) → AreSound texts opens → IsPeek texts opens peek → peek.front ≡ front.Usage len
+    → IsUsed texts opens (front_name texts opens len) id → is_some (macro_at texts.macros id).formals ≡ true → text ≡ source_text texts peek.source → at ≡ peek.at + len
+    → IsListUsed texts opens peek len id text at
+list-used texts opens peek len id text at h l e used list is k = record { sound = h; look_is = l; front_is = e; used = used; list = list; text_is = is; at_is = k }
 
 -- a call that is refused, by a look
-look-call_refused : (line depth : ℕ) (texts : Texts) (opens : List Open) (look : Look) (len id : ℕ) (text : List ℕ) (at from : ℕ) (kind : FaultKind)
-    → IsListUsed texts opens look len id text at → from ≡ look.at + 1
-    → IsBoundCall text at look.end (length (formals_of (macro_at texts.macros id))) [] (Err kind)
-    → IsStep line depth texts opens (Refused (record { kind = kind; word = record { source = look.source; from = from; end = at } })) opens
-unfolding IsLook
-look-call_refused line depth texts [] look len id text at from kind h g b = absurd (h.look_is)
-look-call_refused line depth texts (x ∷ below) look len id text at from kind h g b =
-    let place = call-place texts x below look len text at h.sound h.look_is h.front_is h.text_is h.at_is in
-    step-call_refused line depth texts x below len id text at look.end kind (x ∷ below) (record { kind = kind; word = record { source = look.source; from = from; end = at } }) h.sound place
-    (front-is texts x below look len h.front_is (h.look_is).3) h.used h.list b refl
-    (usage-word texts (x ∷ below) look len from at h.sound h.look_is h.front_is g h.at_is)
+peek-call_refused : (line depth : ℕ) (texts : Texts) (opens : List Open) (peek : Peek) (len id : ℕ) (text : List ℕ) (at from : ℕ) (kind : FaultKind)
+    → IsListUsed texts opens peek len id text at → from ≡ peek.at + 1
+    → IsBoundCall text at peek.end (length (formals_of (macro_at texts.macros id))) [] (Err kind)
+    → IsStep line depth texts opens (Refused (record { kind = kind; word = record { source = peek.source; from = from; end = at } })) opens
+unfolding IsPeek
+peek-call_refused line depth texts [] peek len id text at from kind h g b = absurd (h.look_is)
+peek-call_refused line depth texts (x ∷ below) peek len id text at from kind h g b =
+    let place = call-place texts x below peek len text at h.sound h.look_is h.front_is h.text_is h.at_is in
+    step-call_refused line depth texts x below len id text at peek.end kind (x ∷ below) (record { kind = kind; word = record { source = peek.source; from = from; end = at } }) h.sound place
+    (front-is texts x below peek len h.front_is (h.look_is).3) h.used h.list b refl
+    (usage-word texts (x ∷ below) peek len from at h.sound h.look_is h.front_is g h.at_is)
 
 -- one that is bound where no further text may be open
-look-call_deep : (line depth : ℕ) (texts : Texts) (opens : List Open) (look : Look) (len id : ℕ) (text : List ℕ) (at : ℕ)
-    → IsListUsed texts opens look len id text at → IsCallBound texts.macros text at look.end id → depth ≤ length opens
+peek-call_deep : (line depth : ℕ) (texts : Texts) (opens : List Open) (peek : Peek) (len id : ℕ) (text : List ℕ) (at : ℕ)
+    → IsListUsed texts opens peek len id text at → IsCallBound texts.macros text at peek.end id → depth ≤ length opens
     → IsStep line depth texts opens (wordless DepthPassed) opens
-unfolding IsLook
-look-call_deep line depth texts [] look len id text at h c deep = absurd (h.look_is)
-look-call_deep line depth texts (x ∷ below) look len id text at h c deep =
-    let place = call-place texts x below look len text at h.sound h.look_is h.front_is h.text_is h.at_is in
-    step-call_deep line depth texts x below len id text at look.end (x ∷ below) (record { kind = DepthPassed; word = record { source = Arguments; from = 0; end = 0 } }) h.sound place
-    (front-is texts x below look len h.front_is (h.look_is).3) h.used h.list c deep refl (no-word texts Arguments)
+unfolding IsPeek
+peek-call_deep line depth texts [] peek len id text at h c deep = absurd (h.look_is)
+peek-call_deep line depth texts (x ∷ below) peek len id text at h c deep =
+    let place = call-place texts x below peek len text at h.sound h.look_is h.front_is h.text_is h.at_is in
+    step-call_deep line depth texts x below len id text at peek.end (x ∷ below) (record { kind = DepthPassed; word = record { source = Arguments; from = 0; end = 0 } }) h.sound place
+    (front-is texts x below peek len h.front_is (h.look_is).3) h.used h.list c deep refl (no-word texts Arguments)
 
 -- one that opens its body
-look-call_opened : (line depth : ℕ) (table : TableView) (arguments : List ℕ) (opens : List Open) (look : Look) (len id : ℕ) (text : List ℕ) (at : ℕ) (c : IsCallBound table.macros text at look.end id)
-    → IsSound table → IsListUsed (texts_of table.macros arguments) opens look len id text at → length opens < depth
+peek-call_opened : (line depth : ℕ) (table : TableView) (arguments : List ℕ) (opens : List Open) (peek : Peek) (len id : ℕ) (text : List ℕ) (at : ℕ) (c : IsCallBound table.macros text at peek.end id)
+    → IsSound table → IsListUsed (texts_of table.macros arguments) opens peek len id text at → length opens < depth
     → IsStep line depth (texts_of table.macros arguments) opens Silent (open_body (texts_of table.macros arguments) id (map range_part c.ranges) (front_scope opens) ∷ moved_to c.behind opens)
     × AreSound (texts_of table.macros arguments) (open_body (texts_of table.macros arguments) id (map range_part c.ranges) (front_scope opens) ∷ moved_to c.behind opens)
-unfolding front_scope IsLook
-look-call_opened line depth table arguments [] look len id text at c sound h room = absurd (h.look_is)
-look-call_opened line depth table arguments (x ∷ below) look len id text at c sound h room =
+unfolding front_scope IsPeek
+peek-call_opened line depth table arguments [] peek len id text at c sound h room = absurd (h.look_is)
+peek-call_opened line depth table arguments (x ∷ below) peek len id text at c sound h room =
     let texts = texts_of table.macros arguments in
-    let place = call-place texts x below look len text at h.sound h.look_is h.front_is h.text_is h.at_is in (
-      step-call_opened line depth texts x below len id text at look.end c h.sound place (front-is texts x below look len h.front_is (h.look_is).3) h.used h.list room,
-      sound-called table arguments x below len id text at look.end c sound h.sound place (h.used).inside,
+    let place = call-place texts x below peek len text at h.sound h.look_is h.front_is h.text_is h.at_is in (
+      step-call_opened line depth texts x below len id text at peek.end c h.sound place (front-is texts x below peek len h.front_is (h.look_is).3) h.used h.list room,
+      sound-called table arguments x below len id text at peek.end c sound h.sound place (h.used).inside,
     )
 
 -- a call that is refused
-pub pass-call_refused : (texts : Texts) (view new : CursorsView) (look : Look) (len id home : ℕ) (text : List ℕ) (at : ℕ) (kind : FaultKind) (o : Opening) (word : TextPlace)
-    → IsListUsed texts view.opens look len id text at → o ≡ opening.Refused kind → IsOpening texts.macros text at look.end id home view o new
-    → word ≡ record { source = look.source; from = look.at + 1; end = at }
+pub pass-call_refused : (texts : Texts) (view new : CursorsView) (peek : Peek) (len id home : ℕ) (text : List ℕ) (at : ℕ) (kind : FaultKind) (o : Opening) (word : TextPlace)
+    → IsListUsed texts view.opens peek len id text at → o ≡ opening.Refused kind → IsOpening texts.macros text at peek.end id home view o new
+    → word ≡ record { source = peek.source; from = peek.at + 1; end = at }
     → IsPassed texts view new (Refused (record { kind = kind; word = word }))
 unfolding IsOpening IsFalling StaysRefused
-pass-call_refused texts view new look len id home text at kind o word h e b w =
-    let both = subst (λ (r : Opening). IsOpening texts.macros text at look.end id home view r new) e b in
+pass-call_refused texts view new peek len id home text at kind o word h e b w =
+    let both = subst (λ (r : Opening). IsOpening texts.macros text at peek.end id home view r new) e b in
     subst (λ (v : CursorsView). IsPassed texts view v (Refused (record { kind = kind; word = word }))) (sym both.0) (record {
       is_step = subst (λ (p : TextPlace). IsStep view.line view.depth texts view.opens (Refused (record { kind = kind; word = p })) view.opens) (sym w)
-          (look-call_refused view.line view.depth texts view.opens look len id text at (look.at + 1) kind h refl both.1);
+          (peek-call_refused view.line view.depth texts view.opens peek len id text at (peek.at + 1) kind h refl both.1);
       sound = h.sound;
       kept = (refl, refl);
       digits = tt;
@@ -573,13 +573,13 @@ pass-call_refused texts view new look len id home text at kind o word h e b w =
     })
 
 -- a call that is bound where no further text may be open
-pub pass-call_deep : (texts : Texts) (view new : CursorsView) (look : Look) (len id home : ℕ) (text : List ℕ) (at : ℕ) (o : Opening)
-    → IsListUsed texts view.opens look len id text at → o ≡ opening.Deep → IsOpening texts.macros text at look.end id home view o new → IsPassed texts view new (wordless DepthPassed)
+pub pass-call_deep : (texts : Texts) (view new : CursorsView) (peek : Peek) (len id home : ℕ) (text : List ℕ) (at : ℕ) (o : Opening)
+    → IsListUsed texts view.opens peek len id text at → o ≡ opening.Deep → IsOpening texts.macros text at peek.end id home view o new → IsPassed texts view new (wordless DepthPassed)
 unfolding IsOpening IsFalling StaysRefused
-pass-call_deep texts view new look len id home text at o h e b =
-    let both = subst (λ (r : Opening). IsOpening texts.macros text at look.end id home view r new) e b in
+pass-call_deep texts view new peek len id home text at o h e b =
+    let both = subst (λ (r : Opening). IsOpening texts.macros text at peek.end id home view r new) e b in
     subst (λ (v : CursorsView). IsPassed texts view v (wordless DepthPassed)) (sym both.0) (record {
-      is_step = look-call_deep view.line view.depth texts view.opens look len id text at h both.1.1 both.1.0;
+      is_step = peek-call_deep view.line view.depth texts view.opens peek len id text at h both.1.1 both.1.0;
       sound = h.sound;
       kept = (refl, refl);
       digits = tt;
@@ -587,17 +587,17 @@ pass-call_deep texts view new look len id home text at o h e b =
     })
 
 -- a call that opens its body
-pub pass-call_opened : (table : TableView) (arguments : List ℕ) (view new : CursorsView) (look : Look) (len id home : ℕ) (text : List ℕ) (at : ℕ) (o : Opening)
-    → IsSound table → IsListUsed (texts_of table.macros arguments) view.opens look len id text at → home ≡ front_scope view.opens
-    → o ≡ opening.Opened → IsOpening table.macros text at look.end id home view o new → IsPassed (texts_of table.macros arguments) view new Silent
+pub pass-call_opened : (table : TableView) (arguments : List ℕ) (view new : CursorsView) (peek : Peek) (len id home : ℕ) (text : List ℕ) (at : ℕ) (o : Opening)
+    → IsSound table → IsListUsed (texts_of table.macros arguments) view.opens peek len id text at → home ≡ front_scope view.opens
+    → o ≡ opening.Opened → IsOpening table.macros text at peek.end id home view o new → IsPassed (texts_of table.macros arguments) view new Silent
 unfolding IsOpening IsFalling StaysRefused open_body
-pass-call_opened table arguments view new look len id home text at o sound h scope e b =
+pass-call_opened table arguments view new peek len id home text at o sound h scope e b =
     let texts = texts_of table.macros arguments in
-    let c : IsCallOpened table.macros text at look.end id home view new = subst (λ (r : Opening). IsOpening table.macros text at look.end id home view r new) e b in
+    let c : IsCallOpened table.macros text at peek.end id home view new = subst (λ (r : Opening). IsOpening table.macros text at peek.end id home view r new) e b in
     let own : CursorsView = record view { opens = open_body texts id (map range_part (c.call).ranges) (front_scope view.opens) ∷ moved_to (c.call).behind view.opens } in
     let is : new ≡ own = c.opens ∙ ap (λ (n : ℕ). record view { opens = open_body texts id (map range_part (c.call).ranges) n ∷ moved_to (c.call).behind view.opens }) scope in
-    let both = look-call_opened view.line view.depth table arguments view.opens look len id text at c.call sound h c.room in
-    let place = usage-place texts view.opens look len h.sound h.look_is h.front_is in
+    let both = peek-call_opened view.line view.depth table arguments view.opens peek len id text at c.call sound h c.room in
+    let place = usage-place texts view.opens peek len h.sound h.look_is h.front_is in
     let some = place.some in
     let at_is = h.at_is in
     let low = ((c.call).place).0 in
@@ -606,7 +606,7 @@ pass-call_opened table arguments view new look len id home text at o sound h sco
       is_step = both.0;
       sound = both.1;
       kept = (refl, refl);
-      digits = look-opens texts view.opens look (c.call).behind (open_body texts id (map range_part (c.call).ranges) (front_scope view.opens)) h.look_is
+      digits = peek-opens texts view.opens peek (c.call).behind (open_body texts id (map range_part (c.call).ranges) (front_scope view.opens)) h.look_is
           (omega (arith, some, at_is, low)) high;
       refused = tt;
     })

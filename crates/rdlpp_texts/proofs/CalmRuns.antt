@@ -25,7 +25,7 @@ use Rattle.rdlpp_texts.specs.CallParts.{ends_call, ends_part, ends_text, is_whit
 use Rattle.rdlpp_texts.specs.CallTokens as call
 use Rattle.rdlpp_texts.specs.CallTokens.{IsFirstToken, role_meant}
 use Rattle.rdlpp_texts.specs.CalmBytes.{begins_white, byte_class, is_calm, is_calm_at}
-use Rattle.rdlpp_texts.specs.Fronts.{is_back, run_len}
+use Rattle.rdlpp_texts.specs.TextItems.{is_back, run_len}
 use Rattle.rdlpp_texts.specs.KeptTexts.{is_no_slash, keeps_each}
 use Rattle.rdlpp_texts.specs.declared.calm.ByteClass.TheVariants.{Calm, Mark, White}
 use Rattle.rdlpp_texts.specs.declared.tokens.CallRole.TheVariants as role

@@ -13,7 +13,7 @@ use Rattle.rdlpp_meaning.specs.Opens.{Open, OpenActual, OpenBody, OpenDefault, O
 use Rattle.rdlpp_texts.specs.BoundCalls.{IsBoundCall, range_part}
 use Rattle.rdlpp_texts.specs.Calls.{IsCallBound, IsOpening}
 use Rattle.rdlpp_texts.specs.Digits.{AreFalling, AreShort, cursor_digits, open_digit}
-use Rattle.rdlpp_texts.specs.Fronts.{AreCopied, IsFront, IsLook, IsLookAhead}
+use Rattle.rdlpp_texts.specs.TextItems.{AreCopied, IsTextItem, IsPeek, IsPeekAhead}
 use Rattle.rdlpp_texts.specs.Opened.{CursorsView, StaysOutermost, moved_to, usage_id}
 use Rattle.rdlpp_texts.specs.Places.{source_formals, texts_of}
 use Rattle.rdlpp_texts.specs.Scopes.{front_scope, front_source}
@@ -22,9 +22,9 @@ use Rattle.rdlpp_texts.specs.Turns.{Closes, HasFront, OpensBody, OpensStanding, 
 use Rattle.rdlpp_texts.specs.Usages.{IsUsed, front_name}
 use Rattle.rdlpp_texts.specs.declared.cursors.call.Opening.{Opening}
 use Rattle.rdlpp_texts.specs.declared.cursors.call.Opening.TheVariants.{Deep, Opened, Refused as Lacks}
-use Rattle.rdlpp_texts.specs.declared.front.Front.{Front}
-use Rattle.rdlpp_texts.specs.declared.front.Front.TheVariants as front
-use Rattle.rdlpp_texts.specs.declared.front.Look.{Look}
+use Rattle.rdlpp_texts.specs.declared.peek.TextItem.{TextItem}
+use Rattle.rdlpp_texts.specs.declared.peek.TextItem.TheVariants as front
+use Rattle.rdlpp_texts.specs.declared.peek.Peek.{Peek}
 use Rattle.rdlpp_texts.specs.declared.step.CursorStep.{CursorStep}
 use Rattle.rdlpp_texts.specs.declared.step.CursorStep.TheVariants.{Lends, Refused, Silent}
 
@@ -75,10 +75,10 @@ digit-less : (from at end : ℕ) → from < at → at ≤ end → end - at + 1 <
 digit-less from at end more inside = omega (arith, more, inside)
 
 -- the innermost open text is closed, by its list
-pub falls-drop : (texts : Texts) (opens : List Open) (look : Look) → IsLook texts opens look → AreFalling (cursor_digits opens) (cursor_digits (drop 1 opens))
-unfolding IsLook
-falls-drop texts [] look l = absurd l
-falls-drop texts (x ∷ below) look l = falls-closed x below
+pub falls-drop : (texts : Texts) (opens : List Open) (peek : Peek) → IsPeek texts opens peek → AreFalling (cursor_digits opens) (cursor_digits (drop 1 opens))
+unfolding IsPeek
+falls-drop texts [] peek l = absurd l
+falls-drop texts (x ∷ below) peek l = falls-closed x below
 
 -- so many bytes of an open text end in it
 pub run-ends : (texts : Texts) (x : Open) (below : List Open) (n : ℕ) → 0 < n → n ≤ length (open_bytes texts x below) → x.part.from + n ≤ x.part.end
@@ -88,21 +88,21 @@ run-ends texts x below n some inside =
     omega (arith, size, some, inside)
 
 -- the innermost open text goes on behind what is copied, by a look
-pub look-moves : (texts : Texts) (opens : List Open) (look : Look) → IsLookAhead texts opens look → look.from < look.at
-    → AreFalling (cursor_digits opens) (cursor_digits (moved_to look.at opens))
-unfolding IsLookAhead AreCopied moved_to
-look-moves texts [] look l more = absurd l
-look-moves texts (x ∷ below) look l more =
+pub peek-moves : (texts : Texts) (opens : List Open) (peek : Peek) → IsPeekAhead texts opens peek → peek.from < peek.at
+    → AreFalling (cursor_digits opens) (cursor_digits (moved_to peek.at opens))
+unfolding IsPeekAhead AreCopied moved_to
+peek-moves texts [] peek l more = absurd l
+peek-moves texts (x ∷ below) peek l more =
     let from = l.1 in
-    let ends = run-ends texts x below (look.at - look.from) (omega (arith, more)) l.3.0 in
-    falls-moved x _ below (digit-less x.part.from look.at x.part.end (omega (arith, from, more)) (omega (arith, from, more, ends)))
+    let ends = run-ends texts x below (peek.at - peek.from) (omega (arith, more)) l.3.0 in
+    falls-moved x _ below (digit-less x.part.from peek.at x.part.end (omega (arith, from, more)) (omega (arith, from, more, ends)))
 
 -- it goes on at a place further on in it, and another one is opened
-pub look-opens : (texts : Texts) (opens : List Open) (look : Look) (at : ℕ) (new : Open) → IsLook texts opens look → look.at < at → at ≤ look.end
+pub peek-opens : (texts : Texts) (opens : List Open) (peek : Peek) (at : ℕ) (new : Open) → IsPeek texts opens peek → peek.at < at → at ≤ peek.end
     → AreFalling (cursor_digits opens) (cursor_digits (new ∷ moved_to at opens))
-unfolding IsLook moved_to
-look-opens texts [] look at new l more inside = absurd l
-look-opens texts (x ∷ below) look at new l more inside =
+unfolding IsPeek moved_to
+peek-opens texts [] peek at new l more inside = absurd l
+peek-opens texts (x ∷ below) peek at new l more inside =
     let from = l.1 in
     let end = l.2 in
     falls-opened new x _ below (digit-less x.part.from at x.part.end (omega (arith, from, more)) (omega (arith, end, inside)))
@@ -119,12 +119,12 @@ token-inside texts x below len some e =
     (omega (arith, not_empty, e), omega (arith, inside, e, size, not_empty))
 
 -- the name of a formal at the front ends in its text
-pub formal-inside : (texts : Texts) (opens : List Open) (look : Look) (len place : ℕ) → IsLook texts opens look → look.front ≡ front.Formal len place
-    → (look.at < look.at + len) × (look.at + len ≤ look.end)
-unfolding IsLook IsFront
-formal-inside texts [] look len place l e = absurd l
-formal-inside texts (x ∷ below) look len place l e =
-    let f = subst (λ (f : Front). IsFront (source_formals texts (front_source (x ∷ below))) (open_bytes texts x below) f) e l.3 in
+pub formal-inside : (texts : Texts) (opens : List Open) (peek : Peek) (len place : ℕ) → IsPeek texts opens peek → peek.front ≡ front.Formal len place
+    → (peek.at < peek.at + len) × (peek.at + len ≤ peek.end)
+unfolding IsPeek IsTextItem
+formal-inside texts [] peek len place l e = absurd l
+formal-inside texts (x ∷ below) peek len place l e =
+    let f = subst (λ (f : TextItem). IsTextItem (source_formals texts (front_source (x ∷ below))) (open_bytes texts x below) f) e l.3 in
     let t = token-inside texts x below len f.0 f.2 in
     let some = t.0 in
     let inside = t.1 in
@@ -133,12 +133,12 @@ formal-inside texts (x ∷ below) look len place l e =
     (omega (arith, some), omega (arith, inside, from, end))
 
 -- so does a usage
-pub usage-inside : (texts : Texts) (opens : List Open) (look : Look) (len : ℕ) → IsLook texts opens look → look.front ≡ front.Usage len
-    → (look.at < look.at + len) × (look.at + len ≤ look.end)
-unfolding IsLook IsFront
-usage-inside texts [] look len l e = absurd l
-usage-inside texts (x ∷ below) look len l e =
-    let f = subst (λ (f : Front). IsFront (source_formals texts (front_source (x ∷ below))) (open_bytes texts x below) f) e l.3 in
+pub usage-inside : (texts : Texts) (opens : List Open) (peek : Peek) (len : ℕ) → IsPeek texts opens peek → peek.front ≡ front.Usage len
+    → (peek.at < peek.at + len) × (peek.at + len ≤ peek.end)
+unfolding IsPeek IsTextItem
+usage-inside texts [] peek len l e = absurd l
+usage-inside texts (x ∷ below) peek len l e =
+    let f = subst (λ (f : TextItem). IsTextItem (source_formals texts (front_source (x ∷ below))) (open_bytes texts x below) f) e l.3 in
     let t = token-inside texts x below len f.0 f.2 in
     let some = t.0 in
     let inside = t.1 in
@@ -293,23 +293,23 @@ outer-ahead opens mid new at e stays = λ some. stays some ∙ ap usage_id e ∙
 -- What a step over open texts opens or closes.
 
 -- what a look finds at the front
-look-front : (texts : Texts) (opens : List Open) (look : Look) (f : Front) → IsLook texts opens look → look.front ≡ f → HasFront texts opens look.at f
-unfolding IsLook
-look-front texts [] look f l e = absurd l
-look-front texts (x ∷ below) look f l e = (l.1, subst (λ (g : Front). IsFront (source_formals texts (front_source (x ∷ below))) (open_bytes texts x below) g) e l.3)
+peek-front : (texts : Texts) (opens : List Open) (peek : Peek) (f : TextItem) → IsPeek texts opens peek → peek.front ≡ f → HasFront texts opens peek.at f
+unfolding IsPeek
+peek-front texts [] peek f l e = absurd l
+peek-front texts (x ∷ below) peek f l e = (l.1, subst (λ (g : TextItem). IsTextItem (source_formals texts (front_source (x ∷ below))) (open_bytes texts x below) g) e l.3)
 
 -- what a formal stands for is opened
-pub turned-formal : (texts : Texts) (opens new : List Open) (look : Look) (len place : ℕ) (x : Open) → IsLook texts opens look → look.front ≡ front.Formal len place
-    → Some x ≡ found_standing texts.macros (scope_open opens (front_scope opens)) (front_scope opens) place → new ≡ x ∷ moved_to (look.at + len) opens → Turned texts opens new
-turned-formal texts opens new look len place x l f is e = OpensStanding look.at len place x (look-front texts opens look (front.Formal len place) l f) (sym is) e
+pub turned-formal : (texts : Texts) (opens new : List Open) (peek : Peek) (len place : ℕ) (x : Open) → IsPeek texts opens peek → peek.front ≡ front.Formal len place
+    → Some x ≡ found_standing texts.macros (scope_open opens (front_scope opens)) (front_scope opens) place → new ≡ x ∷ moved_to (peek.at + len) opens → Turned texts opens new
+turned-formal texts opens new peek len place x l f is e = OpensStanding peek.at len place x (peek-front texts opens peek (front.Formal len place) l f) (sym is) e
 
 -- the body of a macro without a list is opened
-pub turned-usage : (macros : List Macro) (arguments : List ℕ) (opens new : List Open) (look : Look) (len id behind : ℕ) → IsLook (texts_of macros arguments) opens look → look.front ≡ front.Usage len
+pub turned-usage : (macros : List Macro) (arguments : List ℕ) (opens new : List Open) (peek : Peek) (len id behind : ℕ) → IsPeek (texts_of macros arguments) opens peek → peek.front ≡ front.Usage len
     → IsUsed (texts_of macros arguments) opens (front_name (texts_of macros arguments) opens len) id → (macro_at macros id).formals ≡ None
     → new ≡ open_body (texts_of macros []) id [] (front_scope opens) ∷ moved_to behind opens → Turned (texts_of macros arguments) opens new
 unfolding open_body
-turned-usage macros arguments opens new look len id behind l f used none e =
-    OpensBody look.at len id behind [] (look-front (texts_of macros arguments) opens look (front.Usage len) l f) used
+turned-usage macros arguments opens new peek len id behind l f used none e =
+    OpensBody peek.at len id behind [] (peek-front (texts_of macros arguments) opens peek (front.Usage len) l f) used
     (sym (ap (λ (o : Option (List Formal)). length (unwrap_or o [])) none)) e
 
 -- a call has bound as many ranges as its macro has formals
@@ -318,17 +318,17 @@ unfolding IsBoundCall
 bound-count macros text at end id b = length-map b.ranges range_part ∙ b.bound.count
 
 -- the body of a macro with a list is opened, or nothing changes
-pub turned-call : (macros : List Macro) (arguments text : List ℕ) (view new : CursorsView) (look : Look) (len at end id home : ℕ) (o : Opening) → IsLook (texts_of macros arguments) view.opens look
-    → look.front ≡ front.Usage len → IsUsed (texts_of macros arguments) view.opens (front_name (texts_of macros arguments) view.opens len) id → home ≡ front_scope view.opens
+pub turned-call : (macros : List Macro) (arguments text : List ℕ) (view new : CursorsView) (peek : Peek) (len at end id home : ℕ) (o : Opening) → IsPeek (texts_of macros arguments) view.opens peek
+    → peek.front ≡ front.Usage len → IsUsed (texts_of macros arguments) view.opens (front_name (texts_of macros arguments) view.opens len) id → home ≡ front_scope view.opens
     → IsOpening macros text at end id home view o new → Turned (texts_of macros arguments) view.opens new.opens
 unfolding IsOpening open_body
-turned-call macros arguments text view new look len at end id home Opened l f used scope b =
+turned-call macros arguments text view new peek len at end id home Opened l f used scope b =
     let parts = map range_part b.call.ranges in
-    OpensBody look.at len id b.call.behind parts (look-front (texts_of macros arguments) view.opens look (front.Usage len) l f) used
+    OpensBody peek.at len id b.call.behind parts (peek-front (texts_of macros arguments) view.opens peek (front.Usage len) l f) used
     (bound-count macros text at end id b.call)
     (ap (λ (v : CursorsView). v.opens) b.opens ∙ ap (λ (h : ℕ). open_body (texts_of macros []) id parts h ∷ moved_to b.call.behind view.opens) scope)
-turned-call macros arguments text view new look len at end id home (Lacks kind) l f used scope b = Stays (ap (λ (v : CursorsView). v.opens) b.0)
-turned-call macros arguments text view new look len at end id home Deep l f used scope b = Stays (ap (λ (v : CursorsView). v.opens) b.0)
+turned-call macros arguments text view new peek len at end id home (Lacks kind) l f used scope b = Stays (ap (λ (v : CursorsView). v.opens) b.0)
+turned-call macros arguments text view new peek len at end id home Deep l f used scope b = Stays (ap (λ (v : CursorsView). v.opens) b.0)
 
 -- the innermost texts are closed, and then one more
 pub closes-more : (old mid new : List Open) → Closes old mid → new ≡ drop 1 mid → Closes old new

@@ -35,14 +35,14 @@ use Rattle.rdlpp_meaning.proofs.Outcomes.{and_then-gives_gives, and_then-gives_n
 use Rattle.rdlpp_meaning.proofs.KeptTexts.{HasCleanTexts, clean_keeps_all, clean_table, first_spelled, text_nil, text_step}
 use Rattle.rdlpp_texts.specs.BoundCalls.{KeepsAll}
 use Rattle.rdlpp_texts.specs.Digits.{IsFalling, cursor_digits}
-use Rattle.rdlpp_texts.specs.Fronts.{AreCopied, IsFront, IsLook, IsLookAhead, run_len}
+use Rattle.rdlpp_texts.specs.TextItems.{AreCopied, IsTextItem, IsPeek, IsPeekAhead, run_len}
 use Rattle.rdlpp_texts.specs.Opened.{CursorsView, moved_to}
 use Rattle.rdlpp_texts.specs.Places.{place_bytes, source_formals, source_text, texts_of}
 use Rattle.rdlpp_texts.specs.Scopes.{front_source}
 use Rattle.rdlpp_texts.specs.Steps.{AreSound, IsStep, IsUnlent, StaysRefused, StepsTo, wordless}
-use Rattle.rdlpp_texts.specs.declared.front.Front.{Front}
-use Rattle.rdlpp_texts.specs.declared.front.Front.TheVariants as front
-use Rattle.rdlpp_texts.specs.declared.front.Look.{Look}
+use Rattle.rdlpp_texts.specs.declared.peek.TextItem.{TextItem}
+use Rattle.rdlpp_texts.specs.declared.peek.TextItem.TheVariants as front
+use Rattle.rdlpp_texts.specs.declared.peek.Peek.{Peek}
 use Rattle.rdlpp_texts.specs.declared.place.TextPlace.{TextPlace}
 use Rattle.rdlpp_texts.specs.declared.place.TextSource.{TextSource}
 use Rattle.rdlpp_texts.specs.declared.place.TextSource.TheVariants.{Arguments}
@@ -50,7 +50,7 @@ use Rattle.rdlpp_texts.specs.declared.step.CursorFault.{CursorFault}
 use Rattle.rdlpp_texts.specs.declared.step.CursorStep.{CursorStep}
 use Rattle.rdlpp_texts.specs.declared.step.CursorStep.TheVariants.{Lends, Refused, Silent}
 use Rattle.rdlpp_texts.proofs.BoundParts.{keeps_all_by}
-use Rattle.rdlpp_texts.proofs.Falling.{falls-drop, falls-twice, look-moves}
+use Rattle.rdlpp_texts.proofs.Falling.{falls-drop, falls-twice, peek-moves}
 use Rattle.rdlpp_texts.proofs.Scoping.{front-formals, source-around}
 
 -- A run of tokens that are copied, up to the first stop of a text.
@@ -387,9 +387,9 @@ first-sound texts x below len h some closes e =
 
 -- an open text of which nothing is left is closed
 pub step-ended : (line depth : ℕ) (texts : Texts) (x : Open) (below : List Open) → AreSound texts (x ∷ below)
-    → IsFront (source_formals texts (front_source (x ∷ below))) (open_bytes texts x below) front.Ended
+    → IsTextItem (source_formals texts (front_source (x ∷ below))) (open_bytes texts x below) front.Ended
     → IsStep line depth texts (x ∷ below) Silent below
-unfolding IsStep StepsTo IsFront
+unfolding IsStep StepsTo IsTextItem
 step-ended line depth texts x below h e rules s m =
     step-closes rules s line depth texts x below e
 
@@ -419,10 +419,10 @@ fault-same s line texts fault kind word k w =
 
 -- a lone backquote is a fault
 pub step-bare : (line depth : ℕ) (texts : Texts) (x : Open) (below : List Open) (new : List Open) (fault : CursorFault) → AreSound texts (x ∷ below)
-    → IsFront (source_formals texts (front_source (x ∷ below))) (open_bytes texts x below) front.Bare
+    → IsTextItem (source_formals texts (front_source (x ∷ below))) (open_bytes texts x below) front.Bare
     → fault.kind ≡ NoName → place_bytes texts fault.word ≡ []
     → IsStep line depth texts (x ∷ below) (Refused fault) new
-unfolding IsStep StepsTo IsFront
+unfolding IsStep StepsTo IsTextItem
 step-bare line depth texts x below new fault h f k w rules s m =
     left-bare rules s line depth texts x below f.0 (kind-first texts x below BareBackquote (h.are_inside).1.1.0 f.1)
     ∙ sym (fault-same s line texts fault NoName [] k w)
@@ -462,11 +462,11 @@ first-formal texts x below len place mode h e named =
 
 -- what a formal stands for is opened, where there is room
 pub step-formal : (line depth : ℕ) (texts : Texts) (x : Open) (below : List Open) (len place : ℕ) (new : Open) → AreSound texts (x ∷ below)
-    → IsFront (source_formals texts (front_source (x ∷ below))) (open_bytes texts x below) (front.Formal len place)
+    → IsTextItem (source_formals texts (front_source (x ∷ below))) (open_bytes texts x below) (front.Formal len place)
     → found_standing texts.macros (scope_open (x ∷ below) (open_scope x below)) (open_scope x below) place ≡ Some new
     → length (x ∷ below) < depth
     → IsStep line depth texts (x ∷ below) Silent (new ∷ moved_to (x.part.from + len) (x ∷ below))
-unfolding IsStep StepsTo IsFront moved_to open_behind
+unfolding IsStep StepsTo IsTextItem moved_to open_behind
 step-formal line depth texts x below len place new h f standing room rules s m =
     let mode : x.part.mode ≡ Plain = (h.are_inside).1.1.0 in
     let named : formal_named (scope_formals texts.macros (x ∷ below) (open_scope x below)) (first_bytes texts x below) ≡ Some place = first-formal texts x below len place mode (h.are_open).0 f.2 f.3 in
@@ -475,10 +475,10 @@ step-formal line depth texts x below len place new h f standing room rules s m =
 
 -- and is a fault where there is none
 pub step-formal_deep : (line depth : ℕ) (texts : Texts) (x : Open) (below : List Open) (len place : ℕ) (new : List Open) (fault : CursorFault) → AreSound texts (x ∷ below)
-    → IsFront (source_formals texts (front_source (x ∷ below))) (open_bytes texts x below) (front.Formal len place)
+    → IsTextItem (source_formals texts (front_source (x ∷ below))) (open_bytes texts x below) (front.Formal len place)
     → depth ≤ length (x ∷ below) → fault.kind ≡ DepthPassed → place_bytes texts fault.word ≡ []
     → IsStep line depth texts (x ∷ below) (Refused fault) new
-unfolding IsStep StepsTo IsFront
+unfolding IsStep StepsTo IsTextItem
 step-formal_deep line depth texts x below len place new fault h f deep k w rules s m =
     let mode : x.part.mode ≡ Plain = (h.are_inside).1.1.0 in
     let named : formal_named (scope_formals texts.macros (x ∷ below) (open_scope x below)) (first_bytes texts x below) ≡ Some place = first-formal texts x below len place mode (h.are_open).0 f.2 f.3 in
@@ -491,12 +491,12 @@ pub sound-tail : (texts : Texts) (x : Open) (below : List Open) → AreSound tex
 sound-tail texts x below h = record { are_open = ((h.are_open).1).1; are_inside = (((h.are_inside).1).1).1; are_kept = ((h.are_kept).1).1 }
 
 -- a step by a look: nothing is left
-pub look-ended : (line depth : ℕ) (texts : Texts) (opens : List Open) (look : Look) → AreSound texts opens → IsLook texts opens look → look.front ≡ front.Ended
+pub peek-ended : (line depth : ℕ) (texts : Texts) (opens : List Open) (peek : Peek) → AreSound texts opens → IsPeek texts opens peek → peek.front ≡ front.Ended
     → IsStep line depth texts opens Silent (drop 1 opens) × AreSound texts (drop 1 opens)
-unfolding IsLook
-look-ended line depth texts [] look h l e = absurd l
-look-ended line depth texts (x ∷ below) look h l e =
-    (step-ended line depth texts x below h (subst (λ (f : Front). IsFront (source_formals texts (front_source (x ∷ below))) (open_bytes texts x below) f) e l.3), sound-tail texts x below h)
+unfolding IsPeek
+peek-ended line depth texts [] peek h l e = absurd l
+peek-ended line depth texts (x ∷ below) peek h l e =
+    (step-ended line depth texts x below h (subst (λ (f : TextItem). IsTextItem (source_formals texts (front_source (x ∷ below))) (open_bytes texts x below) f) e l.3), sound-tail texts x below h)
 
 -- A step of open texts where neither a formal nor a usage stands at the front of the innermost.
 
@@ -514,41 +514,41 @@ same-front text other from end n some inside e =
     ∙ ap (λ (k : ℕ). take k (drop from other)) back
 
 -- what is copied is lent
-pub look-run : (line depth : ℕ) (texts : Texts) (opens : List Open) (look : Look) → AreSound texts opens → IsLookAhead texts opens look → look.from < look.at
-    → IsStep line depth texts opens (Lends (record { source = look.source; from = look.from; end = look.at })) (moved_to look.at opens)
-unfolding IsLookAhead AreCopied open_bytes place_bytes
-look-run line depth texts [] look h l more = absurd l
-look-run line depth texts (x ∷ below) look h l more =
-    let n = look.at - look.from in
+pub peek-run : (line depth : ℕ) (texts : Texts) (opens : List Open) (peek : Peek) → AreSound texts opens → IsPeekAhead texts opens peek → peek.from < peek.at
+    → IsStep line depth texts opens (Lends (record { source = peek.source; from = peek.from; end = peek.at })) (moved_to peek.at opens)
+unfolding IsPeekAhead AreCopied open_bytes place_bytes
+peek-run line depth texts [] peek h l more = absurd l
+peek-run line depth texts (x ∷ below) peek h l more =
+    let n = peek.at - peek.from in
     let from = l.1 in
     let some : 0 < n = omega (arith, more) in
     let place : TextPlace = record { source = front_source (x ∷ below); from = x.part.from; end = x.part.from + n } in
     let step : IsStep line depth texts (x ∷ below) (Lends place) (moved_to (x.part.from + n) (x ∷ below)) =
     step-run line depth texts x below n place h some l.3
     (same-front (text_around texts x.kind x.home below) (source_text texts (front_source (x ∷ below))) x.part.from x.part.end n some l.3.0 (source-around texts x below)) in
-    let at : look.at ≡ x.part.from + n = omega (arith, from, more) in
-    subst (λ (s : TextSource). IsStep line depth texts (x ∷ below) (Lends (record { source = s; from = look.from; end = look.at })) (moved_to look.at (x ∷ below))) (sym l.0)
-    (subst (λ (m : ℕ). IsStep line depth texts (x ∷ below) (Lends (record { source = front_source (x ∷ below); from = m; end = look.at })) (moved_to look.at (x ∷ below))) (sym l.1)
+    let at : peek.at ≡ x.part.from + n = omega (arith, from, more) in
+    subst (λ (s : TextSource). IsStep line depth texts (x ∷ below) (Lends (record { source = s; from = peek.from; end = peek.at })) (moved_to peek.at (x ∷ below))) (sym l.0)
+    (subst (λ (m : ℕ). IsStep line depth texts (x ∷ below) (Lends (record { source = front_source (x ∷ below); from = m; end = peek.at })) (moved_to peek.at (x ∷ below))) (sym l.1)
     (subst (λ (m : ℕ). IsStep line depth texts (x ∷ below) (Lends (record { source = front_source (x ∷ below); from = x.part.from; end = m })) (moved_to m (x ∷ below))) (sym at) step))
 
 -- behind what is copied the open texts are sound
-pub look-passed : (texts : Texts) (opens : List Open) (look : Look) → AreSound texts opens → IsLookAhead texts opens look → AreSound texts (moved_to look.at opens)
-unfolding IsLookAhead AreCopied
-look-passed texts [] look h l = absurd l
-look-passed texts (x ∷ below) look h l =
+pub peek-passed : (texts : Texts) (opens : List Open) (peek : Peek) → AreSound texts opens → IsPeekAhead texts opens peek → AreSound texts (moved_to peek.at opens)
+unfolding IsPeekAhead AreCopied
+peek-passed texts [] peek h l = absurd l
+peek-passed texts (x ∷ below) peek h l =
     let from = l.1 in
     let order = l.2 in
-    let at : look.at ≡ x.part.from + (look.at - look.from) = omega (arith, from, order) in
+    let at : peek.at ≡ x.part.from + (peek.at - peek.from) = omega (arith, from, order) in
     subst (λ (m : ℕ). AreSound texts (moved_to m (x ∷ below))) (sym at)
-    (run-sound texts (source_formals texts (front_source (x ∷ below))) x below (look.at - look.from) h l.3.0 l.3.1)
+    (run-sound texts (source_formals texts (front_source (x ∷ below))) x below (peek.at - peek.from) h l.3.0 l.3.1)
 
 -- a lone backquote is a fault
-pub look-bare : (line depth : ℕ) (texts : Texts) (opens new : List Open) (look : Look) (fault : CursorFault) → AreSound texts opens → IsLook texts opens look → look.front ≡ front.Bare
+pub peek-bare : (line depth : ℕ) (texts : Texts) (opens new : List Open) (peek : Peek) (fault : CursorFault) → AreSound texts opens → IsPeek texts opens peek → peek.front ≡ front.Bare
     → fault.kind ≡ NoName → place_bytes texts fault.word ≡ [] → IsStep line depth texts opens (Refused fault) new
-unfolding IsLook
-look-bare line depth texts [] new look fault h l e k w = absurd l
-look-bare line depth texts (x ∷ below) new look fault h l e k w =
-    step-bare line depth texts x below new fault h (subst (λ (f : Front). IsFront (source_formals texts (front_source (x ∷ below))) (open_bytes texts x below) f) e l.3) k w
+unfolding IsPeek
+peek-bare line depth texts [] new peek fault h l e k w = absurd l
+peek-bare line depth texts (x ∷ below) new peek fault h l e k w =
+    step-bare line depth texts x below new fault h (subst (λ (f : TextItem). IsTextItem (source_formals texts (front_source (x ∷ below))) (open_bytes texts x below) f) e l.3) k w
 
 -- no bytes stand in an empty range
 pub no-word : (texts : Texts) (source : TextSource) → place_bytes texts (record { source = source; from = 0; end = 0 }) ≡ []
@@ -591,39 +591,39 @@ pub record IsPassed (texts : Texts) (view new : CursorsView) (step : CursorStep)
   pub refused : StaysRefused view step new
 
 -- the innermost is closed
-pub pass-ended : (texts : Texts) (view new : CursorsView) (look : Look) → AreSound texts view.opens → IsLook texts view.opens look → look.front ≡ front.Ended
+pub pass-ended : (texts : Texts) (view new : CursorsView) (peek : Peek) → AreSound texts view.opens → IsPeek texts view.opens peek → peek.front ≡ front.Ended
     → new ≡ record { opens = drop 1 view.opens; line = view.line; depth = view.depth } → IsPassed texts view new Silent
 unfolding IsFalling StaysRefused
-pass-ended texts view new look h l e is =
-    let p = look-ended view.line view.depth texts view.opens look h l e in
+pass-ended texts view new peek h l e is =
+    let p = peek-ended view.line view.depth texts view.opens peek h l e in
     subst (λ (v : CursorsView). IsPassed texts view v Silent) (sym is) (record {
       is_step = p.0;
       sound = p.1;
       kept = (refl, refl);
-      digits = falls-drop texts view.opens look l;
+      digits = falls-drop texts view.opens peek l;
       refused = tt;
     })
 
 -- what is copied is lent
-pub pass-run : (texts : Texts) (view new : CursorsView) (look : Look) → AreSound texts view.opens → IsLookAhead texts view.opens look → look.from < look.at
-    → new ≡ record { opens = moved_to look.at view.opens; line = view.line; depth = view.depth }
-    → IsPassed texts view new (Lends (record { source = look.source; from = look.from; end = look.at }))
+pub pass-run : (texts : Texts) (view new : CursorsView) (peek : Peek) → AreSound texts view.opens → IsPeekAhead texts view.opens peek → peek.from < peek.at
+    → new ≡ record { opens = moved_to peek.at view.opens; line = view.line; depth = view.depth }
+    → IsPassed texts view new (Lends (record { source = peek.source; from = peek.from; end = peek.at }))
 unfolding IsFalling StaysRefused
-pass-run texts view new look h l more is =
-    subst (λ (v : CursorsView). IsPassed texts view v (Lends (record { source = look.source; from = look.from; end = look.at }))) (sym is) (record {
-      is_step = look-run view.line view.depth texts view.opens look h l more;
-      sound = look-passed texts view.opens look h l;
+pass-run texts view new peek h l more is =
+    subst (λ (v : CursorsView). IsPassed texts view v (Lends (record { source = peek.source; from = peek.from; end = peek.at }))) (sym is) (record {
+      is_step = peek-run view.line view.depth texts view.opens peek h l more;
+      sound = peek-passed texts view.opens peek h l;
       kept = (refl, refl);
-      digits = look-moves texts view.opens look l more;
+      digits = peek-moves texts view.opens peek l more;
       refused = tt;
     })
 
 -- a lone backquote is a fault
-pub pass-bare : (texts : Texts) (view : CursorsView) (look : Look) → AreSound texts view.opens → IsLook texts view.opens look → look.front ≡ front.Bare
+pub pass-bare : (texts : Texts) (view : CursorsView) (peek : Peek) → AreSound texts view.opens → IsPeek texts view.opens peek → peek.front ≡ front.Bare
     → IsPassed texts view view (wordless NoName)
 unfolding IsFalling StaysRefused
-pass-bare texts view look h l e = record {
-  is_step = look-bare view.line view.depth texts view.opens view.opens look (record { kind = NoName; word = record { source = Arguments; from = 0; end = 0 } }) h l e refl (no-word texts Arguments);
+pass-bare texts view peek h l e = record {
+  is_step = peek-bare view.line view.depth texts view.opens view.opens peek (record { kind = NoName; word = record { source = Arguments; from = 0; end = 0 } }) h l e refl (no-word texts Arguments);
   sound = h;
   kept = (refl, refl);
   digits = tt;

@@ -133,9 +133,9 @@ unfolding token_of plain_token whole role_meant kind_role begins_perl begins_lin
 brace_ends bs = named (125 ∷ bs) (whole Closer 1) role.Closer refl (omega arith) (omega arith) refl
 
 -- so at the front of a text
-pub front_of : (n : ℕ) (text : List ℕ) (t : CallToken) → 0 < n → get_or text 0 0 ≡ n → ((bs : List ℕ) → IsFirstToken Plain (n ∷ bs) t) → IsFirstToken Plain text t
-front_of n [] t some e h = absurd (omega (arith, some, e))
-front_of n (b ∷ bs) t some e h = subst (λ (m : ℕ). IsFirstToken Plain (m ∷ bs) t) (sym e) (h bs)
+pub peek_in : (n : ℕ) (text : List ℕ) (t : CallToken) → 0 < n → get_or text 0 0 ≡ n → ((bs : List ℕ) → IsFirstToken Plain (n ∷ bs) t) → IsFirstToken Plain text t
+peek_in n [] t some e h = absurd (omega (arith, some, e))
+peek_in n (b ∷ bs) t some e h = subst (λ (m : ℕ). IsFirstToken Plain (m ∷ bs) t) (sym e) (h bs)
 
 -- a comma or a bracket is one
 pub mark_first : (text : List ℕ) → (get_or text 0 0 == 44 || (is_opener (get_or text 0 0) || is_closer (get_or text 0 0))) ≡ true
@@ -145,7 +145,7 @@ mark_first text h =
     let b = get_or text 0 0 in
     let P : CallRole → Type 0 = λ r. IsFirstToken Plain text (call.plain_token r 1) in
     let by : (n : ℕ) (r : CallRole) → 0 < n → (b == n) ≡ true → call.quick_role n ≡ r → ((bs : List ℕ) → IsFirstToken Plain (n ∷ bs) (call.plain_token r 1)) → P (call.quick_role b) =
-    λ n r some e f g. subst P (sym (ap (λ (k : ℕ). call.quick_role k) (eqb-true b n e) ∙ f)) (front_of n text (call.plain_token r 1) some (eqb-true b n e) g) in
+    λ n r some e f g. subst P (sym (ap (λ (k : ℕ). call.quick_role k) (eqb-true b n e) ∙ f)) (peek_in n text (call.plain_token r 1) some (eqb-true b n e) g) in
     ⊎_elim (λ e. by 44 role.Comma (omega arith) e refl comma_here)
     (λ i. ⊎_elim
     (λ o. ⊎_elim (λ p. ⊎_elim (λ e. by 40 role.Start (omega arith) e refl start_here) (λ e. by 91 role.Opener (omega arith) e refl square_here) (or_cases _ _ p))
@@ -289,10 +289,10 @@ first_at text at b e =
     get_or-drop at text 0 0 ∙ ap (λ (k : ℕ). get_or text k 0) zero_behind ∙ e
 
 comma_at : (text : List ℕ) (at : ℕ) → get_or text at 0 ≡ 44 → IsFirstToken Plain (drop at text) (call.plain_token role.Comma 1)
-comma_at text at e = front_of 44 (drop at text) (call.plain_token role.Comma 1) (omega arith) (first_at text at 44 e) comma_here
+comma_at text at e = peek_in 44 (drop at text) (call.plain_token role.Comma 1) (omega arith) (first_at text at 44 e) comma_here
 
 end_at : (text : List ℕ) (at : ℕ) → get_or text at 0 ≡ 41 → IsFirstToken Plain (drop at text) (call.plain_token role.End 1)
-end_at text at e = front_of 41 (drop at text) (call.plain_token role.End 1) (omega arith) (first_at text at 41 e) end_here
+end_at text at e = peek_in 41 (drop at text) (call.plain_token role.End 1) (omega arith) (first_at text at 41 e) end_here
 
 -- a word in front of a comma is a part
 pub comma_part : (closes : Bool) (text : List ℕ) (at n : ℕ) → IsWordAt text at n → get_or text (at + n) 0 ≡ 44

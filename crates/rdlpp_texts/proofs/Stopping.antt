@@ -21,11 +21,11 @@ use Rattle.rdlpp_table.specs.declared.stop.Stop.{Stop}
 use Rattle.rdlpp_table.specs.declared.stop.Stop.TheVariants as stop
 use Rattle.rdlpp_table.proofs.FirstStops.{or_none, or_some}
 use Rattle.rdlpp_meaning.specs.Opens.{Texts}
-use Rattle.rdlpp_texts.specs.Fronts.{AreCopied, IsAhead, IsFront, is_back, run_len}
+use Rattle.rdlpp_texts.specs.TextItems.{AreCopied, IsNextItem, IsTextItem, is_back, run_len}
 use Rattle.rdlpp_texts.specs.Places.{source_formals, source_text}
-use Rattle.rdlpp_texts.specs.declared.front.Ahead.{Ahead}
-use Rattle.rdlpp_texts.specs.declared.front.Front.{Front}
-use Rattle.rdlpp_texts.specs.declared.front.Front.TheVariants as front
+use Rattle.rdlpp_texts.specs.declared.peek.NextItem.{NextItem}
+use Rattle.rdlpp_texts.specs.declared.peek.TextItem.{TextItem}
+use Rattle.rdlpp_texts.specs.declared.peek.TextItem.TheVariants as front
 use Rattle.rdlpp_texts.specs.declared.place.TextSource.{TextSource}
 use Rattle.rdlpp_texts.specs.declared.place.TextSource.TheVariants as place_of
 use Rattle.rdlpp_texts.proofs.Passing.{stop-plain}
@@ -273,8 +273,8 @@ stop-front formals from at text s e p h =
 
 -- a formal at the front
 pub front-formal : (formals : List Formal) (from at len place : ℕ) (text : List ℕ) → stop.Formal at len place ≡ stop_of formals from text → at ≤ from
-    → IsFront formals text (front.Formal len place)
-unfolding IsFront
+    → IsTextItem formals text (front.Formal len place)
+unfolding IsTextItem
 front-formal formals from at len place text e h =
     let s = stop-front formals from at text (stop.Formal at len place) e refl h in
     let t = token_of Plain text in
@@ -283,8 +283,8 @@ front-formal formals from at len place text e h =
 
 -- a usage at the front
 pub front-usage : (formals : List Formal) (from at len : ℕ) (text : List ℕ) → stop.Usage at len ≡ stop_of formals from text → at ≤ from
-    → IsFront formals text (front.Usage len)
-unfolding IsFront
+    → IsTextItem formals text (front.Usage len)
+unfolding IsTextItem
 front-usage formals from at len text e h =
     let s = stop-front formals from at text (stop.Usage at len) e refl h in
     let t = token_of Plain text in
@@ -293,18 +293,18 @@ front-usage formals from at len text e h =
 
 -- a lone backquote at the front
 pub front-bare : (formals : List Formal) (from at : ℕ) (text : List ℕ) → stop.Bare at ≡ stop_of formals from text → at ≤ from
-    → IsFront formals text front.Bare
-unfolding IsFront
+    → IsTextItem formals text front.Bare
+unfolding IsTextItem
 front-bare formals from at text e h =
     let s = stop-front formals from at text (stop.Bare at) e refl h in
     let t = token_of Plain text in
     (s.0, bare-by formals from t.len t.next_mode t.kind (take t.len text) at s.1)
 
 -- what stands before a stop is copied
-pub ahead-stop : (formals : List Formal) (from at : ℕ) (text : List ℕ) (s : Stop) (own : Front) → s ≡ stop_of formals from text → stop_place s ≡ Some at
-    → ((from : ℕ) (text : List ℕ) → s ≡ stop_of formals from text → at ≤ from → IsFront formals text own)
-    → IsAhead formals text from (record { at = at; front = own })
-unfolding stop_of AreCopied IsAhead PlaceTells
+pub ahead-stop : (formals : List Formal) (from at : ℕ) (text : List ℕ) (s : Stop) (own : TextItem) → s ≡ stop_of formals from text → stop_place s ≡ Some at
+    → ((from : ℕ) (text : List ℕ) → s ≡ stop_of formals from text → at ≤ from → IsTextItem formals text own)
+    → IsNextItem formals text from (record { at = at; front = own })
+unfolding stop_of AreCopied IsNextItem PlaceTells
 ahead-stop formals from at text s own e p h =
     let n = run_len formals (tokens_from Plain 0 text) text in
     let tells : (at ≡ from + n) × (n < length text) =
@@ -316,8 +316,8 @@ ahead-stop formals from at text s own e p h =
 
 -- no stop: all of the text is copied
 pub ahead-whole : (formals : List Formal) (from end : ℕ) (text : List ℕ) → from + length text ≡ end → stop.None ≡ stop_of formals from text
-    → IsAhead formals text from (record { at = end; front = front.Ended })
-unfolding stop_of AreCopied IsAhead IsFront PlaceTells
+    → IsNextItem formals text from (record { at = end; front = front.Ended })
+unfolding stop_of AreCopied IsNextItem IsTextItem PlaceTells
 ahead-whole formals from end text e s =
     let tells : run_len formals (tokens_from Plain 0 text) text ≡ length text =
     subst (λ (o : Stop). PlaceTells from (run_len formals (tokens_from Plain 0 text) text) (length text) (stop_place o)) (sym s)
@@ -325,12 +325,12 @@ ahead-whole formals from end text e s =
     (omega (arith, e), (omega (arith, e), omega (arith, tells, e)), drop_all (end - from) text (omega (arith, e)))
 
 -- the run of a text without formals, and what stands behind it
-pub ahead-plain : (text : List ℕ) (n from : ℕ) (own : Front) → n ≡ run_len [] (tokens_from Plain 0 text) text → n ≤ length text
-    → IsFront [] (drop n text) own → IsAhead [] text from (record { at = from + n; front = own })
-unfolding AreCopied IsAhead
+pub ahead-plain : (text : List ℕ) (n from : ℕ) (own : TextItem) → n ≡ run_len [] (tokens_from Plain 0 text) text → n ≤ length text
+    → IsTextItem [] (drop n text) own → IsNextItem [] text from (record { at = from + n; front = own })
+unfolding AreCopied IsNextItem
 ahead-plain text n from own e inside f =
     let same : from + n - from ≡ n = omega arith in
-    (omega arith, (omega (arith, inside), sym e ∙ sym same), subst (λ (k : ℕ). IsFront [] (drop k text) own) (sym same) f)
+    (omega arith, (omega (arith, inside), sym e ∙ sym same), subst (λ (k : ℕ). IsTextItem [] (drop k text) own) (sym same) f)
 
 -- the run in front of a text without formals, where so many of its bytes are passed and the rest is read in a mode
 pub record IsRunning (text : List ℕ) (mode : Mode) (at : ℕ) : Type 0 where
@@ -412,8 +412,8 @@ running-end text mode at r e =
 
 -- what stands at the front of a text without formals whose run is empty
 pub front-plain : (text : List ℕ) (t : Token) → 0 < length text → run_len [] (tokens_from Plain 0 text) text ≡ 0 → t ≡ token_of Plain text
-    → (t.kind ≡ Back → IsFront [] text (front.Usage t.len)) × ((t.kind ≡ Back → ⊥) → IsFront [] text front.Bare)
-unfolding IsFront is_back
+    → (t.kind ≡ Back → IsTextItem [] text (front.Usage t.len)) × ((t.kind ≡ Back → ⊥) → IsTextItem [] text front.Bare)
+unfolding IsTextItem is_back
 front-plain text t some e is =
     let T = token_of Plain text in
     let kind : T.kind ≡ t.kind = ap (λ (u : Token). u.kind) (sym is) in (
@@ -437,37 +437,37 @@ front-plain text t some e is =
         absurd (omega (arith, step, positive, e))
 
 -- a text that isn't a body has no formals
-pub plain-source : (texts : Texts) (source : TextSource) (text : List ℕ) (from : ℕ) (f : Ahead) → ((id : ℕ) → source ≡ place_of.Body id → ⊥) → IsAhead [] text from f
-    → IsAhead (source_formals texts source) text from f
+pub plain-source : (texts : Texts) (source : TextSource) (text : List ℕ) (from : ℕ) (f : NextItem) → ((id : ℕ) → source ≡ place_of.Body id → ⊥) → IsNextItem [] text from f
+    → IsNextItem (source_formals texts source) text from f
 unfolding source_formals
 plain-source texts place_of.Arguments text from f other h = h
 plain-source texts (place_of.Body id) text from f other h = absurd (other id refl)
 plain-source texts (place_of.Default id place) text from f other h = h
 
 -- a range of a text that has no byte
-pub ahead-ended : (formals : List Formal) (text : List ℕ) (from end : ℕ) → end ≤ from → IsAhead formals (slice_range text from end) from (record { at = from; front = front.Ended })
-unfolding AreCopied IsAhead IsFront
+pub ahead-ended : (formals : List Formal) (text : List ℕ) (from end : ℕ) → end ≤ from → IsNextItem formals (slice_range text from end) from (record { at = from; front = front.Ended })
+unfolding AreCopied IsNextItem IsTextItem
 ahead-ended formals text from end h =
     let e : end - from ≡ 0 = omega (arith, h) in
     let none : take (end - from) (drop from text) ≡ [] = ap (λ (n : ℕ). take n (drop from text)) e in
-    subst (λ (bytes : List ℕ). IsAhead formals bytes from (record { at = from; front = front.Ended })) (sym none) (ended formals from (from - from) (omega arith) refl)
+    subst (λ (bytes : List ℕ). IsNextItem formals bytes from (record { at = from; front = front.Ended })) (sym none) (ended formals from (from - from) (omega arith) refl)
   where
-    ended : (formals : List Formal) (from n : ℕ) → n ≡ 0 → from - from ≡ n → IsAhead formals [] from (record { at = from; front = front.Ended })
+    ended : (formals : List Formal) (from n : ℕ) → n ≡ 0 → from - from ≡ n → IsNextItem formals [] from (record { at = from; front = front.Ended })
     ended formals from n zero same =
         (omega arith, (omega (arith, zero, same), run-empty formals [] refl ∙ sym (same ∙ zero)), drop_all (from - from) [] (omega arith))
 
 -- what stands ahead in a range of a body, by its first stop
-pub ahead-body : (texts : Texts) (source : TextSource) (id from end : ℕ) (s : Stop) (f : Ahead) → source ≡ place_of.Body id → from < end
+pub ahead-body : (texts : Texts) (source : TextSource) (id from end : ℕ) (s : Stop) (f : NextItem) → source ≡ place_of.Body id → from < end
     → end ≤ length (source_text texts source) → s ≡ stop_in (macro_at texts.macros id) from end
-    → ((formals : List Formal) (from : ℕ) (text : List ℕ) → from + length text ≡ end → s ≡ stop_of formals from text → IsAhead formals text from f)
-    → IsAhead (source_formals texts source) (slice_range (source_text texts source) from end) from f
+    → ((formals : List Formal) (from : ℕ) (text : List ℕ) → from + length text ≡ end → s ≡ stop_of formals from text → IsNextItem formals text from f)
+    → IsNextItem (source_formals texts source) (slice_range (source_text texts source) from end) from f
 unfolding source_formals source_text stop_in
 ahead-body texts source id from end s f e h inside is each =
     let body = (macro_at texts.macros id).body in
     let within : end ≤ length body = subst (λ (x : TextSource). end ≤ length (source_text texts x)) e inside in
     let size = length-take (end - from) (drop from body) in
     let rest = length-drop from body in
-    subst (λ (x : TextSource). IsAhead (source_formals texts x) (slice_range (source_text texts x) from end) from f) (sym e)
+    subst (λ (x : TextSource). IsNextItem (source_formals texts x) (slice_range (source_text texts x) from end) from f) (sym e)
     (each (formals_of (macro_at texts.macros id)) from (slice_range body from end) (omega (arith, h, within, size, rest)) is)
 
 -- a range of a body lies in it
@@ -522,22 +522,22 @@ unfolding stop_at
 bare-at at t bytes e = sym (ap (λ (k : Kind). let u : Token = record { kind = k; len = t.len; next_mode = t.next_mode } in stop_at [] at u bytes) e)
 
 -- a usage, where one stands behind the run
-pub unlisted-usage : (text : List ℕ) (from n len : ℕ) → n ≡ run_len [] (tokens_from Plain 0 text) text → IsFront [] (drop n text) (front.Usage len) → stop.Usage (from + n) len ≡ stop_of [] from text
-unfolding IsFront
+pub unlisted-usage : (text : List ℕ) (from n len : ℕ) → n ≡ run_len [] (tokens_from Plain 0 text) text → IsTextItem [] (drop n text) (front.Usage len) → stop.Usage (from + n) len ≡ stop_of [] from text
+unfolding IsTextItem
 unlisted-usage text from n len e f =
     let t = token_of Plain (drop n text) in
     ap (λ (k : ℕ). stop.Usage (from + n) k) (sym f.2) ∙ (usage-at (from + n) t (take t.len (drop n text)) f.1 ∙ unlisted-token text from n e f.0)
 
 -- or a lone backquote
-pub unlisted-bare : (text : List ℕ) (from n : ℕ) → n ≡ run_len [] (tokens_from Plain 0 text) text → IsFront [] (drop n text) front.Bare → stop.Bare (from + n) ≡ stop_of [] from text
-unfolding IsFront
+pub unlisted-bare : (text : List ℕ) (from n : ℕ) → n ≡ run_len [] (tokens_from Plain 0 text) text → IsTextItem [] (drop n text) front.Bare → stop.Bare (from + n) ≡ stop_of [] from text
+unfolding IsTextItem
 unlisted-bare text from n e f =
     let t = token_of Plain (drop n text) in
     bare-at (from + n) t (take t.len (drop n text)) f.1 ∙ unlisted-token text from n e f.0
 
 -- and no formal
-pub unlisted-formal : (text : List ℕ) (len place : ℕ) → IsFront [] text (front.Formal len place) → ⊥
-unfolding IsFront
+pub unlisted-formal : (text : List ℕ) (len place : ℕ) → IsTextItem [] text (front.Formal len place) → ⊥
+unfolding IsTextItem
 unlisted-formal text len place f =
     let found : None ≡ Some place = f.3 in
     absurd (cc)

@@ -22,17 +22,17 @@ use Rattle.rdlpp_meaning.specs.declared.fault.FaultKind.TheVariants.{DepthPassed
 use Rattle.rdlpp_meaning.proofs.OpenScopes.{IsOpenText, part-whole, standing-found, text-around}
 use Rattle.rdlpp_texts.specs.BoundCalls.{KeepsAll}
 use Rattle.rdlpp_texts.specs.Digits.{IsFalling, cursor_digits}
-use Rattle.rdlpp_texts.specs.Fronts.{IsFront, IsFrontPlace, IsLook, IsLookAhead}
+use Rattle.rdlpp_texts.specs.TextItems.{IsTextItem, IsFrontPlace, IsPeek, IsPeekAhead}
 use Rattle.rdlpp_texts.specs.Opened.{CursorsView, IsNoBody, StaysOutermost, is_spent, kind_of, moved_to, open_of}
 use Rattle.rdlpp_texts.specs.Places.{place_bytes, source_formals, source_text, texts_of}
 use Rattle.rdlpp_texts.specs.Scopes.{AreBound, IsBound, found_source, front_scope, front_source, kind_source}
 use Rattle.rdlpp_texts.specs.Steps.{AreSound, IsKnown, IsPlacedStep, IsStep, IsUnlent, KeepActuals, NamesWord, StaysRefused, StepsTo, wordless}
-use Rattle.rdlpp_texts.specs.Taking.{LooksAt, TakesStep, is_idle}
+use Rattle.rdlpp_texts.specs.Taking.{PeeksAt, TakesStep, is_idle}
 use Rattle.rdlpp_texts.specs.Turns.{Closed, Stays, Turned}
 use Rattle.rdlpp_texts.specs.Usages.{front_name, is_text_fault}
-use Rattle.rdlpp_texts.specs.declared.front.Front.{Front}
-use Rattle.rdlpp_texts.specs.declared.front.Front.TheVariants as front
-use Rattle.rdlpp_texts.specs.declared.front.Look.{Look}
+use Rattle.rdlpp_texts.specs.declared.peek.TextItem.{TextItem}
+use Rattle.rdlpp_texts.specs.declared.peek.TextItem.TheVariants as front
+use Rattle.rdlpp_texts.specs.declared.peek.Peek.{Peek}
 use Rattle.rdlpp_texts.specs.declared.place.TextPlace.{TextPlace}
 use Rattle.rdlpp_texts.specs.declared.place.TextSource.{TextSource}
 use Rattle.rdlpp_texts.specs.declared.place.TextSource.TheVariants.{Arguments, Body, Default}
@@ -42,8 +42,8 @@ use Rattle.rdlpp_texts.specs.declared.slot.SlotKind.TheVariants as slot
 use Rattle.rdlpp_texts.specs.declared.step.CursorFault.{CursorFault}
 use Rattle.rdlpp_texts.specs.declared.step.CursorStep.{CursorStep}
 use Rattle.rdlpp_texts.specs.declared.step.CursorStep.TheVariants.{Lends, Refused, Silent}
-use Rattle.rdlpp_texts.proofs.Falling.{falls-twice, formal-inside, look-opens, outer-ahead, outer-closed, outer-same, turned-unlent}
-use Rattle.rdlpp_texts.proofs.Passing.{IsPassed, at-each, default-keeps, first-sound, look-passed, name-closes, no-word, pass-behind, pass-ended, pass-run, silent-on, sound-tail, step-formal, step-formal_deep}
+use Rattle.rdlpp_texts.proofs.Falling.{falls-twice, formal-inside, peek-opens, outer-ahead, outer-closed, outer-same, turned-unlent}
+use Rattle.rdlpp_texts.proofs.Passing.{IsPassed, at-each, default-keeps, first-sound, peek-passed, name-closes, no-word, pass-behind, pass-ended, pass-run, silent-on, sound-tail, step-formal, step-formal_deep}
 use Rattle.rdlpp_texts.proofs.Scoping.{front-formals, source-scope}
 use Rattle.rdlpp_texts.proofs.Usages.{moved-room, open-run, placed-run, placed-word, placed-wordless, usage-word}
 
@@ -68,12 +68,12 @@ formals-same texts (Body id) = refl
 formals-same texts (Default id place) = refl
 
 -- the formal whose name stands at the front is one of the scope's text
-pub formal-place : (texts : Texts) (opens : List Open) (look : Look) (len place : ℕ) → AreSound texts opens → IsLook texts opens look → look.front ≡ front.Formal len place
+pub formal-place : (texts : Texts) (opens : List Open) (peek : Peek) (len place : ℕ) → AreSound texts opens → IsPeek texts opens peek → peek.front ≡ front.Formal len place
     → place < length (source_formals (texts_of texts.macros []) (found_source (scope_open opens (front_scope opens))))
-unfolding IsLook IsFront front_scope
-formal-place texts [] look len place h l e = absurd l
-formal-place texts (x ∷ below) look len place h l e =
-    let f = subst (λ (f : Front). IsFront (source_formals texts (front_source (x ∷ below))) (open_bytes texts x below) f) e l.3 in
+unfolding IsPeek IsTextItem front_scope
+formal-place texts [] peek len place h l e = absurd l
+formal-place texts (x ∷ below) peek len place h l e =
+    let f = subst (λ (f : TextItem). IsTextItem (source_formals texts (front_source (x ∷ below))) (open_bytes texts x below) f) e l.3 in
     let inside = (position-Some _ (source_formals texts (front_source (x ∷ below))) place no_formal f.3).0 in
     subst (λ (s : TextSource). place < length (source_formals (texts_of texts.macros []) s)) (source-scope x below (h.are_open).0)
     (subst (λ (formals : List Formal). place < length formals) (formals-same texts (front_source (x ∷ below))) inside)
@@ -251,46 +251,46 @@ no-body new t = by new.kind t
     by (slot.Default id place) t = tt
 
 -- what is found for the formal whose name stands at the front is sound in front of what is left behind that name
-pub formal-sound : (table : TableView) (texts : Texts) (opens : List Open) (look : Look) (len place : ℕ) (slot : Slot) → IsSound table → texts.macros ≡ table.macros
-    → AreSound texts opens → IsLook texts opens look → look.front ≡ front.Formal len place
+pub formal-sound : (table : TableView) (texts : Texts) (opens : List Open) (peek : Peek) (len place : ℕ) (slot : Slot) → IsSound table → texts.macros ≡ table.macros
+    → AreSound texts opens → IsPeek texts opens peek → peek.front ≡ front.Formal len place
     → found_standing texts.macros (scope_open opens (front_scope opens)) (front_scope opens) place ≡ Some (open_of slot [])
-    → AreSound texts (open_of slot [] ∷ moved_to (look.at + len) opens)
-unfolding IsLook IsFront
-formal-sound table texts [] look len place slot sound e h l f is = absurd l
-formal-sound table texts (x ∷ below) look len place slot sound e h l f is =
-    let own = formal-place texts (x ∷ below) look len place h l f in
+    → AreSound texts (open_of slot [] ∷ moved_to (peek.at + len) opens)
+unfolding IsPeek IsTextItem
+formal-sound table texts [] peek len place slot sound e h l f is = absurd l
+formal-sound table texts (x ∷ below) peek len place slot sound e h l f is =
+    let own = formal-place texts (x ∷ below) peek len place h l f in
     let stands = scope-stands table texts (x ∷ below) (front_scope (x ∷ below)) place (open_of slot []) sound e h own is in
-    let at = subst (λ (f : Front). IsFront (source_formals texts (front_source (x ∷ below))) (open_bytes texts x below) f) f l.3 in
+    let at = subst (λ (f : TextItem). IsTextItem (source_formals texts (front_source (x ∷ below))) (open_bytes texts x below) f) f l.3 in
     let moved = first-sound texts x below len h at.0 (name-closes _ at.1) at.2 in
     subst (λ (from : ℕ). AreSound texts (open_of slot [] ∷ moved_to (from + len) (x ∷ below))) (sym l.1)
     (text-sound texts (moved_to (x.part.from + len) (x ∷ below)) (open_of slot []) (standing-moved texts x below (x.part.from + len) (open_of slot []) stands) refl moved)
 
 -- it is no body
-pub formal-text : (table : TableView) (texts : Texts) (opens : List Open) (look : Look) (len place : ℕ) (new : Slot) → IsSound table → texts.macros ≡ table.macros
-    → AreSound texts opens → IsLook texts opens look → look.front ≡ front.Formal len place
+pub formal-text : (table : TableView) (texts : Texts) (opens : List Open) (peek : Peek) (len place : ℕ) (new : Slot) → IsSound table → texts.macros ≡ table.macros
+    → AreSound texts opens → IsPeek texts opens peek → peek.front ≡ front.Formal len place
     → Some (open_of new []) ≡ found_standing texts.macros (scope_open opens (front_scope opens)) (front_scope opens) place → IsNoBody new.kind
-formal-text table texts opens look len place new sound e h l f is =
-    no-body new (scope-stands table texts opens (front_scope opens) place (open_of new []) sound e h (formal-place texts opens look len place h l f) (sym is)).text
+formal-text table texts opens peek len place new sound e h l f is =
+    no-body new (scope-stands table texts opens (front_scope opens) place (open_of new []) sound e h (formal-place texts opens peek len place h l f) (sym is)).text
 
 -- it is opened, where there is room
-formal-step : (line depth : ℕ) (texts : Texts) (opens : List Open) (look : Look) (len place : ℕ) (slot : Slot) → AreSound texts opens → IsLook texts opens look
-    → look.front ≡ front.Formal len place
+formal-step : (line depth : ℕ) (texts : Texts) (opens : List Open) (peek : Peek) (len place : ℕ) (slot : Slot) → AreSound texts opens → IsPeek texts opens peek
+    → peek.front ≡ front.Formal len place
     → found_standing texts.macros (scope_open opens (front_scope opens)) (front_scope opens) place ≡ Some (open_of slot [])
-    → length opens < depth → IsStep line depth texts opens Silent (open_of slot [] ∷ moved_to (look.at + len) opens)
-unfolding IsLook front_scope
-formal-step line depth texts [] look len place slot h l f is room = absurd l
-formal-step line depth texts (x ∷ below) look len place slot h l f is room =
+    → length opens < depth → IsStep line depth texts opens Silent (open_of slot [] ∷ moved_to (peek.at + len) opens)
+unfolding IsPeek front_scope
+formal-step line depth texts [] peek len place slot h l f is room = absurd l
+formal-step line depth texts (x ∷ below) peek len place slot h l f is room =
     subst (λ (from : ℕ). IsStep line depth texts (x ∷ below) Silent (open_of slot [] ∷ moved_to (from + len) (x ∷ below))) (sym l.1)
     (step-formal line depth texts x below len place (open_of slot []) h
-    (subst (λ (f : Front). IsFront (source_formals texts (front_source (x ∷ below))) (open_bytes texts x below) f) f l.3) is room)
+    (subst (λ (f : TextItem). IsTextItem (source_formals texts (front_source (x ∷ below))) (open_bytes texts x below) f) f l.3) is room)
 
 -- some open text is found
-formal-found : (texts : Texts) (opens : List Open) (look : Look) (len place : ℕ) → AreSound texts opens → IsLook texts opens look → look.front ≡ front.Formal len place
+formal-found : (texts : Texts) (opens : List Open) (peek : Peek) (len place : ℕ) → AreSound texts opens → IsPeek texts opens peek → peek.front ≡ front.Formal len place
     → found_standing texts.macros (scope_open opens (front_scope opens)) (front_scope opens) place ≡ None → ⊥
-unfolding IsLook IsFront front_scope
-formal-found texts [] look len place h l f none = l
-formal-found texts (x ∷ below) look len place h l f none =
-    let at = subst (λ (f : Front). IsFront (source_formals texts (front_source (x ∷ below))) (open_bytes texts x below) f) f l.3 in
+unfolding IsPeek IsTextItem front_scope
+formal-found texts [] peek len place h l f none = l
+formal-found texts (x ∷ below) peek len place h l f none =
+    let at = subst (λ (f : TextItem). IsTextItem (source_formals texts (front_source (x ∷ below))) (open_bytes texts x below) f) f l.3 in
     let named : formal_named (scope_formals texts.macros (x ∷ below) (open_scope x below)) (take len (open_bytes texts x below)) ≡ Some place =
     sym (ap (λ (fs : List Formal). formal_named fs (take len (open_bytes texts x below))) (front-formals texts x below (h.are_open).0)) ∙ at.3 in
     let y = standing-found texts.macros (scope_open (x ∷ below) (open_scope x below)) (open_scope x below) place (take len (open_bytes texts x below)) named in
@@ -300,13 +300,13 @@ formal-found texts (x ∷ below) look len place h l f none =
     apart y e = cc
 
 -- without a slot it is refused
-formal-deep : (line depth : ℕ) (texts : Texts) (opens new : List Open) (look : Look) (len place : ℕ) → AreSound texts opens → IsLook texts opens look
-    → look.front ≡ front.Formal len place → depth ≤ length opens → IsStep line depth texts opens (wordless DepthPassed) new
-unfolding IsLook
-formal-deep line depth texts [] new look len place h l f deep = absurd l
-formal-deep line depth texts (x ∷ below) new look len place h l f deep =
+formal-deep : (line depth : ℕ) (texts : Texts) (opens new : List Open) (peek : Peek) (len place : ℕ) → AreSound texts opens → IsPeek texts opens peek
+    → peek.front ≡ front.Formal len place → depth ≤ length opens → IsStep line depth texts opens (wordless DepthPassed) new
+unfolding IsPeek
+formal-deep line depth texts [] new peek len place h l f deep = absurd l
+formal-deep line depth texts (x ∷ below) new peek len place h l f deep =
     step-formal_deep line depth texts x below len place new (record { kind = DepthPassed; word = record { source = Arguments; from = 0; end = 0 } }) h
-    (subst (λ (f : Front). IsFront (source_formals texts (front_source (x ∷ below))) (open_bytes texts x below) f) f l.3) deep refl (no-word texts Arguments)
+    (subst (λ (f : TextItem). IsTextItem (source_formals texts (front_source (x ∷ below))) (open_bytes texts x below) f) f l.3) deep refl (no-word texts Arguments)
 
 -- so there is still room
 pub room-moved : (view mid : CursorsView) (at : ℕ) → nat_le view.depth (length view.opens) ≡ false
@@ -314,32 +314,32 @@ pub room-moved : (view mid : CursorsView) (at : ℕ) → nat_le view.depth (leng
 room-moved view mid at room e = moved-room view mid at e (leb-false view.depth (length view.opens) room)
 
 -- what a formal stands for is opened behind its name
-pub pass-formal : (table : TableView) (texts : Texts) (view mid new : CursorsView) (look : Look) (len place at : ℕ) (slot : Slot) → IsSound table → texts.macros ≡ table.macros
-    → AreSound texts view.opens → IsLook texts view.opens look → look.front ≡ front.Formal len place
+pub pass-formal : (table : TableView) (texts : Texts) (view mid new : CursorsView) (peek : Peek) (len place at : ℕ) (slot : Slot) → IsSound table → texts.macros ≡ table.macros
+    → AreSound texts view.opens → IsPeek texts view.opens peek → peek.front ≡ front.Formal len place
     → Some (open_of slot []) ≡ found_standing texts.macros (scope_open view.opens (front_scope view.opens)) (front_scope view.opens) place
-    → nat_le view.depth (length view.opens) ≡ false → at ≡ look.at + len
+    → nat_le view.depth (length view.opens) ≡ false → at ≡ peek.at + len
     → mid ≡ record { opens = moved_to at view.opens; line = view.line; depth = view.depth }
     → new ≡ record { opens = open_of slot [] ∷ mid.opens; line = mid.line; depth = mid.depth }
     → IsPassed texts view new Silent
 unfolding IsFalling StaysRefused
-pass-formal table texts view mid new look len place at slot sound same h l f is room a m n =
-    let inside = formal-inside texts view.opens look len place l f in
+pass-formal table texts view mid new peek len place at slot sound same h l f is room a m n =
+    let inside = formal-inside texts view.opens peek len place l f in
     subst (λ (v : CursorsView). IsPassed texts view v Silent) (sym n)
     (subst (λ (v : CursorsView). IsPassed texts view (record { opens = open_of slot [] ∷ v.opens; line = v.line; depth = v.depth }) Silent) (sym m)
     (subst (λ (k : ℕ). IsPassed texts view (record { opens = open_of slot [] ∷ moved_to k view.opens; line = view.line; depth = view.depth }) Silent) (sym a) (record {
-      is_step = formal-step view.line view.depth texts view.opens look len place slot h l f (sym is) (leb-false view.depth (length view.opens) room);
-      sound = formal-sound table texts view.opens look len place slot sound same h l f (sym is);
+      is_step = formal-step view.line view.depth texts view.opens peek len place slot h l f (sym is) (leb-false view.depth (length view.opens) room);
+      sound = formal-sound table texts view.opens peek len place slot sound same h l f (sym is);
       kept = (refl, refl);
-      digits = look-opens texts view.opens look (look.at + len) (open_of slot []) l inside.0 inside.1;
+      digits = peek-opens texts view.opens peek (peek.at + len) (open_of slot []) l inside.0 inside.1;
       refused = tt;
     })))
 
 -- without a slot it is refused
-pub pass-deep : (texts : Texts) (view : CursorsView) (look : Look) (len place : ℕ) → AreSound texts view.opens → IsLook texts view.opens look
-    → look.front ≡ front.Formal len place → nat_le view.depth (length view.opens) ≡ true → IsPassed texts view view (wordless DepthPassed)
+pub pass-deep : (texts : Texts) (view : CursorsView) (peek : Peek) (len place : ℕ) → AreSound texts view.opens → IsPeek texts view.opens peek
+    → peek.front ≡ front.Formal len place → nat_le view.depth (length view.opens) ≡ true → IsPassed texts view view (wordless DepthPassed)
 unfolding IsFalling StaysRefused
-pass-deep texts view look len place h l f full = record {
-  is_step = formal-deep view.line view.depth texts view.opens view.opens look len place h l f (leb-true view.depth (length view.opens) full);
+pass-deep texts view peek len place h l f full = record {
+  is_step = formal-deep view.line view.depth texts view.opens view.opens peek len place h l f (leb-true view.depth (length view.opens) full);
   sound = h;
   kept = (refl, refl);
   digits = tt;
@@ -347,10 +347,10 @@ pass-deep texts view look len place h l f full = record {
 }
 
 -- and it is never so that a formal stands for nothing
-pub pass-nothing : (texts : Texts) (view : CursorsView) (look : Look) (len place : ℕ) (step : CursorStep) → AreSound texts view.opens → IsLook texts view.opens look
-    → look.front ≡ front.Formal len place
+pub pass-nothing : (texts : Texts) (view : CursorsView) (peek : Peek) (len place : ℕ) (step : CursorStep) → AreSound texts view.opens → IsPeek texts view.opens peek
+    → peek.front ≡ front.Formal len place
     → None ≡ found_standing texts.macros (scope_open view.opens (front_scope view.opens)) (front_scope view.opens) place → TakesStep texts view step view
-pass-nothing texts view look len place step h l f none = absurd (formal-found texts view.opens look len place h l f (sym none))
+pass-nothing texts view peek len place step h l f none = absurd (formal-found texts view.opens peek len place h l f (sym none))
 
 -- The words of faults in open texts are names.
 
@@ -379,21 +379,21 @@ name-word bs len kind e =
     ap (λ (k : ℕ). list_all is_word (drop 1 (take k bs))) same ∙ ap (λ (word : List ℕ). list_all is_word word) (behind-one n bs) ∙ list_all-prefix is_word (drop 1 bs)
 
 -- so is that of a usage in front of open texts
-front-word : (texts : Texts) (opens : List Open) (look : Look) (len : ℕ) → IsLook texts opens look → look.front ≡ front.Usage len → list_all is_word (front_name texts opens len) ≡ true
-unfolding IsLook IsFront front_name
-front-word texts [] look len l e = absurd l
-front-word texts (x ∷ below) look len l e =
-    let f = subst (λ (f : Front). IsFront (source_formals texts (front_source (x ∷ below))) (open_bytes texts x below) f) e l.3 in
+front-word : (texts : Texts) (opens : List Open) (peek : Peek) (len : ℕ) → IsPeek texts opens peek → peek.front ≡ front.Usage len → list_all is_word (front_name texts opens len) ≡ true
+unfolding IsPeek IsTextItem front_name
+front-word texts [] peek len l e = absurd l
+front-word texts (x ∷ below) peek len l e =
+    let f = subst (λ (f : TextItem). IsTextItem (source_formals texts (front_source (x ∷ below))) (open_bytes texts x below) f) e l.3 in
     name-word (open_bytes texts x below) len f.1 f.2
 
 -- a fault under the name of a usage has a word
-pub word-named : (texts : Texts) (opens : List Open) (look : Look) (len : ℕ) (kind : FaultKind) (word : TextPlace) → AreSound texts opens → IsLook texts opens look
-    → look.front ≡ front.Usage len → word ≡ record { source = look.source; from = look.at + 1; end = look.at + len }
+pub word-named : (texts : Texts) (opens : List Open) (peek : Peek) (len : ℕ) (kind : FaultKind) (word : TextPlace) → AreSound texts opens → IsPeek texts opens peek
+    → peek.front ≡ front.Usage len → word ≡ record { source = peek.source; from = peek.at + 1; end = peek.at + len }
     → NamesWord texts (Refused (record { kind = kind; word = word }))
-word-named texts opens look len kind word h l e is =
+word-named texts opens peek len kind word h l e is =
     ap (λ (bytes : List ℕ). list_all is_word bytes)
-    (ap (λ (w : TextPlace). place_bytes texts w) is ∙ usage-word texts opens look len (look.at + 1) (look.at + len) h l e refl refl)
-    ∙ front-word texts opens look len l e
+    (ap (λ (w : TextPlace). place_bytes texts w) is ∙ usage-word texts opens peek len (peek.at + 1) (peek.at + len) h l e refl refl)
+    ∙ front-word texts opens peek len l e
 
 -- one without a word has an empty one
 pub word-none : (texts : Texts) (kind : FaultKind) → NamesWord texts (wordless kind)
@@ -451,11 +451,11 @@ takes-wordless texts view new kind step p is own =
     (takes-refused texts view new (record { kind = kind; word = record { source = Arguments; from = 0; end = 0 } }) p own (placed-wordless texts kind) (word-none texts kind))
 
 -- for a fault under the name of a usage
-pub takes-named : (texts : Texts) (view new : CursorsView) (look : Look) (bytes : List ℕ) (len : ℕ) (kind : FaultKind) (word : TextPlace) → LooksAt texts view.opens look bytes → look.front ≡ front.Usage len
-    → word ≡ record { source = look.source; from = look.at + 1; end = look.at + len } → is_text_fault kind ≡ true → IsPassed texts view new (Refused (record { kind = kind; word = word }))
+pub takes-named : (texts : Texts) (view new : CursorsView) (peek : Peek) (bytes : List ℕ) (len : ℕ) (kind : FaultKind) (word : TextPlace) → PeeksAt texts view.opens peek bytes → peek.front ≡ front.Usage len
+    → word ≡ record { source = peek.source; from = peek.at + 1; end = peek.at + len } → is_text_fault kind ≡ true → IsPassed texts view new (Refused (record { kind = kind; word = word }))
     → TakesStep texts view (Refused (record { kind = kind; word = word })) new
-takes-named texts view new look bytes len kind word l f is own p =
-    takes-refused texts view new (record { kind = kind; word = word }) p own (placed-word texts view.opens look len kind word l.sound l.look f is) (word-named texts view.opens look len kind word l.sound l.look f is)
+takes-named texts view new peek bytes len kind word l f is own p =
+    takes-refused texts view new (record { kind = kind; word = word }) p own (placed-word texts view.opens peek len kind word l.sound l.peek f is) (word-named texts view.opens peek len kind word l.sound l.peek f is)
 
 -- no bytes are left of a text that has ended
 no-bytes : (texts : Texts) (x : Open) (below : List Open) → nat_le x.part.end x.part.from ≡ true → open_bytes texts x below ≡ []
@@ -466,10 +466,10 @@ no-bytes texts x below e =
     ap (λ (n : ℕ). take n (drop x.part.from (text_around texts x.kind x.home below))) none
 
 -- a look at it
-spent-look : (texts : Texts) (x : Open) (below : List Open) → nat_le x.part.end x.part.from ≡ true
-    → IsLook texts (x ∷ below) (record { source = front_source (x ∷ below); from = x.part.from; end = x.part.end; at = x.part.from; front = front.Ended })
-unfolding IsLook IsFront
-spent-look texts x below e = (refl, refl, refl, no-bytes texts x below e)
+spent-peek : (texts : Texts) (x : Open) (below : List Open) → nat_le x.part.end x.part.from ≡ true
+    → IsPeek texts (x ∷ below) (record { source = front_source (x ∷ below); from = x.part.from; end = x.part.end; at = x.part.from; front = front.Ended })
+unfolding IsPeek IsTextItem
+spent-peek texts x below e = (refl, refl, refl, no-bytes texts x below e)
 
 -- it is closed
 pub spent-closed : (texts : Texts) (view new : CursorsView) → AreSound texts view.opens → 0 < length view.opens → is_spent view.opens ≡ true
@@ -481,7 +481,7 @@ spent-closed texts view new h some e is = takes-silent texts view new (by view.o
         → new ≡ record { opens = drop 1 opens; line = view.line; depth = view.depth }
         → IsPassed texts (record { opens = opens; line = view.line; depth = view.depth }) new Silent
     by [] h some e is = absurd (omega (arith, some))
-    by (x ∷ below) h some e is = pass-ended texts (record { opens = x ∷ below; line = view.line; depth = view.depth }) new _ h (spent-look texts x below e) refl is
+    by (x ∷ below) h some e is = pass-ended texts (record { opens = x ∷ below; line = view.line; depth = view.depth }) new _ h (spent-peek texts x below e) refl is
 
 -- two steps that lend nothing and aren't refused are one
 pub taken-twice : (texts : Texts) (view mid new : CursorsView) → TakesStep texts view Silent mid → TakesStep texts mid Silent new → StaysOutermost view.opens new.opens
@@ -497,11 +497,11 @@ taken-twice texts view mid new p q outer turned = takes-silent texts view new (r
 }) outer turned
 
 -- where nothing stands at the front, nothing is left
-pub ended-spent : (texts : Texts) (opens : List Open) (look : Look) → AreSound texts opens → IsLook texts opens look → look.front ≡ front.Ended → is_spent opens ≡ true
-unfolding IsLook IsFront is_spent open_bytes
-ended-spent texts [] look h l e = absurd l
-ended-spent texts (x ∷ below) look h l e =
-    let none : open_bytes texts x below ≡ [] = subst (λ (f : Front). IsFront (source_formals texts (front_source (x ∷ below))) (open_bytes texts x below) f) e l.3 in
+pub ended-spent : (texts : Texts) (opens : List Open) (peek : Peek) → AreSound texts opens → IsPeek texts opens peek → peek.front ≡ front.Ended → is_spent opens ≡ true
+unfolding IsPeek IsTextItem is_spent open_bytes
+ended-spent texts [] peek h l e = absurd l
+ended-spent texts (x ∷ below) peek h l e =
+    let none : open_bytes texts x below ≡ [] = subst (λ (f : TextItem). IsTextItem (source_formals texts (front_source (x ∷ below))) (open_bytes texts x below) f) e l.3 in
     let empty : length (take (x.part.end - x.part.from) (drop x.part.from (text_around texts x.kind x.home below))) ≡ 0 = ap (λ (bs : List ℕ). length bs) none in
     let size = length-take (x.part.end - x.part.from) (drop x.part.from (text_around texts x.kind x.home below)) in
     let rest = length-drop x.part.from (text_around texts x.kind x.home below) in
@@ -512,92 +512,92 @@ ended-spent texts (x ∷ below) look h l e =
     by end from less = le-leb end from less
 
 -- nothing is done where the last text has ended, behind a run that is lent
-pub idle-last : (lent : Bool) (count : ℕ) (f : Front) → f ≡ front.Ended → lent ≡ true → nat_le count 1 ≡ true → is_idle lent count f ≡ true
+pub idle-last : (lent : Bool) (count : ℕ) (f : TextItem) → f ≡ front.Ended → lent ≡ true → nat_le count 1 ≡ true → is_idle lent count f ≡ true
 unfolding is_idle
-idle-last true count f e l last = ap (λ (g : Front). is_idle true count g) e ∙ last
+idle-last true count f e l last = ap (λ (g : TextItem). is_idle true count g) e ∙ last
 idle-last false count f e l last = absurd (true≢false (sym l))
 
 -- it is closed where others are open around it, or no run is lent
-pub idle-closed : (lent : Bool) (count : ℕ) (f : Front) → f ≡ front.Ended → (lent ≡ true → nat_le count 1 ≡ false) → is_idle lent count f ≡ false
+pub idle-closed : (lent : Bool) (count : ℕ) (f : TextItem) → f ≡ front.Ended → (lent ≡ true → nat_le count 1 ≡ false) → is_idle lent count f ≡ false
 unfolding is_idle
-idle-closed true count f e more = ap (λ (g : Front). is_idle true count g) e ∙ more refl
+idle-closed true count f e more = ap (λ (g : TextItem). is_idle true count g) e ∙ more refl
 idle-closed false count f e more = refl
 
 -- what a formal stands for is opened
-pub idle-formal : (lent : Bool) (count len place : ℕ) (f : Front) → f ≡ front.Formal len place → is_idle lent count f ≡ false
+pub idle-formal : (lent : Bool) (count len place : ℕ) (f : TextItem) → f ≡ front.Formal len place → is_idle lent count f ≡ false
 unfolding is_idle
-idle-formal true count len place f e = ap (λ (g : Front). is_idle true count g) e
+idle-formal true count len place f e = ap (λ (g : TextItem). is_idle true count g) e
 idle-formal false count len place f e = refl
 
 -- so is a usage
-pub idle-usage : (lent : Bool) (count len : ℕ) (f : Front) → f ≡ front.Usage len → is_idle lent count f ≡ false
+pub idle-usage : (lent : Bool) (count len : ℕ) (f : TextItem) → f ≡ front.Usage len → is_idle lent count f ≡ false
 unfolding is_idle
-idle-usage true count len f e = ap (λ (g : Front). is_idle true count g) e
+idle-usage true count len f e = ap (λ (g : TextItem). is_idle true count g) e
 idle-usage false count len f e = refl
 
 -- open texts that go on where they do are the same
-moved-same : (texts : Texts) (view mid : CursorsView) (look : Look) → AreSound texts view.opens → IsLookAhead texts view.opens look → look.at ≤ look.from
-    → mid ≡ record { opens = moved_to look.at view.opens; line = view.line; depth = view.depth } → mid ≡ view
-unfolding moved_to IsLookAhead
-moved-same texts view mid look h l less is = is ∙ ap (λ (opens : List Open). record { opens = opens; line = view.line; depth = view.depth }) (by view.opens h l)
+moved-same : (texts : Texts) (view mid : CursorsView) (peek : Peek) → AreSound texts view.opens → IsPeekAhead texts view.opens peek → peek.at ≤ peek.from
+    → mid ≡ record { opens = moved_to peek.at view.opens; line = view.line; depth = view.depth } → mid ≡ view
+unfolding moved_to IsPeekAhead
+moved-same texts view mid peek h l less is = is ∙ ap (λ (opens : List Open). record { opens = opens; line = view.line; depth = view.depth }) (by view.opens h l)
   where
-    by : (opens : List Open) → AreSound texts opens → IsLookAhead texts opens look → moved_to look.at opens ≡ opens
+    by : (opens : List Open) → AreSound texts opens → IsPeekAhead texts opens peek → moved_to peek.at opens ≡ opens
     by [] h l = refl
     by (x ∷ below) h l =
         let from = l.1 in
         let order = l.2 in
-        let at : look.at ≡ x.part.from = omega (arith, from, order, less) in
+        let at : peek.at ≡ x.part.from = omega (arith, from, order, less) in
         ap (λ (from : ℕ). record { part = record { from = from; end = x.part.end; mode = Plain }; home = x.home; kind = x.kind } ∷ below) at
         ∙ ap (λ (mode : Mode). record { part = record { from = x.part.from; end = x.part.end; mode = mode }; home = x.home; kind = x.kind } ∷ below) (sym (h.are_inside).1.1.0)
 
 -- what a look tells of the open texts that go on behind what is copied
-look-behind : (texts : Texts) (opens : List Open) (look : Look) → IsLookAhead texts opens look → IsLook texts (moved_to look.at opens) look
-unfolding IsLookAhead
-look-behind texts [] look l = absurd l
-look-behind texts (x ∷ below) look l = l.4
+peek-behind : (texts : Texts) (opens : List Open) (peek : Peek) → IsPeekAhead texts opens peek → IsPeek texts (moved_to peek.at opens) peek
+unfolding IsPeekAhead
+peek-behind texts [] peek l = absurd l
+peek-behind texts (x ∷ below) peek l = l.4
 
 -- what a look tells that lies ahead begins where the innermost text stands
-stands-ahead : (texts : Texts) (opens : List Open) (look : Look) (end : ℕ) → IsLookAhead texts opens look → IsFrontPlace opens (record { source = look.source; from = look.from; end = end })
-unfolding IsLookAhead
-stands-ahead texts [] look end l = absurd l
-stands-ahead texts (x ∷ below) look end l = (l.0, l.1)
+stands-ahead : (texts : Texts) (opens : List Open) (peek : Peek) (end : ℕ) → IsPeekAhead texts opens peek → IsFrontPlace opens (record { source = peek.source; from = peek.from; end = end })
+unfolding IsPeekAhead
+stands-ahead texts [] peek end l = absurd l
+stands-ahead texts (x ∷ below) peek end l = (l.0, l.1)
 
 -- what is copied at the front
-abbrev run_of : Look → TextPlace
-run_of look = record { source = look.source; from = look.from; end = look.at }
+abbrev run_of : Peek → TextPlace
+run_of peek = record { source = peek.source; from = peek.from; end = peek.at }
 
 -- what holds of open texts where that is passed
-pub record IsOn (texts : Texts) (view mid : CursorsView) (look : Look) (bytes : List ℕ) : Type 0 where
-  pub looks : LooksAt texts mid.opens look bytes
-  pub moved : mid.opens ≡ moved_to look.at view.opens
-  pub stands : IsFrontPlace view.opens (run_of look)
-  pub runs : look.from < look.at → IsPassed texts view mid (Lends (run_of look)) × IsPlacedStep texts (Lends (run_of look))
-  pub stays : look.at ≤ look.from → mid ≡ view
+pub record IsOn (texts : Texts) (view mid : CursorsView) (peek : Peek) (bytes : List ℕ) : Type 0 where
+  pub looks : PeeksAt texts mid.opens peek bytes
+  pub moved : mid.opens ≡ moved_to peek.at view.opens
+  pub stands : IsFrontPlace view.opens (run_of peek)
+  pub runs : peek.from < peek.at → IsPassed texts view mid (Lends (run_of peek)) × IsPlacedStep texts (Lends (run_of peek))
+  pub stays : peek.at ≤ peek.from → mid ≡ view
 
 -- so it is behind a look
-pub on-look : (texts : Texts) (view mid : CursorsView) (look : Look) (bytes : List ℕ) → AreSound texts view.opens → IsLookAhead texts view.opens look → 0 < length view.opens
-    → bytes ≡ source_text texts look.source → look.end < 2 ^ 64 → mid ≡ record { opens = moved_to look.at view.opens; line = view.line; depth = view.depth } → IsOn texts view mid look bytes
-on-look texts view mid look bytes h l some text short is = record {
+pub on-peek : (texts : Texts) (view mid : CursorsView) (peek : Peek) (bytes : List ℕ) → AreSound texts view.opens → IsPeekAhead texts view.opens peek → 0 < length view.opens
+    → bytes ≡ source_text texts peek.source → peek.end < 2 ^ 64 → mid ≡ record { opens = moved_to peek.at view.opens; line = view.line; depth = view.depth } → IsOn texts view mid peek bytes
+on-peek texts view mid peek bytes h l some text short is = record {
   looks = record {
-    some = open-run view mid look.at some is;
-    sound = subst (λ (v : CursorsView). AreSound texts v.opens) (sym is) (look-passed texts view.opens look h l);
-    look = subst (λ (v : CursorsView). IsLook texts v.opens look) (sym is) (look-behind texts view.opens look l);
+    some = open-run view mid peek.at some is;
+    sound = subst (λ (v : CursorsView). AreSound texts v.opens) (sym is) (peek-passed texts view.opens peek h l);
+    peek = subst (λ (v : CursorsView). IsPeek texts v.opens peek) (sym is) (peek-behind texts view.opens peek l);
     text = text;
     short = short;
   };
   moved = ap (λ (v : CursorsView). v.opens) is;
-  stands = stands-ahead texts view.opens look look.at l;
-  runs = λ more. (pass-run texts view mid look h l more is, placed-run texts view.opens look h l more);
-  stays = λ less. moved-same texts view mid look h l less is;
+  stands = stands-ahead texts view.opens peek peek.at l;
+  runs = λ more. (pass-run texts view mid peek h l more is, placed-run texts view.opens peek h l more);
+  stays = λ less. moved-same texts view mid peek h l less is;
 }
 
 -- a run that is lent is a step, with what is done behind it
-pub on-lent : (texts : Texts) (view mid new : CursorsView) (look : Look) (bytes : List ℕ) (lent : Bool) (step : CursorStep) → IsOn texts view mid look bytes → look.from < look.at
-    → (is_idle lent (length mid.opens) look.front ≡ false → TakesStep texts mid step new) → (is_idle lent (length mid.opens) look.front ≡ true → new ≡ mid)
-    → 0 < length new.opens → IsUnlent step → TakesStep texts view (Lends (record { source = look.source; from = look.from; end = look.at })) new
-on-lent texts view mid new look bytes lent step on more taken idle some unlent = by (is_idle lent (length mid.opens) look.front) refl
+pub on-lent : (texts : Texts) (view mid new : CursorsView) (peek : Peek) (bytes : List ℕ) (lent : Bool) (step : CursorStep) → IsOn texts view mid peek bytes → peek.from < peek.at
+    → (is_idle lent (length mid.opens) peek.front ≡ false → TakesStep texts mid step new) → (is_idle lent (length mid.opens) peek.front ≡ true → new ≡ mid)
+    → 0 < length new.opens → IsUnlent step → TakesStep texts view (Lends (record { source = peek.source; from = peek.from; end = peek.at })) new
+on-lent texts view mid new peek bytes lent step on more taken idle some unlent = by (is_idle lent (length mid.opens) peek.front) refl
   where
-    behind : IsPassed texts view new (Lends (run_of look)) → StaysOutermost mid.opens new.opens → Turned texts mid.opens new.opens → TakesStep texts view (Lends (run_of look)) new
+    behind : IsPassed texts view new (Lends (run_of peek)) → StaysOutermost mid.opens new.opens → Turned texts mid.opens new.opens → TakesStep texts view (Lends (run_of peek)) new
     behind p outer turned = record {
       step = p.is_step;
       sound = p.sound;
@@ -609,27 +609,27 @@ on-lent texts view mid new look bytes lent step on more taken idle some unlent =
       fault = tt;
       word = tt;
       stands = on.stands;
-      outer = outer-ahead view.opens mid.opens new.opens look.at on.moved outer;
+      outer = outer-ahead view.opens mid.opens new.opens peek.at on.moved outer;
       turns = subst (λ (opens : List Open). Turned texts opens new.opens) on.moved turned;
     }
 
-    by : (none : Bool) → is_idle lent (length mid.opens) look.front ≡ none → TakesStep texts view (Lends (run_of look)) new
+    by : (none : Bool) → is_idle lent (length mid.opens) peek.front ≡ none → TakesStep texts view (Lends (run_of peek)) new
     by true e =
         let same = idle e in
-        behind (subst (λ (v : CursorsView). IsPassed texts view v (Lends (run_of look))) (sym same) (on.runs more).0) (outer-same mid new same) (Stays (ap (λ (v : CursorsView). v.opens) same))
+        behind (subst (λ (v : CursorsView). IsPassed texts view v (Lends (run_of peek))) (sym same) (on.runs more).0) (outer-same mid new same) (Stays (ap (λ (v : CursorsView). v.opens) same))
     by false e =
         let t = taken e in
-        behind (pass-behind texts view mid new (run_of look) step (on.runs more).0 (taken-passed texts mid new step t) unlent) t.outer (turned-unlent texts mid.opens new.opens step unlent t.turns)
+        behind (pass-behind texts view mid new (run_of peek) step (on.runs more).0 (taken-passed texts mid new step t) unlent) t.outer (turned-unlent texts mid.opens new.opens step unlent t.turns)
 
 -- where no run is lent, what is opened is the step
-pub on-taken : (texts : Texts) (view mid new : CursorsView) (look : Look) (bytes : List ℕ) (lent : Bool) (step : CursorStep) → IsOn texts view mid look bytes → look.at ≤ look.from → lent ≡ false
-    → (is_idle lent (length mid.opens) look.front ≡ false → TakesStep texts mid step new)
+pub on-taken : (texts : Texts) (view mid new : CursorsView) (peek : Peek) (bytes : List ℕ) (lent : Bool) (step : CursorStep) → IsOn texts view mid peek bytes → peek.at ≤ peek.from → lent ≡ false
+    → (is_idle lent (length mid.opens) peek.front ≡ false → TakesStep texts mid step new)
     → TakesStep texts view step new
 unfolding is_idle
-on-taken texts view mid new look bytes lent step on less miss taken =
+on-taken texts view mid new peek bytes lent step on less miss taken =
     subst (λ (v : CursorsView). TakesStep texts v step new) (on.stays less) (taken (by lent miss))
   where
-    by : (l : Bool) → l ≡ false → is_idle l (length mid.opens) look.front ≡ false
+    by : (l : Bool) → l ≡ false → is_idle l (length mid.opens) peek.front ≡ false
     by false e = refl
     by true e = absurd (true≢false e)
 

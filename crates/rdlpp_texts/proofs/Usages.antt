@@ -24,17 +24,17 @@ use Rattle.rdlpp_meaning.proofs.OpenSteps.{first_usage, step-refused as left-ref
 use Rattle.rdlpp_meaning.proofs.OpenScopes.{part-whole}
 use Rattle.rdlpp_texts.specs.BoundCalls.{KeepsAll, is_call_fault}
 use Rattle.rdlpp_texts.specs.Digits.{IsFalling}
-use Rattle.rdlpp_texts.specs.Fronts.{AreCopied, IsAhead, IsFront, IsLook, IsLookAhead}
+use Rattle.rdlpp_texts.specs.TextItems.{AreCopied, IsNextItem, IsTextItem, IsPeek, IsPeekAhead}
 use Rattle.rdlpp_texts.specs.Opened.{AreHomedSlots, CursorsView, bindings_below, moved_to, open_of, opens_of}
 use Rattle.rdlpp_texts.specs.Places.{IsPlaced, IsSource, place_bytes, source_formals, source_text, texts_of}
 use Rattle.rdlpp_texts.specs.Scopes.{AreFurtherOut, found_source, front_scope, front_source, innermost_place, kind_source, own_ids, own_source, writer_ids}
 use Rattle.rdlpp_texts.specs.Steps.{AreInside, AreSound, IsKnown, IsPlacedStep, IsStep, StaysRefused, StepsTo, wordless}
 use Rattle.rdlpp_texts.specs.Usages.{IsRefused, IsUsed, front_name, is_text_fault, unknown_kind}
 use Rattle.rdlpp_texts.specs.declared.bindings.Range.{Range}
-use Rattle.rdlpp_texts.specs.declared.front.Ahead.{Ahead}
-use Rattle.rdlpp_texts.specs.declared.front.Front.{Front}
-use Rattle.rdlpp_texts.specs.declared.front.Front.TheVariants as front
-use Rattle.rdlpp_texts.specs.declared.front.Look.{Look}
+use Rattle.rdlpp_texts.specs.declared.peek.NextItem.{NextItem}
+use Rattle.rdlpp_texts.specs.declared.peek.TextItem.{TextItem}
+use Rattle.rdlpp_texts.specs.declared.peek.TextItem.TheVariants as front
+use Rattle.rdlpp_texts.specs.declared.peek.Peek.{Peek}
 use Rattle.rdlpp_texts.specs.declared.place.TextPlace.{TextPlace}
 use Rattle.rdlpp_texts.specs.declared.place.TextSource.{TextSource}
 use Rattle.rdlpp_texts.specs.declared.place.TextSource.TheVariants.{Arguments}
@@ -42,7 +42,7 @@ use Rattle.rdlpp_texts.specs.declared.slot.Slot.{Slot}
 use Rattle.rdlpp_texts.specs.declared.step.CursorFault.{CursorFault}
 use Rattle.rdlpp_texts.specs.declared.step.CursorStep.{CursorStep}
 use Rattle.rdlpp_texts.specs.declared.step.CursorStep.TheVariants.{Lends, Refused, Silent}
-use Rattle.rdlpp_texts.proofs.Falling.{look-opens, run-ends, usage-inside as falls-inside}
+use Rattle.rdlpp_texts.proofs.Falling.{peek-opens, run-ends, usage-inside as falls-inside}
 use Rattle.rdlpp_texts.proofs.Passing.{IsPassed, body-keeps, bytes-behind, bytes-first, fault-same, first-moved, first-sound, kind-first, no-formals, no-word, same-front, slice-behind}
 use Rattle.rdlpp_texts.proofs.Scoping.{opens-length, source-around}
 use Rattle.rdlpp_texts.proofs.Stacking.{tail-is}
@@ -103,34 +103,34 @@ same-range [] other from end h e =
 same-range (b ∷ bs) other from end h e = ap (λ (t : List ℕ). slice_range t from end) (e (omega arith))
 
 -- what stands ahead in the range in its text stands ahead in the open text
-pub look-front : (texts : Texts) (x : Open) (below : List Open) (source : TextSource) (f : Ahead) → AreInside texts (x ∷ below) → source ≡ front_source (x ∷ below)
-    → IsAhead (source_formals texts source) (slice_range (source_text texts source) x.part.from x.part.end) x.part.from f
-    → IsAhead (source_formals texts (front_source (x ∷ below))) (open_bytes texts x below) x.part.from f
+pub peek-front : (texts : Texts) (x : Open) (below : List Open) (source : TextSource) (f : NextItem) → AreInside texts (x ∷ below) → source ≡ front_source (x ∷ below)
+    → IsNextItem (source_formals texts source) (slice_range (source_text texts source) x.part.from x.part.end) x.part.from f
+    → IsNextItem (source_formals texts (front_source (x ∷ below))) (open_bytes texts x below) x.part.from f
 unfolding open_bytes
-look-front texts x below source f h e is =
-    subst (λ (bytes : List ℕ). IsAhead (source_formals texts (front_source (x ∷ below))) bytes x.part.from f)
+peek-front texts x below source f h e is =
+    subst (λ (bytes : List ℕ). IsNextItem (source_formals texts (front_source (x ∷ below))) bytes x.part.from f)
     (same-range (text_around texts x.kind x.home below) (source_text texts (front_source (x ∷ below))) x.part.from x.part.end (h.1).0 (source-around texts x below))
-    (subst (λ (s : TextSource). IsAhead (source_formals texts s) (slice_range (source_text texts s) x.part.from x.part.end) x.part.from f) e is)
+    (subst (λ (s : TextSource). IsNextItem (source_formals texts s) (slice_range (source_text texts s) x.part.from x.part.end) x.part.from f) e is)
 
 -- what stands behind what is copied is what a look tells of the open texts of which the innermost goes on there
-look-ahead : (texts : Texts) (x : Open) (below : List Open) (look : Look) → look.source ≡ front_source (x ∷ below) → look.from ≡ x.part.from → look.end ≡ x.part.end
-    → IsAhead (source_formals texts (front_source (x ∷ below))) (open_bytes texts x below) x.part.from (record { at = look.at; front = look.front })
-    → IsLookAhead texts (x ∷ below) look
-unfolding IsAhead AreCopied IsLookAhead IsLook moved_to front_source open_behind
-look-ahead texts x below look source from end f =
+peek-ahead : (texts : Texts) (x : Open) (below : List Open) (peek : Peek) → peek.source ≡ front_source (x ∷ below) → peek.from ≡ x.part.from → peek.end ≡ x.part.end
+    → IsNextItem (source_formals texts (front_source (x ∷ below))) (open_bytes texts x below) x.part.from (record { at = peek.at; front = peek.front })
+    → IsPeekAhead texts (x ∷ below) peek
+unfolding IsNextItem AreCopied IsPeekAhead IsPeek moved_to front_source open_behind
+peek-ahead texts x below peek source from end f =
     let formals = source_formals texts (front_source (x ∷ below)) in
     let order = f.0 in
-    let back : x.part.from + (look.at - x.part.from) ≡ look.at = omega (arith, order) in (
+    let back : x.part.from + (peek.at - x.part.from) ≡ peek.at = omega (arith, order) in (
       source,
       from,
       omega (arith, from, order),
-      subst (λ (k : ℕ). AreCopied formals (open_bytes texts x below) (look.at - k)) (sym from) f.1,
+      subst (λ (k : ℕ). AreCopied formals (open_bytes texts x below) (peek.at - k)) (sym from) f.1,
       (
         source,
         refl,
         end,
-        subst (λ (bytes : List ℕ). IsFront formals bytes look.front)
-            (sym (bytes-behind texts x below (look.at - x.part.from) Plain f.1.0) ∙ ap (λ (k : ℕ). open_bytes texts (record { part = record { from = k; end = x.part.end; mode = Plain }; home = x.home; kind = x.kind }) below) back)
+        subst (λ (bytes : List ℕ). IsTextItem formals bytes peek.front)
+            (sym (bytes-behind texts x below (peek.at - x.part.from) Plain f.1.0) ∙ ap (λ (k : ℕ). open_bytes texts (record { part = record { from = k; end = x.part.end; mode = Plain }; home = x.home; kind = x.kind }) below) back)
             f.2,
       ),
     )
@@ -148,25 +148,25 @@ inner-is (y ∷ ys) bindings own some e =
     record { rest = ys; is = ap (λ (z : Slot). open_of z bindings ∷ opens_of ys (bindings_below z.kind bindings)) (sym e) }
 
 -- a look at them tells that
-pub look-is : (texts : Texts) (slots : List Slot) (bindings : List Range) (own : Slot) (look : Look) → 0 < length slots → own ≡ get_or slots 0 own
+pub peek-is : (texts : Texts) (slots : List Slot) (bindings : List Range) (own : Slot) (peek : Peek) → 0 < length slots → own ≡ get_or slots 0 own
     → AreSound texts (opens_of slots bindings)
-    → look.source ≡ front_source (opens_of slots bindings) → look.from ≡ own.from → look.end ≡ own.end
-    → IsAhead (source_formals texts look.source) (slice_range (source_text texts look.source) own.from own.end) own.from (record { at = look.at; front = look.front })
-    → IsLookAhead texts (opens_of slots bindings) look
-look-is texts slots bindings own look some e sound source from end f =
+    → peek.source ≡ front_source (opens_of slots bindings) → peek.from ≡ own.from → peek.end ≡ own.end
+    → IsNextItem (source_formals texts peek.source) (slice_range (source_text texts peek.source) own.from own.end) own.from (record { at = peek.at; front = peek.front })
+    → IsPeekAhead texts (opens_of slots bindings) peek
+peek-is texts slots bindings own peek some e sound source from end f =
     let inner = inner-is slots bindings own some e in
     let x = open_of own bindings in
     let below = opens_of inner.rest (bindings_below own.kind bindings) in
     let s : AreSound texts (x ∷ below) = subst (λ (o : List Open). AreSound texts o) inner.is sound in
-    let at : look.source ≡ front_source (x ∷ below) = source ∙ ap (λ (o : List Open). front_source o) inner.is in
-    subst (λ (o : List Open). IsLookAhead texts o look) (sym inner.is)
-    (look-ahead texts x below look at from end (look-front texts x below look.source (record { at = look.at; front = look.front }) s.are_inside at f))
+    let at : peek.source ≡ front_source (x ∷ below) = source ∙ ap (λ (o : List Open). front_source o) inner.is in
+    subst (λ (o : List Open). IsPeekAhead texts o peek) (sym inner.is)
+    (peek-ahead texts x below peek at from end (peek-front texts x below peek.source (record { at = peek.at; front = peek.front }) s.are_inside at f))
 
 -- where they lie there is a text
-pub look-known : (texts : Texts) (slots : List Slot) (bindings : List Range) (own : Slot) (source : TextSource) → 0 < length slots → own ≡ get_or slots 0 own
+pub peek-known : (texts : Texts) (slots : List Slot) (bindings : List Range) (own : Slot) (source : TextSource) → 0 < length slots → own ≡ get_or slots 0 own
     → AreSound texts (opens_of slots bindings) → source ≡ front_source (opens_of slots bindings)
     → IsSource texts source × (own.end ≤ length (source_text texts source))
-look-known texts slots bindings own source some e sound is =
+peek-known texts slots bindings own source some e sound is =
     let inner = inner-is slots bindings own some e in
     let x = open_of own bindings in
     let below = opens_of inner.rest (bindings_below own.kind bindings) in
@@ -178,45 +178,45 @@ look-known texts slots bindings own source some e sound is =
 -- A usage at the front of the innermost open text: its name, and what it comes to.
 
 -- where a usage lies in its text: it has its backquote, and ends in what is left of the open text, which ends in its text
-pub record IsUsageInside (texts : Texts) (look : Look) (len : ℕ) : Type 0 where
+pub record IsUsageInside (texts : Texts) (peek : Peek) (len : ℕ) : Type 0 where
   pub some : 0 < len
-  pub inside : look.at + len ≤ look.end
-  pub source : IsSource texts look.source
-  pub within : look.end ≤ length (source_text texts look.source)
+  pub inside : peek.at + len ≤ peek.end
+  pub source : IsSource texts peek.source
+  pub within : peek.end ≤ length (source_text texts peek.source)
 
 -- the front of a look at a usage
-pub front-is : (texts : Texts) (x : Open) (below : List Open) (look : Look) (len : ℕ) → look.front ≡ front.Usage len
-    → IsFront (source_formals texts (front_source (x ∷ below))) (open_bytes texts x below) look.front
-    → IsFront (source_formals texts (front_source (x ∷ below))) (open_bytes texts x below) (front.Usage len)
-front-is texts x below look len e f = subst (λ (f : Front). IsFront (source_formals texts (front_source (x ∷ below))) (open_bytes texts x below) f) e f
+pub front-is : (texts : Texts) (x : Open) (below : List Open) (peek : Peek) (len : ℕ) → peek.front ≡ front.Usage len
+    → IsTextItem (source_formals texts (front_source (x ∷ below))) (open_bytes texts x below) peek.front
+    → IsTextItem (source_formals texts (front_source (x ∷ below))) (open_bytes texts x below) (front.Usage len)
+front-is texts x below peek len e f = subst (λ (f : TextItem). IsTextItem (source_formals texts (front_source (x ∷ below))) (open_bytes texts x below) f) e f
 
 -- how long a usage is
 usage-some : (texts : Texts) (x : Open) (below : List Open) (len : ℕ)
-    → IsFront (source_formals texts (front_source (x ∷ below))) (open_bytes texts x below) (front.Usage len)
+    → IsTextItem (source_formals texts (front_source (x ∷ below))) (open_bytes texts x below) (front.Usage len)
     → (0 < len) × (len ≤ length (open_bytes texts x below))
-unfolding IsFront
+unfolding IsTextItem
 usage-some texts x below len f =
     let part : IsPart (token_of Plain (open_bytes texts x below)) (open_bytes texts x below) = token_of-part Plain (open_bytes texts x below) f.0 in
     let e : (token_of Plain (open_bytes texts x below)).len ≡ len = f.2 in
     (subst (λ (n : ℕ). 0 < n) e part.not_empty, subst (λ (n : ℕ). n ≤ length (open_bytes texts x below)) e part.inside)
 
 -- a usage lies there
-pub usage-place : (texts : Texts) (opens : List Open) (look : Look) (len : ℕ) → AreSound texts opens → IsLook texts opens look → look.front ≡ front.Usage len
-    → IsUsageInside texts look len
-unfolding IsLook open_bytes
-usage-place texts [] look len h l e = absurd l
-usage-place texts (x ∷ below) look len h l e =
-    let s = usage-some texts x below len (front-is texts x below look len e l.3) in
+pub usage-place : (texts : Texts) (opens : List Open) (peek : Peek) (len : ℕ) → AreSound texts opens → IsPeek texts opens peek → peek.front ≡ front.Usage len
+    → IsUsageInside texts peek len
+unfolding IsPeek open_bytes
+usage-place texts [] peek len h l e = absurd l
+usage-place texts (x ∷ below) peek len h l e =
+    let s = usage-some texts x below len (front-is texts x below peek len e l.3) in
     let size = length-take (x.part.end - x.part.from) (drop x.part.from (text_around texts x.kind x.home below)) in
-    let from : look.at ≡ x.part.from = l.1 in
-    let end : look.end ≡ x.part.end = l.2 in
+    let from : peek.at ≡ x.part.from = l.1 in
+    let end : peek.end ≡ x.part.end = l.2 in
     let some : 0 < len = s.0 in
     let inside = s.1 in
     record {
       some = some;
       inside = omega (arith, size, from, end, some, inside);
       source = subst (λ (t : TextSource). IsSource texts t) (sym l.0) (source-known texts x below h.are_inside);
-      within = subst (λ (t : TextSource). look.end ≤ length (source_text texts t)) (sym l.0)
+      within = subst (λ (t : TextSource). peek.end ≤ length (source_text texts t)) (sym l.0)
           (subst (λ (n : ℕ). n ≤ length (source_text texts (front_source (x ∷ below)))) (sym end) (source-inside texts x below h.are_inside));
     }
 
@@ -228,23 +228,23 @@ behind-first text from n h some =
     slice-behind text from (from + n) 1 (omega (arith, h, some, size, rest))
 
 -- the name of a usage is what stands behind its backquote
-pub usage-word : (texts : Texts) (opens : List Open) (look : Look) (len from end : ℕ) → AreSound texts opens → IsLook texts opens look → look.front ≡ front.Usage len
-    → from ≡ look.at + 1 → end ≡ look.at + len
-    → place_bytes texts (record { source = look.source; from = from; end = end }) ≡ front_name texts opens len
-unfolding IsLook front_name place_bytes open_bytes
-usage-word texts [] look len from end h l e f g = absurd l
-usage-word texts (x ∷ below) look len from end h l e f g =
-    let s = usage-some texts x below len (front-is texts x below look len e l.3) in
-    let within = usage-place texts (x ∷ below) look len h l e in
+pub usage-word : (texts : Texts) (opens : List Open) (peek : Peek) (len from end : ℕ) → AreSound texts opens → IsPeek texts opens peek → peek.front ≡ front.Usage len
+    → from ≡ peek.at + 1 → end ≡ peek.at + len
+    → place_bytes texts (record { source = peek.source; from = from; end = end }) ≡ front_name texts opens len
+unfolding IsPeek front_name place_bytes open_bytes
+usage-word texts [] peek len from end h l e f g = absurd l
+usage-word texts (x ∷ below) peek len from end h l e f g =
+    let s = usage-some texts x below len (front-is texts x below peek len e l.3) in
+    let within = usage-place texts (x ∷ below) peek len h l e in
     let inside = within.inside in
     let ends = within.within in
-    let at : look.at ≡ x.part.from = l.1 in
+    let at : peek.at ≡ x.part.from = l.1 in
     let own = source_text texts (front_source (x ∷ below)) in
     ap (λ (t : TextSource). slice_range (source_text texts t) from end) l.0
     ∙ ap (λ (n : ℕ). slice_range own n end) f
-    ∙ ap (λ (n : ℕ). slice_range own (look.at + 1) n) g
-    ∙ behind-first own look.at len
-    (subst (λ (t : TextSource). look.at + len ≤ length (source_text texts t)) l.0 (omega (arith, inside, ends))) s.0
+    ∙ ap (λ (n : ℕ). slice_range own (peek.at + 1) n) g
+    ∙ behind-first own peek.at len
+    (subst (λ (t : TextSource). peek.at + len ≤ length (source_text texts t)) l.0 (omega (arith, inside, ends))) s.0
     ∙ ap (λ (n : ℕ). drop 1 (slice_range own n (n + len))) at
     ∙ ap (λ (bytes : List ℕ). drop 1 bytes)
     (sym (same-front (text_around texts x.kind x.home below) own x.part.from x.part.end len s.0 s.1 (source-around texts x below)))
@@ -319,11 +319,11 @@ first-used rules s line texts x below len id mode e used m =
 
 -- a usage that is refused
 pub step-refused : (line depth : ℕ) (texts : Texts) (x : Open) (below : List Open) (len : ℕ) (kind : FaultKind) (new : List Open) (fault : CursorFault) → AreSound texts (x ∷ below)
-    → IsFront (source_formals texts (front_source (x ∷ below))) (open_bytes texts x below) (front.Usage len)
+    → IsTextItem (source_formals texts (front_source (x ∷ below))) (open_bytes texts x below) (front.Usage len)
     → IsRefused texts (x ∷ below) (front_name texts (x ∷ below) len) kind
     → fault.kind ≡ kind → place_bytes texts fault.word ≡ front_name texts (x ∷ below) len
     → IsStep line depth texts (x ∷ below) (Refused fault) new
-unfolding IsStep StepsTo IsFront IsRefused
+unfolding IsStep StepsTo IsTextItem IsRefused
 step-refused line depth texts x below len kind new fault h f r k w rules s m =
     let mode : x.part.mode ≡ Plain = (h.are_inside).1.1.0 in
     let name = front_name texts (x ∷ below) len in
@@ -344,11 +344,11 @@ back-closes kind e = ap (λ (k : Kind). opens_mode k) e
 
 -- the body of a macro without a list is opened, where there is room
 pub step-opened : (line depth : ℕ) (texts : Texts) (x : Open) (below : List Open) (len id : ℕ) → AreSound texts (x ∷ below)
-    → IsFront (source_formals texts (front_source (x ∷ below))) (open_bytes texts x below) (front.Usage len)
+    → IsTextItem (source_formals texts (front_source (x ∷ below))) (open_bytes texts x below) (front.Usage len)
     → IsUsed texts (x ∷ below) (front_name texts (x ∷ below) len) id → (macro_at texts.macros id).formals ≡ None
     → length (x ∷ below) < depth
     → IsStep line depth texts (x ∷ below) Silent (open_body texts id [] (open_scope x below) ∷ moved_to (x.part.from + len) (x ∷ below))
-unfolding IsStep StepsTo IsFront moved_to open_behind tokens_behind
+unfolding IsStep StepsTo IsTextItem moved_to open_behind tokens_behind
 step-opened line depth texts x below len id h f used none room rules s m =
     let mode : x.part.mode ≡ Plain = (h.are_inside).1.1.0 in
     let ts = tokens_behind texts x below in
@@ -358,11 +358,11 @@ step-opened line depth texts x below len id h f used none room rules s m =
 
 -- and is a fault where there is none
 pub step-opened_deep : (line depth : ℕ) (texts : Texts) (x : Open) (below : List Open) (len id : ℕ) (new : List Open) (fault : CursorFault) → AreSound texts (x ∷ below)
-    → IsFront (source_formals texts (front_source (x ∷ below))) (open_bytes texts x below) (front.Usage len)
+    → IsTextItem (source_formals texts (front_source (x ∷ below))) (open_bytes texts x below) (front.Usage len)
     → IsUsed texts (x ∷ below) (front_name texts (x ∷ below) len) id → (macro_at texts.macros id).formals ≡ None
     → depth ≤ length (x ∷ below) → fault.kind ≡ DepthPassed → place_bytes texts fault.word ≡ []
     → IsStep line depth texts (x ∷ below) (Refused fault) new
-unfolding IsStep StepsTo IsFront
+unfolding IsStep StepsTo IsTextItem
 step-opened_deep line depth texts x below len id new fault h f used none deep k w rules s m =
     let mode : x.part.mode ≡ Plain = (h.are_inside).1.1.0 in
     let ts = tokens_behind texts x below in
@@ -482,12 +482,12 @@ moved-length [] at = refl
 moved-length (x ∷ below) at = refl
 
 -- behind a usage open texts are sound
-pub sound-behind : (texts : Texts) (opens : List Open) (look : Look) (len at : ℕ) → AreSound texts opens → IsLook texts opens look → look.front ≡ front.Usage len
-    → at ≡ look.at + len → AreSound texts (moved_to at opens)
-unfolding IsLook IsFront
-sound-behind texts [] look len at h l e k = absurd l
-sound-behind texts (x ∷ below) look len at h l e k =
-    let f = front-is texts x below look len e l.3 in
+pub sound-behind : (texts : Texts) (opens : List Open) (peek : Peek) (len at : ℕ) → AreSound texts opens → IsPeek texts opens peek → peek.front ≡ front.Usage len
+    → at ≡ peek.at + len → AreSound texts (moved_to at opens)
+unfolding IsPeek IsTextItem
+sound-behind texts [] peek len at h l e k = absurd l
+sound-behind texts (x ∷ below) peek len at h l e k =
+    let f = front-is texts x below peek len e l.3 in
     let place : at ≡ x.part.from + len = k ∙ ap (λ (n : ℕ). n + len) l.1 in
     subst (λ (n : ℕ). AreSound texts (moved_to n (x ∷ below))) (sym place) (first-sound texts x below len h f.0 (back-closes _ f.1) f.2)
 
@@ -506,47 +506,47 @@ sound-used table arguments opens id at sound moved scope inside none =
     }
 
 -- by a look: a usage that is refused
-look-refused : (line depth : ℕ) (texts : Texts) (opens : List Open) (look : Look) (len from end : ℕ) (kind own : FaultKind) → AreSound texts opens → IsLook texts opens look
-    → look.front ≡ front.Usage len → from ≡ look.at + 1 → end ≡ look.at + len → own ≡ kind
+peek-refused : (line depth : ℕ) (texts : Texts) (opens : List Open) (peek : Peek) (len from end : ℕ) (kind own : FaultKind) → AreSound texts opens → IsPeek texts opens peek
+    → peek.front ≡ front.Usage len → from ≡ peek.at + 1 → end ≡ peek.at + len → own ≡ kind
     → IsRefused texts opens (front_name texts opens len) kind
-    → IsStep line depth texts opens (Refused (record { kind = own; word = record { source = look.source; from = from; end = end } })) opens
-unfolding IsLook
-look-refused line depth texts [] look len from end kind own h l e f g k r = absurd l
-look-refused line depth texts (x ∷ below) look len from end kind own h l e f g k r =
-    step-refused line depth texts x below len kind (x ∷ below) (record { kind = own; word = record { source = look.source; from = from; end = end } }) h
-    (front-is texts x below look len e l.3) r k (usage-word texts (x ∷ below) look len from end h l e f g)
+    → IsStep line depth texts opens (Refused (record { kind = own; word = record { source = peek.source; from = from; end = end } })) opens
+unfolding IsPeek
+peek-refused line depth texts [] peek len from end kind own h l e f g k r = absurd l
+peek-refused line depth texts (x ∷ below) peek len from end kind own h l e f g k r =
+    step-refused line depth texts x below len kind (x ∷ below) (record { kind = own; word = record { source = peek.source; from = from; end = end } }) h
+    (front-is texts x below peek len e l.3) r k (usage-word texts (x ∷ below) peek len from end h l e f g)
 
 -- a body for which there is no slot left
-look-deep : (line depth : ℕ) (texts : Texts) (opens : List Open) (look : Look) (len id : ℕ) → AreSound texts opens → IsLook texts opens look
-    → look.front ≡ front.Usage len → IsUsed texts opens (front_name texts opens len) id → (macro_at texts.macros id).formals ≡ None → depth ≤ length opens
+peek-deep : (line depth : ℕ) (texts : Texts) (opens : List Open) (peek : Peek) (len id : ℕ) → AreSound texts opens → IsPeek texts opens peek
+    → peek.front ≡ front.Usage len → IsUsed texts opens (front_name texts opens len) id → (macro_at texts.macros id).formals ≡ None → depth ≤ length opens
     → IsStep line depth texts opens (wordless DepthPassed) opens
-unfolding IsLook
-look-deep line depth texts [] look len id h l e used none deep = absurd l
-look-deep line depth texts (x ∷ below) look len id h l e used none deep =
+unfolding IsPeek
+peek-deep line depth texts [] peek len id h l e used none deep = absurd l
+peek-deep line depth texts (x ∷ below) peek len id h l e used none deep =
     step-opened_deep line depth texts x below len id (x ∷ below) (record { kind = DepthPassed; word = record { source = Arguments; from = 0; end = 0 } }) h
-    (front-is texts x below look len e l.3) used none deep refl (no-word texts Arguments)
+    (front-is texts x below peek len e l.3) used none deep refl (no-word texts Arguments)
 
 -- a body that is opened
-look-opened : (line depth : ℕ) (texts : Texts) (opens : List Open) (look : Look) (len id at : ℕ) → AreSound texts opens → IsLook texts opens look
-    → look.front ≡ front.Usage len → IsUsed texts opens (front_name texts opens len) id → (macro_at texts.macros id).formals ≡ None → length opens < depth
-    → at ≡ look.at + len
+peek-opened : (line depth : ℕ) (texts : Texts) (opens : List Open) (peek : Peek) (len id at : ℕ) → AreSound texts opens → IsPeek texts opens peek
+    → peek.front ≡ front.Usage len → IsUsed texts opens (front_name texts opens len) id → (macro_at texts.macros id).formals ≡ None → length opens < depth
+    → at ≡ peek.at + len
     → IsStep line depth texts opens Silent (open_body texts id [] (front_scope opens) ∷ moved_to at opens)
-unfolding IsLook front_scope
-look-opened line depth texts [] look len id at h l e used none room k = absurd l
-look-opened line depth texts (x ∷ below) look len id at h l e used none room k =
+unfolding IsPeek front_scope
+peek-opened line depth texts [] peek len id at h l e used none room k = absurd l
+peek-opened line depth texts (x ∷ below) peek len id at h l e used none room k =
     let place : at ≡ x.part.from + len = k ∙ ap (λ (n : ℕ). n + len) l.1 in
     subst (λ (n : ℕ). IsStep line depth texts (x ∷ below) Silent (open_body texts id [] (open_scope x below) ∷ moved_to n (x ∷ below))) (sym place)
-    (step-opened line depth texts x below len id h (front-is texts x below look len e l.3) used none room)
+    (step-opened line depth texts x below len id h (front-is texts x below peek len e l.3) used none room)
 
 -- a usage that is refused
-pub pass-refused : (texts : Texts) (view : CursorsView) (look : Look) (len : ℕ) (kind : FaultKind) (word : TextPlace) → AreSound texts view.opens → IsLook texts view.opens look
-    → look.front ≡ front.Usage len → word ≡ record { source = look.source; from = look.at + 1; end = look.at + len }
+pub pass-refused : (texts : Texts) (view : CursorsView) (peek : Peek) (len : ℕ) (kind : FaultKind) (word : TextPlace) → AreSound texts view.opens → IsPeek texts view.opens peek
+    → peek.front ≡ front.Usage len → word ≡ record { source = peek.source; from = peek.at + 1; end = peek.at + len }
     → IsRefused texts view.opens (front_name texts view.opens len) kind
     → IsPassed texts view view (Refused (record { kind = kind; word = word }))
 unfolding IsFalling StaysRefused
-pass-refused texts view look len kind word h l e w r =
+pass-refused texts view peek len kind word h l e w r =
     subst (λ (place : TextPlace). IsPassed texts view view (Refused (record { kind = kind; word = place }))) (sym w) (record {
-      is_step = look-refused view.line view.depth texts view.opens look len (look.at + 1) (look.at + len) kind kind h l e refl refl refl r;
+      is_step = peek-refused view.line view.depth texts view.opens peek len (peek.at + 1) (peek.at + len) kind kind h l e refl refl refl r;
       sound = h;
       kept = (refl, refl);
       digits = tt;
@@ -554,12 +554,12 @@ pass-refused texts view look len kind word h l e w r =
     })
 
 -- a body for which there is no slot left
-pub pass-deep : (texts : Texts) (view : CursorsView) (look : Look) (len id : ℕ) → AreSound texts view.opens → IsLook texts view.opens look
-    → look.front ≡ front.Usage len → IsUsed texts view.opens (front_name texts view.opens len) id → (macro_at texts.macros id).formals ≡ None
+pub pass-deep : (texts : Texts) (view : CursorsView) (peek : Peek) (len id : ℕ) → AreSound texts view.opens → IsPeek texts view.opens peek
+    → peek.front ≡ front.Usage len → IsUsed texts view.opens (front_name texts view.opens len) id → (macro_at texts.macros id).formals ≡ None
     → view.depth ≤ length view.opens → IsPassed texts view view (wordless DepthPassed)
 unfolding IsFalling StaysRefused
-pass-deep texts view look len id h l e used none deep = record {
-  is_step = look-deep view.line view.depth texts view.opens look len id h l e used none deep;
+pass-deep texts view peek len id h l e used none deep = record {
+  is_step = peek-deep view.line view.depth texts view.opens peek len id h l e used none deep;
   sound = h;
   kept = (refl, refl);
   digits = tt;
@@ -567,23 +567,23 @@ pass-deep texts view look len id h l e used none deep = record {
 }
 
 -- a body that is opened
-pub pass-opened : (table : TableView) (arguments : List ℕ) (view new : CursorsView) (look : Look) (len id at : ℕ) → IsSound table
-    → AreSound (texts_of table.macros arguments) view.opens → IsLook (texts_of table.macros arguments) view.opens look
-    → look.front ≡ front.Usage len → IsUsed (texts_of table.macros arguments) view.opens (front_name (texts_of table.macros arguments) view.opens len) id
-    → (macro_at table.macros id).formals ≡ None → length view.opens < view.depth → at ≡ look.at + len
+pub pass-opened : (table : TableView) (arguments : List ℕ) (view new : CursorsView) (peek : Peek) (len id at : ℕ) → IsSound table
+    → AreSound (texts_of table.macros arguments) view.opens → IsPeek (texts_of table.macros arguments) view.opens peek
+    → peek.front ≡ front.Usage len → IsUsed (texts_of table.macros arguments) view.opens (front_name (texts_of table.macros arguments) view.opens len) id
+    → (macro_at table.macros id).formals ≡ None → length view.opens < view.depth → at ≡ peek.at + len
     → new ≡ record { opens = open_body (texts_of table.macros []) id [] (front_scope view.opens) ∷ moved_to at view.opens; line = view.line; depth = view.depth }
     → IsPassed (texts_of table.macros arguments) view new Silent
 unfolding IsFalling StaysRefused open_body
-pass-opened table arguments view new look len id at sound h l e used none room k is =
+pass-opened table arguments view new peek len id at sound h l e used none room k is =
     let texts = texts_of table.macros arguments in
-    let further = falls-inside texts view.opens look len l e in
+    let further = falls-inside texts view.opens peek len l e in
     let less = further.0 in
     let inside = further.1 in
     subst (λ (v : CursorsView). IsPassed texts view v Silent) (sym is) (record {
-      is_step = look-opened view.line view.depth texts view.opens look len id at h l e used none room k;
-      sound = sound-used table arguments view.opens id at sound (sound-behind texts view.opens look len at h l e k) (scope-inside view.opens (homes-out texts view.opens h.are_open)) used.inside none;
+      is_step = peek-opened view.line view.depth texts view.opens peek len id at h l e used none room k;
+      sound = sound-used table arguments view.opens id at sound (sound-behind texts view.opens peek len at h l e k) (scope-inside view.opens (homes-out texts view.opens h.are_open)) used.inside none;
       kept = (refl, refl);
-      digits = look-opens texts view.opens look at (open_body texts id [] (front_scope view.opens)) l (omega (arith, less, k)) (omega (arith, inside, k));
+      digits = peek-opens texts view.opens peek at (open_body texts id [] (front_scope view.opens)) l (omega (arith, less, k)) (omega (arith, inside, k));
       refused = tt;
     })
 
@@ -627,10 +627,10 @@ rest-homed part items first bindings e homed =
     subst (λ (slots : List Slot). AreHomedSlots slots) (sym (tail-is part items first e)) (slots-homed (drop first items) bindings homed)
 
 -- the place of the name of a usage lies in its text
-pub word-inside : (texts : Texts) (opens : List Open) (look : Look) (len : ℕ) (word : TextPlace) → AreSound texts opens → IsLook texts opens look → look.front ≡ front.Usage len
-    → word ≡ record { source = look.source; from = look.at + 1; end = look.at + len } → IsPlaced texts word
-word-inside texts opens look len word h l e is =
-    let place = usage-place texts opens look len h l e in
+pub word-inside : (texts : Texts) (opens : List Open) (peek : Peek) (len : ℕ) (word : TextPlace) → AreSound texts opens → IsPeek texts opens peek → peek.front ≡ front.Usage len
+    → word ≡ record { source = peek.source; from = peek.at + 1; end = peek.at + len } → IsPlaced texts word
+word-inside texts opens peek len word h l e is =
+    let place = usage-place texts opens peek len h l e in
     let some = place.some in
     let inside = place.inside in
     let within = place.within in
@@ -641,21 +641,21 @@ word-inside texts opens look len word h l e is =
     })
 
 -- the name of a usage lies in its text
-pub name-inside : (texts : Texts) (opens : List Open) (look : Look) (len : ℕ) (text : List ℕ) → AreSound texts opens → IsLook texts opens look → look.front ≡ front.Usage len
-    → text ≡ source_text texts look.source → (look.at + 1 ≤ look.at + len) × (look.at + len ≤ length text)
-name-inside texts opens look len text h l e is =
-    let place = usage-place texts opens look len h l e in
+pub name-inside : (texts : Texts) (opens : List Open) (peek : Peek) (len : ℕ) (text : List ℕ) → AreSound texts opens → IsPeek texts opens peek → peek.front ≡ front.Usage len
+    → text ≡ source_text texts peek.source → (peek.at + 1 ≤ peek.at + len) × (peek.at + len ≤ length text)
+name-inside texts opens peek len text h l e is =
+    let place = usage-place texts opens peek len h l e in
     let some = place.some in
     let inside = place.inside in
-    let within : look.end ≤ length text = subst (λ (t : List ℕ). look.end ≤ length t) (sym is) place.within in
+    let within : peek.end ≤ length text = subst (λ (t : List ℕ). peek.end ≤ length t) (sym is) place.within in
     (omega (arith, some), omega (arith, inside, within))
 
 -- and is what stands there
-pub name-is : (texts : Texts) (opens : List Open) (look : Look) (len : ℕ) (text : List ℕ) → AreSound texts opens → IsLook texts opens look → look.front ≡ front.Usage len
-    → text ≡ source_text texts look.source → slice_range text (look.at + 1) (look.at + len) ≡ front_name texts opens len
+pub name-is : (texts : Texts) (opens : List Open) (peek : Peek) (len : ℕ) (text : List ℕ) → AreSound texts opens → IsPeek texts opens peek → peek.front ≡ front.Usage len
+    → text ≡ source_text texts peek.source → slice_range text (peek.at + 1) (peek.at + len) ≡ front_name texts opens len
 unfolding place_bytes
-name-is texts opens look len text h l e is =
-    ap (λ (t : List ℕ). slice_range t (look.at + 1) (look.at + len)) is ∙ usage-word texts opens look len (look.at + 1) (look.at + len) h l e refl refl
+name-is texts opens peek len text h l e is =
+    ap (λ (t : List ℕ). slice_range t (peek.at + 1) (peek.at + len)) is ∙ usage-word texts opens peek len (peek.at + 1) (peek.at + len) h l e refl refl
 
 -- a name that a table hasn't is refused
 pub unknown-given : (texts : Texts) (opens : List Open) (name given : List ℕ) (kind : FaultKind) → given ≡ name → macro_named texts.macros given ≡ None
@@ -677,11 +677,11 @@ has-list None count some e s f = absurd (true≢false (sym f ∙ s ∙ ap (λ (o
 has-list (Some fs) count some e s f = refl
 
 -- a fault under the name of a usage is placed
-pub placed-word : (texts : Texts) (opens : List Open) (look : Look) (len : ℕ) (kind : FaultKind) (word : TextPlace) → AreSound texts opens → IsLook texts opens look
-    → look.front ≡ front.Usage len → word ≡ record { source = look.source; from = look.at + 1; end = look.at + len }
+pub placed-word : (texts : Texts) (opens : List Open) (peek : Peek) (len : ℕ) (kind : FaultKind) (word : TextPlace) → AreSound texts opens → IsPeek texts opens peek
+    → peek.front ≡ front.Usage len → word ≡ record { source = peek.source; from = peek.at + 1; end = peek.at + len }
     → IsPlacedStep texts (Refused (record { kind = kind; word = word }))
 unfolding IsPlacedStep
-placed-word texts opens look len kind word h l e is = word-inside texts opens look len word h l e is
+placed-word texts opens peek len kind word h l e is = word-inside texts opens peek len word h l e is
 
 -- so is one without a word
 pub placed-wordless : (texts : Texts) (kind : FaultKind) → IsPlacedStep texts (wordless kind)
@@ -689,14 +689,14 @@ unfolding IsPlacedStep
 placed-wordless texts kind = record { source = tt; order = omega arith; inside = omega arith }
 
 -- a run that is lent is placed
-pub placed-run : (texts : Texts) (opens : List Open) (look : Look) → AreSound texts opens → IsLookAhead texts opens look → look.from < look.at
-    → IsPlacedStep texts (Lends (record { source = look.source; from = look.from; end = look.at }))
-unfolding IsLookAhead AreCopied IsPlacedStep
-placed-run texts [] look h l more = absurd l
-placed-run texts (x ∷ below) look h l more =
+pub placed-run : (texts : Texts) (opens : List Open) (peek : Peek) → AreSound texts opens → IsPeekAhead texts opens peek → peek.from < peek.at
+    → IsPlacedStep texts (Lends (record { source = peek.source; from = peek.from; end = peek.at }))
+unfolding IsPeekAhead AreCopied IsPlacedStep
+placed-run texts [] peek h l more = absurd l
+placed-run texts (x ∷ below) peek h l more =
     let from = l.1 in
-    let ends = run-ends texts x below (look.at - look.from) (omega (arith, more)) l.3.0 in
-    let own : x.part.end ≤ length (source_text texts look.source) =
+    let ends = run-ends texts x below (peek.at - peek.from) (omega (arith, more)) l.3.0 in
+    let own : x.part.end ≤ length (source_text texts peek.source) =
     subst (λ (t : TextSource). x.part.end ≤ length (source_text texts t)) (sym l.0) (source-inside texts x below h.are_inside) in
     record {
       source = subst (λ (t : TextSource). IsSource texts t) (sym l.0) (source-known texts x below h.are_inside);

@@ -1,7 +1,7 @@
 pub mod Opened
 pub mod Scopes
 pub mod Places
-pub mod Fronts
+pub mod TextItems
 pub mod Steps
 pub mod Usages
 pub mod Calls

@@ -3,15 +3,15 @@
 use Rattle.std.specs.Prelude.{◌≡◌, ℕ, ◌<◌, ◌^◌, Bool, true, false, nat_le, List, length}
 use Rattle.rdlpp_meaning.specs.Opens.{Open, Texts}
 use Rattle.rdlpp_texts.specs.Digits.{IsFalling}
-use Rattle.rdlpp_texts.specs.Fronts.{IsLook, StandsAt}
+use Rattle.rdlpp_texts.specs.TextItems.{IsPeek, StandsAt}
 use Rattle.rdlpp_texts.specs.Opened.{CursorsView, StaysOutermost}
 use Rattle.rdlpp_texts.specs.Places.{source_text}
 use Rattle.rdlpp_texts.specs.Steps.{AreSound, IsStep, KeepsOpen, StaysRefused, IsPlacedStep, NamesWord}
 use Rattle.rdlpp_texts.specs.Turns.{TurnsOver}
 use Rattle.rdlpp_texts.specs.Usages.{IsTextFault}
-use Rattle.rdlpp_texts.specs.declared.front.Front.{Front}
-use Rattle.rdlpp_texts.specs.declared.front.Front.TheVariants.{Ended, Formal as FormalName, Usage, Bare}
-use Rattle.rdlpp_texts.specs.declared.front.Look.{Look}
+use Rattle.rdlpp_texts.specs.declared.peek.TextItem.{TextItem}
+use Rattle.rdlpp_texts.specs.declared.peek.TextItem.TheVariants.{Ended, Formal as FormalName, Usage, Bare}
+use Rattle.rdlpp_texts.specs.declared.peek.Peek.{Peek}
 use Rattle.rdlpp_texts.specs.declared.step.CursorStep.{CursorStep}
 
 -- a step: what it lends, opens or closes is what expansion has there, and what is open behind it is sound, at the same line and for as many texts;
@@ -32,15 +32,15 @@ pub record TakesStep (texts : Texts) (old : CursorsView) (result : CursorStep) (
   pub turns : TurnsOver texts old.opens result new.opens
 
 -- a look at sound open texts, with the bytes of the text in which the innermost lies
-pub record LooksAt (texts : Texts) (opens : List Open) (seen : Look) (bytes : List ℕ) : Type 0 where
+pub record PeeksAt (texts : Texts) (opens : List Open) (seen : Peek) (bytes : List ℕ) : Type 0 where
   pub some : 0 < length opens
   pub sound : AreSound texts opens
-  pub look : IsLook texts opens seen
+  pub peek : IsPeek texts opens seen
   pub text : bytes ≡ source_text texts seen.source
   pub short : seen.end < 2 ^ 64
 
 -- whether nothing is done at the front of so many open texts, behind a run that is lent: where the last one has ended
-unfoldable pub is_idle : Bool → ℕ → Front → Bool
+unfoldable pub is_idle : Bool → ℕ → TextItem → Bool
 is_idle false count front = false
 is_idle true count Ended = nat_le count 1
 is_idle true count (FormalName len place) = false

@@ -3,20 +3,20 @@
 use Rattle.std.specs.Prelude.{◌≡◌, ℕ, ◌+◌, true, List, [], ◌∷◌, length, drop, Some}
 use Rattle.rdlpp_table.specs.View.{formals_of, macro_at}
 use Rattle.rdlpp_meaning.specs.Opens.{Open, Part, Texts, found_standing, open_body, open_bytes, scope_open}
-use Rattle.rdlpp_texts.specs.Fronts.{IsFront}
+use Rattle.rdlpp_texts.specs.TextItems.{IsTextItem}
 use Rattle.rdlpp_texts.specs.Opened.{is_spent, moved_to}
 use Rattle.rdlpp_texts.specs.Places.{source_formals}
 use Rattle.rdlpp_texts.specs.Scopes.{front_scope, front_source}
 use Rattle.rdlpp_texts.specs.Usages.{IsUsed, front_name}
-use Rattle.rdlpp_texts.specs.declared.front.Front.{Front}
-use Rattle.rdlpp_texts.specs.declared.front.Front.TheVariants.{Formal as FormalName, Usage}
+use Rattle.rdlpp_texts.specs.declared.peek.TextItem.{TextItem}
+use Rattle.rdlpp_texts.specs.declared.peek.TextItem.TheVariants.{Formal as FormalName, Usage}
 use Rattle.rdlpp_texts.specs.declared.step.CursorStep.{CursorStep}
 use Rattle.rdlpp_texts.specs.declared.step.CursorStep.TheVariants.{Lends, Silent, Refused}
 
 -- this stands at the front of the innermost open text, where that goes on at a place
-abbrev pub HasFront : Texts → List Open → ℕ → Front → Type 0
+abbrev pub HasFront : Texts → List Open → ℕ → TextItem → Type 0
 HasFront texts [] at front = ⊥
-HasFront texts (x ∷ below) at front = (at ≡ x.part.from) × IsFront (source_formals texts (front_source (x ∷ below))) (open_bytes texts x below) front
+HasFront texts (x ∷ below) at front = (at ≡ x.part.from) × IsTextItem (source_formals texts (front_source (x ∷ below))) (open_bytes texts x below) front
 
 -- the innermost open texts are closed
 abbrev pub Closes : List Open → List Open → Type 0

@@ -4,7 +4,7 @@ ghost use Rattle.rdlpp_scan.specs.declared.token.Mode.TheVariants.{Plain};
 ghost use Rattle.std.specs.Option.{option_map};
 ghost use Rattle.rdlpp_table.specs.View.{macro_at};
 ghost use Rattle.rdlpp_meaning.specs.Opens.{open_body, OpenBody, Texts};
-ghost use Rattle.rdlpp_texts.specs.Fronts.{IsLookAhead};
+ghost use Rattle.rdlpp_texts.specs.TextItems.{IsPeekAhead};
 ghost use Rattle.rdlpp_texts.specs.Opened.{bound_by, is_spent, kept_by, moved_to, open_of, IsNoBody, StaysOutermost};
 ghost use Rattle.rdlpp_texts.specs.Places.{source_text, texts_of};
 ghost use Rattle.rdlpp_texts.specs.Scopes.{innermost_place};
@@ -17,7 +17,7 @@ mod call;
 mod usage;
 
 use crate::Range;
-use crate::front::{Sight, look_at};
+use crate::peek::{PeekedText, peek_at};
 use crate::hints::{LookupHints, NO_HINTS};
 use crate::place::{TextPlace, TextSource};
 use crate::scopes::{body_bounds, innermost_place, scope_bounds};
@@ -257,15 +257,15 @@ impl Cursors {
 
     // Where the innermost text lies, where it goes on and ends, up to where it is copied, and what stands there, with the bytes of
     // the text in which it lies.
-    fn look<'a>(&self, table: &'a Table, arguments: &'a [u8]) -> Sight<'a>
+    fn peek<'a>(&self, table: &'a Table, arguments: &'a [u8]) -> PeekedText<'a>
         requires some { 0 < length self.now.opens }
         requires sound { AreSound (texts_of table.now.macros arguments.now) self.now.opens }
-        ensures look { IsLookAhead (texts_of table.now.macros arguments.now) self.now.opens result.look }
-        ensures short { result.look.end < 2 ^ 64 }
-        ensures text { result.text.now ≡ source_text (texts_of table.now.macros arguments.now) result.look.source }
+        ensures peek { IsPeekAhead (texts_of table.now.macros arguments.now) self.now.opens result.peek }
+        ensures short { result.peek.end < 2 ^ 64 }
+        ensures text { result.text.now ≡ source_text (texts_of table.now.macros arguments.now) result.peek.source }
     {
         let slots = self.slots.as_slice();
-        look_at(
+        peek_at(
             &slots[self.first..],
             self.bindings.as_slice(),
             table,
@@ -298,16 +298,16 @@ impl Cursors {
         requires sound { AreSound (texts_of table.now.macros arguments.now) self.old.opens }
         ensures { TakesStep (texts_of table.now.macros arguments.now) self.old result self.new }
     {
-        let sight = self.look(table, arguments);
-        let look = sight.look;
-        let lent = look.from < look.at;
-        self.move_to(look.at);
-        let opened = self.open_front(table, arguments, sight.text, &look, lent);
+        let sight = self.peek(table, arguments);
+        let peek = sight.peek;
+        let lent = peek.from < peek.at;
+        self.move_to(peek.at);
+        let opened = self.open_front(table, arguments, sight.text, &peek, lent);
         if lent {
             CursorStep::Lends(TextPlace {
-                source: look.source,
-                from: look.from,
-                end: look.at,
+                source: peek.source,
+                from: peek.from,
+                end: peek.at,
             })
         } else {
             opened

@@ -5,10 +5,10 @@
 mod bindings;
 mod calm;
 mod cursors;
-mod front;
 mod hints;
 mod kept;
 mod parts;
+mod peek;
 mod place;
 mod scopes;
 mod slot;

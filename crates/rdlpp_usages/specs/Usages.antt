@@ -27,7 +27,7 @@ use Rattle.rdlpp_read.specs.declared.files.File.{File}
 use Rattle.rdlpp_usages.specs.CallReads.{with_used, ReadsUpTo}
 use Rattle.rdlpp_usages.specs.Reads.{reading}
 use Rattle.rdlpp_texts.specs.Digits.{IsFalling}
-use Rattle.rdlpp_texts.specs.Fronts.{StandsAt}
+use Rattle.rdlpp_texts.specs.TextItems.{StandsAt}
 use Rattle.rdlpp_texts.specs.Opened.{CursorsView, bound_by, StaysOutermost}
 use Rattle.rdlpp_texts.specs.Places.{texts_of}
 use Rattle.rdlpp_texts.specs.Steps.{AreSound, IsPlacedStep, IsStep, NamesWord}

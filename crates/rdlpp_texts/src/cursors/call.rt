@@ -6,12 +6,12 @@ ghost use Rattle.rdlpp_texts.specs.BoundCalls.{KeepsAll};
 ghost use Rattle.rdlpp_texts.specs.Calls.{IsCallFault, IsCallMiscounted, IsCallStarted, IsOpening};
 ghost use Rattle.rdlpp_texts.specs.Places.{texts_of};
 ghost use Rattle.rdlpp_texts.specs.Steps.{IsUnlent};
-ghost use Rattle.rdlpp_texts.specs.Taking.{LooksAt, TakesStep};
+ghost use Rattle.rdlpp_texts.specs.Taking.{PeeksAt, TakesStep};
 ghost use Rattle.rdlpp_texts.specs.Usages.{front_name, IsUsed};
 
 use crate::cursors::Cursors;
 use crate::cursors::usage::word_of;
-use crate::front::{Front, Look};
+use crate::peek::{TextItem, Peek};
 use crate::scopes::body_bounds;
 use crate::slot::{Slot, SlotKind};
 use crate::slots::free_slot;
@@ -74,12 +74,12 @@ impl Cursors {
         table: &Table,
         arguments: &[u8],
         text: &[u8],
-        look: &Look,
+        peek: &Peek,
         len: usize,
         id: MacroId,
     ) -> CursorStep
-        requires look { LooksAt (texts_of table.now.macros arguments.now) self.old.opens look.now text.now }
-        requires front { look.now.front ≡ Front.Usage len }
+        requires peek { PeeksAt (texts_of table.now.macros arguments.now) self.old.opens peek.now text.now }
+        requires front { peek.now.front ≡ TextItem.Usage len }
         requires used { IsUsed (texts_of table.now.macros arguments.now) self.old.opens (front_name (texts_of table.now.macros arguments.now) self.old.opens len) id }
         requires list { is_some (macro_at table.now.macros id).formals ≡ true }
         ensures step { TakesStep (texts_of table.now.macros arguments.now) self.old result self.new }
@@ -88,12 +88,12 @@ impl Cursors {
     {
         let _macros = table.len();
         let home = self.scope();
-        let at = look.at + len;
-        match self.open_bound(table, text, at, look.end, id, home) {
+        let at = peek.at + len;
+        match self.open_bound(table, text, at, peek.end, id, home) {
             Opening::Opened => CursorStep::Silent,
             Opening::Refused(kind) => CursorStep::Refused(CursorFault {
                 kind,
-                word: word_of(look, len),
+                word: word_of(peek, len),
             }),
             Opening::Deep => wordless(FaultKind::DepthPassed),
         }

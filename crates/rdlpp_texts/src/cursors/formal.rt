@@ -1,7 +1,7 @@
 // The opening of what a formal stands for.
 ghost use Rattle.std.specs.Prelude.{[], length, ◌+◌, ◌<◌, ◌≡◌};
 ghost use Rattle.std.specs.Option.{option_map};
-ghost use Rattle.rdlpp_texts.specs.Fronts.{IsLook};
+ghost use Rattle.rdlpp_texts.specs.TextItems.{IsPeek};
 ghost use Rattle.rdlpp_texts.specs.Opened.{open_of};
 ghost use Rattle.rdlpp_texts.specs.Places.{source_formals, texts_of};
 ghost use Rattle.rdlpp_meaning.specs.Opens.{found_standing, scope_open};
@@ -10,7 +10,7 @@ ghost use Rattle.rdlpp_texts.specs.Steps.{AreSound, IsUnlent};
 ghost use Rattle.rdlpp_texts.specs.Taking.{TakesStep};
 
 use crate::cursors::Cursors;
-use crate::front::{Front, Look};
+use crate::peek::{TextItem, Peek};
 use crate::scopes::{front_scope, standing};
 use crate::slot::Slot;
 use crate::step::{CursorStep, wordless};
@@ -26,19 +26,19 @@ impl Cursors {
         &mut self,
         table: &Table,
         arguments: &[u8],
-        look: &Look,
+        peek: &Peek,
         len: usize,
         place: usize,
     ) -> CursorStep
         requires some { 0 < length self.old.opens }
         requires sound { AreSound (texts_of table.now.macros arguments.now) self.old.opens }
-        requires look { IsLook (texts_of table.now.macros arguments.now) self.old.opens look.now }
-        requires front { look.now.front ≡ Front.Formal len place }
+        requires peek { IsPeek (texts_of table.now.macros arguments.now) self.old.opens peek.now }
+        requires front { peek.now.front ≡ TextItem.Formal len place }
         ensures step { TakesStep (texts_of table.now.macros arguments.now) self.old result self.new }
         ensures open { 0 < length self.new.opens }
         ensures unlent { IsUnlent result }
     {
-        let look = *look;
+        let peek = *peek;
         let _macros = table.len();
         let _arguments = arguments.len();
         let Some(new) = self.standing(table, place) else {
@@ -47,7 +47,7 @@ impl Cursors {
         if self.is_full() {
             return wordless(FaultKind::DepthPassed);
         }
-        self.move_to(look.at + len);
+        self.move_to(peek.at + len);
         self.push_text(new);
         CursorStep::Silent
     }

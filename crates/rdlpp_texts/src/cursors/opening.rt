@@ -2,10 +2,10 @@
 ghost use Rattle.std.specs.Prelude.{false, length, true, ◌<◌, ◌≡◌};
 ghost use Rattle.rdlpp_texts.specs.Places.{texts_of};
 ghost use Rattle.rdlpp_texts.specs.Steps.{IsUnlent};
-ghost use Rattle.rdlpp_texts.specs.Taking.{is_idle, LooksAt, TakesStep};
+ghost use Rattle.rdlpp_texts.specs.Taking.{is_idle, PeeksAt, TakesStep};
 
 use crate::cursors::Cursors;
-use crate::front::{Front, Look};
+use crate::peek::{TextItem, Peek};
 use crate::step::{CursorStep, wordless};
 use rdlpp_meaning::FaultKind;
 use rdlpp_table::Table;
@@ -21,24 +21,24 @@ impl Cursors {
         table: &Table,
         arguments: &[u8],
         text: &[u8],
-        look: &Look,
+        peek: &Peek,
         lent: bool,
     ) -> CursorStep
-        requires { LooksAt (texts_of table.now.macros arguments.now) self.old.opens look.now text.now }
-        ensures taken { is_idle lent (length self.old.opens) look.now.front ≡ false → TakesStep (texts_of table.now.macros arguments.now) self.old result self.new }
-        ensures idle { is_idle lent (length self.old.opens) look.now.front ≡ true → self.new ≡ self.old }
+        requires { PeeksAt (texts_of table.now.macros arguments.now) self.old.opens peek.now text.now }
+        ensures taken { is_idle lent (length self.old.opens) peek.now.front ≡ false → TakesStep (texts_of table.now.macros arguments.now) self.old result self.new }
+        ensures idle { is_idle lent (length self.old.opens) peek.now.front ≡ true → self.new ≡ self.old }
         ensures open { lent ≡ true → 0 < length self.new.opens }
         ensures unlent { IsUnlent result }
     {
-        match look.front {
-            Front::Ended if lent && self.len() <= 1 => CursorStep::Silent,
-            Front::Ended => {
+        match peek.front {
+            TextItem::Ended if lent && self.len() <= 1 => CursorStep::Silent,
+            TextItem::Ended => {
                 self.close_spent();
                 CursorStep::Silent
             }
-            Front::Formal { len, place } => self.formal(table, arguments, look, len, place),
-            Front::Usage(len) => self.usage(table, arguments, text, look, len),
-            Front::Bare => wordless(FaultKind::BareBackquote),
+            TextItem::Formal { len, place } => self.formal(table, arguments, peek, len, place),
+            TextItem::Usage(len) => self.usage(table, arguments, text, peek, len),
+            TextItem::Bare => wordless(FaultKind::BareBackquote),
         }
     }
 }

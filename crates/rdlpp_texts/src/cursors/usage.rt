@@ -8,11 +8,11 @@ ghost use Rattle.rdlpp_texts.specs.Opened.{moved_to};
 ghost use Rattle.rdlpp_texts.specs.Places.{texts_of};
 ghost use Rattle.rdlpp_texts.specs.Scopes.{front_scope, writer_ids, AreFurtherOut};
 ghost use Rattle.rdlpp_texts.specs.Steps.{IsUnlent};
-ghost use Rattle.rdlpp_texts.specs.Taking.{LooksAt, TakesStep};
+ghost use Rattle.rdlpp_texts.specs.Taking.{PeeksAt, TakesStep};
 ghost use Rattle.rdlpp_texts.specs.Usages.{front_name, is_text_fault, unknown_kind, IsRefused, IsUsed};
 
 use crate::cursors::Cursors;
-use crate::front::{Front, Look};
+use crate::peek::{TextItem, Peek};
 use crate::place::TextPlace;
 use crate::scopes::{front_scope, is_front_in};
 use crate::step::{CursorFault, CursorStep, wordless};
@@ -28,30 +28,30 @@ impl Cursors {
         table: &Table,
         arguments: &[u8],
         text: &[u8],
-        look: &Look,
+        peek: &Peek,
         len: usize,
     ) -> CursorStep
-        requires look { LooksAt (texts_of table.now.macros arguments.now) self.old.opens look.now text.now }
-        requires front { look.now.front ≡ Front.Usage len }
+        requires peek { PeeksAt (texts_of table.now.macros arguments.now) self.old.opens peek.now text.now }
+        requires front { peek.now.front ≡ TextItem.Usage len }
         ensures step { TakesStep (texts_of table.now.macros arguments.now) self.old result self.new }
         ensures open { 0 < length self.new.opens }
         ensures unlent { IsUnlent result }
     {
         let _macros = table.len();
-        let id = match self.used_macro(table, arguments, text, look, len) {
+        let id = match self.used_macro(table, arguments, text, peek, len) {
             Ok(id) => id,
             Err(kind) => {
-                let word = word_of(look, len);
+                let word = word_of(peek, len);
                 return CursorStep::Refused(CursorFault { kind, word });
             }
         };
         if table.arity(id).is_some() {
-            return self.call(table, arguments, text, look, len, id);
+            return self.call(table, arguments, text, peek, len, id);
         }
         if self.is_full() {
             return wordless(FaultKind::DepthPassed);
         }
-        self.enter(table, id, look.at + len);
+        self.enter(table, id, peek.at + len);
         CursorStep::Silent
     }
 
@@ -61,16 +61,16 @@ impl Cursors {
         table: &Table,
         arguments: &[u8],
         text: &[u8],
-        look: &Look,
+        peek: &Peek,
         len: usize,
     ) -> Result<MacroId, FaultKind>
-        requires look { LooksAt (texts_of table.now.macros arguments.now) self.old.opens look.now text.now }
-        requires front { look.now.front ≡ Front.Usage len }
+        requires peek { PeeksAt (texts_of table.now.macros arguments.now) self.old.opens peek.now text.now }
+        requires front { peek.now.front ≡ TextItem.Usage len }
         ensures same { self.new ≡ self.old }
         ensures fault { IfErr result (λ kind. is_text_fault kind ≡ true) }
         ensures used { MatchResult result (λ id. IsUsed (texts_of table.now.macros arguments.now) self.old.opens (front_name (texts_of table.now.macros arguments.now) self.old.opens len) id) (λ kind. IsRefused (texts_of table.now.macros arguments.now) self.old.opens (front_name (texts_of table.now.macros arguments.now) self.old.opens len) kind) }
     {
-        let name = &text[look.at + 1..look.at + len];
+        let name = &text[peek.at + 1..peek.at + len];
         let Some(id) = self.hints.find(table, name) else {
             return Err(unknown_kind(name));
         };
@@ -125,14 +125,14 @@ fn unknown_kind(name: &[u8]) -> FaultKind
 }
 
 // Where the name of a usage stands: behind its backquote.
-pub(super) fn word_of(look: &Look, len: usize) -> TextPlace
-    requires short { look.now.at + len < 2 ^ 64 }
+pub(super) fn word_of(peek: &Peek, len: usize) -> TextPlace
+    requires short { peek.now.at + len < 2 ^ 64 }
     requires some { 0 < len }
-    ensures { result ≡ record { source = look.now.source; from = look.now.at + 1; end = look.now.at + len } }
+    ensures { result ≡ record { source = peek.now.source; from = peek.now.at + 1; end = peek.now.at + len } }
 {
     TextPlace {
-        source: look.source,
-        from: look.at + 1,
-        end: look.at + len,
+        source: peek.source,
+        from: peek.at + 1,
+        end: peek.at + len,
     }
 }

@@ -12,7 +12,7 @@ returns-in-Ended-clause-taken c miss =
     absurd (true≢false (sym (idle-last _ _ _ c.in-Ended.is c.if-lent.true (le-leb _ _ (omega (arith, c.if-len-le1.true, c.len.ensures.value)))) ∙ miss))
 
 pub returns-in-Ended-2-clause-taken : goal.returns-in-Ended-2-clause-taken
-returns-in-Ended-2-clause-taken c miss = c.close_spent.ensures.spent _ c.requires.sound (ended-spent _ _ _ c.requires.sound c.requires.look c.in-Ended-2.is)
+returns-in-Ended-2-clause-taken c miss = c.close_spent.ensures.spent _ c.requires.sound (ended-spent _ _ _ c.requires.sound c.requires.peek c.in-Ended-2.is)
 
 pub returns-in-Ended-2-clause-idle : goal.returns-in-Ended-2-clause-idle
 returns-in-Ended-2-clause-idle c hit = absurd (true≢false (sym hit ∙ idle-closed _ _ _ c.in-Ended-2.is more))
@@ -30,4 +30,4 @@ pub returns-in-Usage-clause-idle : goal.returns-in-Usage-clause-idle
 returns-in-Usage-clause-idle c hit = absurd (true≢false (sym hit ∙ idle-usage _ _ _ _ c.in-Usage.is))
 
 pub returns-in-Bare-clause-taken : goal.returns-in-Bare-clause-taken
-returns-in-Bare-clause-taken c miss = takes-wordless _ _ _ _ _ (pass-bare (texts_of c.args.table.now.macros c.args.arguments.now) c.args.self.now c.args.look.now c.requires.sound c.requires.look c.in-Bare.is) c.wordless.ensures fault-bare
+returns-in-Bare-clause-taken c miss = takes-wordless _ _ _ _ _ (pass-bare (texts_of c.args.table.now.macros c.args.arguments.now) c.args.self.now c.args.peek.now c.requires.sound c.requires.peek c.in-Bare.is) c.wordless.ensures fault-bare

@@ -2,7 +2,7 @@ use Rattle.std.proofs.Common.{List, ℕ, ap, sym, ◌∙◌}
 use Rattle.std.proofs.lemmas.List.{take_rest}
 use Rattle.rdlpp_scan.specs.Tokens.{token_of}
 use Rattle.rdlpp_texts.proofs.Stopping.{running-end, running-more, running-start, running-stop}
-use Rattle.rdlpp_texts.proofs.front.run_by_tokens.Goals as goal
+use Rattle.rdlpp_texts.proofs.peek.run_by_tokens.Goals as goal
 
 pub loop-at-init : goal.loop-at-init
 loop-at-init c = running-start _

@@ -1,11 +1,11 @@
 use Rattle.std.proofs.Common.{◌∙◌, arith, sym, eqb-true}
 use Rattle.std.proofs.lemmas.List.{nil_from_length}
-use Rattle.rdlpp_texts.specs.Fronts.{IsFront}
+use Rattle.rdlpp_texts.specs.TextItems.{IsTextItem}
 use Rattle.rdlpp_texts.proofs.Stopping.{front-plain}
-use Rattle.rdlpp_texts.proofs.front.plain_stop.Goals as goal
+use Rattle.rdlpp_texts.proofs.peek.plain_stop.Goals as goal
 
 pub returns-then-is_empty : goal.returns-then-is_empty
-unfolding IsFront
+unfolding IsTextItem
 returns-then-is_empty c = nil_from_length _ (eqb-true _ _ (sym c.is_empty.ensures ∙ c.if-is_empty.true))
 
 pub returns-in-Back : goal.returns-in-Back

@@ -4,7 +4,7 @@ ghost use Rattle.rdlpp_scan.specs.Tokens.{tokens_from};
 ghost use Rattle.rdlpp_table.specs.Stops.{stop_in, stop_of};
 ghost use Rattle.rdlpp_table.specs.Table.{Formal};
 ghost use Rattle.rdlpp_table.specs.View.{macro_at};
-ghost use Rattle.rdlpp_texts.specs.Fronts.{is_back, run_len, IsAhead, IsFront, IsLookAhead};
+ghost use Rattle.rdlpp_texts.specs.TextItems.{is_back, run_len, IsNextItem, IsTextItem, IsPeekAhead};
 ghost use Rattle.rdlpp_texts.specs.Opened.{opens_of};
 ghost use Rattle.rdlpp_texts.specs.Places.{source_formals, source_text, texts_of, IsSource};
 ghost use Rattle.rdlpp_texts.specs.Steps.{AreSound};
@@ -19,7 +19,7 @@ use rdlpp_table::{MacroId, Stop, Table};
 
 // What stands at the front of an open text.
 #[derive(Clone, Copy)]
-pub(crate) enum Front {
+pub(crate) enum TextItem {
     // Nothing.
     Ended,
     // The name of a formal.
@@ -32,49 +32,49 @@ pub(crate) enum Front {
 
 // Where what is copied at the front of an open text ends, and what stands there.
 #[derive(Clone, Copy)]
-pub(crate) struct Ahead {
+pub(crate) struct NextItem {
     pub(crate) at: usize,
-    pub(crate) front: Front,
+    pub(crate) front: TextItem,
 }
 
 // A look at the innermost open text: where it lies, where it goes on and ends, up to where it is copied, and what stands there.
 #[derive(Clone, Copy)]
-pub(crate) struct Look {
+pub(crate) struct Peek {
     pub(crate) source: TextSource,
     pub(crate) from: usize,
     pub(crate) end: usize,
     pub(crate) at: usize,
-    pub(crate) front: Front,
+    pub(crate) front: TextItem,
 }
 
 // A look at the innermost open text, with the bytes of the text in which that lies.
 #[derive(Clone, Copy, Drop)]
-pub(crate) struct Sight<'a> {
-    pub(crate) look: Look,
+pub(crate) struct PeekedText<'a> {
+    pub(crate) peek: Peek,
     pub(crate) text: &'a [u8],
 }
 
 // A look at open texts, which lie in slots, the innermost first.
-pub(crate) fn look_at<'a>(
+pub(crate) fn peek_at<'a>(
     slots: &[Slot],
     bindings: &[Range],
     table: &'a Table,
     arguments: &'a [u8],
-) -> Sight<'a>
+) -> PeekedText<'a>
     requires some { 0 < length slots.now }
     requires sound { AreSound (texts_of table.now.macros arguments.now) (opens_of slots.now bindings.now) }
-    ensures look { IsLookAhead (texts_of table.now.macros arguments.now) (opens_of slots.now bindings.now) result.look }
-    ensures short { result.look.end < 2 ^ 64 }
-    ensures text { result.text.now ≡ source_text (texts_of table.now.macros arguments.now) result.look.source }
+    ensures peek { IsPeekAhead (texts_of table.now.macros arguments.now) (opens_of slots.now bindings.now) result.peek }
+    ensures short { result.peek.end < 2 ^ 64 }
+    ensures text { result.text.now ≡ source_text (texts_of table.now.macros arguments.now) result.peek.source }
 {
     let _bound = bindings.len();
     let slot = &slots[0];
     let (from, end) = (slot.from, slot.end);
     let source = front_source(slots);
     let text = text_of(table, arguments, source);
-    let ahead = front_of(table, arguments, text, &source, from, end);
-    Sight {
-        look: Look {
+    let ahead = peek_in(table, arguments, text, &source, from, end);
+    PeekedText {
+        peek: Peek {
             source,
             from,
             end,
@@ -87,23 +87,23 @@ pub(crate) fn look_at<'a>(
 
 // What stands ahead in a range of a text, whose bytes are given.
 #[inline(always)]
-pub(crate) fn front_of(
+pub(crate) fn peek_in(
     table: &Table,
     arguments: &[u8],
     text: &[u8],
     source: &TextSource,
     from: usize,
     end: usize,
-) -> Ahead
+) -> NextItem
     requires source { IsSource (texts_of table.now.macros arguments.now) source.now }
     requires text { text.now ≡ source_text (texts_of table.now.macros arguments.now) source.now }
     requires inside { end ≤ length (source_text (texts_of table.now.macros arguments.now) source.now) }
-    ensures { IsAhead (source_formals (texts_of table.now.macros arguments.now) source.now) (slice_range (source_text (texts_of table.now.macros arguments.now) source.now) from end) from result }
+    ensures { IsNextItem (source_formals (texts_of table.now.macros arguments.now) source.now) (slice_range (source_text (texts_of table.now.macros arguments.now) source.now) from end) from result }
 {
     if end <= from {
-        return Ahead {
+        return NextItem {
             at: from,
-            front: Front::Ended,
+            front: TextItem::Ended,
         };
     }
     if let TextSource::Body(id) = *source {
@@ -111,7 +111,7 @@ pub(crate) fn front_of(
     }
     let text = &text[from..end];
     let len = run_len(text);
-    Ahead {
+    NextItem {
         at: from + len,
         front: plain_stop(&text[len..]),
     }
@@ -154,50 +154,50 @@ fn unlisted_stop(text: &[u8], from: usize) -> Stop
     let len = run_len(text);
     let at = from + len;
     match plain_stop(&text[len..]) {
-        Front::Ended => Stop::None,
-        Front::Usage(len) => Stop::Usage { at, len },
-        Front::Bare => Stop::Bare { at },
+        TextItem::Ended => Stop::None,
+        TextItem::Usage(len) => Stop::Usage { at, len },
+        TextItem::Bare => Stop::Bare { at },
         // There is none.
-        Front::Formal { len, place } => Stop::Formal { at, len, place },
+        TextItem::Formal { len, place } => Stop::Formal { at, len, place },
     }
 }
 
 // What stands ahead in a text that ends at a place, by its first stop.
-fn stop_front(stop: Stop, end: usize) -> Ahead
-    ensures { (formals : List Formal) (from : ℕ) (text : List ℕ) → from + length text ≡ end → stop ≡ stop_of formals from text → IsAhead formals text from result }
+fn stop_front(stop: Stop, end: usize) -> NextItem
+    ensures { (formals : List Formal) (from : ℕ) (text : List ℕ) → from + length text ≡ end → stop ≡ stop_of formals from text → IsNextItem formals text from result }
 {
     match stop {
-        Stop::None => Ahead {
+        Stop::None => NextItem {
             at: end,
-            front: Front::Ended,
+            front: TextItem::Ended,
         },
-        Stop::Formal { at, len, place } => Ahead {
+        Stop::Formal { at, len, place } => NextItem {
             at,
-            front: Front::Formal { len, place },
+            front: TextItem::Formal { len, place },
         },
-        Stop::Usage { at, len } => Ahead {
+        Stop::Usage { at, len } => NextItem {
             at,
-            front: Front::Usage(len),
+            front: TextItem::Usage(len),
         },
-        Stop::Bare { at } => Ahead {
+        Stop::Bare { at } => NextItem {
             at,
-            front: Front::Bare,
+            front: TextItem::Bare,
         },
     }
 }
 
 // What stands at the front of a text without formals that begins with no run.
-fn plain_stop(text: &[u8]) -> Front
+fn plain_stop(text: &[u8]) -> TextItem
     requires { run_len [] (tokens_from Mode.Plain 0 text.now) text.now ≡ 0 }
-    ensures { IsFront [] text.now result }
+    ensures { IsTextItem [] text.now result }
 {
     if text.is_empty() {
-        return Front::Ended;
+        return TextItem::Ended;
     }
     let token = first_token(Mode::Plain, text);
     match token.kind {
-        Kind::Back => Front::Usage(token.len),
-        _ => Front::Bare,
+        Kind::Back => TextItem::Usage(token.len),
+        _ => TextItem::Bare,
     }
 }
 
@@ -238,7 +238,7 @@ fn run_by_tokens(text: &[u8]) -> usize
 }
 
 // Whether a token of a kind is a usage or a lone backquote.
-#[tactic(auto, unfolding(crate::specs::Fronts::is_back))]
+#[tactic(auto, unfolding(crate::specs::TextItems::is_back))]
 fn is_back(kind: Kind) -> bool
     ensures { result ≡ is_back kind }
 {

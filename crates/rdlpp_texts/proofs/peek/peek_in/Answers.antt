@@ -2,11 +2,11 @@ use Rattle.std.proofs.Common.{◌+◌, ◌∙◌, ap, subst, List, ℕ, [], slic
 use Rattle.std.proofs.lemmas.List.{take_rest}
 use Rattle.rdlpp_scan.specs.declared.token.Mode.TheVariants.{Plain}
 use Rattle.rdlpp_scan.specs.Tokens.{tokens_from}
-use Rattle.rdlpp_texts.specs.Fronts.{run_len, IsAhead, IsFront}
-use Rattle.rdlpp_texts.specs.declared.front.Ahead.{Ahead}
+use Rattle.rdlpp_texts.specs.TextItems.{run_len, IsNextItem, IsTextItem}
+use Rattle.rdlpp_texts.specs.declared.peek.NextItem.{NextItem}
 use Rattle.rdlpp_texts.specs.Places.{texts_of}
 use Rattle.rdlpp_texts.proofs.Stopping.{body-inside, ahead-body, ahead-ended, ahead-plain, plain-source, run-behind}
-use Rattle.rdlpp_texts.proofs.front.front_of.Goals as goal
+use Rattle.rdlpp_texts.proofs.peek.peek_in.Goals as goal
 
 pub returns-then-end-from : goal.returns-then-end-from
 returns-then-end-from c = ahead-ended _ _ c.args.from c.args.end c.if-end-from.true
@@ -27,8 +27,8 @@ plain_stop-requires c =
 pub returns : goal.returns
 returns c =
     let text = slice_range c.args.text.now c.args.from c.args.end in
-    let ahead : Ahead = record { at = c.args.from + c.run_len-len.result; front = c.plain_stop.result } in
+    let ahead : NextItem = record { at = c.args.from + c.run_len-len.result; front = c.plain_stop.result } in
     plain-source (texts_of c.args.table.now.macros c.args.arguments.now) c.args.source.now _ c.args.from ahead (λ id. c.in_default.not-Body id)
-    (subst (λ (bytes : List ℕ). IsAhead [] (slice_range bytes c.args.from c.args.end) c.args.from ahead) c.requires.text
+    (subst (λ (bytes : List ℕ). IsNextItem [] (slice_range bytes c.args.from c.args.end) c.args.from ahead) c.requires.text
     (ahead-plain text _ c.args.from _ c.run_len-len.ensures.value c.run_len-len.ensures.inside
-    (subst (λ (b : List ℕ). IsFront [] b c.plain_stop.result) (take_rest text c.run_len-len.result) c.plain_stop.ensures)))
+    (subst (λ (b : List ℕ). IsTextItem [] b c.plain_stop.result) (take_rest text c.run_len-len.result) c.plain_stop.ensures)))

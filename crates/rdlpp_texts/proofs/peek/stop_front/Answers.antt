@@ -1,6 +1,6 @@
 use Rattle.std.proofs.Common.{sym, ◌∙◌, refl}
 use Rattle.rdlpp_texts.proofs.Stopping.{ahead-stop, ahead-whole, front-bare, front-formal, front-usage}
-use Rattle.rdlpp_texts.proofs.front.stop_front.Goals as goal
+use Rattle.rdlpp_texts.proofs.peek.stop_front.Goals as goal
 
 pub returns-in-None : goal.returns-in-None
 returns-in-None c formals from text e s = ahead-whole formals from _ text e (sym c.in-None.is ∙ s)

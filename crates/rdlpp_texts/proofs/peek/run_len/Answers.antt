@@ -2,10 +2,10 @@ use Rattle.std.proofs.Common.{◌≡◌, ◌+◌, ◌-◌, ◌∙◌, length, ta
 use Rattle.std.proofs.lemmas.Slice.{between_to_end}
 use Rattle.rdlpp_scan.specs.declared.token.Mode.TheVariants.{Plain}
 use Rattle.rdlpp_scan.specs.Tokens.{tokens_from}
-use Rattle.rdlpp_texts.specs.Fronts.{run_len}
+use Rattle.rdlpp_texts.specs.TextItems.{run_len}
 use Rattle.rdlpp_texts.proofs.CalmRuns.{run_behind, run_found}
 use Rattle.rdlpp_texts.proofs.Stopping.{run_searched}
-use Rattle.rdlpp_texts.proofs.front.run_len.Goals as goal
+use Rattle.rdlpp_texts.proofs.peek.run_len.Goals as goal
 
 pub returns-in_default-clause-value : goal.returns-in_default-clause-value
 returns-in_default-clause-value c = run_searched c.args.text.now None refl c.in_default.ensures

@@ -15,11 +15,11 @@ use Rattle.rdlpp_texts.specs.Scopes.{front_source}
 use Rattle.rdlpp_texts.specs.declared.place.TextPlace.{TextPlace}
 use Rattle.rdlpp_texts.specs.declared.step.CursorStep.{CursorStep}
 use Rattle.rdlpp_texts.specs.declared.step.CursorStep.TheVariants.{Lends, Silent, Refused}
-use Rattle.rdlpp_texts.specs.declared.front.Front.{Front}
-use Rattle.rdlpp_texts.specs.declared.front.Ahead.{Ahead}
-use Rattle.rdlpp_texts.specs.declared.front.Look.{Look}
+use Rattle.rdlpp_texts.specs.declared.peek.TextItem.{TextItem}
+use Rattle.rdlpp_texts.specs.declared.peek.NextItem.{NextItem}
+use Rattle.rdlpp_texts.specs.declared.peek.Peek.{Peek}
 use Rattle.rdlpp_texts.specs.Opened.{moved_to}
-use Rattle.rdlpp_texts.specs.declared.front.Front.TheVariants.{Ended, Formal as FormalName, Usage, Bare}
+use Rattle.rdlpp_texts.specs.declared.peek.TextItem.TheVariants.{Ended, Formal as FormalName, Usage, Bare}
 
 -- whether a kind is that of a usage or a lone backquote
 unfoldable pub is_back : Kind → Bool
@@ -39,34 +39,34 @@ AreCopied formals text n = (n ≤ length text) × (run_len formals (tokens_from 
 
 -- what stands at the front of a text with these formals, where no byte is copied: nothing; the name of a formal, so long, with its
 -- place; a usage, so long; or a backquote alone
-unfoldable pub IsFront : List Formal → List ℕ → Front → Type 0
-IsFront formals text Ended = text ≡ []
-IsFront formals text (FormalName len place) =
+unfoldable pub IsTextItem : List Formal → List ℕ → TextItem → Type 0
+IsTextItem formals text Ended = text ≡ []
+IsTextItem formals text (FormalName len place) =
     (0 < length text) × ((token_of Plain text).kind ≡ Name) × ((token_of Plain text).len ≡ len) × (formal_named formals (take len text) ≡ Some place)
-IsFront formals text (Usage len) =
+IsTextItem formals text (Usage len) =
     (0 < length text) × ((token_of Plain text).kind ≡ Back) × ((token_of Plain text).len ≡ len)
-IsFront formals text Bare = (0 < length text) × ((token_of Plain text).kind ≡ BareBackquote)
+IsTextItem formals text Bare = (0 < length text) × ((token_of Plain text).kind ≡ BareBackquote)
 
 -- a look tells what stands at the front of open texts: where the innermost lies, where it goes on and ends, and what stands there
-unfoldable pub IsLook : Texts → List Open → Look → Type 0
-IsLook texts [] look = ⊥
-IsLook texts (x ∷ below) look =
-    (look.source ≡ front_source (x ∷ below)) × (look.at ≡ x.part.from) × (look.end ≡ x.part.end)
-    × IsFront (source_formals texts (front_source (x ∷ below))) (open_bytes texts x below) look.front
+unfoldable pub IsPeek : Texts → List Open → Peek → Type 0
+IsPeek texts [] peek = ⊥
+IsPeek texts (x ∷ below) peek =
+    (peek.source ≡ front_source (x ∷ below)) × (peek.at ≡ x.part.from) × (peek.end ≡ x.part.end)
+    × IsTextItem (source_formals texts (front_source (x ∷ below))) (open_bytes texts x below) peek.front
 
 -- what stands in a text with these formals that begins at a place: what is copied up to another place, and what stands there
-unfoldable pub IsAhead : List Formal → List ℕ → ℕ → Ahead → Type 0
-IsAhead formals text from ahead =
-    (from ≤ ahead.at) × AreCopied formals text (ahead.at - from) × IsFront formals (drop (ahead.at - from) text) ahead.front
+unfoldable pub IsNextItem : List Formal → List ℕ → ℕ → NextItem → Type 0
+IsNextItem formals text from ahead =
+    (from ≤ ahead.at) × AreCopied formals text (ahead.at - from) × IsTextItem formals (drop (ahead.at - from) text) ahead.front
 
 -- what a look at open texts tells: where the innermost lies and goes on, what is copied from there up to another place, and what
 -- stands at the front where it goes on at that place
-unfoldable pub IsLookAhead : Texts → List Open → Look → Type 0
-IsLookAhead texts [] look = ⊥
-IsLookAhead texts (x ∷ below) look =
-    (look.source ≡ front_source (x ∷ below)) × (look.from ≡ x.part.from) × (look.from ≤ look.at)
-    × AreCopied (source_formals texts (front_source (x ∷ below))) (open_bytes texts x below) (look.at - look.from)
-    × IsLook texts (moved_to look.at (x ∷ below)) look
+unfoldable pub IsPeekAhead : Texts → List Open → Peek → Type 0
+IsPeekAhead texts [] peek = ⊥
+IsPeekAhead texts (x ∷ below) peek =
+    (peek.source ≡ front_source (x ∷ below)) × (peek.from ≡ x.part.from) × (peek.from ≤ peek.at)
+    × AreCopied (source_formals texts (front_source (x ∷ below))) (open_bytes texts x below) (peek.at - peek.from)
+    × IsPeek texts (moved_to peek.at (x ∷ below)) peek
 
 -- a place at which the innermost open text stands: it begins where that goes on
 abbrev pub IsFrontPlace : List Open → TextPlace → Type 0

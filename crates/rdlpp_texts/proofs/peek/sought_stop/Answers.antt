@@ -1,7 +1,7 @@
 use Rattle.std.proofs.Common.{◌∙◌, sym}
 use Rattle.rdlpp_table.specs.View.{macro_at}
 use Rattle.rdlpp_texts.proofs.Stopping.{unlisted-body}
-use Rattle.rdlpp_texts.proofs.front.sought_stop.Goals as goal
+use Rattle.rdlpp_texts.proofs.peek.sought_stop.Goals as goal
 
 pub returns-then-unwrap_or-eq0 : goal.returns-then-unwrap_or-eq0
 returns-then-unwrap_or-eq0 c =
