@@ -13,16 +13,16 @@ use Rattle.rdlpp_scan.specs.declared.token.Token.{Token}
 use Rattle.rdlpp_scan.specs.Tokens.{plain_token, token_of, tokens_from, whole}
 use Rattle.rdlpp_scan.proofs.StopKinds.{both_first, no_calm}
 use Rattle.rdlpp_scan.proofs.TokenLens.{token_of-part}
-use Rattle.rdlpp_table.specs.declared.stop.Stop.{Stop}
-use Rattle.rdlpp_table.specs.declared.stop.Stop.TheVariants as stop
-use Rattle.rdlpp_table.specs.Kept.{before_stop, calm_kept, endless, is_cut, kept_from, kept_of, kept_stop, placed, stop_by, stop_end, stop_kept, stop_known, stop_within}
-use Rattle.rdlpp_table.specs.declared.kept.Kept.{Kept}
-use Rattle.rdlpp_table.specs.declared.kept.KeptKind.{KeptKind}
-use Rattle.rdlpp_table.specs.declared.kept.KeptKind.TheVariants as kept
-use Rattle.rdlpp_table.specs.Stops.{first_stop, is_none, or_stop, stop_at, stop_name, stop_of}
+use Rattle.rdlpp_table.specs.declared.point.ExpansionPoint.{ExpansionPoint}
+use Rattle.rdlpp_table.specs.declared.point.ExpansionPoint.TheVariants as point
+use Rattle.rdlpp_table.specs.PointCache.{before_point, calm_kept, endless, is_cut, kept_from, kept_of, kept_point, placed, point_by, point_end, point_kept, point_known, point_within}
+use Rattle.rdlpp_table.specs.declared.point_cache.PackedPoint.{PackedPoint}
+use Rattle.rdlpp_table.specs.declared.point_cache.PackedKind.{PackedKind}
+use Rattle.rdlpp_table.specs.declared.point_cache.PackedKind.TheVariants as kept
+use Rattle.rdlpp_table.specs.ExpansionPoints.{next_expansion_point, is_none, or_point, point_at, point_name, point_of}
 use Rattle.rdlpp_table.specs.Table.{Formal}
 use Rattle.rdlpp_table.specs.View.{formal_named}
-use Rattle.rdlpp_table.proofs.FirstStops.{IsFrom, back_when, begins, begins_end, behind_place, when, cut_more, cut_token, front_first, one_token, or_none, or_some, quiet_one, run_drop, tokens_within}
+use Rattle.rdlpp_table.proofs.FirstPoints.{IsFrom, back_when, begins, begins_end, behind_place, when, cut_more, cut_token, front_first, one_token, or_none, or_some, quiet_one, run_drop, tokens_within}
 
 -- The first token of a text that begins with a calm byte.
 
@@ -80,12 +80,12 @@ quiet_apart b q =
     ap (λ (t : Bool). t || is_digit b) (not-true (is_letter b) letter.0) ∙ not-true (is_digit b) digit.0
 
 -- a run ends where a byte isn't of it
-run_stops : (p : ℕ → Bool) (k : ℕ) (bs : List ℕ) → p (get_or bs k 0) ≡ false → prefix_len p bs ≤ k
-run_stops p k [] h = omega arith
-run_stops p zero (b ∷ bs) h = omega (arith, cond-false (p b) (1 + prefix_len p bs) 0 h)
-run_stops p (suc k) (b ∷ bs) h =
+run_points : (p : ℕ → Bool) (k : ℕ) (bs : List ℕ) → p (get_or bs k 0) ≡ false → prefix_len p bs ≤ k
+run_points p k [] h = omega arith
+run_points p zero (b ∷ bs) h = omega (arith, cond-false (p b) (1 + prefix_len p bs) 0 h)
+run_points p (suc k) (b ∷ bs) h =
     ⊎_elim
-    (λ q. omega (arith, cond-true (p b) (1 + prefix_len p bs) 0 q, run_stops p k bs h))
+    (λ q. omega (arith, cond-true (p b) (1 + prefix_len p bs) 0 q, run_points p k bs h))
     (λ q. omega (arith, cond-false (p b) (1 + prefix_len p bs) 0 q))
     (cases_Bool (p b))
 
@@ -96,14 +96,14 @@ run_one p n b bs h =
     (λ q. absurd (omega (arith, cond-false (p b) (1 + prefix_len p bs) 0 q, h)))
     (cases_Bool (p b))
 
--- where a stop that a token is begins
-name_begins : (at len : ℕ) (o : Option ℕ) → begins (stop_name at len o) ≤ at
-unfolding stop_name begins
+-- where an expansion point that a token is begins
+name_begins : (at len : ℕ) (o : Option ℕ) → begins (point_name at len o) ≤ at
+unfolding point_name begins
 name_begins at len (Some place) = omega arith
 name_begins at len None = omega arith
 
-kind_begins : (formals : List Formal) (at len : ℕ) (k : Kind) (mode : Mode) (bytes : List ℕ) → begins (stop_at formals at (record { kind = k; next_mode = mode; len = len }) bytes) ≤ at
-unfolding stop_at begins
+kind_begins : (formals : List Formal) (at len : ℕ) (k : Kind) (mode : Mode) (bytes : List ℕ) → begins (point_at formals at (record { kind = k; next_mode = mode; len = len }) bytes) ≤ at
+unfolding point_at begins
 kind_begins formals at len Name mode bytes = name_begins at len (formal_named formals bytes)
 kind_begins formals at len Back mode bytes = omega arith
 kind_begins formals at len BareBackquote mode bytes = omega arith
@@ -121,23 +121,23 @@ kind_begins formals at len Perl mode bytes = omega arith
 
 -- One token.
 
--- what stands behind the first token of a text, if that is none of the stops
-abbrev behind : List Formal → ℕ → List ℕ → Stop
-behind formals at u = let t = token_of Plain u in first_stop formals (at + t.len) (tokens_from Plain 0 (drop t.len u)) (drop t.len u)
+-- what stands behind the first token of a text, if that is none of the expansion points
+abbrev behind : List Formal → ℕ → List ℕ → ExpansionPoint
+behind formals at u = let t = token_of Plain u in next_expansion_point formals (at + t.len) (tokens_from Plain 0 (drop t.len u)) (drop t.len u)
 
-abbrev here : List Formal → ℕ → List ℕ → Stop
-here formals at u = let t = token_of Plain u in stop_at formals at t (take t.len u)
+abbrev here : List Formal → ℕ → List ℕ → ExpansionPoint
+here formals at u = let t = token_of Plain u in point_at formals at t (take t.len u)
 
 text_step : (formals : List Formal) (at : ℕ) (u : List ℕ) → 0 < length u → (token_of Plain u).next_mode ≡ Plain → is_none (here formals at u) ≡ true
-    → first_stop formals at (tokens_from Plain 0 u) u ≡ behind formals at u
+    → next_expansion_point formals at (tokens_from Plain 0 u) u ≡ behind formals at u
 text_step formals at u some next none =
     let t = token_of Plain u in
     one_token formals at Plain u some (token_of-part Plain u some).not_empty
     ∙ (or_none (here formals at u) _ none
-    ∙ ap (λ (m : Mode). first_stop formals (at + t.len) (tokens_from m 0 (drop t.len u)) (drop t.len u)) next)
+    ∙ ap (λ (m : Mode). next_expansion_point formals (at + t.len) (tokens_from m 0 (drop t.len u)) (drop t.len u)) next)
 
--- the first token of a text isn't a stop, where the first stop is none, or begins behind its front
-passed_here : (formals : List Formal) (at : ℕ) (u : List ℕ) (s : Stop) → 0 < length u → s ≡ first_stop formals at (tokens_from Plain 0 u) u → (is_none s ≡ false → at < begins s) → is_none (here formals at u) ≡ true
+-- the first token of a text isn't an expansion point, where the first expansion point is none, or begins behind its front
+passed_here : (formals : List Formal) (at : ℕ) (u : List ℕ) (s : ExpansionPoint) → 0 < length u → s ≡ next_expansion_point formals at (tokens_from Plain 0 u) u → (is_none s ≡ false → at < begins s) → is_none (here formals at u) ≡ true
 passed_here formals at u s some e far =
     let t = token_of Plain u in
     ⊎_elim
@@ -149,7 +149,7 @@ passed_here formals at u s some e far =
 
 -- the same of the front of a text, which has that token
 cut_step : (formals : List Formal) (at m : ℕ) (u : List ℕ) → 0 < length u → (token_of Plain u).next_mode ≡ Plain → (token_of Plain u).len ≤ m → is_none (here formals at u) ≡ true
-    → (let t = token_of Plain u in first_stop formals at (tokens_from Plain 0 (take m u)) (take m u) ≡ first_stop formals (at + t.len) (tokens_from Plain 0 (take (m - t.len) (drop t.len u))) (take (m - t.len) (drop t.len u)))
+    → (let t = token_of Plain u in next_expansion_point formals at (tokens_from Plain 0 (take m u)) (take m u) ≡ next_expansion_point formals (at + t.len) (tokens_from Plain 0 (take (m - t.len) (drop t.len u))) (take (m - t.len) (drop t.len u)))
 cut_step formals at m u some next le none =
     let t = token_of Plain u in
     let part = token_of-part Plain u some in
@@ -157,12 +157,12 @@ cut_step formals at m u some next le none =
     let same : token_of Plain xs ≡ t = cut_token m u part.not_empty le part.inside next in
     let long : 0 < length xs = omega (arith, length-take m u, part.not_empty, part.inside) in
     let bytes : take t.len xs ≡ take t.len u = cut_more t.len m u le in
-    let front : here formals at xs ≡ here formals at u = ap (λ (w : Token). stop_at formals at w (take w.len xs)) same ∙ ap (stop_at formals at t) bytes in
+    let front : here formals at xs ≡ here formals at u = ap (λ (w : Token). point_at formals at w (take w.len xs)) same ∙ ap (point_at formals at t) bytes in
     let sum : t.len + (m - t.len) ≡ m = omega (arith, le) in
     let rest : drop t.len xs ≡ take (m - t.len) (drop t.len u) = ap (λ (n : ℕ). drop t.len (take n u)) (sym sum) ∙ drop-take t.len (m - t.len) u in
     text_step formals at xs long (ap (λ (w : Token). w.next_mode) same ∙ next) (ap is_none front ∙ none)
-    ∙ (ap (λ (w : Token). first_stop formals (at + w.len) (tokens_from Plain 0 (drop w.len xs)) (drop w.len xs)) same
-    ∙ ap (λ (l : List ℕ). first_stop formals (at + t.len) (tokens_from Plain 0 l) l) rest)
+    ∙ (ap (λ (w : Token). next_expansion_point formals (at + w.len) (tokens_from Plain 0 (drop w.len xs)) (drop w.len xs)) same
+    ∙ ap (λ (l : List ℕ). next_expansion_point formals (at + t.len) (tokens_from Plain 0 l) l) rest)
 
 -- From a place on.
 
@@ -181,15 +181,15 @@ cut_left k n u lt (inr q) =
 token_before : (b n : ℕ) (bs : List ℕ) → is_calm b ≡ true → is_quiet b ≡ false → is_quiet (get_or (b ∷ bs) n 0) ≡ true → (token_of Plain (b ∷ bs)).len ≤ n
 token_before b zero bs calm dark q = absurd (false≢true (sym dark ∙ q))
 token_before b (suc n) bs calm dark q =
-    omega (arith, (calm_token b bs calm).short (no_blank b dark), run_stops is_word n bs (quiet_apart (get_or bs n 0) q))
+    omega (arith, (calm_token b bs calm).short (no_blank b dark), run_points is_word n bs (quiet_apart (get_or bs n 0) q))
 
--- a first stop that is none, or begins no nearer than a cut among the calm bytes, is the first one from there on
-stop_from : (fuel : ℕ) (formals : List Formal) (at n : ℕ) (u : List ℕ) (s : Stop) → length u ≤ fuel → n ≤ prefix_len is_calm u → IsCut u n → s ≡ first_stop formals at (tokens_from Plain 0 u) u → (is_none s ≡ false → at + n ≤ begins s)
-    → s ≡ first_stop formals (at + n) (tokens_from Plain 0 (drop n u)) (drop n u)
-stop_from fuel formals at zero u s room run cut e far = e ∙ ap (λ (m : ℕ). first_stop formals m (tokens_from Plain 0 u) u) (omega arith)
-stop_from fuel formals at (suc n) [] s room run cut e far = absurd (omega arith)
-stop_from zero formals at (suc n) (b ∷ bs) s room run cut e far = absurd (omega arith)
-stop_from (suc fuel) formals at (suc n) (b ∷ bs) s room run cut e far =
+-- a first expansion point that is none, or begins no nearer than a cut among the calm bytes, is the first one from there on
+point_from : (fuel : ℕ) (formals : List Formal) (at n : ℕ) (u : List ℕ) (s : ExpansionPoint) → length u ≤ fuel → n ≤ prefix_len is_calm u → IsCut u n → s ≡ next_expansion_point formals at (tokens_from Plain 0 u) u → (is_none s ≡ false → at + n ≤ begins s)
+    → s ≡ next_expansion_point formals (at + n) (tokens_from Plain 0 (drop n u)) (drop n u)
+point_from fuel formals at zero u s room run cut e far = e ∙ ap (λ (m : ℕ). next_expansion_point formals m (tokens_from Plain 0 u) u) (omega arith)
+point_from fuel formals at (suc n) [] s room run cut e far = absurd (omega arith)
+point_from zero formals at (suc n) (b ∷ bs) s room run cut e far = absurd (omega arith)
+point_from (suc fuel) formals at (suc n) (b ∷ bs) s room run cut e far =
     let u = b ∷ bs in
     let t = token_of Plain u in
     let one = run_one is_calm n b bs run in
@@ -198,8 +198,8 @@ stop_from (suc fuel) formals at (suc n) (b ∷ bs) s room run cut e far =
     ⊎_elim
     (λ q.
     let next : IsCut bs n = cut_left_one n cut in
-    stop_from fuel formals (at + 1) n bs s (omega arith) one.1 next (e ∙ quiet_one formals at b bs q) (λ h. omega (arith, far h))
-    ∙ ap (λ (m : ℕ). first_stop formals m (tokens_from Plain 0 (drop n bs)) (drop n bs)) (omega arith))
+    point_from fuel formals (at + 1) n bs s (omega arith) one.1 next (e ∙ quiet_one formals at b bs q) (λ h. omega (arith, far h))
+    ∙ ap (λ (m : ℕ). next_expansion_point formals m (tokens_from Plain 0 (drop n bs)) (drop n bs)) (omega arith))
     (λ dark.
     let before : t.len ≤ n = token_before b n bs one.0 dark (quiet_there cut) in
     let none = passed_here formals at u s some e (λ h. omega (arith, far h)) in
@@ -207,9 +207,9 @@ stop_from (suc fuel) formals at (suc n) (b ∷ bs) s room run cut e far =
     let left : suc n - t.len ≤ prefix_len is_calm (drop t.len u) = run_drop is_calm t.len (suc n - t.len) u (omega arith) in
     let sum : t.len + (suc n - t.len) ≡ suc n = omega arith in
     let place : at + t.len + (suc n - t.len) ≡ at + suc n = omega arith in
-    stop_from fuel formals (at + t.len) (suc n - t.len) (drop t.len u) s (omega (arith, length-drop t.len u)) left (cut_left t.len (suc n) u (omega arith) cut) (e ∙ text_step formals at u some calm.next none) (λ h. omega (arith, far h))
-    ∙ (ap (λ (l : List ℕ). first_stop formals (at + t.len + (suc n - t.len)) (tokens_from Plain 0 l) l) (drop-drop (suc n - t.len) t.len u ∙ ap (λ (m : ℕ). drop m u) sum)
-    ∙ ap (λ (m : ℕ). first_stop formals m (tokens_from Plain 0 (drop (suc n) u)) (drop (suc n) u)) place))
+    point_from fuel formals (at + t.len) (suc n - t.len) (drop t.len u) s (omega (arith, length-drop t.len u)) left (cut_left t.len (suc n) u (omega arith) cut) (e ∙ text_step formals at u some calm.next none) (λ h. omega (arith, far h))
+    ∙ (ap (λ (l : List ℕ). next_expansion_point formals (at + t.len + (suc n - t.len)) (tokens_from Plain 0 l) l) (drop-drop (suc n - t.len) t.len u ∙ ap (λ (m : ℕ). drop m u) sum)
+    ∙ ap (λ (m : ℕ). next_expansion_point formals m (tokens_from Plain 0 (drop (suc n) u)) (drop (suc n) u)) place))
     (cases_Bool (is_quiet b))
   where
     quiet_there : IsCut (b ∷ bs) (suc n) → is_quiet (get_or (b ∷ bs) n 0) ≡ true
@@ -226,45 +226,46 @@ stop_from (suc fuel) formals at (suc n) (b ∷ bs) s room run cut e far =
 
 -- The front of a text.
 
--- a front of calm bytes has no stop, where the first stop of the text begins no nearer than at its end, and no word goes on there
-stop_behind : (fuel : ℕ) (formals : List Formal) (at m : ℕ) (u : List ℕ) (s : Stop) → length u ≤ fuel → m ≤ prefix_len is_calm u → is_word (get_or u m 0) ≡ false → s ≡ first_stop formals at (tokens_from Plain 0 u) u → (is_none s ≡ false → at + m ≤ begins s)
-    → first_stop formals at (tokens_from Plain 0 (take m u)) (take m u) ≡ stop.None
-unfolding first_stop tokens_from
-stop_behind fuel formals at zero u s room run ends e far = refl
-stop_behind fuel formals at (suc m) [] s room run ends e far = absurd (omega arith)
-stop_behind zero formals at (suc m) (b ∷ bs) s room run ends e far = absurd (omega arith)
-stop_behind (suc fuel) formals at (suc m) (b ∷ bs) s room run ends e far =
+-- a front of calm bytes has no expansion point, where the first expansion point of the text begins no nearer than at its end, and
+-- no word goes on there
+point_behind : (fuel : ℕ) (formals : List Formal) (at m : ℕ) (u : List ℕ) (s : ExpansionPoint) → length u ≤ fuel → m ≤ prefix_len is_calm u → is_word (get_or u m 0) ≡ false → s ≡ next_expansion_point formals at (tokens_from Plain 0 u) u → (is_none s ≡ false → at + m ≤ begins s)
+    → next_expansion_point formals at (tokens_from Plain 0 (take m u)) (take m u) ≡ point.None
+unfolding next_expansion_point tokens_from
+point_behind fuel formals at zero u s room run ends e far = refl
+point_behind fuel formals at (suc m) [] s room run ends e far = absurd (omega arith)
+point_behind zero formals at (suc m) (b ∷ bs) s room run ends e far = absurd (omega arith)
+point_behind (suc fuel) formals at (suc m) (b ∷ bs) s room run ends e far =
     let u = b ∷ bs in
     let t = token_of Plain u in
     let one = run_one is_calm m b bs run in
     let calm = calm_token b bs one.0 in
     let some : 0 < length u = omega arith in
     ⊎_elim
-    (λ q. quiet_one formals at b (take m bs) q ∙ stop_behind fuel formals (at + 1) m bs s (omega arith) one.1 ends (e ∙ quiet_one formals at b bs q) (λ h. omega (arith, far h)))
+    (λ q. quiet_one formals at b (take m bs) q ∙ point_behind fuel formals (at + 1) m bs s (omega arith) one.1 ends (e ∙ quiet_one formals at b bs q) (λ h. omega (arith, far h)))
     (λ dark.
-    let inside : t.len ≤ suc m = omega (arith, calm.short (no_blank b dark), run_stops is_word m bs ends) in
+    let inside : t.len ≤ suc m = omega (arith, calm.short (no_blank b dark), run_points is_word m bs ends) in
     let none = passed_here formals at u s some e (λ h. omega (arith, far h)) in
     let not_empty : 0 < t.len = (token_of-part Plain u some).not_empty in
     let left : suc m - t.len ≤ prefix_len is_calm (drop t.len u) = run_drop is_calm t.len (suc m - t.len) u (omega arith) in
     let sum : t.len + (suc m - t.len) ≡ suc m = omega arith in
     let still : is_word (get_or (drop t.len u) (suc m - t.len) 0) ≡ false = ap is_word (get_or-drop t.len u (suc m - t.len) 0 ∙ ap (λ (k : ℕ). get_or u k 0) sum) ∙ ends in
     cut_step formals at (suc m) u some calm.next inside none
-    ∙ stop_behind fuel formals (at + t.len) (suc m - t.len) (drop t.len u) s (omega (arith, length-drop t.len u)) left still (e ∙ text_step formals at u some calm.next none) (λ h. omega (arith, far h)))
+    ∙ point_behind fuel formals (at + t.len) (suc m - t.len) (drop t.len u) s (omega (arith, length-drop t.len u)) left still (e ∙ text_step formals at u some calm.next none) (λ h. omega (arith, far h)))
     (cases_Bool (is_quiet b))
 
--- a stop behind calm bytes alone is the first one of each front of the text that has it
-stop_inside : (fuel : ℕ) (formals : List Formal) (at m : ℕ) (u : List ℕ) (s : Stop) → length u ≤ fuel → s ≡ first_stop formals at (tokens_from Plain 0 u) u → is_none s ≡ false → begins s ≤ at + prefix_len is_calm u → begins s ≤ stop_end s → stop_end s ≤ at + m
-    → first_stop formals at (tokens_from Plain 0 (take m u)) (take m u) ≡ s
-unfolding first_stop tokens_from is_none IsFrom stop_of
-stop_inside fuel formals at m [] s room e found run order inside = absurd (false≢true (sym found ∙ ap is_none e))
-stop_inside zero formals at m (b ∷ bs) s room e found run order inside = absurd (omega arith)
-stop_inside (suc fuel) formals at m (b ∷ bs) s room e found run order inside =
+-- an expansion point behind calm bytes alone is the first one of each front of the text that has it
+point_inside : (fuel : ℕ) (formals : List Formal) (at m : ℕ) (u : List ℕ) (s : ExpansionPoint) → length u ≤ fuel → s ≡ next_expansion_point formals at (tokens_from Plain 0 u) u → is_none s ≡ false → begins s ≤ at + prefix_len is_calm u → begins s ≤ point_end s → point_end s ≤ at + m
+    → next_expansion_point formals at (tokens_from Plain 0 (take m u)) (take m u) ≡ s
+unfolding next_expansion_point tokens_from is_none IsFrom point_of
+point_inside fuel formals at m [] s room e found run order inside = absurd (false≢true (sym found ∙ ap is_none e))
+point_inside zero formals at m (b ∷ bs) s room e found run order inside = absurd (omega arith)
+point_inside (suc fuel) formals at m (b ∷ bs) s room e found run order inside =
     let u = b ∷ bs in
     let t = token_of Plain u in
     let some : 0 < length u = omega arith in
     let part = token_of-part Plain u some in
-    let later : Stop = first_stop formals (at + t.len) (tokens_from t.next_mode 0 (drop t.len u)) (drop t.len u) in
-    let step : s ≡ or_stop (here formals at u) later = e ∙ one_token formals at Plain u some part.not_empty in
+    let later : ExpansionPoint = next_expansion_point formals (at + t.len) (tokens_from t.next_mode 0 (drop t.len u)) (drop t.len u) in
+    let step : s ≡ or_point (here formals at u) later = e ∙ one_token formals at Plain u some part.not_empty in
     ⊎_elim
     (λ none.
     let is : s ≡ later = step ∙ or_none (here formals at u) later none in
@@ -273,13 +274,13 @@ stop_inside (suc fuel) formals at m (b ∷ bs) s room e found run order inside =
     let calm = calm_token b bs one.0 in
     let left : begins s - (at + t.len) ≤ prefix_len is_calm (drop t.len u) = run_drop is_calm t.len (begins s - (at + t.len)) u (omega (arith, far, run)) in
     cut_step formals at m u some calm.next (omega (arith, far, order, inside)) none
-    ∙ stop_inside fuel formals (at + t.len) (m - t.len) (drop t.len u) s (omega (arith, length-drop t.len u, part.not_empty)) (e ∙ text_step formals at u some calm.next none) found (omega (arith, far, left)) order (omega (arith, far, order, inside)))
+    ∙ point_inside fuel formals (at + t.len) (m - t.len) (drop t.len u) s (omega (arith, length-drop t.len u, part.not_empty)) (e ∙ text_step formals at u some calm.next none) found (omega (arith, far, left)) order (omega (arith, far, order, inside)))
     (λ h.
     let is : s ≡ here formals at u = step ∙ or_some (here formals at u) later h in
-    front_first formals at m u some h (omega (arith, ap stop_end is, inside)) ∙ sym is)
+    front_first formals at m u some h (omega (arith, ap point_end is, inside)) ∙ sym is)
     (cases_Bool (is_none (here formals at u)))
 
--- What a stop that is kept tells.
+-- What an expansion point that is kept tells.
 
 run_front : (p : ℕ → Bool) (k : ℕ) (xs : List ℕ) → prefix_len p (take k xs) ≤ prefix_len p xs
 run_front p zero xs = omega arith
@@ -298,38 +299,38 @@ run_most p (x ∷ xs) =
     (λ q. omega (arith, cond-false (p x) (1 + prefix_len p xs) 0 q))
     (cases_Bool (p x))
 
--- the calm bytes that are kept with the first stop of a text are calm bytes of it
-calm_few : (s : Stop) (from : ℕ) (text : List ℕ) → calm_kept (before_stop s from text) ≤ prefix_len is_calm text
-unfolding calm_kept before_stop
-calm_few stop.None from text = run_front is_calm 255 text
-calm_few (stop.Formal at len place) from text = omega (arith, run_front is_calm 255 (take (at - from) text), run_front is_calm (at - from) text)
-calm_few (stop.Usage at len) from text = omega (arith, run_front is_calm 255 (take (at - from) text), run_front is_calm (at - from) text)
-calm_few (stop.Bare at) from text = omega (arith, run_front is_calm 255 (take (at - from) text), run_front is_calm (at - from) text)
+-- the calm bytes that are kept with the first expansion point of a text are calm bytes of it
+calm_few : (s : ExpansionPoint) (from : ℕ) (text : List ℕ) → calm_kept (before_point s from text) ≤ prefix_len is_calm text
+unfolding calm_kept before_point
+calm_few point.None from text = run_front is_calm 255 text
+calm_few (point.Formal at len place) from text = omega (arith, run_front is_calm 255 (take (at - from) text), run_front is_calm (at - from) text)
+calm_few (point.Usage at len) from text = omega (arith, run_front is_calm 255 (take (at - from) text), run_front is_calm (at - from) text)
+calm_few (point.Bare at) from text = omega (arith, run_front is_calm 255 (take (at - from) text), run_front is_calm (at - from) text)
 
 -- and stand before it
 calm_front : (at from : ℕ) (text : List ℕ) → from ≤ at → from + prefix_len is_calm (take 255 (take (at - from) text)) ≤ at
 calm_front at from text h = omega (arith, run_front is_calm 255 (take (at - from) text), run_most is_calm (take (at - from) text), length-take (at - from) text)
 
-calm_before : (s : Stop) (from : ℕ) (text : List ℕ) → is_none s ≡ false → from ≤ begins s → from + calm_kept (before_stop s from text) ≤ begins s
-unfolding calm_kept before_stop begins is_none
-calm_before stop.None from text h low = absurd (cc)
-calm_before (stop.Formal at len place) from text h low = calm_front at from text low
-calm_before (stop.Usage at len) from text h low = calm_front at from text low
-calm_before (stop.Bare at) from text h low = calm_front at from text low
+calm_before : (s : ExpansionPoint) (from : ℕ) (text : List ℕ) → is_none s ≡ false → from ≤ begins s → from + calm_kept (before_point s from text) ≤ begins s
+unfolding calm_kept before_point begins is_none
+calm_before point.None from text h low = absurd (cc)
+calm_before (point.Formal at len place) from text h low = calm_front at from text low
+calm_before (point.Usage at len) from text h low = calm_front at from text low
+calm_before (point.Bare at) from text h low = calm_front at from text low
 
--- what is kept of the first stop of a text from a place on
-record IsKeptStop (s : Stop) (start : ℕ) (rest : List ℕ) (k : Kept) : Type 0 where
-  back : IfSome (stop_kept k) (λ x. x ≡ s)
+-- what is kept of the first expansion point of a text from a place on
+record IsKeptPoint (s : ExpansionPoint) (start : ℕ) (rest : List ℕ) (k : PackedPoint) : Type 0 where
+  back : IfSome (point_kept k) (λ x. x ≡ s)
   few : k.calm ≤ prefix_len is_calm rest
   before : is_none s ≡ false → start + k.calm ≤ begins s
   place : is_none s ≡ false → (k.end - k.len ≡ begins s) ⊎ (k.calm ≡ 0)
-  some : 0 < k.len → (is_none s ≡ false) × ((begins s ≡ k.end - k.len) × (stop_end s ≡ k.end))
+  some : 0 < k.len → (is_none s ≡ false) × ((begins s ≡ k.end - k.len) × (point_end s ≡ k.end))
 
-none_kept : (s : Stop) (start : ℕ) (rest : List ℕ) → (is_none s ≡ false → start ≤ begins s) → IsKeptStop s start rest (endless kept.Unknown 0)
-unfolding stop_kept stop_by endless
+none_kept : (s : ExpansionPoint) (start : ℕ) (rest : List ℕ) → (is_none s ≡ false → start ≤ begins s) → IsKeptPoint s start rest (endless kept.Unknown 0)
+unfolding point_kept point_by endless
 none_kept s start rest low = record { back = tt; few = omega arith; before = λ h. omega (arith, low h); place = λ _. inr refl; some = λ h. absurd (omega (arith, h)) }
 
-when_kept : (b : Bool) (kind : KeptKind) (at len place calm : ℕ) (s : Stop) (start : ℕ) (rest : List ℕ) → stop_by kind at len place ≡ Some s → is_none s ≡ false → begins s ≡ at → stop_end s ≡ at + len → calm ≤ prefix_len is_calm rest → start + calm ≤ at → IsKeptStop s start rest (when b kind at len place calm)
+when_kept : (b : Bool) (kind : PackedKind) (at len place calm : ℕ) (s : ExpansionPoint) (start : ℕ) (rest : List ℕ) → point_by kind at len place ≡ Some s → is_none s ≡ false → begins s ≡ at → point_end s ≡ at + len → calm ≤ prefix_len is_calm rest → start + calm ≤ at → IsKeptPoint s start rest (when b kind at len place calm)
 when_kept true kind at len place calm s start rest e found there ends few before =
     let back : at + len - len ≡ at = omega arith in
     record {
@@ -341,12 +342,12 @@ when_kept true kind at len place calm s start rest e found there ends few before
     }
 when_kept false kind at len place calm s start rest e found there ends few before = none_kept s start rest (λ _. omega (arith, there, before))
 
-of_kept : (s : Stop) (calm start : ℕ) (rest : List ℕ) → calm ≤ prefix_len is_calm rest → (is_none s ≡ false → start + calm ≤ begins s) → IsKeptStop s start rest (kept_of s calm)
-unfolding kept_of placed endless stop_kept stop_by is_none begins stop_end
-of_kept stop.None calm start rest few before = record { back = refl; few = few; before = λ h. absurd (cc); place = λ h. absurd (cc); some = λ h. absurd (omega (arith, h)) }
-of_kept (stop.Formal at len place) calm start rest few before = when_kept _ kept.Formal at len place calm _ start rest refl refl refl refl few (before refl)
-of_kept (stop.Usage at len) calm start rest few before = when_kept _ kept.Usage at len 0 calm _ start rest refl refl refl refl few (before refl)
-of_kept (stop.Bare at) calm start rest few before = when_kept _ kept.Bare at 1 0 calm _ start rest refl refl refl refl few (before refl)
+of_kept : (s : ExpansionPoint) (calm start : ℕ) (rest : List ℕ) → calm ≤ prefix_len is_calm rest → (is_none s ≡ false → start + calm ≤ begins s) → IsKeptPoint s start rest (kept_of s calm)
+unfolding kept_of placed endless point_kept point_by is_none begins point_end
+of_kept point.None calm start rest few before = record { back = refl; few = few; before = λ h. absurd (cc); place = λ h. absurd (cc); some = λ h. absurd (omega (arith, h)) }
+of_kept (point.Formal at len place) calm start rest few before = when_kept _ kept.Formal at len place calm _ start rest refl refl refl refl few (before refl)
+of_kept (point.Usage at len) calm start rest few before = when_kept _ kept.Usage at len 0 calm _ start rest refl refl refl refl few (before refl)
+of_kept (point.Bare at) calm start rest few before = when_kept _ kept.Bare at 1 0 calm _ start rest refl refl refl refl few (before refl)
 
 -- a cut of a text, counted from the place from which on it is read
 cut_place : (text : List ℕ) (start from : ℕ) → start ≤ from → is_cut text start from ≡ true → IsCut (drop start text) (from - start)
@@ -362,7 +363,7 @@ cut_place text start from low h =
       | inr past ↦ inl (omega (arith, past))
     ]
 
--- a place at which a stop is kept is a cut among the calm bytes, however many these are
+-- a place at which an expansion point is kept is a cut among the calm bytes, however many these are
 cut_near : (text : List ℕ) (start from calm : ℕ) → (eqb from start || (leb from (start + calm) && is_cut text start from)) ≡ true → (from ≤ start + calm) × (is_cut text start from ≡ true)
 unfolding is_cut
 cut_near text start from calm h =
@@ -371,15 +372,15 @@ cut_near text start from calm h =
     (λ w. let two = and_parts (leb from (start + calm)) _ w in (leb-true _ _ two.0, two.1))
     (or_cases _ _ h)
 
--- the first stop of a text from a place on is that from a cut among the calm bytes on
-stop_further : (formals : List Formal) (text : List ℕ) (start from : ℕ) (s : Stop) (k : Kept) → IsKeptStop s start (drop start text) k → s ≡ stop_of formals start (drop start text) → start ≤ from → from ≤ start + k.calm → is_cut text start from ≡ true → s ≡ first_stop formals from (tokens_from Plain 0 (drop from text)) (drop from text)
-unfolding stop_of
-stop_further formals text start from s k is e low near cut =
+-- the first expansion point of a text from a place on is that from a cut among the calm bytes on
+point_further : (formals : List Formal) (text : List ℕ) (start from : ℕ) (s : ExpansionPoint) (k : PackedPoint) → IsKeptPoint s start (drop start text) k → s ≡ point_of formals start (drop start text) → start ≤ from → from ≤ start + k.calm → is_cut text start from ≡ true → s ≡ next_expansion_point formals from (tokens_from Plain 0 (drop from text)) (drop from text)
+unfolding point_of
+point_further formals text start from s k is e low near cut =
     let n = from - start in
     let there : start + n ≡ from = omega (arith, low) in
-    stop_from (length (drop start text)) formals start n (drop start text) s (omega arith) (omega (arith, near, is.few)) (cut_place text start from low cut) e (λ h. omega (arith, near, low, is.before h))
-    ∙ (ap (λ (l : List ℕ). first_stop formals (start + n) (tokens_from Plain 0 l) l) (drop-drop n start text)
-    ∙ ap (λ (m : ℕ). first_stop formals m (tokens_from Plain 0 (drop m text)) (drop m text)) there)
+    point_from (length (drop start text)) formals start n (drop start text) s (omega arith) (omega (arith, near, is.few)) (cut_place text start from low cut) e (λ h. omega (arith, near, low, is.before h))
+    ∙ (ap (λ (l : List ℕ). next_expansion_point formals (start + n) (tokens_from Plain 0 l) l) (drop-drop n start text)
+    ∙ ap (λ (m : ℕ). next_expansion_point formals m (tokens_from Plain 0 (drop m text)) (drop m text)) there)
 
 -- calm bytes behind a place further on
 run_further : (text : List ℕ) (start from m : ℕ) → start ≤ from → from - start + m ≤ prefix_len is_calm (drop start text) → m ≤ prefix_len is_calm (drop from text)
@@ -387,22 +388,22 @@ run_further text start from m low h =
     let there : start + (from - start) ≡ from = omega (arith, low) in
     subst (λ (l : List ℕ). m ≤ prefix_len is_calm l) (drop-drop (from - start) start text ∙ ap (λ (n : ℕ). drop n text) there) (run_drop is_calm (from - start) m (drop start text) h)
 
--- a stop that is kept tells the first one of a range
-known_range : (formals : List Formal) (text : List ℕ) (start from to : ℕ) (s : Stop) (k : Kept) → IsKeptStop s start (drop start text) k → s ≡ stop_of formals start (drop start text) → start ≤ from → from ≤ to → to ≤ length text → IfSome (stop_known text start k from to) (λ x. x ≡ stop_of formals from (slice_range text from to))
-unfolding stop_known stop_within stop_of
+-- an expansion point that is kept tells the first one of a range
+known_range : (formals : List Formal) (text : List ℕ) (start from to : ℕ) (s : ExpansionPoint) (k : PackedPoint) → IsKeptPoint s start (drop start text) k → s ≡ point_of formals start (drop start text) → start ≤ from → from ≤ to → to ≤ length text → IfSome (point_known text start k from to) (λ x. x ≡ point_of formals from (slice_range text from to))
+unfolding point_known point_within point_of
 known_range formals text start from to s k is e low order high =
     let u = drop from text in
     let m = to - from in
-    let S : Stop = stop_of formals from (slice_range text from to) in
-    let P : Option Stop → Type 0 = λ r. IfSome r (λ x. x ≡ S) in
+    let S : ExpansionPoint = point_of formals from (slice_range text from to) in
+    let P : Option ExpansionPoint → Type 0 = λ r. IfSome r (λ x. x ≡ S) in
     cond_both (eqb from start || (leb from (start + k.calm) && is_cut text start from)) _ None P
     (λ h.
     let two = cut_near text start from k.calm h in
     let near : from ≤ start + k.calm = two.0 in
-    let further : s ≡ first_stop formals from (tokens_from Plain 0 u) u = stop_further formals text start from s k is e low near two.1 in
-    cond_both (eqb to (length text) || (ltb 0 k.len && (leb k.end to && leb (k.end - k.len) (start + k.calm)))) (stop_kept k) _ P
-    (λ g. subst (λ (x : Stop). IfSome (stop_kept k) (λ y. y ≡ x)) (⊎_elim
-    (λ w. further ∙ ap (stop_of formals from) (sym (behind_place from text) ∙ ap (λ (n : ℕ). slice_range text from n) (sym (eqb-true to (length text) w))))
+    let further : s ≡ next_expansion_point formals from (tokens_from Plain 0 u) u = point_further formals text start from s k is e low near two.1 in
+    cond_both (eqb to (length text) || (ltb 0 k.len && (leb k.end to && leb (k.end - k.len) (start + k.calm)))) (point_kept k) _ P
+    (λ g. subst (λ (x : ExpansionPoint). IfSome (point_kept k) (λ y. y ≡ x)) (⊎_elim
+    (λ w. further ∙ ap (point_of formals from) (sym (behind_place from text) ∙ ap (λ (n : ℕ). slice_range text from n) (sym (eqb-true to (length text) w))))
     (λ w.
     let a = and_parts (ltb 0 k.len) _ w in
     let b = and_parts (leb k.end to) (leb (k.end - k.len) (start + k.calm)) a.1 in
@@ -411,10 +412,10 @@ known_range formals text start from to s k is e low order high =
     let reached : k.end - k.len ≤ start + k.calm = leb-true _ _ b.1 in
     let after : from ≤ begins s = omega (arith, near, is.before some.0) in
     let run : begins s - from ≤ prefix_len is_calm u = run_further text start from (begins s - from) low (omega (arith, after, low, some.1.0, reached, is.few)) in
-    sym (stop_inside (length u) formals from m u s (omega arith) further some.0 (omega (arith, after, run)) (begins_end s some.0) (omega (arith, order, some.1.1, ends))))
+    sym (point_inside (length u) formals from m u s (omega arith) further some.0 (omega (arith, after, run)) (begins_end s some.0) (omega (arith, order, some.1.1, ends))))
     (or_cases _ _ g)) is.back)
     (λ _.
-    cond_both (leb to (k.end - k.len) && (leb to (start + k.calm) && not (is_word (get_or text to 0)))) (Some stop.None) None P
+    cond_both (leb to (k.end - k.len) && (leb to (start + k.calm) && not (is_word (get_or text to 0)))) (Some point.None) None P
     (λ g.
     let a = and_parts (leb to (k.end - k.len)) _ g in
     let b = and_parts (leb to (start + k.calm)) (not (is_word (get_or text to 0))) a.1 in
@@ -424,27 +425,27 @@ known_range formals text start from to s k is e low order high =
     let ends : is_word (get_or u m 0) ≡ false = ap is_word (get_or-drop from text m 0 ∙ ap (λ (n : ℕ). get_or text n 0) sum) ∙ not-true (is_word (get_or text to 0)) b.1 in
     let run : m ≤ prefix_len is_calm u = run_further text start from m low (omega (arith, order, low, reached, is.few)) in
     let far : is_none s ≡ false → from + m ≤ begins s = λ h. ⊎_elim (λ p. omega (arith, order, before, p)) (λ z. omega (arith, order, reached, z, is.before h)) (is.place h) in
-    sym (stop_behind (length u) formals from m u s (omega arith) run ends further far))
+    sym (point_behind (length u) formals from m u s (omega arith) run ends further far))
     (λ _. tt)))
     (λ _. tt)
 
-when_range : (b : Bool) (formals : List Formal) (text : List ℕ) (start from to : ℕ) → start ≤ from → from ≤ to → to ≤ length text → (let s = stop_of formals start (drop start text) in IfSome (stop_known text start (if b then kept_stop s start (drop start text) else endless kept.Unknown 0) from to) (λ x. x ≡ stop_of formals from (slice_range text from to)))
-unfolding kept_stop stop_of IsFrom
+when_range : (b : Bool) (formals : List Formal) (text : List ℕ) (start from to : ℕ) → start ≤ from → from ≤ to → to ≤ length text → (let s = point_of formals start (drop start text) in IfSome (point_known text start (if b then kept_point s start (drop start text) else endless kept.Unknown 0) from to) (λ x. x ≡ point_of formals from (slice_range text from to)))
+unfolding kept_point point_of IsFrom
 when_range true formals text start from to low order high =
     let rest = drop start text in
-    let s = stop_of formals start rest in
+    let s = point_of formals start rest in
     let at : is_none s ≡ false → start ≤ begins s = tokens_within formals start (tokens_from Plain 0 rest) rest in
-    known_range formals text start from to s (kept_of s (calm_kept (before_stop s start rest)))
-    (of_kept s (calm_kept (before_stop s start rest)) start rest (calm_few s start rest) (λ h. calm_before s start rest h (at h))) refl low order high
+    known_range formals text start from to s (kept_of s (calm_kept (before_point s start rest)))
+    (of_kept s (calm_kept (before_point s start rest)) start rest (calm_few s start rest) (λ h. calm_before s start rest h (at h))) refl low order high
 when_range false formals text start from to low order high =
     let rest = drop start text in
-    let s = stop_of formals start rest in
+    let s = point_of formals start rest in
     known_range formals text start from to s (endless kept.Unknown 0) (none_kept s start rest (tokens_within formals start (tokens_from Plain 0 rest) rest)) refl low order high
 
-pub range_told : (formals : List Formal) (text : List ℕ) (start from to : ℕ) (k : Kept) (r : Option Stop) → k ≡ kept_from formals text start → (start ≤ from) × (from ≤ to) → to ≤ length text → r ≡ stop_known text start k from to → IfSome r (λ x. x ≡ stop_of formals from (slice_range text from to))
+pub range_told : (formals : List Formal) (text : List ℕ) (start from to : ℕ) (k : PackedPoint) (r : Option ExpansionPoint) → k ≡ kept_from formals text start → (start ≤ from) × (from ≤ to) → to ≤ length text → r ≡ point_known text start k from to → IfSome r (λ x. x ≡ point_of formals from (slice_range text from to))
 unfolding kept_from
 range_told formals text start from to k r e order high q =
-    subst (λ (x : Option Stop). IfSome x (λ y. y ≡ stop_of formals from (slice_range text from to))) (sym (q ∙ ap (λ (x : Kept). stop_known text start x from to) e))
+    subst (λ (x : Option ExpansionPoint). IfSome x (λ y. y ≡ point_of formals from (slice_range text from to))) (sym (q ∙ ap (λ (x : PackedPoint). point_known text start x from to) e))
     (when_range (ltb start 65535) formals text start from to order.0 order.1 high)
 
 -- the first bytes of a text, of which so many are looked at as there are

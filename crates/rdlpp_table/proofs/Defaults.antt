@@ -367,14 +367,14 @@ found_in level [] text d e = absurd (cc)
 found_in level (t ∷ ts) text d e =
     let here : Option DefaultText = Some (record { text = []; behind = text }) in
     let later : Option DefaultText = default_of_tokens (level_behind t.kind level) ts (drop t.len text) in
-    let stops = eqb level 0 && ends_default t.kind (get_or text 0 0) in
+    let points = eqb level 0 && ends_default t.kind (get_or text 0 0) in
     elim (cases_Bool (is_perl t.kind)) [
       | inl perl ↦ let none : None ≡ Some d = sym (cond-true _ _ _ perl) ∙ e in absurd (cc)
-      | inr whole ↦ let rest : cond stops here (onto_default t text later) ≡ Some d = sym (cond-false _ _ _ whole) ∙ e in
-          elim (cases_Bool stops) [
-            | inl stop ↦
-                let both = and_parts (eqb level 0) (ends_default t.kind (get_or text 0 0)) stop in
-                found_first level t ts text d whole both.0 (ends_shut t.kind (get_or text 0 0) both.1) (sym (cond-true _ _ _ stop) ∙ rest)
+      | inr whole ↦ let rest : cond points here (onto_default t text later) ≡ Some d = sym (cond-false _ _ _ whole) ∙ e in
+          elim (cases_Bool points) [
+            | inl point ↦
+                let both = and_parts (eqb level 0) (ends_default t.kind (get_or text 0 0)) point in
+                found_first level t ts text d whole both.0 (ends_shut t.kind (get_or text 0 0) both.1) (sym (cond-true _ _ _ point) ∙ rest)
             | inr goes_on ↦
                 let onto : onto_default t text later ≡ Some d = sym (cond-false _ _ _ goes_on) ∙ rest in
                 (elim later as (λ o. later ≡ o → onto_default t text o ≡ Some d → IsFound level (t ∷ ts) text d) [

@@ -24,20 +24,20 @@ use Rattle.rdlpp_table.specs.Define.{Draft, Drawn, Rejected, lexical, observed, 
 use Rattle.rdlpp_table.proofs.Taken.{between_parts}
 use Rattle.rdlpp_table.proofs.RoundTrip.{refused_is, read_list}
 use Rattle.rdlpp_table.specs.View.{AreSoundFormals, IsSoundMacro, formals_of}
-use Rattle.rdlpp_table.specs.NewMacro.{list_formals, new_macro, stops_told, IsList, IsNew}
+use Rattle.rdlpp_table.specs.NewMacro.{list_formals, new_macro, points_told, IsList, IsNew}
 use Rattle.rdlpp_scan.specs.CleanTexts.{IsCleanText}
 use Rattle.rdlpp_scan.specs.Reserved.{is_reserved}
 use Rattle.rdlpp_table.proofs.Defaults.{default_in_clean, drawn_clean}
 use Rattle.rdlpp_table.proofs.Reading.{fault_three, formal_by, in_by, list_by, list_full, list_step, three}
-use Rattle.rdlpp_table.specs.Kept.{first_stops}
-use Rattle.rdlpp_table.specs.declared.kept.FirstStops.{FirstStops}
+use Rattle.rdlpp_table.specs.PointCache.{cached_points}
+use Rattle.rdlpp_table.specs.declared.point_cache.PointCache.{PointCache}
 use Rattle.rdlpp_lines.proofs.Measures.{left_len}
 use Rattle.rdlpp_table.specs.declared.entry.Entry.{Entry}
 use Rattle.rdlpp_table.specs.Formals.{IsRead, listed}
 use Rattle.rdlpp_table.specs.Marks.{macro_marks, marks_of}
 use Rattle.rdlpp_table.specs.Store.{entry_of, formals_read, is_plain_formal, is_plain_macro, list_size, IsListed}
 use Rattle.rdlpp_table.proofs.Sizes.{few_marks_of, length_list_bytes}
-use Rattle.rdlpp_table.proofs.FirstStops.{behind_place}
+use Rattle.rdlpp_table.proofs.FirstPoints.{behind_place}
 use Rattle.rdlpp_table.specs.declared.fault.DefineKind.TheVariants as kind
 
 -- A macro with a body, by what is left of the body's text.
@@ -356,8 +356,8 @@ appended_few arity list size count last l a =
     omega (arith, ap (λ (fs : List Formal). length (marks_of fs)) a.read, few_marks_of (unwrap_or (list_formals arity list) []), l.size_is)
 
 -- the first stops of its body are told by its formals and its body
-pub new_stops : (name : List ℕ) (arity : Option ℕ) (list : List ℕ) (size : ℕ) (is_logical : Bool) (text named listed all : List ℕ) (from to count : ℕ) (stops : FirstStops) → IsList arity list size → listed ≡ named ++ flat_map formal_bytes (unwrap_or (list_formals arity list) []) → all ≡ listed ++ body_of_text is_logical text → from ≡ length named → to ≡ length listed → count ≡ unwrap_or arity 0 → stops ≡ stops_told all from to count → (let m : Macro = new_macro name arity list is_logical text in stops ≡ first_stops (formals_of m) m.body)
-new_stops name arity list size is_logical text named listed all from to count stops l e f i j n h =
+pub new_points : (name : List ℕ) (arity : Option ℕ) (list : List ℕ) (size : ℕ) (is_logical : Bool) (text named listed all : List ℕ) (from to count : ℕ) (points : PointCache) → IsList arity list size → listed ≡ named ++ flat_map formal_bytes (unwrap_or (list_formals arity list) []) → all ≡ listed ++ body_of_text is_logical text → from ≡ length named → to ≡ length listed → count ≡ unwrap_or arity 0 → points ≡ points_told all from to count → (let m : Macro = new_macro name arity list is_logical text in points ≡ cached_points (formals_of m) m.body)
+new_points name arity list size is_logical text named listed all from to count points l e f i j n h =
     let formals : List Formal = unwrap_or (list_formals arity list) [] in
     let body : List ℕ = body_of_text is_logical text in
     let whole : all ≡ named ++ (flat_map formal_bytes formals ++ body) = f ∙ (ap (λ (x : List ℕ). x ++ body) e ∙ append_assoc named (flat_map formal_bytes formals) body) in
@@ -365,20 +365,20 @@ new_stops name arity list size is_logical text named listed all from to count st
     ap (λ (x : List ℕ). slice_range x from to) whole ∙ between_parts named (flat_map formal_bytes formals) body from to (sym i) (omega (arith, i, j, ap (length {A = ℕ}) e, length-append named (flat_map formal_bytes formals))) in
     let rest : drop to all ≡ body = ap (drop to) f ∙ drop_at listed body to (sym j) in
     h
-    ∙ (ap (λ (x : List ℕ). first_stops (formals_read count (slice_range all from to)) x) rest
-    ∙ (ap (λ (x : List ℕ). first_stops (formals_read count x) body) slice
-    ∙ (ap (λ (k : ℕ). first_stops (formals_read k (flat_map formal_bytes formals)) body) n
-    ∙ ap (λ (fs : List Formal). first_stops fs body) (same_formals arity list size l))))
+    ∙ (ap (λ (x : List ℕ). cached_points (formals_read count (slice_range all from to)) x) rest
+    ∙ (ap (λ (x : List ℕ). cached_points (formals_read count x) body) slice
+    ∙ (ap (λ (k : ℕ). cached_points (formals_read k (flat_map formal_bytes formals)) body) n
+    ∙ ap (λ (fs : List Formal). cached_points fs body) (same_formals arity list size l))))
 
-pub new_entry : (start marks : ℕ) (name : List ℕ) (arity : Option ℕ) (list : List ℕ) (size : ℕ) (is_logical : Bool) (text : List ℕ) (len : ℕ) (stops : FirstStops) → IsNew name arity list size is_logical text len → (let m : Macro = new_macro name arity list is_logical text in stops ≡ first_stops (formals_of m) m.body) → (let e : Entry = record { start = start; name_len = length name; list_len = size; body_len = len; arity = arity; marks = marks; stops = stops } in e) ≡ entry_of start marks (new_macro name arity list is_logical text)
+pub new_entry : (start marks : ℕ) (name : List ℕ) (arity : Option ℕ) (list : List ℕ) (size : ℕ) (is_logical : Bool) (text : List ℕ) (len : ℕ) (points : PointCache) → IsNew name arity list size is_logical text len → (let m : Macro = new_macro name arity list is_logical text in points ≡ cached_points (formals_of m) m.body) → (let e : Entry = record { start = start; name_len = length name; list_len = size; body_len = len; arity = arity; marks = marks; points = points } in e) ≡ entry_of start marks (new_macro name arity list is_logical text)
 unfolding entry_of list_size
-new_entry start marks name arity list size is_logical text len stops n h =
+new_entry start marks name arity list size is_logical text len points n h =
     let body : ℕ = length (body_of_text is_logical text) in
     let sum : ℕ = sum_by formal_size (unwrap_or (list_formals arity list) []) in
-    ap (λ (k : ℕ). let e : Entry = record { start = start; name_len = length name; list_len = k; body_len = len; arity = arity; marks = marks; stops = stops } in e) (sym n.listed.size_is)
-    ∙ (ap (λ (k : ℕ). let e : Entry = record { start = start; name_len = length name; list_len = sum; body_len = k; arity = arity; marks = marks; stops = stops } in e) (sym (left_len (trims false) (cleared None (joined is_logical text)) len n.body_is))
-    ∙ (ap (λ (a : Option ℕ). let e : Entry = record { start = start; name_len = length name; list_len = sum; body_len = body; arity = a; marks = marks; stops = stops } in e) (sym n.listed.arity_is)
-    ∙ ap (λ (b : FirstStops). let e : Entry = record { start = start; name_len = length name; list_len = sum; body_len = body; arity = option_map length (list_formals arity list); marks = marks; stops = b } in e) h))
+    ap (λ (k : ℕ). let e : Entry = record { start = start; name_len = length name; list_len = k; body_len = len; arity = arity; marks = marks; points = points } in e) (sym n.listed.size_is)
+    ∙ (ap (λ (k : ℕ). let e : Entry = record { start = start; name_len = length name; list_len = sum; body_len = k; arity = arity; marks = marks; points = points } in e) (sym (left_len (trims false) (cleared None (joined is_logical text)) len n.body_is))
+    ∙ (ap (λ (a : Option ℕ). let e : Entry = record { start = start; name_len = length name; list_len = sum; body_len = body; arity = a; marks = marks; points = points } in e) (sym n.listed.arity_is)
+    ∙ ap (λ (b : PointCache). let e : Entry = record { start = start; name_len = length name; list_len = sum; body_len = body; arity = option_map length (list_formals arity list); marks = marks; points = b } in e) h))
 
 pub new_plain : (name : List ℕ) (arity : Option ℕ) (list : List ℕ) (size : ℕ) (is_logical : Bool) (text : List ℕ) → IsList arity list size → is_plain_macro (new_macro name arity list is_logical text) ≡ true
 unfolding is_plain_macro

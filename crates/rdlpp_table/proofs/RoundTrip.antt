@@ -407,9 +407,9 @@ pub skip_space : (text : List ℕ) (b : ℕ) (behind : List ℕ) → text ≡ b 
 unfolding after_space
 skip_space text b behind t e = sym (ap (λ (l : List ℕ). drop (prefix_len is_space l) l) t ∙ ap (λ (n : ℕ). drop n (b ∷ behind)) (space_len b behind e))
 
-pub stop_space : (text : List ℕ) (b : ℕ) (behind : List ℕ) → text ≡ b ∷ behind → is_space b ≡ false → after_space text ≡ text
+pub point_space : (text : List ℕ) (b : ℕ) (behind : List ℕ) → text ≡ b ∷ behind → is_space b ≡ false → after_space text ≡ text
 unfolding after_space
-stop_space text b behind t e =
+point_space text b behind t e =
     ap (λ (l : List ℕ). drop (prefix_len is_space l) l) t
     ∙ (ap (λ (n : ℕ). drop n (b ∷ behind)) (ap (λ (t : Bool). cond t (1 + prefix_len is_space behind) 0) e)
     ∙ sym t)

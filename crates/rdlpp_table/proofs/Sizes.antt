@@ -16,7 +16,7 @@ use Rattle.rdlpp_scan.specs.SourceTokens.{is_continued, logical_len}
 use Rattle.rdlpp_scan.specs.Tokens.{block_token, first_place, plain_token, string_stop, string_token, token_of, tokens_from, whole}
 use Rattle.rdlpp_table.specs.Define.{Drawn, after_space, behind_name, continuation_len, default_in, default_of_tokens, ends_default, formal_fault, formal_in, formal_list, formal_name, formals_in, formals_of_list, is_space, leading_name, level_behind, logical_text, macro_from, macro_of, name_fault, onto_default, onto_trimmed, trimmed, trimmed_default, trimmed_of, unended, with_body, with_default, with_list, without_continuations, without_end, without_remarks}
 use Rattle.rdlpp_table.specs.Entries.{AreWithin, marks_len}
-use Rattle.rdlpp_table.specs.Kept.{first_stops}
+use Rattle.rdlpp_table.specs.PointCache.{cached_points}
 use Rattle.rdlpp_table.specs.Layout.{IsHeld, view_of}
 use Rattle.rdlpp_table.specs.Limits.{AreInRange, IsWithin, is_within, limit_fault}
 use Rattle.rdlpp_table.specs.Marks.{halves, is_marked, macro_marks, marks_of, starts_of, table_marks}
@@ -67,7 +67,7 @@ position_first p x xs =
 
 -- an entry without anything
 abbrev pub no_entry : Entry
-no_entry = record { start = 0; name_len = 0; list_len = 0; body_len = 0; arity = None; marks = 0; stops = record { all = [] } }
+no_entry = record { start = 0; name_len = 0; list_len = 0; body_len = 0; arity = None; marks = 0; points = record { all = [] } }
 
 -- a list counts its items
 pub count_items : {A : Type 0} (v : Vec A Global) → vec_len v ≡ length v.items
@@ -268,12 +268,12 @@ arity_at bytes entries a b view i j entry e held s h q =
     ap (λ (x : Entry). x.arity) (q ∙ (ap (λ (es : List Entry). get_or es i entry) held.stored.entries_are ∙ entry_of_macro _ _ (macros_in bytes entries) i entry at))
     ∙ (ap (λ (v : TableView). option_map length (macro_at v.macros i).formals) e ∙ ap (λ (k : ℕ). option_map length (macro_at view.macros k).formals) s)
 
-pub stops_at : {from ahead : ℕ} (bytes : List ℕ) (entries : List Entry) (a b : ℕ) (view : TableView) (i j : ℕ) (entry : Entry) → view_of bytes entries a b ≡ view → IsHeld from ahead bytes entries a b → i ≡ j → i < length entries → entry ≡ get_or entries i entry → entry.stops ≡ first_stops (formals_of (macro_at view.macros j)) (macro_at view.macros j).body
+pub points_at : {from ahead : ℕ} (bytes : List ℕ) (entries : List Entry) (a b : ℕ) (view : TableView) (i j : ℕ) (entry : Entry) → view_of bytes entries a b ≡ view → IsHeld from ahead bytes entries a b → i ≡ j → i < length entries → entry ≡ get_or entries i entry → entry.points ≡ cached_points (formals_of (macro_at view.macros j)) (macro_at view.macros j).body
 unfolding entry_of
-stops_at bytes entries a b view i j entry e held s h q =
+points_at bytes entries a b view i j entry e held s h q =
     let at : i < length (macros_in bytes entries) = omega (arith, length_macros_in bytes entries) in
-    ap (λ (x : Entry). x.stops) (q ∙ (ap (λ (es : List Entry). get_or es i entry) held.stored.entries_are ∙ entry_of_macro _ _ (macros_in bytes entries) i entry at))
-    ∙ (ap (λ (v : TableView). first_stops (formals_of (macro_at v.macros i)) (macro_at v.macros i).body) e ∙ ap (λ (k : ℕ). first_stops (formals_of (macro_at view.macros k)) (macro_at view.macros k).body) s)
+    ap (λ (x : Entry). x.points) (q ∙ (ap (λ (es : List Entry). get_or es i entry) held.stored.entries_are ∙ entry_of_macro _ _ (macros_in bytes entries) i entry at))
+    ∙ (ap (λ (v : TableView). cached_points (formals_of (macro_at v.macros i)) (macro_at v.macros i).body) e ∙ ap (λ (k : ℕ). cached_points (formals_of (macro_at view.macros k)) (macro_at view.macros k).body) s)
 
 pub stored_slices_within : {from ahead : ℕ} (bs : List ℕ) (es : List Entry) (bytes : List ℕ) (entries : List Entry) (ms : List Macro) → bs ≡ bytes → es ≡ entries → IsStored from ahead bytes entries ms → AreWithin (length bs) es
 stored_slices_within bs es bytes entries ms p q s = rw (p, q) (stored_within bytes entries ms s)

@@ -193,8 +193,8 @@ table_bytes-cons m ys = refl
 moved_entry : (n size k marks : ℕ) (m : Macro) → moved_down size marks (entry_of (n + size) (k + marks) m) ≡ entry_of n k m
 unfolding moved_down entry_of
 moved_entry n size k marks m =
-    ap (λ (i : ℕ). let e : Entry = record { start = i; name_len = _; list_len = _; body_len = _; arity = _; marks = k + marks - marks; stops = _ } in e) (let e : n + size - size ≡ n = omega arith in e)
-    ∙ ap (λ (i : ℕ). let e : Entry = record { start = n; name_len = _; list_len = _; body_len = _; arity = _; marks = i; stops = _ } in e) (let e : k + marks - marks ≡ k = omega arith in e)
+    ap (λ (i : ℕ). let e : Entry = record { start = i; name_len = _; list_len = _; body_len = _; arity = _; marks = k + marks - marks; points = _ } in e) (let e : n + size - size ≡ n = omega arith in e)
+    ∙ ap (λ (i : ℕ). let e : Entry = record { start = n; name_len = _; list_len = _; body_len = _; arity = _; marks = i; points = _ } in e) (let e : k + marks - marks ≡ k = omega arith in e)
 
 moved_entries : (n size k marks : ℕ) (ys : List Macro) → map (moved_down size marks) (entries_of (n + size) (k + marks) ys) ≡ entries_of n k ys
 unfolding entries_of

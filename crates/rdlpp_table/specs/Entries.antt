@@ -11,11 +11,11 @@ AreWithin n entries = All (λ e. entry_end e ≤ n) entries
 
 -- an entry whose bytes lie so much further to the front, and its marks as much as another number says
 unfoldable pub moved_down : ℕ → ℕ → Entry → Entry
-moved_down size marks e = record { start = e.start - size; name_len = e.name_len; list_len = e.list_len; body_len = e.body_len; arity = e.arity; marks = e.marks - marks; stops = e.stops }
+moved_down size marks e = record { start = e.start - size; name_len = e.name_len; list_len = e.list_len; body_len = e.body_len; arity = e.arity; marks = e.marks - marks; points = e.points }
 
 -- an entry whose bytes lie so much further to the back, and its marks as much as another number says
 unfoldable pub moved_up : ℕ → ℕ → Entry → Entry
-moved_up size marks e = record { start = e.start + size; name_len = e.name_len; list_len = e.list_len; body_len = e.body_len; arity = e.arity; marks = e.marks + marks; stops = e.stops }
+moved_up size marks e = record { start = e.start + size; name_len = e.name_len; list_len = e.list_len; body_len = e.body_len; arity = e.arity; marks = e.marks + marks; points = e.points }
 
 -- each entry can be moved up so much
 abbrev pub AreLow : ℕ → ℕ → List Entry → Type 0

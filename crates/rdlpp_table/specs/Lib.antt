@@ -1,8 +1,8 @@
 pub mod Table
 pub mod View
-pub mod Stops
+pub mod ExpansionPoints
 pub mod Shapes
-pub mod Kept
+pub mod PointCache
 pub mod Limits
 pub mod Marks
 pub mod Words

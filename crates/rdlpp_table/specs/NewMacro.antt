@@ -7,8 +7,8 @@ use Rattle.rdlpp_table.specs.Define.{formals_of_list}
 use Rattle.rdlpp_table.specs.Formals.{listed}
 use Rattle.rdlpp_lines.specs.Continuations.{joined}
 use Rattle.rdlpp_lines.specs.Texts.{cleared, trimmed_left, trimmed_len, trims}
-use Rattle.rdlpp_table.specs.declared.kept.FirstStops.{FirstStops}
-use Rattle.rdlpp_table.specs.Kept.{first_stops}
+use Rattle.rdlpp_table.specs.declared.point_cache.PointCache.{PointCache}
+use Rattle.rdlpp_table.specs.PointCache.{cached_points}
 use Rattle.rdlpp_table.specs.Store.{formals_read, is_plain_formal}
 
 -- the formals of a list's text, where there is a list
@@ -32,6 +32,6 @@ pub record IsNew (name : List ℕ) (arity : Option ℕ) (list : List ℕ) (size 
   pub listed : IsList arity list size
   pub body_is : trimmed_len (trims false) (cleared None (joined is_logical text)) ≡ Ok len
 
--- the first stops of the body behind a place of a table's bytes, by so many formals between two places
-abbrev pub stops_told : List ℕ → ℕ → ℕ → ℕ → FirstStops
-stops_told bytes list body count = first_stops (formals_read count (slice_range bytes list body)) (drop body bytes)
+-- the first expansion points of the body behind a place of a table's bytes, by so many formals between two places
+abbrev pub points_told : List ℕ → ℕ → ℕ → ℕ → PointCache
+points_told bytes list body count = cached_points (formals_read count (slice_range bytes list body)) (drop body bytes)

@@ -11,7 +11,7 @@ use Rattle.rdlpp_lines.specs.Texts.{cleared, ends_default, level_behind, text_be
 use Rattle.rdlpp_table.specs.Table.{Formal, Macro, macro_size, table_bytes, formal_bytes, formal_size}
 use Rattle.rdlpp_table.specs.Marks.{macro_marks, marks_of}
 use Rattle.rdlpp_table.specs.View.{formals_of}
-use Rattle.rdlpp_table.specs.Kept.{first_stops}
+use Rattle.rdlpp_table.specs.PointCache.{cached_points}
 use Rattle.rdlpp_table.specs.declared.entry.Entry.{Entry}
 
 -- the bytes of a macro's formals
@@ -20,7 +20,7 @@ list_size m = sum_by formal_size (unwrap_or m.formals [])
 
 -- the entry of a macro whose bytes begin at a place, and its marks at another one
 unfoldable pub entry_of : ℕ → ℕ → Macro → Entry
-entry_of start marks m = record { start = start; name_len = length m.name; list_len = list_size m; body_len = length m.body; arity = option_map length m.formals; marks = marks; stops = first_stops (formals_of m) m.body }
+entry_of start marks m = record { start = start; name_len = length m.name; list_len = list_size m; body_len = length m.body; arity = option_map length m.formals; marks = marks; points = cached_points (formals_of m) m.body }
 
 -- the entries of macros whose bytes begin at a place, and their marks at another one
 unfoldable pub entries_of : ℕ → ℕ → List Macro → List Entry

@@ -3,7 +3,7 @@ ghost use Rattle.std.specs.Prelude.{◌≡◌, ◌≤◌, ◌+◌, ◌-◌, leng
 ghost use Rattle.rdlpp_table.specs.Entries.{marks_len};
 ghost use Rattle.rdlpp_table.specs.Store.{body_of, entry_end, list_of, name_of};
 
-use crate::kept::FirstStops;
+use crate::point_cache::PointCache;
 use crate::marks::{Listed, is_marked};
 
 // A definition's name, its formals with a comma after each, and its body lie one after another.
@@ -17,11 +17,11 @@ pub(crate) struct Entry {
     pub(crate) name_len: u8,
     // How many formals it has, where it has a list.
     pub(crate) arity: Option<u8>,
-    // The first stops of its body.
-    pub(crate) stops: FirstStops,
+    // The first expansion points of its body.
+    pub(crate) points: PointCache,
 }
 
-// How many bytes an entry takes: its numbers are small ones, so that ten stops have room beside them.
+// How many bytes an entry takes: its numbers are small ones, so that ten expansion points have room beside them.
 pub(crate) const ENTRY_BYTES: usize = 80;
 
 const _: () = prove!(size_of::<Entry>() == ENTRY_BYTES);

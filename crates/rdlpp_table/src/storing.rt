@@ -31,13 +31,13 @@ ghost use Rattle.rdlpp_table.specs.Index.{names_of, IsIndexed};
 ghost use Rattle.rdlpp_table.specs.Marks.{table_marks};
 ghost use Rattle.rdlpp_table.specs.Store.{live, macros_in, IsListed, IsStored};
 ghost use Rattle.rdlpp_table.specs.Table.{formal_bytes, table_size, without};
-ghost use Rattle.rdlpp_table.specs.NewMacro.{list_formals, new_macro, stops_told, IsList, IsNew};
+ghost use Rattle.rdlpp_table.specs.NewMacro.{list_formals, new_macro, points_told, IsList, IsNew};
 
 use crate::entry::Entry;
 use crate::formals::append_list;
 use crate::given_up::{GivenUp, live};
 use crate::index::{enter, place_in};
-use crate::kept::{FirstStops, first_stops};
+use crate::point_cache::{PointCache, cached_points};
 use crate::marks::{Listed, push_marks};
 use crate::buckets::{begin_later, bucket_of};
 use crate::removal::{settle, size_of_entry, remove_named};
@@ -69,19 +69,19 @@ fn append_formals(bytes: &mut Vec<u8>, new: &NewMacro)
     }
 }
 
-// The first stops of the body behind a place, by the formals between two places and their marks.
-fn stops_at(bytes: &[u8], list: usize, body: usize, count: usize, marks: &[u16]) -> FirstStops
+// The first expansion points of the body behind a place, by the formals between two places and their marks.
+fn points_at(bytes: &[u8], list: usize, body: usize, count: usize, marks: &[u16]) -> PointCache
     requires order { (list ≤ body) × (body ≤ length bytes.now) }
     requires short { length bytes.now < 2 ^ 64 }
     requires listed { IsListed count (slice_range bytes.now list body) marks.now }
-    ensures { result ≡ stops_told bytes.now list body count }
+    ensures { result ≡ points_told bytes.now list body count }
 {
     let formals = Listed {
         list: &bytes[list..body],
         count,
         marks,
     };
-    first_stops(&formals, &bytes[body..])
+    cached_points(&formals, &bytes[body..])
 }
 
 // How many formals a macro has, in a small number.
@@ -131,7 +131,7 @@ fn put(
     let count = new.arity.unwrap_or(0);
     push_marks(order, &bytes[list..], count);
     append_trimmed(bytes, new.text, new.is_logical, false, new.body_len);
-    let stops = stops_at(bytes.as_slice(), list, body, count, &order[first..]);
+    let points = points_at(bytes.as_slice(), list, body, count, &order[first..]);
     let marks = first - (entries.len() - front.entries + 1) + front.marks;
     entries.push_reserved(Entry {
         start: start as u32,
@@ -140,7 +140,7 @@ fn put(
         marks: marks as u32,
         name_len: new.name.len() as u8,
         arity: small_arity(new.arity),
-        stops,
+        points,
     });
 }
 

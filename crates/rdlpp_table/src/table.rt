@@ -4,11 +4,11 @@ ghost use Rattle.rdlpp_table.specs.NewMacro.{list_formals, new_macro, IsList, Is
 ghost use Rattle.rdlpp_lines.specs.Continuations.{joined};
 ghost use Rattle.rdlpp_table.specs.Index.{IsCounted};
 ghost use Rattle.rdlpp_table.specs.Limits.{AreInRange};
-ghost use Rattle.rdlpp_table.specs.Stops.{stop_in};
+ghost use Rattle.rdlpp_table.specs.ExpansionPoints.{point_in};
 ghost use Rattle.rdlpp_table.specs.Table.{macro_named, table_bytes, table_size, without};
 ghost use Rattle.rdlpp_scan.specs.SourceTokens.{logical_len};
 ghost use Rattle.rdlpp_table.specs.Define.{define_of, name_fault, observed, set_of, stored, stored_draft, with_body, with_list};
-ghost use Rattle.rdlpp_table.specs.Kept.{first_stops};
+ghost use Rattle.rdlpp_table.specs.PointCache.{cached_points};
 ghost use Rattle.rdlpp_table.specs.Store.{entry_end, formals_read, macro_in, IsListed};
 ghost use Rattle.rdlpp_table.specs.View.{TableView, AreSoundFormals, IsSound, IsSoundMacro, formal_at, formal_named, formals_of, macro_at, place_named};
 
@@ -18,14 +18,14 @@ use crate::formals::read_list;
 use crate::given_up::{GivenUp, live};
 use crate::header::{after_space, leading_name, list_behind, unended};
 use crate::index::place_in;
-use crate::kept::known_stop;
+use crate::point_cache::cached_point;
 use crate::limits::Limits;
 use crate::marks::{LONG_FORMAL, Listed, default_of, place_of};
 use crate::name::check_name;
 use crate::buckets::BUCKET_STARTS;
 use crate::removal::remove_named;
 use crate::lookup::Steps;
-use crate::stop::{Stop, first_stop};
+use crate::point::{ExpansionPoint, next_expansion_point};
 use crate::storing::{NewMacro, UsageWithout, usage_without, replace};
 use rdlpp_lines::trimmed_len;
 use rdlpp_scan::is_name;
@@ -250,35 +250,38 @@ impl Table {
         arity_in(self.stored(id).entry)
     }
 
-    /// The first place, from `from` on and before `to`, of the body of a macro that isn't copied as it stands: a usage, a lone backquote
-    /// or a formal of the macro, where the first ten stops of the body tell it; `None` where they don't. The bytes of the range are read
-    /// as a text of their own, from plain text on. `from` and `to` are counted in bytes from the front of the body.
+    /// The first place, from `from` on and before `to`, of the body of a macro that isn't copied as it stands: a usage, a lone
+    /// backquote or a formal of the macro, where the first ten expansion points of the body tell it; `None` where they don't. The
+    /// bytes of the range are read as a text of their own, from plain text on. `from` and `to` are counted in bytes from the front
+    /// of the body.
     ///
-    /// Reads at most two bytes of the body. The first ten stops tell it where `from` is the front of the body or the end of the stop
-    /// before it, or stands behind a blank or a byte that is a token by itself, at most 255 bytes further on, none of which is `"`, `/`
-    /// or `<`; and `to` is the end of the body, or at most so many such bytes lie before the stop, which ends at `to` or before it, or
-    /// before `to`, where no word goes on and which the stop is behind.
-    pub fn kept_stop(&self, id: MacroId, from: usize, to: usize) -> Option<Stop>
+    /// Reads at most two bytes of the body. The first ten expansion points tell it where `from` is the front of the body or the end
+    /// of the expansion point before it, or stands behind a blank or a byte that is a token by itself, at most 255 bytes further
+    /// on, none of which is `"`, `/` or `<`; and `to` is the end of the body, or at most so many such bytes lie before the
+    /// expansion point, which ends at `to` or before it, or before `to`, where no word goes on and which the expansion point is
+    /// behind.
+    pub fn kept_point(&self, id: MacroId, from: usize, to: usize) -> Option<ExpansionPoint>
         requires id { id < length self.now.macros }
         requires order { from ≤ to }
         requires inside { to ≤ length (macro_at self.now.macros id).body }
-        ensures { IfSome result (λ stop. stop ≡ stop_in (macro_at self.now.macros id) from to) }
+        ensures { IfSome result (λ point. point ≡ point_in (macro_at self.now.macros id) from to) }
     {
         let found = self.stored(id);
         let body = body_in(found.bytes, found.entry);
-        known_stop(&found.entry.stops, body, from, to)
+        cached_point(&found.entry.points, body, from, to)
     }
 
-    /// The place of which `kept_stop` tells, by reading the range: takes time linear in the distance to it, or to `to` where there is none.
+    /// The place of which `kept_point` tells, by reading the range: takes time linear in the distance to it, or to `to` where there
+    /// is none.
     #[inline(always)]
-    pub fn seek_stop(&self, id: MacroId, from: usize, to: usize) -> Stop
+    pub fn seek_point(&self, id: MacroId, from: usize, to: usize) -> ExpansionPoint
         requires id { id < length self.now.macros }
         requires order { from ≤ to }
         requires inside { to ≤ length (macro_at self.now.macros id).body }
-        ensures { result ≡ stop_in (macro_at self.now.macros id) from to }
+        ensures { result ≡ point_in (macro_at self.now.macros id) from to }
     {
         let body = self.body(id);
-        first_stop(&self.formals(id), &[], &body[from..to], from)
+        next_expansion_point(&self.formals(id), &[], &body[from..to], from)
     }
 
     // The entry of a macro, with the bytes into which it points.
@@ -288,7 +291,7 @@ impl Table {
         ensures within { entry_end result.entry.now ≤ length result.bytes.now }
         ensures value { macro_in result.bytes.now result.entry.now ≡ macro_at self.now.macros id }
         ensures arity { result.entry.now.arity ≡ option_map length (macro_at self.now.macros id).formals }
-        ensures stops { result.entry.now.stops ≡ first_stops (formals_of (macro_at self.now.macros id)) (macro_at self.now.macros id).body }
+        ensures points { result.entry.now.points ≡ cached_points (formals_of (macro_at self.now.macros id)) (macro_at self.now.macros id).body }
     {
         Stored {
             bytes: self.bytes.as_slice(),

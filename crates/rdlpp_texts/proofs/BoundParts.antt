@@ -202,11 +202,11 @@ pub record EndsAtPlace (closes : Bool) (text : List ℕ) (from at end count most
   pub size : at + inner_size closes (drop at text) ≡ at + end
   pub bound : HasBound closes text from (at + end) count most [] old new
 
-bound_last : (closes : Bool) (text : List ℕ) (from at to stop count most : ℕ) (old new : List Range) (end : PartEnd) → at ≤ length text → end ≡ Last stop
+bound_last : (closes : Bool) (text : List ℕ) (from at to point count most : ℕ) (old new : List Range) (end : PartEnd) → at ≤ length text → end ≡ Last point
     → Follows closes (drop at text) to end (parts_in closes (drop at text)).further
-    → HasBound closes text from (at + to) count most (left_of closes (drop at text)) old new → EndsAtPlace closes text from at stop count most old new
+    → HasBound closes text from (at + to) count most (left_of closes (drop at text)) old new → EndsAtPlace closes text from at point count most old new
 unfolding Follows
-bound_last closes text from at to stop count most old new end low e f b =
+bound_last closes text from at to point count most old new end low e f b =
     let further = (parts_in closes (drop at text)).further in
     let g = subst (λ (x : PartEnd). Follows closes (drop at text) to x further) e f in
     let place = g.after in
@@ -216,7 +216,7 @@ bound_last closes text from at to stop count most old new end low e f b =
     record {
       inside = omega (arith, inside, left, low);
       size = omega (arith, size);
-      bound = bound_by closes text from (at + to) (at + stop) count most (left_of closes (drop at text)) [] old new (ap (map (trimmed token_role)) g.parts) (omega (arith, place)) b;
+      bound = bound_by closes text from (at + to) (at + point) count most (left_of closes (drop at text)) [] old new (ap (map (trimmed token_role)) g.parts) (omega (arith, place)) b;
     }
 
 -- a part was read that ends at a comma
@@ -231,14 +231,14 @@ read_comma closes text from at next count most old new last part low inside b n 
     (bound_more closes text from at count most old new last part r low b p refl refl (put-by count most new last r puts stays))
 
 -- or that is the last
-pub read_last : (closes : Bool) (text : List ℕ) (from at stop count most : ℕ) (old new last : List Range) (part : Part) → from ≤ at → at ≤ length text
+pub read_last : (closes : Bool) (text : List ℕ) (from at point count most : ℕ) (old new last : List Range) (part : Part) → from ≤ at → at ≤ length text
     → HasBound closes text from at count most (actuals_in closes (drop at text)) old new → IsNextPart closes (take (length text - at) (drop at text)) part
-    → (count < most → last ≡ new ++ record { from = at + part.from; to = at + part.to } ∷ []) → (most ≤ count → last ≡ new) → part.end ≡ Last stop
-    → EndsAtPlace closes text from at stop (count + 1) most old last
-read_last closes text from at stop count most old new last part low inside b n puts stays is =
+    → (count < most → last ≡ new ++ record { from = at + part.from; to = at + part.to } ∷ []) → (most ≤ count → last ≡ new) → part.end ≡ Last point
+    → EndsAtPlace closes text from at point (count + 1) most old last
+read_last closes text from at point count most old new last part low inside b n puts stays is =
     let p = subst (λ (x : List ℕ). IsNextPart closes x part) (between_to_end text at (length text) (omega arith)) n in
     let r : Range = record { from = at + part.from; to = at + part.to } in
-    bound_last closes text from at part.to stop (count + 1) most old last part.end inside is p.follows
+    bound_last closes text from at part.to point (count + 1) most old last part.end inside is p.follows
     (bound_more closes text from at count most old new last part r low b p refl refl (put-by count most new last r puts stays))
 
 -- where no actuals are left, those that are bound are all

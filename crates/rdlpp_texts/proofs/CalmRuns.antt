@@ -30,7 +30,7 @@ use Rattle.rdlpp_texts.specs.KeptTexts.{is_no_slash, keeps_each}
 use Rattle.rdlpp_texts.specs.declared.calm.ByteClass.TheVariants.{Calm, Mark, White}
 use Rattle.rdlpp_texts.specs.declared.tokens.CallRole.TheVariants as role
 use Rattle.rdlpp_texts.proofs.QuickTokens.{blank_token, comma_here, named, rest_turn, word_text}
-use Rattle.rdlpp_texts.proofs.Stopping.{passed, running-stop}
+use Rattle.rdlpp_texts.proofs.Stopping.{passed, running-point}
 
 -- White space is calm.
 
@@ -639,7 +639,7 @@ run_found text at None first e h =
     let whole : at + run (drop at text) ≡ run text = sym (quiet_run text at (omega arith) quiet) in
     let zero_behind : at + 0 ≡ at = omega arith in
     let here : get_or (drop at text) 0 0 ≡ 96 = get_or-drop at text 0 0 ∙ ap (λ (k : ℕ). get_or text k 0) zero_behind ∙ eqb-true (get_or text at 0) 96 first.1 in
-    running-stop text Plain at (token_of Plain (drop at text)) (record { inside = omega arith; same = whole }) inside refl (back_first (drop at text) here)
+    running-point text Plain at (token_of Plain (drop at text)) (record { inside = omega arith; same = whole }) inside refl (back_first (drop at text) here)
 
 -- and else goes on at the first of these, as in a text that begins there
 pub run_behind : (text : List ℕ) (at near : ℕ) (marks : Option ℕ) → IsFirstByte (is_byte 96) text (Some at) → marks ≡ Some near

@@ -15,7 +15,7 @@ use Rattle.rdlpp_scan.specs.declared.token.Token.{Token}
 use Rattle.rdlpp_scan.proofs.RangeLaws.{tokens_from-first}
 use Rattle.rdlpp_scan.proofs.StopKinds.{closed_kind_plain}
 use Rattle.rdlpp_scan.proofs.TokenLens.{token_of-part, tokens_from-step}
-use Rattle.rdlpp_table.specs.Stops.{is_none, stop_at, stop_name}
+use Rattle.rdlpp_table.specs.ExpansionPoints.{is_none, point_at, point_name}
 use Rattle.rdlpp_table.specs.Table.{Formal}
 use Rattle.rdlpp_table.specs.View.{IsSound, TableView, formal_at, formal_named, formals_of, macro_at, no_formal, no_macro}
 use Rattle.rdlpp_meaning.specs.Actuals.{token_role}
@@ -60,51 +60,51 @@ of_kind : Kind → ℕ → Mode → Token
 of_kind kind len next = record { kind = kind; len = len; next_mode = next }
 
 -- a formal is a stop, and another name isn't
-name-stop : (at len : ℕ) (found : Option ℕ) → is_none (stop_name at len found) ≡ true → found ≡ None
-unfolding is_none stop_name
-name-stop at len None e = refl
-name-stop at len (Some place) e = absurd (true≢false (sym e))
+name-point : (at len : ℕ) (found : Option ℕ) → is_none (point_name at len found) ≡ true → found ≡ None
+unfolding is_none point_name
+name-point at len None e = refl
+name-point at len (Some place) e = absurd (true≢false (sym e))
 
 -- a token that is no stop is copied, by its kind
 copied-by : (formals : List Formal) (at len : ℕ) (next : Mode) (kind : Kind) (bytes own : List ℕ)
-    → is_none (stop_at formals at (of_kind kind len next) bytes) ≡ true
+    → is_none (point_at formals at (of_kind kind len next) bytes) ≡ true
     → is_copied (record { sort = Ordinary kind; bytes = own; line = 0 }) ≡ true
-unfolding is_none stop_at is_copied of_kind
+unfolding is_none point_at is_copied of_kind
 copied-by formals at len next Back bytes own e = absurd (true≢false (sym e))
 copied-by formals at len next BareBackquote bytes own e = absurd (true≢false (sym e))
 copied-by formals at len next kind bytes own e = refl
 
 -- and is no formal
 alone-by : (formals : List Formal) (at len : ℕ) (next : Mode) (kind : Kind) (bytes : List ℕ)
-    → is_none (stop_at formals at (of_kind kind len next) bytes) ≡ true → Alone kind (formal_named formals bytes)
-unfolding stop_at Alone of_kind
-alone-by formals at len next Name bytes e = name-stop at len (formal_named formals bytes) e
+    → is_none (point_at formals at (of_kind kind len next) bytes) ≡ true → Alone kind (formal_named formals bytes)
+unfolding point_at Alone of_kind
+alone-by formals at len next Name bytes e = name-point at len (formal_named formals bytes) e
 alone-by formals at len next kind bytes e = tt
 
 -- the same of a choice of two tokens of which neither is a stop
 choice-none : (formals : List Formal) (at : ℕ) (bytes : List ℕ) (b : Bool) (t u : Token)
-    → is_none (stop_at formals at t bytes) ≡ true → is_none (stop_at formals at u bytes) ≡ true
-    → is_none (stop_at formals at (if b then t else u) bytes) ≡ true
+    → is_none (point_at formals at t bytes) ≡ true → is_none (point_at formals at u bytes) ≡ true
+    → is_none (point_at formals at (if b then t else u) bytes) ≡ true
 choice-none formals at bytes true t u h k = h
 choice-none formals at bytes false t u h k = k
 
 -- the rest of a string is no stop
-string-none : (formals : List Formal) (at from : ℕ) (text bytes : List ℕ) → is_none (stop_at formals at (string_token from text) bytes) ≡ true
-unfolding string_token whole stop_at is_none of_kind
+string-none : (formals : List Formal) (at from : ℕ) (text bytes : List ℕ) → is_none (point_at formals at (string_token from text) bytes) ≡ true
+unfolding string_token whole point_at is_none of_kind
 string-none formals at from text bytes =
-    let stop = from + string_stop false (drop from text) in
-    choice-none formals at bytes (slice_index text stop == 34) (whole Str (suc stop)) (of_kind Str stop InStr) refl refl
+    let point = from + string_stop false (drop from text) in
+    choice-none formals at bytes (slice_index text point == 34) (whole Str (suc point)) (of_kind Str point InStr) refl refl
 
 -- nor is that of a comment
-block-none : (formals : List Formal) (at from : ℕ) (text bytes : List ℕ) → is_none (stop_at formals at (block_token from text) bytes) ≡ true
-unfolding block_token whole stop_at is_none of_kind
+block-none : (formals : List Formal) (at from : ℕ) (text bytes : List ℕ) → is_none (point_at formals at (block_token from text) bytes) ≡ true
+unfolding block_token whole point_at is_none of_kind
 block-none formals at from text bytes =
-    let stop = from + first_place ends_block_comment (drop from text) in
-    choice-none formals at bytes (nat_lt stop (length text)) (whole BlockComment (stop + 2)) (of_kind BlockComment stop InBlock) refl refl
+    let point = from + first_place ends_block_comment (drop from text) in
+    choice-none formals at bytes (nat_lt point (length text)) (whole BlockComment (point + 2)) (of_kind BlockComment point InBlock) refl refl
 
 -- nor is `<%`
-perl-none : (formals : List Formal) (at : ℕ) (bytes : List ℕ) → is_none (stop_at formals at (whole Perl 2) bytes) ≡ true
-unfolding whole stop_at is_none
+perl-none : (formals : List Formal) (at : ℕ) (bytes : List ℕ) → is_none (point_at formals at (whole Perl 2) bytes) ≡ true
+unfolding whole point_at is_none
 perl-none formals at bytes = refl
 
 -- no test holds and fails
@@ -112,15 +112,15 @@ holds-fails : {A : Type 0} (b : Bool) → b ≡ true → b ≡ false → A
 holds-fails b h k = absurd (true≢false (sym h ∙ k))
 
 -- a token that is a stop is read in plain text
-pub stop-plain : (formals : List Formal) (at : ℕ) (m : Mode) (text bytes : List ℕ)
-    → is_none (stop_at formals at (token_of m text) bytes) ≡ false → m ≡ Plain
+pub point-plain : (formals : List Formal) (at : ℕ) (m : Mode) (text bytes : List ℕ)
+    → is_none (point_at formals at (token_of m text) bytes) ≡ false → m ≡ Plain
 unfolding token_of
-stop-plain formals at Plain text bytes e = refl
-stop-plain formals at InStr text bytes e =
-    holds-fails (is_none (stop_at formals at (if begins_perl text then whole Perl 2 else string_token 0 text) bytes))
+point-plain formals at Plain text bytes e = refl
+point-plain formals at InStr text bytes e =
+    holds-fails (is_none (point_at formals at (if begins_perl text then whole Perl 2 else string_token 0 text) bytes))
     (choice-none formals at bytes (begins_perl text) (whole Perl 2) (string_token 0 text) (perl-none formals at bytes) (string-none formals at 0 text bytes)) e
-stop-plain formals at InBlock text bytes e =
-    holds-fails (is_none (stop_at formals at (block_token 0 text) bytes)) (block-none formals at 0 text bytes) e
+point-plain formals at InBlock text bytes e =
+    holds-fails (is_none (point_at formals at (block_token 0 text) bytes)) (block-none formals at 0 text bytes) e
 
 -- a part of a text behind some of its bytes
 pub slice-behind : (text : List ℕ) (from to n : ℕ) → n ≤ length (slice_range text from to) → slice_range text (from + n) to ≡ drop n (slice_range text from to)
@@ -154,7 +154,7 @@ formals-behind texts formals x below n mode h = h ∙ sym (behind-formals texts.
 -- the first token of an open text is lent where it is no stop
 first-goes : (rules : Rules) (s : State) (line depth : ℕ) (texts : Texts) (formals : List Formal) (x : Open) (below : List Open)
     → AreOpen texts (x ∷ below) → HasFormals texts formals x below → 0 < length (open_bytes texts x below)
-    → is_none (stop_at formals 0 (token_of x.part.mode (open_bytes texts x below)) (first_bytes texts x below)) ≡ true
+    → is_none (point_at formals 0 (token_of x.part.mode (open_bytes texts x below)) (first_bytes texts x below)) ≡ true
     → open_left rules s line depth texts (x ∷ below)
     ≡ and_then (gives (first_bytes texts x below)) (open_left rules s line depth texts (first_behind texts x below ∷ below))
 unfolding first_kind first_bytes first_token of_kind
@@ -194,7 +194,7 @@ run-none rules s line depth texts x below e = record {
 -- one more token
 run-more : (rules : Rules) (s : State) (line depth : ℕ) (texts : Texts) (formals : List Formal) (x : Open) (below : List Open) (n : ℕ)
     → AreOpen texts (x ∷ below) → HasFormals texts formals x below → 0 < length (open_bytes texts x below)
-    → is_none (stop_at formals 0 (token_of x.part.mode (open_bytes texts x below)) (first_bytes texts x below)) ≡ true
+    → is_none (point_at formals 0 (token_of x.part.mode (open_bytes texts x below)) (first_bytes texts x below)) ≡ true
     → IsRun rules s line depth texts (first_behind texts x below) below n
     → IsRun rules s line depth texts x below ((token_of x.part.mode (open_bytes texts x below)).len + n)
 unfolding first_bytes first_behind
@@ -235,13 +235,13 @@ nil-same m (b ∷ bs) e =
 -- the tokens before the first stop are a run, by whether the first one is a stop
 run-by : (rules : Rules) (s : State) (line depth : ℕ) (texts : Texts) (formals : List Formal) (ts : List Token) (x : Open) (below : List Open) (none : Bool)
     → AreOpen texts (x ∷ below) → HasFormals texts formals x below → 0 < length (open_bytes texts x below)
-    → is_none (stop_at formals 0 (token_of x.part.mode (open_bytes texts x below)) (first_bytes texts x below)) ≡ none
+    → is_none (point_at formals 0 (token_of x.part.mode (open_bytes texts x below)) (first_bytes texts x below)) ≡ none
     → IsRun rules s line depth texts (first_behind texts x below) below (run_len formals ts (drop (token_of x.part.mode (open_bytes texts x below)).len (open_bytes texts x below)))
     → IsRun rules s line depth texts x below (if none then (token_of x.part.mode (open_bytes texts x below)).len + run_len formals ts (drop (token_of x.part.mode (open_bytes texts x below)).len (open_bytes texts x below)) else 0)
 run-by rules s line depth texts formals ts x below true h f some e r =
     run-more rules s line depth texts formals x below _ h f some e r
 run-by rules s line depth texts formals ts x below false h f some e r =
-    let m : x.part.mode ≡ Plain = stop-plain formals 0 x.part.mode (open_bytes texts x below) (first_bytes texts x below) e in
+    let m : x.part.mode ≡ Plain = point-plain formals 0 x.part.mode (open_bytes texts x below) (first_bytes texts x below) e in
     run-none rules s line depth texts x below (ap (λ (mode : Mode). text_tokens mode (open_bytes texts x below)) m)
 
 -- the tokens before the first stop are a run
@@ -266,8 +266,8 @@ run-is rules s line depth texts formals (t ∷ ts) x below h f e =
     (run-is rules s line depth texts formals ts (first_behind texts x below) below (behind-open texts x below T.len T.next_mode h)
     (formals-behind texts formals x below T.len T.next_mode f) tokens) in
     subst (λ (u : Token). IsRun rules s line depth texts x below
-    (if is_none (stop_at formals 0 u (take u.len bytes)) then u.len + run_len formals ts (drop u.len bytes) else 0)) same
-    (run-by rules s line depth texts formals ts x below (is_none (stop_at formals 0 T (take T.len bytes))) h f p.0 refl inner)
+    (if is_none (point_at formals 0 u (take u.len bytes)) then u.len + run_len formals ts (drop u.len bytes) else 0)) same
+    (run-by rules s line depth texts formals ts x below (is_none (point_at formals 0 T (take T.len bytes))) h f p.0 refl inner)
 
 -- a run before the first stop is lent in one piece
 pub run-goes : (rules : Rules) (s : State) (line depth : ℕ) (texts : Texts) (formals : List Formal) (x : Open) (below : List Open) (n : ℕ)
@@ -316,12 +316,12 @@ behind-first P m bytes some all =
 
 -- and of those behind a run, by whether the first is of it
 behind-by : (P : SourceToken → Type 0) (formals : List Formal) (m : Mode) (bytes : List ℕ) (n : ℕ) (none : Bool)
-    → is_none (stop_at formals 0 (token_of m bytes) (take (token_of m bytes).len bytes)) ≡ none → All P (text_tokens m bytes)
+    → is_none (point_at formals 0 (token_of m bytes) (take (token_of m bytes).len bytes)) ≡ none → All P (text_tokens m bytes)
     → All P (text_tokens Plain (drop n (drop (token_of m bytes).len bytes)))
     → All P (text_tokens Plain (drop (if none then (token_of m bytes).len + n else 0) bytes))
 behind-by P formals m bytes n true e all rest = subst (λ (b : List ℕ). All P (text_tokens Plain b)) (drop-drop n (token_of m bytes).len bytes) rest
 behind-by P formals m bytes n false e all rest =
-    subst (λ (mode : Mode). All P (text_tokens mode bytes)) (stop-plain formals 0 m bytes (take (token_of m bytes).len bytes) e) all
+    subst (λ (mode : Mode). All P (text_tokens mode bytes)) (point-plain formals 0 m bytes (take (token_of m bytes).len bytes) e) all
 
 -- and of those behind a run
 behind-run : (P : SourceToken → Type 0) (formals : List Formal) (ts : List Token) (m : Mode) (bytes : List ℕ) → tokens_from m 0 bytes ≡ ts → All P (text_tokens m bytes)
@@ -334,8 +334,8 @@ behind-run P formals (t ∷ ts) m bytes e all =
     let same : T ≡ t = p.1.0 in
     let tokens : tokens_from T.next_mode 0 (drop T.len bytes) ≡ ts = ap (λ (u : Token). tokens_from u.next_mode 0 (drop u.len bytes)) same ∙ p.1.1 in
     let rest = behind-run P formals ts T.next_mode (drop T.len bytes) tokens (behind-first P m bytes p.0 all) in
-    subst (λ (u : Token). All P (text_tokens Plain (drop (if is_none (stop_at formals 0 u (take u.len bytes)) then u.len + run_len formals ts (drop u.len bytes) else 0) bytes))) same
-    (behind-by P formals m bytes (run_len formals ts (drop T.len bytes)) (is_none (stop_at formals 0 T (take T.len bytes))) refl all rest)
+    subst (λ (u : Token). All P (text_tokens Plain (drop (if is_none (point_at formals 0 u (take u.len bytes)) then u.len + run_len formals ts (drop u.len bytes) else 0) bytes))) same
+    (behind-by P formals m bytes (run_len formals ts (drop T.len bytes)) (is_none (point_at formals 0 T (take T.len bytes))) refl all rest)
 
 -- open texts of which the innermost goes on at a place are sound, where no call in what is left then drops a token
 pub sound-moved : (texts : Texts) (x : Open) (below : List Open) (at : ℕ) → AreSound texts (x ∷ below)

@@ -364,9 +364,9 @@ first_role b bs blank line =
     ∙ plain_role b (get_or T 1 0) (take (token_of Plain T).len T) blank line
 
 -- a text that begins with a byte that isn't white space
-white_stop : (at b : ℕ) (bs : List ℕ) → is_white b ≡ false → space_from at (text_tokens Plain (b ∷ bs)) ≡ at
+white_point : (at b : ℕ) (bs : List ℕ) → is_white b ≡ false → space_from at (text_tokens Plain (b ∷ bs)) ≡ at
 unfolding is_white space_from
-white_stop at b bs dark =
+white_point at b bs dark =
     let T = b ∷ bs in
     let h = or_parts (is_blank b) (is_line_end b) dark in
     let first = first_spelled Plain T in
@@ -429,7 +429,7 @@ white_from (b ∷ bs) at = elim (cases_Bool (is_white b)) [
   | inr e ↦
       let none : prefix_len is_white (b ∷ bs) ≡ 0 = ap (λ (t : Bool). cond t (1 + prefix_len is_white bs) 0) e in
       let same : at ≡ at + 0 = omega arith in
-      white_stop at b bs e ∙ same ∙ sym (ap (λ (n : ℕ). at + n) none)
+      white_point at b bs e ∙ same ∙ sym (ap (λ (n : ℕ). at + n) none)
 ]
 
 -- how many bytes of it there are

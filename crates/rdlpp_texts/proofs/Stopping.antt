@@ -1,4 +1,4 @@
--- The first stop of a text, and what stands at its front.
+-- The first expansion point of a text, and what stands at its front.
 use Rattle.std.proofs.Common.{◌≡◌, ℕ, ◌+◌, ◌-◌, ◌<◌, ◌≤◌, Bool, true, false, true≢false, List, [], ◌∷◌, length, take, drop, refl, sym, ap, subst, ◌∙◌, arith, option_map, unwrap_or, Option, None, Some, not, cond, eqb, get_or, is_some, if◌then◌else◌, slice_range, eqb-true, drop-drop, get_or-drop, length-drop, length-take}
 use Rattle.std.proofs.lemmas.Bool.{cond_both}
 use Rattle.std.proofs.lemmas.List.{drop_all, nil_from_length}
@@ -14,12 +14,12 @@ use Rattle.rdlpp_scan.specs.declared.token.Token.{Token}
 use Rattle.rdlpp_scan.proofs.RangeLaws.{tokens_from-first}
 use Rattle.rdlpp_scan.proofs.StopKinds.{AtBack, AtBare, AtBlockComment, AtLineComment, AtPerl, AtPlain, AtString, Row, block_token-kind, string_token-kind, token_of-row}
 use Rattle.rdlpp_scan.proofs.TokenLens.{token_of-part, tokens_from-step}
-use Rattle.rdlpp_table.specs.Stops.{first_stop, is_none, or_stop, stop_at, stop_in, stop_name, stop_of}
+use Rattle.rdlpp_table.specs.ExpansionPoints.{next_expansion_point, is_none, or_point, point_at, point_in, point_name, point_of}
 use Rattle.rdlpp_table.specs.Table.{Formal, Macro}
 use Rattle.rdlpp_table.specs.View.{formal_named, formals_of, macro_at}
-use Rattle.rdlpp_table.specs.declared.stop.Stop.{Stop}
-use Rattle.rdlpp_table.specs.declared.stop.Stop.TheVariants as stop
-use Rattle.rdlpp_table.proofs.FirstStops.{or_none, or_some}
+use Rattle.rdlpp_table.specs.declared.point.ExpansionPoint.{ExpansionPoint}
+use Rattle.rdlpp_table.specs.declared.point.ExpansionPoint.TheVariants as point
+use Rattle.rdlpp_table.proofs.FirstPoints.{or_none, or_some}
 use Rattle.rdlpp_meaning.specs.Opens.{Texts}
 use Rattle.rdlpp_texts.specs.TextItems.{AreCopied, IsNextItem, IsTextItem, is_back, run_len}
 use Rattle.rdlpp_texts.specs.Places.{source_formals, source_text}
@@ -28,40 +28,40 @@ use Rattle.rdlpp_texts.specs.declared.peek.TextItem.{TextItem}
 use Rattle.rdlpp_texts.specs.declared.peek.TextItem.TheVariants as front
 use Rattle.rdlpp_texts.specs.declared.place.TextSource.{TextSource}
 use Rattle.rdlpp_texts.specs.declared.place.TextSource.TheVariants as place_of
-use Rattle.rdlpp_texts.proofs.Passing.{stop-plain}
+use Rattle.rdlpp_texts.proofs.Passing.{point-plain}
 
--- where a stop stands
-abbrev pub stop_place : Stop → Option ℕ
-stop_place stop.None = None
-stop_place (stop.Formal at len place) = Some at
-stop_place (stop.Usage at len) = Some at
-stop_place (stop.Bare at) = Some at
+-- where an expansion point stands
+abbrev pub point_place : ExpansionPoint → Option ℕ
+point_place point.None = None
+point_place (point.Formal at len place) = Some at
+point_place (point.Usage at len) = Some at
+point_place (point.Bare at) = Some at
 
--- so many bytes stand before a stop at a place of a text that begins at a place, or in all
+-- so many bytes stand before an expansion point at a place of a text that begins at a place, or in all
 PlaceTells : ℕ → ℕ → ℕ → Option ℕ → Type 0
 PlaceTells at n len None = n ≡ len
 PlaceTells at n len (Some p) = (p ≡ at + n) × (n < len)
 
--- a stop is none wherever it stands, by the kind of its token
+-- an expansion point is none wherever it stands, by the kind of its token
 none-at : (formals : List Formal) (at len : ℕ) (next : Mode) (kind : Kind) (bytes : List ℕ)
-    → is_none (stop_at formals at (record { kind = kind; len = len; next_mode = next }) bytes)
-    ≡ is_none (stop_at formals 0 (record { kind = kind; len = len; next_mode = next }) bytes)
-unfolding is_none stop_at stop_name
+    → is_none (point_at formals at (record { kind = kind; len = len; next_mode = next }) bytes)
+    ≡ is_none (point_at formals 0 (record { kind = kind; len = len; next_mode = next }) bytes)
+unfolding is_none point_at point_name
 none-at formals at len next Name bytes = by (formal_named formals bytes)
   where
-    by : (found : Option ℕ) → is_none (stop_name at len found) ≡ is_none (stop_name 0 len found)
+    by : (found : Option ℕ) → is_none (point_name at len found) ≡ is_none (point_name 0 len found)
     by None = refl
     by (Some place) = refl
 none-at formals at len next kind bytes = refl
 
--- a stop stands where its token does, by the kind of that
+-- an expansion point stands where its token does, by the kind of that
 own-place : (formals : List Formal) (at len : ℕ) (next : Mode) (kind : Kind) (bytes : List ℕ)
-    → is_none (stop_at formals at (record { kind = kind; len = len; next_mode = next }) bytes) ≡ false
-    → stop_place (stop_at formals at (record { kind = kind; len = len; next_mode = next }) bytes) ≡ Some at
-unfolding is_none stop_at stop_name
+    → is_none (point_at formals at (record { kind = kind; len = len; next_mode = next }) bytes) ≡ false
+    → point_place (point_at formals at (record { kind = kind; len = len; next_mode = next }) bytes) ≡ Some at
+unfolding is_none point_at point_name
 own-place formals at len next Name bytes e = by (formal_named formals bytes) e
   where
-    by : (found : Option ℕ) → is_none (stop_name at len found) ≡ false → stop_place (stop_name at len found) ≡ Some at
+    by : (found : Option ℕ) → is_none (point_name at len found) ≡ false → point_place (point_name at len found) ≡ Some at
     by None e = absurd (true≢false e)
     by (Some place) e = refl
 own-place formals at len next Back bytes e = refl
@@ -74,11 +74,11 @@ unfolding PlaceTells
 tells-more at own n len rest None fits e h = omega (arith, fits, e, h)
 tells-more at own n len rest (Some p) fits e h = (let a = h.0 in omega (arith, a), let b = h.1 in omega (arith, fits, e, b))
 
--- the first stop of a text stands behind the tokens before it
-stops-at : (formals : List Formal) (at : ℕ) (ts : List Token) (mode : Mode) (text : List ℕ) → tokens_from mode 0 text ≡ ts
-    → PlaceTells at (run_len formals ts text) (length text) (stop_place (first_stop formals at ts text))
-unfolding run_len first_stop PlaceTells
-stops-at formals at [] mode text e = none text e
+-- the first expansion point of a text stands behind the tokens before it
+points-at : (formals : List Formal) (at : ℕ) (ts : List Token) (mode : Mode) (text : List ℕ) → tokens_from mode 0 text ≡ ts
+    → PlaceTells at (run_len formals ts text) (length text) (point_place (next_expansion_point formals at ts text))
+unfolding run_len next_expansion_point PlaceTells
+points-at formals at [] mode text e = none text e
   where
     none : (text : List ℕ) → tokens_from mode 0 text ≡ [] → 0 ≡ length text
     none [] e = refl
@@ -88,56 +88,56 @@ stops-at formals at [] mode text e = none text e
       where
         clash : (t : Token) (xs ys : List Token) → xs ≡ [] → xs ≡ t ∷ ys → ⊥
         clash t xs ys p q = cc
-stops-at formals at (t ∷ ts) mode text e =
+points-at formals at (t ∷ ts) mode text e =
     let p = tokens_from-first mode text t ts e in
     let inside : t.len ≤ length text = subst (λ (u : Token). u.len ≤ length text) p.1.0 (token_of-part mode text p.0).inside in
-    by (is_none (stop_at formals 0 t (take t.len text))) refl p.0 inside (stops-at formals (at + t.len) ts t.next_mode (drop t.len text) p.1.1)
+    by (is_none (point_at formals 0 t (take t.len text))) refl p.0 inside (points-at formals (at + t.len) ts t.next_mode (drop t.len text) p.1.1)
   where
-    by : (none : Bool) → is_none (stop_at formals 0 t (take t.len text)) ≡ none → 0 < length text → t.len ≤ length text
-        → PlaceTells (at + t.len) (run_len formals ts (drop t.len text)) (length (drop t.len text)) (stop_place (first_stop formals (at + t.len) ts (drop t.len text)))
+    by : (none : Bool) → is_none (point_at formals 0 t (take t.len text)) ≡ none → 0 < length text → t.len ≤ length text
+        → PlaceTells (at + t.len) (run_len formals ts (drop t.len text)) (length (drop t.len text)) (point_place (next_expansion_point formals (at + t.len) ts (drop t.len text)))
         → PlaceTells at (if none then t.len + run_len formals ts (drop t.len text) else 0) (length text)
-        (stop_place (or_stop (stop_at formals at t (take t.len text)) (first_stop formals (at + t.len) ts (drop t.len text))))
+        (point_place (or_point (point_at formals at t (take t.len text)) (next_expansion_point formals (at + t.len) ts (drop t.len text))))
     by true n some inside h =
-        subst (λ (s : Stop). PlaceTells at (t.len + run_len formals ts (drop t.len text)) (length text) (stop_place s))
-        (sym (or_none (stop_at formals at t (take t.len text)) _ (none-at formals at t.len t.next_mode t.kind (take t.len text) ∙ n)))
+        subst (λ (s : ExpansionPoint). PlaceTells at (t.len + run_len formals ts (drop t.len text)) (length text) (point_place s))
+        (sym (or_none (point_at formals at t (take t.len text)) _ (none-at formals at t.len t.next_mode t.kind (take t.len text) ∙ n)))
         (tells-more at t.len (run_len formals ts (drop t.len text)) (length text) (length (drop t.len text)) _ inside (length-drop t.len text) h)
     by false n some inside h =
-        let own : is_none (stop_at formals at t (take t.len text)) ≡ false = none-at formals at t.len t.next_mode t.kind (take t.len text) ∙ n in
+        let own : is_none (point_at formals at t (take t.len text)) ≡ false = none-at formals at t.len t.next_mode t.kind (take t.len text) ∙ n in
         subst (λ (o : Option ℕ). PlaceTells at 0 (length text) o)
-        (sym (ap (λ (s : Stop). stop_place s) (or_some (stop_at formals at t (take t.len text)) _ own) ∙ own-place formals at t.len t.next_mode t.kind (take t.len text) own))
+        (sym (ap (λ (s : ExpansionPoint). point_place s) (or_some (point_at formals at t (take t.len text)) _ own) ∙ own-place formals at t.len t.next_mode t.kind (take t.len text) own))
         (omega arith, some)
 
--- a text in whose front no run stands begins with its first stop
-stop-token : (formals : List Formal) (at : ℕ) (mode : Mode) (text : List ℕ) → 0 < length text
+-- a text in whose front no run stands begins with its first expansion point
+point-token : (formals : List Formal) (at : ℕ) (mode : Mode) (text : List ℕ) → 0 < length text
     → run_len formals (tokens_from mode 0 text) text ≡ 0
-    → stop_at formals at (token_of mode text) (take (token_of mode text).len text) ≡ first_stop formals at (tokens_from mode 0 text) text
-unfolding first_stop or_stop run_len
-stop-token formals at mode text some e =
+    → point_at formals at (token_of mode text) (take (token_of mode text).len text) ≡ next_expansion_point formals at (tokens_from mode 0 text) text
+unfolding next_expansion_point or_point run_len
+point-token formals at mode text some e =
     let t = token_of mode text in
     let part = token_of-part mode text some in
     let ts = tokens_from t.next_mode 0 (drop t.len text) in
     let step : tokens_from mode 0 text ≡ t ∷ ts = tokens_from-step mode text some part.not_empty in
-    by t ts (is_none (stop_at formals 0 t (take t.len text))) refl part.not_empty (ap (λ (us : List Token). run_len formals us text) (sym step) ∙ e)
-    ∙ sym (ap (λ (us : List Token). first_stop formals at us text) step)
+    by t ts (is_none (point_at formals 0 t (take t.len text))) refl part.not_empty (ap (λ (us : List Token). run_len formals us text) (sym step) ∙ e)
+    ∙ sym (ap (λ (us : List Token). next_expansion_point formals at us text) step)
   where
     zero-sum : (a b : ℕ) → 0 < a → a + b ≡ 0 → ⊥
     zero-sum a b h e = omega (arith, h, e)
 
-    by : (t : Token) (ts : List Token) (none : Bool) → is_none (stop_at formals 0 t (take t.len text)) ≡ none → 0 < t.len
-        → run_len formals (t ∷ ts) text ≡ 0 → stop_at formals at t (take t.len text) ≡ first_stop formals at (t ∷ ts) text
+    by : (t : Token) (ts : List Token) (none : Bool) → is_none (point_at formals 0 t (take t.len text)) ≡ none → 0 < t.len
+        → run_len formals (t ∷ ts) text ≡ 0 → point_at formals at t (take t.len text) ≡ next_expansion_point formals at (t ∷ ts) text
     by t ts true n positive e = absurd (zero-sum t.len (run_len formals ts (drop t.len text)) positive
         (sym (ap (λ (b : Bool). if b then t.len + run_len formals ts (drop t.len text) else 0) n) ∙ e))
     by t ts false n positive e =
-        sym (or_some (stop_at formals at t (take t.len text)) _ (none-at formals at t.len t.next_mode t.kind (take t.len text) ∙ n))
+        sym (or_some (point_at formals at t (take t.len text)) _ (none-at formals at t.len t.next_mode t.kind (take t.len text) ∙ n))
 
--- which token a stop is: a formal, by the kind of the token
+-- which token an expansion point is: a formal, by the kind of the token
 formal-by : (formals : List Formal) (at len : ℕ) (next : Mode) (kind : Kind) (bytes : List ℕ) (p n place : ℕ)
-    → stop_at formals at (record { kind = kind; len = len; next_mode = next }) bytes ≡ stop.Formal p n place
+    → point_at formals at (record { kind = kind; len = len; next_mode = next }) bytes ≡ point.Formal p n place
     → (kind ≡ Name) × (len ≡ n) × (formal_named formals bytes ≡ Some place)
-unfolding stop_at stop_name
+unfolding point_at point_name
 formal-by formals at len next Name bytes p n place e = by (formal_named formals bytes) e
   where
-    by : (found : Option ℕ) → stop_name at len found ≡ stop.Formal p n place → (Name ≡ Name) × (len ≡ n) × (found ≡ Some place)
+    by : (found : Option ℕ) → point_name at len found ≡ point.Formal p n place → (Name ≡ Name) × (len ≡ n) × (found ≡ Some place)
     by None e = absurd (cc)
     by (Some i) e = (refl, cc, cc)
 formal-by formals at len next Back bytes p n place e = absurd (cc)
@@ -146,11 +146,11 @@ formal-by formals at len next kind bytes p n place e = absurd (cc)
 
 -- a usage
 usage-by : (formals : List Formal) (at len : ℕ) (next : Mode) (kind : Kind) (bytes : List ℕ) (p n : ℕ)
-    → stop_at formals at (record { kind = kind; len = len; next_mode = next }) bytes ≡ stop.Usage p n → (kind ≡ Back) × (len ≡ n)
-unfolding stop_at stop_name
+    → point_at formals at (record { kind = kind; len = len; next_mode = next }) bytes ≡ point.Usage p n → (kind ≡ Back) × (len ≡ n)
+unfolding point_at point_name
 usage-by formals at len next Name bytes p n e = by (formal_named formals bytes) e
   where
-    by : (found : Option ℕ) → stop_name at len found ≡ stop.Usage p n → (Name ≡ Back) × (len ≡ n)
+    by : (found : Option ℕ) → point_name at len found ≡ point.Usage p n → (Name ≡ Back) × (len ≡ n)
     by None e = absurd (cc)
     by (Some i) e = absurd (cc)
 usage-by formals at len next Back bytes p n e = (refl, cc)
@@ -159,76 +159,76 @@ usage-by formals at len next kind bytes p n e = absurd (cc)
 
 -- a lone backquote
 bare-by : (formals : List Formal) (at len : ℕ) (next : Mode) (kind : Kind) (bytes : List ℕ) (p : ℕ)
-    → stop_at formals at (record { kind = kind; len = len; next_mode = next }) bytes ≡ stop.Bare p → kind ≡ BareBackquote
-unfolding stop_at stop_name
+    → point_at formals at (record { kind = kind; len = len; next_mode = next }) bytes ≡ point.Bare p → kind ≡ BareBackquote
+unfolding point_at point_name
 bare-by formals at len next Name bytes p e = by (formal_named formals bytes) e
   where
-    by : (found : Option ℕ) → stop_name at len found ≡ stop.Bare p → Name ≡ BareBackquote
+    by : (found : Option ℕ) → point_name at len found ≡ point.Bare p → Name ≡ BareBackquote
     by None e = absurd (cc)
     by (Some i) e = absurd (cc)
 bare-by formals at len next Back bytes p e = absurd (cc)
 bare-by formals at len next BareBackquote bytes p e = refl
 bare-by formals at len next kind bytes p e = absurd (cc)
 
--- the first stop of a text is that of what stands behind the tokens before it, which is read from plain text on
-stop-behind : (formals : List Formal) (at : ℕ) (ts : List Token) (mode : Mode) (text : List ℕ) → tokens_from mode 0 text ≡ ts
-    → is_none (first_stop formals at ts text) ≡ false
-    → first_stop formals (at + run_len formals ts text) (tokens_from Plain 0 (drop (run_len formals ts text) text)) (drop (run_len formals ts text) text)
-    ≡ first_stop formals at ts text
-unfolding run_len first_stop is_none
-stop-behind formals at [] mode text e found = absurd (true≢false found)
-stop-behind formals at (t ∷ ts) mode text e found =
+-- the first expansion point of a text is that of what stands behind the tokens before it, which is read from plain text on
+point-behind : (formals : List Formal) (at : ℕ) (ts : List Token) (mode : Mode) (text : List ℕ) → tokens_from mode 0 text ≡ ts
+    → is_none (next_expansion_point formals at ts text) ≡ false
+    → next_expansion_point formals (at + run_len formals ts text) (tokens_from Plain 0 (drop (run_len formals ts text) text)) (drop (run_len formals ts text) text)
+    ≡ next_expansion_point formals at ts text
+unfolding run_len next_expansion_point is_none
+point-behind formals at [] mode text e found = absurd (true≢false found)
+point-behind formals at (t ∷ ts) mode text e found =
     let p = tokens_from-first mode text t ts e in
-    by (is_none (stop_at formals 0 t (take t.len text))) refl p.1.0 (λ some. stop-behind formals (at + t.len) ts t.next_mode (drop t.len text) p.1.1 some) found
+    by (is_none (point_at formals 0 t (take t.len text))) refl p.1.0 (λ some. point-behind formals (at + t.len) ts t.next_mode (drop t.len text) p.1.1 some) found
   where
-    by : (none : Bool) → is_none (stop_at formals 0 t (take t.len text)) ≡ none → token_of mode text ≡ t
-        → (is_none (first_stop formals (at + t.len) ts (drop t.len text)) ≡ false
-        → first_stop formals (at + t.len + run_len formals ts (drop t.len text)) (tokens_from Plain 0 (drop (run_len formals ts (drop t.len text)) (drop t.len text))) (drop (run_len formals ts (drop t.len text)) (drop t.len text))
-        ≡ first_stop formals (at + t.len) ts (drop t.len text))
-        → is_none (or_stop (stop_at formals at t (take t.len text)) (first_stop formals (at + t.len) ts (drop t.len text))) ≡ false
-        → first_stop formals (at + (if none then t.len + run_len formals ts (drop t.len text) else 0))
+    by : (none : Bool) → is_none (point_at formals 0 t (take t.len text)) ≡ none → token_of mode text ≡ t
+        → (is_none (next_expansion_point formals (at + t.len) ts (drop t.len text)) ≡ false
+        → next_expansion_point formals (at + t.len + run_len formals ts (drop t.len text)) (tokens_from Plain 0 (drop (run_len formals ts (drop t.len text)) (drop t.len text))) (drop (run_len formals ts (drop t.len text)) (drop t.len text))
+        ≡ next_expansion_point formals (at + t.len) ts (drop t.len text))
+        → is_none (or_point (point_at formals at t (take t.len text)) (next_expansion_point formals (at + t.len) ts (drop t.len text))) ≡ false
+        → next_expansion_point formals (at + (if none then t.len + run_len formals ts (drop t.len text) else 0))
         (tokens_from Plain 0 (drop (if none then t.len + run_len formals ts (drop t.len text) else 0) text))
         (drop (if none then t.len + run_len formals ts (drop t.len text) else 0) text)
-        ≡ or_stop (stop_at formals at t (take t.len text)) (first_stop formals (at + t.len) ts (drop t.len text))
+        ≡ or_point (point_at formals at t (take t.len text)) (next_expansion_point formals (at + t.len) ts (drop t.len text))
     by true n same inner found =
         let m = run_len formals ts (drop t.len text) in
-        let passed : or_stop (stop_at formals at t (take t.len text)) (first_stop formals (at + t.len) ts (drop t.len text)) ≡ first_stop formals (at + t.len) ts (drop t.len text) =
-        or_none (stop_at formals at t (take t.len text)) _ (none-at formals at t.len t.next_mode t.kind (take t.len text) ∙ n) in
-        let own = inner (ap (λ (s : Stop). is_none s) (sym passed) ∙ found) in
+        let passed : or_point (point_at formals at t (take t.len text)) (next_expansion_point formals (at + t.len) ts (drop t.len text)) ≡ next_expansion_point formals (at + t.len) ts (drop t.len text) =
+        or_none (point_at formals at t (take t.len text)) _ (none-at formals at t.len t.next_mode t.kind (take t.len text) ∙ n) in
+        let own = inner (ap (λ (s : ExpansionPoint). is_none s) (sym passed) ∙ found) in
         let place : at + (t.len + m) ≡ at + t.len + m = omega arith in
-        ap (λ (k : ℕ). first_stop formals k (tokens_from Plain 0 (drop (t.len + m) text)) (drop (t.len + m) text)) place
-        ∙ ap (λ (b : List ℕ). first_stop formals (at + t.len + m) (tokens_from Plain 0 b) b) (sym (drop-drop m t.len text))
+        ap (λ (k : ℕ). next_expansion_point formals k (tokens_from Plain 0 (drop (t.len + m) text)) (drop (t.len + m) text)) place
+        ∙ ap (λ (b : List ℕ). next_expansion_point formals (at + t.len + m) (tokens_from Plain 0 b) b) (sym (drop-drop m t.len text))
         ∙ own ∙ sym passed
     by false n same inner found =
-        let m : mode ≡ Plain = stop-plain formals 0 mode text (take t.len text) (ap (λ (u : Token). is_none (stop_at formals 0 u (take t.len text))) same ∙ n) in
+        let m : mode ≡ Plain = point-plain formals 0 mode text (take t.len text) (ap (λ (u : Token). is_none (point_at formals 0 u (take t.len text))) same ∙ n) in
         let place : at + 0 ≡ at = omega arith in
-        ap (λ (k : ℕ). first_stop formals k (tokens_from Plain 0 text) text) place
-        ∙ ap (λ (us : List Token). first_stop formals at us text) (ap (λ (x : Mode). tokens_from x 0 text) (sym m) ∙ e)
+        ap (λ (k : ℕ). next_expansion_point formals k (tokens_from Plain 0 text) text) place
+        ∙ ap (λ (us : List Token). next_expansion_point formals at us text) (ap (λ (x : Mode). tokens_from x 0 text) (sym m) ∙ e)
 
--- a stop that stands at a place isn't none
-place-some : (s : Stop) (at : ℕ) → stop_place s ≡ Some at → is_none s ≡ false
+-- an expansion point that stands at a place isn't none
+place-some : (s : ExpansionPoint) (at : ℕ) → point_place s ≡ Some at → is_none s ≡ false
 unfolding is_none
-place-some stop.None at e = absurd (cc)
-place-some (stop.Formal at len place) p e = refl
-place-some (stop.Usage at len) p e = refl
-place-some (stop.Bare at) p e = refl
+place-some point.None at e = absurd (cc)
+place-some (point.Formal at len place) p e = refl
+place-some (point.Usage at len) p e = refl
+place-some (point.Bare at) p e = refl
 
--- the first stop is that of the text from there on
-pub stop-moved : (formals : List Formal) (from at : ℕ) (text : List ℕ) (s : Stop) → s ≡ stop_of formals from text → stop_place s ≡ Some at
-    → s ≡ stop_of formals at (drop (at - from) text)
-unfolding stop_of PlaceTells
-stop-moved formals from at text s e p =
+-- the first expansion point is that of the text from there on
+pub point-moved : (formals : List Formal) (from at : ℕ) (text : List ℕ) (s : ExpansionPoint) → s ≡ point_of formals from text → point_place s ≡ Some at
+    → s ≡ point_of formals at (drop (at - from) text)
+unfolding point_of PlaceTells
+point-moved formals from at text s e p =
     let ts = tokens_from Plain 0 text in
     let n = run_len formals ts text in
     let tells : (at ≡ from + n) × (n < length text) =
-    subst (λ (o : Option ℕ). PlaceTells from n (length text) o) (ap (λ (o : Stop). stop_place o) (sym e) ∙ p)
-    (stops-at formals from ts Plain text refl) in
+    subst (λ (o : Option ℕ). PlaceTells from n (length text) o) (ap (λ (o : ExpansionPoint). point_place o) (sym e) ∙ p)
+    (points-at formals from ts Plain text refl) in
     let here : at ≡ from + n = tells.0 in
     let less : n ≡ at - from = omega (arith, here) in
     e
-    ∙ sym (stop-behind formals from ts Plain text refl (place-some (stop_of formals from text) at (ap (λ (o : Stop). stop_place o) (sym e) ∙ p)))
-    ∙ ap (λ (k : ℕ). first_stop formals k (tokens_from Plain 0 (drop n text)) (drop n text)) (sym here)
-    ∙ ap (λ (k : ℕ). first_stop formals at (tokens_from Plain 0 (drop k text)) (drop k text)) less
+    ∙ sym (point-behind formals from ts Plain text refl (place-some (point_of formals from text) at (ap (λ (o : ExpansionPoint). point_place o) (sym e) ∙ p)))
+    ∙ ap (λ (k : ℕ). next_expansion_point formals k (tokens_from Plain 0 (drop n text)) (drop n text)) (sym here)
+    ∙ ap (λ (k : ℕ). next_expansion_point formals at (tokens_from Plain 0 (drop k text)) (drop k text)) less
 
 -- no run stands in a text without bytes
 run-empty : (formals : List Formal) (bytes : List ℕ) → length bytes ≡ 0 → run_len formals (tokens_from Plain 0 bytes) bytes ≡ 0
@@ -239,89 +239,89 @@ run-empty formals (b ∷ bs) h = absurd (omega (arith, h))
 -- no run stands behind a run
 pub run-behind : (formals : List Formal) (text : List ℕ) (n : ℕ) → n ≡ run_len formals (tokens_from Plain 0 text) text
     → run_len formals (tokens_from Plain 0 (drop n text)) (drop n text) ≡ 0
-unfolding stop_of PlaceTells
+unfolding point_of PlaceTells
 run-behind formals text n e =
-    by (stop_place (stop_of formals 0 text)) refl (subst (λ (k : ℕ). PlaceTells 0 k (length text) (stop_place (stop_of formals 0 text))) (sym e) (stops-at formals 0 (tokens_from Plain 0 text) Plain text refl))
+    by (point_place (point_of formals 0 text)) refl (subst (λ (k : ℕ). PlaceTells 0 k (length text) (point_place (point_of formals 0 text))) (sym e) (points-at formals 0 (tokens_from Plain 0 text) Plain text refl))
   where
-    by : (place : Option ℕ) → stop_place (stop_of formals 0 text) ≡ place → PlaceTells 0 n (length text) place
+    by : (place : Option ℕ) → point_place (point_of formals 0 text) ≡ place → PlaceTells 0 n (length text) place
         → run_len formals (tokens_from Plain 0 (drop n text)) (drop n text) ≡ 0
     by None p h = run-empty formals (drop n text) (let l = length-drop n text in omega (arith, l, h))
     by (Some at) p h =
         let here : at ≡ 0 + n = h.0 in
         let rest : at - 0 ≡ n = omega (arith, here) in
-        let moved : stop_of formals 0 text ≡ stop_of formals at (drop n text) =
-        stop-moved formals 0 at text (stop_of formals 0 text) refl p ∙ ap (λ (k : ℕ). stop_of formals at (drop k text)) rest in
+        let moved : point_of formals 0 text ≡ point_of formals at (drop n text) =
+        point-moved formals 0 at text (point_of formals 0 text) refl p ∙ ap (λ (k : ℕ). point_of formals at (drop k text)) rest in
         let tells : (at ≡ at + run_len formals (tokens_from Plain 0 (drop n text)) (drop n text)) × (run_len formals (tokens_from Plain 0 (drop n text)) (drop n text) < length (drop n text)) =
         subst (λ (o : Option ℕ). PlaceTells at (run_len formals (tokens_from Plain 0 (drop n text)) (drop n text)) (length (drop n text)) o)
-        (ap (λ (o : Stop). stop_place o) (sym moved) ∙ p) (stops-at formals at (tokens_from Plain 0 (drop n text)) Plain (drop n text) refl) in
+        (ap (λ (o : ExpansionPoint). point_place o) (sym moved) ∙ p) (points-at formals at (tokens_from Plain 0 (drop n text)) Plain (drop n text) refl) in
         let own = tells.0 in
         omega (arith, own)
 
--- a stop at the front: its token
-pub stop-front : (formals : List Formal) (from at : ℕ) (text : List ℕ) (s : Stop) → s ≡ stop_of formals from text → stop_place s ≡ Some at → at ≤ from
-    → (0 < length text) × (stop_at formals from (token_of Plain text) (take (token_of Plain text).len text) ≡ s)
-unfolding stop_of PlaceTells
-stop-front formals from at text s e p h =
+-- an expansion point at the front: its token
+pub point-front : (formals : List Formal) (from at : ℕ) (text : List ℕ) (s : ExpansionPoint) → s ≡ point_of formals from text → point_place s ≡ Some at → at ≤ from
+    → (0 < length text) × (point_at formals from (token_of Plain text) (take (token_of Plain text).len text) ≡ s)
+unfolding point_of PlaceTells
+point-front formals from at text s e p h =
     let n = run_len formals (tokens_from Plain 0 text) text in
     let tells : (at ≡ from + n) × (n < length text) =
-    subst (λ (o : Option ℕ). PlaceTells from n (length text) o) (ap (λ (o : Stop). stop_place o) (sym e) ∙ p)
-    (stops-at formals from (tokens_from Plain 0 text) Plain text refl) in
+    subst (λ (o : Option ℕ). PlaceTells from n (length text) o) (ap (λ (o : ExpansionPoint). point_place o) (sym e) ∙ p)
+    (points-at formals from (tokens_from Plain 0 text) Plain text refl) in
     let a = tells.0 in
     let b = tells.1 in
     let some : 0 < length text = omega (arith, b) in
-    (some, stop-token formals from Plain text some (omega (arith, a, h)) ∙ sym e)
+    (some, point-token formals from Plain text some (omega (arith, a, h)) ∙ sym e)
 
 -- a formal at the front
-pub front-formal : (formals : List Formal) (from at len place : ℕ) (text : List ℕ) → stop.Formal at len place ≡ stop_of formals from text → at ≤ from
+pub front-formal : (formals : List Formal) (from at len place : ℕ) (text : List ℕ) → point.Formal at len place ≡ point_of formals from text → at ≤ from
     → IsTextItem formals text (front.Formal len place)
 unfolding IsTextItem
 front-formal formals from at len place text e h =
-    let s = stop-front formals from at text (stop.Formal at len place) e refl h in
+    let s = point-front formals from at text (point.Formal at len place) e refl h in
     let t = token_of Plain text in
     let f = formal-by formals from t.len t.next_mode t.kind (take t.len text) at len place s.1 in
     (s.0, f.0, f.1, ap (λ (n : ℕ). formal_named formals (take n text)) (sym f.1) ∙ f.2)
 
 -- a usage at the front
-pub front-usage : (formals : List Formal) (from at len : ℕ) (text : List ℕ) → stop.Usage at len ≡ stop_of formals from text → at ≤ from
+pub front-usage : (formals : List Formal) (from at len : ℕ) (text : List ℕ) → point.Usage at len ≡ point_of formals from text → at ≤ from
     → IsTextItem formals text (front.Usage len)
 unfolding IsTextItem
 front-usage formals from at len text e h =
-    let s = stop-front formals from at text (stop.Usage at len) e refl h in
+    let s = point-front formals from at text (point.Usage at len) e refl h in
     let t = token_of Plain text in
     let f = usage-by formals from t.len t.next_mode t.kind (take t.len text) at len s.1 in
     (s.0, f.0, f.1)
 
 -- a lone backquote at the front
-pub front-bare : (formals : List Formal) (from at : ℕ) (text : List ℕ) → stop.Bare at ≡ stop_of formals from text → at ≤ from
+pub front-bare : (formals : List Formal) (from at : ℕ) (text : List ℕ) → point.Bare at ≡ point_of formals from text → at ≤ from
     → IsTextItem formals text front.Bare
 unfolding IsTextItem
 front-bare formals from at text e h =
-    let s = stop-front formals from at text (stop.Bare at) e refl h in
+    let s = point-front formals from at text (point.Bare at) e refl h in
     let t = token_of Plain text in
     (s.0, bare-by formals from t.len t.next_mode t.kind (take t.len text) at s.1)
 
--- what stands before a stop is copied
-pub ahead-stop : (formals : List Formal) (from at : ℕ) (text : List ℕ) (s : Stop) (own : TextItem) → s ≡ stop_of formals from text → stop_place s ≡ Some at
-    → ((from : ℕ) (text : List ℕ) → s ≡ stop_of formals from text → at ≤ from → IsTextItem formals text own)
+-- what stands before an expansion point is copied
+pub ahead-point : (formals : List Formal) (from at : ℕ) (text : List ℕ) (s : ExpansionPoint) (own : TextItem) → s ≡ point_of formals from text → point_place s ≡ Some at
+    → ((from : ℕ) (text : List ℕ) → s ≡ point_of formals from text → at ≤ from → IsTextItem formals text own)
     → IsNextItem formals text from (record { at = at; front = own })
-unfolding stop_of AreCopied IsNextItem PlaceTells
-ahead-stop formals from at text s own e p h =
+unfolding point_of AreCopied IsNextItem PlaceTells
+ahead-point formals from at text s own e p h =
     let n = run_len formals (tokens_from Plain 0 text) text in
     let tells : (at ≡ from + n) × (n < length text) =
-    subst (λ (o : Option ℕ). PlaceTells from n (length text) o) (ap (λ (o : Stop). stop_place o) (sym e) ∙ p)
-    (stops-at formals from (tokens_from Plain 0 text) Plain text refl) in
+    subst (λ (o : Option ℕ). PlaceTells from n (length text) o) (ap (λ (o : ExpansionPoint). point_place o) (sym e) ∙ p)
+    (points-at formals from (tokens_from Plain 0 text) Plain text refl) in
     let a = tells.0 in
     let b = tells.1 in
-    (omega (arith, a), (omega (arith, a, b), omega (arith, a)), h at (drop (at - from) text) (stop-moved formals from at text s e p) (omega arith))
+    (omega (arith, a), (omega (arith, a, b), omega (arith, a)), h at (drop (at - from) text) (point-moved formals from at text s e p) (omega arith))
 
--- no stop: all of the text is copied
-pub ahead-whole : (formals : List Formal) (from end : ℕ) (text : List ℕ) → from + length text ≡ end → stop.None ≡ stop_of formals from text
+-- no expansion point: all of the text is copied
+pub ahead-whole : (formals : List Formal) (from end : ℕ) (text : List ℕ) → from + length text ≡ end → point.None ≡ point_of formals from text
     → IsNextItem formals text from (record { at = end; front = front.Ended })
-unfolding stop_of AreCopied IsNextItem IsTextItem PlaceTells
+unfolding point_of AreCopied IsNextItem IsTextItem PlaceTells
 ahead-whole formals from end text e s =
     let tells : run_len formals (tokens_from Plain 0 text) text ≡ length text =
-    subst (λ (o : Stop). PlaceTells from (run_len formals (tokens_from Plain 0 text) text) (length text) (stop_place o)) (sym s)
-    (stops-at formals from (tokens_from Plain 0 text) Plain text refl) in
+    subst (λ (o : ExpansionPoint). PlaceTells from (run_len formals (tokens_from Plain 0 text) text) (length text) (point_place o)) (sym s)
+    (points-at formals from (tokens_from Plain 0 text) Plain text refl) in
     (omega (arith, e), (omega (arith, e), omega (arith, tells, e)), drop_all (end - from) text (omega (arith, e)))
 
 -- the run of a text without formals, and what stands behind it
@@ -343,7 +343,7 @@ running-start text = record { inside = omega arith; same = omega arith }
 
 -- a run by its first token
 run-step : (formals : List Formal) (mode : Mode) (text : List ℕ) (none : Bool) → 0 < length text
-    → is_none (stop_at formals 0 (token_of mode text) (take (token_of mode text).len text)) ≡ none
+    → is_none (point_at formals 0 (token_of mode text) (take (token_of mode text).len text)) ≡ none
     → run_len formals (tokens_from mode 0 text) text
     ≡ (if none then (token_of mode text).len + run_len formals (tokens_from (token_of mode text).next_mode 0 (drop (token_of mode text).len text)) (drop (token_of mode text).len text) else 0)
 unfolding run_len
@@ -353,10 +353,10 @@ run-step formals mode text none some e =
     ap (λ (us : List Token). run_len formals us text) (tokens_from-step mode text some (token_of-part mode text some).not_empty)
     ∙ ap (λ (b : Bool). if b then t.len + run_len formals ts (drop t.len text) else 0) e
 
--- without formals those are the stops
+-- without formals those are the expansion points
 pub back-none : (len : ℕ) (next : Mode) (kind : Kind) (bytes : List ℕ)
-    → is_none (stop_at [] 0 (record { kind = kind; len = len; next_mode = next }) bytes) ≡ not (is_back kind)
-unfolding is_none stop_at stop_name is_back
+    → is_none (point_at [] 0 (record { kind = kind; len = len; next_mode = next }) bytes) ≡ not (is_back kind)
+unfolding is_none point_at point_name is_back
 back-none len next Name bytes = refl
 back-none len next Back bytes = refl
 back-none len next BareBackquote bytes = refl
@@ -371,7 +371,7 @@ running-more text mode at t r more e back =
     let some : 0 < length rest = omega (arith, more, size) in
     let part = token_of-part mode rest some in
     let T = token_of mode rest in
-    let n : is_none (stop_at [] 0 T (take T.len rest)) ≡ true =
+    let n : is_none (point_at [] 0 T (take T.len rest)) ≡ true =
     back-none T.len T.next_mode T.kind (take T.len rest) ∙ ap (λ (u : Token). not (is_back u.kind)) (sym e) ∙ ap (λ (b : Bool). not b) back in
     let step = run-step [] mode rest true some n in
     let behind : drop T.len rest ≡ drop (at + T.len) text = drop-drop T.len at text in
@@ -384,15 +384,15 @@ running-more text mode at t r more e back =
     sum : (a b c d n : ℕ) → d ≡ b + c → a + d ≡ n → a + b + c ≡ n
     sum a b c d n e f = omega (arith, e, f)
 
--- at a stop the run ends
-pub running-stop : (text : List ℕ) (mode : Mode) (at : ℕ) (t : Token) → IsRunning text mode at → at < length text → t ≡ token_of mode (drop at text)
+-- at an expansion point the run ends
+pub running-point : (text : List ℕ) (mode : Mode) (at : ℕ) (t : Token) → IsRunning text mode at → at < length text → t ≡ token_of mode (drop at text)
     → is_back t.kind ≡ true → at ≡ run_len [] (tokens_from Plain 0 text) text
-running-stop text mode at t r more e back =
+running-point text mode at t r more e back =
     let rest = drop at text in
     let size = length-drop at text in
     let some : 0 < length rest = omega (arith, more, size) in
     let T = token_of mode rest in
-    let n : is_none (stop_at [] 0 T (take T.len rest)) ≡ false =
+    let n : is_none (point_at [] 0 T (take T.len rest)) ≡ false =
     back-none T.len T.next_mode T.kind (take T.len rest) ∙ ap (λ (u : Token). not (is_back u.kind)) (sym e) ∙ ap (λ (b : Bool). not b) back in
     let step = run-step [] mode rest false some n in
     let same = r.same in
@@ -418,7 +418,7 @@ front-plain text t some e is =
     let T = token_of Plain text in
     let kind : T.kind ≡ t.kind = ap (λ (u : Token). u.kind) (sym is) in (
       λ back. (some, kind ∙ back, ap (λ (u : Token). u.len) (sym is)),
-      λ other. (some, kind ∙ bare t.kind (ap (λ (k : Kind). is_back k) (sym kind) ∙ stops (is_back T.kind) refl) other),
+      λ other. (some, kind ∙ bare t.kind (ap (λ (k : Kind). is_back k) (sym kind) ∙ points (is_back T.kind) refl) other),
     )
   where
     bare : (kind : Kind) → is_back kind ≡ true → (kind ≡ Back → ⊥) → kind ≡ BareBackquote
@@ -426,11 +426,11 @@ front-plain text t some e is =
     bare BareBackquote h other = refl
     bare kind h other = absurd (true≢false (sym h))
 
-    stops : (b : Bool) → is_back (token_of Plain text).kind ≡ b → b ≡ true
-    stops true h = refl
-    stops false h =
+    points : (b : Bool) → is_back (token_of Plain text).kind ≡ b → b ≡ true
+    points true h = refl
+    points false h =
         let T = token_of Plain text in
-        let n : is_none (stop_at [] 0 T (take T.len text)) ≡ true =
+        let n : is_none (point_at [] 0 T (take T.len text)) ≡ true =
         back-none T.len T.next_mode T.kind (take T.len text) ∙ ap (λ (b : Bool). not b) h in
         let step = run-step [] Plain text true some n in
         let positive = (token_of-part Plain text some).not_empty in
@@ -456,12 +456,12 @@ ahead-ended formals text from end h =
     ended formals from n zero same =
         (omega arith, (omega (arith, zero, same), run-empty formals [] refl ∙ sym (same ∙ zero)), drop_all (from - from) [] (omega arith))
 
--- what stands ahead in a range of a body, by its first stop
-pub ahead-body : (texts : Texts) (source : TextSource) (id from end : ℕ) (s : Stop) (f : NextItem) → source ≡ place_of.Body id → from < end
-    → end ≤ length (source_text texts source) → s ≡ stop_in (macro_at texts.macros id) from end
-    → ((formals : List Formal) (from : ℕ) (text : List ℕ) → from + length text ≡ end → s ≡ stop_of formals from text → IsNextItem formals text from f)
+-- what stands ahead in a range of a body, by its first expansion point
+pub ahead-body : (texts : Texts) (source : TextSource) (id from end : ℕ) (s : ExpansionPoint) (f : NextItem) → source ≡ place_of.Body id → from < end
+    → end ≤ length (source_text texts source) → s ≡ point_in (macro_at texts.macros id) from end
+    → ((formals : List Formal) (from : ℕ) (text : List ℕ) → from + length text ≡ end → s ≡ point_of formals from text → IsNextItem formals text from f)
     → IsNextItem (source_formals texts source) (slice_range (source_text texts source) from end) from f
-unfolding source_formals source_text stop_in
+unfolding source_formals source_text point_in
 ahead-body texts source id from end s f e h inside is each =
     let body = (macro_at texts.macros id).body in
     let within : end ≤ length body = subst (λ (x : TextSource). end ≤ length (source_text texts x)) e inside in
@@ -476,60 +476,60 @@ pub body-inside : (texts : Texts) (source : TextSource) (id end : ℕ) → sourc
 unfolding source_text
 body-inside texts source id end e inside = subst (λ (x : TextSource). end ≤ length (source_text texts x)) e inside
 
--- The first stop of a text without formals, by its run and what stands behind that.
+-- The first expansion point of a text without formals, by its run and what stands behind that.
 
-place-none : (s : Stop) → stop_place s ≡ None → stop.None ≡ s
-place-none stop.None e = refl
-place-none (stop.Formal at len place) e = absurd (cc)
-place-none (stop.Usage at len) e = absurd (cc)
-place-none (stop.Bare at) e = absurd (cc)
+place-none : (s : ExpansionPoint) → point_place s ≡ None → point.None ≡ s
+place-none point.None e = refl
+place-none (point.Formal at len place) e = absurd (cc)
+place-none (point.Usage at len) e = absurd (cc)
+place-none (point.Bare at) e = absurd (cc)
 
 -- there is none, where nothing stands behind the run
-pub unlisted-none : (text : List ℕ) (from n : ℕ) → n ≡ run_len [] (tokens_from Plain 0 text) text → drop n text ≡ [] → stop.None ≡ stop_of [] from text
-unfolding stop_of PlaceTells
+pub unlisted-none : (text : List ℕ) (from n : ℕ) → n ≡ run_len [] (tokens_from Plain 0 text) text → drop n text ≡ [] → point.None ≡ point_of [] from text
+unfolding point_of PlaceTells
 unlisted-none text from n e none =
-    by (stop_place (stop_of [] from text)) refl (subst (λ (k : ℕ). PlaceTells from k (length text) (stop_place (stop_of [] from text))) (sym e) (stops-at [] from (tokens_from Plain 0 text) Plain text refl))
+    by (point_place (point_of [] from text)) refl (subst (λ (k : ℕ). PlaceTells from k (length text) (point_place (point_of [] from text))) (sym e) (points-at [] from (tokens_from Plain 0 text) Plain text refl))
   where
-    by : (place : Option ℕ) → stop_place (stop_of [] from text) ≡ place → PlaceTells from n (length text) place → stop.None ≡ stop_of [] from text
-    by None p h = place-none (stop_of [] from text) p
+    by : (place : Option ℕ) → point_place (point_of [] from text) ≡ place → PlaceTells from n (length text) place → point.None ≡ point_of [] from text
+    by None p h = place-none (point_of [] from text) p
     by (Some at) p h =
         let less : n < length text = h.1 in
         absurd (omega (arith, ap (length {A = ℕ}) none, length-drop n text, less))
 
 -- else it is the token behind the run
 unlisted-token : (text : List ℕ) (from n : ℕ) → n ≡ run_len [] (tokens_from Plain 0 text) text → 0 < length (drop n text)
-    → stop_at [] (from + n) (token_of Plain (drop n text)) (take (token_of Plain (drop n text)).len (drop n text)) ≡ stop_of [] from text
-unfolding stop_of PlaceTells
+    → point_at [] (from + n) (token_of Plain (drop n text)) (take (token_of Plain (drop n text)).len (drop n text)) ≡ point_of [] from text
+unfolding point_of PlaceTells
 unlisted-token text from n e some =
-    by (stop_place (stop_of [] from text)) refl (subst (λ (k : ℕ). PlaceTells from k (length text) (stop_place (stop_of [] from text))) (sym e) (stops-at [] from (tokens_from Plain 0 text) Plain text refl))
+    by (point_place (point_of [] from text)) refl (subst (λ (k : ℕ). PlaceTells from k (length text) (point_place (point_of [] from text))) (sym e) (points-at [] from (tokens_from Plain 0 text) Plain text refl))
   where
-    by : (place : Option ℕ) → stop_place (stop_of [] from text) ≡ place → PlaceTells from n (length text) place
-        → stop_at [] (from + n) (token_of Plain (drop n text)) (take (token_of Plain (drop n text)).len (drop n text)) ≡ stop_of [] from text
+    by : (place : Option ℕ) → point_place (point_of [] from text) ≡ place → PlaceTells from n (length text) place
+        → point_at [] (from + n) (token_of Plain (drop n text)) (take (token_of Plain (drop n text)).len (drop n text)) ≡ point_of [] from text
     by None p h =
         let all : n ≡ length text = h in
         absurd (omega (arith, length-drop n text, some, all))
     by (Some at) p h =
-        stop-token [] (from + n) Plain (drop n text) some (run-behind [] text n e)
-        ∙ (ap (λ (k : ℕ). first_stop [] (from + k) (tokens_from Plain 0 (drop k text)) (drop k text)) e
-        ∙ stop-behind [] from (tokens_from Plain 0 text) Plain text refl (place-some (stop_of [] from text) at p))
+        point-token [] (from + n) Plain (drop n text) some (run-behind [] text n e)
+        ∙ (ap (λ (k : ℕ). next_expansion_point [] (from + k) (tokens_from Plain 0 (drop k text)) (drop k text)) e
+        ∙ point-behind [] from (tokens_from Plain 0 text) Plain text refl (place-some (point_of [] from text) at p))
 
-usage-at : (at : ℕ) (t : Token) (bytes : List ℕ) → t.kind ≡ Back → stop.Usage at t.len ≡ stop_at [] at t bytes
-unfolding stop_at
-usage-at at t bytes e = sym (ap (λ (k : Kind). let u : Token = record { kind = k; len = t.len; next_mode = t.next_mode } in stop_at [] at u bytes) e)
+usage-at : (at : ℕ) (t : Token) (bytes : List ℕ) → t.kind ≡ Back → point.Usage at t.len ≡ point_at [] at t bytes
+unfolding point_at
+usage-at at t bytes e = sym (ap (λ (k : Kind). let u : Token = record { kind = k; len = t.len; next_mode = t.next_mode } in point_at [] at u bytes) e)
 
-bare-at : (at : ℕ) (t : Token) (bytes : List ℕ) → t.kind ≡ BareBackquote → stop.Bare at ≡ stop_at [] at t bytes
-unfolding stop_at
-bare-at at t bytes e = sym (ap (λ (k : Kind). let u : Token = record { kind = k; len = t.len; next_mode = t.next_mode } in stop_at [] at u bytes) e)
+bare-at : (at : ℕ) (t : Token) (bytes : List ℕ) → t.kind ≡ BareBackquote → point.Bare at ≡ point_at [] at t bytes
+unfolding point_at
+bare-at at t bytes e = sym (ap (λ (k : Kind). let u : Token = record { kind = k; len = t.len; next_mode = t.next_mode } in point_at [] at u bytes) e)
 
 -- a usage, where one stands behind the run
-pub unlisted-usage : (text : List ℕ) (from n len : ℕ) → n ≡ run_len [] (tokens_from Plain 0 text) text → IsTextItem [] (drop n text) (front.Usage len) → stop.Usage (from + n) len ≡ stop_of [] from text
+pub unlisted-usage : (text : List ℕ) (from n len : ℕ) → n ≡ run_len [] (tokens_from Plain 0 text) text → IsTextItem [] (drop n text) (front.Usage len) → point.Usage (from + n) len ≡ point_of [] from text
 unfolding IsTextItem
 unlisted-usage text from n len e f =
     let t = token_of Plain (drop n text) in
-    ap (λ (k : ℕ). stop.Usage (from + n) k) (sym f.2) ∙ (usage-at (from + n) t (take t.len (drop n text)) f.1 ∙ unlisted-token text from n e f.0)
+    ap (λ (k : ℕ). point.Usage (from + n) k) (sym f.2) ∙ (usage-at (from + n) t (take t.len (drop n text)) f.1 ∙ unlisted-token text from n e f.0)
 
 -- or a lone backquote
-pub unlisted-bare : (text : List ℕ) (from n : ℕ) → n ≡ run_len [] (tokens_from Plain 0 text) text → IsTextItem [] (drop n text) front.Bare → stop.Bare (from + n) ≡ stop_of [] from text
+pub unlisted-bare : (text : List ℕ) (from n : ℕ) → n ≡ run_len [] (tokens_from Plain 0 text) text → IsTextItem [] (drop n text) front.Bare → point.Bare (from + n) ≡ point_of [] from text
 unfolding IsTextItem
 unlisted-bare text from n e f =
     let t = token_of Plain (drop n text) in
@@ -547,24 +547,24 @@ no_formals None n e z = refl
 no_formals (Some fs) n e z = sym (nil_from_length fs (sym (ap (λ (x : Option ℕ). unwrap_or x 0) e) ∙ z))
 
 -- a body without formals is such a text
-pub unlisted-body : (m : Macro) (from end : ℕ) (n : Option ℕ) (body : List ℕ) (s : Stop) → n ≡ option_map (length {A = Formal}) m.formals → unwrap_or n 0 ≡ 0 → body ≡ m.body
-    → s ≡ stop_of [] from (slice_range body from end) → s ≡ stop_in m from end
-unfolding stop_in
+pub unlisted-body : (m : Macro) (from end : ℕ) (n : Option ℕ) (body : List ℕ) (s : ExpansionPoint) → n ≡ option_map (length {A = Formal}) m.formals → unwrap_or n 0 ≡ 0 → body ≡ m.body
+    → s ≡ point_of [] from (slice_range body from end) → s ≡ point_in m from end
+unfolding point_in
 unlisted-body m from end n body s e z b h =
     h
-    ∙ (ap (λ (l : List ℕ). stop_of [] from (slice_range l from end)) b
-    ∙ ap (λ (fs : List Formal). stop_of fs from (slice_range m.body from end)) (no_formals m.formals n e z))
+    ∙ (ap (λ (l : List ℕ). point_of [] from (slice_range l from end)) b
+    ∙ ap (λ (fs : List Formal). point_of fs from (slice_range m.body from end)) (no_formals m.formals n e z))
 
--- A text without a backquote has no stop but the names of formals.
+-- A text without a backquote has no expansion point but the names of formals.
 
--- a token of a kind that ordinary text has is no stop
+-- a token of a kind that ordinary text has is no expansion point
 plain-back : (kind : Kind) → is_plain_kind kind ≡ true → is_back kind ≡ false
 unfolding is_plain_kind is_back
 plain-back Back h = absurd (cc)
 plain-back BareBackquote h = absurd (cc)
 plain-back kind h = refl
 
--- a token that stops a run begins with a backquote, by its row of the token table
+-- a token that expansion points a run begins with a backquote, by its row of the token table
 row-back : (bs : List ℕ) (t : Token) → Row bs t → (get_or bs 0 0 ≡ 96 → ⊥) → is_back t.kind ≡ false
 unfolding is_back whole
 row-back bs t (AtPerl h e) none = ap (λ (u : Token). is_back u.kind) e
@@ -583,7 +583,7 @@ token-back InStr bs none =
     cond_both (begins_perl bs) (whole Perl 2) (string_token 0 bs) (λ (t : Token). is_back t.kind ≡ false) (λ _. refl) (λ _. ap is_back (string_token-kind 0 bs))
 token-back InBlock bs none = ap is_back (block_token-kind 0 bs)
 
--- a token that is no stop is passed
+-- a token that is no expansion point is passed
 pub passed : (t : Token) (ts : List Token) (text : List ℕ) → is_back t.kind ≡ false → run_len [] (t ∷ ts) text ≡ t.len + run_len [] ts (drop t.len text)
 unfolding run_len
 passed t ts text h =

@@ -8,7 +8,7 @@ use Rattle.rdlpp_scan.specs.declared.token.Token.{Token}
 use Rattle.rdlpp_scan.specs.Tokens.{token_of, tokens_from}
 use Rattle.rdlpp_table.specs.Table.{Formal}
 use Rattle.rdlpp_table.specs.View.{formal_named}
-use Rattle.rdlpp_table.specs.Stops.{is_none, stop_at}
+use Rattle.rdlpp_table.specs.ExpansionPoints.{is_none, point_at}
 use Rattle.rdlpp_meaning.specs.Opens.{Open, Texts, open_bytes}
 use Rattle.rdlpp_texts.specs.Places.{source_formals}
 use Rattle.rdlpp_texts.specs.Scopes.{front_source}
@@ -27,13 +27,13 @@ is_back Back = true
 is_back BareBackquote = true
 is_back kind = false
 
--- how many bytes the tokens have that come before the first stop
+-- how many bytes the tokens have that come before the first expansion point
 unfoldable pub run_len : List Formal → List Token → List ℕ → ℕ
 run_len formals [] text = 0
 run_len formals (t ∷ ts) text =
-    if is_none (stop_at formals 0 t (take t.len text)) then t.len + run_len formals ts (drop t.len text) else 0
+    if is_none (point_at formals 0 t (take t.len text)) then t.len + run_len formals ts (drop t.len text) else 0
 
--- so many bytes at the front of a text with these formals are copied, up to its first stop or its end
+-- so many bytes at the front of a text with these formals are copied, up to its first expansion point or its end
 unfoldable pub AreCopied : List Formal → List ℕ → ℕ → Type 0
 AreCopied formals text n = (n ≤ length text) × (run_len formals (tokens_from Plain 0 text) text ≡ n)
 

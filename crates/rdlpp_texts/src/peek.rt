@@ -1,7 +1,7 @@
 // What stands at the front of an open text.
 ghost use Rattle.std.specs.Prelude.{[], length, slice_range, List, ℕ, ◌+◌, ◌<◌, ◌≡◌, ◌≤◌, ◌^◌};
 ghost use Rattle.rdlpp_scan.specs.Tokens.{tokens_from};
-ghost use Rattle.rdlpp_table.specs.Stops.{stop_in, stop_of};
+ghost use Rattle.rdlpp_table.specs.ExpansionPoints.{point_in, point_of};
 ghost use Rattle.rdlpp_table.specs.Table.{Formal};
 ghost use Rattle.rdlpp_table.specs.View.{macro_at};
 ghost use Rattle.rdlpp_texts.specs.TextItems.{is_back, run_len, IsNextItem, IsTextItem, IsPeekAhead};
@@ -15,7 +15,7 @@ use crate::scopes::{front_source, text_of};
 use crate::slot::Slot;
 use memchr::{memchr, memchr2};
 use rdlpp_scan::{Kind, Mode, first_token};
-use rdlpp_table::{MacroId, Stop, Table};
+use rdlpp_table::{MacroId, ExpansionPoint, Table};
 
 // What stands at the front of an open text.
 #[derive(Clone, Copy)]
@@ -107,79 +107,79 @@ pub(crate) fn peek_in(
         };
     }
     if let TextSource::Body(id) = *source {
-        return stop_front(body_stop(table, id, from, end), end);
+        return point_front(body_point(table, id, from, end), end);
     }
     let text = &text[from..end];
     let len = run_len(text);
     NextItem {
         at: from + len,
-        front: plain_stop(&text[len..]),
+        front: plain_point(&text[len..]),
     }
 }
 
-// The first stop of a range of the body of a macro.
+// The first expansion point of a range of the body of a macro.
 #[inline(always)]
-fn body_stop(table: &Table, id: MacroId, from: usize, end: usize) -> Stop
+fn body_point(table: &Table, id: MacroId, from: usize, end: usize) -> ExpansionPoint
     requires id { id < length table.now.macros }
     requires order { from ≤ end }
     requires inside { end ≤ length (macro_at table.now.macros id).body }
-    ensures { result ≡ stop_in (macro_at table.now.macros id) from end }
+    ensures { result ≡ point_in (macro_at table.now.macros id) from end }
 {
-    match table.kept_stop(id, from, end) {
-        Some(stop) => stop,
-        None => sought_stop(table, id, from, end),
+    match table.kept_point(id, from, end) {
+        Some(point) => point,
+        None => sought_point(table, id, from, end),
     }
 }
 
-// The same, where the range has to be read. In a body without formals only a backquote is a stop.
+// The same, where the range has to be read. In a body without formals only a backquote is an expansion point.
 #[cold]
 #[inline(never)]
-fn sought_stop(table: &Table, id: MacroId, from: usize, end: usize) -> Stop
+fn sought_point(table: &Table, id: MacroId, from: usize, end: usize) -> ExpansionPoint
     requires id { id < length table.now.macros }
     requires order { from ≤ end }
     requires inside { end ≤ length (macro_at table.now.macros id).body }
-    ensures { result ≡ stop_in (macro_at table.now.macros id) from end }
+    ensures { result ≡ point_in (macro_at table.now.macros id) from end }
 {
     if table.arity(id).unwrap_or(0) == 0 {
-        return unlisted_stop(&table.body(id)[from..end], from);
+        return unlisted_point(&table.body(id)[from..end], from);
     }
-    table.seek_stop(id, from, end)
+    table.seek_point(id, from, end)
 }
 
-// The first stop of a text without formals that begins at a place.
-fn unlisted_stop(text: &[u8], from: usize) -> Stop
+// The first expansion point of a text without formals that begins at a place.
+fn unlisted_point(text: &[u8], from: usize) -> ExpansionPoint
     requires { from + length text.now < 2 ^ 64 }
-    ensures { result ≡ stop_of [] from text.now }
+    ensures { result ≡ point_of [] from text.now }
 {
     let len = run_len(text);
     let at = from + len;
-    match plain_stop(&text[len..]) {
-        TextItem::Ended => Stop::None,
-        TextItem::Usage(len) => Stop::Usage { at, len },
-        TextItem::Bare => Stop::Bare { at },
+    match plain_point(&text[len..]) {
+        TextItem::Ended => ExpansionPoint::None,
+        TextItem::Usage(len) => ExpansionPoint::Usage { at, len },
+        TextItem::Bare => ExpansionPoint::Bare { at },
         // There is none.
-        TextItem::Formal { len, place } => Stop::Formal { at, len, place },
+        TextItem::Formal { len, place } => ExpansionPoint::Formal { at, len, place },
     }
 }
 
-// What stands ahead in a text that ends at a place, by its first stop.
-fn stop_front(stop: Stop, end: usize) -> NextItem
-    ensures { (formals : List Formal) (from : ℕ) (text : List ℕ) → from + length text ≡ end → stop ≡ stop_of formals from text → IsNextItem formals text from result }
+// What stands ahead in a text that ends at a place, by its first expansion point.
+fn point_front(point: ExpansionPoint, end: usize) -> NextItem
+    ensures { (formals : List Formal) (from : ℕ) (text : List ℕ) → from + length text ≡ end → point ≡ point_of formals from text → IsNextItem formals text from result }
 {
-    match stop {
-        Stop::None => NextItem {
+    match point {
+        ExpansionPoint::None => NextItem {
             at: end,
             front: TextItem::Ended,
         },
-        Stop::Formal { at, len, place } => NextItem {
+        ExpansionPoint::Formal { at, len, place } => NextItem {
             at,
             front: TextItem::Formal { len, place },
         },
-        Stop::Usage { at, len } => NextItem {
+        ExpansionPoint::Usage { at, len } => NextItem {
             at,
             front: TextItem::Usage(len),
         },
-        Stop::Bare { at } => NextItem {
+        ExpansionPoint::Bare { at } => NextItem {
             at,
             front: TextItem::Bare,
         },
@@ -187,7 +187,7 @@ fn stop_front(stop: Stop, end: usize) -> NextItem
 }
 
 // What stands at the front of a text without formals that begins with no run.
-fn plain_stop(text: &[u8]) -> TextItem
+fn plain_point(text: &[u8]) -> TextItem
     requires { run_len [] (tokens_from Mode.Plain 0 text.now) text.now ≡ 0 }
     ensures { IsTextItem [] text.now result }
 {

@@ -1,10 +1,10 @@
 use Rattle.std.proofs.Common.{◌∙◌, sym, arith}
-use Rattle.rdlpp_table.proofs.RoundTrip.{none_space, skip_space, stop_space}
+use Rattle.rdlpp_table.proofs.RoundTrip.{none_space, skip_space, point_space}
 use Rattle.rdlpp_table.proofs.header.after_space.Goals as goal
 
 pub returns-then-not-is_space-clause-value : goal.returns-then-not-is_space-clause-value
 returns-then-not-is_space-clause-value c =
-    sym (stop_space _ _ _ c.in-Some.ensures.0 (sym c.is_space.ensures ∙ c.if-not-is_space.true)) ∙ c.loop-b.invariant.same
+    sym (point_space _ _ _ c.in-Some.ensures.0 (sym c.is_space.ensures ∙ c.if-not-is_space.true)) ∙ c.loop-b.invariant.same
 
 pub loop-b-preserved : goal.loop-b-preserved
 loop-b-preserved c = record {

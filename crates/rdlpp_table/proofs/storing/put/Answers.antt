@@ -3,12 +3,12 @@ use Rattle.rdlpp_lines.specs.Texts.{start_level}
 use Rattle.rdlpp_table.specs.Table.{Formal, formal_bytes}
 use Rattle.rdlpp_table.proofs.Sizes.{count_items, few_marks, length_list_bytes, live_count}
 use Rattle.rdlpp_table.specs.declared.entry.Entry.{Entry}
-use Rattle.rdlpp_table.specs.NewMacro.{list_formals, new_macro, stops_told}
+use Rattle.rdlpp_table.specs.NewMacro.{list_formals, new_macro, points_told}
 use Rattle.std.proofs.lemmas.List.{drop-append-le, take-append-le}
 use Rattle.rdlpp_table.specs.Marks.{marks_of, table_marks}
 use Rattle.rdlpp_table.specs.Store.{macros_in}
 use Rattle.rdlpp_table.proofs.RoundTrip.{put_marks, put_stored, stored_length}
-use Rattle.rdlpp_table.proofs.News.{appended_between, appended_few, appended_last, appended_listed, appended_marks, body_is, new_bytes, new_stops, new_entry, new_plain}
+use Rattle.rdlpp_table.proofs.News.{appended_between, appended_few, appended_last, appended_listed, appended_marks, body_is, new_bytes, new_points, new_entry, new_plain}
 use Rattle.rdlpp_table.proofs.storing.put.Goals as goal
 
 pub append_trimmed-requires-clause-len : goal.append_trimmed-requires-clause-len
@@ -42,8 +42,8 @@ push_marks-requires-clause-room c =
     let a = appended_last c.append_part.new.to.items _ c.deref.result.now _ _ _ c.unwrap_or-count.result c.len-list.result c.requires.counted.listed c.append_formals.ensures.items (c.len-list.ensures ∙ count_items c.append_part.new.to) c.unwrap_or-count.ensures c.deref.ensures.value in
     omega (arith, appended_few _ _ _ c.unwrap_or-count.result _ c.requires.counted.listed a, c.requires.mark_room)
 
-pub stops_at-stops-requires-clause-listed : goal.stops_at-stops-requires-clause-listed
-stops_at-stops-requires-clause-listed c =
+pub points_at-points-requires-clause-listed : goal.points_at-points-requires-clause-listed
+points_at-points-requires-clause-listed c =
     let a = appended_last c.append_part.new.to.items _ c.deref.result.now _ _ _ c.unwrap_or-count.result c.len-list.result c.requires.counted.listed c.append_formals.ensures.items (c.len-list.ensures ∙ count_items c.append_part.new.to) c.unwrap_or-count.ensures c.deref.ensures.value in
     let b = appended_between c.append_part.new.to.items _ _ c.as_slice.result.now _ _ _ c.unwrap_or-count.result c.len-list.result c.len-body.result _ c.requires.counted.listed c.append_formals.ensures.items (c.append_trimmed.ensures.items ∙ ap (λ (l : List ℕ). c.append_formals.new.bytes.items ++ l) (body_is _ _)) (c.len-list.ensures ∙ count_items c.append_part.new.to) (c.len-body.ensures ∙ count_items c.append_formals.new.bytes) c.unwrap_or-count.ensures c.as_slice.ensures.value in
     appended_listed _ _ _ _ _ _ c.args.order.now.items c.deref-2.result.now c.len-first.result a b (c.deref-2.ensures.value ∙ c.push_marks.ensures.items) (c.len-first.ensures ∙ count_items c.args.order.now)
@@ -58,9 +58,9 @@ returns-clause-stored c =
     (new_bytes _ _ _ _ _ _ _ _ _ c.append_part.ensures.items c.append_formals.ensures.items (c.append_trimmed.ensures.items ∙ ap (λ (l : List ℕ). c.append_formals.new.bytes.items ++ l) (body_is _ _)))
     (ap (drop c.args.front.now.entries) c.push_reserved.ensures.items
     ∙ (drop-append-le c.args.front.now.entries c.args.entries.now.items _ (omega (arith, c.requires.given_up, count_items c.args.entries.now))
-    ∙ ap (λ (e : Entry). (drop c.args.front.now.entries c.args.entries.now.items) ++ e ∷ []) (ap (λ (a : Option ℕ). let e : Entry = record { start = c.len-start.result; name_len = length c.args.new.now.name.now; list_len = c.args.new.now.list_len; body_len = c.args.new.now.body_len; arity = a; marks = c.len-first.result - (c.len.result - c.args.front.now.entries + 1) + c.args.front.now.marks; stops = c.stops_at-stops.result } in e) c.small_arity.ensures ∙ new_entry c.len-start.result (c.len-first.result - (c.len.result - c.args.front.now.entries + 1) + c.args.front.now.marks) _ _ _ _ _ _ _ _ c.requires.counted
-    (new_stops c.args.new.now.name.now _ _ _ _ _ _ _ _ _ _ _ _ c.requires.counted.listed c.append_formals.ensures.items (c.append_trimmed.ensures.items ∙ ap (λ (l : List ℕ). c.append_formals.new.bytes.items ++ l) (body_is _ _))
-    (c.len-list.ensures ∙ count_items c.append_part.new.to) (c.len-body.ensures ∙ count_items c.append_formals.new.bytes) c.unwrap_or-count.ensures (c.stops_at-stops.ensures ∙ ap (λ (x : List ℕ). stops_told x c.len-list.result c.len-body.result c.unwrap_or-count.result) c.as_slice.ensures.value)))))
+    ∙ ap (λ (e : Entry). (drop c.args.front.now.entries c.args.entries.now.items) ++ e ∷ []) (ap (λ (a : Option ℕ). let e : Entry = record { start = c.len-start.result; name_len = length c.args.new.now.name.now; list_len = c.args.new.now.list_len; body_len = c.args.new.now.body_len; arity = a; marks = c.len-first.result - (c.len.result - c.args.front.now.entries + 1) + c.args.front.now.marks; points = c.points_at-points.result } in e) c.small_arity.ensures ∙ new_entry c.len-start.result (c.len-first.result - (c.len.result - c.args.front.now.entries + 1) + c.args.front.now.marks) _ _ _ _ _ _ _ _ c.requires.counted
+    (new_points c.args.new.now.name.now _ _ _ _ _ _ _ _ _ _ _ _ c.requires.counted.listed c.append_formals.ensures.items (c.append_trimmed.ensures.items ∙ ap (λ (l : List ℕ). c.append_formals.new.bytes.items ++ l) (body_is _ _))
+    (c.len-list.ensures ∙ count_items c.append_part.new.to) (c.len-body.ensures ∙ count_items c.append_formals.new.bytes) c.unwrap_or-count.ensures (c.points_at-points.ensures ∙ ap (λ (x : List ℕ). points_told x c.len-list.result c.len-body.result c.unwrap_or-count.result) c.as_slice.ensures.value)))))
 
 pub returns-clause-marked : goal.returns-clause-marked
 returns-clause-marked c =

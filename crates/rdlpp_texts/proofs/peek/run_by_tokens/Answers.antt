@@ -1,7 +1,7 @@
 use Rattle.std.proofs.Common.{List, ℕ, ap, sym, ◌∙◌}
 use Rattle.std.proofs.lemmas.List.{take_rest}
 use Rattle.rdlpp_scan.specs.Tokens.{token_of}
-use Rattle.rdlpp_texts.proofs.Stopping.{running-end, running-more, running-start, running-stop}
+use Rattle.rdlpp_texts.proofs.Stopping.{running-end, running-more, running-start, running-point}
 use Rattle.rdlpp_texts.proofs.peek.run_by_tokens.Goals as goal
 
 pub loop-at-init : goal.loop-at-init
@@ -9,7 +9,7 @@ loop-at-init c = running-start _
 
 pub returns-then-is_back-clause-value : goal.returns-then-is_back-clause-value
 returns-then-is_back-clause-value c =
-    running-stop _ c.loop-at.mode _ c.first_token-token.result c.loop-at.invariant c.loop-at-test.true
+    running-point _ c.loop-at.mode _ c.first_token-token.result c.loop-at.invariant c.loop-at-test.true
     (c.first_token-token.ensures.value ∙ ap (λ (b : List ℕ). token_of c.loop-at.mode b) (take_rest c.args.text.now c.loop-at.at))
     (sym c.is_back.ensures ∙ c.if-is_back.true)
 

@@ -5,7 +5,7 @@ use Rattle.rdlpp_table.specs.Store.{formals_read, macros_in, IsStored}
 use Rattle.rdlpp_table.proofs.Indexed.{index_front}
 use Rattle.rdlpp_table.proofs.Sizes.{entry_within, len_of_view, live_read, no_entry}
 use Rattle.rdlpp_table.proofs.RoundTrip.{entry_listed, listed_as, read_here}
-use Rattle.rdlpp_table.proofs.FirstStops.{formals_here}
+use Rattle.rdlpp_table.proofs.FirstPoints.{formals_here}
 use Rattle.rdlpp_table.proofs.table.Table.formals.Goals as goal
 
 pub split_at-requires : goal.split_at-requires

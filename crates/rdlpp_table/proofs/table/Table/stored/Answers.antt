@@ -1,6 +1,6 @@
 use Rattle.std.proofs.Common.{◌≡◌, ◌<◌, ◌∙◌, drop, get_or, length, sym, arith, get_or-drop}
-use Rattle.rdlpp_table.proofs.FirstStops.{macro_here}
-use Rattle.rdlpp_table.proofs.Sizes.{arity_at, entry_within, len_of_view, live_count, stops_at}
+use Rattle.rdlpp_table.proofs.FirstPoints.{macro_here}
+use Rattle.rdlpp_table.proofs.Sizes.{arity_at, entry_within, len_of_view, live_count, points_at}
 use Rattle.rdlpp_table.proofs.table.Table.stored.Goals as goal
 
 pub index-requires : goal.index-requires
@@ -27,9 +27,9 @@ returns-clause-arity c =
     let q : c.index.result.now ≡ get_or entries c.id.inside.index c.index.result.now = c.index.ensures ∙ sym (get_or-drop c.self.inside.front.entries c.self.inside.entries.items c.id.inside.index c.index.result.now) in
     arity_at _ _ _ _ _ _ _ _ c.self.view_is c.self.invariant.held c.id.view_is h q
 
-pub returns-clause-stops : goal.returns-clause-stops
-returns-clause-stops c =
+pub returns-clause-points : goal.returns-clause-points
+returns-clause-points c =
     let entries = drop c.self.inside.front.entries c.self.inside.entries.items in
     let h : c.id.inside.index < length entries = omega (arith, c.requires, len_of_view _ _ _ _ _ c.self.view_is, c.id.view_is) in
     let q : c.index.result.now ≡ get_or entries c.id.inside.index c.index.result.now = c.index.ensures ∙ sym (get_or-drop c.self.inside.front.entries c.self.inside.entries.items c.id.inside.index c.index.result.now) in
-    stops_at _ _ _ _ _ _ _ _ c.self.view_is c.self.invariant.held c.id.view_is h q
+    points_at _ _ _ _ _ _ _ _ c.self.view_is c.self.invariant.held c.id.view_is h q

@@ -1,0 +1,493 @@
+-- The first expansion point of a text and of a range of it, and the first expansion points that an entry keeps.
+use Rattle.std.proofs.Common.{◌≡◌, ℕ, zero, suc, ◌+◌, ◌-◌, ◌<◌, ◌≤◌, Bool, true, false, cond, List, [], ◌∷◌, ⊎_elim, length, take, drop, Option, Some, None, refl, ap, sym, ◌∙◌, arith, ◌++◌, inl, slice_range, subst, if◌then◌else◌, IfSome, get_or, set, append_assoc, replicate, ◌⊎◌, ◌||◌, le-ltb, drop-set-lt, length-drop, take_all, drop-drop, length-take, take-append-drop}
+use Rattle.std.specs.List.{prefix_len}
+use Rattle.std.proofs.lemmas.Bool.{cases_Bool, false≢true, cond-false, cond-true}
+use Rattle.std.proofs.lemmas.List.{drop_more, take_more_set, drop-replicate, nil_from_length}
+use Rattle.rdlpp_scan.specs.Bytes.{is_blank, is_digit, is_letter, is_quiet, is_word}
+use Rattle.rdlpp_scan.proofs.StopKinds.{AtBack, AtBare, AtBlockComment, AtLineComment, AtPerl, AtPlain, AtString, Row, letter_token, token_of-row}
+use Rattle.rdlpp_scan.specs.declared.token.Kind.{Kind}
+use Rattle.rdlpp_scan.specs.declared.token.Kind.TheVariants.{Name, Word, Back, Blank, LineEnd, Str, LineComment, BlockComment, Opener, Closer, Comma, Other, Perl, BareBackquote}
+use Rattle.rdlpp_scan.specs.declared.token.Mode.{Mode}
+use Rattle.rdlpp_scan.specs.declared.token.Mode.TheVariants.{Plain}
+use Rattle.rdlpp_scan.specs.declared.token.Token.{Token}
+use Rattle.rdlpp_scan.specs.Tokens.{token_of, tokens_from, whole}
+use Rattle.rdlpp_scan.proofs.CleanTexts.{blank-step}
+use Rattle.rdlpp_scan.proofs.OrdinaryLaws.{is_still, quiet_first, IsQuietToken}
+use Rattle.rdlpp_scan.proofs.TokenLens.{tokens_from-step, token_of-part}
+use Rattle.rdlpp_table.specs.declared.point.ExpansionPoint.{ExpansionPoint}
+use Rattle.rdlpp_table.specs.Table.{Formal, Macro}
+use Rattle.rdlpp_table.specs.ExpansionPoints.{next_expansion_point, is_none, or_point, point_at, point_name, point_of, point_in}
+use Rattle.rdlpp_table.specs.View.{formal_named, TableView, formals_of, macro_at}
+use Rattle.rdlpp_scan.specs.Ordinary.{is_plain_kind}
+use Rattle.rdlpp_scan.proofs.RemainingLaws.{plain_token-run, IsRun}
+use Rattle.rdlpp_scan.proofs.RangeLaws.{token_of-front, EndsIn}
+use Rattle.rdlpp_table.specs.PointCache.{point_end, endless, cached_points, kept_from, kept_point, point_by, point_kept, points_behind}
+use Rattle.rdlpp_table.specs.declared.point_cache.PointCache.{PointCache}
+use Rattle.rdlpp_table.specs.declared.point_cache.PackedPoint.{PackedPoint}
+use Rattle.rdlpp_table.specs.declared.point_cache.PackedKind.{PackedKind}
+use Rattle.rdlpp_table.specs.declared.entry.Entry.{Entry}
+use Rattle.rdlpp_table.specs.Store.{macro_in}
+use Rattle.rdlpp_table.specs.Layout.{view_of}
+use Rattle.rdlpp_table.proofs.Sizes.{macro_at_entry}
+use Rattle.rdlpp_table.specs.declared.point.ExpansionPoint.TheVariants as point
+use Rattle.rdlpp_table.specs.declared.point_cache.PackedKind.TheVariants as kept
+
+-- The first expansion point of a text, token by token.
+
+-- the first expansion point of a text is that of what is left of it
+pub record IsStopping (formals : List Formal) (from : ℕ) (text : List ℕ) (mode : Mode) (at : ℕ) (rest : List ℕ) : Type 0 where
+  pub same : next_expansion_point formals at (tokens_from mode 0 rest) rest ≡ point_of formals from text
+  pub place : at + length rest ≡ from + length text
+
+-- behind what is no expansion point comes the other one
+pub or_none : (s other : ExpansionPoint) → is_none s ≡ true → or_point s other ≡ other
+unfolding is_none or_point
+or_none point.None other h = refl
+or_none (point.Formal at len place) other h = absurd (cc)
+or_none (point.Usage at len) other h = absurd (cc)
+or_none (point.Bare at) other h = absurd (cc)
+
+-- and an expansion point is itself
+pub or_some : (s other : ExpansionPoint) → is_none s ≡ false → or_point s other ≡ s
+unfolding is_none or_point
+or_some point.None other h = absurd (cc)
+or_some (point.Formal at len place) other h = refl
+or_some (point.Usage at len) other h = refl
+or_some (point.Bare at) other h = refl
+
+pub one_token : (formals : List Formal) (at : ℕ) (mode : Mode) (rest : List ℕ) → 0 < length rest → 0 < (token_of mode rest).len → next_expansion_point formals at (tokens_from mode 0 rest) rest ≡ or_point (point_at formals at (token_of mode rest) (take (token_of mode rest).len rest)) (next_expansion_point formals (at + (token_of mode rest).len) (tokens_from (token_of mode rest).next_mode 0 (drop (token_of mode rest).len rest)) (drop (token_of mode rest).len rest))
+unfolding next_expansion_point
+one_token formals at mode rest h l = ap (λ (ts : List Token). next_expansion_point formals at ts rest) (tokens_from-step mode rest h l)
+
+-- the same by a token that was read
+token_first : (formals : List Formal) (at : ℕ) (mode : Mode) (rest : List ℕ) (t : Token) → 0 < length rest → t ≡ token_of mode rest → 0 < t.len → next_expansion_point formals at (tokens_from mode 0 rest) rest ≡ or_point (point_at formals at t (take t.len rest)) (next_expansion_point formals (at + t.len) (tokens_from t.next_mode 0 (drop t.len rest)) (drop t.len rest))
+token_first formals at mode rest t h e l =
+    one_token formals at mode rest h (omega (arith, ap (λ (u : Token). u.len) e))
+    ∙ ap (λ (u : Token). or_point (point_at formals at u (take u.len rest)) (next_expansion_point formals (at + u.len) (tokens_from u.next_mode 0 (drop u.len rest)) (drop u.len rest))) (sym e)
+
+pub stopping_start : (formals : List Formal) (from : ℕ) (text : List ℕ) → IsStopping formals from text Plain from text
+unfolding point_of
+stopping_start formals from text = record { same = refl; place = refl }
+
+pub stopping_more : (formals : List Formal) (from : ℕ) (text : List ℕ) (mode : Mode) (at : ℕ) (rest : List ℕ) (t : Token) (here after : List ℕ) (s : ExpansionPoint) → IsStopping formals from text mode at rest → 0 < length rest → t ≡ token_of mode rest → 0 < t.len → t.len ≤ length rest → here ≡ take t.len rest → after ≡ drop t.len rest → s ≡ point_at formals at t here → is_none s ≡ true → IsStopping formals from text t.next_mode (at + t.len) after
+stopping_more formals from text mode at rest t here after s i h e l le p q f n =
+    let here_is : point_at formals at t (take t.len rest) ≡ s = ap (point_at formals at t) (sym p) ∙ sym f in
+    let others : ExpansionPoint = next_expansion_point formals (at + t.len) (tokens_from t.next_mode 0 (drop t.len rest)) (drop t.len rest) in
+    record {
+      same = ap (λ (r : List ℕ). next_expansion_point formals (at + t.len) (tokens_from t.next_mode 0 r) r) q ∙ (sym (token_first formals at mode rest t h e l ∙ (ap (λ (x : ExpansionPoint). or_point x others) here_is ∙ or_none s others n)) ∙ i.same);
+      place = omega (arith, ap length q, length-drop t.len rest, i.place);
+    }
+
+pub stopping_found : (formals : List Formal) (from : ℕ) (text : List ℕ) (mode : Mode) (at : ℕ) (rest : List ℕ) (t : Token) (here : List ℕ) (s : ExpansionPoint) → IsStopping formals from text mode at rest → 0 < length rest → t ≡ token_of mode rest → 0 < t.len → here ≡ take t.len rest → s ≡ point_at formals at t here → is_none s ≡ false → s ≡ point_of formals from text
+stopping_found formals from text mode at rest t here s i h e l p f n =
+    let here_is : point_at formals at t (take t.len rest) ≡ s = ap (point_at formals at t) (sym p) ∙ sym f in
+    let others : ExpansionPoint = next_expansion_point formals (at + t.len) (tokens_from t.next_mode 0 (drop t.len rest)) (drop t.len rest) in
+    sym (token_first formals at mode rest t h e l ∙ (ap (λ (x : ExpansionPoint). or_point x others) here_is ∙ or_some s others n)) ∙ i.same
+
+pub stopping_ended : (formals : List Formal) (from : ℕ) (text : List ℕ) (mode : Mode) (at : ℕ) (rest : List ℕ) → IsStopping formals from text mode at rest → length rest ≡ 0 → point.None ≡ point_of formals from text
+unfolding next_expansion_point tokens_from
+stopping_ended formals from text mode at rest i h =
+    sym (ap (λ (r : List ℕ). next_expansion_point formals at (tokens_from mode 0 r) r) (nil_from_length rest h)) ∙ i.same
+
+pub name_point : (formals : List Formal) (at : ℕ) (t : Token) (bytes : List ℕ) (o : Option ℕ) → t.kind ≡ Name → o ≡ formal_named formals bytes → point_name at t.len o ≡ point_at formals at t bytes
+unfolding point_at
+name_point formals at t bytes o e f =
+    ap (point_name at t.len) f
+    ∙ sym (ap (λ (k : Kind). let u : Token = record { kind = k; len = t.len; next_mode = t.next_mode } in point_at formals at u bytes) e)
+
+pub some_point : (at len place : ℕ) → point_name at len (Some place) ≡ point.Formal at len place
+unfolding point_name
+some_point at len place = refl
+
+pub none_point : (at len : ℕ) → point_name at len None ≡ point.None
+unfolding point_name
+none_point at len = refl
+
+-- a kind that isn't an expansion point, whatever its bytes
+still_passed : (formals : List Formal) (at len : ℕ) (k : Kind) (mode : Mode) (bytes : List ℕ) → is_still k ≡ true → is_none (point_at formals at (record { kind = k; next_mode = mode; len = len }) bytes) ≡ true
+unfolding is_still point_at is_none
+still_passed formals at len Name mode bytes h = absurd (false≢true h)
+still_passed formals at len Back mode bytes h = absurd (false≢true h)
+still_passed formals at len BareBackquote mode bytes h = absurd (false≢true h)
+still_passed formals at len Word mode bytes h = refl
+still_passed formals at len Blank mode bytes h = refl
+still_passed formals at len LineEnd mode bytes h = refl
+still_passed formals at len Str mode bytes h = refl
+still_passed formals at len LineComment mode bytes h = refl
+still_passed formals at len BlockComment mode bytes h = refl
+still_passed formals at len Opener mode bytes h = refl
+still_passed formals at len Closer mode bytes h = refl
+still_passed formals at len Comma mode bytes h = refl
+still_passed formals at len Other mode bytes h = refl
+still_passed formals at len Perl mode bytes h = refl
+
+prefix_more : (p : ℕ → Bool) (b : ℕ) (bs : List ℕ) → p b ≡ true → prefix_len p (b ∷ bs) ≡ suc (prefix_len p bs)
+prefix_more p b bs h = ap (λ (t : Bool). cond t (1 + prefix_len p bs) 0) h ∙ omega arith
+
+prefix_none : (p : ℕ → Bool) (b : ℕ) (bs : List ℕ) → p b ≡ false → prefix_len p (b ∷ bs) ≡ 0
+prefix_none p b bs h = ap (λ (t : Bool). cond t (1 + prefix_len p bs) 0) h
+
+-- a token of blanks is passed
+blank_token : (formals : List Formal) (at b : ℕ) (bs : List ℕ) → is_blank b ≡ true
+    → next_expansion_point formals at (tokens_from Plain 0 (b ∷ bs)) (b ∷ bs) ≡ next_expansion_point formals (at + prefix_len is_blank (b ∷ bs)) (tokens_from Plain 0 (drop (prefix_len is_blank (b ∷ bs)) (b ∷ bs))) (drop (prefix_len is_blank (b ∷ bs)) (b ∷ bs))
+unfolding next_expansion_point point_at or_point whole
+blank_token formals at b bs h = ap (λ (ts : List Token). next_expansion_point formals at ts (b ∷ bs)) (blank-step b bs h)
+
+-- a quiet byte that isn't a blank is passed
+quiet_mark : (formals : List Formal) (at b : ℕ) (bs : List ℕ) → IsQuietToken (token_of Plain (b ∷ bs))
+    → next_expansion_point formals at (tokens_from Plain 0 (b ∷ bs)) (b ∷ bs) ≡ next_expansion_point formals (at + 1) (tokens_from Plain 0 bs) bs
+unfolding is_still
+quiet_mark formals at b bs q =
+    let t = token_of Plain (b ∷ bs) in
+    let some : 0 < length (b ∷ bs) = omega arith in
+    let none : is_none (point_at formals at t (take t.len (b ∷ bs))) ≡ true = still_passed formals at t.len t.kind t.next_mode (take t.len (b ∷ bs)) q.still in
+    let rest : Token → ExpansionPoint = λ u. next_expansion_point formals (at + u.len) (tokens_from u.next_mode 0 (drop u.len (b ∷ bs))) (drop u.len (b ∷ bs)) in
+    one_token formals at Plain (b ∷ bs) some (omega (arith, q.len))
+    ∙ (or_none _ (rest t) none
+    ∙ (ap (λ (n : ℕ). next_expansion_point formals (at + n) (tokens_from t.next_mode 0 (drop n (b ∷ bs))) (drop n (b ∷ bs))) q.len
+    ∙ ap (λ (m : Mode). next_expansion_point formals (at + 1) (tokens_from m 0 bs) bs) q.next))
+
+-- a run of blanks is passed
+blank_run : (formals : List Formal) (at : ℕ) (bs : List ℕ)
+    → next_expansion_point formals at (tokens_from Plain 0 bs) bs ≡ next_expansion_point formals (at + prefix_len is_blank bs) (tokens_from Plain 0 (drop (prefix_len is_blank bs) bs)) (drop (prefix_len is_blank bs) bs)
+blank_run formals at [] = ap (λ (n : ℕ). next_expansion_point formals n (tokens_from Plain 0 []) []) (omega arith)
+blank_run formals at (b ∷ bs) =
+    let F : ℕ → ExpansionPoint = λ n. next_expansion_point formals (at + n) (tokens_from Plain 0 (drop n (b ∷ bs))) (drop n (b ∷ bs)) in
+    let here : next_expansion_point formals at (tokens_from Plain 0 (b ∷ bs)) (b ∷ bs) ≡ F 0 = ap (λ (n : ℕ). next_expansion_point formals n (tokens_from Plain 0 (b ∷ bs)) (b ∷ bs)) (omega arith) in
+    ⊎_elim
+    (λ h. blank_token formals at b bs h)
+    (λ h. here ∙ ap F (sym (prefix_none is_blank b bs h)))
+    (cases_Bool (is_blank b))
+
+-- a quiet byte is passed
+pub quiet_one : (formals : List Formal) (at b : ℕ) (bs : List ℕ) → is_quiet b ≡ true
+    → next_expansion_point formals at (tokens_from Plain 0 (b ∷ bs)) (b ∷ bs) ≡ next_expansion_point formals (at + 1) (tokens_from Plain 0 bs) bs
+quiet_one formals at b bs q =
+    let k = prefix_len is_blank bs in
+    ⊎_elim
+    (λ h. blank_token formals at b bs h
+    ∙ (ap (λ (n : ℕ). next_expansion_point formals (at + n) (tokens_from Plain 0 (drop n (b ∷ bs))) (drop n (b ∷ bs))) (prefix_more is_blank b bs h)
+    ∙ (ap (λ (n : ℕ). next_expansion_point formals n (tokens_from Plain 0 (drop k bs)) (drop k bs)) (omega arith)
+    ∙ sym (blank_run formals (at + 1) bs))))
+    (λ h. quiet_mark formals at b bs (quiet_first b bs q h))
+    (cases_Bool (is_blank b))
+
+-- quiet bytes are passed
+quiet_some : (formals : List Formal) (at n : ℕ) (bs : List ℕ) → n ≤ prefix_len is_quiet bs
+    → next_expansion_point formals (at + n) (tokens_from Plain 0 (drop n bs)) (drop n bs) ≡ next_expansion_point formals at (tokens_from Plain 0 bs) bs
+quiet_some formals at zero bs h = ap (λ (m : ℕ). next_expansion_point formals m (tokens_from Plain 0 bs) bs) (omega arith)
+quiet_some formals at (suc n) [] h = absurd (omega arith)
+quiet_some formals at (suc n) (b ∷ bs) h =
+    ⊎_elim
+    (λ q. ap (λ (m : ℕ). next_expansion_point formals m (tokens_from Plain 0 (drop n bs)) (drop n bs)) (omega arith)
+    ∙ (quiet_some formals (at + 1) n bs (omega (arith, prefix_more is_quiet b bs q)) ∙ sym (quiet_one formals at b bs q)))
+    (λ q. absurd (omega (arith, prefix_none is_quiet b bs q)))
+    (cases_Bool (is_quiet b))
+
+pub stopping_quiet : (formals : List Formal) (from : ℕ) (text : List ℕ) (mode : Mode) (at n : ℕ) (rest : List ℕ) → IsStopping formals from text mode at rest → mode ≡ Plain → n ≤ prefix_len is_quiet rest → n ≤ length rest
+    → IsStopping formals from text mode (at + n) (take (length rest - n) (drop n rest))
+stopping_quiet formals from text mode at n rest i plain h le =
+    let e : take (length rest - n) (drop n rest) ≡ drop n rest = take_all (length rest - n) (drop n rest) (omega (arith, length-drop n rest)) in
+    let here : next_expansion_point formals at (tokens_from Plain 0 rest) rest ≡ next_expansion_point formals at (tokens_from mode 0 rest) rest = ap (λ (m : Mode). next_expansion_point formals at (tokens_from m 0 rest) rest) (sym plain) in
+    record {
+      same = ap (λ (m : Mode). next_expansion_point formals (at + n) (tokens_from m 0 (take (length rest - n) (drop n rest))) (take (length rest - n) (drop n rest))) plain
+          ∙ (ap (λ (r : List ℕ). next_expansion_point formals (at + n) (tokens_from Plain 0 r) r) e ∙ (quiet_some formals at n rest h ∙ (here ∙ i.same)));
+      place = omega (arith, ap length e, length-drop n rest, i.place, le);
+    }
+
+-- a name is told by its first byte
+pub letter_first : (text : List ℕ) (n : ℕ) → 0 < length text → is_letter (get_or text 0 0) ≡ true → n ≡ prefix_len is_word text
+    → (let t : Token = record { kind = Name; next_mode = Plain; len = n } in t) ≡ token_of Plain text
+unfolding whole
+letter_first [] n some h e = absurd (omega (arith, some))
+letter_first (b ∷ bs) n some h e = ap (λ (k : ℕ). let t : Token = record { kind = Name; next_mode = Plain; len = k } in t) e ∙ sym (letter_token b bs h)
+
+pub letter_some : (text : List ℕ) → 0 < length text → is_letter (get_or text 0 0) ≡ true → 0 < prefix_len is_word text
+unfolding is_word
+letter_some [] some h = absurd (omega (arith, some))
+letter_some (b ∷ bs) some h =
+    let more : prefix_len is_word (b ∷ bs) ≡ suc (prefix_len is_word bs) = prefix_more is_word b bs (ap (λ (t : Bool). t || is_digit b) h) in
+    omega (arith, more)
+
+-- what stands behind a place, as a range up to the end
+pub behind_place : (n : ℕ) (xs : List ℕ) → take (length xs - n) (drop n xs) ≡ drop n xs
+behind_place n xs = take_all (length xs - n) (drop n xs) (omega (arith, length-drop n xs))
+
+-- The first expansion point of a range of a text, beside that of the text from a place on.
+
+-- where an expansion point begins, and 0 where there is none
+unfoldable pub begins : ExpansionPoint → ℕ
+begins point.None = 0
+begins (point.Formal at len place) = at
+begins (point.Usage at len) = at
+begins (point.Bare at) = at
+
+-- an expansion point ends no nearer than it begins
+pub begins_end : (s : ExpansionPoint) → is_none s ≡ false → begins s ≤ point_end s
+unfolding begins point_end
+begins_end point.None h = omega arith
+begins_end (point.Formal at len place) h = omega arith
+begins_end (point.Usage at len) h = omega arith
+begins_end (point.Bare at) h = omega arith
+
+-- an expansion point that is none, or begins no nearer than at a place
+unfoldable pub IsFrom : ℕ → ExpansionPoint → Type 0
+IsFrom at s = is_none s ≡ false → at ≤ begins s
+
+name_from : (at len : ℕ) (o : Option ℕ) → IsFrom at (point_name at len o)
+unfolding point_name begins is_none IsFrom
+name_from at len (Some place) h = omega arith
+name_from at len None h = absurd (cc)
+
+kind_from : (formals : List Formal) (at len : ℕ) (k : Kind) (mode : Mode) (bytes : List ℕ) → IsFrom at (point_at formals at (record { kind = k; next_mode = mode; len = len }) bytes)
+unfolding point_at begins is_none IsFrom
+kind_from formals at len Name mode bytes h = name_from at len (formal_named formals bytes) h
+kind_from formals at len Back mode bytes h = omega arith
+kind_from formals at len BareBackquote mode bytes h = omega arith
+kind_from formals at len Word mode bytes h = absurd (cc)
+kind_from formals at len Blank mode bytes h = absurd (cc)
+kind_from formals at len LineEnd mode bytes h = absurd (cc)
+kind_from formals at len Str mode bytes h = absurd (cc)
+kind_from formals at len LineComment mode bytes h = absurd (cc)
+kind_from formals at len BlockComment mode bytes h = absurd (cc)
+kind_from formals at len Opener mode bytes h = absurd (cc)
+kind_from formals at len Closer mode bytes h = absurd (cc)
+kind_from formals at len Comma mode bytes h = absurd (cc)
+kind_from formals at len Other mode bytes h = absurd (cc)
+kind_from formals at len Perl mode bytes h = absurd (cc)
+
+or_from : (at : ℕ) (s other : ExpansionPoint) → IsFrom at s → IsFrom at other → IsFrom at (or_point s other)
+unfolding or_point
+or_from at point.None other a b = b
+or_from at (point.Formal x len place) other a b = a
+or_from at (point.Usage x len) other a b = a
+or_from at (point.Bare x) other a b = a
+
+-- the first expansion point of a text stands in it
+pub tokens_within : (formals : List Formal) (at : ℕ) (ts : List Token) (text : List ℕ) → IsFrom at (next_expansion_point formals at ts text)
+unfolding next_expansion_point is_none IsFrom
+tokens_within formals at [] text h = absurd (cc)
+tokens_within formals at (t ∷ ts) text h =
+    or_from at (point_at formals at t (take t.len text)) _ (kind_from formals at t.len t.kind t.next_mode (take t.len text)) (λ g. omega (arith, tokens_within formals (at + t.len) ts (drop t.len text) g)) h
+
+-- a token that is an expansion point is closed, and ends where the expansion point does
+record IsPointToken (t : Token) (at : ℕ) (s : ExpansionPoint) : Type 0 where
+  closed : t.next_mode ≡ Plain
+  end : point_end s ≡ at + t.len
+
+name_token : (at len : ℕ) (o : Option ℕ) → is_none (point_name at len o) ≡ false → point_end (point_name at len o) ≡ at + len
+unfolding point_name is_none point_end
+name_token at len (Some place) h = refl
+name_token at len None h = absurd (cc)
+
+-- how long a lone backquote is, by the row of the token table
+bare_row : (bs : List ℕ) (t : Token) → Row bs t → t.kind ≡ BareBackquote → (t.len ≡ 1) × (t.next_mode ≡ Plain)
+unfolding whole is_plain_kind
+bare_row bs t (AtPerl h e) is = absurd (let k : Perl ≡ BareBackquote = sym (ap (λ (u : Token). u.kind) e) ∙ is in cc)
+bare_row bs t (AtLineComment h e) is = absurd (let k : LineComment ≡ BareBackquote = sym e ∙ is in cc)
+bare_row bs t (AtBlockComment h e) is = absurd (let k : BlockComment ≡ BareBackquote = sym e ∙ is in cc)
+bare_row bs t (AtString h e) is = absurd (let k : Str ≡ BareBackquote = sym e ∙ is in cc)
+bare_row bs t (AtBack h e) is = absurd (let k : Back ≡ BareBackquote = sym (ap (λ (u : Token). u.kind) e) ∙ is in cc)
+bare_row bs t (AtBare h g e) is = (ap (λ (u : Token). u.len) e, ap (λ (u : Token). u.next_mode) e)
+bare_row bs t (AtPlain h q) is = absurd (false≢true (sym (ap is_plain_kind is) ∙ h))
+
+-- behind a usage stands plain text
+back_row : (bs : List ℕ) (t : Token) → Row bs t → t.kind ≡ Back → t.next_mode ≡ Plain
+unfolding whole is_plain_kind
+back_row bs t (AtPerl h e) is = absurd (let k : Perl ≡ Back = sym (ap (λ (u : Token). u.kind) e) ∙ is in cc)
+back_row bs t (AtLineComment h e) is = absurd (let k : LineComment ≡ Back = sym e ∙ is in cc)
+back_row bs t (AtBlockComment h e) is = absurd (let k : BlockComment ≡ Back = sym e ∙ is in cc)
+back_row bs t (AtString h e) is = absurd (let k : Str ≡ Back = sym e ∙ is in cc)
+back_row bs t (AtBack h e) is = ap (λ (u : Token). u.next_mode) e
+back_row bs t (AtBare h g e) is = absurd (let k : BareBackquote ≡ Back = sym (ap (λ (u : Token). u.kind) e) ∙ is in cc)
+back_row bs t (AtPlain h q) is = absurd (false≢true (sym (ap is_plain_kind is) ∙ h))
+
+point_kind : (formals : List Formal) (at len : ℕ) (k : Kind) (mode : Mode) (bs bytes : List ℕ) → (let t : Token = record { kind = k; next_mode = mode; len = len } in Row bs t × IsRun bs t → is_none (point_at formals at t bytes) ≡ false → IsPointToken t at (point_at formals at t bytes))
+unfolding point_at is_none point_end
+point_kind formals at len Name mode bs bytes r h = record { closed = (r.1.name refl).1; end = name_token at len (formal_named formals bytes) h }
+point_kind formals at len Back mode bs bytes r h = record { closed = back_row bs _ r.0 refl; end = refl }
+point_kind formals at len BareBackquote mode bs bytes r h = let b = bare_row bs _ r.0 refl in record { closed = b.1; end = omega (arith, b.0) }
+point_kind formals at len Word mode bs bytes r h = absurd (cc)
+point_kind formals at len Blank mode bs bytes r h = absurd (cc)
+point_kind formals at len LineEnd mode bs bytes r h = absurd (cc)
+point_kind formals at len Str mode bs bytes r h = absurd (cc)
+point_kind formals at len LineComment mode bs bytes r h = absurd (cc)
+point_kind formals at len BlockComment mode bs bytes r h = absurd (cc)
+point_kind formals at len Opener mode bs bytes r h = absurd (cc)
+point_kind formals at len Closer mode bs bytes r h = absurd (cc)
+point_kind formals at len Comma mode bs bytes r h = absurd (cc)
+point_kind formals at len Other mode bs bytes r h = absurd (cc)
+point_kind formals at len Perl mode bs bytes r h = absurd (cc)
+
+-- the first token of a text, where it is an expansion point
+point_token : (formals : List Formal) (at : ℕ) (bs bytes : List ℕ) → (let t = token_of Plain bs in is_none (point_at formals at t bytes) ≡ false → IsPointToken t at (point_at formals at t bytes))
+point_token formals at bs bytes h =
+    let t = token_of Plain bs in
+    point_kind formals at t.len t.kind t.next_mode bs bytes (token_of-row bs, plain_token-run bs) h
+
+-- the first token of a text stays so where the text is cut behind it
+pub cut_token : (k : ℕ) (bs : List ℕ) → (let t = token_of Plain bs in 0 < t.len → t.len ≤ k → t.len ≤ length bs → t.next_mode ≡ Plain → token_of Plain (take k bs) ≡ t)
+cut_token k bs some le inside closed =
+    let xs = take k bs in
+    let e : xs ++ drop k bs ≡ bs = take-append-drop k bs in
+    let t = token_of Plain bs in
+    let room : t.len ≤ length xs = omega (arith, length-take k bs) in
+    let ends : EndsIn t xs = record { inside = room; last = inl closed } in
+    token_of-front Plain xs (drop k bs) (omega arith) (subst (λ (l : List ℕ). EndsIn (token_of Plain l) xs) (sym e) ends) ∙ ap (token_of Plain) e
+
+pub cut_more : (n k : ℕ) (bs : List ℕ) → n ≤ k → take n (take k bs) ≡ take n bs
+cut_more zero k bs h = refl
+cut_more (suc n) zero bs h = absurd (omega arith)
+cut_more (suc n) (suc k) [] h = refl
+cut_more (suc n) (suc k) (b ∷ bs) h = ap (λ (l : List ℕ). b ∷ l) (cut_more n k bs (omega arith))
+
+-- the expansion point at the front of a text is that of the text which is cut behind it
+pub front_first : (formals : List Formal) (at k : ℕ) (bs : List ℕ) → (let t = token_of Plain bs in 0 < length bs → is_none (point_at formals at t (take t.len bs)) ≡ false → point_end (point_at formals at t (take t.len bs)) ≤ at + k → point_of formals at (take k bs) ≡ point_at formals at t (take t.len bs))
+unfolding point_of
+front_first formals at k bs some h inside =
+    let t = token_of Plain bs in
+    let xs = take k bs in
+    let part = token_of-part Plain bs some in
+    let here : ExpansionPoint = point_at formals at t (take t.len bs) in
+    let is = point_token formals at bs (take t.len bs) h in
+    let le : t.len ≤ k = omega (arith, is.end) in
+    let same : token_of Plain xs ≡ t = cut_token k bs part.not_empty le part.inside is.closed in
+    let long : 0 < length xs = omega (arith, length-take k bs, part.not_empty, part.inside) in
+    let front : point_at formals at (token_of Plain xs) (take (token_of Plain xs).len xs) ≡ here = ap (λ (u : Token). point_at formals at u (take u.len xs)) same ∙ ap (point_at formals at t) (cut_more t.len k bs le) in
+    let u = token_of Plain xs in
+    let later : ExpansionPoint = next_expansion_point formals (at + u.len) (tokens_from u.next_mode 0 (drop u.len xs)) (drop u.len xs) in
+    one_token formals at Plain xs long (omega (arith, ap (λ (u : Token). u.len) same, part.not_empty))
+    ∙ (ap (λ (s : ExpansionPoint). or_point s later) front ∙ or_some here later h)
+
+pub run_drop : (p : ℕ → Bool) (n m : ℕ) (xs : List ℕ) → n + m ≤ prefix_len p xs → m ≤ prefix_len p (drop n xs)
+run_drop p zero m xs h = omega arith
+run_drop p (suc n) m [] h = absurd (omega arith)
+run_drop p (suc n) m (x ∷ xs) h =
+    ⊎_elim
+    (λ q. run_drop p n m xs (omega (arith, cond-true (p x) (1 + prefix_len p xs) 0 q)))
+    (λ q. absurd (omega (arith, cond-false (p x) (1 + prefix_len p xs) 0 q)))
+    (cases_Bool (p x))
+
+-- The first expansion points of a text, as they are kept.
+
+-- an expansion point as it is kept by its numbers, where these are small enough
+abbrev pub when : Bool → PackedKind → ℕ → ℕ → ℕ → ℕ → PackedPoint
+when b kind at len place calm = if b then record { end = at + len; len = len; place = place; calm = calm; kind = kind } else endless kept.Unknown 0
+
+pub back_when : (b : Bool) (kind : PackedKind) (at len place calm : ℕ) (s : ExpansionPoint) → point_by kind at len place ≡ Some s → IfSome (point_kept (when b kind at len place calm)) (λ x. x ≡ s)
+unfolding point_kept point_by endless
+back_when true kind at len place calm s e =
+    let there : at + len - len ≡ at = omega arith in
+    subst (λ (x : Option ExpansionPoint). IfSome x (λ y. y ≡ s)) (sym (ap (λ (n : ℕ). point_by kind n len place) there ∙ e)) refl
+back_when false kind at len place calm s e = tt
+
+pub none_end : point_end point.None ≡ 0
+unfolding point_end
+none_end = refl
+
+name_end : (at len : ℕ) (o : Option ℕ) → point_end (point_name at len o) ≤ at + len
+unfolding point_name point_end
+name_end at len (Some place) = omega arith
+name_end at len None = omega arith
+
+-- a token that is an expansion point ends as one
+kind_end : (formals : List Formal) (at len : ℕ) (k : Kind) (mode : Mode) (bytes : List ℕ) → 0 < len → point_end (point_at formals at (record { kind = k; next_mode = mode; len = len }) bytes) ≤ at + len
+unfolding point_at point_end
+kind_end formals at len Name mode bytes h = name_end at len (formal_named formals bytes)
+kind_end formals at len Back mode bytes h = omega arith
+kind_end formals at len BareBackquote mode bytes h = omega arith
+kind_end formals at len Word mode bytes h = omega arith
+kind_end formals at len Blank mode bytes h = omega arith
+kind_end formals at len LineEnd mode bytes h = omega arith
+kind_end formals at len Str mode bytes h = omega arith
+kind_end formals at len LineComment mode bytes h = omega arith
+kind_end formals at len BlockComment mode bytes h = omega arith
+kind_end formals at len Opener mode bytes h = omega arith
+kind_end formals at len Closer mode bytes h = omega arith
+kind_end formals at len Comma mode bytes h = omega arith
+kind_end formals at len Other mode bytes h = omega arith
+kind_end formals at len Perl mode bytes h = omega arith
+
+pub token_end : (formals : List Formal) (at : ℕ) (t : Token) (bytes : List ℕ) → 0 < t.len → point_end (point_at formals at t bytes) ≤ at + t.len
+token_end formals at t bytes h = kind_end formals at t.len t.kind t.next_mode bytes h
+
+-- The first expansion points of a text, one behind another.
+
+-- an expansion point that is found behind others is one more of them
+pub points_more : (formals : List Formal) (text : List ℕ) (all : List PackedPoint) (i from : ℕ) (k : PackedPoint) → i < length all → k ≡ kept_from formals text from → ((n : ℕ) → points_behind (i + n) formals text 0 ≡ take i all ++ points_behind n formals text from) → (n : ℕ) → points_behind (i + 1 + n) formals text 0 ≡ take (i + 1) (set all i k) ++ points_behind n formals text k.end
+unfolding points_behind
+points_more formals text all i from k h e f n =
+    let there : i + 1 + n ≡ i + suc n = omega arith in
+    let rest : List PackedPoint = points_behind n formals text k.end in
+    ap (λ (m : ℕ). points_behind m formals text 0) there
+    ∙ (f (suc n)
+    ∙ (ap (λ (x : PackedPoint). take i all ++ x ∷ points_behind n formals text x.end) (sym e)
+    ∙ (sym (append_assoc (take i all) (k ∷ []) rest) ∙ ap (λ (l : List PackedPoint). l ++ rest) (sym (take_more_set all i k h)))))
+
+-- what is kept where nothing is known
+abbrev unknown : PackedPoint
+unknown = endless kept.Unknown 0
+
+-- from a place that is too far behind on nothing is known
+points_beyond : (formals : List Formal) (text : List ℕ) (n from : ℕ) → 65535 ≤ from → points_behind n formals text from ≡ replicate n unknown
+unfolding points_behind kept_from endless
+points_beyond formals text zero from h = refl
+points_beyond formals text (suc n) from h =
+    let here : kept_from formals text from ≡ unknown = ap (λ (b : Bool). if b then kept_point (point_of formals from (drop from text)) from (drop from text) else unknown) (le-ltb from 65535 h) in
+    ap (λ (k : PackedPoint). k ∷ points_behind n formals text k.end) here ∙ ap (λ (l : List PackedPoint). unknown ∷ l) (points_beyond formals text n 65535 (omega arith))
+
+-- what is not written yet is unknown
+pub rest_unknown : (all : List PackedPoint) (i : ℕ) (k : PackedPoint) → drop i all ≡ replicate (10 - i) unknown → drop (i + 1) (set all i k) ≡ replicate (10 - (i + 1)) unknown
+rest_unknown all i k e =
+    let less : 10 - i - 1 ≡ 10 - (i + 1) = omega arith in
+    drop-set-lt (i + 1) all i k (omega arith)
+    ∙ (sym (drop-drop 1 i all)
+    ∙ (ap (λ (l : List PackedPoint). drop 1 l) e
+    ∙ (drop-replicate 1 (10 - i) unknown ∙ ap (λ (m : ℕ). replicate m unknown) less)))
+
+-- ten of them are the first expansion points, and fewer are where behind them nothing is known
+pub points_whole : (formals : List Formal) (text : List ℕ) (all : List PackedPoint) (i from : ℕ) → i ≤ 10 → (10 ≤ i) ⊎ (65535 ≤ from) → drop i all ≡ replicate (10 - i) unknown → ((n : ℕ) → points_behind (i + n) formals text 0 ≡ take i all ++ points_behind n formals text from) → (let s : PointCache = record { all = all } in s) ≡ cached_points formals text
+unfolding cached_points points_behind
+points_whole formals text all i from l o e f =
+    let there : 10 ≡ i + (10 - i) = omega arith in
+    let none : 10 ≤ i → points_behind (10 - i) formals text from ≡ replicate (10 - i) unknown =
+    λ h. let z : 10 - i ≡ 0 = omega arith in ap (λ (m : ℕ). points_behind m formals text from) z ∙ ap (λ (m : ℕ). replicate m unknown) (sym z) in
+    let rest : points_behind (10 - i) formals text from ≡ drop i all = ⊎_elim none (points_beyond formals text (10 - i) from) o ∙ sym e in
+    let whole : points_behind 10 formals text 0 ≡ all = ap (λ (m : ℕ). points_behind m formals text 0) there ∙ (f (10 - i) ∙ (ap (λ (x : List PackedPoint). take i all ++ x) rest ∙ take-append-drop i all)) in
+    ap (λ (x : List PackedPoint). let s : PointCache = record { all = x } in s) (sym whole)
+
+pub all_points : (formals : List Formal) (text : List ℕ) (points : PointCache) → points ≡ cached_points formals text → points.all ≡ points_behind 10 formals text 0
+unfolding cached_points
+all_points formals text points e = ap (λ (x : PointCache). x.all) e
+
+-- an expansion point without anything
+abbrev pub no_point : PackedPoint
+no_point = record { end = 0; len = 0; place = 0; calm = 0; kind = kept.Unknown }
+
+-- the expansion point at a place among them is the first one from the end of the one before, and those behind it come from its own end on
+pub point_next : (formals : List Formal) (text : List ℕ) (all : List PackedPoint) (d k : PackedPoint) (i start : ℕ) → length all ≡ 10 → i < 10 → drop i all ≡ points_behind (10 - i) formals text start → k ≡ get_or all i d → (k ≡ kept_from formals text start) × (drop (i + 1) all ≡ points_behind (10 - (i + 1)) formals text k.end)
+unfolding points_behind
+point_next formals text all d k i start l h e q =
+    let left : 10 - i ≡ suc (10 - (i + 1)) = omega arith in
+    let first : PackedPoint = kept_from formals text start in
+    let both : get_or all i d ∷ drop (i + 1) all ≡ first ∷ points_behind (10 - (i + 1)) formals text first.end =
+    sym (drop_more all i d (omega arith)) ∙ (e ∙ ap (λ (m : ℕ). points_behind m formals text start) left) in
+    let here : k ≡ first = q ∙ ap (λ (x : List PackedPoint). get_or x 0 d) both in
+    (here, ap (λ (x : List PackedPoint). drop 1 x) both ∙ ap (λ (x : PackedPoint). points_behind (10 - (i + 1)) formals text x.end) (sym here))
+
+-- The expansion points of the body of a macro in a table.
+
+-- the macro of an entry that was read
+pub macro_here : (bs bytes : List ℕ) (entries : List Entry) (a b : ℕ) (view : TableView) (i j : ℕ) (entry : Entry) → bs ≡ bytes → view_of bytes entries a b ≡ view → i ≡ j → i < length entries → entry ≡ get_or entries i entry → macro_in bs entry ≡ macro_at view.macros j
+macro_here bs bytes entries a b view i j entry p e s h q =
+    ap (λ (x : List ℕ). macro_in x entry) p ∙ (ap (macro_in bytes) q ∙ (sym (macro_at_entry bytes entries a b view i entry e h) ∙ ap (macro_at view.macros) s))
+
+pub formals_here : (bs bytes : List ℕ) (entries : List Entry) (a b : ℕ) (view : TableView) (i j : ℕ) (entry : Entry) (formals : List Formal) → bs ≡ bytes → view_of bytes entries a b ≡ view → i ≡ j → i < length entries → entry ≡ get_or entries i entry → formals ≡ formals_of (macro_in bs entry) → formals ≡ formals_of (macro_at view.macros j)
+formals_here bs bytes entries a b view i j entry formals p e s h q f =
+    f ∙ ap (λ (m : Macro). formals_of m) (macro_here bs bytes entries a b view i j entry p e s h q)
+
+-- an expansion point that was read of a body
+pub some_kept : (m : Macro) (formals : List Formal) (body : List ℕ) (from to : ℕ) (s : ExpansionPoint) → formals ≡ formals_of m → body ≡ m.body → s ≡ point_of formals from (slice_range body from to) → s ≡ point_in m from to
+unfolding point_in
+some_kept m formals body from to s f b e =
+    e ∙ (ap (λ (fs : List Formal). point_of fs from (slice_range body from to)) f ∙ ap (λ (l : List ℕ). point_of (formals_of m) from (slice_range l from to)) b)

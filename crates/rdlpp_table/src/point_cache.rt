@@ -1,0 +1,290 @@
+// The first expansion points of a body, which are looked for once and kept in its entry.
+ghost use Rattle.std.specs.Prelude.{drop, length, slice_index, slice_range, IfSome, List, ℕ, ◌+◌, ◌<◌, ◌≡◌, ◌≤◌, ◌^◌};
+ghost use Rattle.rdlpp_scan.specs.Bytes.{is_word};
+ghost use Rattle.rdlpp_table.specs.PointCache.{
+  before_point,
+  calm_kept,
+  endless,
+  cached_points,
+  is_cut,
+  kept_from,
+  kept_of,
+  kept_point,
+  placed,
+  point_by,
+  point_end,
+  point_kept,
+  point_known,
+  point_within,
+};
+ghost use Rattle.rdlpp_table.specs.Shapes.{AreShapes};
+ghost use Rattle.rdlpp_table.specs.ExpansionPoints.{point_of};
+ghost use Rattle.rdlpp_table.specs.Store.{formals_read, IsListed};
+ghost use Rattle.rdlpp_table.specs.Table.{Formal};
+
+use crate::marks::{Listed, shapes};
+use crate::point::{ExpansionPoint, next_expansion_point};
+use rdlpp_scan::{calm_bytes, quiet_bytes, word_bytes};
+
+// What an expansion point is that is kept: unknown, where its numbers are too large.
+#[derive(Clone, Copy, Drop)]
+pub(crate) enum PackedKind {
+    Unknown,
+    None,
+    Formal,
+    Usage,
+    Bare,
+}
+
+// An expansion point as it is kept: in small numbers, which all have but those far behind in a long body and names that no macro has.
+#[derive(Clone, Copy, Drop)]
+pub(crate) struct PackedPoint {
+    // Where it ends; 65,535 where there is none, or where it is unknown.
+    pub(crate) end: u16,
+    pub(crate) len: u8,
+    // Which formal it is.
+    pub(crate) place: u8,
+    // How many calm bytes stand first in the text of which it is the first expansion point, and before it: 255, where there are more.
+    pub(crate) calm: u8,
+    pub(crate) kind: PackedKind,
+}
+
+// How many expansion points of a body are kept.
+pub(crate) const CACHED_POINTS: usize = 10;
+
+// The first expansion points of a body, each of them the first one behind the one before.
+#[derive(Clone, Copy, Drop)]
+pub(crate) struct PointCache {
+    pub(crate) all: [PackedPoint; CACHED_POINTS],
+}
+
+// What is kept where no expansion point is known to end.
+#[tactic(auto, unfolding(crate::specs::PointCache::endless))]
+fn endless(kind: PackedKind, calm: u8) -> PackedPoint
+    ensures { result ≡ endless kind calm }
+{
+    PackedPoint {
+        end: 65535,
+        len: 0,
+        place: 0,
+        calm,
+        kind,
+    }
+}
+
+// What is kept of an expansion point by its numbers.
+#[tactic(auto, unfolding(crate::specs::PointCache::placed, crate::specs::PointCache::endless))]
+fn placed(kind: PackedKind, at: usize, len: usize, place: usize, calm: u8) -> PackedPoint
+    ensures value { result ≡ placed kind at len place calm }
+    ensures end { result.end < 65535 → result.end ≡ at + len }
+{
+    if at < 65535 && len < 256 && place < 256 && at + len < 65535 {
+        PackedPoint {
+            end: (at + len) as u16,
+            len: len as u8,
+            place: place as u8,
+            calm,
+            kind,
+        }
+    } else {
+        endless(PackedKind::Unknown, 0)
+    }
+}
+
+// An expansion point as it is kept, with how many calm bytes stand first in its text.
+#[tactic(auto, unfolding(crate::specs::PointCache::kept_of, crate::specs::PointCache::endless, crate::specs::PointCache::point_end))]
+fn kept_of(point: ExpansionPoint, calm: u8) -> PackedPoint
+    ensures value { result ≡ kept_of point calm }
+    ensures end { result.end < 65535 → result.end ≡ point_end point }
+{
+    match point {
+        ExpansionPoint::None => endless(PackedKind::None, calm),
+        ExpansionPoint::Formal { at, len, place } => placed(PackedKind::Formal, at, len, place, calm),
+        ExpansionPoint::Usage { at, len } => placed(PackedKind::Usage, at, len, 0, calm),
+        ExpansionPoint::Bare { at } => placed(PackedKind::Bare, at, 1, 0, calm),
+    }
+}
+
+// The expansion point of a kind at a place.
+#[tactic(auto, unfolding(crate::specs::PointCache::point_by))]
+fn point_by(kind: PackedKind, at: usize, len: usize, place: usize) -> Option<ExpansionPoint>
+    ensures { result ≡ point_by kind at len place }
+{
+    match kind {
+        PackedKind::Unknown => None,
+        PackedKind::None => Some(ExpansionPoint::None),
+        PackedKind::Formal => Some(ExpansionPoint::Formal { at, len, place }),
+        PackedKind::Usage => Some(ExpansionPoint::Usage { at, len }),
+        PackedKind::Bare => Some(ExpansionPoint::Bare { at }),
+    }
+}
+
+// The expansion point that is kept, where it is known.
+#[tactic(auto, unfolding(crate::specs::PointCache::point_kept))]
+fn point_kept(kept: PackedPoint) -> Option<ExpansionPoint>
+    ensures { result ≡ point_kept kept }
+{
+    let len = kept.len as usize;
+    let at = (kept.end as usize).saturating_sub(len);
+    point_by(kept.kind, at, len, kept.place as usize)
+}
+
+// A text that begins at a place, up to its first expansion point.
+#[tactic(auto, unfolding(crate::specs::PointCache::before_point, crate::specs::PointCache::point_end))]
+fn before_point(point: ExpansionPoint, from: usize, text: &[u8]) -> &[u8]
+    requires { point_end point ≤ from + length text.now }
+    ensures { result.now ≡ before_point point from text.now }
+{
+    match point {
+        ExpansionPoint::None => text,
+        ExpansionPoint::Formal { at, .. } | ExpansionPoint::Usage { at, .. } | ExpansionPoint::Bare { at } => {
+            &text[..at.saturating_sub(from)]
+        }
+    }
+}
+
+// How many calm bytes a text begins with, as they are kept.
+#[tactic(auto, unfolding(crate::specs::PointCache::calm_kept))]
+fn calm_kept(text: &[u8]) -> u8
+    ensures { result ≡ calm_kept text.now }
+{
+    let near = text.len().min(255);
+    calm_bytes(&text[..near]) as u8
+}
+
+// An expansion point of a text that begins at a place, as it is kept.
+#[tactic(auto, unfolding(crate::specs::PointCache::kept_point))]
+fn kept_point(point: ExpansionPoint, from: usize, text: &[u8]) -> PackedPoint
+    requires { point_end point ≤ from + length text.now }
+    ensures value { result ≡ kept_point point from text.now }
+    ensures end { result.end < 65535 → result.end ≡ point_end point }
+{
+    kept_of(point, calm_kept(before_point(point, from, text)))
+}
+
+// The first expansion point of a body from a place on.
+#[tactic(auto, unfolding(crate::specs::PointCache::kept_from, crate::specs::PointCache::endless))]
+fn kept_from(formals: &Listed, shapes: &[bool], body: &[u8], from: u16) -> PackedPoint
+    requires listed { IsListed formals.now.count formals.now.list.now formals.now.marks.now }
+    requires told { AreShapes (formals_read formals.now.count formals.now.list.now) shapes.now }
+    requires short { length body.now < 2 ^ 64 }
+    requires inside { from < 65535 → from ≤ length body.now }
+    ensures value { result ≡ kept_from (formals_read formals.now.count formals.now.list.now) body.now from }
+    ensures inside { result.end < 65535 → result.end ≤ length body.now }
+{
+    if from < 65535 {
+        let from = from as usize;
+        let text = &body[from..];
+        kept_point(next_expansion_point(formals, shapes, text, from), from, text)
+    } else {
+        endless(PackedKind::Unknown, 0)
+    }
+}
+
+// The first expansion points of a body, among formals as they lie in a table. Behind one that isn't known to end nothing is looked for.
+pub(crate) fn cached_points(formals: &Listed, body: &[u8]) -> PointCache
+    requires listed { IsListed formals.now.count formals.now.list.now formals.now.marks.now }
+    requires short { length body.now < 2 ^ 64 }
+    ensures { result ≡ cached_points (formals_read formals.now.count formals.now.list.now) body.now }
+{
+    let shapes = shapes(formals);
+    let mut all = [endless(PackedKind::Unknown, 0); CACHED_POINTS];
+    let mut count = 0;
+    let mut from = 0;
+    while count < CACHED_POINTS && from < 65535 {
+        let next = kept_from(formals, &shapes, body, from);
+        all[count] = next;
+        from = next.end;
+        count += 1;
+    }
+    PointCache { all }
+}
+
+// Whether it is known that no token goes on at a place of a body that is read from another one on, behind calm bytes: it is that place,
+// or a quiet byte stands before it.
+#[tactic(auto, unfolding(crate::specs::PointCache::is_cut))]
+fn is_cut(body: &[u8], start: usize, from: usize) -> bool
+    requires order { start ≤ from }
+    requires inside { from ≤ length body.now }
+    ensures { result ≡ is_cut body.now start from }
+{
+    from == start || quiet_bytes(&body[from - 1..from]) == 1
+}
+
+// Whether a word may go on at a place of a body.
+fn is_word_at(body: &[u8], place: usize) -> bool
+    requires { place < length body.now }
+    ensures { result ≡ is_word (slice_index body.now place) }
+{
+    word_bytes(&body[place..place + 1]) == 1
+}
+
+// The first expansion point of a range of a body, behind whose front no token goes on, where the expansion point that is kept as
+// the first one from a place on tells it.
+#[tactic(auto, unfolding(crate::specs::PointCache::point_within))]
+fn point_within(body: &[u8], reach: usize, kept: PackedPoint, to: usize) -> Option<ExpansionPoint>
+    requires { to ≤ length body.now }
+    ensures { result ≡ point_within body.now reach kept to }
+{
+    let end = kept.end as usize;
+    let at = end.saturating_sub(kept.len as usize);
+    if to == body.len() || (kept.len > 0 && (end <= to && at <= reach)) {
+        return point_kept(kept);
+    }
+    if to <= at && (to <= reach && !is_word_at(body, to)) {
+        return Some(ExpansionPoint::None);
+    }
+    None
+}
+
+// The first expansion point of a range of a body, where the one that is kept as the first one from a place on tells it.
+#[tactic(auto, unfolding(crate::specs::PointCache::point_known))]
+fn point_known(body: &[u8], start: u16, kept: PackedPoint, from: usize, to: usize) -> Option<ExpansionPoint>
+    requires order { (start ≤ from) × (from ≤ to) }
+    requires inside { to ≤ length body.now }
+    ensures { result ≡ point_known body.now start kept from to }
+{
+    let start = start as usize;
+    let reach = start + kept.calm as usize;
+    if from == start || (from <= reach && is_cut(body, start, from)) {
+        point_within(body, reach, kept, to)
+    } else {
+        None
+    }
+}
+
+// An expansion point that is kept, and the place from which on it is the first one.
+#[derive(Clone, Copy, Drop)]
+struct Candidate<'a> {
+    start: u16,
+    kept: &'a PackedPoint,
+}
+
+// The first of the expansion points that are kept that ends behind a place, or else the last of them. One whose end isn't known is
+// kept with the end 65,535, and those after it tell nothing.
+fn candidate_at(points: &PointCache, from: usize) -> Candidate<'_>
+    ensures order { result.start ≤ from }
+    ensures kept { (formals : List Formal) (text : List ℕ) → points.now ≡ cached_points formals text → result.kept.now ≡ kept_from formals text result.start }
+{
+    let mut start = 0;
+    for kept in &points.all[..CACHED_POINTS - 1] {
+        if from < kept.end as usize {
+            return Candidate { start, kept };
+        }
+        start = kept.end;
+    }
+    Candidate {
+        start,
+        kept: &points.all[CACHED_POINTS - 1],
+    }
+}
+
+// The first expansion point of a range of a body, where one that is kept tells it.
+pub(crate) fn cached_point(points: &PointCache, body: &[u8], from: usize, to: usize) -> Option<ExpansionPoint>
+    requires order { from ≤ to }
+    requires inside { to ≤ length body.now }
+    ensures { (formals : List Formal) → points.now ≡ cached_points formals body.now → IfSome result (λ point. point ≡ point_of formals from (slice_range body.now from to)) }
+{
+    let found = candidate_at(points, from);
+    point_known(body, found.start, *found.kept, from, to)
+}
