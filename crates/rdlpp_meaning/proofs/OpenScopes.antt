@@ -38,7 +38,7 @@ pub item-around : (texts : Texts) (x : Open) (below : List Open) (k : ℕ) → k
 unfolding item_at
 item-around texts x below k h =
     ap (λ (b : Bool). λ (t : SourceToken).
-    if b then own_item texts x.kind (scope_text texts below x.home) (item_at texts below x.home) (writers_at texts below x.home) t
+    if b then own_item texts x.kind (scope_text texts below x.parent) (item_at texts below x.parent) (writers_at texts below x.parent) t
     else item_at texts below k t) (not_next k (length below) h)
 
 -- nor of the macros in whose text they are
@@ -49,16 +49,16 @@ writers-around texts x below k h = rw (not_next k (length below) h) refl
 -- the items of its own scope
 pub item-own : (texts : Texts) (x : Open) (below : List Open)
     → item_at texts (x ∷ below) (suc (length below))
-    ≡ own_item texts x.kind (scope_text texts below x.home) (item_at texts below x.home) (writers_at texts below x.home)
+    ≡ own_item texts x.kind (scope_text texts below x.parent) (item_at texts below x.parent) (writers_at texts below x.parent)
 unfolding item_at
 item-own texts x below =
     ap (λ (b : Bool). λ (t : SourceToken).
-    if b then own_item texts x.kind (scope_text texts below x.home) (item_at texts below x.home) (writers_at texts below x.home) t
+    if b then own_item texts x.kind (scope_text texts below x.parent) (item_at texts below x.parent) (writers_at texts below x.parent) t
     else item_at texts below (suc (length below)) t) (next_is (suc (length below)))
 
 -- and its macros
 pub writers-own : (texts : Texts) (x : Open) (below : List Open)
-    → writers_at texts (x ∷ below) (suc (length below)) ≡ own_writers texts x.kind (writers_at texts below x.home)
+    → writers_at texts (x ∷ below) (suc (length below)) ≡ own_writers texts x.kind (writers_at texts below x.parent)
 unfolding writers_at
 writers-own texts x below = rw (next_is (suc (length below))) refl
 
@@ -169,30 +169,30 @@ part-whole text =
 
 -- the open text that a formal stands for, by whether its part has no bytes and whether it has no default
 unfoldable pub standing_by : Bool → Bool → List Formal → ℕ → ℕ → ℕ → List Part → ℕ → Open
-standing_by empty none formals id scope home parts place =
+standing_by empty none formals id scope parent parts place =
     if empty && not none
     then record {
       part = record { from = 0; end = length (formal_at formals place).text; mode = Plain };
-      home = scope;
+      parent = scope;
       kind = OpenDefault id place;
     }
-    else record { part = part_at parts place; home = home; kind = OpenActual }
+    else record { part = part_at parts place; parent = parent; kind = OpenActual }
 
 -- what a formal stands for is no body
-pub standing-text : (empty none : Bool) (formals : List Formal) (id scope home : ℕ) (parts : List Part) (place : ℕ)
-    → IsOpenText (standing_by empty none formals id scope home parts place).kind
+pub standing-text : (empty none : Bool) (formals : List Formal) (id scope parent : ℕ) (parts : List Part) (place : ℕ)
+    → IsOpenText (standing_by empty none formals id scope parent parts place).kind
 unfolding standing_by IsOpenText
-standing-text true true formals id scope home parts place = tt
-standing-text true false formals id scope home parts place = tt
-standing-text false none formals id scope home parts place = tt
+standing-text true true formals id scope parent parts place = tt
+standing-text true false formals id scope parent parts place = tt
+standing-text false none formals id scope parent parts place = tt
 
--- and its home is the scope or one further out
-pub standing-inside : (empty none : Bool) (formals : List Formal) (id scope home : ℕ) (parts : List Part) (place n : ℕ) → scope ≡ n → home < n
-    → (standing_by empty none formals id scope home parts place).home ≤ n
+-- and its parent is the scope or one further out
+pub standing-inside : (empty none : Bool) (formals : List Formal) (id scope parent : ℕ) (parts : List Part) (place n : ℕ) → scope ≡ n → parent < n
+    → (standing_by empty none formals id scope parent parts place).parent ≤ n
 unfolding standing_by
-standing-inside true true formals id scope home parts place n e h = omega (arith, e, h)
-standing-inside true false formals id scope home parts place n e h = omega (arith, e, h)
-standing-inside false none formals id scope home parts place n e h = omega (arith, e, h)
+standing-inside true true formals id scope parent parts place n e h = omega (arith, e, h)
+standing-inside true false formals id scope parent parts place n e h = omega (arith, e, h)
+standing-inside false none formals id scope parent parts place n e h = omega (arith, e, h)
 
 -- a part lies in its text
 pub part-inside : (text : List ℕ) (parts : List Part) (place : ℕ) → AllByRecursion (λ part. part.end ≤ length text) parts → place < length parts
@@ -259,55 +259,55 @@ behind-open texts x below n mode h = h
 abbrev pub name_token : List ℕ → SourceToken
 name_token bytes = record { sort = Ordinary Name; bytes = bytes; line = 0 }
 
--- the item that a token of an open text which is no body is, in front of others: of an actual that of its home
+-- the item that a token of an open text which is no body is, in front of others: of an actual that of its parent
 unfoldable pub text_item : Texts → OpenKind → ℕ → List Open → SourceToken → Item
-text_item texts (OpenBody id parts) home below t = Written t
-text_item texts OpenActual home below t = item_at texts below home t
-text_item texts (OpenDefault id place) home below t = Written t
+text_item texts (OpenBody id parts) parent below t = Written t
+text_item texts OpenActual parent below t = item_at texts below parent t
+text_item texts (OpenDefault id place) parent below t = Written t
 
 -- the mark of an open text that is no body, in front of others
 unfoldable pub text_mark : Texts → List Open → Open → Item
 text_mark texts below y =
-    Arg (writers_at texts below y.home) (packed (map (text_item texts y.kind y.home below) (part_tokens (text_around texts y.kind y.home below) y.part)))
+    Arg (writers_at texts below y.parent) (packed (map (text_item texts y.kind y.parent below) (part_tokens (text_around texts y.kind y.parent below) y.part)))
 
 -- it is the mark of its items, by what it is
-mark-by : (texts : Texts) (part : Part) (home : ℕ) (kind : OpenKind) (below : List Open) → IsOpenText kind → home ≤ length below
-    → text_mark texts below (record { part = part; home = home; kind = kind })
-    ≡ Arg (open_writers texts (record { part = part; home = home; kind = kind }) below) (packed (open_items texts (record { part = part; home = home; kind = kind }) below))
+mark-by : (texts : Texts) (part : Part) (parent : ℕ) (kind : OpenKind) (below : List Open) → IsOpenText kind → parent ≤ length below
+    → text_mark texts below (record { part = part; parent = parent; kind = kind })
+    ≡ Arg (open_writers texts (record { part = part; parent = parent; kind = kind }) below) (packed (open_items texts (record { part = part; parent = parent; kind = kind }) below))
 unfolding IsOpenText text_mark text_item open_items open_scope own_writers own_item text_around
-mark-by texts part home (OpenBody id parts) below n h = absurd n
-mark-by texts part home OpenActual below n h =
-    let y : Open = record { part = part; home = home; kind = OpenActual } in
-    let ts = part_tokens (scope_text texts below home) part in
-    ap (λ (w : List (List ℕ)). Arg w (packed (map (item_at texts below home) ts))) (sym (writers-around texts y below home h))
-    ∙ ap (λ (f : SourceToken → Item). Arg (writers_at texts (y ∷ below) home) (packed (map f ts))) (sym (item-around texts y below home h))
-mark-by texts part home (OpenDefault id place) below n h =
-    let y : Open = record { part = part; home = home; kind = OpenDefault id place } in
+mark-by texts part parent (OpenBody id parts) below n h = absurd n
+mark-by texts part parent OpenActual below n h =
+    let y : Open = record { part = part; parent = parent; kind = OpenActual } in
+    let ts = part_tokens (scope_text texts below parent) part in
+    ap (λ (w : List (List ℕ)). Arg w (packed (map (item_at texts below parent) ts))) (sym (writers-around texts y below parent h))
+    ∙ ap (λ (f : SourceToken → Item). Arg (writers_at texts (y ∷ below) parent) (packed (map f ts))) (sym (item-around texts y below parent h))
+mark-by texts part parent (OpenDefault id place) below n h =
+    let y : Open = record { part = part; parent = parent; kind = OpenDefault id place } in
     let ts = part_tokens (own_text texts (OpenDefault id place)) part in
     ap (λ (w : List (List ℕ)). Arg w (packed (map Written ts))) (sym (writers-own texts y below))
     ∙ ap (λ (f : SourceToken → Item). Arg (writers_at texts (y ∷ below) (suc (length below))) (packed (map f ts))) (sym (item-own texts y below))
 
 -- it is the mark of its items
-pub text-mark : (texts : Texts) (below : List Open) (y : Open) → IsOpenText y.kind → y.home ≤ length below
+pub text-mark : (texts : Texts) (below : List Open) (y : Open) → IsOpenText y.kind → y.parent ≤ length below
     → text_mark texts below y ≡ Arg (open_writers texts y below) (packed (open_items texts y below))
-text-mark texts below y n h = mark-by texts y.part y.home y.kind below n h
+text-mark texts below y n h = mark-by texts y.part y.parent y.kind below n h
 
 -- one more open text doesn't change it, by what it is
-around-by : (texts : Texts) (x : Open) (below : List Open) (part : Part) (home : ℕ) (kind : OpenKind) → IsOpenText kind → home ≤ length below
-    → text_mark texts (x ∷ below) (record { part = part; home = home; kind = kind }) ≡ text_mark texts below (record { part = part; home = home; kind = kind })
+around-by : (texts : Texts) (x : Open) (below : List Open) (part : Part) (parent : ℕ) (kind : OpenKind) → IsOpenText kind → parent ≤ length below
+    → text_mark texts (x ∷ below) (record { part = part; parent = parent; kind = kind }) ≡ text_mark texts below (record { part = part; parent = parent; kind = kind })
 unfolding IsOpenText text_mark text_item text_around
-around-by texts x below part home (OpenBody id parts) n h = absurd n
-around-by texts x below part home OpenActual n h =
-    ap (λ (w : List (List ℕ)). Arg w (packed (map (item_at texts (x ∷ below) home) (part_tokens (scope_text texts (x ∷ below) home) part)))) (writers-around texts x below home h)
-    ∙ ap (λ (f : SourceToken → Item). Arg (writers_at texts below home) (packed (map f (part_tokens (scope_text texts (x ∷ below) home) part)))) (item-around texts x below home h)
-    ∙ ap (λ (text : List ℕ). Arg (writers_at texts below home) (packed (map (item_at texts below home) (part_tokens text part)))) (text-around texts x below home h)
-around-by texts x below part home (OpenDefault id place) n h =
-    ap (λ (w : List (List ℕ)). Arg w (packed (map Written (part_tokens (own_text texts (OpenDefault id place)) part)))) (writers-around texts x below home h)
+around-by texts x below part parent (OpenBody id parts) n h = absurd n
+around-by texts x below part parent OpenActual n h =
+    ap (λ (w : List (List ℕ)). Arg w (packed (map (item_at texts (x ∷ below) parent) (part_tokens (scope_text texts (x ∷ below) parent) part)))) (writers-around texts x below parent h)
+    ∙ ap (λ (f : SourceToken → Item). Arg (writers_at texts below parent) (packed (map f (part_tokens (scope_text texts (x ∷ below) parent) part)))) (item-around texts x below parent h)
+    ∙ ap (λ (text : List ℕ). Arg (writers_at texts below parent) (packed (map (item_at texts below parent) (part_tokens text part)))) (text-around texts x below parent h)
+around-by texts x below part parent (OpenDefault id place) n h =
+    ap (λ (w : List (List ℕ)). Arg w (packed (map Written (part_tokens (own_text texts (OpenDefault id place)) part)))) (writers-around texts x below parent h)
 
 -- one more open text doesn't change it
-mark-around : (texts : Texts) (x : Open) (below : List Open) (y : Open) → IsOpenText y.kind → y.home ≤ length below
+mark-around : (texts : Texts) (x : Open) (below : List Open) (y : Open) → IsOpenText y.kind → y.parent ≤ length below
     → text_mark texts (x ∷ below) y ≡ text_mark texts below y
-mark-around texts x below y n h = around-by texts x below y.part y.home y.kind n h
+mark-around texts x below y n h = around-by texts x below y.part y.parent y.kind n h
 
 -- what a formal stands for by items of which there is one
 standing-some : {A : Type 0} (f : Formal) (y : A) (ys actual : List A) → actual ≡ y ∷ ys → standing_of f actual ≡ Given actual
@@ -328,66 +328,66 @@ standing-part f item text part h some =
     (ap (λ (ts : List SourceToken). map item ts) (text_step part.mode bytes (omega (arith, h, some, n, d))))
 
 -- a formal that has no bytes stands for its default text, or for its part where it has none
-default-mark : (texts : Texts) (x : Open) (below : List Open) (id place : ℕ) (parts : List Part) (none : Bool) → x.kind ≡ OpenBody id parts → x.home ≤ length below
-    → part_tokens (scope_text texts below x.home) (part_at parts place) ≡ []
-    → mark_of (macro_at texts.macros id).name (writers_at texts below x.home)
+default-mark : (texts : Texts) (x : Open) (below : List Open) (id place : ℕ) (parts : List Part) (none : Bool) → x.kind ≡ OpenBody id parts → x.parent ≤ length below
+    → part_tokens (scope_text texts below x.parent) (part_at parts place) ≡ []
+    → mark_of (macro_at texts.macros id).name (writers_at texts below x.parent)
     (if none then Given [] else Defaulted (formal_at (formals_of (macro_at texts.macros id)) place).text)
-    ≡ text_mark texts (x ∷ below) (standing_by true none (formals_of (macro_at texts.macros id)) id (suc (length below)) x.home parts place)
+    ≡ text_mark texts (x ∷ below) (standing_by true none (formals_of (macro_at texts.macros id)) id (suc (length below)) x.parent parts place)
 unfolding standing_by text_mark text_item text_around own_text mark_of own_writers IsOpenText
 default-mark texts x below id place parts true body h nothing =
-    ap (λ (ts : List SourceToken). Arg (writers_at texts below x.home) (packed (map (item_at texts below x.home) ts))) (sym nothing)
-    ∙ sym (mark-around texts x below (record { part = part_at parts place; home = x.home; kind = OpenActual }) tt h)
+    ap (λ (ts : List SourceToken). Arg (writers_at texts below x.parent) (packed (map (item_at texts below x.parent) ts))) (sym nothing)
+    ∙ sym (mark-around texts x below (record { part = part_at parts place; parent = x.parent; kind = OpenActual }) tt h)
 default-mark texts x below id place parts false body h nothing =
     let text = (formal_at (formals_of (macro_at texts.macros id)) place).text in
-    let o = writers_at texts below x.home in
+    let o = writers_at texts below x.parent in
     ap (λ (ts : List SourceToken). Arg ((macro_at texts.macros id).name ∷ o) (packed (map Written ts))) (sym (part-whole text))
     ∙ ap (λ (w : List (List ℕ)). Arg w (packed (map Written (part_tokens text (record { from = 0; end = length text; mode = Plain })))))
     (sym (writers-own texts x below ∙ ap (λ (kind : OpenKind). own_writers texts kind o) body))
 
 -- a formal whose part has bytes stands for that part
-given-mark : (texts : Texts) (x : Open) (below : List Open) (id place : ℕ) (parts : List Part) (none : Bool) → x.home ≤ length below
-    → mark_of (macro_at texts.macros id).name (writers_at texts below x.home)
-    (Given (map (item_at texts below x.home) (part_tokens (scope_text texts below x.home) (part_at parts place))))
-    ≡ text_mark texts (x ∷ below) (standing_by false none (formals_of (macro_at texts.macros id)) id (suc (length below)) x.home parts place)
+given-mark : (texts : Texts) (x : Open) (below : List Open) (id place : ℕ) (parts : List Part) (none : Bool) → x.parent ≤ length below
+    → mark_of (macro_at texts.macros id).name (writers_at texts below x.parent)
+    (Given (map (item_at texts below x.parent) (part_tokens (scope_text texts below x.parent) (part_at parts place))))
+    ≡ text_mark texts (x ∷ below) (standing_by false none (formals_of (macro_at texts.macros id)) id (suc (length below)) x.parent parts place)
 unfolding standing_by text_mark text_item text_around mark_of IsOpenText
 given-mark texts x below id place parts none h =
-    sym (mark-around texts x below (record { part = part_at parts place; home = x.home; kind = OpenActual }) tt h)
+    sym (mark-around texts x below (record { part = part_at parts place; parent = x.parent; kind = OpenActual }) tt h)
 
 -- what a formal of a body stands for is the open text that is opened for it, by whether its part has no bytes and whether it has no
 -- default
-place-by : (texts : Texts) (x : Open) (below : List Open) (id place : ℕ) (parts : List Part) (empty none : Bool) → x.kind ≡ OpenBody id parts → x.home ≤ length below
-    → (part_at parts place).end ≤ length (scope_text texts below x.home)
+place-by : (texts : Texts) (x : Open) (below : List Open) (id place : ℕ) (parts : List Part) (empty none : Bool) → x.kind ≡ OpenBody id parts → x.parent ≤ length below
+    → (part_at parts place).end ≤ length (scope_text texts below x.parent)
     → ((part_at parts place).end - (part_at parts place).from == 0) ≡ empty
     → (length (formal_at (formals_of (macro_at texts.macros id)) place).text == 0) ≡ none
-    → mark_of (macro_at texts.macros id).name (writers_at texts below x.home)
-    (standing_of (formal_at (formals_of (macro_at texts.macros id)) place) (map (item_at texts below x.home) (part_tokens (scope_text texts below x.home) (part_at parts place))))
-    ≡ text_mark texts (x ∷ below) (standing_by empty none (formals_of (macro_at texts.macros id)) id (suc (length below)) x.home parts place)
+    → mark_of (macro_at texts.macros id).name (writers_at texts below x.parent)
+    (standing_of (formal_at (formals_of (macro_at texts.macros id)) place) (map (item_at texts below x.parent) (part_tokens (scope_text texts below x.parent) (part_at parts place))))
+    ≡ text_mark texts (x ∷ below) (standing_by empty none (formals_of (macro_at texts.macros id)) id (suc (length below)) x.parent parts place)
 unfolding standing_of
 place-by texts x below id place parts true none body h inside e n =
     let part = part_at parts place in
     let f = formal_at (formals_of (macro_at texts.macros id)) place in
     let name = (macro_at texts.macros id).name in
-    let o = writers_at texts below x.home in
-    let nothing : part_tokens (scope_text texts below x.home) part ≡ [] = part-empty (scope_text texts below x.home) part (eqb-true (part.end - part.from) 0 e) in
-    ap (λ (ts : List SourceToken). mark_of name o (standing_of f (map (item_at texts below x.home) ts))) nothing
+    let o = writers_at texts below x.parent in
+    let nothing : part_tokens (scope_text texts below x.parent) part ≡ [] = part-empty (scope_text texts below x.parent) part (eqb-true (part.end - part.from) 0 e) in
+    ap (λ (ts : List SourceToken). mark_of name o (standing_of f (map (item_at texts below x.parent) ts))) nothing
     ∙ ap (λ (b : Bool). mark_of name o (if b then Given [] else Defaulted f.text)) n
     ∙ default-mark texts x below id place parts none body h nothing
 place-by texts x below id place parts false none body h inside e n =
     let part = part_at parts place in
     let f = formal_at (formals_of (macro_at texts.macros id)) place in
-    ap (λ (s : Standing Item). mark_of (macro_at texts.macros id).name (writers_at texts below x.home) s)
-    (standing-part f (item_at texts below x.home) (scope_text texts below x.home) part inside (positive (part.end - part.from) e))
+    ap (λ (s : Standing Item). mark_of (macro_at texts.macros id).name (writers_at texts below x.parent) s)
+    (standing-part f (item_at texts below x.parent) (scope_text texts below x.parent) part inside (positive (part.end - part.from) e))
     ∙ given-mark texts x below id place parts none h
   where
     positive : (n : ℕ) → (n == 0) ≡ false → 0 < n
     positive zero e = absurd (true≢false e)
     positive (suc n) e = omega arith
 
--- an item is the mark of an open text, which is no body and whose home is a scope around it
+-- an item is the mark of an open text, which is no body and whose parent is a scope around it
 pub record IsMarkOf (texts : Texts) (opens : List Open) (y : Open) (item : Item) : Type 0 where
   pub mark : item ≡ text_mark texts opens y
   pub text : IsOpenText y.kind
-  pub inside : y.home ≤ length opens
+  pub inside : y.parent ≤ length opens
 
 -- the item that a token is by the place of the formal that it names in a scope: the mark of the open text that is opened for that, or
 -- the token as it is where it names none
@@ -396,11 +396,11 @@ StandsFor texts opens found k None t item = item ≡ Written t
 StandsFor texts opens found k (Some place) t item = (y : Open) → found_standing texts.macros found k place ≡ Some y → IsMarkOf texts opens y item
 
 -- the item of the name of the formal at a place of a body
-place-stands : (texts : Texts) (x : Open) (below : List Open) (id place : ℕ) (parts : List Part) → x.kind ≡ OpenBody id parts → x.home ≤ length below
-    → (part_at parts place).end ≤ length (scope_text texts below x.home)
-    → IsMarkOf texts (x ∷ below) (open_standing (formals_of (macro_at texts.macros id)) id (suc (length below)) x.home parts place)
-    (mark_of (macro_at texts.macros id).name (writers_at texts below x.home)
-    (standing_of (formal_at (formals_of (macro_at texts.macros id)) place) (map (item_at texts below x.home) (part_tokens (scope_text texts below x.home) (part_at parts place)))))
+place-stands : (texts : Texts) (x : Open) (below : List Open) (id place : ℕ) (parts : List Part) → x.kind ≡ OpenBody id parts → x.parent ≤ length below
+    → (part_at parts place).end ≤ length (scope_text texts below x.parent)
+    → IsMarkOf texts (x ∷ below) (open_standing (formals_of (macro_at texts.macros id)) id (suc (length below)) x.parent parts place)
+    (mark_of (macro_at texts.macros id).name (writers_at texts below x.parent)
+    (standing_of (formal_at (formals_of (macro_at texts.macros id)) place) (map (item_at texts below x.parent) (part_tokens (scope_text texts below x.parent) (part_at parts place)))))
 unfolding open_standing standing_by
 place-stands texts x below id place parts body h inside =
     let formals = formals_of (macro_at texts.macros id) in
@@ -408,52 +408,52 @@ place-stands texts x below id place parts body h inside =
     let none : Bool = length (formal_at formals place).text == 0 in
     record {
       mark = place-by texts x below id place parts empty none body h inside refl refl;
-      text = standing-text empty none formals id (suc (length below)) x.home parts place;
-      inside = standing-inside empty none formals id (suc (length below)) x.home parts place (suc (length below)) refl (further x.home (length below) h);
+      text = standing-text empty none formals id (suc (length below)) x.parent parts place;
+      inside = standing-inside empty none formals id (suc (length below)) x.parent parts place (suc (length below)) refl (further x.parent (length below) h);
     }
 
 -- the item of a name in a body, by the place of the formal that it is
-body-stands : (texts : Texts) (part : Part) (home : ℕ) (below : List Open) (id : ℕ) (parts : List Part) (t : SourceToken) (place : Option ℕ) → home ≤ length below
-    → AllByRecursion (λ part. part.end ≤ length (scope_text texts below home)) parts → IsPlace (length parts) place
-    → StandsFor texts (record { part = part; home = home; kind = OpenBody id parts } ∷ below) (Some (record { part = part; home = home; kind = OpenBody id parts })) (suc (length below)) place t
-    (mark_or (macro_at texts.macros id).name (writers_at texts below home) t
-    (option_map (standing_of_place (formals_of (macro_at texts.macros id)) (part_items (item_at texts below home) (scope_text texts below home) parts)) place))
+body-stands : (texts : Texts) (part : Part) (parent : ℕ) (below : List Open) (id : ℕ) (parts : List Part) (t : SourceToken) (place : Option ℕ) → parent ≤ length below
+    → AllByRecursion (λ part. part.end ≤ length (scope_text texts below parent)) parts → IsPlace (length parts) place
+    → StandsFor texts (record { part = part; parent = parent; kind = OpenBody id parts } ∷ below) (Some (record { part = part; parent = parent; kind = OpenBody id parts })) (suc (length below)) place t
+    (mark_or (macro_at texts.macros id).name (writers_at texts below parent) t
+    (option_map (standing_of_place (formals_of (macro_at texts.macros id)) (part_items (item_at texts below parent) (scope_text texts below parent) parts)) place))
 unfolding StandsFor standing_of_place mark_or
-body-stands texts part home below id parts t None h fits inside = refl
-body-stands texts part home below id parts t (Some place) h fits inside = λ y e.
-    let x : Open = record { part = part; home = home; kind = OpenBody id parts } in
-    let text = scope_text texts below home in
+body-stands texts part parent below id parts t None h fits inside = refl
+body-stands texts part parent below id parts t (Some place) h fits inside = λ y e.
+    let x : Open = record { part = part; parent = parent; kind = OpenBody id parts } in
+    let text = scope_text texts below parent in
     let f = formal_at (formals_of (macro_at texts.macros id)) place in
-    subst (λ (z : Open). IsMarkOf texts (x ∷ below) z (mark_of (macro_at texts.macros id).name (writers_at texts below home)
-    (standing_of f (slice_index_or (part_items (item_at texts below home) text parts) place [])))) (one _ y e)
-    (subst (λ (actual : List Item). IsMarkOf texts (x ∷ below) (open_standing (formals_of (macro_at texts.macros id)) id (suc (length below)) home parts place)
-    (mark_of (macro_at texts.macros id).name (writers_at texts below home) (standing_of f actual)))
-    (sym (get_or-map (λ (part : Part). map (item_at texts below home) (part_tokens text part)) parts place (record { from = 0; end = 0; mode = Plain }) [] inside))
+    subst (λ (z : Open). IsMarkOf texts (x ∷ below) z (mark_of (macro_at texts.macros id).name (writers_at texts below parent)
+    (standing_of f (slice_index_or (part_items (item_at texts below parent) text parts) place [])))) (one _ y e)
+    (subst (λ (actual : List Item). IsMarkOf texts (x ∷ below) (open_standing (formals_of (macro_at texts.macros id)) id (suc (length below)) parent parts place)
+    (mark_of (macro_at texts.macros id).name (writers_at texts below parent) (standing_of f actual)))
+    (sym (get_or-map (λ (part : Part). map (item_at texts below parent) (part_tokens text part)) parts place (record { from = 0; end = 0; mode = Plain }) [] inside))
     (place-stands texts x below id place parts refl h (part-inside text parts place fits inside)))
   where
     one : (a b : Open) → Some a ≡ Some b → a ≡ b
     one a b e = cc
 
 -- the item of a name of an open text's own scope, by what it is
-own-stands : (texts : Texts) (part : Part) (home : ℕ) (kind : OpenKind) (below : List Open) (bytes : List ℕ)
-    → home ≤ length below → HasParts texts (scope_text texts below home) kind
-    → StandsFor texts (record { part = part; home = home; kind = kind } ∷ below) (Some (record { part = part; home = home; kind = kind })) (suc (length below))
+own-stands : (texts : Texts) (part : Part) (parent : ℕ) (kind : OpenKind) (below : List Open) (bytes : List ℕ)
+    → parent ≤ length below → HasParts texts (scope_text texts below parent) kind
+    → StandsFor texts (record { part = part; parent = parent; kind = kind } ∷ below) (Some (record { part = part; parent = parent; kind = kind })) (suc (length below))
     (formal_named (kind_formals texts.macros kind) bytes) (name_token bytes)
-    (own_item texts kind (scope_text texts below home) (item_at texts below home) (writers_at texts below home) (name_token bytes))
+    (own_item texts kind (scope_text texts below parent) (item_at texts below parent) (writers_at texts below parent) (name_token bytes))
 unfolding own_item marked StandsFor
-own-stands texts part home (OpenBody id parts) below bytes h has =
-    let x : Open = record { part = part; home = home; kind = OpenBody id parts } in
+own-stands texts part parent (OpenBody id parts) below bytes h has =
+    let x : Open = record { part = part; parent = parent; kind = OpenBody id parts } in
     let m = macro_at texts.macros id in
     let place = formal_named (formals_of m) bytes in
-    let actuals = part_items (item_at texts below home) (scope_text texts below home) parts in
+    let actuals = part_items (item_at texts below parent) (scope_text texts below parent) parts in
     let many : length (formals_of m) ≤ length actuals =
-    let l = length-map parts (λ (part : Part). map (item_at texts below home) (part_tokens (scope_text texts below home) part)) in
+    let l = length-map parts (λ (part : Part). map (item_at texts below parent) (part_tokens (scope_text texts below parent) part)) in
     let k : length (formals_of m) ≤ length parts = has.0 in omega (arith, l, k) in
-    subst (λ (o : Option (Standing Item)). StandsFor texts (x ∷ below) (Some x) (suc (length below)) place (name_token bytes) (mark_or m.name (writers_at texts below home) (name_token bytes) o))
+    subst (λ (o : Option (Standing Item)). StandsFor texts (x ∷ below) (Some x) (suc (length below)) place (name_token bytes) (mark_or m.name (writers_at texts below parent) (name_token bytes) o))
     (sym (bound-place (formals_of m) actuals bytes many))
-    (body-stands texts part home below id parts (name_token bytes) place h has.1 (formal-place (formals_of m) bytes (length parts) has.0))
-own-stands texts part home OpenActual below bytes h has = refl
-own-stands texts part home (OpenDefault id place) below bytes h has = refl
+    (body-stands texts part parent below id parts (name_token bytes) place h has.1 (formal-place (formals_of m) bytes (length parts) has.0))
+own-stands texts part parent OpenActual below bytes h has = refl
+own-stands texts part parent (OpenDefault id place) below bytes h has = refl
 
 -- what a token stands for in a scope it stands for with one more open text
 stands-around : (texts : Texts) (x : Open) (below : List Open) (found : Option Open) (k : ℕ) (place : Option ℕ) (t : SourceToken) (item : Item)
@@ -465,22 +465,22 @@ stands-around texts x below found k (Some place) t item s = λ y e.
     record {
       mark = m.mark ∙ sym (mark-around texts x below y m.text m.inside);
       text = m.text;
-      inside = let h : y.home ≤ length below = m.inside in omega arith;
+      inside = let h : y.parent ≤ length below = m.inside in omega arith;
     }
 
 -- by whether the scope is that of the innermost open text
 stands-by : (texts : Texts) (x : Open) (below : List Open) (k : ℕ) (bytes : List ℕ) (own : Bool) → (k == suc (length below)) ≡ own
-    → x.home ≤ length below → HasParts texts (scope_text texts below x.home) x.kind
+    → x.parent ≤ length below → HasParts texts (scope_text texts below x.parent) x.kind
     → StandsFor texts below (scope_open below k) k (formal_named (scope_formals texts.macros below k) bytes) (name_token bytes) (item_at texts below k (name_token bytes))
     → StandsFor texts (x ∷ below) (if own then Some x else scope_open below k) k
     (formal_named (found_formals texts.macros (if own then Some x else scope_open below k)) bytes) (name_token bytes)
     (if own
-    then own_item texts x.kind (scope_text texts below x.home) (item_at texts below x.home) (writers_at texts below x.home) (name_token bytes)
+    then own_item texts x.kind (scope_text texts below x.parent) (item_at texts below x.parent) (writers_at texts below x.parent) (name_token bytes)
     else item_at texts below k (name_token bytes))
 stands-by texts x below k bytes true e h has rest =
     subst (λ (n : ℕ). StandsFor texts (x ∷ below) (Some x) n (formal_named (kind_formals texts.macros x.kind) bytes) (name_token bytes)
-    (own_item texts x.kind (scope_text texts below x.home) (item_at texts below x.home) (writers_at texts below x.home) (name_token bytes)))
-    (sym (eqb-true k (suc (length below)) e)) (own-stands texts x.part x.home x.kind below bytes h has)
+    (own_item texts x.kind (scope_text texts below x.parent) (item_at texts below x.parent) (writers_at texts below x.parent) (name_token bytes)))
+    (sym (eqb-true k (suc (length below)) e)) (own-stands texts x.part x.parent x.kind below bytes h has)
 stands-by texts x below k bytes false e h has rest =
     stands-around texts x below (scope_open below k) k (formal_named (scope_formals texts.macros below k) bytes) (name_token bytes) (item_at texts below k (name_token bytes)) rest
 
@@ -498,8 +498,8 @@ pub standing-found : (macros : List Macro) (found : Option Open) (k place : ℕ)
 standing-found macros None k place name e = absurd (cc)
 standing-found macros (Some x) k place name e = by x.kind e
   where
-    by : (kind : OpenKind) → formal_named (kind_formals macros kind) name ≡ Some place → (y : Open) × (kind_standing macros kind k x.home place ≡ Some y)
-    by (OpenBody id parts) e = (open_standing (formals_of (macro_at macros id)) id k x.home parts place, refl)
+    by : (kind : OpenKind) → formal_named (kind_formals macros kind) name ≡ Some place → (y : Open) × (kind_standing macros kind k x.parent place ≡ Some y)
+    by (OpenBody id parts) e = (open_standing (formals_of (macro_at macros id)) id k x.parent parts place, refl)
     by OpenActual e = absurd (cc)
     by (OpenDefault id own) e = absurd (cc)
 

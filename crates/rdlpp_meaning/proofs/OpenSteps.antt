@@ -53,7 +53,7 @@ first-items : (texts : Texts) (x : Open) (below : List Open) → 0 < length (ope
     ≡ item_at texts (x ∷ below) (open_scope x below) (first_token texts x below) ∷ open_items texts (first_behind texts x below) below
 unfolding open_items item_at part_tokens open_bytes open_behind first_token first_kind first_bytes first_behind first_spelled open_scope
 first-items texts x below some =
-    let text = text_around texts x.kind x.home below in
+    let text = text_around texts x.kind x.parent below in
     let bytes = slice_range text x.part.from x.part.end in
     let t = token_of x.part.mode bytes in
     ap (λ (ts : List SourceToken). map (item_at texts (x ∷ below) (open_scope x below)) ts)
@@ -146,19 +146,19 @@ formal-item texts opens k t bytes place new h is named stands =
     (subst (λ (p : Option ℕ). StandsFor texts opens (scope_open opens k) k p (name_token bytes) (item_at texts opens k (name_token bytes))) named (name-stands texts opens k bytes h) new stands)
 
 -- an open text is opened in the same way in front of another one behind some of its bytes, by what it is
-same-by : (texts : Texts) (x : Open) (below : List Open) (n : ℕ) (mode : Mode) (part : Part) (home : ℕ) (kind : OpenKind)
-    → Arg (open_writers texts (record { part = part; home = home; kind = kind }) (x ∷ below)) (packed (open_items texts (record { part = part; home = home; kind = kind }) (x ∷ below)))
-    ≡ Arg (open_writers texts (record { part = part; home = home; kind = kind }) (open_behind x n mode ∷ below)) (packed (open_items texts (record { part = part; home = home; kind = kind }) (open_behind x n mode ∷ below)))
+same-by : (texts : Texts) (x : Open) (below : List Open) (n : ℕ) (mode : Mode) (part : Part) (parent : ℕ) (kind : OpenKind)
+    → Arg (open_writers texts (record { part = part; parent = parent; kind = kind }) (x ∷ below)) (packed (open_items texts (record { part = part; parent = parent; kind = kind }) (x ∷ below)))
+    ≡ Arg (open_writers texts (record { part = part; parent = parent; kind = kind }) (open_behind x n mode ∷ below)) (packed (open_items texts (record { part = part; parent = parent; kind = kind }) (open_behind x n mode ∷ below)))
 unfolding open_behind open_items item_at open_scope writers_at text_around scope_text
-same-by texts x below n mode part home (OpenBody id parts) = refl
-same-by texts x below n mode part home OpenActual = refl
-same-by texts x below n mode part home (OpenDefault id place) = refl
+same-by texts x below n mode part parent (OpenBody id parts) = refl
+same-by texts x below n mode part parent OpenActual = refl
+same-by texts x below n mode part parent (OpenDefault id place) = refl
 
 -- an open text is opened in the same way in front of another one behind some of its bytes
 behind-mark : (texts : Texts) (x : Open) (below : List Open) (n : ℕ) (mode : Mode) (new : Open)
     → Arg (open_writers texts new (x ∷ below)) (packed (open_items texts new (x ∷ below)))
     ≡ Arg (open_writers texts new (open_behind x n mode ∷ below)) (packed (open_items texts new (open_behind x n mode ∷ below)))
-behind-mark texts x below n mode new = same-by texts x below n mode new.part new.home new.kind
+behind-mark texts x below n mode new = same-by texts x below n mode new.part new.parent new.kind
 
 -- the first token of an open text, by its kind
 first-named : (texts : Texts) (x : Open) (below : List Open) (kind : Kind) → first_kind texts x below ≡ kind
@@ -234,10 +234,10 @@ plain-item : (texts : Texts) (opens : List Open) (k : ℕ) (t : SourceToken)
 unfolding item_at
 plain-item texts [] k t e = refl
 plain-item texts (x ∷ below) k t e =
-    one-choice (k == suc (length below)) (own_item texts x.kind (scope_text texts below x.home) (item_at texts below x.home) (writers_at texts below x.home) t)
+    one-choice (k == suc (length below)) (own_item texts x.kind (scope_text texts below x.parent) (item_at texts below x.parent) (writers_at texts below x.parent) t)
     (item_at texts below k t) (Written t)
-    (plain-own texts x.kind (scope_text texts below x.home) (item_at texts below x.home) (writers_at texts below x.home) t
-    (λ macro formals actuals. e macro formals actuals (writers_at texts below x.home)))
+    (plain-own texts x.kind (scope_text texts below x.parent) (item_at texts below x.parent) (writers_at texts below x.parent) t
+    (λ macro formals actuals. e macro formals actuals (writers_at texts below x.parent)))
     (plain-item texts below k t e)
 
 -- a token that stands for itself is as it is written, by its kind
@@ -306,7 +306,7 @@ pub body-items : (texts : Texts) (id : ℕ) (parts : List Part) (scope : ℕ) (o
 unfolding open_items open_body open_scope own_item substituted text_around own_text
 body-items texts id parts scope opens =
     let m = macro_at texts.macros id in
-    let new : Open = record { part = record { from = 0; end = length m.body; mode = Plain }; home = scope; kind = OpenBody id parts } in
+    let new : Open = record { part = record { from = 0; end = length m.body; mode = Plain }; parent = scope; kind = OpenBody id parts } in
     ap (λ (f : SourceToken → Item). map f (part_tokens m.body (record { from = 0; end = length m.body; mode = Plain }))) (item-own texts new opens)
     ∙ ap (λ (ts : List SourceToken). map (marked m.name (formals_of m) (part_items (item_at texts opens scope) (scope_text texts opens scope) parts) (writers_at texts opens scope)) ts)
     (part-whole m.body)
@@ -316,7 +316,7 @@ pub body-writers : (texts : Texts) (id : ℕ) (parts : List Part) (scope : ℕ) 
     → open_writers texts (open_body texts id parts scope) opens ≡ (macro_at texts.macros id).name ∷ writers_at texts opens scope
 unfolding open_body open_scope own_writers
 body-writers texts id parts scope opens =
-    writers-own texts (record { part = record { from = 0; end = length (macro_at texts.macros id).body; mode = Plain }; home = scope; kind = OpenBody id parts }) opens
+    writers-own texts (record { part = record { from = 0; end = length (macro_at texts.macros id).body; mode = Plain }; parent = scope; kind = OpenBody id parts }) opens
 
 -- the scope of an open text that goes on is in the text of the same macros
 pub scope-writers : (texts : Texts) (x : Open) (below : List Open) (n : ℕ) (mode : Mode) → writers_at texts (open_behind x n mode ∷ below) (open_scope x below) ≡ open_writers texts x below
@@ -398,8 +398,8 @@ item-role : (texts : Texts) (opens : List Open) (k : ℕ) (t : SourceToken) → 
 unfolding item_at item_role
 item-role texts [] k t = refl
 item-role texts (x ∷ below) k t =
-    role-choice (k == suc (length below)) (own_item texts x.kind (scope_text texts below x.home) (item_at texts below x.home) (writers_at texts below x.home) t)
-    (item_at texts below k t) t (own-role texts x.kind (scope_text texts below x.home) (item_at texts below x.home) (writers_at texts below x.home) t)
+    role-choice (k == suc (length below)) (own_item texts x.kind (scope_text texts below x.parent) (item_at texts below x.parent) (writers_at texts below x.parent) t)
+    (item_at texts below k t) t (own-role texts x.kind (scope_text texts below x.parent) (item_at texts below x.parent) (writers_at texts below x.parent) t)
     (item-role texts below k t)
 
 -- a mark or a token without its line, whatever it stands for
@@ -439,9 +439,9 @@ item-unlined : (texts : Texts) (opens : List Open) (k : ℕ) (t : SourceToken) �
 unfolding item_at unlined_item
 item-unlined texts [] k t = refl
 item-unlined texts (x ∷ below) k t =
-    let own : SourceToken → Item = own_item texts x.kind (scope_text texts below x.home) (item_at texts below x.home) (writers_at texts below x.home) in
+    let own : SourceToken → Item = own_item texts x.kind (scope_text texts below x.parent) (item_at texts below x.parent) (writers_at texts below x.parent) in
     unlined-choice (k == suc (length below)) (own t) (item_at texts below k t) (own (unlined t)) (item_at texts below k (unlined t))
-    (own-unlined texts x.kind (scope_text texts below x.home) (item_at texts below x.home) (writers_at texts below x.home) t)
+    (own-unlined texts x.kind (scope_text texts below x.parent) (item_at texts below x.parent) (writers_at texts below x.parent) t)
     (item-unlined texts below k t)
 
 -- a token of a scope is read as its item is
@@ -453,26 +453,26 @@ item-keeps texts opens k line = record {
 }
 
 -- the scope of an open text that goes on has the text in which that lies
-pub scope-text : (texts : Texts) (x : Open) (below : List Open) (n : ℕ) (mode : Mode) → x.home ≤ length below
-    → scope_text texts (open_behind x n mode ∷ below) (open_scope x below) ≡ text_around texts x.kind x.home below
+pub scope-text : (texts : Texts) (x : Open) (below : List Open) (n : ℕ) (mode : Mode) → x.parent ≤ length below
+    → scope_text texts (open_behind x n mode ∷ below) (open_scope x below) ≡ text_around texts x.kind x.parent below
 unfolding open_scope text_around scope_text open_behind
 scope-text texts x below n mode h = by x.kind
   where
     part : Part
     part = record { from = x.part.from + n; end = x.part.end; mode = mode }
 
-    own : (kind : OpenKind) → scope_text texts (record { part = part; home = x.home; kind = kind } ∷ below) (suc (length below)) ≡ own_text texts kind
+    own : (kind : OpenKind) → scope_text texts (record { part = part; parent = x.parent; kind = kind } ∷ below) (suc (length below)) ≡ own_text texts kind
     own kind = rw (next_is (suc (length below))) refl
 
-    by : (kind : OpenKind) → scope_text texts (record { part = part; home = x.home; kind = kind } ∷ below) (elim kind [ OpenActual ↦ x.home | _ ↦ suc (length below) ])
-        ≡ text_around texts kind x.home below
+    by : (kind : OpenKind) → scope_text texts (record { part = part; parent = x.parent; kind = kind } ∷ below) (elim kind [ OpenActual ↦ x.parent | _ ↦ suc (length below) ])
+        ≡ text_around texts kind x.parent below
     by (OpenBody id parts) = own (OpenBody id parts)
-    by OpenActual = text-around texts (record { part = part; home = x.home; kind = OpenActual }) below x.home h
+    by OpenActual = text-around texts (record { part = part; parent = x.parent; kind = OpenActual }) below x.parent h
     by (OpenDefault id place) = own (OpenDefault id place)
 
 -- the tokens behind the first one of an open text
 unfoldable pub tokens_behind : Texts → Open → List Open → List SourceToken
-tokens_behind texts x below = part_tokens (text_around texts x.kind x.home below) (first_behind texts x below).part
+tokens_behind texts x below = part_tokens (text_around texts x.kind x.parent below) (first_behind texts x below).part
 
 -- their items
 behind-items : (texts : Texts) (x : Open) (below : List Open)
@@ -482,7 +482,7 @@ behind-items texts x below = refl
 
 -- the items of an open text behind some of its bytes
 behind-part : (texts : Texts) (x : Open) (below : List Open) (n : ℕ) (mode : Mode)
-    → map (item_at texts (x ∷ below) (open_scope x below)) (part_tokens (text_around texts x.kind x.home below) (open_behind x n mode).part) ≡ open_items texts (open_behind x n mode) below
+    → map (item_at texts (x ∷ below) (open_scope x below)) (part_tokens (text_around texts x.kind x.parent below) (open_behind x n mode).part) ≡ open_items texts (open_behind x n mode) below
 unfolding open_items open_behind item_at open_scope
 behind-part texts x below n mode = refl
 
@@ -542,20 +542,20 @@ step-usage_deep rules s line depth texts x below m actuals used some back comes 
     ∙ opens-deep rules s line depth (m.name ∷ o) (substituted m items o) (suc (length below)) (and_then rest under) deep
 
 -- the actuals of a call as items: the parts of the text of its scope
-actual-items : (texts : Texts) (x : Open) (below : List Open) (n : ℕ) (mode : Mode) (parts : List Part) → x.home ≤ length below
-    → map (map (item_at texts (x ∷ below) (open_scope x below))) (map (part_tokens (text_around texts x.kind x.home below)) parts)
+actual-items : (texts : Texts) (x : Open) (below : List Open) (n : ℕ) (mode : Mode) (parts : List Part) → x.parent ≤ length below
+    → map (map (item_at texts (x ∷ below) (open_scope x below))) (map (part_tokens (text_around texts x.kind x.parent below)) parts)
     ≡ part_items (item_at texts (open_behind x n mode ∷ below) (open_scope x below)) (scope_text texts (open_behind x n mode ∷ below) (open_scope x below)) parts
 actual-items texts x below n mode parts h =
-    items-parts (item_at texts (x ∷ below) (open_scope x below)) (text_around texts x.kind x.home below) parts
+    items-parts (item_at texts (x ∷ below) (open_scope x below)) (text_around texts x.kind x.parent below) parts
     ∙ ap (λ (text : List ℕ). part_items (item_at texts (x ∷ below) (open_scope x below)) text parts) (sym (scope-text texts x below n mode h))
     ∙ ap (λ (f : SourceToken → Item). part_items f (scope_text texts (open_behind x n mode ∷ below) (open_scope x below)) parts) (scope-items texts x below n mode)
 
 -- (4, 5) a usage that opens a macro of the table opens its body, with parts of the text in which its call is written as actuals, where
 -- there is room: the tokens behind its call are those of a part
 pub step-usage : (rules : Rules) (s : State) (line depth : ℕ) (texts : Texts) (x : Open) (below : List Open) (id : ℕ) (parts : List Part) (used n : ℕ) (mode : Mode)
-    → x.home ≤ length below → 0 < length (open_bytes texts x below) → first_kind texts x below ≡ Back
-    → first_usage rules s line texts x below ≡ Opens (macro_at texts.macros id) (map (part_tokens (text_around texts x.kind x.home below)) parts) used
-    → drop used (tokens_behind texts x below) ≡ part_tokens (text_around texts x.kind x.home below) (open_behind x n mode).part
+    → x.parent ≤ length below → 0 < length (open_bytes texts x below) → first_kind texts x below ≡ Back
+    → first_usage rules s line texts x below ≡ Opens (macro_at texts.macros id) (map (part_tokens (text_around texts x.kind x.parent below)) parts) used
+    → drop used (tokens_behind texts x below) ≡ part_tokens (text_around texts x.kind x.parent below) (open_behind x n mode).part
     → length (x ∷ below) < depth
     → open_left rules s line depth texts (x ∷ below) ≡ open_left rules s line depth texts (open_body texts id parts (open_scope x below) ∷ open_behind x n mode ∷ below)
 unfolding usage_walk map_usage
@@ -565,14 +565,14 @@ step-usage rules s line depth texts x below id parts used n mode h some back com
     let opens : List Open = open_behind x n mode ∷ below in
     let new = open_body texts id parts scope in
     let item = item_at texts (x ∷ below) scope in
-    let given = map (map item) (map (part_tokens (text_around texts x.kind x.home below)) parts) in
+    let given = map (map item) (map (part_tokens (text_around texts x.kind x.parent below)) parts) in
     let actuals = part_items (item_at texts opens scope) (scope_text texts opens scope) parts in
     let deeper = deeper_of rules s (room_in depth below) in
     let o = open_writers texts x below in
     let items = open_items texts (first_behind texts x below) below in
     let body = deeper line (m.name ∷ o) (substituted m given o) in
     let last = open_left rules s line depth texts opens in
-    usage-walks-on rules s line depth texts x below (Opens m (map (part_tokens (text_around texts x.kind x.home below)) parts) used) some back comes
+    usage-walks-on rules s line depth texts x below (Opens m (map (part_tokens (text_around texts x.kind x.parent below)) parts) used) some back comes
     ∙ and_then-assoc body (walk rules s deeper (Some line) o used items) (open_left rules s line depth texts below)
     ∙ ap (λ (y : Outcome). and_then body (and_then y (open_left rules s line depth texts below)))
     (walk_skip rules s deeper (Some line) o used items

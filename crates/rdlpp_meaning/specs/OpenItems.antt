@@ -28,13 +28,13 @@ unfoldable pub item_at : Texts → List Open → ℕ → SourceToken → Item
 item_at texts [] k t = Written t
 item_at texts (x ∷ below) k t =
     if k == suc (length below)
-    then own_item texts x.kind (scope_text texts below x.home) (item_at texts below x.home) (writers_at texts below x.home) t
+    then own_item texts x.kind (scope_text texts below x.parent) (item_at texts below x.parent) (writers_at texts below x.parent) t
     else item_at texts below k t
 
 -- the items that are left of an open text, in front of others
 unfoldable pub open_items : Texts → Open → List Open → List Item
 open_items texts x below =
-    map (item_at texts (x ∷ below) (open_scope x below)) (part_tokens (text_around texts x.kind x.home below) x.part)
+    map (item_at texts (x ∷ below) (open_scope x below)) (part_tokens (text_around texts x.kind x.parent below) x.part)
 
 -- the macros in whose text an open text is written, in front of others
 abbrev pub open_writers : Texts → Open → List Open → List (List ℕ)

@@ -1,5 +1,5 @@
 -- Open texts as parts of the texts in which they lie: a body or a default in the table, an actual in the text in which its call
--- is written. Nothing says where a text lies but its home and what it is.
+-- is written. Nothing says where a text lies but its parent and what it is.
 -- A definition that names no source is this project's own.
 use Rattle.std.specs.Prelude.{ℕ, suc, ◌+◌, ◌-◌, ◌≤◌, ◌==◌, ◌&&◌, not, List, [], ◌∷◌, length, slice_range, slice_index_or, Option, None, Some, if◌then◌else◌}
 use Rattle.std.specs.List.{AllByRecursion}
@@ -23,10 +23,10 @@ pub data OpenKind : Type 0 where
   OpenActual : OpenKind
   OpenDefault : ℕ → ℕ → OpenKind
 
--- an open text: the part of its text that is left, its home, and what it is
+-- an open text: the part of its text that is left, its parent, and what it is
 pub record Open : Type 0 where
   pub part : Part
-  pub home : ℕ
+  pub parent : ℕ
   pub kind : OpenKind
 
 -- where texts lie: the macros of the table, and what is kept of the call in the source
@@ -53,26 +53,26 @@ unfoldable pub scope_text : Texts → List Open → ℕ → List ℕ
 scope_text texts [] k = texts.arguments
 scope_text texts (inner ∷ below) k = if k == suc (length below) then own_text texts inner.kind else scope_text texts below k
 
--- the text in which an open text lies: an actual lies in that of its home
+-- the text in which an open text lies: an actual lies in that of its parent
 unfoldable pub text_around : Texts → OpenKind → ℕ → List Open → List ℕ
-text_around texts OpenActual home below = scope_text texts below home
-text_around texts kind home below = own_text texts kind
+text_around texts OpenActual parent below = scope_text texts below parent
+text_around texts kind parent below = own_text texts kind
 
 -- the tokens of a part of a text
 unfoldable pub part_tokens : List ℕ → Part → List SourceToken
 part_tokens text part = text_tokens part.mode (slice_range text part.from part.end)
 
--- the open text that the formal at a place of a macro stands for, in a scope whose call is written in its home: its default, where
+-- the open text that the formal at a place of a macro stands for, in a scope whose call is written in its parent: its default, where
 -- the part that is its actual has no bytes and there is a default
 unfoldable pub open_standing : List Formal → ℕ → ℕ → ℕ → List Part → ℕ → Open
-open_standing formals id scope home parts place =
+open_standing formals id scope parent parts place =
     if ((part_at parts place).end - (part_at parts place).from == 0) && not (length (formal_at formals place).text == 0)
     then record {
       part = record { from = 0; end = length (formal_at formals place).text; mode = Plain };
-      home = scope;
+      parent = scope;
       kind = OpenDefault id place;
     }
-    else record { part = part_at parts place; home = home; kind = OpenActual }
+    else record { part = part_at parts place; parent = parent; kind = OpenActual }
 
 -- the open text that a scope is; none where it is the source
 unfoldable pub scope_open : List Open → ℕ → Option Open
@@ -96,15 +96,15 @@ scope_formals macros opens k = found_formals macros (scope_open opens k)
 
 -- the open text that the formal at a place of a body stands for
 abbrev pub kind_standing : List Macro → OpenKind → ℕ → ℕ → ℕ → Option Open
-kind_standing macros (OpenBody id parts) scope home place =
-    Some (open_standing (formals_of (macro_at macros id)) id scope home parts place)
-kind_standing macros OpenActual scope home place = None
-kind_standing macros (OpenDefault id own) scope home place = None
+kind_standing macros (OpenBody id parts) scope parent place =
+    Some (open_standing (formals_of (macro_at macros id)) id scope parent parts place)
+kind_standing macros OpenActual scope parent place = None
+kind_standing macros (OpenDefault id own) scope parent place = None
 
 -- the open text that the formal at a place stands for in a scope
 abbrev pub found_standing : List Macro → Option Open → ℕ → ℕ → Option Open
 found_standing macros None scope place = None
-found_standing macros (Some x) scope place = kind_standing macros x.kind scope x.home place
+found_standing macros (Some x) scope place = kind_standing macros x.kind scope x.parent place
 
 -- a body has a part for each formal of its macro, and each part lies in the text in which its call is written
 abbrev pub HasParts : Texts → List ℕ → OpenKind → Type 0
@@ -113,44 +113,44 @@ HasParts texts text (OpenBody id parts) =
 HasParts texts text OpenActual = Unit
 HasParts texts text (OpenDefault id place) = Unit
 
--- what holds of open texts: each home is a scope further out, and each body has its parts
+-- what holds of open texts: each parent is a scope further out, and each body has its parts
 abbrev pub AreOpen : Texts → List Open → Type 0
 AreOpen texts [] = Unit
 AreOpen texts (inner ∷ below) =
-    (inner.home ≤ length below) × (HasParts texts (scope_text texts below inner.home) inner.kind × AreOpen texts below)
+    (inner.parent ≤ length below) × (HasParts texts (scope_text texts below inner.parent) inner.kind × AreOpen texts below)
 
 -- the scope of what is written in an open text, with the texts around it: an actual is no scope of its own
 unfoldable pub open_scope : Open → List Open → ℕ
-open_scope x below = elim x.kind [ OpenActual ↦ x.home | _ ↦ suc (length below) ]
+open_scope x below = elim x.kind [ OpenActual ↦ x.parent | _ ↦ suc (length below) ]
 
 -- the bytes that are left of an open text, in front of others
 unfoldable pub open_bytes : Texts → Open → List Open → List ℕ
-open_bytes texts x below = slice_range (text_around texts x.kind x.home below) x.part.from x.part.end
+open_bytes texts x below = slice_range (text_around texts x.kind x.parent below) x.part.from x.part.end
 
 -- an open text behind so many of its bytes, where what is behind them is read in a mode
 unfoldable pub open_behind : Open → ℕ → Mode → Open
 open_behind x n mode = record {
   part = record { from = x.part.from + n; end = x.part.end; mode = mode };
-  home = x.home;
+  parent = x.parent;
   kind = x.kind;
 }
 
 -- the body of the macro at a place, opened by a call in a scope that has these parts as actuals
 unfoldable pub open_body : Texts → ℕ → List Part → ℕ → Open
-open_body texts id parts home = record {
+open_body texts id parts parent = record {
   part = record { from = 0; end = length (macro_at texts.macros id).body; mode = Plain };
-  home = home;
+  parent = parent;
   kind = OpenBody id parts;
 }
 
--- the macros in whose text a scope is, by what it is and those of its home
+-- the macros in whose text a scope is, by what it is and those of its parent
 unfoldable pub own_writers : Texts → OpenKind → List (List ℕ) → List (List ℕ)
 own_writers texts (OpenBody id parts) writers = (macro_at texts.macros id).name ∷ writers
 own_writers texts OpenActual writers = []
 own_writers texts (OpenDefault id place) writers = writers
 
--- the macros in whose text a scope is: those of the bodies down the chain of homes
+-- the macros in whose text a scope is: those of the bodies down the chain of parents
 unfoldable pub writers_at : Texts → List Open → ℕ → List (List ℕ)
 writers_at texts [] k = []
 writers_at texts (x ∷ below) k =
-    if k == suc (length below) then own_writers texts x.kind (writers_at texts below x.home) else writers_at texts below k
+    if k == suc (length below) then own_writers texts x.kind (writers_at texts below x.parent) else writers_at texts below k

@@ -50,7 +50,7 @@ use Rattle.rdlpp_texts.specs.declared.peek.Peek.{Peek}
 use Rattle.rdlpp_texts.specs.declared.place.TextPlace.{TextPlace}
 use Rattle.rdlpp_texts.specs.declared.place.TextSource.{TextSource}
 use Rattle.rdlpp_texts.specs.declared.place.TextSource.TheVariants.{Arguments}
-use Rattle.rdlpp_texts.specs.declared.slot.Slot.{Slot}
+use Rattle.rdlpp_texts.specs.declared.frame.Frame.{Frame}
 use Rattle.rdlpp_texts.specs.declared.step.CursorFault.{CursorFault}
 use Rattle.rdlpp_texts.specs.declared.step.CursorStep.TheVariants.{Refused, Silent}
 use Rattle.rdlpp_texts.specs.declared.tokens.CallRole.{CallRole}
@@ -61,7 +61,7 @@ use Rattle.rdlpp_texts.proofs.Falling.{peek-opens}
 use Rattle.rdlpp_texts.proofs.Passing.{IsPassed, body-keeps, fault-same, first-moved, first-sound, kind-first, no-word, sound-moved}
 use Rattle.rdlpp_texts.proofs.Scoping.{source-around}
 use Rattle.rdlpp_texts.proofs.Stacking.{room-first}
-use Rattle.rdlpp_texts.proofs.Usages.{back-closes, first-used, front-is, homes-out, scope-inside, usage-place, usage-word}
+use Rattle.rdlpp_texts.proofs.Usages.{back-closes, first-used, front-is, parents-out, scope-inside, usage-place, usage-word}
 
 -- A usage in an open text whose call was bound, by the ranges of the text that are its actuals.
 
@@ -263,7 +263,7 @@ some-byte text from end some =
 
 -- where the call of a usage at the front of an open text stands: in the text in which that lies, behind the usage
 pub record IsCallPlace (texts : Texts) (x : Open) (below : List Open) (len : ℕ) (text : List ℕ) (at end : ℕ) : Type 0 where
-  pub text_is : text ≡ text_around texts x.kind x.home below
+  pub text_is : text ≡ text_around texts x.kind x.parent below
   pub at_is : at ≡ x.part.from + len
   pub end_is : end ≡ x.part.end
 
@@ -276,7 +276,7 @@ call-place texts x below peek len text at h l e is k =
     let f = front-is texts x below peek len e l.3 in
     record {
       text_is = is ∙ ap (λ (s : TextSource). source_text texts s) l.0
-          ∙ source-around texts x below (some-byte (text_around texts x.kind x.home below) x.part.from x.part.end f.0);
+          ∙ source-around texts x below (some-byte (text_around texts x.kind x.parent below) x.part.from x.part.end f.0);
       at_is = k ∙ ap (λ (n : ℕ). n + len) l.1;
       end_is = l.2;
     }
@@ -288,8 +288,8 @@ call-tokens : (texts : Texts) (x : Open) (below : List Open) (len : ℕ) (text :
 unfolding IsTextItem tokens_behind part_tokens open_behind
 call-tokens texts x below len text at end h p f =
     let mode = (h.are_inside).1.1.0 in
-    ap (λ (y : Open). part_tokens (text_around texts x.kind x.home below) y.part) (first-moved texts x below len mode (back-closes _ f.1) f.2)
-    ∙ sym (body_text (slice_range (text_around texts x.kind x.home below) (x.part.from + len) x.part.end))
+    ap (λ (y : Open). part_tokens (text_around texts x.kind x.parent below) y.part) (first-moved texts x below len mode (back-closes _ f.1) f.2)
+    ∙ sym (body_text (slice_range (text_around texts x.kind x.parent below) (x.part.from + len) x.part.end))
     ∙ ap (λ (t : List ℕ). body_tokens (slice_range t (x.part.from + len) x.part.end)) (sym p.text_is)
     ∙ ap (λ (n : ℕ). body_tokens (slice_range text n x.part.end)) (sym p.at_is)
     ∙ ap (λ (n : ℕ). body_tokens (slice_range text at n)) (sym p.end_is)
@@ -300,7 +300,7 @@ call-keeps : (texts : Texts) (x : Open) (below : List Open) (len : ℕ) (text : 
     → KeepsAll (body_tokens (slice_range text at end))
 unfolding IsTextItem part_tokens moved_to
 call-keeps texts x below len text at end h p f =
-    let around = text_around texts x.kind x.home below in
+    let around = text_around texts x.kind x.parent below in
     let sound = first-sound texts x below len h f.0 (back-closes _ f.1) f.2 in
     subst (λ (ts : List SourceToken). KeepsAll ts)
     (sym (body_text (slice_range around (x.part.from + len) x.part.end))
@@ -365,25 +365,25 @@ step-call_deep line depth texts x below len id text at end new fault h p f used 
     ∙ sym (fault-same s line texts fault DepthPassed [] k w)
 
 -- the scope of an open text that goes on has the text in which that lies
-scope-text : (texts : Texts) (x : Open) (below : List Open) (part : Part) → x.home ≤ length below
-    → scope_text texts (record { part = part; home = x.home; kind = x.kind } ∷ below) (open_scope x below) ≡ text_around texts x.kind x.home below
+scope-text : (texts : Texts) (x : Open) (below : List Open) (part : Part) → x.parent ≤ length below
+    → scope_text texts (record { part = part; parent = x.parent; kind = x.kind } ∷ below) (open_scope x below) ≡ text_around texts x.kind x.parent below
 unfolding open_scope text_around scope_text
 scope-text texts x below part h = by x.kind
   where
-    own : (kind : OpenKind) → scope_text texts (record { part = part; home = x.home; kind = kind } ∷ below) (suc (length below)) ≡ own_text texts kind
+    own : (kind : OpenKind) → scope_text texts (record { part = part; parent = x.parent; kind = kind } ∷ below) (suc (length below)) ≡ own_text texts kind
     own kind = rw (next_is (suc (length below))) refl
 
-    by : (kind : OpenKind) → scope_text texts (record { part = part; home = x.home; kind = kind } ∷ below) (elim kind [ OpenActual ↦ x.home | _ ↦ suc (length below) ])
-        ≡ text_around texts kind x.home below
+    by : (kind : OpenKind) → scope_text texts (record { part = part; parent = x.parent; kind = kind } ∷ below) (elim kind [ OpenActual ↦ x.parent | _ ↦ suc (length below) ])
+        ≡ text_around texts kind x.parent below
     by (OpenBody id parts) = own (OpenBody id parts)
-    by OpenActual = text-around texts (record { part = part; home = x.home; kind = OpenActual }) below x.home h
+    by OpenActual = text-around texts (record { part = part; parent = x.parent; kind = OpenActual }) below x.parent h
     by (OpenDefault id place) = own (OpenDefault id place)
 
 -- what is left behind a call that is bound
 call-left : (texts : Texts) (x : Open) (below : List Open) (len : ℕ) (text : List ℕ) (at end formals : ℕ) (ranges : List Range) (behind : ℕ) (b : IsBoundAt text at end formals ranges behind)
     → AreSound texts (x ∷ below) → IsCallPlace texts x below len text at end
     → IsTextItem (source_formals texts (front_source (x ∷ below))) (open_bytes texts x below) (front.Usage len) → at ≤ behind
-    → drop b.used (tokens_behind texts x below) ≡ part_tokens (text_around texts x.kind x.home below) (open_behind x (behind - x.part.from) Plain).part
+    → drop b.used (tokens_behind texts x below) ≡ part_tokens (text_around texts x.kind x.parent below) (open_behind x (behind - x.part.from) Plain).part
 unfolding open_behind
 call-left texts x below len text at end formals ranges behind b h p f low =
     let from = x.part.from in
@@ -391,7 +391,7 @@ call-left texts x below len text at end formals ranges behind b h p f low =
     ap (λ (ts : List SourceToken). drop b.used ts) (call-tokens texts x below len text at end h p f)
     ∙ behind_part text from at end formals behind ranges b (omega (arith, place, low))
     ∙ ap (λ (t : List ℕ). part_tokens t (record { from = from + (behind - from); end = end; mode = Plain })) p.text_is
-    ∙ ap (λ (n : ℕ). part_tokens (text_around texts x.kind x.home below) (record { from = from + (behind - from); end = n; mode = Plain })) p.end_is
+    ∙ ap (λ (n : ℕ). part_tokens (text_around texts x.kind x.parent below) (record { from = from + (behind - from); end = n; mode = Plain })) p.end_is
 
 -- a usage whose call is bound opens its body, where there is room
 step-call_opened : (line depth : ℕ) (texts : Texts) (x : Open) (below : List Open) (len id : ℕ) (text : List ℕ) (at end : ℕ) (c : IsCallBound texts.macros text at end id)
@@ -418,7 +418,7 @@ step-call_opened line depth texts x below len id text at end c h p f used list r
     ∙ ap (λ (t : List ℕ). Opens own (map (part_tokens t) parts) b.used) p.text_is)
     (call-left texts x below len text at end (length (formals_of own)) c.ranges c.behind b h p f low) room
     ∙ ap (λ (n : ℕ). open_left rules s line depth texts
-    (open_body texts id parts (open_scope x below) ∷ record { part = record { from = n; end = x.part.end; mode = Plain }; home = x.home; kind = x.kind } ∷ below)) is
+    (open_body texts id parts (open_scope x below) ∷ record { part = record { from = n; end = x.part.end; mode = Plain }; parent = x.parent; kind = x.kind } ∷ below)) is
 
 -- parts of a text keep all where its ranges do
 pub parts-keep : (text : List ℕ) (ranges : List Range) → AllByRecursion (λ r. KeepsAll (part_tokens text (range_part r))) ranges
@@ -440,14 +440,14 @@ unfolding open_body IsBoundCall moved_to open_scope front_scope text_around own_
 sound-called table arguments x below len id text at end c sound h p inside =
     let texts = texts_of table.macros arguments in
     let own = macro_at table.macros id in
-    let around = text_around texts x.kind x.home below in
+    let around = text_around texts x.kind x.parent below in
     let rest : Part = record { from = c.behind; end = x.part.end; mode = Plain } in
     let scoped : text ≡ scope_text texts (moved_to c.behind (x ∷ below)) (open_scope x below) = p.text_is ∙ sym (scope-text texts x below rest (h.are_open).0) in
     let b : IsBoundAt text at end (length (formals_of own)) c.ranges c.behind = c.bound in
     let parts = map range_part c.ranges in
     let count = length-map c.ranges range_part in
     let many = b.count in
-    let scope = scope-inside (x ∷ below) (homes-out texts (x ∷ below) h.are_open) in
+    let scope = scope-inside (x ∷ below) (parents-out texts (x ∷ below) h.are_open) in
     let ends = ((h.are_inside).1).0 in
     let end_is = p.end_is in
     let fits : end ≤ length text = subst (λ (t : List ℕ). end ≤ length t) (sym p.text_is) (omega (arith, ends, end_is)) in
@@ -556,13 +556,13 @@ peek-call_opened line depth table arguments (x ∷ below) peek len id text at c 
     )
 
 -- a call that is refused
-pub pass-call_refused : (texts : Texts) (view new : CursorsView) (peek : Peek) (len id home : ℕ) (text : List ℕ) (at : ℕ) (kind : FaultKind) (o : Opening) (word : TextPlace)
-    → IsListUsed texts view.opens peek len id text at → o ≡ opening.Refused kind → IsOpening texts.macros text at peek.end id home view o new
+pub pass-call_refused : (texts : Texts) (view new : CursorsView) (peek : Peek) (len id parent : ℕ) (text : List ℕ) (at : ℕ) (kind : FaultKind) (o : Opening) (word : TextPlace)
+    → IsListUsed texts view.opens peek len id text at → o ≡ opening.Refused kind → IsOpening texts.macros text at peek.end id parent view o new
     → word ≡ record { source = peek.source; from = peek.at + 1; end = at }
     → IsPassed texts view new (Refused (record { kind = kind; word = word }))
 unfolding IsOpening IsFalling StaysRefused
-pass-call_refused texts view new peek len id home text at kind o word h e b w =
-    let both = subst (λ (r : Opening). IsOpening texts.macros text at peek.end id home view r new) e b in
+pass-call_refused texts view new peek len id parent text at kind o word h e b w =
+    let both = subst (λ (r : Opening). IsOpening texts.macros text at peek.end id parent view r new) e b in
     subst (λ (v : CursorsView). IsPassed texts view v (Refused (record { kind = kind; word = word }))) (sym both.0) (record {
       is_step = subst (λ (p : TextPlace). IsStep view.line view.depth texts view.opens (Refused (record { kind = kind; word = p })) view.opens) (sym w)
           (peek-call_refused view.line view.depth texts view.opens peek len id text at (peek.at + 1) kind h refl both.1);
@@ -573,11 +573,11 @@ pass-call_refused texts view new peek len id home text at kind o word h e b w =
     })
 
 -- a call that is bound where no further text may be open
-pub pass-call_deep : (texts : Texts) (view new : CursorsView) (peek : Peek) (len id home : ℕ) (text : List ℕ) (at : ℕ) (o : Opening)
-    → IsListUsed texts view.opens peek len id text at → o ≡ opening.Deep → IsOpening texts.macros text at peek.end id home view o new → IsPassed texts view new (wordless DepthPassed)
+pub pass-call_deep : (texts : Texts) (view new : CursorsView) (peek : Peek) (len id parent : ℕ) (text : List ℕ) (at : ℕ) (o : Opening)
+    → IsListUsed texts view.opens peek len id text at → o ≡ opening.Deep → IsOpening texts.macros text at peek.end id parent view o new → IsPassed texts view new (wordless DepthPassed)
 unfolding IsOpening IsFalling StaysRefused
-pass-call_deep texts view new peek len id home text at o h e b =
-    let both = subst (λ (r : Opening). IsOpening texts.macros text at peek.end id home view r new) e b in
+pass-call_deep texts view new peek len id parent text at o h e b =
+    let both = subst (λ (r : Opening). IsOpening texts.macros text at peek.end id parent view r new) e b in
     subst (λ (v : CursorsView). IsPassed texts view v (wordless DepthPassed)) (sym both.0) (record {
       is_step = peek-call_deep view.line view.depth texts view.opens peek len id text at h both.1.1 both.1.0;
       sound = h.sound;
@@ -587,13 +587,13 @@ pass-call_deep texts view new peek len id home text at o h e b =
     })
 
 -- a call that opens its body
-pub pass-call_opened : (table : TableView) (arguments : List ℕ) (view new : CursorsView) (peek : Peek) (len id home : ℕ) (text : List ℕ) (at : ℕ) (o : Opening)
-    → IsSound table → IsListUsed (texts_of table.macros arguments) view.opens peek len id text at → home ≡ front_scope view.opens
-    → o ≡ opening.Opened → IsOpening table.macros text at peek.end id home view o new → IsPassed (texts_of table.macros arguments) view new Silent
+pub pass-call_opened : (table : TableView) (arguments : List ℕ) (view new : CursorsView) (peek : Peek) (len id parent : ℕ) (text : List ℕ) (at : ℕ) (o : Opening)
+    → IsSound table → IsListUsed (texts_of table.macros arguments) view.opens peek len id text at → parent ≡ front_scope view.opens
+    → o ≡ opening.Opened → IsOpening table.macros text at peek.end id parent view o new → IsPassed (texts_of table.macros arguments) view new Silent
 unfolding IsOpening IsFalling StaysRefused open_body
-pass-call_opened table arguments view new peek len id home text at o sound h scope e b =
+pass-call_opened table arguments view new peek len id parent text at o sound h scope e b =
     let texts = texts_of table.macros arguments in
-    let c : IsCallOpened table.macros text at peek.end id home view new = subst (λ (r : Opening). IsOpening table.macros text at peek.end id home view r new) e b in
+    let c : IsCallOpened table.macros text at peek.end id parent view new = subst (λ (r : Opening). IsOpening table.macros text at peek.end id parent view r new) e b in
     let own : CursorsView = record view { opens = open_body texts id (map range_part (c.call).ranges) (front_scope view.opens) ∷ moved_to (c.call).behind view.opens } in
     let is : new ≡ own = c.opens ∙ ap (λ (n : ℕ). record view { opens = open_body texts id (map range_part (c.call).ranges) n ∷ moved_to (c.call).behind view.opens }) scope in
     let both = peek-call_opened view.line view.depth table arguments view.opens peek len id text at c.call sound h c.room in
@@ -612,12 +612,12 @@ pass-call_opened table arguments view new peek len id home text at o sound h sco
     })
 
 -- behind a call, opened or refused, a text is open
-pub opening-open : (macros : List Macro) (text : List ℕ) (at end id home : ℕ) (old : CursorsView) (result : Opening) (new : CursorsView) → 0 < length old.opens
-    → IsOpening macros text at end id home old result new → 0 < length new.opens
+pub opening-open : (macros : List Macro) (text : List ℕ) (at end id parent : ℕ) (old : CursorsView) (result : Opening) (new : CursorsView) → 0 < length old.opens
+    → IsOpening macros text at end id parent old result new → 0 < length new.opens
 unfolding IsOpening
-opening-open macros text at end id home old opening.Opened new some h = subst (λ (v : CursorsView). 0 < length v.opens) (sym h.opens) (omega arith)
-opening-open macros text at end id home old (opening.Refused kind) new some h = subst (λ (v : CursorsView). 0 < length v.opens) (sym h.0) some
-opening-open macros text at end id home old opening.Deep new some h = subst (λ (v : CursorsView). 0 < length v.opens) (sym h.0) some
+opening-open macros text at end id parent old opening.Opened new some h = subst (λ (v : CursorsView). 0 < length v.opens) (sym h.opens) (omega arith)
+opening-open macros text at end id parent old (opening.Refused kind) new some h = subst (λ (v : CursorsView). 0 < length v.opens) (sym h.0) some
+opening-open macros text at end id parent old opening.Deep new some h = subst (λ (v : CursorsView). 0 < length v.opens) (sym h.0) some
 
 -- A call in a source, whose kept text is bound, opens the body of its macro.
 
@@ -670,16 +670,16 @@ call-dropped table arguments id kind old new k dropped same =
     record { kind_is = k; same = same; counted = λ keeps. absurd (true≢false (sym (kept_each (body_tokens arguments) keeps) ∙ dropped)) }
 
 -- there is room where no text is open
-pub room-closed : (v : Vec Slot Global) (depth first : ℕ) (bindings : List Range) → opens_of (drop first v.items) bindings ≡ [] → 0 < depth → vec_len v < first + depth
+pub room-closed : (v : Vec Frame Global) (depth first : ℕ) (bindings : List Range) → opens_of (drop first v.items) bindings ≡ [] → 0 < depth → vec_len v < first + depth
 room-closed v depth first bindings none room =
     let size = ap (λ (os : List Open). length os) none in
     room-first v depth first bindings (omega (arith, size, room))
 
 -- the body that a call opens where no text was open
 pub started-opens : (table : TableView) (arguments : List ℕ) (id : ℕ) (ranges : List Range) (body : List ℕ) (opens : List Open) → body ≡ (macro_at table.macros id).body → opens ≡ []
-    → record { part = record { from = 0; end = length body; mode = Plain }; home = 0; kind = OpenBody id (map range_part ranges) } ∷ opens
+    → record { part = record { from = 0; end = length body; mode = Plain }; parent = 0; kind = OpenBody id (map range_part ranges) } ∷ opens
     ≡ open_body (texts_of table.macros arguments) id (map range_part ranges) 0 ∷ []
 unfolding open_body
 started-opens table arguments id ranges body opens e none =
-    ap (λ (os : List Open). record { part = record { from = 0; end = length body; mode = Plain }; home = 0; kind = OpenBody id (map range_part ranges) } ∷ os) none
-    ∙ ap (λ (b : List ℕ). record { part = record { from = 0; end = length b; mode = Plain }; home = 0; kind = OpenBody id (map range_part ranges) } ∷ []) e
+    ap (λ (os : List Open). record { part = record { from = 0; end = length body; mode = Plain }; parent = 0; kind = OpenBody id (map range_part ranges) } ∷ os) none
+    ∙ ap (λ (b : List ℕ). record { part = record { from = 0; end = length b; mode = Plain }; parent = 0; kind = OpenBody id (map range_part ranges) } ∷ []) e

@@ -84,7 +84,7 @@ falls-drop texts (x ∷ below) peek l = falls-closed x below
 pub run-ends : (texts : Texts) (x : Open) (below : List Open) (n : ℕ) → 0 < n → n ≤ length (open_bytes texts x below) → x.part.from + n ≤ x.part.end
 unfolding open_bytes
 run-ends texts x below n some inside =
-    let size = length-take (x.part.end - x.part.from) (drop x.part.from (text_around texts x.kind x.home below)) in
+    let size = length-take (x.part.end - x.part.from) (drop x.part.from (text_around texts x.kind x.parent below)) in
     omega (arith, size, some, inside)
 
 -- the innermost open text goes on behind what is copied, by a look
@@ -115,7 +115,7 @@ token-inside texts x below len some e =
     let part = token_of-part Plain (open_bytes texts x below) some in
     let inside = part.inside in
     let not_empty = part.not_empty in
-    let size = length-take (x.part.end - x.part.from) (drop x.part.from (text_around texts x.kind x.home below)) in
+    let size = length-take (x.part.end - x.part.from) (drop x.part.from (text_around texts x.kind x.parent below)) in
     (omega (arith, not_empty, e), omega (arith, inside, e, size, not_empty))
 
 -- the name of a formal at the front ends in its text
@@ -203,12 +203,12 @@ scope-short most texts (x ∷ below) k h inside =
     by false own rest = rest
 
 -- nor that in which an open text lies
-around-short : (most : ℕ) (texts : Texts) (kind : OpenKind) (home : ℕ) (below : List Open) → AreShort most texts → IsKnown texts.macros kind → AreInside texts below
-    → length (text_around texts kind home below) ≤ most
+around-short : (most : ℕ) (texts : Texts) (kind : OpenKind) (parent : ℕ) (below : List Open) → AreShort most texts → IsKnown texts.macros kind → AreInside texts below
+    → length (text_around texts kind parent below) ≤ most
 unfolding text_around
-around-short most texts (OpenBody id parts) home below h known inside = own-short most texts (OpenBody id parts) h known
-around-short most texts OpenActual home below h known inside = scope-short most texts below home h inside
-around-short most texts (OpenDefault id place) home below h known inside = own-short most texts (OpenDefault id place) h known
+around-short most texts (OpenBody id parts) parent below h known inside = own-short most texts (OpenBody id parts) h known
+around-short most texts OpenActual parent below h known inside = scope-short most texts below parent h inside
+around-short most texts (OpenDefault id place) parent below h known inside = own-short most texts (OpenDefault id place) h known
 
 -- what holds of each of some and of one more holds of all
 all-more : (P : ℕ → Type 0) (ds : List ℕ) (d : ℕ) → AllByRecursion P ds → P d → AllByRecursion P (ds ++ d ∷ [])
@@ -230,7 +230,7 @@ pub digits-short : (most places : ℕ) (texts : Texts) (opens : List Open) → A
 unfolding cursor_digits
 digits-short most places texts [] h inside room = tt
 digits-short most places texts (x ∷ below) h inside room =
-    let around = around-short most texts x.kind x.home below h inside.0 ((inside.1).1).1 in
+    let around = around-short most texts x.kind x.parent below h inside.0 ((inside.1).1).1 in
     let ends = (inside.1).0 in
     subst (λ (ds : List ℕ). AllByRecursion (λ d. d < places) ds) (sym (digits-inner x below))
     (all-more (λ d. d < places) (cursor_digits below) (open_digit x) (digits-short most places texts below h ((inside.1).1).1 room) (omega (arith, around, ends, room)))
@@ -280,11 +280,11 @@ outer-opened opens new x at some e =
     λ more. ap usage_id e ∙ outer-more x (moved_to at opens) (omega (arith, many, some)) ∙ outer-moved at opens
 
 -- where a call is opened or not
-pub outer-called : (macros : List Macro) (text : List ℕ) (view new : CursorsView) (end id home at : ℕ) (o : Opening) → 0 < length view.opens → IsOpening macros text at end id home view o new → StaysOutermost view.opens new.opens
+pub outer-called : (macros : List Macro) (text : List ℕ) (view new : CursorsView) (end id parent at : ℕ) (o : Opening) → 0 < length view.opens → IsOpening macros text at end id parent view o new → StaysOutermost view.opens new.opens
 unfolding IsOpening
-outer-called macros text view new end id home at Opened some b = outer-opened view.opens new.opens _ b.call.behind some (ap (λ (v : CursorsView). v.opens) b.opens)
-outer-called macros text view new end id home at (Lacks kind) some b = outer-same view new b.0
-outer-called macros text view new end id home at Deep some b = outer-same view new b.0
+outer-called macros text view new end id parent at Opened some b = outer-opened view.opens new.opens _ b.call.behind some (ap (λ (v : CursorsView). v.opens) b.opens)
+outer-called macros text view new end id parent at (Lacks kind) some b = outer-same view new b.0
+outer-called macros text view new end id parent at Deep some b = outer-same view new b.0
 
 -- where a step was taken from a place further on
 pub outer-ahead : (opens mid new : List Open) (at : ℕ) → mid ≡ moved_to at opens → StaysOutermost mid new → StaysOutermost opens new
@@ -318,17 +318,17 @@ unfolding IsBoundCall
 bound-count macros text at end id b = length-map b.ranges range_part ∙ b.bound.count
 
 -- the body of a macro with a list is opened, or nothing changes
-pub turned-call : (macros : List Macro) (arguments text : List ℕ) (view new : CursorsView) (peek : Peek) (len at end id home : ℕ) (o : Opening) → IsPeek (texts_of macros arguments) view.opens peek
-    → peek.front ≡ front.Usage len → IsUsed (texts_of macros arguments) view.opens (front_name (texts_of macros arguments) view.opens len) id → home ≡ front_scope view.opens
-    → IsOpening macros text at end id home view o new → Turned (texts_of macros arguments) view.opens new.opens
+pub turned-call : (macros : List Macro) (arguments text : List ℕ) (view new : CursorsView) (peek : Peek) (len at end id parent : ℕ) (o : Opening) → IsPeek (texts_of macros arguments) view.opens peek
+    → peek.front ≡ front.Usage len → IsUsed (texts_of macros arguments) view.opens (front_name (texts_of macros arguments) view.opens len) id → parent ≡ front_scope view.opens
+    → IsOpening macros text at end id parent view o new → Turned (texts_of macros arguments) view.opens new.opens
 unfolding IsOpening open_body
-turned-call macros arguments text view new peek len at end id home Opened l f used scope b =
+turned-call macros arguments text view new peek len at end id parent Opened l f used scope b =
     let parts = map range_part b.call.ranges in
     OpensBody peek.at len id b.call.behind parts (peek-front (texts_of macros arguments) view.opens peek (front.Usage len) l f) used
     (bound-count macros text at end id b.call)
     (ap (λ (v : CursorsView). v.opens) b.opens ∙ ap (λ (h : ℕ). open_body (texts_of macros []) id parts h ∷ moved_to b.call.behind view.opens) scope)
-turned-call macros arguments text view new peek len at end id home (Lacks kind) l f used scope b = Stays (ap (λ (v : CursorsView). v.opens) b.0)
-turned-call macros arguments text view new peek len at end id home Deep l f used scope b = Stays (ap (λ (v : CursorsView). v.opens) b.0)
+turned-call macros arguments text view new peek len at end id parent (Lacks kind) l f used scope b = Stays (ap (λ (v : CursorsView). v.opens) b.0)
+turned-call macros arguments text view new peek len at end id parent Deep l f used scope b = Stays (ap (λ (v : CursorsView). v.opens) b.0)
 
 -- the innermost texts are closed, and then one more
 pub closes-more : (old mid new : List Open) → Closes old mid → new ≡ drop 1 mid → Closes old new

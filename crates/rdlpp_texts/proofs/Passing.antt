@@ -132,14 +132,14 @@ slice-behind text from to n h =
 pub bytes-behind : (texts : Texts) (x : Open) (below : List Open) (n : ℕ) (mode : Mode) → n ≤ length (open_bytes texts x below)
     → open_bytes texts (open_behind x n mode) below ≡ drop n (open_bytes texts x below)
 unfolding open_bytes open_behind
-bytes-behind texts x below n mode h = slice-behind (text_around texts x.kind x.home below) x.part.from x.part.end n h
+bytes-behind texts x below n mode h = slice-behind (text_around texts x.kind x.parent below) x.part.from x.part.end n h
 
 -- an open text behind some bytes and then others
 behind-behind : (x : Open) (n m : ℕ) (mode next : Mode) → open_behind (open_behind x n mode) m next ≡ open_behind x (n + m) next
 unfolding open_behind
 behind-behind x n m mode next =
     let e : x.part.from + n + m ≡ x.part.from + (n + m) = omega arith in
-    ap (λ (from : ℕ). record { part = record { from = from; end = x.part.end; mode = next }; home = x.home; kind = x.kind }) e
+    ap (λ (from : ℕ). record { part = record { from = from; end = x.part.end; mode = next }; parent = x.parent; kind = x.kind }) e
 
 -- the formals of the scope of an open text
 abbrev pub HasFormals : Texts → List Formal → Open → List Open → Type 0
@@ -189,7 +189,7 @@ run-none rules s line depth texts x below e = record {
     same : x ≡ open_behind x 0 x.part.mode
     same =
         let e : x.part.from ≡ x.part.from + 0 = omega arith in
-        ap (λ (from : ℕ). record { part = record { from = from; end = x.part.end; mode = x.part.mode }; home = x.home; kind = x.kind }) e
+        ap (λ (from : ℕ). record { part = record { from = from; end = x.part.end; mode = x.part.mode }; parent = x.parent; kind = x.kind }) e
 
 -- one more token
 run-more : (rules : Rules) (s : State) (line depth : ℕ) (texts : Texts) (formals : List Formal) (x : Open) (below : List Open) (n : ℕ)
@@ -339,7 +339,7 @@ behind-run P formals (t ∷ ts) m bytes e all =
 
 -- open texts of which the innermost goes on at a place are sound, where no call in what is left then drops a token
 pub sound-moved : (texts : Texts) (x : Open) (below : List Open) (at : ℕ) → AreSound texts (x ∷ below)
-    → KeepsAll (part_tokens (text_around texts x.kind x.home below) (record { from = at; end = x.part.end; mode = Plain }))
+    → KeepsAll (part_tokens (text_around texts x.kind x.parent below) (record { from = at; end = x.part.end; mode = Plain }))
     → AreSound texts (moved_to at (x ∷ below))
 unfolding moved_to
 sound-moved texts x below at h keeps = record {
@@ -451,7 +451,7 @@ unfolding opens_mode
 name-closes kind e = ap (λ (k : Kind). opens_mode k) e
 
 -- the first token names the formal that a look tells
-pub first-formal : (texts : Texts) (x : Open) (below : List Open) (len place : ℕ) → x.part.mode ≡ Plain → x.home ≤ length below
+pub first-formal : (texts : Texts) (x : Open) (below : List Open) (len place : ℕ) → x.part.mode ≡ Plain → x.parent ≤ length below
     → (token_of Plain (open_bytes texts x below)).len ≡ len
     → formal_named (source_formals texts (front_source (x ∷ below))) (take len (open_bytes texts x below)) ≡ Some place
     → formal_named (scope_formals texts.macros (x ∷ below) (open_scope x below)) (first_bytes texts x below) ≡ Some place
@@ -525,7 +525,7 @@ peek-run line depth texts (x ∷ below) peek h l more =
     let place : TextPlace = record { source = front_source (x ∷ below); from = x.part.from; end = x.part.from + n } in
     let step : IsStep line depth texts (x ∷ below) (Lends place) (moved_to (x.part.from + n) (x ∷ below)) =
     step-run line depth texts x below n place h some l.3
-    (same-front (text_around texts x.kind x.home below) (source_text texts (front_source (x ∷ below))) x.part.from x.part.end n some l.3.0 (source-around texts x below)) in
+    (same-front (text_around texts x.kind x.parent below) (source_text texts (front_source (x ∷ below))) x.part.from x.part.end n some l.3.0 (source-around texts x below)) in
     let at : peek.at ≡ x.part.from + n = omega (arith, from, more) in
     subst (λ (s : TextSource). IsStep line depth texts (x ∷ below) (Lends (record { source = s; from = peek.from; end = peek.at })) (moved_to peek.at (x ∷ below))) (sym l.0)
     (subst (λ (m : ℕ). IsStep line depth texts (x ∷ below) (Lends (record { source = front_source (x ∷ below); from = m; end = peek.at })) (moved_to peek.at (x ∷ below))) (sym l.1)

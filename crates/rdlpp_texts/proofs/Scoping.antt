@@ -1,4 +1,4 @@
--- The scopes of open texts: what a scope is by its slot, and what follows from it.
+-- The scopes of open texts: what a scope is by its frame, and what follows from it.
 use Rattle.std.proofs.Common.{◌≡◌, ℕ, suc, ◌+◌, ◌-◌, ◌<◌, ◌≤◌, Bool, true, false, List, [], ◌∷◌, map, length, take, drop, get_or, refl, sym, ap, subst, ◌∙◌, arith, eq-eqb, Option, None, Some, ◌⊎◌, inl, inr, if◌then◌else◌, ◌==◌, min, nat_le, ◌&&◌, ◌||◌, not, eqb-true, ne_eqb, leb-true, leb-false, take-take, take_all, length-take, length-drop, get_or-drop, get_or-take}
 use Rattle.std.specs.List.{list_any}
 use Rattle.std.proofs.lemmas.Bool.{eqb-false}
@@ -12,10 +12,10 @@ use Rattle.rdlpp_texts.specs.BoundCalls.{range_part}
 use Rattle.rdlpp_texts.specs.declared.bindings.Range.{Range}
 use Rattle.rdlpp_texts.specs.declared.place.TextPlace.{TextPlace}
 use Rattle.rdlpp_texts.specs.declared.place.TextSource.{TextSource}
-use Rattle.rdlpp_texts.specs.declared.slot.Slot.{Slot}
-use Rattle.rdlpp_texts.specs.declared.slot.SlotKind.{SlotKind}
-use Rattle.rdlpp_texts.specs.declared.slot.SlotKind.TheVariants as slot
-use Rattle.rdlpp_texts.specs.Opened.{kind_of, bindings_below, open_of, opens_of, slot_source, is_body_of, kind_outer, outer_of, AreHomedSlots}
+use Rattle.rdlpp_texts.specs.declared.frame.Frame.{Frame}
+use Rattle.rdlpp_texts.specs.declared.frame.FrameKind.{FrameKind}
+use Rattle.rdlpp_texts.specs.declared.frame.FrameKind.TheVariants as frame
+use Rattle.rdlpp_texts.specs.Opened.{kind_of, bindings_below, open_of, opens_of, frame_source, is_body_of, kind_outer, outer_of, AreParentedFrames}
 use Rattle.rdlpp_texts.specs.Places.{texts_of, source_text, source_formals}
 use Rattle.rdlpp_texts.specs.Scopes.{kind_source, found_source, own_source, front_source, front_scope, innermost_place, own_ids, writer_ids, IsBound, AreBound}
 
@@ -51,19 +51,19 @@ source-found texts (Some x) h = by x.kind h
     by (OpenDefault id place) h = refl
 
 -- the text in which the innermost open text lies is that of its source, if it has a byte
-pub source-around : (texts : Texts) (x : Open) (below : List Open) → 0 < length (text_around texts x.kind x.home below)
-    → source_text texts (front_source (x ∷ below)) ≡ text_around texts x.kind x.home below
+pub source-around : (texts : Texts) (x : Open) (below : List Open) → 0 < length (text_around texts x.kind x.parent below)
+    → source_text texts (front_source (x ∷ below)) ≡ text_around texts x.kind x.parent below
 unfolding front_source text_around source_text own_text
 source-around texts x below h = by x.kind h
   where
-    by : (kind : OpenKind) → 0 < length (text_around texts kind x.home below) → source_text texts (own_source kind x.home below) ≡ text_around texts kind x.home below
+    by : (kind : OpenKind) → 0 < length (text_around texts kind x.parent below) → source_text texts (own_source kind x.parent below) ≡ text_around texts kind x.parent below
     by (OpenBody id parts) h = refl
     by (OpenDefault id place) h = refl
     by OpenActual h =
-        let e = text-found texts below x.home in
-        source-found texts (scope_open below x.home) (subst (λ (bytes : List ℕ). 0 < length bytes) e h) ∙ sym e
+        let e = text-found texts below x.parent in
+        source-found texts (scope_open below x.parent) (subst (λ (bytes : List ℕ). 0 < length bytes) e h) ∙ sym e
 
--- the innermost open text is its own scope, or its home is
+-- the innermost open text is its own scope, or its parent is
 scope-front : (x : Open) (below : List Open) → scope_open (x ∷ below) (suc (length below)) ≡ Some x
 unfolding scope_open
 scope-front x below = rw (next_is (suc (length below))) refl
@@ -74,7 +74,7 @@ unfolding scope_open
 scope-around x below k h = rw (not_next k (length below) h) refl
 
 -- where the innermost open text lies is where its scope does
-pub source-scope : (x : Open) (below : List Open) → x.home ≤ length below
+pub source-scope : (x : Open) (below : List Open) → x.parent ≤ length below
     → front_source (x ∷ below) ≡ found_source (scope_open (x ∷ below) (open_scope x below))
 unfolding front_source open_scope
 source-scope x below h = by x.kind refl
@@ -84,17 +84,17 @@ source-scope x below h = by x.kind refl
 
     by : (kind : OpenKind) → x.kind ≡ kind → front_source (x ∷ below) ≡ found_source (scope_open (x ∷ below) (open_scope x below))
     by (OpenBody id parts) e =
-        ap (λ (k : OpenKind). own_source k x.home below) e
-        ∙ sym (ap (λ (k : OpenKind). found_source (scope_open (x ∷ below) (elim k [ OpenActual ↦ x.home | _ ↦ suc (length below) ]))) e
+        ap (λ (k : OpenKind). own_source k x.parent below) e
+        ∙ sym (ap (λ (k : OpenKind). found_source (scope_open (x ∷ below) (elim k [ OpenActual ↦ x.parent | _ ↦ suc (length below) ]))) e
         ∙ ap (λ (o : Option Open). found_source o) own ∙ ap (λ (k : OpenKind). kind_source k) e)
     by (OpenDefault id place) e =
-        ap (λ (k : OpenKind). own_source k x.home below) e
-        ∙ sym (ap (λ (k : OpenKind). found_source (scope_open (x ∷ below) (elim k [ OpenActual ↦ x.home | _ ↦ suc (length below) ]))) e
+        ap (λ (k : OpenKind). own_source k x.parent below) e
+        ∙ sym (ap (λ (k : OpenKind). found_source (scope_open (x ∷ below) (elim k [ OpenActual ↦ x.parent | _ ↦ suc (length below) ]))) e
         ∙ ap (λ (o : Option Open). found_source o) own ∙ ap (λ (k : OpenKind). kind_source k) e)
     by OpenActual e =
-        ap (λ (k : OpenKind). own_source k x.home below) e
-        ∙ sym (ap (λ (k : OpenKind). found_source (scope_open (x ∷ below) (elim k [ OpenActual ↦ x.home | _ ↦ suc (length below) ]))) e
-        ∙ ap (λ (o : Option Open). found_source o) (scope-around x below x.home h))
+        ap (λ (k : OpenKind). own_source k x.parent below) e
+        ∙ sym (ap (λ (k : OpenKind). found_source (scope_open (x ∷ below) (elim k [ OpenActual ↦ x.parent | _ ↦ suc (length below) ]))) e
+        ∙ ap (λ (o : Option Open). found_source o) (scope-around x below x.parent h))
 
 -- the formals of the text of what a scope is are its own
 source-formals : (texts : Texts) (found : Option Open) → source_formals texts (found_source found) ≡ found_formals texts.macros found
@@ -108,19 +108,19 @@ source-formals texts (Some x) = by x.kind
     by (OpenDefault id place) = refl
 
 -- those of the text in which an open text lies are those of its scope
-pub front-formals : (texts : Texts) (x : Open) (below : List Open) → x.home ≤ length below
+pub front-formals : (texts : Texts) (x : Open) (below : List Open) → x.parent ≤ length below
     → source_formals texts (front_source (x ∷ below)) ≡ scope_formals texts.macros (x ∷ below) (open_scope x below)
 front-formals texts x below h =
     ap (λ (source : TextSource). source_formals texts source) (source-scope x below h) ∙ source-formals texts (scope_open (x ∷ below) (open_scope x below))
 
--- there are as many open texts as slots
-pub opens-length : (slots : List Slot) (bindings : List Range) → length (opens_of slots bindings) ≡ length slots
+-- there are as many open texts as frames
+pub opens-length : (frames : List Frame) (bindings : List Range) → length (opens_of frames bindings) ≡ length frames
 unfolding opens_of
 opens-length [] bindings = refl
-opens-length (slot ∷ below) bindings = ap (λ (n : ℕ). suc n) (opens-length below (bindings_below slot.kind bindings))
+opens-length (frame ∷ below) bindings = ap (λ (n : ℕ). suc n) (opens-length below (bindings_below frame.kind bindings))
 
 -- the scope of the innermost of them is one of them
-pub front-within : (slots : List Slot) (bindings : List Range) → AreHomedSlots slots → front_scope (opens_of slots bindings) ≤ length slots
+pub front-within : (frames : List Frame) (bindings : List Range) → AreParentedFrames frames → front_scope (opens_of frames bindings) ≤ length frames
 unfolding opens_of front_scope open_scope
 front-within [] bindings h = omega arith
 front-within (y ∷ below) bindings h = by y.kind
@@ -128,10 +128,10 @@ front-within (y ∷ below) bindings h = by y.kind
     n : length (opens_of below (bindings_below y.kind bindings)) ≡ length below
     n = opens-length below (bindings_below y.kind bindings)
 
-    by : (kind : SlotKind) → elim (kind_of kind bindings) [ OpenActual ↦ y.home | _ ↦ suc (length (opens_of below (bindings_below y.kind bindings))) ] ≤ suc (length below)
-    by (slot.Body id first) = omega (arith, n)
-    by slot.Actual = let home = h.0 in omega (arith, home)
-    by (slot.Default id place) = omega (arith, n)
+    by : (kind : FrameKind) → elim (kind_of kind bindings) [ OpenActual ↦ y.parent | _ ↦ suc (length (opens_of below (bindings_below y.kind bindings))) ] ≤ suc (length below)
+    by (frame.Body id first) = omega (arith, n)
+    by frame.Actual = let parent = h.0 in omega (arith, parent)
+    by (frame.Default id place) = omega (arith, n)
 
 -- the first ones of the first ones are some first ones
 pub record IsFirst {A : Type 0} (xs : List A) (n m : ℕ) : Type 0 where
@@ -145,20 +145,20 @@ take-first xs n m false e =
     let h : m < n = leb-false n m e in
     record { kept = m; same = take_all n (take m xs) (let l = length-take m xs in omega (arith, l, h)) }
 
--- the ranges around a slot are the first of all
-below-first : (kind : SlotKind) (bindings : List Range) (n : ℕ) → (kept : ℕ) × (take n (bindings_below kind bindings) ≡ take kept bindings)
-below-first (slot.Body id first) bindings n = let f = take-first bindings n first (nat_le n first) refl in (f.kept, f.same)
-below-first slot.Actual bindings n = (n, refl)
-below-first (slot.Default id place) bindings n = (n, refl)
+-- the ranges around a frame are the first of all
+below-first : (kind : FrameKind) (bindings : List Range) (n : ℕ) → (kept : ℕ) × (take n (bindings_below kind bindings) ≡ take kept bindings)
+below-first (frame.Body id first) bindings n = let f = take-first bindings n first (nat_le n first) refl in (f.kept, f.same)
+below-first frame.Actual bindings n = (n, refl)
+below-first (frame.Default id place) bindings n = (n, refl)
 
--- the open text that a scope is, by its slot
-pub record IsAtScope (slots : List Slot) (bindings : List Range) (k : ℕ) (slot : Slot) : Type 0 where
+-- the open text that a scope is, by its frame
+pub record IsAtScope (frames : List Frame) (bindings : List Range) (k : ℕ) (frame : Frame) : Type 0 where
   pub kept : ℕ
-  pub found : scope_open (opens_of slots bindings) k ≡ Some (open_of slot (take kept bindings))
+  pub found : scope_open (opens_of frames bindings) k ≡ Some (open_of frame (take kept bindings))
 
--- it is that of the slot at its place
-pub at-scope : (slots : List Slot) (bindings : List Range) (k : ℕ) (own : Slot) → 0 < k → k ≤ length slots → own ≡ get_or slots (length slots - k) own
-    → IsAtScope slots bindings k own
+-- it is that of the frame at its place
+pub at-scope : (frames : List Frame) (bindings : List Range) (k : ℕ) (own : Frame) → 0 < k → k ≤ length frames → own ≡ get_or frames (length frames - k) own
+    → IsAtScope frames bindings k own
 unfolding opens_of scope_open
 at-scope [] bindings k own positive inside e = absurd (omega (arith, positive, inside))
 at-scope (y ∷ ys) bindings k own positive inside e =
@@ -179,7 +179,7 @@ at-scope (y ∷ ys) bindings k own positive inside e =
           found = ap (λ (m : ℕ). if k == suc m then Some (open_of y bindings) else scope_open (opens_of ys (bindings_below y.kind bindings)) k) n
               ∙ ap (λ (b : Bool). if b then Some (open_of y bindings) else scope_open (opens_of ys (bindings_below y.kind bindings)) k) h
               ∙ ap (λ (bs : List Range). Some (open_of y bs)) (sym (take_all (length bindings) bindings (omega arith)))
-              ∙ ap (λ (z : Slot). Some (open_of z (take (length bindings) bindings))) (sym is);
+              ∙ ap (λ (z : Frame). Some (open_of z (take (length bindings) bindings))) (sym is);
         }
     by false h rest =
         let less : k ≤ length ys = unequal k (length ys) h inside in
@@ -212,92 +212,92 @@ unfolding scope_open
 source-scope_none [] = refl
 source-scope_none (x ∷ below) = rw (not_next 0 (length below) (omega arith)) (source-scope_none below)
 
--- the scope of the innermost slot, where it is an actual
-pub scope-actual : (slots : List Slot) (bindings : List Range) (own : Slot) → 0 < length slots → own ≡ get_or slots 0 own → own.kind ≡ slot.Actual
-    → own.home ≡ front_scope (opens_of slots bindings)
+-- the scope of the innermost frame, where it is an actual
+pub scope-actual : (frames : List Frame) (bindings : List Range) (own : Frame) → 0 < length frames → own ≡ get_or frames 0 own → own.kind ≡ frame.Actual
+    → own.parent ≡ front_scope (opens_of frames bindings)
 unfolding opens_of front_scope open_scope
 scope-actual [] bindings own some e k = no-byte some
 scope-actual (y ∷ ys) bindings own some e k =
-    let kind : y.kind ≡ slot.Actual = sym (ap (λ (s : Slot). s.kind) e) ∙ k in
-    ap (λ (s : Slot). s.home) e
-    ∙ sym (ap (λ (c : SlotKind). elim (kind_of c bindings) [ OpenActual ↦ y.home | _ ↦ suc (length (opens_of ys (bindings_below y.kind bindings))) ]) kind)
+    let kind : y.kind ≡ frame.Actual = sym (ap (λ (s : Frame). s.kind) e) ∙ k in
+    ap (λ (s : Frame). s.parent) e
+    ∙ sym (ap (λ (c : FrameKind). elim (kind_of c bindings) [ OpenActual ↦ y.parent | _ ↦ suc (length (opens_of ys (bindings_below y.kind bindings))) ]) kind)
 
 -- and where it is none
-pub scope-other : (slots : List Slot) (bindings : List Range) (own : Slot) → 0 < length slots → own ≡ get_or slots 0 own → (own.kind ≡ slot.Actual → ⊥)
-    → length slots ≡ front_scope (opens_of slots bindings)
+pub scope-other : (frames : List Frame) (bindings : List Range) (own : Frame) → 0 < length frames → own ≡ get_or frames 0 own → (own.kind ≡ frame.Actual → ⊥)
+    → length frames ≡ front_scope (opens_of frames bindings)
 unfolding opens_of front_scope open_scope
 scope-other [] bindings own some e other = no-byte some
 scope-other (y ∷ ys) bindings own some e other =
     ap (λ (n : ℕ). suc n) (sym (opens-length ys (bindings_below y.kind bindings)))
-    ∙ by y.kind (λ k. other (ap (λ (s : Slot). s.kind) e ∙ k))
+    ∙ by y.kind (λ k. other (ap (λ (s : Frame). s.kind) e ∙ k))
   where
-    by : (kind : SlotKind) → (kind ≡ slot.Actual → ⊥)
+    by : (kind : FrameKind) → (kind ≡ frame.Actual → ⊥)
         → suc (length (opens_of ys (bindings_below y.kind bindings)))
-        ≡ (elim (kind_of kind bindings) [ OpenActual ↦ y.home | _ ↦ suc (length (opens_of ys (bindings_below y.kind bindings))) ])
-    by (slot.Body id first) other = refl
-    by slot.Actual other = absurd (other refl)
-    by (slot.Default id place) other = refl
+        ≡ (elim (kind_of kind bindings) [ OpenActual ↦ y.parent | _ ↦ suc (length (opens_of ys (bindings_below y.kind bindings))) ])
+    by (frame.Body id first) other = refl
+    by frame.Actual other = absurd (other refl)
+    by (frame.Default id place) other = refl
 
 -- no scope but an open text's has a text of its own
-pub source-none : (slots : List Slot) (bindings : List Range) (scope : ℕ) → (scope ≡ 0) ⊎ ((scope ≡ 0 → ⊥) × (length slots < scope))
-    → scope_open (opens_of slots bindings) scope ≡ None
-source-none slots bindings scope h = elim h [
-  | inl e ↦ ap (λ (k : ℕ). scope_open (opens_of slots bindings) k) e ∙ source-scope_none (opens_of slots bindings)
-  | inr m ↦ no-scope (opens_of slots bindings) scope (let n = opens-length slots bindings in let l = m.1 in omega (arith, n, l))
+pub source-none : (frames : List Frame) (bindings : List Range) (scope : ℕ) → (scope ≡ 0) ⊎ ((scope ≡ 0 → ⊥) × (length frames < scope))
+    → scope_open (opens_of frames bindings) scope ≡ None
+source-none frames bindings scope h = elim h [
+  | inl e ↦ ap (λ (k : ℕ). scope_open (opens_of frames bindings) k) e ∙ source-scope_none (opens_of frames bindings)
+  | inr m ↦ no-scope (opens_of frames bindings) scope (let n = opens-length frames bindings in let l = m.1 in omega (arith, n, l))
 ]
 
--- where a slot's text lies is where its open text does
-kind-source : (kind : SlotKind) (bindings : List Range) → slot_source kind ≡ kind_source (kind_of kind bindings)
-kind-source (slot.Body id first) bindings = refl
-kind-source slot.Actual bindings = refl
-kind-source (slot.Default id place) bindings = refl
+-- where a frame's text lies is where its open text does
+kind-source : (kind : FrameKind) (bindings : List Range) → frame_source kind ≡ kind_source (kind_of kind bindings)
+kind-source (frame.Body id first) bindings = refl
+kind-source frame.Actual bindings = refl
+kind-source (frame.Default id place) bindings = refl
 
--- where the text of a scope lies, by its slot
-pub source-at : (slots : List Slot) (bindings : List Range) (scope : ℕ) (own : Slot) (source : TextSource) → (scope ≡ 0 → ⊥) → scope ≤ length slots
-    → own ≡ get_or slots (length slots - scope) own → source ≡ slot_source own.kind → source ≡ found_source (scope_open (opens_of slots bindings) scope)
-source-at slots bindings scope own source some inside e s =
-    let a = at-scope slots bindings scope own (omega (arith, some)) inside e in
+-- where the text of a scope lies, by its frame
+pub source-at : (frames : List Frame) (bindings : List Range) (scope : ℕ) (own : Frame) (source : TextSource) → (scope ≡ 0 → ⊥) → scope ≤ length frames
+    → own ≡ get_or frames (length frames - scope) own → source ≡ frame_source own.kind → source ≡ found_source (scope_open (opens_of frames bindings) scope)
+source-at frames bindings scope own source some inside e s =
+    let a = at-scope frames bindings scope own (omega (arith, some)) inside e in
     s ∙ kind-source own.kind (take a.kept bindings) ∙ sym (ap (λ (o : Option Open). found_source o) a.found)
 
 -- where the innermost open text lies, where it is an actual
-pub front-actual : (slots : List Slot) (bindings : List Range) (own : Slot) (source : TextSource) → 0 < length slots → own ≡ get_or slots 0 own → own.kind ≡ slot.Actual
-    → ((bound : List Range) → source ≡ found_source (scope_open (opens_of (take (length slots - 1) (drop 1 slots)) bound) own.home))
-    → source ≡ front_source (opens_of slots bindings)
+pub front-actual : (frames : List Frame) (bindings : List Range) (own : Frame) (source : TextSource) → 0 < length frames → own ≡ get_or frames 0 own → own.kind ≡ frame.Actual
+    → ((bound : List Range) → source ≡ found_source (scope_open (opens_of (take (length frames - 1) (drop 1 frames)) bound) own.parent))
+    → source ≡ front_source (opens_of frames bindings)
 unfolding opens_of front_source
 front-actual [] bindings own source some e k h = no-byte some
 front-actual (y ∷ ys) bindings own source some e k h =
-    let kind : y.kind ≡ slot.Actual = sym (ap (λ (s : Slot). s.kind) e) ∙ k in
+    let kind : y.kind ≡ frame.Actual = sym (ap (λ (s : Frame). s.kind) e) ∙ k in
     let rest : take (suc (length ys) - 1) ys ≡ ys = take_all (suc (length ys) - 1) ys (omega arith) in
     h bindings
-    ∙ ap (λ (s : List Slot). found_source (scope_open (opens_of s bindings) own.home)) rest
-    ∙ ap (λ (s : Slot). found_source (scope_open (opens_of ys bindings) s.home)) e
-    ∙ sym (ap (λ (c : SlotKind). own_source (kind_of c bindings) y.home (opens_of ys (bindings_below c bindings))) kind)
+    ∙ ap (λ (s : List Frame). found_source (scope_open (opens_of s bindings) own.parent)) rest
+    ∙ ap (λ (s : Frame). found_source (scope_open (opens_of ys bindings) s.parent)) e
+    ∙ sym (ap (λ (c : FrameKind). own_source (kind_of c bindings) y.parent (opens_of ys (bindings_below c bindings))) kind)
 
 -- and where it is none
-pub front-other : (slots : List Slot) (bindings : List Range) (own : Slot) (source : TextSource) → 0 < length slots → own ≡ get_or slots 0 own → (own.kind ≡ slot.Actual → ⊥)
-    → source ≡ slot_source own.kind → source ≡ front_source (opens_of slots bindings)
+pub front-other : (frames : List Frame) (bindings : List Range) (own : Frame) (source : TextSource) → 0 < length frames → own ≡ get_or frames 0 own → (own.kind ≡ frame.Actual → ⊥)
+    → source ≡ frame_source own.kind → source ≡ front_source (opens_of frames bindings)
 unfolding opens_of front_source
 front-other [] bindings own source some e other s = no-byte some
 front-other (y ∷ ys) bindings own source some e other s =
-    s ∙ ap (λ (z : Slot). slot_source z.kind) e ∙ by y.kind (λ k. other (ap (λ (z : Slot). z.kind) e ∙ k))
+    s ∙ ap (λ (z : Frame). frame_source z.kind) e ∙ by y.kind (λ k. other (ap (λ (z : Frame). z.kind) e ∙ k))
   where
-    by : (kind : SlotKind) → (kind ≡ slot.Actual → ⊥) → slot_source kind ≡ own_source (kind_of kind bindings) y.home (opens_of ys (bindings_below y.kind bindings))
-    by (slot.Body id first) other = refl
-    by slot.Actual other = absurd (other refl)
-    by (slot.Default id place) other = refl
+    by : (kind : FrameKind) → (kind ≡ frame.Actual → ⊥) → frame_source kind ≡ own_source (kind_of kind bindings) y.parent (opens_of ys (bindings_below y.kind bindings))
+    by (frame.Body id first) other = refl
+    by frame.Actual other = absurd (other refl)
+    by (frame.Default id place) other = refl
 
--- where what is left of the innermost open text lies, by its slot
-pub innermost-is : (slots : List Slot) (bindings : List Range) (own : Slot) (source : TextSource) → (length slots == 0) ≡ false → own ≡ get_or slots 0 own
-    → source ≡ front_source (opens_of slots bindings)
-    → Some (record { source = source; from = min own.from own.end; end = own.end }) ≡ innermost_place (opens_of slots bindings)
+-- where what is left of the innermost open text lies, by its frame
+pub innermost-is : (frames : List Frame) (bindings : List Range) (own : Frame) (source : TextSource) → (length frames == 0) ≡ false → own ≡ get_or frames 0 own
+    → source ≡ front_source (opens_of frames bindings)
+    → Some (record { source = source; from = min own.from own.end; end = own.end }) ≡ innermost_place (opens_of frames bindings)
 unfolding opens_of front_source innermost_place
 innermost-is [] bindings own source some e at = absurd (cc)
 innermost-is (y ∷ ys) bindings own source some e at =
-    let lies : Slot → TextSource → Option TextPlace = λ z s. Some (record { source = s; from = min z.from z.end; end = z.end }) in
-    ap (lies own) at ∙ ap (λ (z : Slot). lies z (front_source (opens_of (y ∷ ys) bindings))) e
+    let lies : Frame → TextSource → Option TextPlace = λ z s. Some (record { source = s; from = min z.from z.end; end = z.end }) in
+    ap (lies own) at ∙ ap (λ (z : Frame). lies z (front_source (opens_of (y ∷ ys) bindings))) e
 
 -- and where none is open
-pub innermost-none : (slots : List Slot) (bindings : List Range) → length slots ≡ 0 → None ≡ innermost_place (opens_of slots bindings)
+pub innermost-none : (frames : List Frame) (bindings : List Range) → length frames ≡ 0 → None ≡ innermost_place (opens_of frames bindings)
 unfolding opens_of innermost_place
 innermost-none [] bindings none = refl
 innermost-none (y ∷ ys) bindings none = absurd (omega (arith, none))
@@ -319,18 +319,18 @@ pub record HasRange (macros : List Macro) (bindings : List Range) (id first plac
   pub inside : first + place < length bindings
 
 -- the formal at a place of a scope has a range, where it is a body
-pub range-inside : (macros : List Macro) (slots : List Slot) (bindings : List Range) (scope : ℕ) (own : Slot) (id first place : ℕ)
-    → AreBound macros (opens_of slots bindings) → (scope ≡ 0 → ⊥) → scope ≤ length slots → own ≡ get_or slots (length slots - scope) own
-    → own.kind ≡ slot.Body id first
-    → place < length (source_formals (texts_of macros []) (found_source (scope_open (opens_of slots bindings) scope)))
+pub range-inside : (macros : List Macro) (frames : List Frame) (bindings : List Range) (scope : ℕ) (own : Frame) (id first place : ℕ)
+    → AreBound macros (opens_of frames bindings) → (scope ≡ 0 → ⊥) → scope ≤ length frames → own ≡ get_or frames (length frames - scope) own
+    → own.kind ≡ frame.Body id first
+    → place < length (source_formals (texts_of macros []) (found_source (scope_open (opens_of frames bindings) scope)))
     → HasRange macros bindings id first place
 unfolding source_formals
-range-inside macros slots bindings scope own id first place bound some inside e k h =
-    let a = at-scope slots bindings scope own (omega (arith, some)) inside e in
-    let found : scope_open (opens_of slots bindings) scope ≡ Some (open_of (record own { kind = slot.Body id first }) (take a.kept bindings)) =
-    a.found ∙ ap (λ (c : SlotKind). Some (open_of (record own { kind = c }) (take a.kept bindings))) k in
+range-inside macros frames bindings scope own id first place bound some inside e k h =
+    let a = at-scope frames bindings scope own (omega (arith, some)) inside e in
+    let found : scope_open (opens_of frames bindings) scope ≡ Some (open_of (record own { kind = frame.Body id first }) (take a.kept bindings)) =
+    a.found ∙ ap (λ (c : FrameKind). Some (open_of (record own { kind = c }) (take a.kept bindings))) k in
     let b : (id < length macros) × (length (formals_of (macro_at macros id)) ≤ length (map range_part (drop first (take a.kept bindings)))) =
-    bound-scope macros (opens_of slots bindings) scope (open_of (record own { kind = slot.Body id first }) (take a.kept bindings)) bound found in
+    bound-scope macros (opens_of frames bindings) scope (open_of (record own { kind = frame.Body id first }) (take a.kept bindings)) bound found in
     let place_in : place < length (formals_of (macro_at macros id)) =
     subst (λ (o : Option Open). place < length (source_formals (texts_of macros []) (found_source o))) found h in
     let parts = length-map (drop first (take a.kept bindings)) range_part in
@@ -356,20 +356,20 @@ part-kept bindings kept first place range e h =
     ∙ ap (λ (r : Range). range_part r) (get_or-drop first (take kept bindings) place range ∙ get_or-take kept bindings (first + place) range less ∙ sym e)
 
 -- the text that the formal at a place of a scope stands for, where it is a body
-pub standing-body : (macros : List Macro) (slots : List Slot) (bindings : List Range) (scope : ℕ) (own : Slot) (id first place : ℕ) (range : Range) (new : Slot) (bound : List Range)
-    → AreBound macros (opens_of slots bindings) → (scope ≡ 0 → ⊥) → scope ≤ length slots → own ≡ get_or slots (length slots - scope) own
-    → own.kind ≡ slot.Body id first
-    → place < length (source_formals (texts_of macros []) (found_source (scope_open (opens_of slots bindings) scope)))
+pub standing-body : (macros : List Macro) (frames : List Frame) (bindings : List Range) (scope : ℕ) (own : Frame) (id first place : ℕ) (range : Range) (new : Frame) (bound : List Range)
+    → AreBound macros (opens_of frames bindings) → (scope ≡ 0 → ⊥) → scope ≤ length frames → own ≡ get_or frames (length frames - scope) own
+    → own.kind ≡ frame.Body id first
+    → place < length (source_formals (texts_of macros []) (found_source (scope_open (opens_of frames bindings) scope)))
     → range ≡ get_or bindings (first + place) range
-    → ((parts : List Part) → part_at parts place ≡ range_part range → open_of new bound ≡ open_standing (formals_of (macro_at macros id)) id scope own.home parts place)
-    → Some (open_of new bound) ≡ found_standing macros (scope_open (opens_of slots bindings) scope) scope place
+    → ((parts : List Part) → part_at parts place ≡ range_part range → open_of new bound ≡ open_standing (formals_of (macro_at macros id)) id scope own.parent parts place)
+    → Some (open_of new bound) ≡ found_standing macros (scope_open (opens_of frames bindings) scope) scope place
 unfolding source_formals
-standing-body macros slots bindings scope own id first place range new bound are some inside e k h r s =
-    let a = at-scope slots bindings scope own (omega (arith, some)) inside e in
-    let found : scope_open (opens_of slots bindings) scope ≡ Some (open_of (record own { kind = slot.Body id first }) (take a.kept bindings)) =
-    a.found ∙ ap (λ (c : SlotKind). Some (open_of (record own { kind = c }) (take a.kept bindings))) k in
+standing-body macros frames bindings scope own id first place range new bound are some inside e k h r s =
+    let a = at-scope frames bindings scope own (omega (arith, some)) inside e in
+    let found : scope_open (opens_of frames bindings) scope ≡ Some (open_of (record own { kind = frame.Body id first }) (take a.kept bindings)) =
+    a.found ∙ ap (λ (c : FrameKind). Some (open_of (record own { kind = c }) (take a.kept bindings))) k in
     let b : (id < length macros) × (length (formals_of (macro_at macros id)) ≤ length (map range_part (drop first (take a.kept bindings)))) =
-    bound-scope macros (opens_of slots bindings) scope (open_of (record own { kind = slot.Body id first }) (take a.kept bindings)) are found in
+    bound-scope macros (opens_of frames bindings) scope (open_of (record own { kind = frame.Body id first }) (take a.kept bindings)) are found in
     let place_in : place < length (formals_of (macro_at macros id)) =
     subst (λ (o : Option Open). place < length (source_formals (texts_of macros []) (found_source o))) found h in
     let many = b.1 in
@@ -377,43 +377,43 @@ standing-body macros slots bindings scope own id first place range new bound are
     ∙ sym (ap (λ (o : Option Open). found_standing macros o scope place) found)
 
 -- it stands for nothing where it is none
-pub standing-other : (macros : List Macro) (slots : List Slot) (bindings : List Range) (scope : ℕ) (own : Slot) (place : ℕ)
-    → (scope ≡ 0 → ⊥) → scope ≤ length slots → own ≡ get_or slots (length slots - scope) own
-    → ((id first : ℕ) → own.kind ≡ slot.Body id first → ⊥)
-    → None ≡ found_standing macros (scope_open (opens_of slots bindings) scope) scope place
-standing-other macros slots bindings scope own place some inside e other =
-    let a = at-scope slots bindings scope own (omega (arith, some)) inside e in
+pub standing-other : (macros : List Macro) (frames : List Frame) (bindings : List Range) (scope : ℕ) (own : Frame) (place : ℕ)
+    → (scope ≡ 0 → ⊥) → scope ≤ length frames → own ≡ get_or frames (length frames - scope) own
+    → ((id first : ℕ) → own.kind ≡ frame.Body id first → ⊥)
+    → None ≡ found_standing macros (scope_open (opens_of frames bindings) scope) scope place
+standing-other macros frames bindings scope own place some inside e other =
+    let a = at-scope frames bindings scope own (omega (arith, some)) inside e in
     by own.kind refl
     ∙ sym (ap (λ (o : Option Open). found_standing macros o scope place) a.found)
   where
-    by : (kind : SlotKind) → own.kind ≡ kind
-        → None ≡ kind_standing macros (kind_of own.kind (take (at-scope slots bindings scope own (omega (arith, some)) inside e).kept bindings)) scope own.home place
-    by (slot.Body id first) k = absurd (other id first k)
-    by slot.Actual k = sym (ap (λ (c : SlotKind). kind_standing macros (kind_of c (take (at-scope slots bindings scope own (omega (arith, some)) inside e).kept bindings)) scope own.home place) k)
-    by (slot.Default id own_place) k = sym (ap (λ (c : SlotKind). kind_standing macros (kind_of c (take (at-scope slots bindings scope own (omega (arith, some)) inside e).kept bindings)) scope own.home place) k)
+    by : (kind : FrameKind) → own.kind ≡ kind
+        → None ≡ kind_standing macros (kind_of own.kind (take (at-scope frames bindings scope own (omega (arith, some)) inside e).kept bindings)) scope own.parent place
+    by (frame.Body id first) k = absurd (other id first k)
+    by frame.Actual k = sym (ap (λ (c : FrameKind). kind_standing macros (kind_of c (take (at-scope frames bindings scope own (omega (arith, some)) inside e).kept bindings)) scope own.parent place) k)
+    by (frame.Default id own_place) k = sym (ap (λ (c : FrameKind). kind_standing macros (kind_of c (take (at-scope frames bindings scope own (omega (arith, some)) inside e).kept bindings)) scope own.parent place) k)
 
 -- a default as an open text
 abbrev pub default_open : ℕ → ℕ → ℕ → ℕ → Open
-default_open id place scope end = record { part = record { from = 0; end = end; mode = Plain }; home = scope; kind = OpenDefault id place }
+default_open id place scope end = record { part = record { from = 0; end = end; mode = Plain }; parent = scope; kind = OpenDefault id place }
 
 -- an actual as one
 abbrev pub actual_open : ℕ → Part → Open
-actual_open home part = record { part = part; home = home; kind = OpenActual }
+actual_open parent part = record { part = part; parent = parent; kind = OpenActual }
 
 -- a default stands for a formal whose part is empty and that has one
-pub standing-default : (formals : List Formal) (id place scope home end : ℕ) (range : Range) (parts : List Part) → 0 < end
+pub standing-default : (formals : List Formal) (id place scope parent end : ℕ) (range : Range) (parts : List Part) → 0 < end
     → end ≡ (if nat_le range.to range.from then length (formal_at formals place).text else 0)
     → part_at parts place ≡ range_part range
-    → default_open id place scope end ≡ open_standing formals id scope home parts place
+    → default_open id place scope end ≡ open_standing formals id scope parent parts place
 unfolding open_standing
-standing-default formals id place scope home end range parts some e p =
+standing-default formals id place scope parent end range parts some e p =
     by (nat_le range.to range.from) refl e
   where
     by : (empty : Bool) → nat_le range.to range.from ≡ empty → end ≡ (if empty then length (formal_at formals place).text else 0)
         → default_open id place scope end
         ≡ (if ((part_at parts place).end - (part_at parts place).from == 0) && not (length (formal_at formals place).text == 0)
         then default_open id place scope (length (formal_at formals place).text)
-        else actual_open home (part_at parts place))
+        else actual_open parent (part_at parts place))
     by false l f = absurd (omega (arith, some, f))
     by true l f =
         let less : range.to ≤ range.from = leb-true range.to range.from l in
@@ -422,27 +422,27 @@ standing-default formals id place scope home end range parts some e p =
         ap (λ (n : ℕ). default_open id place scope n) f
         ∙ sym (ap (λ (q : Part). if (q.end - q.from == 0) && not (length (formal_at formals place).text == 0)
         then default_open id place scope (length (formal_at formals place).text)
-        else actual_open home q) p
+        else actual_open parent q) p
         ∙ ap (λ (b : Bool). if b && not (length (formal_at formals place).text == 0)
         then default_open id place scope (length (formal_at formals place).text)
-        else actual_open home (range_part range)) none
+        else actual_open parent (range_part range)) none
         ∙ ap (λ (b : Bool). if not b
         then default_open id place scope (length (formal_at formals place).text)
-        else actual_open home (range_part range)) has)
+        else actual_open parent (range_part range)) has)
 
 -- and its part does else
-pub standing-actual : (formals : List Formal) (id place scope home end : ℕ) (range : Range) (parts : List Part) → end ≤ 0
+pub standing-actual : (formals : List Formal) (id place scope parent end : ℕ) (range : Range) (parts : List Part) → end ≤ 0
     → end ≡ (if nat_le range.to range.from then length (formal_at formals place).text else 0)
     → part_at parts place ≡ range_part range
-    → actual_open home (range_part range) ≡ open_standing formals id scope home parts place
+    → actual_open parent (range_part range) ≡ open_standing formals id scope parent parts place
 unfolding open_standing
-standing-actual formals id place scope home end range parts none e p =
+standing-actual formals id place scope parent end range parts none e p =
     sym (ap (λ (q : Part). if (q.end - q.from == 0) && not (length (formal_at formals place).text == 0)
     then default_open id place scope (length (formal_at formals place).text)
-    else actual_open home q) p
+    else actual_open parent q) p
     ∙ ap (λ (b : Bool). if b
     then default_open id place scope (length (formal_at formals place).text)
-    else actual_open home (range_part range)) (by (nat_le range.to range.from) refl e))
+    else actual_open parent (range_part range)) (by (nat_le range.to range.from) refl e))
   where
     and-false : (b c : Bool) → c ≡ false → (b && c) ≡ false
     and-false true c e = e
@@ -468,35 +468,35 @@ ids-around : (x : Open) (below : List Open) (k : ℕ) → k ≤ length below →
 unfolding writer_ids
 ids-around x below k h = rw (not_next k (length below) h) refl
 
--- the scope in which a slot's call is written is its home or the source
-outer-inside : (kind : SlotKind) (home : ℕ) → kind_outer kind home ≤ home
-outer-inside (slot.Body id first) home = omega arith
-outer-inside slot.Actual home = omega arith
-outer-inside (slot.Default id place) home = omega arith
+-- the scope in which a frame's call is written is its parent or the source
+outer-inside : (kind : FrameKind) (parent : ℕ) → kind_outer kind parent ≤ parent
+outer-inside (frame.Body id first) parent = omega arith
+outer-inside frame.Actual parent = omega arith
+outer-inside (frame.Default id place) parent = omega arith
 
--- what a scope's slot tells of the macros in whose text it is
-pub record IsWritten (slots : List Slot) (bindings : List Range) (k id : ℕ) (own : Slot) : Type 0 where
+-- what a scope's frame tells of the macros in whose text it is
+pub record IsWritten (frames : List Frame) (bindings : List Range) (k id : ℕ) (own : Frame) : Type 0 where
   pub further : outer_of own < k
-  pub step : list_any (λ j. id == j) (writer_ids (opens_of slots bindings) k)
-      ≡ (is_body_of own.kind id || list_any (λ j. id == j) (writer_ids (opens_of slots bindings) (outer_of own)))
+  pub step : list_any (λ j. id == j) (writer_ids (opens_of frames bindings) k)
+      ≡ (is_body_of own.kind id || list_any (λ j. id == j) (writer_ids (opens_of frames bindings) (outer_of own)))
 
 -- the innermost open text's own scope, by what it is
-own-step : (id : ℕ) (x : Open) (below : List Open) (kind : SlotKind) (bindings : List Range) (home : ℕ) → home ≤ length below
-    → list_any (λ j. id == j) (own_ids (kind_of kind bindings) (writer_ids below home))
-    ≡ (is_body_of kind id || list_any (λ j. id == j) (writer_ids (x ∷ below) (kind_outer kind home)))
-own-step id x below (slot.Body own first) bindings home h =
-    ap (λ (ids : List ℕ). (id == own) || list_any (λ j. id == j) ids) (sym (ids-around x below home h))
-own-step id x below slot.Actual bindings home h = sym (ap (λ (ids : List ℕ). list_any (λ j. id == j) ids) (ids-source (x ∷ below)))
-own-step id x below (slot.Default own place) bindings home h =
-    ap (λ (ids : List ℕ). list_any (λ j. id == j) ids) (sym (ids-around x below home h))
+own-step : (id : ℕ) (x : Open) (below : List Open) (kind : FrameKind) (bindings : List Range) (parent : ℕ) → parent ≤ length below
+    → list_any (λ j. id == j) (own_ids (kind_of kind bindings) (writer_ids below parent))
+    ≡ (is_body_of kind id || list_any (λ j. id == j) (writer_ids (x ∷ below) (kind_outer kind parent)))
+own-step id x below (frame.Body own first) bindings parent h =
+    ap (λ (ids : List ℕ). (id == own) || list_any (λ j. id == j) ids) (sym (ids-around x below parent h))
+own-step id x below frame.Actual bindings parent h = sym (ap (λ (ids : List ℕ). list_any (λ j. id == j) ids) (ids-source (x ∷ below)))
+own-step id x below (frame.Default own place) bindings parent h =
+    ap (λ (ids : List ℕ). list_any (λ j. id == j) ids) (sym (ids-around x below parent h))
 
 -- it tells that
-pub written-step : (slots : List Slot) (bindings : List Range) (k id : ℕ) (own : Slot) → AreHomedSlots slots → 0 < k → k ≤ length slots
-    → own ≡ get_or slots (length slots - k) own → IsWritten slots bindings k id own
+pub written-step : (frames : List Frame) (bindings : List Range) (k id : ℕ) (own : Frame) → AreParentedFrames frames → 0 < k → k ≤ length frames
+    → own ≡ get_or frames (length frames - k) own → IsWritten frames bindings k id own
 unfolding opens_of writer_ids
-written-step [] bindings k id own homed positive inside e = absurd (omega (arith, positive, inside))
-written-step (y ∷ ys) bindings k id own homed positive inside e =
-    by (k == suc (length ys)) refl (λ (less : k ≤ length ys) (f : own ≡ get_or ys (length ys - k) own). written-step ys (bindings_below y.kind bindings) k id own homed.1 positive less f)
+written-step [] bindings k id own parented positive inside e = absurd (omega (arith, positive, inside))
+written-step (y ∷ ys) bindings k id own parented positive inside e =
+    by (k == suc (length ys)) refl (λ (less : k ≤ length ys) (f : own ≡ get_or ys (length ys - k) own). written-step ys (bindings_below y.kind bindings) k id own parented.1 positive less f)
   where
     n : length (opens_of ys (bindings_below y.kind bindings)) ≡ length ys
     n = opens-length ys (bindings_below y.kind bindings)
@@ -508,13 +508,13 @@ written-step (y ∷ ys) bindings k id own homed positive inside e =
         let last : k ≡ suc (length ys) = eqb-true k (suc (length ys)) h in
         let zeroth : suc (length ys) - k ≡ 0 = omega (arith, last) in
         let is : own ≡ y = e ∙ ap (λ (i : ℕ). get_or (y ∷ ys) i own) zeroth in
-        let home : y.home ≤ length ys = homed.0 in
-        let outer = outer-inside y.kind y.home in
-        subst (λ (z : Slot). IsWritten (y ∷ ys) bindings k id z) (sym is) (record {
-          further = omega (arith, outer, home, last);
-          step = ap (λ (m : ℕ). list_any (λ j. id == j) (if k == suc m then own_ids (kind_of y.kind bindings) (writer_ids (opens_of ys (bindings_below y.kind bindings)) y.home) else writer_ids (opens_of ys (bindings_below y.kind bindings)) k)) n
-              ∙ ap (λ (b : Bool). list_any (λ j. id == j) (if b then own_ids (kind_of y.kind bindings) (writer_ids (opens_of ys (bindings_below y.kind bindings)) y.home) else writer_ids (opens_of ys (bindings_below y.kind bindings)) k)) h
-              ∙ own-step id (open_of y bindings) (opens_of ys (bindings_below y.kind bindings)) y.kind bindings y.home (omega (arith, n, home));
+        let parent : y.parent ≤ length ys = parented.0 in
+        let outer = outer-inside y.kind y.parent in
+        subst (λ (z : Frame). IsWritten (y ∷ ys) bindings k id z) (sym is) (record {
+          further = omega (arith, outer, parent, last);
+          step = ap (λ (m : ℕ). list_any (λ j. id == j) (if k == suc m then own_ids (kind_of y.kind bindings) (writer_ids (opens_of ys (bindings_below y.kind bindings)) y.parent) else writer_ids (opens_of ys (bindings_below y.kind bindings)) k)) n
+              ∙ ap (λ (b : Bool). list_any (λ j. id == j) (if b then own_ids (kind_of y.kind bindings) (writer_ids (opens_of ys (bindings_below y.kind bindings)) y.parent) else writer_ids (opens_of ys (bindings_below y.kind bindings)) k)) h
+              ∙ own-step id (open_of y bindings) (opens_of ys (bindings_below y.kind bindings)) y.kind bindings y.parent (omega (arith, n, parent));
         })
     by false h rest =
         let apart : k ≡ suc (length ys) → ⊥ = eqb-false k (suc (length ys)) h in
@@ -524,35 +524,35 @@ written-step (y ∷ ys) bindings k id own homed positive inside e =
         let further = inner.further in
         record {
           further = further;
-          step = ap (λ (m : ℕ). list_any (λ j. id == j) (if k == suc m then own_ids (kind_of y.kind bindings) (writer_ids (opens_of ys (bindings_below y.kind bindings)) y.home) else writer_ids (opens_of ys (bindings_below y.kind bindings)) k)) n
-              ∙ ap (λ (b : Bool). list_any (λ j. id == j) (if b then own_ids (kind_of y.kind bindings) (writer_ids (opens_of ys (bindings_below y.kind bindings)) y.home) else writer_ids (opens_of ys (bindings_below y.kind bindings)) k)) h
+          step = ap (λ (m : ℕ). list_any (λ j. id == j) (if k == suc m then own_ids (kind_of y.kind bindings) (writer_ids (opens_of ys (bindings_below y.kind bindings)) y.parent) else writer_ids (opens_of ys (bindings_below y.kind bindings)) k)) n
+              ∙ ap (λ (b : Bool). list_any (λ j. id == j) (if b then own_ids (kind_of y.kind bindings) (writer_ids (opens_of ys (bindings_below y.kind bindings)) y.parent) else writer_ids (opens_of ys (bindings_below y.kind bindings)) k)) h
               ∙ inner.step
               ∙ ap (λ (ids : List ℕ). is_body_of own.kind id || list_any (λ j. id == j) ids)
               (sym (ids-around (open_of y bindings) (opens_of ys (bindings_below y.kind bindings)) (outer_of own) (omega (arith, further, less, n))));
         }
 
--- a scope whose slot has the body is in that macro's text
-pub written-found : (slots : List Slot) (bindings : List Range) (k scope id : ℕ) (own : Slot) → AreHomedSlots slots → 0 < k → k ≤ length slots
-    → own ≡ get_or slots (length slots - k) own → is_body_of own.kind id ≡ true
-    → list_any (λ j. id == j) (writer_ids (opens_of slots bindings) k) ≡ list_any (λ j. id == j) (writer_ids (opens_of slots bindings) scope)
-    → true ≡ list_any (λ j. id == j) (writer_ids (opens_of slots bindings) scope)
-written-found slots bindings k scope id own homed positive inside e here same =
-    sym ((written-step slots bindings k id own homed positive inside e).step
-    ∙ ap (λ (b : Bool). b || list_any (λ j. id == j) (writer_ids (opens_of slots bindings) (outer_of own))) here) ∙ same
+-- a scope whose frame has the body is in that macro's text
+pub written-found : (frames : List Frame) (bindings : List Range) (k scope id : ℕ) (own : Frame) → AreParentedFrames frames → 0 < k → k ≤ length frames
+    → own ≡ get_or frames (length frames - k) own → is_body_of own.kind id ≡ true
+    → list_any (λ j. id == j) (writer_ids (opens_of frames bindings) k) ≡ list_any (λ j. id == j) (writer_ids (opens_of frames bindings) scope)
+    → true ≡ list_any (λ j. id == j) (writer_ids (opens_of frames bindings) scope)
+written-found frames bindings k scope id own parented positive inside e here same =
+    sym ((written-step frames bindings k id own parented positive inside e).step
+    ∙ ap (λ (b : Bool). b || list_any (λ j. id == j) (writer_ids (opens_of frames bindings) (outer_of own))) here) ∙ same
 
--- and one whose slot hasn't is where that of its home is
-pub written-further : (slots : List Slot) (bindings : List Range) (k scope id : ℕ) (own : Slot) → AreHomedSlots slots → 0 < k → k ≤ length slots
-    → own ≡ get_or slots (length slots - k) own → is_body_of own.kind id ≡ false
-    → list_any (λ j. id == j) (writer_ids (opens_of slots bindings) k) ≡ list_any (λ j. id == j) (writer_ids (opens_of slots bindings) scope)
-    → list_any (λ j. id == j) (writer_ids (opens_of slots bindings) (outer_of own)) ≡ list_any (λ j. id == j) (writer_ids (opens_of slots bindings) scope)
-written-further slots bindings k scope id own homed positive inside e here same =
-    sym ((written-step slots bindings k id own homed positive inside e).step
-    ∙ ap (λ (b : Bool). b || list_any (λ j. id == j) (writer_ids (opens_of slots bindings) (outer_of own))) here) ∙ same
+-- and one whose frame hasn't is where that of its parent is
+pub written-further : (frames : List Frame) (bindings : List Range) (k scope id : ℕ) (own : Frame) → AreParentedFrames frames → 0 < k → k ≤ length frames
+    → own ≡ get_or frames (length frames - k) own → is_body_of own.kind id ≡ false
+    → list_any (λ j. id == j) (writer_ids (opens_of frames bindings) k) ≡ list_any (λ j. id == j) (writer_ids (opens_of frames bindings) scope)
+    → list_any (λ j. id == j) (writer_ids (opens_of frames bindings) (outer_of own)) ≡ list_any (λ j. id == j) (writer_ids (opens_of frames bindings) scope)
+written-further frames bindings k scope id own parented positive inside e here same =
+    sym ((written-step frames bindings k id own parented positive inside e).step
+    ∙ ap (λ (b : Bool). b || list_any (λ j. id == j) (writer_ids (opens_of frames bindings) (outer_of own))) here) ∙ same
 
 -- the source is in none
-pub written-source : (slots : List Slot) (bindings : List Range) (k scope id : ℕ) → k ≡ 0
-    → list_any (λ j. id == j) (writer_ids (opens_of slots bindings) k) ≡ list_any (λ j. id == j) (writer_ids (opens_of slots bindings) scope)
-    → false ≡ list_any (λ j. id == j) (writer_ids (opens_of slots bindings) scope)
-written-source slots bindings k scope id e same =
-    sym (ap (λ (j : ℕ). list_any (λ i. id == i) (writer_ids (opens_of slots bindings) j)) e
-    ∙ ap (λ (ids : List ℕ). list_any (λ i. id == i) ids) (ids-source (opens_of slots bindings))) ∙ same
+pub written-source : (frames : List Frame) (bindings : List Range) (k scope id : ℕ) → k ≡ 0
+    → list_any (λ j. id == j) (writer_ids (opens_of frames bindings) k) ≡ list_any (λ j. id == j) (writer_ids (opens_of frames bindings) scope)
+    → false ≡ list_any (λ j. id == j) (writer_ids (opens_of frames bindings) scope)
+written-source frames bindings k scope id e same =
+    sym (ap (λ (j : ℕ). list_any (λ i. id == i) (writer_ids (opens_of frames bindings) j)) e
+    ∙ ap (λ (ids : List ℕ). list_any (λ i. id == i) ids) (ids-source (opens_of frames bindings))) ∙ same

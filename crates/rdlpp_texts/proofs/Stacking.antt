@@ -1,4 +1,4 @@
--- The slots of open texts and the ranges that they have bound.
+-- The frames of open texts and the ranges that they have bound.
 use Rattle.std.proofs.Common.{◌≡◌, ℕ, suc, ◌+◌, ◌-◌, ◌<◌, ◌≤◌, Bool, true, false, List, [], ◌∷◌, length, take, drop, get_or, refl, sym, ap, subst, ◌∙◌, arith, ◌⊎◌, inl, inr, ◌*◌, map, Global, ◌++◌, Option, None, Some, unwrap_or, Ok, Err, option_map, Result, Vec, if◌then◌else◌, nat_le, nat_lt, vec_capacity, vec_len, ◌==◌, ◌||◌, length-set, set, eqb-true, le-leb, ltb-true, ne_eqb, length-append, length-drop, length-take, take_all}
 use Rattle.std.specs.List.{AllByRecursion, list_any}
 use Rattle.std.proofs.Math.Seq.{drop-append_seam, take-append_seam}
@@ -17,43 +17,43 @@ use Rattle.rdlpp_texts.specs.Opened.{AreBounded, AreLaid, CursorsView, IsFree, I
 use Rattle.rdlpp_texts.specs.Scopes.{own_ids, writer_ids}
 use Rattle.rdlpp_texts.specs.declared.bindings.Range.{Range}
 use Rattle.rdlpp_texts.specs.declared.cursors.call.Opening.TheVariants.{Deep, Opened, Refused}
-use Rattle.rdlpp_texts.specs.declared.slot.Bounds.{Bounds}
-use Rattle.rdlpp_texts.specs.declared.slot.Slot.{Slot}
-use Rattle.rdlpp_texts.specs.declared.slot.SlotKind.{SlotKind}
-use Rattle.rdlpp_texts.specs.declared.slot.SlotKind.TheVariants as slot
+use Rattle.rdlpp_texts.specs.declared.frame.Bounds.{Bounds}
+use Rattle.rdlpp_texts.specs.declared.frame.Frame.{Frame}
+use Rattle.rdlpp_texts.specs.declared.frame.FrameKind.{FrameKind}
+use Rattle.rdlpp_texts.specs.declared.frame.FrameKind.TheVariants as frame
 use Rattle.rdlpp_texts.proofs.Passing.{at-each}
 use Rattle.rdlpp_texts.proofs.Scoping.{opens-length}
 
--- The macros in whose text a scope is lie within the bounds of its slot.
+-- The macros in whose text a scope is lie within the bounds of its frame.
 
--- the slot at a place, in front of those behind it
-pub slots-at : (slots : List Slot) (first : ℕ) (own : Slot) → first < length slots → own ≡ get_or slots first own
-    → drop first slots ≡ own ∷ drop (first + 1) slots
-slots-at slots first own inside e = drop_more slots first own inside ∙ ap (λ (y : Slot). y ∷ drop (first + 1) slots) (sym e)
+-- the frame at a place, in front of those behind it
+pub frames-at : (frames : List Frame) (first : ℕ) (own : Frame) → first < length frames → own ≡ get_or frames first own
+    → drop first frames ≡ own ∷ drop (first + 1) frames
+frames-at frames first own inside e = drop_more frames first own inside ∙ ap (λ (y : Frame). y ∷ drop (first + 1) frames) (sym e)
 
--- the ranges of a slot say nothing of the macros in whose text it is
-kind-ids : (kind : SlotKind) (xs ys : List Range) (ids : List ℕ) → own_ids (kind_of kind xs) ids ≡ own_ids (kind_of kind ys) ids
-kind-ids (slot.Body id first) xs ys ids = refl
-kind-ids slot.Actual xs ys ids = refl
-kind-ids (slot.Default id place) xs ys ids = refl
+-- the ranges of a frame say nothing of the macros in whose text it is
+kind-ids : (kind : FrameKind) (xs ys : List Range) (ids : List ℕ) → own_ids (kind_of kind xs) ids ≡ own_ids (kind_of kind ys) ids
+kind-ids (frame.Body id first) xs ys ids = refl
+kind-ids frame.Actual xs ys ids = refl
+kind-ids (frame.Default id place) xs ys ids = refl
 
 -- nor do those of any
-ids-same : (slots : List Slot) (xs ys : List Range) (k : ℕ) → writer_ids (opens_of slots xs) k ≡ writer_ids (opens_of slots ys) k
+ids-same : (frames : List Frame) (xs ys : List Range) (k : ℕ) → writer_ids (opens_of frames xs) k ≡ writer_ids (opens_of frames ys) k
 unfolding opens_of writer_ids
 ids-same [] xs ys k = refl
 ids-same (y ∷ below) xs ys k =
     let inner : List Range → List Open = λ (bs : List Range). opens_of below (bindings_below y.kind bs) in
-    let own : List Range → List ℕ = λ (bs : List Range). own_ids (kind_of y.kind bs) (writer_ids (inner bs) y.home) in
+    let own : List Range → List ℕ = λ (bs : List Range). own_ids (kind_of y.kind bs) (writer_ids (inner bs) y.parent) in
     let owns : own xs ≡ own ys =
-    ap (λ (ids : List ℕ). own_ids (kind_of y.kind xs) ids) (ids-same below (bindings_below y.kind xs) (bindings_below y.kind ys) y.home)
-    ∙ kind-ids y.kind xs ys (writer_ids (inner ys) y.home) in
+    ap (λ (ids : List ℕ). own_ids (kind_of y.kind xs) ids) (ids-same below (bindings_below y.kind xs) (bindings_below y.kind ys) y.parent)
+    ∙ kind-ids y.kind xs ys (writer_ids (inner ys) y.parent) in
     ap (λ (m : ℕ). if k == suc m then own xs else writer_ids (inner xs) k) (opens-length below (bindings_below y.kind xs))
     ∙ ap (λ (ids : List ℕ). if k == suc (length below) then ids else writer_ids (inner xs) k) owns
     ∙ ap (λ (ids : List ℕ). if k == suc (length below) then own ys else ids) (ids-same below (bindings_below y.kind xs) (bindings_below y.kind ys) k)
     ∙ sym (ap (λ (m : ℕ). if k == suc m then own ys else writer_ids (inner ys) k) (opens-length below (bindings_below y.kind ys)))
 
--- a scope that no slot is is in no macro's text
-pub ids-none : (slots : List Slot) (bindings : List Range) (k : ℕ) → (k ≡ 0) ⊎ ((k ≡ 0 → ⊥) × (length slots < k)) → writer_ids (opens_of slots bindings) k ≡ []
+-- a scope that no frame is is in no macro's text
+pub ids-none : (frames : List Frame) (bindings : List Range) (k : ℕ) → (k ≡ 0) ⊎ ((k ≡ 0 → ⊥) × (length frames < k)) → writer_ids (opens_of frames bindings) k ≡ []
 unfolding opens_of writer_ids
 ids-none [] bindings k h = refl
 ids-none (y ∷ ys) bindings k h =
@@ -70,9 +70,9 @@ ids-none (y ∷ ys) bindings k h =
     further (inl e) = inl e
     further (inr e) = let more = e.1 in inr (e.0, omega (arith, more))
 
--- a scope's macros are within the bounds of its slot
-pub bounded-at : (slots : List Slot) (bindings : List Range) (k : ℕ) (own : Slot) → AreBounded slots → 0 < k → k ≤ length slots
-    → own ≡ get_or slots (length slots - k) own → AllByRecursion (IsWithin own.bounds) (writer_ids (opens_of slots bindings) k)
+-- a scope's macros are within the bounds of its frame
+pub bounded-at : (frames : List Frame) (bindings : List Range) (k : ℕ) (own : Frame) → AreBounded frames → 0 < k → k ≤ length frames
+    → own ≡ get_or frames (length frames - k) own → AllByRecursion (IsWithin own.bounds) (writer_ids (opens_of frames bindings) k)
 unfolding opens_of writer_ids AreBounded
 bounded-at [] bindings k own bounded positive inside e = absurd (omega (arith, positive, inside))
 bounded-at (y ∷ ys) bindings k own bounded positive inside e =
@@ -85,10 +85,10 @@ bounded-at (y ∷ ys) bindings k own bounded positive inside e =
     n = opens-length ys (bindings_below y.kind bindings)
 
     here-is : (here : Bool) → (k == suc (length ys)) ≡ here
-        → writer_ids (opens_of (y ∷ ys) bindings) k ≡ (if here then own_ids (kind_of y.kind bindings) (writer_ids inner y.home) else writer_ids inner k)
+        → writer_ids (opens_of (y ∷ ys) bindings) k ≡ (if here then own_ids (kind_of y.kind bindings) (writer_ids inner y.parent) else writer_ids inner k)
     here-is here h =
-        ap (λ (m : ℕ). if k == suc m then own_ids (kind_of y.kind bindings) (writer_ids inner y.home) else writer_ids inner k) n
-        ∙ ap (λ (b : Bool). if b then own_ids (kind_of y.kind bindings) (writer_ids inner y.home) else writer_ids inner k) h
+        ap (λ (m : ℕ). if k == suc m then own_ids (kind_of y.kind bindings) (writer_ids inner y.parent) else writer_ids inner k) n
+        ∙ ap (λ (b : Bool). if b then own_ids (kind_of y.kind bindings) (writer_ids inner y.parent) else writer_ids inner k) h
 
     by : (here : Bool) → (k == suc (length ys)) ≡ here
         → (k ≤ length ys → own ≡ get_or ys (length ys - k) own → AllByRecursion (IsWithin own.bounds) (writer_ids inner k))
@@ -97,11 +97,11 @@ bounded-at (y ∷ ys) bindings k own bounded positive inside e =
         let last : k ≡ suc (length ys) = eqb-true k (suc (length ys)) h in
         let zeroth : suc (length ys) - k ≡ 0 = omega (arith, last) in
         let is : own ≡ y = e ∙ ap (λ (i : ℕ). get_or (y ∷ ys) i own) zeroth in
-        let ids : own_ids (kind_of y.kind []) (writer_ids (opens_of ys []) y.home) ≡ writer_ids (opens_of (y ∷ ys) bindings) k =
-        ap (λ (ids : List ℕ). own_ids (kind_of y.kind []) ids) (ids-same ys [] (bindings_below y.kind bindings) y.home)
-        ∙ kind-ids y.kind [] bindings (writer_ids inner y.home)
+        let ids : own_ids (kind_of y.kind []) (writer_ids (opens_of ys []) y.parent) ≡ writer_ids (opens_of (y ∷ ys) bindings) k =
+        ap (λ (ids : List ℕ). own_ids (kind_of y.kind []) ids) (ids-same ys [] (bindings_below y.kind bindings) y.parent)
+        ∙ kind-ids y.kind [] bindings (writer_ids inner y.parent)
         ∙ sym (here-is true h) in
-        subst (λ (z : Slot). AllByRecursion (IsWithin z.bounds) (writer_ids (opens_of (y ∷ ys) bindings) k)) (sym is)
+        subst (λ (z : Frame). AllByRecursion (IsWithin z.bounds) (writer_ids (opens_of (y ∷ ys) bindings) k)) (sym is)
         (subst (λ (ids : List ℕ). AllByRecursion (IsWithin y.bounds) ids) ids bounded.0)
     by false h rest =
         let apart : k ≡ suc (length ys) → ⊥ = eqb-false k (suc (length ys)) h in
@@ -132,40 +132,40 @@ excluded-none (j ∷ ids) bounds id out h =
     out-is true e f = inl (ltb-true id bounds.least e)
     out-is false e f = inr (ltb-true bounds.greatest id f)
 
--- a scope whose slot's bounds exclude a macro isn't in its text
-pub bounded-excluded : (slots : List Slot) (bindings : List Range) (k scope id : ℕ) (own : Slot) → AreBounded slots → 0 < k → k ≤ length slots
-    → own ≡ get_or slots (length slots - k) own → is_excluded own.bounds id ≡ true
-    → list_any (λ j. id == j) (writer_ids (opens_of slots bindings) k) ≡ list_any (λ j. id == j) (writer_ids (opens_of slots bindings) scope)
-    → false ≡ list_any (λ j. id == j) (writer_ids (opens_of slots bindings) scope)
-bounded-excluded slots bindings k scope id own bounded positive inside e out same =
-    sym (excluded-none (writer_ids (opens_of slots bindings) k) own.bounds id out (bounded-at slots bindings k own bounded positive inside e)) ∙ same
+-- a scope whose frame's bounds exclude a macro isn't in its text
+pub bounded-excluded : (frames : List Frame) (bindings : List Range) (k scope id : ℕ) (own : Frame) → AreBounded frames → 0 < k → k ≤ length frames
+    → own ≡ get_or frames (length frames - k) own → is_excluded own.bounds id ≡ true
+    → list_any (λ j. id == j) (writer_ids (opens_of frames bindings) k) ≡ list_any (λ j. id == j) (writer_ids (opens_of frames bindings) scope)
+    → false ≡ list_any (λ j. id == j) (writer_ids (opens_of frames bindings) scope)
+bounded-excluded frames bindings k scope id own bounded positive inside e out same =
+    sym (excluded-none (writer_ids (opens_of frames bindings) k) own.bounds id out (bounded-at frames bindings k own bounded positive inside e)) ∙ same
 
--- the bounds of a text that is no body are those of its home
-pub text-bounded : (kind : SlotKind) (bounds : Bounds) (ids : List ℕ) → IsNoBody kind → AllByRecursion (IsWithin bounds) ids
+-- the bounds of a text that is no body are those of its parent
+pub text-bounded : (kind : FrameKind) (bounds : Bounds) (ids : List ℕ) → IsNoBody kind → AllByRecursion (IsWithin bounds) ids
     → AllByRecursion (IsWithin bounds) (own_ids (kind_of kind []) ids)
-text-bounded (slot.Body id first) bounds ids nobody h = absurd nobody
-text-bounded slot.Actual bounds ids nobody h = tt
-text-bounded (slot.Default id place) bounds ids nobody h = h
+text-bounded (frame.Body id first) bounds ids nobody h = absurd nobody
+text-bounded frame.Actual bounds ids nobody h = tt
+text-bounded (frame.Default id place) bounds ids nobody h = h
 
 -- open texts of which the innermost goes on at a place are as they were
-pub moved-bounded : (slots : List Slot) (first at : ℕ) (own : Slot) → first < length slots → own ≡ get_or slots first own → AreBounded (drop first slots)
-    → AreBounded (drop first (set slots first (record own { from = at })))
+pub moved-bounded : (frames : List Frame) (first at : ℕ) (own : Frame) → first < length frames → own ≡ get_or frames first own → AreBounded (drop first frames)
+    → AreBounded (drop first (set frames first (record own { from = at })))
 unfolding AreBounded
-moved-bounded slots first at own inside e h =
-    let both : AreBounded (own ∷ drop (first + 1) slots) = subst (λ (s : List Slot). AreBounded s) (slots-at slots first own inside e) h in
-    subst (λ (s : List Slot). AreBounded s) (sym (drop-set slots first (record own { from = at }) inside)) both
+moved-bounded frames first at own inside e h =
+    let both : AreBounded (own ∷ drop (first + 1) frames) = subst (λ (s : List Frame). AreBounded s) (frames-at frames first own inside e) h in
+    subst (λ (s : List Frame). AreBounded s) (sym (drop-set frames first (record own { from = at }) inside)) both
 
 -- so are those behind one that is closed
-pub closed-bounded : (slots : List Slot) (first : ℕ) (own : Slot) → first < length slots → own ≡ get_or slots first own → AreBounded (drop first slots)
-    → AreBounded (drop (first + 1) slots)
+pub closed-bounded : (frames : List Frame) (first : ℕ) (own : Frame) → first < length frames → own ≡ get_or frames first own → AreBounded (drop first frames)
+    → AreBounded (drop (first + 1) frames)
 unfolding AreBounded
-closed-bounded slots first own inside e h =
-    let both : AreBounded (own ∷ drop (first + 1) slots) = subst (λ (s : List Slot). AreBounded s) (slots-at slots first own inside e) h in
+closed-bounded frames first own inside e h =
+    let both : AreBounded (own ∷ drop (first + 1) frames) = subst (λ (s : List Frame). AreBounded s) (frames-at frames first own inside e) h in
     both.1
 
--- what is asked of the bounds of a slot in front of others
-abbrev pub IsBoundedOn : Slot → List Slot → Type 0
-IsBoundedOn new slots = AllByRecursion (IsWithin new.bounds) (own_ids (kind_of new.kind []) (writer_ids (opens_of slots []) new.home))
+-- what is asked of the bounds of a frame in front of others
+abbrev pub IsBoundedOn : Frame → List Frame → Type 0
+IsBoundedOn new frames = AllByRecursion (IsWithin new.bounds) (own_ids (kind_of new.kind []) (writer_ids (opens_of frames []) new.parent))
 
 -- no open text is bounded
 pub none-bounded : AreBounded []
@@ -173,181 +173,181 @@ unfolding AreBounded
 none-bounded = tt
 
 -- nor does one more that is bounded change the others
-pub more-bounded : (new : Slot) (slots : List Slot) → IsBoundedOn new slots → AreBounded slots → AreBounded (new ∷ slots)
+pub more-bounded : (new : Frame) (frames : List Frame) → IsBoundedOn new frames → AreBounded frames → AreBounded (new ∷ frames)
 unfolding AreBounded
-more-bounded new slots own h = (own, h)
+more-bounded new frames own h = (own, h)
 
--- the bounds of a slot are asked of the same macros where the innermost goes on at a place
-pub moved-on : (new : Slot) (slots : List Slot) (first at : ℕ) (own : Slot) → first < length slots → own ≡ get_or slots first own → IsBoundedOn new (drop first slots)
-    → IsBoundedOn new (drop first (set slots first (record own { from = at })))
+-- the bounds of a frame are asked of the same macros where the innermost goes on at a place
+pub moved-on : (new : Frame) (frames : List Frame) (first at : ℕ) (own : Frame) → first < length frames → own ≡ get_or frames first own → IsBoundedOn new (drop first frames)
+    → IsBoundedOn new (drop first (set frames first (record own { from = at })))
 unfolding opens_of writer_ids
-moved-on new slots first at own inside e h =
-    let both : IsBoundedOn new (own ∷ drop (first + 1) slots) = subst (λ (s : List Slot). IsBoundedOn new s) (slots-at slots first own inside e) h in
-    subst (λ (s : List Slot). IsBoundedOn new s) (sym (drop-set slots first (record own { from = at }) inside)) both
+moved-on new frames first at own inside e h =
+    let both : IsBoundedOn new (own ∷ drop (first + 1) frames) = subst (λ (s : List Frame). IsBoundedOn new s) (frames-at frames first own inside e) h in
+    subst (λ (s : List Frame). IsBoundedOn new s) (sym (drop-set frames first (record own { from = at }) inside)) both
 
--- the open slots as they are lent
-pub lent-bounded : (slots lent : List Slot) (first : ℕ) → lent ≡ slots → AreBounded (drop first slots) → AreBounded (take (length lent - first) (drop first lent))
-lent-bounded slots lent first e h =
+-- the open frames as they are lent
+pub lent-bounded : (frames lent : List Frame) (first : ℕ) → lent ≡ frames → AreBounded (drop first frames) → AreBounded (take (length lent - first) (drop first lent))
+lent-bounded frames lent first e h =
     let size = length-drop first lent in
-    subst (λ (s : List Slot). AreBounded s) (sym (take_all (length lent - first) (drop first lent) (omega (arith, size))))
-    (subst (λ (s : List Slot). AreBounded (drop first s)) (sym e) h)
+    subst (λ (s : List Frame). AreBounded s) (sym (take_all (length lent - first) (drop first lent) (omega (arith, size))))
+    (subst (λ (s : List Frame). AreBounded (drop first s)) (sym e) h)
 
--- the bounds of the body of a macro that are told of the slots as they are lent
-pub lent-body : (slots lent : List Slot) (first id home : ℕ) (bounds : Bounds) → lent ≡ slots
-    → ((bindings : List Range) → AllByRecursion (IsWithin bounds) (id ∷ writer_ids (opens_of (take (length lent - first) (drop first lent)) bindings) home))
-    → AllByRecursion (IsWithin bounds) (id ∷ writer_ids (opens_of (drop first slots) []) home)
-lent-body slots lent first id home bounds e h =
+-- the bounds of the body of a macro that are told of the frames as they are lent
+pub lent-body : (frames lent : List Frame) (first id parent : ℕ) (bounds : Bounds) → lent ≡ frames
+    → ((bindings : List Range) → AllByRecursion (IsWithin bounds) (id ∷ writer_ids (opens_of (take (length lent - first) (drop first lent)) bindings) parent))
+    → AllByRecursion (IsWithin bounds) (id ∷ writer_ids (opens_of (drop first frames) []) parent)
+lent-body frames lent first id parent bounds e h =
     let size = length-drop first lent in
-    subst (λ (s : List Slot). AllByRecursion (IsWithin bounds) (id ∷ writer_ids (opens_of s []) home))
-    (take_all (length lent - first) (drop first lent) (omega (arith, size)) ∙ ap (λ (s : List Slot). drop first s) e) (h [])
+    subst (λ (s : List Frame). AllByRecursion (IsWithin bounds) (id ∷ writer_ids (opens_of s []) parent))
+    (take_all (length lent - first) (drop first lent) (omega (arith, size)) ∙ ap (λ (s : List Frame). drop first s) e) (h [])
 
 -- those of a text that is no body
-pub lent-text : (slots lent : List Slot) (first home : ℕ) (kind : SlotKind) (bounds : Bounds) → lent ≡ slots → IsNoBody kind
-    → ((bindings : List Range) → AllByRecursion (IsWithin bounds) (writer_ids (opens_of (take (length lent - first) (drop first lent)) bindings) home))
-    → AllByRecursion (IsWithin bounds) (own_ids (kind_of kind []) (writer_ids (opens_of (drop first slots) []) home))
-lent-text slots lent first home kind bounds e nobody h =
+pub lent-text : (frames lent : List Frame) (first parent : ℕ) (kind : FrameKind) (bounds : Bounds) → lent ≡ frames → IsNoBody kind
+    → ((bindings : List Range) → AllByRecursion (IsWithin bounds) (writer_ids (opens_of (take (length lent - first) (drop first lent)) bindings) parent))
+    → AllByRecursion (IsWithin bounds) (own_ids (kind_of kind []) (writer_ids (opens_of (drop first frames) []) parent))
+lent-text frames lent first parent kind bounds e nobody h =
     let size = length-drop first lent in
-    text-bounded kind bounds (writer_ids (opens_of (drop first slots) []) home) nobody
-    (subst (λ (s : List Slot). AllByRecursion (IsWithin bounds) (writer_ids (opens_of s []) home))
-    (take_all (length lent - first) (drop first lent) (omega (arith, size)) ∙ ap (λ (s : List Slot). drop first s) e) (h []))
+    text-bounded kind bounds (writer_ids (opens_of (drop first frames) []) parent) nobody
+    (subst (λ (s : List Frame). AllByRecursion (IsWithin bounds) (writer_ids (opens_of s []) parent))
+    (take_all (length lent - first) (drop first lent) (omega (arith, size)) ∙ ap (λ (s : List Frame). drop first s) e) (h []))
 
 -- no macro is within no bounds, and none is asked for
 pub none-within : (ids : List ℕ) (bounds : Bounds) → ids ≡ [] → AllByRecursion (IsWithin bounds) ids
 none-within ids bounds e = subst (λ (xs : List ℕ). AllByRecursion (IsWithin bounds) xs) (sym e) tt
 
--- The slots of open texts and the ranges that they have bound, as one text moves, opens or closes.
+-- The frames of open texts and the ranges that they have bound, as one text moves, opens or closes.
 
 -- some text is open
-pub some-open : (slots : List Slot) (first : ℕ) (bindings : List Range) → 0 < length (opens_of (drop first slots) bindings) → first < length slots
-some-open slots first bindings some =
-    let n = opens-length (drop first slots) bindings in
-    let l = length-drop first slots in
+pub some-open : (frames : List Frame) (first : ℕ) (bindings : List Range) → 0 < length (opens_of (drop first frames) bindings) → first < length frames
+some-open frames first bindings some =
+    let n = opens-length (drop first frames) bindings in
+    let l = length-drop first frames in
     omega (arith, n, l, some)
 
 -- how many are
-pub open-count : (slots : List Slot) (first : ℕ) (bindings : List Range) → length (opens_of (drop first slots) bindings) ≡ length slots - first
-open-count slots first bindings = opens-length (drop first slots) bindings ∙ length-drop first slots
+pub open-count : (frames : List Frame) (first : ℕ) (bindings : List Range) → length (opens_of (drop first frames) bindings) ≡ length frames - first
+open-count frames first bindings = opens-length (drop first frames) bindings ∙ length-drop first frames
 
--- no text is open behind the last slot
-pub none-open : (slots : List Slot) (first : ℕ) (bindings : List Range) → length slots ≤ first → opens_of (drop first slots) bindings ≡ []
+-- no text is open behind the last frame
+pub none-open : (frames : List Frame) (first : ℕ) (bindings : List Range) → length frames ≤ first → opens_of (drop first frames) bindings ≡ []
 unfolding opens_of
-none-open slots first bindings h = ap (λ (s : List Slot). opens_of s bindings) (drop_all first slots h)
+none-open frames first bindings h = ap (λ (s : List Frame). opens_of s bindings) (drop_all first frames h)
 
 -- ranges that are laid are few
-pub laid-few : (slots : List Slot) (bindings : List Range) → AreLaid slots bindings → length bindings ≤ 255 * length slots
+pub laid-few : (frames : List Frame) (bindings : List Range) → AreLaid frames bindings → length bindings ≤ 255 * length frames
 unfolding AreLaid
 laid-few [] bindings h = omega (arith, h)
 laid-few (y ∷ ys) bindings h = h.0
 
 -- ranges that are laid are those that the open bodies have bound
-pub laid-bound : (slots : List Slot) (bindings : List Range) → AreLaid slots bindings → length bindings ≡ bound_by (opens_of slots bindings)
+pub laid-bound : (frames : List Frame) (bindings : List Range) → AreLaid frames bindings → length bindings ≡ bound_by (opens_of frames bindings)
 unfolding AreLaid opens_of bound_by
 laid-bound [] bindings h = h
 laid-bound (y ∷ ys) bindings h = by y.kind (laid-bound ys (bindings_below y.kind bindings) h.1)
   where
-    by : (kind : SlotKind) → length (bindings_below kind bindings) ≡ bound_by (opens_of ys (bindings_below kind bindings))
+    by : (kind : FrameKind) → length (bindings_below kind bindings) ≡ bound_by (opens_of ys (bindings_below kind bindings))
         → length bindings ≡ bound_by (open_of (record y { kind = kind }) bindings ∷ opens_of ys (bindings_below kind bindings))
-    by (slot.Body id first) e =
+    by (frame.Body id first) e =
         let parts = length-map (drop first bindings) range_part in
         let rest = length-drop first bindings in
         let front = length-take first bindings in
         omega (arith, parts, rest, front, e)
-    by slot.Actual e = omega (arith, e)
-    by (slot.Default id place) e = omega (arith, e)
+    by frame.Actual e = omega (arith, e)
+    by (frame.Default id place) e = omega (arith, e)
 
 -- no more ranges are bound than there is room for
-pub bound-few : (slots : List Slot) (depth first : ℕ) (bindings : List Range) → length slots ≤ depth → AreLaid (drop first slots) bindings
-    → bound_by (opens_of (drop first slots) bindings) ≤ depth * 255
-bound-few slots depth first bindings most laid =
-    let few = laid-few (drop first slots) bindings laid in
-    let bound = laid-bound (drop first slots) bindings laid in
-    let short = length-drop first slots in
+pub bound-few : (frames : List Frame) (depth first : ℕ) (bindings : List Range) → length frames ≤ depth → AreLaid (drop first frames) bindings
+    → bound_by (opens_of (drop first frames) bindings) ≤ depth * 255
+bound-few frames depth first bindings most laid =
+    let few = laid-few (drop first frames) bindings laid in
+    let bound = laid-bound (drop first frames) bindings laid in
+    let short = length-drop first frames in
     omega (arith, most, few, bound, short)
 
--- the ranges that are kept where a slot is closed
-pub kept-below : (kind : SlotKind) (bindings : List Range) → take (kept_by kind (length bindings)) bindings ≡ bindings_below kind bindings
-kept-below (slot.Body id first) bindings = refl
-kept-below slot.Actual bindings = take_all (length bindings) bindings (omega arith)
-kept-below (slot.Default id place) bindings = take_all (length bindings) bindings (omega arith)
+-- the ranges that are kept where a frame is closed
+pub kept-below : (kind : FrameKind) (bindings : List Range) → take (kept_by kind (length bindings)) bindings ≡ bindings_below kind bindings
+kept-below (frame.Body id first) bindings = refl
+kept-below frame.Actual bindings = take_all (length bindings) bindings (omega arith)
+kept-below (frame.Default id place) bindings = take_all (length bindings) bindings (omega arith)
 
 -- the open texts where the innermost is closed
-pub closed-opens : (slots : List Slot) (first : ℕ) (bindings : List Range) (own : Slot) (kept : ℕ) → first < length slots → own ≡ get_or slots first own
+pub closed-opens : (frames : List Frame) (first : ℕ) (bindings : List Range) (own : Frame) (kept : ℕ) → first < length frames → own ≡ get_or frames first own
     → kept ≡ kept_by own.kind (length bindings)
-    → opens_of (drop (first + 1) slots) (take kept bindings) ≡ drop 1 (opens_of (drop first slots) bindings)
+    → opens_of (drop (first + 1) frames) (take kept bindings) ≡ drop 1 (opens_of (drop first frames) bindings)
 unfolding opens_of
-closed-opens slots first bindings own kept inside e k =
-    ap (λ (n : ℕ). opens_of (drop (first + 1) slots) (take n bindings)) k
-    ∙ ap (λ (bs : List Range). opens_of (drop (first + 1) slots) bs) (kept-below own.kind bindings)
-    ∙ sym (ap (λ (s : List Slot). drop 1 (opens_of s bindings)) (slots-at slots first own inside e))
+closed-opens frames first bindings own kept inside e k =
+    ap (λ (n : ℕ). opens_of (drop (first + 1) frames) (take n bindings)) k
+    ∙ ap (λ (bs : List Range). opens_of (drop (first + 1) frames) bs) (kept-below own.kind bindings)
+    ∙ sym (ap (λ (s : List Frame). drop 1 (opens_of s bindings)) (frames-at frames first own inside e))
 
--- they lie as slots do
-pub closed-laid : (slots : List Slot) (first : ℕ) (bindings : List Range) (own : Slot) (kept : ℕ) → first < length slots → own ≡ get_or slots first own
-    → kept ≡ kept_by own.kind (length bindings) → AreLaid (drop first slots) bindings → AreLaid (drop (first + 1) slots) (take kept bindings)
+-- they lie as frames do
+pub closed-laid : (frames : List Frame) (first : ℕ) (bindings : List Range) (own : Frame) (kept : ℕ) → first < length frames → own ≡ get_or frames first own
+    → kept ≡ kept_by own.kind (length bindings) → AreLaid (drop first frames) bindings → AreLaid (drop (first + 1) frames) (take kept bindings)
 unfolding AreLaid
-closed-laid slots first bindings own kept inside e k laid =
-    let both : AreLaid (own ∷ drop (first + 1) slots) bindings = subst (λ (s : List Slot). AreLaid s bindings) (slots-at slots first own inside e) laid in
-    subst (λ (bs : List Range). AreLaid (drop (first + 1) slots) bs) (sym (ap (λ (n : ℕ). take n bindings) k ∙ kept-below own.kind bindings)) both.1
+closed-laid frames first bindings own kept inside e k laid =
+    let both : AreLaid (own ∷ drop (first + 1) frames) bindings = subst (λ (s : List Frame). AreLaid s bindings) (frames-at frames first own inside e) laid in
+    subst (λ (bs : List Range). AreLaid (drop (first + 1) frames) bs) (sym (ap (λ (n : ℕ). take n bindings) k ∙ kept-below own.kind bindings)) both.1
 
 -- the open texts where the innermost goes on at a place
-pub moved-opens : (slots : List Slot) (first at : ℕ) (bindings : List Range) (own : Slot) → first < length slots → own ≡ get_or slots first own
-    → opens_of (drop first (set slots first (record own { from = at }))) bindings ≡ moved_to at (opens_of (drop first slots) bindings)
+pub moved-opens : (frames : List Frame) (first at : ℕ) (bindings : List Range) (own : Frame) → first < length frames → own ≡ get_or frames first own
+    → opens_of (drop first (set frames first (record own { from = at }))) bindings ≡ moved_to at (opens_of (drop first frames) bindings)
 unfolding opens_of moved_to
-moved-opens slots first at bindings own inside e =
-    ap (λ (s : List Slot). opens_of s bindings) (drop-set slots first (record own { from = at }) inside)
-    ∙ sym (ap (λ (s : List Slot). moved_to at (opens_of s bindings)) (slots-at slots first own inside e))
+moved-opens frames first at bindings own inside e =
+    ap (λ (s : List Frame). opens_of s bindings) (drop-set frames first (record own { from = at }) inside)
+    ∙ sym (ap (λ (s : List Frame). moved_to at (opens_of s bindings)) (frames-at frames first own inside e))
 
--- they lie as slots do
-pub moved-laid : (slots : List Slot) (first at : ℕ) (bindings : List Range) (own : Slot) → first < length slots → own ≡ get_or slots first own
-    → AreLaid (drop first slots) bindings → AreLaid (drop first (set slots first (record own { from = at }))) bindings
+-- they lie as frames do
+pub moved-laid : (frames : List Frame) (first at : ℕ) (bindings : List Range) (own : Frame) → first < length frames → own ≡ get_or frames first own
+    → AreLaid (drop first frames) bindings → AreLaid (drop first (set frames first (record own { from = at }))) bindings
 unfolding AreLaid
-moved-laid slots first at bindings own inside e laid =
-    let both : AreLaid (own ∷ drop (first + 1) slots) bindings = subst (λ (s : List Slot). AreLaid s bindings) (slots-at slots first own inside e) laid in
-    subst (λ (s : List Slot). AreLaid s bindings) (sym (drop-set slots first (record own { from = at }) inside)) both
+moved-laid frames first at bindings own inside e laid =
+    let both : AreLaid (own ∷ drop (first + 1) frames) bindings = subst (λ (s : List Frame). AreLaid s bindings) (frames-at frames first own inside e) laid in
+    subst (λ (s : List Frame). AreLaid s bindings) (sym (drop-set frames first (record own { from = at }) inside)) both
 
--- the slots where one more is opened
-pub entered : (slots wide : List Slot) (depth first place : ℕ) (new : Slot) → IsFree slots wide depth first place → drop place (set wide place new) ≡ new ∷ drop first slots
-entered slots wide depth first place new free = drop-set wide place new free.inside ∙ ap (λ (s : List Slot). new ∷ s) free.kept
+-- the frames where one more is opened
+pub entered : (frames wide : List Frame) (depth first place : ℕ) (new : Frame) → IsFree frames wide depth first place → drop place (set wide place new) ≡ new ∷ drop first frames
+entered frames wide depth first place new free = drop-set wide place new free.inside ∙ ap (λ (s : List Frame). new ∷ s) free.kept
 
 -- the open texts where one more is opened that is no body
-pub pushed-opens : (slots wide : List Slot) (depth first place : ℕ) (bindings : List Range) (new : Slot) → IsFree slots wide depth first place → IsNoBody new.kind
-    → opens_of (drop place (set wide place new)) bindings ≡ open_of new [] ∷ opens_of (drop first slots) bindings
+pub pushed-opens : (frames wide : List Frame) (depth first place : ℕ) (bindings : List Range) (new : Frame) → IsFree frames wide depth first place → IsNoBody new.kind
+    → opens_of (drop place (set wide place new)) bindings ≡ open_of new [] ∷ opens_of (drop first frames) bindings
 unfolding opens_of
-pushed-opens slots wide depth first place bindings new free nobody =
-    ap (λ (s : List Slot). opens_of s bindings) (entered slots wide depth first place new free) ∙ by new.kind nobody
+pushed-opens frames wide depth first place bindings new free nobody =
+    ap (λ (s : List Frame). opens_of s bindings) (entered frames wide depth first place new free) ∙ by new.kind nobody
   where
-    by : (kind : SlotKind) → IsNoBody kind
-        → open_of (record new { kind = kind }) bindings ∷ opens_of (drop first slots) (bindings_below kind bindings)
-        ≡ open_of (record new { kind = kind }) [] ∷ opens_of (drop first slots) bindings
-    by (slot.Body id from) nobody = absurd nobody
-    by slot.Actual nobody = refl
-    by (slot.Default id place) nobody = refl
+    by : (kind : FrameKind) → IsNoBody kind
+        → open_of (record new { kind = kind }) bindings ∷ opens_of (drop first frames) (bindings_below kind bindings)
+        ≡ open_of (record new { kind = kind }) [] ∷ opens_of (drop first frames) bindings
+    by (frame.Body id from) nobody = absurd nobody
+    by frame.Actual nobody = refl
+    by (frame.Default id place) nobody = refl
 
 -- a text that is opened and binds nothing
-pub pushed-laid : (slots wide : List Slot) (depth first place : ℕ) (bindings : List Range) (new : Slot) → IsFree slots wide depth first place
-    → bindings_below new.kind bindings ≡ bindings → AreLaid (drop first slots) bindings
+pub pushed-laid : (frames wide : List Frame) (depth first place : ℕ) (bindings : List Range) (new : Frame) → IsFree frames wide depth first place
+    → bindings_below new.kind bindings ≡ bindings → AreLaid (drop first frames) bindings
     → AreLaid (drop place (set wide place new)) bindings
 unfolding AreLaid
-pushed-laid slots wide depth first place bindings new free same laid =
-    let few = laid-few (drop first slots) bindings laid in
-    subst (λ (s : List Slot). AreLaid s bindings) (sym (entered slots wide depth first place new free))
-    (omega (arith, few), subst (λ (bs : List Range). AreLaid (drop first slots) bs) (sym same) laid)
+pushed-laid frames wide depth first place bindings new free same laid =
+    let few = laid-few (drop first frames) bindings laid in
+    subst (λ (s : List Frame). AreLaid s bindings) (sym (entered frames wide depth first place new free))
+    (omega (arith, few), subst (λ (bs : List Range). AreLaid (drop first frames) bs) (sym same) laid)
 
 -- what is no body binds nothing
-pub no-body_below : (kind : SlotKind) (bindings : List Range) → IsNoBody kind → bindings_below kind bindings ≡ bindings
-no-body_below (slot.Body id first) bindings nobody = absurd nobody
-no-body_below slot.Actual bindings nobody = refl
-no-body_below (slot.Default id place) bindings nobody = refl
+pub no-body_below : (kind : FrameKind) (bindings : List Range) → IsNoBody kind → bindings_below kind bindings ≡ bindings
+no-body_below (frame.Body id first) bindings nobody = absurd nobody
+no-body_below frame.Actual bindings nobody = refl
+no-body_below (frame.Default id place) bindings nobody = refl
 
 -- the open texts where a body is opened whose call binds nothing
-pub body-opens : (slots wide : List Slot) (depth first place : ℕ) (bindings : List Range) (id end home n : ℕ) (bounds : Bounds) → IsFree slots wide depth first place → n ≡ length bindings
-    → opens_of (drop place (set wide place (record { from = 0; end = end; home = home; kind = slot.Body id n; bounds = bounds }))) bindings
-    ≡ record { part = record { from = 0; end = end; mode = Plain }; home = home; kind = OpenBody id [] } ∷ opens_of (drop first slots) bindings
+pub body-opens : (frames wide : List Frame) (depth first place : ℕ) (bindings : List Range) (id end parent n : ℕ) (bounds : Bounds) → IsFree frames wide depth first place → n ≡ length bindings
+    → opens_of (drop place (set wide place (record { from = 0; end = end; parent = parent; kind = frame.Body id n; bounds = bounds }))) bindings
+    ≡ record { part = record { from = 0; end = end; mode = Plain }; parent = parent; kind = OpenBody id [] } ∷ opens_of (drop first frames) bindings
 unfolding opens_of
-body-opens slots wide depth first place bindings id end home n bounds free e =
-    ap (λ (s : List Slot). opens_of s bindings) (entered slots wide depth first place (record { from = 0; end = end; home = home; kind = slot.Body id n; bounds = bounds }) free)
-    ∙ ap (λ (bs : List Range). record { part = record { from = 0; end = end; mode = Plain }; home = home; kind = OpenBody id (map range_part bs) } ∷ opens_of (drop first slots) (take n bindings))
+body-opens frames wide depth first place bindings id end parent n bounds free e =
+    ap (λ (s : List Frame). opens_of s bindings) (entered frames wide depth first place (record { from = 0; end = end; parent = parent; kind = frame.Body id n; bounds = bounds }) free)
+    ∙ ap (λ (bs : List Range). record { part = record { from = 0; end = end; mode = Plain }; parent = parent; kind = OpenBody id (map range_part bs) } ∷ opens_of (drop first frames) (take n bindings))
     (drop_all n bindings (omega (arith, e)))
-    ∙ ap (λ (bs : List Range). record { part = record { from = 0; end = end; mode = Plain }; home = home; kind = OpenBody id [] } ∷ opens_of (drop first slots) bs)
+    ∙ ap (λ (bs : List Range). record { part = record { from = 0; end = end; mode = Plain }; parent = parent; kind = OpenBody id [] } ∷ opens_of (drop first frames) bs)
     (take_all n bindings (omega (arith, e)))
 
 -- what a contract sees
@@ -358,25 +358,25 @@ made_view opens line depth = record { opens = opens; line = line; depth = depth 
 pub view-is : (xs ys : List Open) (line depth own : ℕ) → xs ≡ ys → depth ≡ own → made_view xs line depth ≡ made_view ys line own
 view-is xs ys line depth own e d = ap (λ (o : List Open). made_view o line depth) e ∙ ap (λ (n : ℕ). made_view ys line n) d
 
--- the innermost slot stands in front of the last one
+-- the innermost frame stands in front of the last one
 -- whether nothing is left of the innermost
-pub spent-is : (slots : List Slot) (first : ℕ) (bindings : List Range) (own : Slot) → first < length slots → own ≡ get_or slots first own
-    → nat_le own.end own.from ≡ is_spent (opens_of (drop first slots) bindings)
+pub spent-is : (frames : List Frame) (first : ℕ) (bindings : List Range) (own : Frame) → first < length frames → own ≡ get_or frames first own
+    → nat_le own.end own.from ≡ is_spent (opens_of (drop first frames) bindings)
 unfolding opens_of is_spent
-spent-is slots first bindings own inside e = sym (ap (λ (s : List Slot). is_spent (opens_of s bindings)) (slots-at slots first own inside e))
+spent-is frames first bindings own inside e = sym (ap (λ (s : List Frame). is_spent (opens_of s bindings)) (frames-at frames first own inside e))
 
-pub first-inside : (v : Vec Slot Global) (first : ℕ) (bindings : List Range) → 0 < length (opens_of (drop first v.items) bindings) → first < vec_len v
+pub first-inside : (v : Vec Frame Global) (first : ℕ) (bindings : List Range) → 0 < length (opens_of (drop first v.items) bindings) → first < vec_len v
 first-inside v first bindings some = let n = count_items v in let h = some-open v.items first bindings some in omega (arith, n, h)
 
 -- where fewer texts are open than may be there is room
-pub room-first : (v : Vec Slot Global) (depth first : ℕ) (bindings : List Range) → length (opens_of (drop first v.items) bindings) < depth → vec_len v < first + depth
+pub room-first : (v : Vec Frame Global) (depth first : ℕ) (bindings : List Range) → length (opens_of (drop first v.items) bindings) < depth → vec_len v < first + depth
 room-first v depth first bindings room =
     let n = count_items v in
     let h = open-count v.items first bindings in
     omega (arith, n, h, room)
 
--- slots of which none is open
-pub stack-made : (v : Vec Slot Global) (depth first : ℕ) (bindings : Vec Range Global) → vec_len v ≡ first → first ≤ depth → depth ≤ vec_capacity v → bindings.items ≡ []
+-- frames of which none is open
+pub stack-made : (v : Vec Frame Global) (depth first : ℕ) (bindings : Vec Range Global) → vec_len v ≡ first → first ≤ depth → depth ≤ vec_capacity v → bindings.items ≡ []
     → vec_capacity bindings ≡ (depth + 1) * 255 → IsStack v.items (vec_capacity v) depth first bindings
 unfolding AreLaid
 stack-made v depth first bindings size few memory none room =
@@ -385,46 +385,46 @@ stack-made v depth first bindings size few memory none room =
       inside = omega (arith, n, size);
       few = omega (arith, n, size, few);
       reserved = memory;
-      laid = subst (λ (s : List Slot). AreLaid s bindings.items) (sym (drop_all first v.items (omega (arith, n, size)))) (ap (λ (bs : List Range). length bs) none);
-      bounded = subst (λ (s : List Slot). AreBounded s) (sym (drop_all first v.items (omega (arith, n, size)))) none-bounded;
+      laid = subst (λ (s : List Frame). AreLaid s bindings.items) (sym (drop_all first v.items (omega (arith, n, size)))) (ap (λ (bs : List Range). length bs) none);
+      bounded = subst (λ (s : List Frame). AreBounded s) (sym (drop_all first v.items (omega (arith, n, size)))) none-bounded;
       room = omega (arith, room);
     }
 
--- the slots where the innermost goes on at a place
-pub stack-moved : (slots : List Slot) (memory depth first at : ℕ) (bindings : Vec Range Global) (own : Slot) → first < length slots → own ≡ get_or slots first own
-    → IsStack slots memory depth first bindings → IsStack (set slots first (record own { from = at })) memory depth first bindings
-stack-moved slots memory depth first at bindings own inside e h =
-    let n = length-set slots first (record own { from = at }) in
+-- the frames where the innermost goes on at a place
+pub stack-moved : (frames : List Frame) (memory depth first at : ℕ) (bindings : Vec Range Global) (own : Frame) → first < length frames → own ≡ get_or frames first own
+    → IsStack frames memory depth first bindings → IsStack (set frames first (record own { from = at })) memory depth first bindings
+stack-moved frames memory depth first at bindings own inside e h =
+    let n = length-set frames first (record own { from = at }) in
     let few = h.few in
     record {
       inside = omega (arith, n, inside);
       few = omega (arith, n, few);
       reserved = h.reserved;
-      laid = moved-laid slots first at bindings.items own inside e h.laid;
-      bounded = moved-bounded slots first at own inside e h.bounded;
+      laid = moved-laid frames first at bindings.items own inside e h.laid;
+      bounded = moved-bounded frames first at own inside e h.bounded;
       room = h.room;
     }
 
 -- where it is closed
-pub stack-closed : (slots : List Slot) (memory depth first : ℕ) (bindings new : Vec Range Global) (own : Slot) (kept : ℕ) → first < length slots → own ≡ get_or slots first own
+pub stack-closed : (frames : List Frame) (memory depth first : ℕ) (bindings new : Vec Range Global) (own : Frame) (kept : ℕ) → first < length frames → own ≡ get_or frames first own
     → kept ≡ kept_by own.kind (length bindings.items) → new.items ≡ take kept bindings.items → vec_capacity new ≡ vec_capacity bindings
-    → IsStack slots memory depth first bindings → IsStack slots memory depth (first + 1) new
-stack-closed slots memory depth first bindings new own kept inside e k is more h =
+    → IsStack frames memory depth first bindings → IsStack frames memory depth (first + 1) new
+stack-closed frames memory depth first bindings new own kept inside e k is more h =
     let room = h.room in
     record {
       inside = omega (arith, inside);
       few = h.few;
       reserved = h.reserved;
-      laid = subst (λ (bs : List Range). AreLaid (drop (first + 1) slots) bs) (sym is) (closed-laid slots first bindings.items own kept inside e k h.laid);
-      bounded = closed-bounded slots first own inside e h.bounded;
+      laid = subst (λ (bs : List Range). AreLaid (drop (first + 1) frames) bs) (sym is) (closed-laid frames first bindings.items own kept inside e k h.laid);
+      bounded = closed-bounded frames first own inside e h.bounded;
       room = omega (arith, room, more);
     }
 
 -- where one more is opened that binds nothing
-pub stack-pushed : (slots wide : List Slot) (memory same_memory depth first place : ℕ) (bindings : Vec Range Global) (new : Slot) → IsFree slots wide depth first place → same_memory ≡ memory
-    → bindings_below new.kind bindings.items ≡ bindings.items → IsBoundedOn new (drop first slots) → IsStack slots memory depth first bindings
+pub stack-pushed : (frames wide : List Frame) (memory same_memory depth first place : ℕ) (bindings : Vec Range Global) (new : Frame) → IsFree frames wide depth first place → same_memory ≡ memory
+    → bindings_below new.kind bindings.items ≡ bindings.items → IsBoundedOn new (drop first frames) → IsStack frames memory depth first bindings
     → IsStack (set wide place new) same_memory depth place bindings
-stack-pushed slots wide memory same_memory depth first place bindings new free m same own h =
+stack-pushed frames wide memory same_memory depth first place bindings new free m same own h =
     let n = length-set wide place new in
     let inside = free.inside in
     let few = free.few in
@@ -433,8 +433,8 @@ stack-pushed slots wide memory same_memory depth first place bindings new free m
       inside = omega (arith, n, inside);
       few = omega (arith, n, few);
       reserved = omega (arith, m, reserved);
-      laid = pushed-laid slots wide depth first place bindings.items new free same h.laid;
-      bounded = subst (λ (s : List Slot). AreBounded s) (sym (entered slots wide depth first place new free)) (more-bounded new (drop first slots) own h.bounded);
+      laid = pushed-laid frames wide depth first place bindings.items new free same h.laid;
+      bounded = subst (λ (s : List Frame). AreBounded s) (sym (entered frames wide depth first place new free)) (more-bounded new (drop first frames) own h.bounded);
       room = h.room;
     }
 
@@ -450,19 +450,19 @@ full-is count depth few = by (count == depth) refl
         let apart : count ≡ depth → ⊥ = eqb-false count depth e in
         e ∙ sym (lt-leb depth count (omega (arith, apart, few)))
 
--- where no slot is left in front of the open texts, as many are open as may be if no more slots can be made
-pub full-first : (slots : List Slot) (first depth len : ℕ) (bindings : List Range) → first ≡ 0 → len ≡ length slots → length slots ≤ depth
-    → (len == depth) ≡ nat_le depth (length (opens_of (drop first slots) bindings))
-full-first slots first depth len bindings z e few =
-    let n = open-count slots first bindings in
-    let count : len ≡ length (opens_of (drop first slots) bindings) = omega (arith, n, z, e) in
+-- where no frame is left in front of the open texts, as many are open as may be if no more frames can be made
+pub full-first : (frames : List Frame) (first depth len : ℕ) (bindings : List Range) → first ≡ 0 → len ≡ length frames → length frames ≤ depth
+    → (len == depth) ≡ nat_le depth (length (opens_of (drop first frames) bindings))
+full-first frames first depth len bindings z e few =
+    let n = open-count frames first bindings in
+    let count : len ≡ length (opens_of (drop first frames) bindings) = omega (arith, n, z, e) in
     full-is len depth (omega (arith, e, few)) ∙ ap (nat_le depth) count
 
--- where a slot is left, more texts may be open
-pub full-some : (slots : List Slot) (first depth : ℕ) (bindings : List Range) → (first ≡ 0 → ⊥) → first ≤ length slots → length slots ≤ depth
-    → (first == 0) ≡ nat_le depth (length (opens_of (drop first slots) bindings))
-full-some slots first depth bindings some inside few =
-    let n = open-count slots first bindings in
+-- where a frame is left, more texts may be open
+pub full-some : (frames : List Frame) (first depth : ℕ) (bindings : List Range) → (first ≡ 0 → ⊥) → first ≤ length frames → length frames ≤ depth
+    → (first == 0) ≡ nat_le depth (length (opens_of (drop first frames) bindings))
+full-some frames first depth bindings some inside few =
+    let n = open-count frames first bindings in
     let none : (first == 0) ≡ false = by (first == 0) refl in
     none ∙ sym (lt-leb depth _ (omega (arith, n, some, inside, few)))
   where
@@ -470,25 +470,25 @@ full-some slots first depth bindings some inside few =
     by true e = absurd (some (eqb-true first 0 e))
     by false e = e
 
--- the slots from a place on
-pub tail-is : (part items : List Slot) (first : ℕ) → part ≡ items → take (length part - first) (drop first part) ≡ drop first items
-tail-is part items first e = take_rest part first ∙ ap (λ (slots : List Slot). drop first slots) e
+-- the frames from a place on
+pub tail-is : (part items : List Frame) (first : ℕ) → part ≡ items → take (length part - first) (drop first part) ≡ drop first items
+tail-is part items first e = take_rest part first ∙ ap (λ (frames : List Frame). drop first frames) e
 
--- the open slots as they are lent
-pub lent-opens : (slots lent : List Slot) (first : ℕ) (bindings own : List Range) → lent ≡ slots → own ≡ bindings
-    → opens_of (take (length lent - first) (drop first lent)) own ≡ opens_of (drop first slots) bindings
-lent-opens slots lent first bindings own e f =
-    ap (λ (s : List Slot). opens_of s own) (tail-is lent slots first e)
-    ∙ ap (λ (bs : List Range). opens_of (drop first slots) bs) f
+-- the open frames as they are lent
+pub lent-opens : (frames lent : List Frame) (first : ℕ) (bindings own : List Range) → lent ≡ frames → own ≡ bindings
+    → opens_of (take (length lent - first) (drop first lent)) own ≡ opens_of (drop first frames) bindings
+lent-opens frames lent first bindings own e f =
+    ap (λ (s : List Frame). opens_of s own) (tail-is lent frames first e)
+    ∙ ap (λ (bs : List Range). opens_of (drop first frames) bs) f
 
--- some slot is lent where some text is open
-pub lent-some : (slots lent : List Slot) (first : ℕ) (bindings : List Range) → lent ≡ slots → 0 < length (opens_of (drop first slots) bindings)
+-- some frame is lent where some text is open
+pub lent-some : (frames lent : List Frame) (first : ℕ) (bindings : List Range) → lent ≡ frames → 0 < length (opens_of (drop first frames) bindings)
     → 0 < length (take (length lent - first) (drop first lent))
-lent-some slots lent first bindings e some =
-    subst (λ (s : List Slot). 0 < length s) (sym (tail-is lent slots first e))
-    (let n = opens-length (drop first slots) bindings in omega (arith, n, some))
+lent-some frames lent first bindings e some =
+    subst (λ (s : List Frame). 0 < length s) (sym (tail-is lent frames first e))
+    (let n = opens-length (drop first frames) bindings in omega (arith, n, some))
 
--- The slots of open texts and the ranges that they have bound, as a call is bound and its body opens.
+-- The frames of open texts and the ranges that they have bound, as a call is bound and its body opens.
 
 -- how many formals a macro has, whether it has a list or not
 pub arity-count : (formals : Option (List Formal)) → unwrap_or (option_map (λ (fs : List Formal). length fs) formals) 0 ≡ length (unwrap_or formals [])
@@ -501,57 +501,57 @@ formals-few table id sound h =
     (at-each IsSoundMacro table.macros id no_macro (recursion_from_All IsSoundMacro table.macros sound.each) h).formals.few
 
 -- a part of a list is no longer than it
-drop-few : (slots : List Slot) (first : ℕ) (size : ℕ) → size ≤ 255 * length (drop first slots) → first ≤ length slots → size ≤ 255 * length slots
-drop-few slots first size h inside = let n = length-drop first slots in omega (arith, h, n, inside)
+drop-few : (frames : List Frame) (first : ℕ) (size : ℕ) → size ≤ 255 * length (drop first frames) → first ≤ length frames → size ≤ 255 * length frames
+drop-few frames first size h inside = let n = length-drop first frames in omega (arith, h, n, inside)
 
 -- there is room for the ranges of one call more
-pub call-room : (slots : List Slot) (memory depth first n : ℕ) (bindings : Vec Range Global) → IsStack slots memory depth first bindings → n ≤ 255
+pub call-room : (frames : List Frame) (memory depth first n : ℕ) (bindings : Vec Range Global) → IsStack frames memory depth first bindings → n ≤ 255
     → vec_len bindings + n ≤ vec_capacity bindings
-call-room slots memory depth first n bindings h few =
+call-room frames memory depth first n bindings h few =
     let room = h.room in
     let most = h.few in
     let size = count_items bindings in
-    let all = drop-few slots first (length bindings.items) (laid-few (drop first slots) bindings.items h.laid) h.inside in
+    let all = drop-few frames first (length bindings.items) (laid-few (drop first frames) bindings.items h.laid) h.inside in
     omega (arith, room, most, size, all, few)
 
--- a slot for the body of a macro whose ranges stand behind so many
-abbrev pub body-slot : ℕ → ℕ → ℕ → ℕ → Bounds → Slot
-body-slot id end home n bounds = record { from = 0; end = end; home = home; kind = slot.Body id n; bounds = bounds }
+-- a frame for the body of a macro whose ranges stand behind so many
+abbrev pub body-frame : ℕ → ℕ → ℕ → ℕ → Bounds → Frame
+body-frame id end parent n bounds = record { from = 0; end = end; parent = parent; kind = frame.Body id n; bounds = bounds }
 
 -- the open texts where a body is opened whose call has bound ranges
-pub entered-opens : (slots wide : List Slot) (depth first place : ℕ) (bindings more new : List Range) (id end home n : ℕ) (bounds : Bounds) → IsFree slots wide depth first place
+pub entered-opens : (frames wide : List Frame) (depth first place : ℕ) (bindings more new : List Range) (id end parent n : ℕ) (bounds : Bounds) → IsFree frames wide depth first place
     → n ≡ length bindings → new ≡ bindings ++ more
-    → opens_of (drop place (set wide place (body-slot id end home n bounds))) new
-    ≡ record { part = record { from = 0; end = end; mode = Plain }; home = home; kind = OpenBody id (map range_part more) } ∷ opens_of (drop first slots) bindings
+    → opens_of (drop place (set wide place (body-frame id end parent n bounds))) new
+    ≡ record { part = record { from = 0; end = end; mode = Plain }; parent = parent; kind = OpenBody id (map range_part more) } ∷ opens_of (drop first frames) bindings
 unfolding opens_of
-entered-opens slots wide depth first place bindings more new id end home n bounds free is whole =
-    let body : List Range → List Open → List Open = λ bs os. record { part = record { from = 0; end = end; mode = Plain }; home = home; kind = OpenBody id (map range_part bs) } ∷ os in
-    ap (λ (bs : List Range). opens_of (drop place (set wide place (body-slot id end home n bounds))) bs) whole
-    ∙ ap (λ (s : List Slot). opens_of s (bindings ++ more)) (entered slots wide depth first place (body-slot id end home n bounds) free)
-    ∙ ap (λ (k : ℕ). body (drop k (bindings ++ more)) (opens_of (drop first slots) (take k (bindings ++ more)))) is
-    ∙ ap (λ (bs : List Range). body bs (opens_of (drop first slots) (take (length bindings) (bindings ++ more)))) (drop-append_seam bindings more)
-    ∙ ap (λ (bs : List Range). body more (opens_of (drop first slots) bs)) (take-append_seam bindings more)
+entered-opens frames wide depth first place bindings more new id end parent n bounds free is whole =
+    let body : List Range → List Open → List Open = λ bs os. record { part = record { from = 0; end = end; mode = Plain }; parent = parent; kind = OpenBody id (map range_part bs) } ∷ os in
+    ap (λ (bs : List Range). opens_of (drop place (set wide place (body-frame id end parent n bounds))) bs) whole
+    ∙ ap (λ (s : List Frame). opens_of s (bindings ++ more)) (entered frames wide depth first place (body-frame id end parent n bounds) free)
+    ∙ ap (λ (k : ℕ). body (drop k (bindings ++ more)) (opens_of (drop first frames) (take k (bindings ++ more)))) is
+    ∙ ap (λ (bs : List Range). body bs (opens_of (drop first frames) (take (length bindings) (bindings ++ more)))) (drop-append_seam bindings more)
+    ∙ ap (λ (bs : List Range). body more (opens_of (drop first frames) bs)) (take-append_seam bindings more)
 
--- they lie as slots do
-entered-laid : (slots wide : List Slot) (depth first place : ℕ) (bindings more : List Range) (id end home n : ℕ) (bounds : Bounds) → IsFree slots wide depth first place
+-- they lie as frames do
+entered-laid : (frames wide : List Frame) (depth first place : ℕ) (bindings more : List Range) (id end parent n : ℕ) (bounds : Bounds) → IsFree frames wide depth first place
     → n ≡ length bindings → length more ≤ 255
-    → AreLaid (drop first slots) bindings → AreLaid (drop place (set wide place (body-slot id end home n bounds))) (bindings ++ more)
+    → AreLaid (drop first frames) bindings → AreLaid (drop place (set wide place (body-frame id end parent n bounds))) (bindings ++ more)
 unfolding AreLaid
-entered-laid slots wide depth first place bindings more id end home n bounds free is few laid =
-    let less = laid-few (drop first slots) bindings laid in
+entered-laid frames wide depth first place bindings more id end parent n bounds free is few laid =
+    let less = laid-few (drop first frames) bindings laid in
     let both = length-append bindings more in
     let front : take n (bindings ++ more) ≡ bindings = ap (λ (k : ℕ). take k (bindings ++ more)) is ∙ take-append_seam bindings more in
-    subst (λ (s : List Slot). AreLaid s (bindings ++ more)) (sym (entered slots wide depth first place (body-slot id end home n bounds) free))
-    (omega (arith, less, both, few), subst (λ (bs : List Range). AreLaid (drop first slots) bs) (sym front) laid)
+    subst (λ (s : List Frame). AreLaid s (bindings ++ more)) (sym (entered frames wide depth first place (body-frame id end parent n bounds) free))
+    (omega (arith, less, both, few), subst (λ (bs : List Range). AreLaid (drop first frames) bs) (sym front) laid)
 
 -- and are so with their room
-pub stack-entered : (slots wide : List Slot) (memory same_memory depth first place : ℕ) (bindings new : Vec Range Global) (more : List Range) (id end home n m : ℕ) (bounds : Bounds)
-    → IsFree slots wide depth first place → same_memory ≡ memory → n ≡ vec_len bindings → m ≤ 255
+pub stack-entered : (frames wide : List Frame) (memory same_memory depth first place : ℕ) (bindings new : Vec Range Global) (more : List Range) (id end parent n m : ℕ) (bounds : Bounds)
+    → IsFree frames wide depth first place → same_memory ≡ memory → n ≡ vec_len bindings → m ≤ 255
     → vec_len new ≤ vec_len bindings + m → new.items ≡ bindings.items ++ more → vec_capacity new ≡ vec_capacity bindings
-    → IsBoundedOn (body-slot id end home n bounds) (drop first slots) → IsStack slots memory depth first bindings
-    → IsStack (set wide place (body-slot id end home n bounds)) same_memory depth place new
-stack-entered slots wide memory same_memory depth first place bindings new more id end home n m bounds free kept is few size whole same own h =
-    let one = length-set wide place (body-slot id end home n bounds) in
+    → IsBoundedOn (body-frame id end parent n bounds) (drop first frames) → IsStack frames memory depth first bindings
+    → IsStack (set wide place (body-frame id end parent n bounds)) same_memory depth place new
+stack-entered frames wide memory same_memory depth first place bindings new more id end parent n m bounds free kept is few size whole same own h =
+    let one = length-set wide place (body-frame id end parent n bounds) in
     let inside = free.inside in
     let wide_few = free.few in
     let reserved = h.reserved in
@@ -565,44 +565,44 @@ stack-entered slots wide memory same_memory depth first place bindings new more 
       inside = omega (arith, one, inside);
       few = omega (arith, one, wide_few);
       reserved = omega (arith, kept, reserved);
-      laid = subst (λ (bs : List Range). AreLaid (drop place (set wide place (body-slot id end home n bounds))) bs) (sym whole)
-          (entered-laid slots wide depth first place bindings.items more id end home n bounds free (is ∙ old_n) most h.laid);
-      bounded = subst (λ (s : List Slot). AreBounded s) (sym (entered slots wide depth first place (body-slot id end home n bounds) free)) (more-bounded (body-slot id end home n bounds) (drop first slots) own h.bounded);
+      laid = subst (λ (bs : List Range). AreLaid (drop place (set wide place (body-frame id end parent n bounds))) bs) (sym whole)
+          (entered-laid frames wide depth first place bindings.items more id end parent n bounds free (is ∙ old_n) most h.laid);
+      bounded = subst (λ (s : List Frame). AreBounded s) (sym (entered frames wide depth first place (body-frame id end parent n bounds) free)) (more-bounded (body-frame id end parent n bounds) (drop first frames) own h.bounded);
       room = omega (arith, room, same);
     }
 
--- the slots where the innermost goes on at a place
-abbrev pub moved : List Slot → ℕ → ℕ → Slot → List Slot
-moved slots first behind own = set slots first (record own { from = behind })
+-- the frames where the innermost goes on at a place
+abbrev pub moved : List Frame → ℕ → ℕ → Frame → List Frame
+moved frames first behind own = set frames first (record own { from = behind })
 
 -- the open texts where the body of a call is opened then
-pub called-opens : (slots wide : List Slot) (depth first place behind : ℕ) (bindings more new : List Range) (own : Slot) (id end home n : ℕ) (bounds : Bounds)
-    → IsFree (moved slots first behind own) wide depth first place → first < length slots
-    → own ≡ get_or slots first own → n ≡ length bindings → new ≡ bindings ++ more
-    → opens_of (drop place (set wide place (body-slot id end home n bounds))) new
-    ≡ record { part = record { from = 0; end = end; mode = Plain }; home = home; kind = OpenBody id (map range_part more) } ∷ moved_to behind (opens_of (drop first slots) bindings)
-called-opens slots wide depth first place behind bindings more new own id end home n bounds free inside e is whole =
-    entered-opens (moved slots first behind own) wide depth first place bindings more new id end home n bounds free is whole
-    ∙ ap (λ (os : List Open). record { part = record { from = 0; end = end; mode = Plain }; home = home; kind = OpenBody id (map range_part more) } ∷ os)
-    (moved-opens slots first behind bindings own inside e)
+pub called-opens : (frames wide : List Frame) (depth first place behind : ℕ) (bindings more new : List Range) (own : Frame) (id end parent n : ℕ) (bounds : Bounds)
+    → IsFree (moved frames first behind own) wide depth first place → first < length frames
+    → own ≡ get_or frames first own → n ≡ length bindings → new ≡ bindings ++ more
+    → opens_of (drop place (set wide place (body-frame id end parent n bounds))) new
+    ≡ record { part = record { from = 0; end = end; mode = Plain }; parent = parent; kind = OpenBody id (map range_part more) } ∷ moved_to behind (opens_of (drop first frames) bindings)
+called-opens frames wide depth first place behind bindings more new own id end parent n bounds free inside e is whole =
+    entered-opens (moved frames first behind own) wide depth first place bindings more new id end parent n bounds free is whole
+    ∙ ap (λ (os : List Open). record { part = record { from = 0; end = end; mode = Plain }; parent = parent; kind = OpenBody id (map range_part more) } ∷ os)
+    (moved-opens frames first behind bindings own inside e)
 
--- they lie as slots do, with their room
-pub stack-called : (slots wide : List Slot) (memory same_memory depth first place behind : ℕ) (bindings new : Vec Range Global) (more : List Range) (own : Slot) (id end home n m : ℕ) (bounds : Bounds)
-    → IsFree (moved slots first behind own) wide depth first place → same_memory ≡ memory → first < length slots
-    → own ≡ get_or slots first own → n ≡ vec_len bindings → m ≤ 255 → vec_len new ≤ vec_len bindings + m
+-- they lie as frames do, with their room
+pub stack-called : (frames wide : List Frame) (memory same_memory depth first place behind : ℕ) (bindings new : Vec Range Global) (more : List Range) (own : Frame) (id end parent n m : ℕ) (bounds : Bounds)
+    → IsFree (moved frames first behind own) wide depth first place → same_memory ≡ memory → first < length frames
+    → own ≡ get_or frames first own → n ≡ vec_len bindings → m ≤ 255 → vec_len new ≤ vec_len bindings + m
     → new.items ≡ bindings.items ++ more → vec_capacity new ≡ vec_capacity bindings
-    → IsBoundedOn (body-slot id end home n bounds) (drop first slots) → IsStack slots memory depth first bindings
-    → IsStack (set wide place (body-slot id end home n bounds)) same_memory depth place new
-stack-called slots wide memory same_memory depth first place behind bindings new more own id end home n m bounds free kept inside e is few size whole same on h =
-    stack-entered (moved slots first behind own) wide memory same_memory depth first place bindings new more id end home n m bounds free kept is few size whole same
-    (moved-on (body-slot id end home n bounds) slots first behind own inside e on) (stack-moved slots memory depth first behind bindings own inside e h)
+    → IsBoundedOn (body-frame id end parent n bounds) (drop first frames) → IsStack frames memory depth first bindings
+    → IsStack (set wide place (body-frame id end parent n bounds)) same_memory depth place new
+stack-called frames wide memory same_memory depth first place behind bindings new more own id end parent n m bounds free kept inside e is few size whole same on h =
+    stack-entered (moved frames first behind own) wide memory same_memory depth first place bindings new more id end parent n m bounds free kept is few size whole same
+    (moved-on (body-frame id end parent n bounds) frames first behind own inside e on) (stack-moved frames memory depth first behind bindings own inside e h)
 
 -- a call that is refused
-pub opening-refused : (macros : List Macro) (text : List ℕ) (at end id home n : ℕ) (old new : CursorsView) (ranges : List Range) (kind : FaultKind) (r : Result ℕ FaultKind)
+pub opening-refused : (macros : List Macro) (text : List ℕ) (at end id parent n : ℕ) (old new : CursorsView) (ranges : List Range) (kind : FaultKind) (r : Result ℕ FaultKind)
     → r ≡ Err kind → n ≡ length (formals_of (macro_at macros id)) → IsBoundCall text at end n ranges r → new ≡ old
-    → IsOpening macros text at end id home old (Refused kind) new
+    → IsOpening macros text at end id parent old (Refused kind) new
 unfolding IsOpening IsBoundCall
-opening-refused macros text at end id home n old new ranges kind r e k b is =
+opening-refused macros text at end id parent n old new ranges kind r e k b is =
     (is, subst (λ (m : ℕ). IsBoundCall text at end m ranges (Err kind)) k (subst (λ (x : Result ℕ FaultKind). IsBoundCall text at end n ranges x) e b))
 
 -- a call that is bound
@@ -618,19 +618,19 @@ call-bound macros text at end id n ranges behind r e k b within place = record {
 }
 
 -- a call that is bound where no further text may be open
-pub opening-deep : (macros : List Macro) (text : List ℕ) (at end id home : ℕ) (old new : CursorsView) → IsCallBound macros text at end id → new ≡ old → old.depth ≤ length old.opens
-    → IsOpening macros text at end id home old Deep new
+pub opening-deep : (macros : List Macro) (text : List ℕ) (at end id parent : ℕ) (old new : CursorsView) → IsCallBound macros text at end id → new ≡ old → old.depth ≤ length old.opens
+    → IsOpening macros text at end id parent old Deep new
 unfolding IsOpening
-opening-deep macros text at end id home old new call is deep = (is, (deep, call))
+opening-deep macros text at end id parent old new call is deep = (is, (deep, call))
 
 -- a call that is bound opens its body
-pub opening-opened : (macros : List Macro) (text body : List ℕ) (at end id home n : ℕ) (old new : CursorsView) (ranges : List Range) (behind : ℕ) (r : Result ℕ FaultKind)
+pub opening-opened : (macros : List Macro) (text body : List ℕ) (at end id parent n : ℕ) (old new : CursorsView) (ranges : List Range) (behind : ℕ) (r : Result ℕ FaultKind)
     → r ≡ Ok behind → n ≡ length (formals_of (macro_at macros id)) → IsBoundCall text at end n ranges r → AreWithin at end ranges → (at ≤ behind) × (behind ≤ end)
     → body ≡ (macro_at macros id).body → length old.opens < old.depth
-    → new ≡ record old { opens = record { part = record { from = 0; end = length body; mode = Plain }; home = home; kind = OpenBody id (map range_part ranges) } ∷ moved_to behind old.opens }
-    → IsOpening macros text at end id home old Opened new
+    → new ≡ record old { opens = record { part = record { from = 0; end = length body; mode = Plain }; parent = parent; kind = OpenBody id (map range_part ranges) } ∷ moved_to behind old.opens }
+    → IsOpening macros text at end id parent old Opened new
 unfolding IsOpening open_body
-opening-opened macros text body at end id home n old new ranges behind r e k b within place same room is = record {
+opening-opened macros text body at end id parent n old new ranges behind r e k b within place same room is = record {
   call = record {
     ranges = ranges;
     behind = behind;
@@ -640,7 +640,7 @@ opening-opened macros text body at end id home n old new ranges behind r e k b w
   };
   room = room;
   opens = is ∙ ap (λ (bytes : List ℕ). record old {
-    opens = record { part = record { from = 0; end = length bytes; mode = Plain }; home = home; kind = OpenBody id (map range_part ranges) } ∷ moved_to behind old.opens;
+    opens = record { part = record { from = 0; end = length bytes; mode = Plain }; parent = parent; kind = OpenBody id (map range_part ranges) } ∷ moved_to behind old.opens;
   }) same;
 }
 

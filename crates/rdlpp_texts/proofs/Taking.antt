@@ -36,9 +36,9 @@ use Rattle.rdlpp_texts.specs.declared.peek.Peek.{Peek}
 use Rattle.rdlpp_texts.specs.declared.place.TextPlace.{TextPlace}
 use Rattle.rdlpp_texts.specs.declared.place.TextSource.{TextSource}
 use Rattle.rdlpp_texts.specs.declared.place.TextSource.TheVariants.{Arguments, Body, Default}
-use Rattle.rdlpp_texts.specs.declared.slot.Slot.{Slot}
-use Rattle.rdlpp_texts.specs.declared.slot.SlotKind.{SlotKind}
-use Rattle.rdlpp_texts.specs.declared.slot.SlotKind.TheVariants as slot
+use Rattle.rdlpp_texts.specs.declared.frame.Frame.{Frame}
+use Rattle.rdlpp_texts.specs.declared.frame.FrameKind.{FrameKind}
+use Rattle.rdlpp_texts.specs.declared.frame.FrameKind.TheVariants as frame
 use Rattle.rdlpp_texts.specs.declared.step.CursorFault.{CursorFault}
 use Rattle.rdlpp_texts.specs.declared.step.CursorStep.{CursorStep}
 use Rattle.rdlpp_texts.specs.declared.step.CursorStep.TheVariants.{Lends, Refused, Silent}
@@ -55,7 +55,7 @@ sound-bound texts [] h = tt
 sound-bound texts (x ∷ below) h =
     ((h.are_open).0, (by x.kind (h.are_inside).0 ((h.are_open).1).0, sound-bound texts below (sound-tail texts x below h)))
   where
-    by : (kind : OpenKind) → IsKnown texts.macros kind → HasParts texts (scope_text texts below x.home) kind → IsBound texts.macros kind
+    by : (kind : OpenKind) → IsKnown texts.macros kind → HasParts texts (scope_text texts below x.parent) kind → IsBound texts.macros kind
     by (OpenBody id parts) known has = (known, has.0)
     by OpenActual known has = tt
     by (OpenDefault id place) known has = known
@@ -80,35 +80,35 @@ formal-place texts (x ∷ below) peek len place h l e =
 
 -- what holds of an open text that a formal stands for, in front of others
 pub record IsStandingIn (texts : Texts) (opens : List Open) (y : Open) : Type 0 where
-  pub home : y.home ≤ length opens
+  pub parent : y.parent ≤ length opens
   pub text : IsOpenText y.kind
   pub known : IsKnown texts.macros y.kind
-  pub inside : y.part.end ≤ length (text_around texts y.kind y.home opens)
-  pub keeps : KeepsAll (part_tokens (text_around texts y.kind y.home opens) y.part)
+  pub inside : y.part.end ≤ length (text_around texts y.kind y.parent opens)
+  pub keeps : KeepsAll (part_tokens (text_around texts y.kind y.parent opens) y.part)
 
 -- the text in which such an open text lies is the same with one more around it
-around-more : (texts : Texts) (x : Open) (below : List Open) (kind : OpenKind) (home : ℕ) → home ≤ length below
-    → text_around texts kind home (x ∷ below) ≡ text_around texts kind home below
+around-more : (texts : Texts) (x : Open) (below : List Open) (kind : OpenKind) (parent : ℕ) → parent ≤ length below
+    → text_around texts kind parent (x ∷ below) ≡ text_around texts kind parent below
 unfolding text_around
-around-more texts x below (OpenBody id parts) home h = refl
-around-more texts x below OpenActual home h = text-around texts x below home h
-around-more texts x below (OpenDefault id place) home h = refl
+around-more texts x below (OpenBody id parts) parent h = refl
+around-more texts x below OpenActual parent h = text-around texts x below parent h
+around-more texts x below (OpenDefault id place) parent h = refl
 
 -- and where the one around it goes on
-around-moved : (texts : Texts) (x : Open) (below : List Open) (at : ℕ) (kind : OpenKind) (home : ℕ)
-    → text_around texts kind home (x ∷ below) ≡ text_around texts kind home (moved_to at (x ∷ below))
+around-moved : (texts : Texts) (x : Open) (below : List Open) (at : ℕ) (kind : OpenKind) (parent : ℕ)
+    → text_around texts kind parent (x ∷ below) ≡ text_around texts kind parent (moved_to at (x ∷ below))
 unfolding text_around scope_text moved_to
-around-moved texts x below at (OpenBody id parts) home = refl
-around-moved texts x below at OpenActual home = refl
-around-moved texts x below at (OpenDefault id place) home = refl
+around-moved texts x below at (OpenBody id parts) parent = refl
+around-moved texts x below at OpenActual parent = refl
+around-moved texts x below at (OpenDefault id place) parent = refl
 
 -- it stands so with one more open text around it
 standing-more : (texts : Texts) (x : Open) (below : List Open) (y : Open) → IsStandingIn texts below y → IsStandingIn texts (x ∷ below) y
 standing-more texts x below y s =
-    let home = s.home in
-    let same = around-more texts x below y.kind y.home home in
+    let parent = s.parent in
+    let same = around-more texts x below y.kind y.parent parent in
     record {
-      home = omega (arith, home);
+      parent = omega (arith, parent);
       text = s.text;
       known = s.known;
       inside = subst (λ (text : List ℕ). y.part.end ≤ length text) (sym same) s.inside;
@@ -119,9 +119,9 @@ standing-more texts x below y s =
 standing-moved : (texts : Texts) (x : Open) (below : List Open) (at : ℕ) (y : Open) → IsStandingIn texts (x ∷ below) y → IsStandingIn texts (moved_to at (x ∷ below)) y
 unfolding moved_to
 standing-moved texts x below at y s =
-    let same = around-moved texts x below at y.kind y.home in
+    let same = around-moved texts x below at y.kind y.parent in
     record {
-      home = s.home;
+      parent = s.parent;
       text = s.text;
       known = s.known;
       inside = subst (λ (text : List ℕ). y.part.end ≤ length text) same s.inside;
@@ -132,17 +132,17 @@ standing-moved texts x below at y s =
 text-sound : (texts : Texts) (opens : List Open) (y : Open) → IsStandingIn texts opens y → y.part.mode ≡ Plain → AreSound texts opens → AreSound texts (y ∷ opens)
 unfolding IsOpenText
 text-sound texts opens y s mode h = record {
-  are_open = (s.home, (parts y.kind s.text, h.are_open));
+  are_open = (s.parent, (parts y.kind s.text, h.are_open));
   are_inside = (s.known, (s.inside, (mode, h.are_inside)));
   are_kept = (s.keeps, (actuals y.kind s.text, h.are_kept));
 }
   where
-    parts : (kind : OpenKind) → IsOpenText kind → HasParts texts (scope_text texts opens y.home) kind
+    parts : (kind : OpenKind) → IsOpenText kind → HasParts texts (scope_text texts opens y.parent) kind
     parts (OpenBody id bound) t = absurd t
     parts OpenActual t = tt
     parts (OpenDefault id place) t = tt
 
-    actuals : (kind : OpenKind) → IsOpenText kind → KeepActuals (scope_text texts opens y.home) kind
+    actuals : (kind : OpenKind) → IsOpenText kind → KeepActuals (scope_text texts opens y.parent) kind
     actuals (OpenBody id bound) t = absurd t
     actuals OpenActual t = tt
     actuals (OpenDefault id place) t = tt
@@ -152,14 +152,14 @@ default-stands : (table : TableView) (texts : Texts) (opens : List Open) (id pla
     → id < length texts.macros → place < length (formals_of (macro_at texts.macros id))
     → IsStandingIn texts opens (record {
       part = record { from = 0; end = length (formal_at (formals_of (macro_at texts.macros id)) place).text; mode = Plain };
-      home = scope;
+      parent = scope;
       kind = OpenDefault id place;
     })
 unfolding IsOpenText text_around own_text
 default-stands table texts opens id place scope sound e inside known own =
     let text = (formal_at (formals_of (macro_at texts.macros id)) place).text in
     record {
-      home = inside;
+      parent = inside;
       text = tt;
       known = (known, own);
       inside = omega arith;
@@ -174,28 +174,28 @@ default-stands table texts opens id place scope sound e inside known own =
         (λ k o. default-keeps table id place sound k o) known own
 
 -- its actual does
-actual-stands : (texts : Texts) (x : Open) (below : List Open) (id place : ℕ) (parts : List Part) → x.home ≤ length below → place < length parts
-    → AllByRecursion (λ part. part.end ≤ length (scope_text texts below x.home)) parts
-    → AllByRecursion (λ part. KeepsAll (part_tokens (scope_text texts below x.home) part)) parts
-    → IsStandingIn texts (x ∷ below) (record { part = part_at parts place; home = x.home; kind = OpenActual })
+actual-stands : (texts : Texts) (x : Open) (below : List Open) (id place : ℕ) (parts : List Part) → x.parent ≤ length below → place < length parts
+    → AllByRecursion (λ part. part.end ≤ length (scope_text texts below x.parent)) parts
+    → AllByRecursion (λ part. KeepsAll (part_tokens (scope_text texts below x.parent) part)) parts
+    → IsStandingIn texts (x ∷ below) (record { part = part_at parts place; parent = x.parent; kind = OpenActual })
 unfolding IsOpenText text_around
 actual-stands texts x below id place parts h own fits keep =
-    let same = text-around texts x below x.home h in
+    let same = text-around texts x below x.parent h in
     let none : Part = record { from = 0; end = 0; mode = Plain } in
     record {
-      home = omega (arith, h);
+      parent = omega (arith, h);
       text = tt;
       known = tt;
       inside = subst (λ (text : List ℕ). (part_at parts place).end ≤ length text) (sym same)
-          (at-each (λ part. part.end ≤ length (scope_text texts below x.home)) parts place none fits own);
+          (at-each (λ part. part.end ≤ length (scope_text texts below x.parent)) parts place none fits own);
       keeps = subst (λ (text : List ℕ). KeepsAll (part_tokens text (part_at parts place))) (sym same)
-          (at-each (λ part. KeepsAll (part_tokens (scope_text texts below x.home) part)) parts place none keep own);
+          (at-each (λ part. KeepsAll (part_tokens (scope_text texts below x.parent) part)) parts place none keep own);
     }
 
 -- what a formal of the innermost body stands for does
 own-stands : (table : TableView) (texts : Texts) (x : Open) (below : List Open) (id place : ℕ) (parts : List Part) → IsSound table → texts.macros ≡ table.macros
     → AreSound texts (record x { kind = OpenBody id parts } ∷ below) → place < length (formals_of (macro_at texts.macros id))
-    → IsStandingIn texts (record x { kind = OpenBody id parts } ∷ below) (open_standing (formals_of (macro_at texts.macros id)) id (suc (length below)) x.home parts place)
+    → IsStandingIn texts (record x { kind = OpenBody id parts } ∷ below) (open_standing (formals_of (macro_at texts.macros id)) id (suc (length below)) x.parent parts place)
 unfolding open_standing
 own-stands table texts x below id place parts sound e h own =
     let formals = formals_of (macro_at texts.macros id) in
@@ -221,14 +221,14 @@ scope-stands table texts (x ∷ below) k place y sound e h own is =
     standing-more texts x below y (scope-stands table texts below k place y sound e (sound-tail texts x below h) o f))
   where
     here : (kind : OpenKind) → x.kind ≡ kind → k ≡ suc (length below) → place < length (source_formals (texts_of texts.macros []) (kind_source kind))
-        → kind_standing texts.macros kind k x.home place ≡ Some y → IsStandingIn texts (x ∷ below) y
+        → kind_standing texts.macros kind k x.parent place ≡ Some y → IsStandingIn texts (x ∷ below) y
     here (OpenBody id parts) c last own is =
         let body : AreSound texts (record x { kind = OpenBody id parts } ∷ below) = subst (λ (kind : OpenKind). AreSound texts (record x { kind = kind } ∷ below)) c h in
         let stands = own-stands table texts x below id place parts sound e body own in
-        let scoped = subst (λ (n : ℕ). IsStandingIn texts (record x { kind = OpenBody id parts } ∷ below) (open_standing (formals_of (macro_at texts.macros id)) id n x.home parts place)) (sym last) stands in
-        let same : open_standing (formals_of (macro_at texts.macros id)) id k x.home parts place ≡ y = cc in
+        let scoped = subst (λ (n : ℕ). IsStandingIn texts (record x { kind = OpenBody id parts } ∷ below) (open_standing (formals_of (macro_at texts.macros id)) id n x.parent parts place)) (sym last) stands in
+        let same : open_standing (formals_of (macro_at texts.macros id)) id k x.parent parts place ≡ y = cc in
         subst (λ (z : Open). IsStandingIn texts (x ∷ below) z) same
-        (subst (λ (kind : OpenKind). IsStandingIn texts (record x { kind = kind } ∷ below) (open_standing (formals_of (macro_at texts.macros id)) id k x.home parts place)) (sym c) scoped)
+        (subst (λ (kind : OpenKind). IsStandingIn texts (record x { kind = kind } ∷ below) (open_standing (formals_of (macro_at texts.macros id)) id k x.parent parts place)) (sym c) scoped)
     here OpenActual c last own is = absurd (cc)
     here (OpenDefault id p) c last own is = absurd (cc)
 
@@ -240,48 +240,48 @@ scope-stands table texts (x ∷ below) k place y sound e h own is =
     by true b own is rest = here x.kind refl (eqb-true k (suc (length below)) b) own is
     by false b own is rest = rest own is
 
--- what a slot is that a formal stands for is no body
-pub no-body : (new : Slot) → IsOpenText (open_of new []).kind → IsNoBody new.kind
+-- what a frame is that a formal stands for is no body
+pub no-body : (new : Frame) → IsOpenText (open_of new []).kind → IsNoBody new.kind
 unfolding IsOpenText
 no-body new t = by new.kind t
   where
-    by : (kind : SlotKind) → IsOpenText (kind_of kind []) → IsNoBody kind
-    by (slot.Body id first) t = absurd t
-    by slot.Actual t = tt
-    by (slot.Default id place) t = tt
+    by : (kind : FrameKind) → IsOpenText (kind_of kind []) → IsNoBody kind
+    by (frame.Body id first) t = absurd t
+    by frame.Actual t = tt
+    by (frame.Default id place) t = tt
 
 -- what is found for the formal whose name stands at the front is sound in front of what is left behind that name
-pub formal-sound : (table : TableView) (texts : Texts) (opens : List Open) (peek : Peek) (len place : ℕ) (slot : Slot) → IsSound table → texts.macros ≡ table.macros
+pub formal-sound : (table : TableView) (texts : Texts) (opens : List Open) (peek : Peek) (len place : ℕ) (frame : Frame) → IsSound table → texts.macros ≡ table.macros
     → AreSound texts opens → IsPeek texts opens peek → peek.front ≡ front.Formal len place
-    → found_standing texts.macros (scope_open opens (front_scope opens)) (front_scope opens) place ≡ Some (open_of slot [])
-    → AreSound texts (open_of slot [] ∷ moved_to (peek.at + len) opens)
+    → found_standing texts.macros (scope_open opens (front_scope opens)) (front_scope opens) place ≡ Some (open_of frame [])
+    → AreSound texts (open_of frame [] ∷ moved_to (peek.at + len) opens)
 unfolding IsPeek IsTextItem
-formal-sound table texts [] peek len place slot sound e h l f is = absurd l
-formal-sound table texts (x ∷ below) peek len place slot sound e h l f is =
+formal-sound table texts [] peek len place frame sound e h l f is = absurd l
+formal-sound table texts (x ∷ below) peek len place frame sound e h l f is =
     let own = formal-place texts (x ∷ below) peek len place h l f in
-    let stands = scope-stands table texts (x ∷ below) (front_scope (x ∷ below)) place (open_of slot []) sound e h own is in
+    let stands = scope-stands table texts (x ∷ below) (front_scope (x ∷ below)) place (open_of frame []) sound e h own is in
     let at = subst (λ (f : TextItem). IsTextItem (source_formals texts (front_source (x ∷ below))) (open_bytes texts x below) f) f l.3 in
     let moved = first-sound texts x below len h at.0 (name-closes _ at.1) at.2 in
-    subst (λ (from : ℕ). AreSound texts (open_of slot [] ∷ moved_to (from + len) (x ∷ below))) (sym l.1)
-    (text-sound texts (moved_to (x.part.from + len) (x ∷ below)) (open_of slot []) (standing-moved texts x below (x.part.from + len) (open_of slot []) stands) refl moved)
+    subst (λ (from : ℕ). AreSound texts (open_of frame [] ∷ moved_to (from + len) (x ∷ below))) (sym l.1)
+    (text-sound texts (moved_to (x.part.from + len) (x ∷ below)) (open_of frame []) (standing-moved texts x below (x.part.from + len) (open_of frame []) stands) refl moved)
 
 -- it is no body
-pub formal-text : (table : TableView) (texts : Texts) (opens : List Open) (peek : Peek) (len place : ℕ) (new : Slot) → IsSound table → texts.macros ≡ table.macros
+pub formal-text : (table : TableView) (texts : Texts) (opens : List Open) (peek : Peek) (len place : ℕ) (new : Frame) → IsSound table → texts.macros ≡ table.macros
     → AreSound texts opens → IsPeek texts opens peek → peek.front ≡ front.Formal len place
     → Some (open_of new []) ≡ found_standing texts.macros (scope_open opens (front_scope opens)) (front_scope opens) place → IsNoBody new.kind
 formal-text table texts opens peek len place new sound e h l f is =
     no-body new (scope-stands table texts opens (front_scope opens) place (open_of new []) sound e h (formal-place texts opens peek len place h l f) (sym is)).text
 
 -- it is opened, where there is room
-formal-step : (line depth : ℕ) (texts : Texts) (opens : List Open) (peek : Peek) (len place : ℕ) (slot : Slot) → AreSound texts opens → IsPeek texts opens peek
+formal-step : (line depth : ℕ) (texts : Texts) (opens : List Open) (peek : Peek) (len place : ℕ) (frame : Frame) → AreSound texts opens → IsPeek texts opens peek
     → peek.front ≡ front.Formal len place
-    → found_standing texts.macros (scope_open opens (front_scope opens)) (front_scope opens) place ≡ Some (open_of slot [])
-    → length opens < depth → IsStep line depth texts opens Silent (open_of slot [] ∷ moved_to (peek.at + len) opens)
+    → found_standing texts.macros (scope_open opens (front_scope opens)) (front_scope opens) place ≡ Some (open_of frame [])
+    → length opens < depth → IsStep line depth texts opens Silent (open_of frame [] ∷ moved_to (peek.at + len) opens)
 unfolding IsPeek front_scope
-formal-step line depth texts [] peek len place slot h l f is room = absurd l
-formal-step line depth texts (x ∷ below) peek len place slot h l f is room =
-    subst (λ (from : ℕ). IsStep line depth texts (x ∷ below) Silent (open_of slot [] ∷ moved_to (from + len) (x ∷ below))) (sym l.1)
-    (step-formal line depth texts x below len place (open_of slot []) h
+formal-step line depth texts [] peek len place frame h l f is room = absurd l
+formal-step line depth texts (x ∷ below) peek len place frame h l f is room =
+    subst (λ (from : ℕ). IsStep line depth texts (x ∷ below) Silent (open_of frame [] ∷ moved_to (from + len) (x ∷ below))) (sym l.1)
+    (step-formal line depth texts x below len place (open_of frame []) h
     (subst (λ (f : TextItem). IsTextItem (source_formals texts (front_source (x ∷ below))) (open_bytes texts x below) f) f l.3) is room)
 
 -- some open text is found
@@ -299,7 +299,7 @@ formal-found texts (x ∷ below) peek len place h l f none =
     apart : (y : Open) → Some y ≡ None → ⊥
     apart y e = cc
 
--- without a slot it is refused
+-- without a frame it is refused
 formal-deep : (line depth : ℕ) (texts : Texts) (opens new : List Open) (peek : Peek) (len place : ℕ) → AreSound texts opens → IsPeek texts opens peek
     → peek.front ≡ front.Formal len place → depth ≤ length opens → IsStep line depth texts opens (wordless DepthPassed) new
 unfolding IsPeek
@@ -314,27 +314,27 @@ pub room-moved : (view mid : CursorsView) (at : ℕ) → nat_le view.depth (leng
 room-moved view mid at room e = moved-room view mid at e (leb-false view.depth (length view.opens) room)
 
 -- what a formal stands for is opened behind its name
-pub pass-formal : (table : TableView) (texts : Texts) (view mid new : CursorsView) (peek : Peek) (len place at : ℕ) (slot : Slot) → IsSound table → texts.macros ≡ table.macros
+pub pass-formal : (table : TableView) (texts : Texts) (view mid new : CursorsView) (peek : Peek) (len place at : ℕ) (frame : Frame) → IsSound table → texts.macros ≡ table.macros
     → AreSound texts view.opens → IsPeek texts view.opens peek → peek.front ≡ front.Formal len place
-    → Some (open_of slot []) ≡ found_standing texts.macros (scope_open view.opens (front_scope view.opens)) (front_scope view.opens) place
+    → Some (open_of frame []) ≡ found_standing texts.macros (scope_open view.opens (front_scope view.opens)) (front_scope view.opens) place
     → nat_le view.depth (length view.opens) ≡ false → at ≡ peek.at + len
     → mid ≡ record { opens = moved_to at view.opens; line = view.line; depth = view.depth }
-    → new ≡ record { opens = open_of slot [] ∷ mid.opens; line = mid.line; depth = mid.depth }
+    → new ≡ record { opens = open_of frame [] ∷ mid.opens; line = mid.line; depth = mid.depth }
     → IsPassed texts view new Silent
 unfolding IsFalling StaysRefused
-pass-formal table texts view mid new peek len place at slot sound same h l f is room a m n =
+pass-formal table texts view mid new peek len place at frame sound same h l f is room a m n =
     let inside = formal-inside texts view.opens peek len place l f in
     subst (λ (v : CursorsView). IsPassed texts view v Silent) (sym n)
-    (subst (λ (v : CursorsView). IsPassed texts view (record { opens = open_of slot [] ∷ v.opens; line = v.line; depth = v.depth }) Silent) (sym m)
-    (subst (λ (k : ℕ). IsPassed texts view (record { opens = open_of slot [] ∷ moved_to k view.opens; line = view.line; depth = view.depth }) Silent) (sym a) (record {
-      is_step = formal-step view.line view.depth texts view.opens peek len place slot h l f (sym is) (leb-false view.depth (length view.opens) room);
-      sound = formal-sound table texts view.opens peek len place slot sound same h l f (sym is);
+    (subst (λ (v : CursorsView). IsPassed texts view (record { opens = open_of frame [] ∷ v.opens; line = v.line; depth = v.depth }) Silent) (sym m)
+    (subst (λ (k : ℕ). IsPassed texts view (record { opens = open_of frame [] ∷ moved_to k view.opens; line = view.line; depth = view.depth }) Silent) (sym a) (record {
+      is_step = formal-step view.line view.depth texts view.opens peek len place frame h l f (sym is) (leb-false view.depth (length view.opens) room);
+      sound = formal-sound table texts view.opens peek len place frame sound same h l f (sym is);
       kept = (refl, refl);
-      digits = peek-opens texts view.opens peek (peek.at + len) (open_of slot []) l inside.0 inside.1;
+      digits = peek-opens texts view.opens peek (peek.at + len) (open_of frame []) l inside.0 inside.1;
       refused = tt;
     })))
 
--- without a slot it is refused
+-- without a frame it is refused
 pub pass-deep : (texts : Texts) (view : CursorsView) (peek : Peek) (len place : ℕ) → AreSound texts view.opens → IsPeek texts view.opens peek
     → peek.front ≡ front.Formal len place → nat_le view.depth (length view.opens) ≡ true → IsPassed texts view view (wordless DepthPassed)
 unfolding IsFalling StaysRefused
@@ -463,7 +463,7 @@ unfolding open_bytes
 no-bytes texts x below e =
     let ended = leb-true x.part.end x.part.from e in
     let none : x.part.end - x.part.from ≡ 0 = omega (arith, ended) in
-    ap (λ (n : ℕ). take n (drop x.part.from (text_around texts x.kind x.home below))) none
+    ap (λ (n : ℕ). take n (drop x.part.from (text_around texts x.kind x.parent below))) none
 
 -- a look at it
 spent-peek : (texts : Texts) (x : Open) (below : List Open) → nat_le x.part.end x.part.from ≡ true
@@ -502,10 +502,10 @@ unfolding IsPeek IsTextItem is_spent open_bytes
 ended-spent texts [] peek h l e = absurd l
 ended-spent texts (x ∷ below) peek h l e =
     let none : open_bytes texts x below ≡ [] = subst (λ (f : TextItem). IsTextItem (source_formals texts (front_source (x ∷ below))) (open_bytes texts x below) f) e l.3 in
-    let empty : length (take (x.part.end - x.part.from) (drop x.part.from (text_around texts x.kind x.home below))) ≡ 0 = ap (λ (bs : List ℕ). length bs) none in
-    let size = length-take (x.part.end - x.part.from) (drop x.part.from (text_around texts x.kind x.home below)) in
-    let rest = length-drop x.part.from (text_around texts x.kind x.home below) in
-    let inside : x.part.end ≤ length (text_around texts x.kind x.home below) = ((h.are_inside).1).0 in
+    let empty : length (take (x.part.end - x.part.from) (drop x.part.from (text_around texts x.kind x.parent below))) ≡ 0 = ap (λ (bs : List ℕ). length bs) none in
+    let size = length-take (x.part.end - x.part.from) (drop x.part.from (text_around texts x.kind x.parent below)) in
+    let rest = length-drop x.part.from (text_around texts x.kind x.parent below) in
+    let inside : x.part.end ≤ length (text_around texts x.kind x.parent below) = ((h.are_inside).1).0 in
     by x.part.end x.part.from (omega (arith, empty, size, rest, inside))
   where
     by : (end from : ℕ) → end ≤ from → nat_le end from ≡ true
@@ -547,8 +547,8 @@ moved-same texts view mid peek h l less is = is ∙ ap (λ (opens : List Open). 
         let from = l.1 in
         let order = l.2 in
         let at : peek.at ≡ x.part.from = omega (arith, from, order, less) in
-        ap (λ (from : ℕ). record { part = record { from = from; end = x.part.end; mode = Plain }; home = x.home; kind = x.kind } ∷ below) at
-        ∙ ap (λ (mode : Mode). record { part = record { from = x.part.from; end = x.part.end; mode = mode }; home = x.home; kind = x.kind } ∷ below) (sym (h.are_inside).1.1.0)
+        ap (λ (from : ℕ). record { part = record { from = from; end = x.part.end; mode = Plain }; parent = x.parent; kind = x.kind } ∷ below) at
+        ∙ ap (λ (mode : Mode). record { part = record { from = x.part.from; end = x.part.end; mode = mode }; parent = x.parent; kind = x.kind } ∷ below) (sym (h.are_inside).1.1.0)
 
 -- what a look tells of the open texts that go on behind what is copied
 peek-behind : (texts : Texts) (opens : List Open) (peek : Peek) → IsPeekAhead texts opens peek → IsPeek texts (moved_to peek.at opens) peek

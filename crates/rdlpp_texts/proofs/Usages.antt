@@ -25,7 +25,7 @@ use Rattle.rdlpp_meaning.proofs.OpenScopes.{part-whole}
 use Rattle.rdlpp_texts.specs.BoundCalls.{KeepsAll, is_call_fault}
 use Rattle.rdlpp_texts.specs.Digits.{IsFalling}
 use Rattle.rdlpp_texts.specs.TextItems.{AreCopied, IsNextItem, IsTextItem, IsPeek, IsPeekAhead}
-use Rattle.rdlpp_texts.specs.Opened.{AreHomedSlots, CursorsView, bindings_below, moved_to, open_of, opens_of}
+use Rattle.rdlpp_texts.specs.Opened.{AreParentedFrames, CursorsView, bindings_below, moved_to, open_of, opens_of}
 use Rattle.rdlpp_texts.specs.Places.{IsPlaced, IsSource, place_bytes, source_formals, source_text, texts_of}
 use Rattle.rdlpp_texts.specs.Scopes.{AreFurtherOut, found_source, front_scope, front_source, innermost_place, kind_source, own_ids, own_source, writer_ids}
 use Rattle.rdlpp_texts.specs.Steps.{AreInside, AreSound, IsKnown, IsPlacedStep, IsStep, StaysRefused, StepsTo, wordless}
@@ -38,7 +38,7 @@ use Rattle.rdlpp_texts.specs.declared.peek.Peek.{Peek}
 use Rattle.rdlpp_texts.specs.declared.place.TextPlace.{TextPlace}
 use Rattle.rdlpp_texts.specs.declared.place.TextSource.{TextSource}
 use Rattle.rdlpp_texts.specs.declared.place.TextSource.TheVariants.{Arguments}
-use Rattle.rdlpp_texts.specs.declared.slot.Slot.{Slot}
+use Rattle.rdlpp_texts.specs.declared.frame.Frame.{Frame}
 use Rattle.rdlpp_texts.specs.declared.step.CursorFault.{CursorFault}
 use Rattle.rdlpp_texts.specs.declared.step.CursorStep.{CursorStep}
 use Rattle.rdlpp_texts.specs.declared.step.CursorStep.TheVariants.{Lends, Refused, Silent}
@@ -70,9 +70,9 @@ pub source-known : (texts : Texts) (x : Open) (below : List Open) → AreInside 
 unfolding front_source
 source-known texts x below h = by x.kind h.0
   where
-    by : (kind : OpenKind) → IsKnown texts.macros kind → IsSource texts (own_source kind x.home below)
+    by : (kind : OpenKind) → IsKnown texts.macros kind → IsSource texts (own_source kind x.parent below)
     by (OpenBody id parts) k = k
-    by OpenActual k = scope-known texts below x.home (((h.1).1).1)
+    by OpenActual k = scope-known texts below x.parent (((h.1).1).1)
     by (OpenDefault id place) k = k
 
 -- a text has a byte, or it has none
@@ -83,7 +83,7 @@ has-byte (b ∷ bs) other n h e = let same : other ≡ b ∷ bs = e (omega arith
 -- the innermost open text ends in the text in which it lies
 pub source-inside : (texts : Texts) (x : Open) (below : List Open) → AreInside texts (x ∷ below) → x.part.end ≤ length (source_text texts (front_source (x ∷ below)))
 source-inside texts x below h =
-    has-byte (text_around texts x.kind x.home below) (source_text texts (front_source (x ∷ below))) x.part.end (h.1).0 (source-around texts x below)
+    has-byte (text_around texts x.kind x.parent below) (source_text texts (front_source (x ∷ below))) x.part.end (h.1).0 (source-around texts x below)
 
 -- what is left of it lies in a text that there is
 pub innermost-placed : (texts : Texts) (opens : List Open) → AreInside texts opens → IfSome (innermost_place opens) (IsPlaced texts)
@@ -109,7 +109,7 @@ pub peek-front : (texts : Texts) (x : Open) (below : List Open) (source : TextSo
 unfolding open_bytes
 peek-front texts x below source f h e is =
     subst (λ (bytes : List ℕ). IsNextItem (source_formals texts (front_source (x ∷ below))) bytes x.part.from f)
-    (same-range (text_around texts x.kind x.home below) (source_text texts (front_source (x ∷ below))) x.part.from x.part.end (h.1).0 (source-around texts x below))
+    (same-range (text_around texts x.kind x.parent below) (source_text texts (front_source (x ∷ below))) x.part.from x.part.end (h.1).0 (source-around texts x below))
     (subst (λ (s : TextSource). IsNextItem (source_formals texts s) (slice_range (source_text texts s) x.part.from x.part.end) x.part.from f) e is)
 
 -- what stands behind what is copied is what a look tells of the open texts of which the innermost goes on there
@@ -130,31 +130,31 @@ peek-ahead texts x below peek source from end f =
         refl,
         end,
         subst (λ (bytes : List ℕ). IsTextItem formals bytes peek.front)
-            (sym (bytes-behind texts x below (peek.at - x.part.from) Plain f.1.0) ∙ ap (λ (k : ℕ). open_bytes texts (record { part = record { from = k; end = x.part.end; mode = Plain }; home = x.home; kind = x.kind }) below) back)
+            (sym (bytes-behind texts x below (peek.at - x.part.from) Plain f.1.0) ∙ ap (λ (k : ℕ). open_bytes texts (record { part = record { from = k; end = x.part.end; mode = Plain }; parent = x.parent; kind = x.kind }) below) back)
             f.2,
       ),
     )
 
--- slots from a place on, of which one is read
-pub record IsInner (slots : List Slot) (bindings : List Range) (own : Slot) : Type 0 where
-  pub rest : List Slot
-  pub is : opens_of slots bindings ≡ open_of own bindings ∷ opens_of rest (bindings_below own.kind bindings)
+-- frames from a place on, of which one is read
+pub record IsInner (frames : List Frame) (bindings : List Range) (own : Frame) : Type 0 where
+  pub rest : List Frame
+  pub is : opens_of frames bindings ≡ open_of own bindings ∷ opens_of rest (bindings_below own.kind bindings)
 
--- the first of slots is the innermost open text
-pub inner-is : (slots : List Slot) (bindings : List Range) (own : Slot) → 0 < length slots → own ≡ get_or slots 0 own → IsInner slots bindings own
+-- the first of frames is the innermost open text
+pub inner-is : (frames : List Frame) (bindings : List Range) (own : Frame) → 0 < length frames → own ≡ get_or frames 0 own → IsInner frames bindings own
 unfolding opens_of
 inner-is [] bindings own some e = absurd (omega (arith, some))
 inner-is (y ∷ ys) bindings own some e =
-    record { rest = ys; is = ap (λ (z : Slot). open_of z bindings ∷ opens_of ys (bindings_below z.kind bindings)) (sym e) }
+    record { rest = ys; is = ap (λ (z : Frame). open_of z bindings ∷ opens_of ys (bindings_below z.kind bindings)) (sym e) }
 
 -- a look at them tells that
-pub peek-is : (texts : Texts) (slots : List Slot) (bindings : List Range) (own : Slot) (peek : Peek) → 0 < length slots → own ≡ get_or slots 0 own
-    → AreSound texts (opens_of slots bindings)
-    → peek.source ≡ front_source (opens_of slots bindings) → peek.from ≡ own.from → peek.end ≡ own.end
+pub peek-is : (texts : Texts) (frames : List Frame) (bindings : List Range) (own : Frame) (peek : Peek) → 0 < length frames → own ≡ get_or frames 0 own
+    → AreSound texts (opens_of frames bindings)
+    → peek.source ≡ front_source (opens_of frames bindings) → peek.from ≡ own.from → peek.end ≡ own.end
     → IsNextItem (source_formals texts peek.source) (slice_range (source_text texts peek.source) own.from own.end) own.from (record { at = peek.at; front = peek.front })
-    → IsPeekAhead texts (opens_of slots bindings) peek
-peek-is texts slots bindings own peek some e sound source from end f =
-    let inner = inner-is slots bindings own some e in
+    → IsPeekAhead texts (opens_of frames bindings) peek
+peek-is texts frames bindings own peek some e sound source from end f =
+    let inner = inner-is frames bindings own some e in
     let x = open_of own bindings in
     let below = opens_of inner.rest (bindings_below own.kind bindings) in
     let s : AreSound texts (x ∷ below) = subst (λ (o : List Open). AreSound texts o) inner.is sound in
@@ -163,11 +163,11 @@ peek-is texts slots bindings own peek some e sound source from end f =
     (peek-ahead texts x below peek at from end (peek-front texts x below peek.source (record { at = peek.at; front = peek.front }) s.are_inside at f))
 
 -- where they lie there is a text
-pub peek-known : (texts : Texts) (slots : List Slot) (bindings : List Range) (own : Slot) (source : TextSource) → 0 < length slots → own ≡ get_or slots 0 own
-    → AreSound texts (opens_of slots bindings) → source ≡ front_source (opens_of slots bindings)
+pub peek-known : (texts : Texts) (frames : List Frame) (bindings : List Range) (own : Frame) (source : TextSource) → 0 < length frames → own ≡ get_or frames 0 own
+    → AreSound texts (opens_of frames bindings) → source ≡ front_source (opens_of frames bindings)
     → IsSource texts source × (own.end ≤ length (source_text texts source))
-peek-known texts slots bindings own source some e sound is =
-    let inner = inner-is slots bindings own some e in
+peek-known texts frames bindings own source some e sound is =
+    let inner = inner-is frames bindings own some e in
     let x = open_of own bindings in
     let below = opens_of inner.rest (bindings_below own.kind bindings) in
     let s : AreSound texts (x ∷ below) = subst (λ (o : List Open). AreSound texts o) inner.is sound in
@@ -207,7 +207,7 @@ unfolding IsPeek open_bytes
 usage-place texts [] peek len h l e = absurd l
 usage-place texts (x ∷ below) peek len h l e =
     let s = usage-some texts x below len (front-is texts x below peek len e l.3) in
-    let size = length-take (x.part.end - x.part.from) (drop x.part.from (text_around texts x.kind x.home below)) in
+    let size = length-take (x.part.end - x.part.from) (drop x.part.from (text_around texts x.kind x.parent below)) in
     let from : peek.at ≡ x.part.from = l.1 in
     let end : peek.end ≡ x.part.end = l.2 in
     let some : 0 < len = s.0 in
@@ -247,7 +247,7 @@ usage-word texts (x ∷ below) peek len from end h l e f g =
     (subst (λ (t : TextSource). peek.at + len ≤ length (source_text texts t)) l.0 (omega (arith, inside, ends))) s.0
     ∙ ap (λ (n : ℕ). drop 1 (slice_range own n (n + len))) at
     ∙ ap (λ (bytes : List ℕ). drop 1 bytes)
-    (sym (same-front (text_around texts x.kind x.home below) own x.part.from x.part.end len s.0 s.1 (source-around texts x below)))
+    (sym (same-front (text_around texts x.kind x.parent below) own x.part.from x.part.end len s.0 s.1 (source-around texts x below)))
 
 -- what the usage at the front comes to, by its name and the macros in whose text it is written
 first-is : (rules : Rules) (s : State) (line : ℕ) (texts : Texts) (x : Open) (below : List Open) (len : ℕ) → x.part.mode ≡ Plain
@@ -354,7 +354,7 @@ step-opened line depth texts x below len id h f used none room rules s m =
     let ts = tokens_behind texts x below in
     left-usage rules s line depth texts x below id [] 0 len Plain (h.are_open).0 f.0 (kind-first texts x below Back mode f.1)
     (first-used rules s line texts x below len id mode f.2 used m ∙ plain-opens text_reads rules line _ ts (macro_at texts.macros id) none)
-    (ap (λ (y : Open). part_tokens (text_around texts x.kind x.home below) y.part) (first-moved texts x below len mode (back-closes _ f.1) f.2)) room
+    (ap (λ (y : Open). part_tokens (text_around texts x.kind x.parent below) y.part) (first-moved texts x below len mode (back-closes _ f.1) f.2)) room
 
 -- and is a fault where there is none
 pub step-opened_deep : (line depth : ℕ) (texts : Texts) (x : Open) (below : List Open) (len id : ℕ) (new : List Open) (fault : CursorFault) → AreSound texts (x ∷ below)
@@ -377,23 +377,23 @@ pub writers-ids : (texts : Texts) (opens : List Open) (k id : ℕ) (name : List 
 unfolding writers_at writer_ids own_writers
 writers-ids texts [] k id name h alone = refl
 writers-ids texts (x ∷ below) k id name h alone =
-    by (k == suc (length below)) (kind-ids x.kind h.0 (writers-ids texts below x.home id name rest alone)) (writers-ids texts below k id name rest alone)
+    by (k == suc (length below)) (kind-ids x.kind h.0 (writers-ids texts below x.parent id name rest alone)) (writers-ids texts below k id name rest alone)
   where
     rest : AreInside texts below
     rest = ((h.1).1).1
 
     kind-ids : (kind : OpenKind) → IsKnown texts.macros kind
-        → list_any (bytes_eq name) (writers_at texts below x.home) ≡ list_any (λ j. id == j) (writer_ids below x.home)
-        → list_any (bytes_eq name) (own_writers texts kind (writers_at texts below x.home)) ≡ list_any (λ j. id == j) (own_ids kind (writer_ids below x.home))
+        → list_any (bytes_eq name) (writers_at texts below x.parent) ≡ list_any (λ j. id == j) (writer_ids below x.parent)
+        → list_any (bytes_eq name) (own_writers texts kind (writers_at texts below x.parent)) ≡ list_any (λ j. id == j) (own_ids kind (writer_ids below x.parent))
     kind-ids (OpenBody own parts) known e =
-        ap (λ (b : Bool). b || list_any (bytes_eq name) (writers_at texts below x.home)) (alone own known) ∙ ap (λ (b : Bool). (id == own) || b) e
+        ap (λ (b : Bool). b || list_any (bytes_eq name) (writers_at texts below x.parent)) (alone own known) ∙ ap (λ (b : Bool). (id == own) || b) e
     kind-ids OpenActual known e = refl
     kind-ids (OpenDefault own place) known e = e
 
-    by : (here : Bool) → list_any (bytes_eq name) (own_writers texts x.kind (writers_at texts below x.home)) ≡ list_any (λ j. id == j) (own_ids x.kind (writer_ids below x.home))
+    by : (here : Bool) → list_any (bytes_eq name) (own_writers texts x.kind (writers_at texts below x.parent)) ≡ list_any (λ j. id == j) (own_ids x.kind (writer_ids below x.parent))
         → list_any (bytes_eq name) (writers_at texts below k) ≡ list_any (λ j. id == j) (writer_ids below k)
-        → list_any (bytes_eq name) (if here then own_writers texts x.kind (writers_at texts below x.home) else writers_at texts below k)
-        ≡ list_any (λ j. id == j) (if here then own_ids x.kind (writer_ids below x.home) else writer_ids below k)
+        → list_any (bytes_eq name) (if here then own_writers texts x.kind (writers_at texts below x.parent) else writers_at texts below k)
+        ≡ list_any (λ j. id == j) (if here then own_ids x.kind (writer_ids below x.parent) else writer_ids below k)
     by true a b = a
     by false a b = b
 
@@ -440,28 +440,28 @@ table-recursive table arguments opens name id h inside e l m w =
     recursive-refused (texts_of table.macros arguments) opens name id (table-unreserved table name id h e l) m
     (table-writers table arguments opens name id true h inside e w)
 
--- the homes of open texts are further out
-pub homes-out : (texts : Texts) (opens : List Open) → AreOpen texts opens → AreFurtherOut opens
-homes-out texts [] h = tt
-homes-out texts (x ∷ below) h = (h.0, homes-out texts below (h.1).1)
+-- the parents of open texts are further out
+pub parents-out : (texts : Texts) (opens : List Open) → AreOpen texts opens → AreFurtherOut opens
+parents-out texts [] h = tt
+parents-out texts (x ∷ below) h = (h.0, parents-out texts below (h.1).1)
 
 -- they are so in open texts that are the same
-pub homes-same : (view mid : CursorsView) → mid ≡ view → AreFurtherOut view.opens → AreFurtherOut mid.opens
-homes-same view mid e h = subst (λ (v : CursorsView). AreFurtherOut v.opens) (sym e) h
+pub parents-same : (view mid : CursorsView) → mid ≡ view → AreFurtherOut view.opens → AreFurtherOut mid.opens
+parents-same view mid e h = subst (λ (v : CursorsView). AreFurtherOut v.opens) (sym e) h
 
 -- whose scope is in the text of the same macros
 pub inside-same : (view mid : CursorsView) (id : ℕ) (written : Bool) → mid ≡ view → written ≡ list_any (λ own. id == own) (writer_ids mid.opens (front_scope mid.opens))
     → written ≡ list_any (λ own. id == own) (writer_ids view.opens (front_scope view.opens))
 inside-same view mid id written e w = subst (λ (v : CursorsView). written ≡ list_any (λ own. id == own) (writer_ids v.opens (front_scope v.opens))) e w
 
--- the homes of open texts are those of their slots
-pub slots-homed : (slots : List Slot) (bindings : List Range) → AreFurtherOut (opens_of slots bindings) → AreHomedSlots slots
+-- the parents of open texts are those of their frames
+pub frames-parented : (frames : List Frame) (bindings : List Range) → AreFurtherOut (opens_of frames bindings) → AreParentedFrames frames
 unfolding opens_of
-slots-homed [] bindings h = tt
-slots-homed (slot ∷ below) bindings h = (
-  let home : slot.home ≤ length (opens_of below (bindings_below slot.kind bindings)) = h.0 in
-      let n = opens-length below (bindings_below slot.kind bindings) in omega (arith, home, n),
-  slots-homed below (bindings_below slot.kind bindings) h.1,
+frames-parented [] bindings h = tt
+frames-parented (frame ∷ below) bindings h = (
+  let parent : frame.parent ≤ length (opens_of below (bindings_below frame.kind bindings)) = h.0 in
+      let n = opens-length below (bindings_below frame.kind bindings) in omega (arith, parent, n),
+  frames-parented below (bindings_below frame.kind bindings) h.1,
 )
 
 -- the scope of the innermost open text is one of the open texts
@@ -470,9 +470,9 @@ unfolding front_scope open_scope
 scope-inside [] h = omega arith
 scope-inside (x ∷ below) h = by x.kind
   where
-    by : (kind : OpenKind) → elim kind [ OpenActual ↦ x.home | _ ↦ suc (length below) ] ≤ suc (length below)
+    by : (kind : OpenKind) → elim kind [ OpenActual ↦ x.parent | _ ↦ suc (length below) ] ≤ suc (length below)
     by (OpenBody id parts) = omega arith
-    by OpenActual = let home : x.home ≤ length below = h.0 in omega (arith, home)
+    by OpenActual = let parent : x.parent ≤ length below = h.0 in omega (arith, parent)
     by (OpenDefault id place) = omega arith
 
 -- open texts that go on are as many
@@ -516,7 +516,7 @@ peek-refused line depth texts (x ∷ below) peek len from end kind own h l e f g
     step-refused line depth texts x below len kind (x ∷ below) (record { kind = own; word = record { source = peek.source; from = from; end = end } }) h
     (front-is texts x below peek len e l.3) r k (usage-word texts (x ∷ below) peek len from end h l e f g)
 
--- a body for which there is no slot left
+-- a body for which there is no frame left
 peek-deep : (line depth : ℕ) (texts : Texts) (opens : List Open) (peek : Peek) (len id : ℕ) → AreSound texts opens → IsPeek texts opens peek
     → peek.front ≡ front.Usage len → IsUsed texts opens (front_name texts opens len) id → (macro_at texts.macros id).formals ≡ None → depth ≤ length opens
     → IsStep line depth texts opens (wordless DepthPassed) opens
@@ -553,7 +553,7 @@ pass-refused texts view peek len kind word h l e w r =
       refused = refl;
     })
 
--- a body for which there is no slot left
+-- a body for which there is no frame left
 pub pass-deep : (texts : Texts) (view : CursorsView) (peek : Peek) (len id : ℕ) → AreSound texts view.opens → IsPeek texts view.opens peek
     → peek.front ≡ front.Usage len → IsUsed texts view.opens (front_name texts view.opens len) id → (macro_at texts.macros id).formals ≡ None
     → view.depth ≤ length view.opens → IsPassed texts view view (wordless DepthPassed)
@@ -581,23 +581,23 @@ pass-opened table arguments view new peek len id at sound h l e used none room k
     let inside = further.1 in
     subst (λ (v : CursorsView). IsPassed texts view v Silent) (sym is) (record {
       is_step = peek-opened view.line view.depth texts view.opens peek len id at h l e used none room k;
-      sound = sound-used table arguments view.opens id at sound (sound-behind texts view.opens peek len at h l e k) (scope-inside view.opens (homes-out texts view.opens h.are_open)) used.inside none;
+      sound = sound-used table arguments view.opens id at sound (sound-behind texts view.opens peek len at h l e k) (scope-inside view.opens (parents-out texts view.opens h.are_open)) used.inside none;
       kept = (refl, refl);
       digits = peek-opens texts view.opens peek at (open_body texts id [] (front_scope view.opens)) l (omega (arith, less, k)) (omega (arith, inside, k));
       refused = tt;
     })
 
 -- the body of a macro is opened in front of open texts that go on
-pub entered : (macros : List Macro) (id end home at : ℕ) (view mid new : CursorsView) → end ≡ length (macro_at macros id).body → home ≡ front_scope view.opens
+pub entered : (macros : List Macro) (id end parent at : ℕ) (view mid new : CursorsView) → end ≡ length (macro_at macros id).body → parent ≡ front_scope view.opens
     → mid ≡ record { opens = moved_to at view.opens; line = view.line; depth = view.depth }
-    → new ≡ record { opens = record { part = record { from = 0; end = end; mode = Plain }; home = home; kind = OpenBody id [] } ∷ mid.opens; line = mid.line; depth = mid.depth }
+    → new ≡ record { opens = record { part = record { from = 0; end = end; mode = Plain }; parent = parent; kind = OpenBody id [] } ∷ mid.opens; line = mid.line; depth = mid.depth }
     → new ≡ record { opens = open_body (texts_of macros []) id [] (front_scope view.opens) ∷ moved_to at view.opens; line = view.line; depth = view.depth }
 unfolding open_body
-entered macros id end home at view mid new e h m n =
+entered macros id end parent at view mid new e h m n =
     n
-    ∙ ap (λ (v : CursorsView). record { opens = record { part = record { from = 0; end = end; mode = Plain }; home = home; kind = OpenBody id [] } ∷ v.opens; line = v.line; depth = v.depth }) m
-    ∙ ap (λ (k : ℕ). record { opens = record { part = record { from = 0; end = k; mode = Plain }; home = home; kind = OpenBody id [] } ∷ moved_to at view.opens; line = view.line; depth = view.depth }) e
-    ∙ ap (λ (k : ℕ). record { opens = record { part = record { from = 0; end = length (macro_at macros id).body; mode = Plain }; home = k; kind = OpenBody id [] } ∷ moved_to at view.opens; line = view.line; depth = view.depth }) h
+    ∙ ap (λ (v : CursorsView). record { opens = record { part = record { from = 0; end = end; mode = Plain }; parent = parent; kind = OpenBody id [] } ∷ v.opens; line = v.line; depth = v.depth }) m
+    ∙ ap (λ (k : ℕ). record { opens = record { part = record { from = 0; end = k; mode = Plain }; parent = parent; kind = OpenBody id [] } ∷ moved_to at view.opens; line = view.line; depth = view.depth }) e
+    ∙ ap (λ (k : ℕ). record { opens = record { part = record { from = 0; end = length (macro_at macros id).body; mode = Plain }; parent = k; kind = OpenBody id [] } ∷ moved_to at view.opens; line = view.line; depth = view.depth }) h
 
 -- so it is in front of those that are the same
 pub entered-same : (macros : List Macro) (id at : ℕ) (view mid new : CursorsView) → mid ≡ view
@@ -620,11 +620,11 @@ pub moved-room : (view new : CursorsView) (at : ℕ) → new ≡ record { opens 
 moved-room view new at e room =
     subst (λ (v : CursorsView). length v.opens < v.depth) (sym e) (let n = moved-length view.opens at in omega (arith, n, room))
 
--- the homes of the slots are further out
-pub rest-homed : (part items : List Slot) (first : ℕ) (bindings : List Range) → part ≡ items → AreFurtherOut (opens_of (drop first items) bindings)
-    → AreHomedSlots (take (length part - first) (drop first part))
-rest-homed part items first bindings e homed =
-    subst (λ (slots : List Slot). AreHomedSlots slots) (sym (tail-is part items first e)) (slots-homed (drop first items) bindings homed)
+-- the parents of the frames are further out
+pub rest-parented : (part items : List Frame) (first : ℕ) (bindings : List Range) → part ≡ items → AreFurtherOut (opens_of (drop first items) bindings)
+    → AreParentedFrames (take (length part - first) (drop first part))
+rest-parented part items first bindings e parented =
+    subst (λ (frames : List Frame). AreParentedFrames frames) (sym (tail-is part items first e)) (frames-parented (drop first items) bindings parented)
 
 -- the place of the name of a usage lies in its text
 pub word-inside : (texts : Texts) (opens : List Open) (peek : Peek) (len : ℕ) (word : TextPlace) → AreSound texts opens → IsPeek texts opens peek → peek.front ≡ front.Usage len

@@ -27,18 +27,18 @@ pub record IsCallBound (macros : List Macro) (text : List ℕ) (at end id : ℕ)
 
 -- a call in the innermost of open texts opens the body of its macro, with those ranges, in front of the texts that go on
 -- behind it
-pub record IsCallOpened (macros : List Macro) (text : List ℕ) (at end id home : ℕ) (old new : CursorsView) : Type 0 where
+pub record IsCallOpened (macros : List Macro) (text : List ℕ) (at end id parent : ℕ) (old new : CursorsView) : Type 0 where
   pub call : IsCallBound macros text at end id
   pub room : length old.opens < old.depth
-  pub opens : new ≡ record old { opens = open_body (texts_of macros []) id (map range_part call.ranges) home ∷ moved_to call.behind old.opens }
+  pub opens : new ≡ record old { opens = open_body (texts_of macros []) id (map range_part call.ranges) parent ∷ moved_to call.behind old.opens }
 
 -- what a call in the innermost of open texts comes to: the body is opened; the call is refused for what it lacks, or since no
 -- further text may be open, and nothing changes
 unfoldable pub IsOpening : List Macro → List ℕ → ℕ → ℕ → ℕ → ℕ → CursorsView → Opening → CursorsView → Type 0
-IsOpening macros text at end id home old Opened new = IsCallOpened macros text at end id home old new
-IsOpening macros text at end id home old (Refused kind) new =
+IsOpening macros text at end id parent old Opened new = IsCallOpened macros text at end id parent old new
+IsOpening macros text at end id parent old (Refused kind) new =
     (new ≡ old) × IsBoundCall text at end (length (formals_of (macro_at macros id))) [] (Err kind)
-IsOpening macros text at end id home old Deep new =
+IsOpening macros text at end id parent old Deep new =
     (new ≡ old) × ((old.depth ≤ length old.opens) × IsCallBound macros text at end id)
 
 -- a call in a source, whose kept text is the argument store's, opens the body of its macro with ranges of that text, at its line:

@@ -47,7 +47,7 @@ IsKnown macros (OpenDefault id place) = (id < length macros) × (place < length 
 abbrev pub AreInside : Texts → List Open → Type 0
 AreInside texts [] = Unit
 AreInside texts (x ∷ below) =
-    IsKnown texts.macros x.kind × ((x.part.end ≤ length (text_around texts x.kind x.home below)) × ((x.part.mode ≡ Plain) × AreInside texts below))
+    IsKnown texts.macros x.kind × ((x.part.end ≤ length (text_around texts x.kind x.parent below)) × ((x.part.mode ≡ Plain) × AreInside texts below))
 
 -- no call in the actuals of a body, which lie in a text, drops a token
 abbrev pub KeepActuals : List ℕ → OpenKind → Type 0
@@ -59,9 +59,9 @@ KeepActuals text (OpenDefault id place) = Unit
 abbrev pub AreKept : Texts → List Open → Type 0
 AreKept texts [] = Unit
 AreKept texts (x ∷ below) =
-    KeepsAll (part_tokens (text_around texts x.kind x.home below) x.part) × (KeepActuals (scope_text texts below x.home) x.kind × AreKept texts below)
+    KeepsAll (part_tokens (text_around texts x.kind x.parent below) x.part) × (KeepActuals (scope_text texts below x.parent) x.kind × AreKept texts below)
 
--- what holds of open texts between steps: their homes are further out, their parts lie in their texts, and so do they, and no
+-- what holds of open texts between steps: their parents are further out, their parts lie in their texts, and so do they, and no
 -- call in them drops a token
 pub record AreSound (texts : Texts) (opens : List Open) : Type 0 where
   pub are_open : AreOpen texts opens

@@ -21,8 +21,8 @@ use crate::peek::{PeekedText, peek_at};
 use crate::hints::{LookupHints, NO_HINTS};
 use crate::place::{TextPlace, TextSource};
 use crate::scopes::{body_bounds, innermost_place, scope_bounds};
-use crate::slot::{Slot, SlotKind};
-use crate::slots::{FIRST_SLOTS, free_slot, push_closed};
+use crate::frame::{Frame, FrameKind};
+use crate::frames::{FIRST_FRAMES, free_frame, push_closed};
 use crate::step::CursorStep;
 use rdlpp_table::{MacroId, Table};
 use std::alloc::{AllocError, Global};
@@ -35,15 +35,15 @@ mod opening;
 // The most ranges that the call of one open body binds: one for each formal of its macro (this project's profile).
 const MOST_BINDINGS: usize = 255;
 
-// The open texts of a usage in a source that lie in slots, the innermost first: bodies, actuals and default texts, as ranges of
+// The open texts of a usage in a source that lie in frames, the innermost first: bodies, actuals and default texts, as ranges of
 // bytes.
 //
 // No call but `new` takes memory.
 #[derive(Drop)]
 pub struct Cursors {
-    // the open texts stand at the back, the innermost first; a few slots are made at first, and more where texts need them, in
+    // the open texts stand at the back, the innermost first; a few frames are made at first, and more where texts need them, in
     // the memory that is reserved for `depth` of them
-    slots: Vec<Slot>,
+    frames: Vec<Frame>,
     // the open texts stand from here on
     first: usize,
     // so many texts may be open
@@ -63,20 +63,20 @@ impl Model for Cursors {
     ghost Value = { CursorsView };
 
     ghost view = { λ c. record {
-      opens = opens_of (drop c.first c.slots.items) c.bindings.items;
+      opens = opens_of (drop c.first c.frames.items) c.bindings.items;
       line = c.line;
       depth = c.depth;
     } };
 
-    ghost invariant = { λ c. IsStack c.slots.items (vec_capacity c.slots) c.depth c.first c.bindings };
+    ghost invariant = { λ c. IsStack c.frames.items (vec_capacity c.frames) c.depth c.first c.bindings };
 }
 
-// How many of so many ranges are kept where a slot is closed.
-fn kept_by(slot: &Slot, bound: usize) -> usize
-    ensures { result ≡ kept_by slot.now.kind bound }
+// How many of so many ranges are kept where a frame is closed.
+fn kept_by(frame: &Frame, bound: usize) -> usize
+    ensures { result ≡ kept_by frame.now.kind bound }
 {
-    match slot.kind {
-        SlotKind::Body { first, .. } => first,
+    match frame.kind {
+        FrameKind::Body { first, .. } => first,
         _ => bound,
     }
 }
@@ -87,14 +87,14 @@ impl Cursors {
         requires { depth ≤ 1024 }
         ensures { IfOk result (λ c. c ≡ record { opens = []; line = 0; depth = depth }) }
     {
-        // The list of slots is asked for last: where it is small, an allocator may keep it for the next that asks for one, and then
+        // The list of frames is asked for last: where it is small, an allocator may keep it for the next that asks for one, and then
         // gives nothing back of what lies before it.
         let bindings = Vec::with_capacity(alloc, (depth + 1) * MOST_BINDINGS)?;
-        let mut slots = Vec::with_capacity(alloc, depth)?;
-        let first = depth.min(FIRST_SLOTS);
-        push_closed(&mut slots, first);
+        let mut frames = Vec::with_capacity(alloc, depth)?;
+        let first = depth.min(FIRST_FRAMES);
+        push_closed(&mut frames, first);
         Ok(Cursors {
-            slots,
+            frames,
             first,
             depth,
             bindings,
@@ -117,7 +117,7 @@ impl Cursors {
         ensures few { length self.now.opens ≤ self.now.depth }
         ensures short { self.now.depth < 2 ^ 64 }
     {
-        self.slots.len() - self.first
+        self.frames.len() - self.first
     }
 
     // The line of the usage in the source that opened them.
@@ -131,8 +131,8 @@ impl Cursors {
     pub fn innermost(&self) -> Option<TextPlace>
         ensures { result ≡ innermost_place self.now.opens }
     {
-        let slots = self.slots.as_slice();
-        innermost_place(&slots[self.first..])
+        let frames = self.frames.as_slice();
+        innermost_place(&frames[self.first..])
     }
 
     // How many ranges the calls of the open bodies have bound.
@@ -156,7 +156,7 @@ impl Cursors {
     fn is_full(&self) -> bool
         ensures { result ≡ nat_le self.now.depth (length self.now.opens) }
     {
-        self.first == 0 && self.slots.len() == self.depth
+        self.first == 0 && self.frames.len() == self.depth
     }
 
     // Closes the innermost text, with the ranges that its call has bound.
@@ -164,7 +164,7 @@ impl Cursors {
         requires { 0 < length self.old.opens }
         ensures { self.new ≡ record self.old { opens = drop 1 self.old.opens } }
     {
-        let kept = kept_by(&self.slots[self.first], self.bindings.len());
+        let kept = kept_by(&self.frames[self.first], self.bindings.len());
         self.bindings.truncate(kept);
         self.first += 1;
     }
@@ -174,8 +174,8 @@ impl Cursors {
         requires { 0 < length self.now.opens }
         ensures { result ≡ is_spent self.now.opens }
     {
-        let slot = &self.slots[self.first];
-        slot.end <= slot.from
+        let frame = &self.frames[self.first];
+        frame.end <= frame.from
     }
 
     // Closes the innermost text, of which nothing is left, and those around it of which nothing is left either, up to the
@@ -200,56 +200,56 @@ impl Cursors {
         ensures { self.new ≡ record self.old { opens = moved_to at self.old.opens } }
     {
         let first = self.first;
-        self.slots[first].from = at;
+        self.frames[first].from = at;
     }
 
     // Opens an actual or a default.
     #[inline(always)]
-    fn push_text(&mut self, mut new: Slot)
+    fn push_text(&mut self, mut new: Frame)
         requires text { IsNoBody new.kind }
         requires room { length self.old.opens < self.old.depth }
         ensures { self.new ≡ record self.old { opens = open_of new [] ∷ self.old.opens } }
     {
-        new.bounds = scope_bounds(&self.slots.as_slice()[self.first..], new.home);
-        let first = free_slot(&mut self.slots, self.first, self.depth);
-        self.slots[first] = new;
+        new.bounds = scope_bounds(&self.frames.as_slice()[self.first..], new.parent);
+        let first = free_frame(&mut self.frames, self.first, self.depth);
+        self.frames[first] = new;
         self.first = first;
     }
 
     // Opens the body of a macro whose call is written in a scope and binds nothing.
-    fn push_body(&mut self, id: MacroId, end: usize, home: usize)
+    fn push_body(&mut self, id: MacroId, end: usize, parent: usize)
         requires { length self.old.opens < self.old.depth }
-        ensures { self.new ≡ record self.old { opens = record { part = record { from = 0; end = end; mode = Plain }; home = home; kind = OpenBody id [] } ∷ self.old.opens } }
+        ensures { self.new ≡ record self.old { opens = record { part = record { from = 0; end = end; mode = Plain }; parent = parent; kind = OpenBody id [] } ∷ self.old.opens } }
     {
         let bound = self.bindings.len();
-        let bounds = body_bounds(&self.slots.as_slice()[self.first..], home, id);
-        let first = free_slot(&mut self.slots, self.first, self.depth);
-        self.slots[first] = Slot {
+        let bounds = body_bounds(&self.frames.as_slice()[self.first..], parent, id);
+        let first = free_frame(&mut self.frames, self.first, self.depth);
+        self.frames[first] = Frame {
             from: 0,
             end,
-            home,
-            kind: SlotKind::Body { id, first: bound },
+            parent,
+            kind: FrameKind::Body { id, first: bound },
             bounds,
         };
         self.first = first;
     }
 
     // Goes on at a place of the innermost text, and opens the body of a macro whose call is written in a scope and binds nothing.
-    fn push_behind(&mut self, at: usize, id: MacroId, end: usize, home: usize)
+    fn push_behind(&mut self, at: usize, id: MacroId, end: usize, parent: usize)
         requires some { 0 < length self.old.opens }
         requires room { length self.old.opens < self.old.depth }
-        ensures { self.new ≡ record self.old { opens = record { part = record { from = 0; end = end; mode = Plain }; home = home; kind = OpenBody id [] } ∷ moved_to at self.old.opens } }
+        ensures { self.new ≡ record self.old { opens = record { part = record { from = 0; end = end; mode = Plain }; parent = parent; kind = OpenBody id [] } ∷ moved_to at self.old.opens } }
     {
         let first = self.first;
         let bound = self.bindings.len();
-        let bounds = body_bounds(&self.slots.as_slice()[first..], home, id);
-        self.slots[first].from = at;
-        let place = free_slot(&mut self.slots, first, self.depth);
-        self.slots[place] = Slot {
+        let bounds = body_bounds(&self.frames.as_slice()[first..], parent, id);
+        self.frames[first].from = at;
+        let place = free_frame(&mut self.frames, first, self.depth);
+        self.frames[place] = Frame {
             from: 0,
             end,
-            home,
-            kind: SlotKind::Body { id, first: bound },
+            parent,
+            kind: FrameKind::Body { id, first: bound },
             bounds,
         };
         self.first = place;
@@ -264,9 +264,9 @@ impl Cursors {
         ensures short { result.peek.end < 2 ^ 64 }
         ensures text { result.text.now ≡ source_text (texts_of table.now.macros arguments.now) result.peek.source }
     {
-        let slots = self.slots.as_slice();
+        let frames = self.frames.as_slice();
         peek_at(
-            &slots[self.first..],
+            &frames[self.first..],
             self.bindings.as_slice(),
             table,
             arguments,

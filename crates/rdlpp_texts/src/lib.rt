@@ -5,14 +5,14 @@
 mod bindings;
 mod calm;
 mod cursors;
+mod frame;
+mod frames;
 mod hints;
 mod kept;
 mod parts;
 mod peek;
 mod place;
 mod scopes;
-mod slot;
-mod slots;
 mod step;
 mod tokens;
 

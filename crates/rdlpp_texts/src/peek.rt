@@ -12,7 +12,7 @@ ghost use Rattle.rdlpp_texts.specs.Steps.{AreSound};
 use crate::Range;
 use crate::place::TextSource;
 use crate::scopes::{front_source, text_of};
-use crate::slot::Slot;
+use crate::frame::Frame;
 use memchr::{memchr, memchr2};
 use rdlpp_scan::{Kind, Mode, first_token};
 use rdlpp_table::{MacroId, ExpansionPoint, Table};
@@ -54,23 +54,23 @@ pub(crate) struct PeekedText<'a> {
     pub(crate) text: &'a [u8],
 }
 
-// A look at open texts, which lie in slots, the innermost first.
+// A look at open texts, which lie in frames, the innermost first.
 pub(crate) fn peek_at<'a>(
-    slots: &[Slot],
+    frames: &[Frame],
     bindings: &[Range],
     table: &'a Table,
     arguments: &'a [u8],
 ) -> PeekedText<'a>
-    requires some { 0 < length slots.now }
-    requires sound { AreSound (texts_of table.now.macros arguments.now) (opens_of slots.now bindings.now) }
-    ensures peek { IsPeekAhead (texts_of table.now.macros arguments.now) (opens_of slots.now bindings.now) result.peek }
+    requires some { 0 < length frames.now }
+    requires sound { AreSound (texts_of table.now.macros arguments.now) (opens_of frames.now bindings.now) }
+    ensures peek { IsPeekAhead (texts_of table.now.macros arguments.now) (opens_of frames.now bindings.now) result.peek }
     ensures short { result.peek.end < 2 ^ 64 }
     ensures text { result.text.now ≡ source_text (texts_of table.now.macros arguments.now) result.peek.source }
 {
     let _bound = bindings.len();
-    let slot = &slots[0];
-    let (from, end) = (slot.from, slot.end);
-    let source = front_source(slots);
+    let frame = &frames[0];
+    let (from, end) = (frame.from, frame.end);
+    let source = front_source(frames);
     let text = text_of(table, arguments, source);
     let ahead = peek_in(table, arguments, text, &source, from, end);
     PeekedText {

@@ -1,10 +1,10 @@
-// The scopes of open texts, which lie in slots, the innermost first.
+// The scopes of open texts, which lie in frames, the innermost first.
 ghost use Rattle.std.specs.Prelude.{[], length, nat_le, slice_index_or, if◌then◌else◌, List, ◌+◌, ◌==◌, ◌<◌, ◌≡◌, ◌≤◌, ◌∷◌};
 ghost use Rattle.std.specs.List.{list_any, AllByRecursion};
 ghost use Rattle.std.specs.Option.{option_map};
 ghost use Rattle.rdlpp_table.specs.View.{formal_at, formals_of, macro_at};
 ghost use Rattle.rdlpp_meaning.specs.Opens.{open_standing, part_at, Part, found_standing, scope_open};
-ghost use Rattle.rdlpp_texts.specs.Opened.{is_body_of, open_of, opens_of, outer_of, slot_source, AreBounded, AreHomedSlots, IsWithin};
+ghost use Rattle.rdlpp_texts.specs.Opened.{is_body_of, open_of, opens_of, outer_of, frame_source, AreBounded, AreParentedFrames, IsWithin};
 ghost use Rattle.rdlpp_texts.specs.Places.{place_bytes, source_formals, source_text, texts_of, IsPlaced, IsSource};
 ghost use Rattle.rdlpp_texts.specs.Scopes.{found_source, front_scope, front_source, innermost_place, writer_ids, AreBound};
 ghost use Rattle.rdlpp_texts.specs.BoundCalls.{range_part};
@@ -12,7 +12,7 @@ ghost use Rattle.rdlpp_texts.specs.declared.bindings.Range.{Range as Bound};
 
 use crate::Range;
 use crate::place::{TextPlace, TextSource};
-use crate::slot::{Bounds, NO_BOUNDS, Slot, SlotKind, is_excluded};
+use crate::frame::{Bounds, NO_BOUNDS, Frame, FrameKind, is_excluded};
 use rdlpp_table::{MacroId, Table};
 
 // The bytes of a text.
@@ -40,62 +40,62 @@ pub fn text_at<'a>(table: &'a Table, arguments: &'a [u8], place: TextPlace) -> &
 }
 
 // The scope of what is written in the innermost open text: an actual is no scope of its own.
-pub(crate) fn front_scope(slots: &[Slot]) -> usize
-    requires { 0 < length slots.now }
-    ensures { (bindings : List Bound) → result ≡ front_scope (opens_of slots.now bindings) }
+pub(crate) fn front_scope(frames: &[Frame]) -> usize
+    requires { 0 < length frames.now }
+    ensures { (bindings : List Bound) → result ≡ front_scope (opens_of frames.now bindings) }
 {
-    let slot = &slots[0];
-    match slot.kind {
-        SlotKind::Actual => slot.home,
-        _ => slots.len(),
+    let frame = &frames[0];
+    match frame.kind {
+        FrameKind::Actual => frame.parent,
+        _ => frames.len(),
     }
 }
 
-// Where the text of a slot lies, if it is a body or a default.
-fn source_of(slot: &Slot) -> TextSource
-    ensures { result ≡ slot_source slot.now.kind }
+// Where the text of a frame lies, if it is a body or a default.
+fn source_of(frame: &Frame) -> TextSource
+    ensures { result ≡ frame_source frame.now.kind }
 {
-    match slot.kind {
-        SlotKind::Body { id, .. } => TextSource::Body(id),
-        SlotKind::Actual => TextSource::Arguments,
-        SlotKind::Default { id, place } => TextSource::Default { id, place },
+    match frame.kind {
+        FrameKind::Body { id, .. } => TextSource::Body(id),
+        FrameKind::Actual => TextSource::Arguments,
+        FrameKind::Default { id, place } => TextSource::Default { id, place },
     }
 }
 
 // Where the text of a scope lies.
-fn source_at(slots: &[Slot], scope: usize) -> TextSource
-    ensures { (bindings : List Bound) → result ≡ found_source (scope_open (opens_of slots.now bindings) scope) }
+fn source_at(frames: &[Frame], scope: usize) -> TextSource
+    ensures { (bindings : List Bound) → result ≡ found_source (scope_open (opens_of frames.now bindings) scope) }
 {
-    if scope == 0 || slots.len() < scope {
+    if scope == 0 || frames.len() < scope {
         return TextSource::Arguments;
     }
-    source_of(&slots[slots.len() - scope])
+    source_of(&frames[frames.len() - scope])
 }
 
 // Where the innermost open text lies.
-pub(crate) fn front_source(slots: &[Slot]) -> TextSource
-    requires { 0 < length slots.now }
-    ensures { (bindings : List Bound) → result ≡ front_source (opens_of slots.now bindings) }
+pub(crate) fn front_source(frames: &[Frame]) -> TextSource
+    requires { 0 < length frames.now }
+    ensures { (bindings : List Bound) → result ≡ front_source (opens_of frames.now bindings) }
 {
-    let slot = &slots[0];
-    match slot.kind {
-        SlotKind::Actual => source_at(&slots[1..], slot.home),
-        _ => source_of(slot),
+    let frame = &frames[0];
+    match frame.kind {
+        FrameKind::Actual => source_at(&frames[1..], frame.parent),
+        _ => source_of(frame),
     }
 }
 
 // Where what is left of the innermost open text lies, if one is open.
-pub(crate) fn innermost_place(slots: &[Slot]) -> Option<TextPlace>
-    ensures { (bindings : List Bound) → result ≡ innermost_place (opens_of slots.now bindings) }
+pub(crate) fn innermost_place(frames: &[Frame]) -> Option<TextPlace>
+    ensures { (bindings : List Bound) → result ≡ innermost_place (opens_of frames.now bindings) }
 {
-    if slots.is_empty() {
+    if frames.is_empty() {
         return None;
     }
-    let slot = &slots[0];
+    let frame = &frames[0];
     Some(TextPlace {
-        source: front_source(slots),
-        from: slot.from.min(slot.end),
-        end: slot.end,
+        source: front_source(frames),
+        from: frame.from.min(frame.end),
+        end: frame.end,
     })
 }
 
@@ -120,7 +120,7 @@ fn default_len(table: &Table, id: MacroId, place: usize, range: Range) -> usize
     }
 }
 
-// The text that the formal at a place of a macro stands for in a scope, whose call is written in its home: a range, or its
+// The text that the formal at a place of a macro stands for in a scope, whose call is written in its parent: a range, or its
 // default where the range is empty.
 fn standing_of(
     table: &Table,
@@ -128,132 +128,132 @@ fn standing_of(
     place: usize,
     range: Range,
     scope: usize,
-    home: usize,
-) -> Slot
+    parent: usize,
+) -> Frame
     requires id { id < length table.now.macros }
     requires place { place < length (formals_of (macro_at table.now.macros id)) }
-    ensures { (own : List Bound) (parts : List Part) → part_at parts place ≡ range_part range → open_of result own ≡ open_standing (formals_of (macro_at table.now.macros id)) id scope home parts place }
+    ensures { (own : List Bound) (parts : List Part) → part_at parts place ≡ range_part range → open_of result own ≡ open_standing (formals_of (macro_at table.now.macros id)) id scope parent parts place }
 {
     let end = default_len(table, id, place, range);
     if end > 0 {
-        return Slot {
+        return Frame {
             from: 0,
             end,
-            home: scope,
-            kind: SlotKind::Default { id, place },
+            parent: scope,
+            kind: FrameKind::Default { id, place },
             bounds: NO_BOUNDS,
         };
     }
-    Slot {
+    Frame {
         from: range.from,
         end: range.to,
-        home,
-        kind: SlotKind::Actual,
+        parent,
+        kind: FrameKind::Actual,
         bounds: NO_BOUNDS,
     }
 }
 
 // The text that the formal at a place stands for in a scope: its actual, or its default where the actual is empty.
 pub(crate) fn standing(
-    slots: &[Slot],
+    frames: &[Frame],
     bindings: &[Range],
     table: &Table,
     scope: usize,
     place: usize,
-) -> Option<Slot>
-    requires bound { AreBound table.now.macros (opens_of slots.now bindings.now) }
-    requires place { place < length (source_formals (texts_of table.now.macros []) (found_source (scope_open (opens_of slots.now bindings.now) scope))) }
-    ensures { (own : List Bound) → option_map (λ slot. open_of slot own) result ≡ found_standing table.now.macros (scope_open (opens_of slots.now bindings.now) scope) scope place }
+) -> Option<Frame>
+    requires bound { AreBound table.now.macros (opens_of frames.now bindings.now) }
+    requires place { place < length (source_formals (texts_of table.now.macros []) (found_source (scope_open (opens_of frames.now bindings.now) scope))) }
+    ensures { (own : List Bound) → option_map (λ frame. open_of frame own) result ≡ found_standing table.now.macros (scope_open (opens_of frames.now bindings.now) scope) scope place }
 {
-    if scope == 0 || slots.len() < scope {
+    if scope == 0 || frames.len() < scope {
         return None;
     }
-    let slot = &slots[slots.len() - scope];
-    match slot.kind {
-        SlotKind::Body { id, first } => {
+    let frame = &frames[frames.len() - scope];
+    match frame.kind {
+        FrameKind::Body { id, first } => {
             let range = range_at(bindings, first, place);
-            Some(standing_of(table, id, place, range, scope, slot.home))
+            Some(standing_of(table, id, place, range, scope, frame.parent))
         }
         _ => None,
     }
 }
 
 // The bounds of a scope.
-pub(crate) fn scope_bounds(slots: &[Slot], scope: usize) -> Bounds
-    requires { AreBounded slots.now }
-    ensures { (bindings : List Bound) → AllByRecursion (IsWithin result) (writer_ids (opens_of slots.now bindings) scope) }
+pub(crate) fn scope_bounds(frames: &[Frame], scope: usize) -> Bounds
+    requires { AreBounded frames.now }
+    ensures { (bindings : List Bound) → AllByRecursion (IsWithin result) (writer_ids (opens_of frames.now bindings) scope) }
 {
-    if scope == 0 || slots.len() < scope {
+    if scope == 0 || frames.len() < scope {
         return NO_BOUNDS;
     }
-    slots[slots.len() - scope].bounds
+    frames[frames.len() - scope].bounds
 }
 
 // The bounds of the body of a macro whose call is written in a scope.
-pub(crate) fn body_bounds(slots: &[Slot], scope: usize, id: MacroId) -> Bounds
-    requires { AreBounded slots.now }
-    ensures { (bindings : List Bound) → AllByRecursion (IsWithin result) (id ∷ writer_ids (opens_of slots.now bindings) scope) }
+pub(crate) fn body_bounds(frames: &[Frame], scope: usize, id: MacroId) -> Bounds
+    requires { AreBounded frames.now }
+    ensures { (bindings : List Bound) → AllByRecursion (IsWithin result) (id ∷ writer_ids (opens_of frames.now bindings) scope) }
 {
-    let outer = scope_bounds(slots, scope);
+    let outer = scope_bounds(frames, scope);
     Bounds {
         least: outer.least.min(id.index()),
         greatest: outer.greatest.max(id.index()),
     }
 }
 
-// Whether a slot has the body of a macro.
-fn is_body_of(slot: &Slot, id: MacroId) -> bool
-    ensures { result ≡ is_body_of slot.now.kind id }
+// Whether a frame has the body of a macro.
+fn is_body_of(frame: &Frame, id: MacroId) -> bool
+    ensures { result ≡ is_body_of frame.now.kind id }
 {
-    match slot.kind {
-        SlotKind::Body { id: own, .. } => id == own,
+    match frame.kind {
+        FrameKind::Body { id: own, .. } => id == own,
         _ => false,
     }
 }
 
-// The scope in which the call of a slot's text is written; the source, behind which nothing is sought, for an actual.
-fn outer_of(slot: &Slot) -> usize
-    ensures { result ≡ outer_of slot.now }
+// The scope in which the call of a frame's text is written; the source, behind which nothing is sought, for an actual.
+fn outer_of(frame: &Frame) -> usize
+    ensures { result ≡ outer_of frame.now }
 {
-    match slot.kind {
-        SlotKind::Actual => 0,
-        _ => slot.home,
+    match frame.kind {
+        FrameKind::Actual => 0,
+        _ => frame.parent,
     }
 }
 
-// Whether a scope is in the text of a macro: its own, or that of a home further out.
-fn is_written_in(slots: &[Slot], scope: usize, id: MacroId) -> bool
-    requires homed { AreHomedSlots slots.now }
-    requires bounded { AreBounded slots.now }
-    requires inside { scope ≤ length slots.now }
-    ensures { (bindings : List Bound) → result ≡ list_any (λ own. id == own) (writer_ids (opens_of slots.now bindings) scope) }
+// Whether a scope is in the text of a macro: its own, or that of a parent further out.
+fn is_written_in(frames: &[Frame], scope: usize, id: MacroId) -> bool
+    requires parented { AreParentedFrames frames.now }
+    requires bounded { AreBounded frames.now }
+    requires inside { scope ≤ length frames.now }
+    ensures { (bindings : List Bound) → result ≡ list_any (λ own. id == own) (writer_ids (opens_of frames.now bindings) scope) }
 {
     let mut at = scope;
     while at > 0 {
-        let slot = &slots[slots.len() - at];
-        if is_body_of(slot, id) {
+        let frame = &frames[frames.len() - at];
+        if is_body_of(frame, id) {
             return true;
         }
-        if is_excluded(slot.bounds, id) {
+        if is_excluded(frame.bounds, id) {
             return false;
         }
-        at = outer_of(slot);
+        at = outer_of(frame);
     }
     false
 }
 
 // Whether what is written in the innermost open text is in the text of a macro. Most macros that are used there are outside the bounds
 // of that text, which tells it at once.
-pub(crate) fn is_front_in(slots: &[Slot], id: MacroId) -> bool
-    requires some { 0 < length slots.now }
-    requires homed { AreHomedSlots slots.now }
-    requires bounded { AreBounded slots.now }
-    ensures { (bindings : List Bound) → result ≡ list_any (λ own. id == own) (writer_ids (opens_of slots.now bindings) (front_scope (opens_of slots.now bindings))) }
+pub(crate) fn is_front_in(frames: &[Frame], id: MacroId) -> bool
+    requires some { 0 < length frames.now }
+    requires parented { AreParentedFrames frames.now }
+    requires bounded { AreBounded frames.now }
+    ensures { (bindings : List Bound) → result ≡ list_any (λ own. id == own) (writer_ids (opens_of frames.now bindings) (front_scope (opens_of frames.now bindings))) }
 {
-    let scope = front_scope(slots);
-    let slot = &slots[0];
-    if scope == slots.len() && is_excluded(slot.bounds, id) {
+    let scope = front_scope(frames);
+    let frame = &frames[0];
+    if scope == frames.len() && is_excluded(frame.bounds, id) {
         return false;
     }
-    is_written_in(slots, scope, id)
+    is_written_in(frames, scope, id)
 }

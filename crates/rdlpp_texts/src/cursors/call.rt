@@ -13,8 +13,8 @@ use crate::cursors::Cursors;
 use crate::cursors::usage::word_of;
 use crate::peek::{TextItem, Peek};
 use crate::scopes::body_bounds;
-use crate::slot::{Slot, SlotKind};
-use crate::slots::free_slot;
+use crate::frame::{Frame, FrameKind};
+use crate::frames::free_frame;
 use crate::step::{CursorFault, CursorStep, wordless};
 use crate::{bind_call, bind_parts, keeps_each};
 use rdlpp_meaning::FaultKind;
@@ -49,17 +49,17 @@ impl Cursors {
         let _macros = table.len();
         let formals = table.arity(id).unwrap_or(0);
         let bound = self.bindings.len();
-        let bounds = body_bounds(&self.slots.as_slice()[self.first..], 0, id);
+        let bounds = body_bounds(&self.frames.as_slice()[self.first..], 0, id);
         if !keeps_each(arguments) {
             return Err(FaultKind::ArgumentCount);
         }
         bind_parts(arguments, formals, &mut self.bindings)?;
-        let first = free_slot(&mut self.slots, self.first, self.depth);
-        self.slots[first] = Slot {
+        let first = free_frame(&mut self.frames, self.first, self.depth);
+        self.frames[first] = Frame {
             from: 0,
             end: table.body(id).len(),
-            home: 0,
-            kind: SlotKind::Body { id, first: bound },
+            parent: 0,
+            kind: FrameKind::Body { id, first: bound },
             bounds,
         };
         self.first = first;
@@ -87,9 +87,9 @@ impl Cursors {
         ensures unlent { IsUnlent result }
     {
         let _macros = table.len();
-        let home = self.scope();
+        let parent = self.scope();
         let at = peek.at + len;
-        match self.open_bound(table, text, at, peek.end, id, home) {
+        match self.open_bound(table, text, at, peek.end, id, parent) {
             Opening::Opened => CursorStep::Silent,
             Opening::Refused(kind) => CursorStep::Refused(CursorFault {
                 kind,
@@ -108,13 +108,13 @@ impl Cursors {
         at: usize,
         end: usize,
         id: MacroId,
-        home: usize,
+        parent: usize,
     ) -> Opening
         requires some { 0 < length self.old.opens }
         requires range { (at ≤ end) × (end ≤ length text.now) }
         requires keeps { KeepsAll (body_tokens (slice_range text.now at end)) }
         requires id { id < length table.now.macros }
-        ensures opening { IsOpening table.now.macros text.now at end id home self.old result self.new }
+        ensures opening { IsOpening table.now.macros text.now at end id parent self.old result self.new }
         ensures fault { IsCallFault result }
     {
         let _macros = table.len();
@@ -122,7 +122,7 @@ impl Cursors {
         let first = self.first;
         let full = self.is_full();
         let bound = self.bindings.len();
-        let bounds = body_bounds(&self.slots.as_slice()[first..], home, id);
+        let bounds = body_bounds(&self.frames.as_slice()[first..], parent, id);
         let behind = match bind_call(text, at, end, formals, &mut self.bindings) {
             Ok(behind) => behind,
             Err(kind) => return Opening::Refused(kind),
@@ -132,13 +132,13 @@ impl Cursors {
             return Opening::Deep;
         }
         self.read = behind - at;
-        self.slots[first].from = behind;
-        let place = free_slot(&mut self.slots, first, self.depth);
-        self.slots[place] = Slot {
+        self.frames[first].from = behind;
+        let place = free_frame(&mut self.frames, first, self.depth);
+        self.frames[place] = Frame {
             from: 0,
             end: table.body(id).len(),
-            home,
-            kind: SlotKind::Body { id, first: bound },
+            parent,
+            kind: FrameKind::Body { id, first: bound },
             bounds,
         };
         self.first = place;

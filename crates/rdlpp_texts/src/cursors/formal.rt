@@ -12,7 +12,7 @@ ghost use Rattle.rdlpp_texts.specs.Taking.{TakesStep};
 use crate::cursors::Cursors;
 use crate::peek::{TextItem, Peek};
 use crate::scopes::{front_scope, standing};
-use crate::slot::Slot;
+use crate::frame::Frame;
 use crate::step::{CursorStep, wordless};
 use rdlpp_meaning::FaultKind;
 use rdlpp_table::Table;
@@ -21,7 +21,7 @@ impl Cursors {
     // Opens the actual of the formal whose name stands at the front of the innermost text, which goes on behind that name; its
     // default, where the actual is empty and it has one (this project's profile).
     //
-    // Where no slot is left it is a fault (`DepthPassed`) without a word, also for an empty actual, and nothing changes then.
+    // Where no frame is left it is a fault (`DepthPassed`) without a word, also for an empty actual, and nothing changes then.
     pub(super) fn formal(
         &mut self,
         table: &Table,
@@ -53,14 +53,14 @@ impl Cursors {
     }
 
     // What the formal at a place stands for in the scope of the innermost text.
-    fn standing(&self, table: &Table, place: usize) -> Option<Slot>
+    fn standing(&self, table: &Table, place: usize) -> Option<Frame>
         requires some { 0 < length self.now.opens }
         requires bound { AreBound table.now.macros self.now.opens }
         requires place { place < length (source_formals (texts_of table.now.macros []) (found_source (scope_open self.now.opens (front_scope self.now.opens)))) }
-        ensures { option_map (λ slot. open_of slot []) result ≡ found_standing table.now.macros (scope_open self.now.opens (front_scope self.now.opens)) (front_scope self.now.opens) place }
+        ensures { option_map (λ frame. open_of frame []) result ≡ found_standing table.now.macros (scope_open self.now.opens (front_scope self.now.opens)) (front_scope self.now.opens) place }
     {
-        let slots = &self.slots.as_slice()[self.first..];
-        let scope = front_scope(slots);
-        standing(slots, self.bindings.as_slice(), table, scope, place)
+        let frames = &self.frames.as_slice()[self.first..];
+        let scope = front_scope(frames);
+        standing(frames, self.bindings.as_slice(), table, scope, place)
     }
 }

@@ -83,11 +83,11 @@ impl Cursors {
     // Whether the innermost text is in the text of a macro.
     fn is_inside(&self, id: MacroId) -> bool
         requires some { 0 < length self.now.opens }
-        requires homed { AreFurtherOut self.now.opens }
+        requires parented { AreFurtherOut self.now.opens }
         ensures { result ≡ list_any (λ own. id == own) (writer_ids self.now.opens (front_scope self.now.opens)) }
     {
-        let slots = self.slots.as_slice();
-        is_front_in(&slots[self.first..], id)
+        let frames = self.frames.as_slice();
+        is_front_in(&frames[self.first..], id)
     }
 
     // Opens the body of a macro without a list in front of the innermost text, which goes on at a place.
@@ -97,8 +97,8 @@ impl Cursors {
         requires id { id < length table.now.macros }
         ensures { self.new ≡ record self.old { opens = open_body (texts_of table.now.macros []) id [] (front_scope self.old.opens) ∷ moved_to at self.old.opens } }
     {
-        let home = self.scope();
-        self.push_behind(at, id, table.body(id).len(), home);
+        let parent = self.scope();
+        self.push_behind(at, id, table.body(id).len(), parent);
     }
 
     // The scope of the innermost text.
@@ -106,8 +106,8 @@ impl Cursors {
         requires { 0 < length self.now.opens }
         ensures { result ≡ front_scope self.now.opens }
     {
-        let slots = self.slots.as_slice();
-        front_scope(&slots[self.first..])
+        let frames = self.frames.as_slice();
+        front_scope(&frames[self.first..])
     }
 }
 

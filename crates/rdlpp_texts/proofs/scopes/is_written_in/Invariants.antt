@@ -7,8 +7,8 @@ use Rattle.rdlpp_texts.proofs.scopes.is_written_in.Given as goal
 
 abbrev pub invariant-loop-at : goal.invariant-loop-at
 invariant-loop-at l =
-    (l.at ≤ length l.slots)
-    × ((bindings : List Range) → list_any (λ own. l.id == own) (writer_ids (opens_of l.slots bindings) l.at) ≡ list_any (λ own. l.id == own) (writer_ids (opens_of l.slots bindings) l.scope))
+    (l.at ≤ length l.frames)
+    × ((bindings : List Range) → list_any (λ own. l.id == own) (writer_ids (opens_of l.frames bindings) l.at) ≡ list_any (λ own. l.id == own) (writer_ids (opens_of l.frames bindings) l.scope))
 
 abbrev pub decreases-loop-at : goal.decreases-loop-at
 decreases-loop-at l = l.at

@@ -24,22 +24,22 @@ open_bound-requires-clause-keeps c =
 pub returns-in-Opened-clause-step : goal.returns-in-Opened-clause-step
 returns-in-Opened-clause-step c =
     takes-silent (texts_of c.args.table.now.macros c.args.arguments.now) c.args.self.now c.open_bound.new.self
-    (pass-call_opened c.args.table.now c.args.arguments.now c.args.self.now c.open_bound.new.self c.args.peek.now c.args.len c.args.id c.scope-home.result c.args.text.now _ c.open_bound.result c.len-macros.ensures.sound
-    (list-used (texts_of c.args.table.now.macros c.args.arguments.now) c.args.self.now.opens c.args.peek.now c.args.len c.args.id c.args.text.now _ c.requires.peek.sound c.requires.peek.peek c.requires.front c.requires.used c.requires.list c.requires.peek.text refl) c.scope-home.ensures c.in-Opened.is c.open_bound.ensures.opening)
+    (pass-call_opened c.args.table.now c.args.arguments.now c.args.self.now c.open_bound.new.self c.args.peek.now c.args.len c.args.id c.scope-parent.result c.args.text.now _ c.open_bound.result c.len-macros.ensures.sound
+    (list-used (texts_of c.args.table.now.macros c.args.arguments.now) c.args.self.now.opens c.args.peek.now c.args.len c.args.id c.args.text.now _ c.requires.peek.sound c.requires.peek.peek c.requires.front c.requires.used c.requires.list c.requires.peek.text refl) c.scope-parent.ensures c.in-Opened.is c.open_bound.ensures.opening)
     (outer-called _ _ c.args.self.now c.open_bound.new.self _ _ _ _ c.open_bound.result c.requires.peek.some c.open_bound.ensures.opening)
-    (turned-call _ c.args.arguments.now _ c.args.self.now c.open_bound.new.self c.args.peek.now c.args.len _ _ c.args.id _ c.open_bound.result c.requires.peek.peek c.requires.front c.requires.used c.scope-home.ensures c.open_bound.ensures.opening)
+    (turned-call _ c.args.arguments.now _ c.args.self.now c.open_bound.new.self c.args.peek.now c.args.len _ _ c.args.id _ c.open_bound.result c.requires.peek.peek c.requires.front c.requires.used c.scope-parent.ensures c.open_bound.ensures.opening)
 
 pub returns-in-Refused-clause-step : goal.returns-in-Refused-clause-step
 returns-in-Refused-clause-step c =
     takes-named (texts_of c.args.table.now.macros c.args.arguments.now) c.args.self.now c.open_bound.new.self c.args.peek.now c.args.text.now c.args.len c.in-Refused.kind c.word_of.result c.requires.peek c.requires.front c.word_of.ensures
     (fault-call _ c.in-Refused.ensures.fault)
-    (pass-call_refused (texts_of c.args.table.now.macros c.args.arguments.now) c.args.self.now c.open_bound.new.self c.args.peek.now c.args.len c.args.id c.scope-home.result c.args.text.now _ c.in-Refused.kind c.open_bound.result c.word_of.result
+    (pass-call_refused (texts_of c.args.table.now.macros c.args.arguments.now) c.args.self.now c.open_bound.new.self c.args.peek.now c.args.len c.args.id c.scope-parent.result c.args.text.now _ c.in-Refused.kind c.open_bound.result c.word_of.result
     (list-used (texts_of c.args.table.now.macros c.args.arguments.now) c.args.self.now.opens c.args.peek.now c.args.len c.args.id c.args.text.now _ c.requires.peek.sound c.requires.peek.peek c.requires.front c.requires.used c.requires.list c.requires.peek.text refl) c.in-Refused.is c.open_bound.ensures.opening c.word_of.ensures)
 
 pub returns-in-Deep-clause-step : goal.returns-in-Deep-clause-step
 returns-in-Deep-clause-step c =
     takes-wordless _ _ _ _ _
-    (pass-call_deep (texts_of c.args.table.now.macros c.args.arguments.now) c.args.self.now c.open_bound.new.self c.args.peek.now c.args.len c.args.id c.scope-home.result c.args.text.now _ c.open_bound.result
+    (pass-call_deep (texts_of c.args.table.now.macros c.args.arguments.now) c.args.self.now c.open_bound.new.self c.args.peek.now c.args.len c.args.id c.scope-parent.result c.args.text.now _ c.open_bound.result
     (list-used (texts_of c.args.table.now.macros c.args.arguments.now) c.args.self.now.opens c.args.peek.now c.args.len c.args.id c.args.text.now _ c.requires.peek.sound c.requires.peek.peek c.requires.front c.requires.used c.requires.list c.requires.peek.text refl) c.in-Deep.is c.open_bound.ensures.opening) c.wordless.ensures fault-deep
 
 pub word_of-requires-clause-short : goal.word_of-requires-clause-short

@@ -6,19 +6,19 @@ use Rattle.rdlpp_texts.proofs.Stacking.{closed-opens, first-inside, some-open, s
 use Rattle.rdlpp_texts.proofs.cursors.Cursors.close.Goals as goal
 
 pub index-requires : goal.index-requires
-index-requires c = first-inside c.self.inside.slots c.self.inside.first c.self.inside.bindings.items (rw (← c.self.view_is) at c.requires)
+index-requires c = first-inside c.self.inside.frames c.self.inside.first c.self.inside.bindings.items (rw (← c.self.view_is) at c.requires)
 
 pub invariant_of-self : goal.invariant_of-self
 invariant_of-self c =
-    let some : c.self.inside.first < length c.self.inside.slots.items = some-open c.self.inside.slots.items c.self.inside.first c.self.inside.bindings.items (rw (← c.self.view_is) at c.requires) in
-    stack-closed c.self.inside.slots.items _ _ c.self.inside.first c.self.inside.bindings c.truncate.new.self c.index.result.now _ some c.index.ensures
+    let some : c.self.inside.first < length c.self.inside.frames.items = some-open c.self.inside.frames.items c.self.inside.first c.self.inside.bindings.items (rw (← c.self.view_is) at c.requires) in
+    stack-closed c.self.inside.frames.items _ _ c.self.inside.first c.self.inside.bindings c.truncate.new.self c.index.result.now _ some c.index.ensures
     (c.kept_by-kept.ensures ∙ ap (λ (n : ℕ). kept_by c.index.result.now.kind n) (c.len.ensures ∙ count_items c.self.inside.bindings))
     c.truncate.ensures.items c.truncate.ensures.capacity c.self.invariant
 
 pub returns : goal.returns
 returns c =
-    let some : c.self.inside.first < length c.self.inside.slots.items = some-open c.self.inside.slots.items c.self.inside.first c.self.inside.bindings.items (rw (← c.self.view_is) at c.requires) in
+    let some : c.self.inside.first < length c.self.inside.frames.items = some-open c.self.inside.frames.items c.self.inside.first c.self.inside.bindings.items (rw (← c.self.view_is) at c.requires) in
     rw (← c.self.view_is) (view-is _ _ _ _ _
-    (ap (λ (bs : List Range). opens_of (drop (c.self.inside.first + 1) c.self.inside.slots.items) bs) c.truncate.ensures.items
-    ∙ closed-opens c.self.inside.slots.items c.self.inside.first c.self.inside.bindings.items c.index.result.now _ some c.index.ensures
+    (ap (λ (bs : List Range). opens_of (drop (c.self.inside.first + 1) c.self.inside.frames.items) bs) c.truncate.ensures.items
+    ∙ closed-opens c.self.inside.frames.items c.self.inside.first c.self.inside.bindings.items c.index.result.now _ some c.index.ensures
     (c.kept_by-kept.ensures ∙ ap (λ (n : ℕ). kept_by c.index.result.now.kind n) (c.len.ensures ∙ count_items c.self.inside.bindings))) refl)

@@ -9,5 +9,5 @@ pub returns : goal.returns
 returns c =
     c.innermost_place.ensures c.self.inside.bindings.items
     ∙ ap (λ (o : List Open). innermost_place o)
-    (lent-opens c.self.inside.slots.items c.as_slice-slots.result.now c.self.inside.first c.self.inside.bindings.items c.self.inside.bindings.items c.as_slice-slots.ensures.value refl
+    (lent-opens c.self.inside.frames.items c.as_slice-frames.result.now c.self.inside.first c.self.inside.bindings.items c.self.inside.bindings.items c.as_slice-frames.ensures.value refl
     ∙ ap (λ (v : CursorsView). v.opens) c.self.view_is)

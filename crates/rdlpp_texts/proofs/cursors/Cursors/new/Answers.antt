@@ -5,9 +5,9 @@ use Rattle.rdlpp_texts.proofs.cursors.Cursors.new.Goals as goal
 
 pub invariant_of-result : goal.invariant_of-result
 invariant_of-result c =
-    stack-made c.push_closed.new.slots c.args.depth c.min-first.result c.in_ok-bindings.bindings c.push_closed.ensures.len (omega (arith, c.min-first.ensures))
-    (omega (arith, c.push_closed.ensures.capacity, c.in_ok-slots.ensures.exact)) c.in_ok-bindings.ensures.items c.in_ok-bindings.ensures.exact
+    stack-made c.push_closed.new.frames c.args.depth c.min-first.result c.in_ok-bindings.bindings c.push_closed.ensures.len (omega (arith, c.min-first.ensures))
+    (omega (arith, c.push_closed.ensures.capacity, c.in_ok-frames.ensures.exact)) c.in_ok-bindings.ensures.items c.in_ok-bindings.ensures.exact
 
 pub returns : goal.returns
 returns c =
-    view-is _ _ _ _ _ (none-open _ c.min-first.result _ (omega (arith, count_items c.push_closed.new.slots, c.push_closed.ensures.len))) refl
+    view-is _ _ _ _ _ (none-open _ c.min-first.result _ (omega (arith, count_items c.push_closed.new.frames, c.push_closed.ensures.len))) refl

@@ -11,9 +11,9 @@ unfolding open_body
 returns-clause-opens c =
     c.push_body.ensures
     ∙ view-is _ _ c.args.line _ _
-    (ap (λ (o : List Open). record { part = record { from = 0; end = length c.body.result.now; mode = Plain }; home = 0; kind = OpenBody c.args.id [] } ∷ o)
+    (ap (λ (o : List Open). record { part = record { from = 0; end = length c.body.result.now; mode = Plain }; parent = 0; kind = OpenBody c.args.id [] } ∷ o)
     (ap (λ (v : CursorsView). v.opens) c.self.view_is ∙ c.requires.closed)
-    ∙ ap (λ (b : List ℕ). record { part = record { from = 0; end = length b; mode = Plain }; home = 0; kind = OpenBody c.args.id [] } ∷ []) c.body.ensures)
+    ∙ ap (λ (b : List ℕ). record { part = record { from = 0; end = length b; mode = Plain }; parent = 0; kind = OpenBody c.args.id [] } ∷ []) c.body.ensures)
     (ap (λ (v : CursorsView). v.depth) c.self.view_is)
 
 pub returns-clause-sound : goal.returns-clause-sound

@@ -4,28 +4,28 @@ use Rattle.rdlpp_texts.proofs.Stacking.{called-opens, first-inside, lent-body, l
 use Rattle.rdlpp_texts.proofs.cursors.Cursors.push_behind.Goals as goal
 
 pub index_mut-requires : goal.index_mut-requires
-index_mut-requires c = first-inside c.self.inside.slots c.self.inside.first c.self.inside.bindings.items (rw (← c.self.view_is) at c.requires.some)
+index_mut-requires c = first-inside c.self.inside.frames c.self.inside.first c.self.inside.bindings.items (rw (← c.self.view_is) at c.requires.some)
 
-pub free_slot-place-requires-clause-room : goal.free_slot-place-requires-clause-room
-free_slot-place-requires-clause-room c =
-    room-first c.self.inside.slots c.self.inside.depth c.self.inside.first c.self.inside.bindings.items (rw (← c.self.view_is) at c.requires.room)
+pub free_frame-place-requires-clause-room : goal.free_frame-place-requires-clause-room
+free_frame-place-requires-clause-room c =
+    room-first c.self.inside.frames c.self.inside.depth c.self.inside.first c.self.inside.bindings.items (rw (← c.self.view_is) at c.requires.room)
 
 pub invariant_of-self : goal.invariant_of-self
 invariant_of-self c =
-    let some : c.self.inside.first < length c.self.inside.slots.items = some-open c.self.inside.slots.items c.self.inside.first c.self.inside.bindings.items (rw (← c.self.view_is) at c.requires.some) in
-    stack-called c.self.inside.slots.items c.free_slot-place.new.slots.items _ _ c.self.inside.depth c.self.inside.first c.free_slot-place.result c.args.at c.self.inside.bindings c.self.inside.bindings []
-    c.index_mut.result.now c.args.id _ c.args.home c.len-bound.result
-    0 c.body_bounds-bounds.result c.free_slot-place.ensures.free c.free_slot-place.ensures.capacity some c.index_mut.ensures.value c.len-bound.ensures (omega arith) (omega arith) (sym (append-nil c.self.inside.bindings.items))
+    let some : c.self.inside.first < length c.self.inside.frames.items = some-open c.self.inside.frames.items c.self.inside.first c.self.inside.bindings.items (rw (← c.self.view_is) at c.requires.some) in
+    stack-called c.self.inside.frames.items c.free_frame-place.new.frames.items _ _ c.self.inside.depth c.self.inside.first c.free_frame-place.result c.args.at c.self.inside.bindings c.self.inside.bindings []
+    c.index_mut.result.now c.args.id _ c.args.parent c.len-bound.result
+    0 c.body_bounds-bounds.result c.free_frame-place.ensures.free c.free_frame-place.ensures.capacity some c.index_mut.ensures.value c.len-bound.ensures (omega arith) (omega arith) (sym (append-nil c.self.inside.bindings.items))
     refl
-    (lent-body c.self.inside.slots.items _ c.self.inside.first c.args.id c.args.home c.body_bounds-bounds.result c.as_slice.ensures.value c.body_bounds-bounds.ensures) c.self.invariant
+    (lent-body c.self.inside.frames.items _ c.self.inside.first c.args.id c.args.parent c.body_bounds-bounds.result c.as_slice.ensures.value c.body_bounds-bounds.ensures) c.self.invariant
 
 pub returns : goal.returns
 returns c =
-    let inside : c.self.inside.first < length c.self.inside.slots.items = some-open c.self.inside.slots.items c.self.inside.first c.self.inside.bindings.items (rw (← c.self.view_is) at c.requires.some) in
+    let inside : c.self.inside.first < length c.self.inside.frames.items = some-open c.self.inside.frames.items c.self.inside.first c.self.inside.bindings.items (rw (← c.self.view_is) at c.requires.some) in
     rw (← c.self.view_is) (view-is _ _ _ _ _
-    (called-opens c.self.inside.slots.items c.free_slot-place.new.slots.items c.self.inside.depth c.self.inside.first c.free_slot-place.result c.args.at c.self.inside.bindings.items []
+    (called-opens c.self.inside.frames.items c.free_frame-place.new.frames.items c.self.inside.depth c.self.inside.first c.free_frame-place.result c.args.at c.self.inside.bindings.items []
     c.self.inside.bindings.items c.index_mut.result.now c.args.id c.args.end
-    c.args.home c.len-bound.result c.body_bounds-bounds.result c.free_slot-place.ensures.free inside c.index_mut.ensures.value (c.len-bound.ensures ∙ count_items c.self.inside.bindings) (sym (append-nil c.self.inside.bindings.items))) refl)
+    c.args.parent c.len-bound.result c.body_bounds-bounds.result c.free_frame-place.ensures.free inside c.index_mut.ensures.value (c.len-bound.ensures ∙ count_items c.self.inside.bindings) (sym (append-nil c.self.inside.bindings.items))) refl)
 
 pub body_bounds-bounds-requires : goal.body_bounds-bounds-requires
-body_bounds-bounds-requires c = lent-bounded c.self.inside.slots.items _ c.self.inside.first c.as_slice.ensures.value c.self.invariant.bounded
+body_bounds-bounds-requires c = lent-bounded c.self.inside.frames.items _ c.self.inside.first c.as_slice.ensures.value c.self.invariant.bounded

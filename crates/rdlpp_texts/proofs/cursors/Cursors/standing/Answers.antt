@@ -7,13 +7,13 @@ use Rattle.rdlpp_texts.proofs.cursors.Cursors.standing.Goals as goal
 
 pub front_scope-scope-requires : goal.front_scope-scope-requires
 front_scope-scope-requires c =
-    lent-some c.self.inside.slots.items c.as_slice.result.now c.self.inside.first c.self.inside.bindings.items c.as_slice.ensures.value (rw (← c.self.view_is) at c.requires.some)
+    lent-some c.self.inside.frames.items c.as_slice.result.now c.self.inside.first c.self.inside.bindings.items c.as_slice.ensures.value (rw (← c.self.view_is) at c.requires.some)
 
 pub returns : goal.returns
 returns c =
     let own : List Open = opens_of (take (length c.as_slice.result.now - c.self.inside.first) (drop c.self.inside.first c.as_slice.result.now)) c.as_slice-2.result.now in
     let same : own ≡ c.args.self.now.opens =
-    lent-opens c.self.inside.slots.items c.as_slice.result.now c.self.inside.first c.self.inside.bindings.items c.as_slice-2.result.now c.as_slice.ensures.value c.as_slice-2.ensures.value
+    lent-opens c.self.inside.frames.items c.as_slice.result.now c.self.inside.first c.self.inside.bindings.items c.as_slice-2.result.now c.as_slice.ensures.value c.as_slice-2.ensures.value
     ∙ ap (λ (v : CursorsView). v.opens) c.self.view_is in
     c.standing.ensures []
     ∙ ap (λ (k : ℕ). found_standing c.args.table.now.macros (scope_open own k) k c.args.place) (c.front_scope-scope.ensures c.as_slice-2.result.now)

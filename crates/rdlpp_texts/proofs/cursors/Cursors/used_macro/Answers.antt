@@ -2,7 +2,7 @@ use Rattle.std.proofs.Common.{List, ℕ, sym, ◌∙◌, subst, arith}
 use Rattle.rdlpp_meaning.specs.declared.fault.FaultKind.TheVariants.{RecursiveMacro}
 use Rattle.rdlpp_texts.specs.Places.{texts_of}
 use Rattle.rdlpp_texts.specs.Usages.{IsRefused, IsUsed}
-use Rattle.rdlpp_texts.proofs.Usages.{fault-unknown, fault-recursive, homes-out, homes-same, inside-same, table-recursive, table-used, unknown-given, name-is, name-inside, usage-place}
+use Rattle.rdlpp_texts.proofs.Usages.{fault-unknown, fault-recursive, parents-out, parents-same, inside-same, table-recursive, table-used, unknown-given, name-is, name-inside, usage-place}
 use Rattle.rdlpp_texts.proofs.cursors.Cursors.used_macro.Goals as goal
 
 pub overflow_add-name : goal.overflow_add-name
@@ -47,8 +47,8 @@ returns-in_default-clause-used c =
     unknown-given _ _ _ _ _ (name-is _ _ _ _ _ c.requires.peek.sound c.requires.peek.peek c.requires.front c.requires.peek.text)
     c.in_default.ensures.named c.unknown_kind.ensures
 
-pub is_inside-requires-clause-homed : goal.is_inside-requires-clause-homed
-is_inside-requires-clause-homed c = homes-same _ _ c.self.view_is (homes-out _ _ c.requires.peek.sound.are_open)
+pub is_inside-requires-clause-parented : goal.is_inside-requires-clause-parented
+is_inside-requires-clause-parented c = parents-same _ _ c.self.view_is (parents-out _ _ c.requires.peek.sound.are_open)
 
 pub returns-then-is_inside-clause-used : goal.returns-then-is_inside-clause-used
 returns-then-is_inside-clause-used c =

@@ -1,4 +1,4 @@
-// An open text, as it lies in its slot.
+// An open text, as it lies in its frame.
 ghost use Rattle.std.specs.Prelude.{◌≡◌};
 ghost use Rattle.rdlpp_texts.specs.Opened.{is_excluded};
 
@@ -13,7 +13,7 @@ pub(crate) struct Bounds {
 
 // What an open text is.
 #[derive(Clone, Copy)]
-pub(crate) enum SlotKind {
+pub(crate) enum FrameKind {
     // The body of a macro. The ranges that its call has bound stand from `first` on.
     Body { id: MacroId, first: usize },
     // The actual of a formal.
@@ -22,14 +22,14 @@ pub(crate) enum SlotKind {
     Default { id: MacroId, place: usize },
 }
 
-// An open text: the range that is left of it, its home, which is the scope in which it or its call is written, what it is, and
+// An open text: the range that is left of it, its parent, which is the scope in which it or its call is written, what it is, and
 // the bounds of its own scope. Scope 0 is the source, and scope n the n-th open text from the outermost.
 #[derive(Clone, Copy)]
-pub(crate) struct Slot {
+pub(crate) struct Frame {
     pub(crate) from: usize,
     pub(crate) end: usize,
-    pub(crate) home: usize,
-    pub(crate) kind: SlotKind,
+    pub(crate) parent: usize,
+    pub(crate) kind: FrameKind,
     pub(crate) bounds: Bounds,
 }
 
