@@ -12,8 +12,8 @@ use Rattle.rdlpp_scan.specs.declared.token.Mode.TheVariants.{Plain}
 use Rattle.rdlpp_table.specs.Table.{Formal, Macro}
 use Rattle.rdlpp_table.specs.View.{formal_named, formals_of, macro_at}
 use Rattle.rdlpp_meaning.specs.Items.{Arg, Item, Written, packed}
-use Rattle.rdlpp_meaning.specs.OpenItems.{item_at, open_items, open_writers, own_item, part_items}
-use Rattle.rdlpp_meaning.specs.Opens.{AreOpen, HasParts, Open, OpenActual, OpenBody, OpenDefault, OpenKind, Part, Texts, formal_at, found_formals, found_standing, kind_formals, kind_standing, open_behind, open_bytes, open_scope, open_standing, own_text, own_writers, part_at, part_tokens, scope_formals, scope_open, scope_text, text_around, writers_at}
+use Rattle.rdlpp_meaning.specs.OpenItems.{item_at, open_items, open_hide_set, own_item, part_items}
+use Rattle.rdlpp_meaning.specs.Opens.{AreOpen, HasParts, Open, OpenActual, OpenBody, OpenDefault, OpenKind, Part, Texts, formal_at, found_formals, found_standing, kind_formals, kind_standing, open_behind, open_bytes, open_scope, open_standing, own_text, own_hide_set, part_at, part_tokens, scope_formals, scope_open, scope_text, text_around, hide_set}
 use Rattle.rdlpp_meaning.specs.Substitution.{Defaulted, Given, Standing, body_tokens, bound_to, mark_of, mark_or, marked, standing_of}
 use Rattle.rdlpp_meaning.specs.TextTokens.{text_tokens}
 use Rattle.rdlpp_meaning.proofs.KeptTexts.{body_text, first_spelled, text_nil, text_step}
@@ -38,29 +38,29 @@ pub item-around : (texts : Texts) (x : Open) (below : List Open) (k : ℕ) → k
 unfolding item_at
 item-around texts x below k h =
     ap (λ (b : Bool). λ (t : SourceToken).
-    if b then own_item texts x.kind (scope_text texts below x.parent) (item_at texts below x.parent) (writers_at texts below x.parent) t
+    if b then own_item texts x.kind (scope_text texts below x.parent) (item_at texts below x.parent) (hide_set texts below x.parent) t
     else item_at texts below k t) (not_next k (length below) h)
 
 -- nor of the macros in whose text they are
-pub writers-around : (texts : Texts) (x : Open) (below : List Open) (k : ℕ) → k ≤ length below → writers_at texts (x ∷ below) k ≡ writers_at texts below k
-unfolding writers_at
-writers-around texts x below k h = rw (not_next k (length below) h) refl
+pub hidden-around : (texts : Texts) (x : Open) (below : List Open) (k : ℕ) → k ≤ length below → hide_set texts (x ∷ below) k ≡ hide_set texts below k
+unfolding hide_set
+hidden-around texts x below k h = rw (not_next k (length below) h) refl
 
 -- the items of its own scope
 pub item-own : (texts : Texts) (x : Open) (below : List Open)
     → item_at texts (x ∷ below) (suc (length below))
-    ≡ own_item texts x.kind (scope_text texts below x.parent) (item_at texts below x.parent) (writers_at texts below x.parent)
+    ≡ own_item texts x.kind (scope_text texts below x.parent) (item_at texts below x.parent) (hide_set texts below x.parent)
 unfolding item_at
 item-own texts x below =
     ap (λ (b : Bool). λ (t : SourceToken).
-    if b then own_item texts x.kind (scope_text texts below x.parent) (item_at texts below x.parent) (writers_at texts below x.parent) t
+    if b then own_item texts x.kind (scope_text texts below x.parent) (item_at texts below x.parent) (hide_set texts below x.parent) t
     else item_at texts below (suc (length below)) t) (next_is (suc (length below)))
 
 -- and its macros
-pub writers-own : (texts : Texts) (x : Open) (below : List Open)
-    → writers_at texts (x ∷ below) (suc (length below)) ≡ own_writers texts x.kind (writers_at texts below x.parent)
-unfolding writers_at
-writers-own texts x below = rw (next_is (suc (length below))) refl
+pub hidden-own : (texts : Texts) (x : Open) (below : List Open)
+    → hide_set texts (x ∷ below) (suc (length below)) ≡ own_hide_set texts x.kind (hide_set texts below x.parent)
+unfolding hide_set
+hidden-own texts x below = rw (next_is (suc (length below))) refl
 
 -- the first place
 first-place : (k n : ℕ) → k ≡ 0 → cond (nat_lt k (suc n)) (Some k) None ≡ Some 0
@@ -268,28 +268,28 @@ text_item texts (OpenDefault id place) parent below t = Written t
 -- the mark of an open text that is no body, in front of others
 unfoldable pub text_mark : Texts → List Open → Open → Item
 text_mark texts below y =
-    Arg (writers_at texts below y.parent) (packed (map (text_item texts y.kind y.parent below) (part_tokens (text_around texts y.kind y.parent below) y.part)))
+    Arg (hide_set texts below y.parent) (packed (map (text_item texts y.kind y.parent below) (part_tokens (text_around texts y.kind y.parent below) y.part)))
 
 -- it is the mark of its items, by what it is
 mark-by : (texts : Texts) (part : Part) (parent : ℕ) (kind : OpenKind) (below : List Open) → IsOpenText kind → parent ≤ length below
     → text_mark texts below (record { part = part; parent = parent; kind = kind })
-    ≡ Arg (open_writers texts (record { part = part; parent = parent; kind = kind }) below) (packed (open_items texts (record { part = part; parent = parent; kind = kind }) below))
-unfolding IsOpenText text_mark text_item open_items open_scope own_writers own_item text_around
+    ≡ Arg (open_hide_set texts (record { part = part; parent = parent; kind = kind }) below) (packed (open_items texts (record { part = part; parent = parent; kind = kind }) below))
+unfolding IsOpenText text_mark text_item open_items open_scope own_hide_set own_item text_around
 mark-by texts part parent (OpenBody id parts) below n h = absurd n
 mark-by texts part parent OpenActual below n h =
     let y : Open = record { part = part; parent = parent; kind = OpenActual } in
     let ts = part_tokens (scope_text texts below parent) part in
-    ap (λ (w : List (List ℕ)). Arg w (packed (map (item_at texts below parent) ts))) (sym (writers-around texts y below parent h))
-    ∙ ap (λ (f : SourceToken → Item). Arg (writers_at texts (y ∷ below) parent) (packed (map f ts))) (sym (item-around texts y below parent h))
+    ap (λ (w : List (List ℕ)). Arg w (packed (map (item_at texts below parent) ts))) (sym (hidden-around texts y below parent h))
+    ∙ ap (λ (f : SourceToken → Item). Arg (hide_set texts (y ∷ below) parent) (packed (map f ts))) (sym (item-around texts y below parent h))
 mark-by texts part parent (OpenDefault id place) below n h =
     let y : Open = record { part = part; parent = parent; kind = OpenDefault id place } in
     let ts = part_tokens (own_text texts (OpenDefault id place)) part in
-    ap (λ (w : List (List ℕ)). Arg w (packed (map Written ts))) (sym (writers-own texts y below))
-    ∙ ap (λ (f : SourceToken → Item). Arg (writers_at texts (y ∷ below) (suc (length below))) (packed (map f ts))) (sym (item-own texts y below))
+    ap (λ (w : List (List ℕ)). Arg w (packed (map Written ts))) (sym (hidden-own texts y below))
+    ∙ ap (λ (f : SourceToken → Item). Arg (hide_set texts (y ∷ below) (suc (length below))) (packed (map f ts))) (sym (item-own texts y below))
 
 -- it is the mark of its items
 pub text-mark : (texts : Texts) (below : List Open) (y : Open) → IsOpenText y.kind → y.parent ≤ length below
-    → text_mark texts below y ≡ Arg (open_writers texts y below) (packed (open_items texts y below))
+    → text_mark texts below y ≡ Arg (open_hide_set texts y below) (packed (open_items texts y below))
 text-mark texts below y n h = mark-by texts y.part y.parent y.kind below n h
 
 -- one more open text doesn't change it, by what it is
@@ -298,11 +298,11 @@ around-by : (texts : Texts) (x : Open) (below : List Open) (part : Part) (parent
 unfolding IsOpenText text_mark text_item text_around
 around-by texts x below part parent (OpenBody id parts) n h = absurd n
 around-by texts x below part parent OpenActual n h =
-    ap (λ (w : List (List ℕ)). Arg w (packed (map (item_at texts (x ∷ below) parent) (part_tokens (scope_text texts (x ∷ below) parent) part)))) (writers-around texts x below parent h)
-    ∙ ap (λ (f : SourceToken → Item). Arg (writers_at texts below parent) (packed (map f (part_tokens (scope_text texts (x ∷ below) parent) part)))) (item-around texts x below parent h)
-    ∙ ap (λ (text : List ℕ). Arg (writers_at texts below parent) (packed (map (item_at texts below parent) (part_tokens text part)))) (text-around texts x below parent h)
+    ap (λ (w : List (List ℕ)). Arg w (packed (map (item_at texts (x ∷ below) parent) (part_tokens (scope_text texts (x ∷ below) parent) part)))) (hidden-around texts x below parent h)
+    ∙ ap (λ (f : SourceToken → Item). Arg (hide_set texts below parent) (packed (map f (part_tokens (scope_text texts (x ∷ below) parent) part)))) (item-around texts x below parent h)
+    ∙ ap (λ (text : List ℕ). Arg (hide_set texts below parent) (packed (map (item_at texts below parent) (part_tokens text part)))) (text-around texts x below parent h)
 around-by texts x below part parent (OpenDefault id place) n h =
-    ap (λ (w : List (List ℕ)). Arg w (packed (map Written (part_tokens (own_text texts (OpenDefault id place)) part)))) (writers-around texts x below parent h)
+    ap (λ (w : List (List ℕ)). Arg w (packed (map Written (part_tokens (own_text texts (OpenDefault id place)) part)))) (hidden-around texts x below parent h)
 
 -- one more open text doesn't change it
 mark-around : (texts : Texts) (x : Open) (below : List Open) (y : Open) → IsOpenText y.kind → y.parent ≤ length below
@@ -330,23 +330,23 @@ standing-part f item text part h some =
 -- a formal that has no bytes stands for its default text, or for its part where it has none
 default-mark : (texts : Texts) (x : Open) (below : List Open) (id place : ℕ) (parts : List Part) (none : Bool) → x.kind ≡ OpenBody id parts → x.parent ≤ length below
     → part_tokens (scope_text texts below x.parent) (part_at parts place) ≡ []
-    → mark_of (macro_at texts.macros id).name (writers_at texts below x.parent)
+    → mark_of (macro_at texts.macros id).name (hide_set texts below x.parent)
     (if none then Given [] else Defaulted (formal_at (formals_of (macro_at texts.macros id)) place).text)
     ≡ text_mark texts (x ∷ below) (standing_by true none (formals_of (macro_at texts.macros id)) id (suc (length below)) x.parent parts place)
-unfolding standing_by text_mark text_item text_around own_text mark_of own_writers IsOpenText
+unfolding standing_by text_mark text_item text_around own_text mark_of own_hide_set IsOpenText
 default-mark texts x below id place parts true body h nothing =
-    ap (λ (ts : List SourceToken). Arg (writers_at texts below x.parent) (packed (map (item_at texts below x.parent) ts))) (sym nothing)
+    ap (λ (ts : List SourceToken). Arg (hide_set texts below x.parent) (packed (map (item_at texts below x.parent) ts))) (sym nothing)
     ∙ sym (mark-around texts x below (record { part = part_at parts place; parent = x.parent; kind = OpenActual }) tt h)
 default-mark texts x below id place parts false body h nothing =
     let text = (formal_at (formals_of (macro_at texts.macros id)) place).text in
-    let o = writers_at texts below x.parent in
+    let o = hide_set texts below x.parent in
     ap (λ (ts : List SourceToken). Arg ((macro_at texts.macros id).name ∷ o) (packed (map Written ts))) (sym (part-whole text))
     ∙ ap (λ (w : List (List ℕ)). Arg w (packed (map Written (part_tokens text (record { from = 0; end = length text; mode = Plain })))))
-    (sym (writers-own texts x below ∙ ap (λ (kind : OpenKind). own_writers texts kind o) body))
+    (sym (hidden-own texts x below ∙ ap (λ (kind : OpenKind). own_hide_set texts kind o) body))
 
 -- a formal whose part has bytes stands for that part
 given-mark : (texts : Texts) (x : Open) (below : List Open) (id place : ℕ) (parts : List Part) (none : Bool) → x.parent ≤ length below
-    → mark_of (macro_at texts.macros id).name (writers_at texts below x.parent)
+    → mark_of (macro_at texts.macros id).name (hide_set texts below x.parent)
     (Given (map (item_at texts below x.parent) (part_tokens (scope_text texts below x.parent) (part_at parts place))))
     ≡ text_mark texts (x ∷ below) (standing_by false none (formals_of (macro_at texts.macros id)) id (suc (length below)) x.parent parts place)
 unfolding standing_by text_mark text_item text_around mark_of IsOpenText
@@ -359,7 +359,7 @@ place-by : (texts : Texts) (x : Open) (below : List Open) (id place : ℕ) (part
     → (part_at parts place).end ≤ length (scope_text texts below x.parent)
     → ((part_at parts place).end - (part_at parts place).from == 0) ≡ empty
     → (length (formal_at (formals_of (macro_at texts.macros id)) place).text == 0) ≡ none
-    → mark_of (macro_at texts.macros id).name (writers_at texts below x.parent)
+    → mark_of (macro_at texts.macros id).name (hide_set texts below x.parent)
     (standing_of (formal_at (formals_of (macro_at texts.macros id)) place) (map (item_at texts below x.parent) (part_tokens (scope_text texts below x.parent) (part_at parts place))))
     ≡ text_mark texts (x ∷ below) (standing_by empty none (formals_of (macro_at texts.macros id)) id (suc (length below)) x.parent parts place)
 unfolding standing_of
@@ -367,7 +367,7 @@ place-by texts x below id place parts true none body h inside e n =
     let part = part_at parts place in
     let f = formal_at (formals_of (macro_at texts.macros id)) place in
     let name = (macro_at texts.macros id).name in
-    let o = writers_at texts below x.parent in
+    let o = hide_set texts below x.parent in
     let nothing : part_tokens (scope_text texts below x.parent) part ≡ [] = part-empty (scope_text texts below x.parent) part (eqb-true (part.end - part.from) 0 e) in
     ap (λ (ts : List SourceToken). mark_of name o (standing_of f (map (item_at texts below x.parent) ts))) nothing
     ∙ ap (λ (b : Bool). mark_of name o (if b then Given [] else Defaulted f.text)) n
@@ -375,7 +375,7 @@ place-by texts x below id place parts true none body h inside e n =
 place-by texts x below id place parts false none body h inside e n =
     let part = part_at parts place in
     let f = formal_at (formals_of (macro_at texts.macros id)) place in
-    ap (λ (s : Standing Item). mark_of (macro_at texts.macros id).name (writers_at texts below x.parent) s)
+    ap (λ (s : Standing Item). mark_of (macro_at texts.macros id).name (hide_set texts below x.parent) s)
     (standing-part f (item_at texts below x.parent) (scope_text texts below x.parent) part inside (positive (part.end - part.from) e))
     ∙ given-mark texts x below id place parts none h
   where
@@ -399,7 +399,7 @@ StandsFor texts opens found k (Some place) t item = (y : Open) → found_standin
 place-stands : (texts : Texts) (x : Open) (below : List Open) (id place : ℕ) (parts : List Part) → x.kind ≡ OpenBody id parts → x.parent ≤ length below
     → (part_at parts place).end ≤ length (scope_text texts below x.parent)
     → IsMarkOf texts (x ∷ below) (open_standing (formals_of (macro_at texts.macros id)) id (suc (length below)) x.parent parts place)
-    (mark_of (macro_at texts.macros id).name (writers_at texts below x.parent)
+    (mark_of (macro_at texts.macros id).name (hide_set texts below x.parent)
     (standing_of (formal_at (formals_of (macro_at texts.macros id)) place) (map (item_at texts below x.parent) (part_tokens (scope_text texts below x.parent) (part_at parts place)))))
 unfolding open_standing standing_by
 place-stands texts x below id place parts body h inside =
@@ -416,7 +416,7 @@ place-stands texts x below id place parts body h inside =
 body-stands : (texts : Texts) (part : Part) (parent : ℕ) (below : List Open) (id : ℕ) (parts : List Part) (t : SourceToken) (place : Option ℕ) → parent ≤ length below
     → AllByRecursion (λ part. part.end ≤ length (scope_text texts below parent)) parts → IsPlace (length parts) place
     → StandsFor texts (record { part = part; parent = parent; kind = OpenBody id parts } ∷ below) (Some (record { part = part; parent = parent; kind = OpenBody id parts })) (suc (length below)) place t
-    (mark_or (macro_at texts.macros id).name (writers_at texts below parent) t
+    (mark_or (macro_at texts.macros id).name (hide_set texts below parent) t
     (option_map (standing_of_place (formals_of (macro_at texts.macros id)) (part_items (item_at texts below parent) (scope_text texts below parent) parts)) place))
 unfolding StandsFor standing_of_place mark_or
 body-stands texts part parent below id parts t None h fits inside = refl
@@ -424,10 +424,10 @@ body-stands texts part parent below id parts t (Some place) h fits inside = λ y
     let x : Open = record { part = part; parent = parent; kind = OpenBody id parts } in
     let text = scope_text texts below parent in
     let f = formal_at (formals_of (macro_at texts.macros id)) place in
-    subst (λ (z : Open). IsMarkOf texts (x ∷ below) z (mark_of (macro_at texts.macros id).name (writers_at texts below parent)
+    subst (λ (z : Open). IsMarkOf texts (x ∷ below) z (mark_of (macro_at texts.macros id).name (hide_set texts below parent)
     (standing_of f (slice_index_or (part_items (item_at texts below parent) text parts) place [])))) (one _ y e)
     (subst (λ (actual : List Item). IsMarkOf texts (x ∷ below) (open_standing (formals_of (macro_at texts.macros id)) id (suc (length below)) parent parts place)
-    (mark_of (macro_at texts.macros id).name (writers_at texts below parent) (standing_of f actual)))
+    (mark_of (macro_at texts.macros id).name (hide_set texts below parent) (standing_of f actual)))
     (sym (get_or-map (λ (part : Part). map (item_at texts below parent) (part_tokens text part)) parts place (record { from = 0; end = 0; mode = Plain }) [] inside))
     (place-stands texts x below id place parts refl h (part-inside text parts place fits inside)))
   where
@@ -439,7 +439,7 @@ own-stands : (texts : Texts) (part : Part) (parent : ℕ) (kind : OpenKind) (bel
     → parent ≤ length below → HasParts texts (scope_text texts below parent) kind
     → StandsFor texts (record { part = part; parent = parent; kind = kind } ∷ below) (Some (record { part = part; parent = parent; kind = kind })) (suc (length below))
     (formal_named (kind_formals texts.macros kind) bytes) (name_token bytes)
-    (own_item texts kind (scope_text texts below parent) (item_at texts below parent) (writers_at texts below parent) (name_token bytes))
+    (own_item texts kind (scope_text texts below parent) (item_at texts below parent) (hide_set texts below parent) (name_token bytes))
 unfolding own_item marked StandsFor
 own-stands texts part parent (OpenBody id parts) below bytes h has =
     let x : Open = record { part = part; parent = parent; kind = OpenBody id parts } in
@@ -449,7 +449,7 @@ own-stands texts part parent (OpenBody id parts) below bytes h has =
     let many : length (formals_of m) ≤ length actuals =
     let l = length-map parts (λ (part : Part). map (item_at texts below parent) (part_tokens (scope_text texts below parent) part)) in
     let k : length (formals_of m) ≤ length parts = has.0 in omega (arith, l, k) in
-    subst (λ (o : Option (Standing Item)). StandsFor texts (x ∷ below) (Some x) (suc (length below)) place (name_token bytes) (mark_or m.name (writers_at texts below parent) (name_token bytes) o))
+    subst (λ (o : Option (Standing Item)). StandsFor texts (x ∷ below) (Some x) (suc (length below)) place (name_token bytes) (mark_or m.name (hide_set texts below parent) (name_token bytes) o))
     (sym (bound-place (formals_of m) actuals bytes many))
     (body-stands texts part parent below id parts (name_token bytes) place h has.1 (formal-place (formals_of m) bytes (length parts) has.0))
 own-stands texts part parent OpenActual below bytes h has = refl
@@ -475,11 +475,11 @@ stands-by : (texts : Texts) (x : Open) (below : List Open) (k : ℕ) (bytes : Li
     → StandsFor texts (x ∷ below) (if own then Some x else scope_open below k) k
     (formal_named (found_formals texts.macros (if own then Some x else scope_open below k)) bytes) (name_token bytes)
     (if own
-    then own_item texts x.kind (scope_text texts below x.parent) (item_at texts below x.parent) (writers_at texts below x.parent) (name_token bytes)
+    then own_item texts x.kind (scope_text texts below x.parent) (item_at texts below x.parent) (hide_set texts below x.parent) (name_token bytes)
     else item_at texts below k (name_token bytes))
 stands-by texts x below k bytes true e h has rest =
     subst (λ (n : ℕ). StandsFor texts (x ∷ below) (Some x) n (formal_named (kind_formals texts.macros x.kind) bytes) (name_token bytes)
-    (own_item texts x.kind (scope_text texts below x.parent) (item_at texts below x.parent) (writers_at texts below x.parent) (name_token bytes)))
+    (own_item texts x.kind (scope_text texts below x.parent) (item_at texts below x.parent) (hide_set texts below x.parent) (name_token bytes)))
     (sym (eqb-true k (suc (length below)) e)) (own-stands texts x.part x.parent x.kind below bytes h has)
 stands-by texts x below k bytes false e h has rest =
     stands-around texts x below (scope_open below k) k (formal_named (scope_formals texts.macros below k) bytes) (name_token bytes) (item_at texts below k (name_token bytes)) rest

@@ -13,8 +13,8 @@ use Rattle.rdlpp_table.specs.View.{formal_named, formals_of, macro_at}
 use Rattle.rdlpp_meaning.specs.Actuals.{item_reads, item_role, item_size, kind_role, not_kept, text_reads, token_role}
 use Rattle.rdlpp_meaning.specs.Expansion.{Opens, Refuses, Usage, expand, is_copied, usage_of, walk}
 use Rattle.rdlpp_meaning.specs.Items.{Arg, Item, Written, listed, packed, unlined, unlined_item}
-use Rattle.rdlpp_meaning.specs.OpenItems.{item_at, open_items, open_left, open_writers, own_item, part_items}
-use Rattle.rdlpp_meaning.specs.Opens.{AreOpen, Open, OpenActual, OpenBody, OpenDefault, OpenKind, Part, Texts, found_standing, open_behind, open_body, open_bytes, open_scope, own_text, own_writers, part_tokens, scope_formals, scope_open, scope_text, text_around, writers_at}
+use Rattle.rdlpp_meaning.specs.OpenItems.{item_at, open_items, open_left, open_hide_set, own_item, part_items}
+use Rattle.rdlpp_meaning.specs.Opens.{AreOpen, Open, OpenActual, OpenBody, OpenDefault, OpenKind, Part, Texts, found_standing, open_behind, open_body, open_bytes, open_scope, own_text, own_hide_set, part_tokens, scope_formals, scope_open, scope_text, text_around, hide_set}
 use Rattle.rdlpp_meaning.specs.Outcome.{Outcome, and_then, fails, gives}
 use Rattle.rdlpp_meaning.specs.State.{Rules, State, fault_at}
 use Rattle.rdlpp_meaning.specs.Substitution.{Defaulted, Given, Standing, bound_to, mark_of, mark_or, marked, substituted}
@@ -22,7 +22,7 @@ use Rattle.rdlpp_meaning.specs.TextTokens.{text_tokens}
 use Rattle.rdlpp_meaning.specs.declared.fault.FaultKind.{FaultKind}
 use Rattle.rdlpp_meaning.specs.declared.fault.FaultKind.TheVariants.{BareBackquote as NoName, DepthPassed}
 use Rattle.rdlpp_meaning.proofs.SourceCalls.{KeepsReads, map_usage, usage-map, walk_skip}
-use Rattle.rdlpp_meaning.proofs.OpenScopes.{Alone, IsMarkOf, StandsFor, first_behind, first_bytes, first_kind, item-own, name-stands, name_token, next_is, part-whole, range_behind, text-around, text-mark, writers-own}
+use Rattle.rdlpp_meaning.proofs.OpenScopes.{Alone, IsMarkOf, StandsFor, first_behind, first_bytes, first_kind, item-own, name-stands, name_token, next_is, part-whole, range_behind, text-around, text-mark, hidden-own}
 use Rattle.rdlpp_meaning.proofs.Outcomes.{and_then-assoc, and_then-fails, and_then-gives_nil, and_then-nil}
 use Rattle.rdlpp_meaning.proofs.KeptTexts.{first_spelled, text_nil, text_step}
 use Rattle.rdlpp_meaning.proofs.LiveText.{deeper_of, expand_walk, usage_walk, usage_walks, walk_copied}
@@ -75,37 +75,37 @@ room_in depth below = depth - suc (length below)
 -- what remains of open texts is a walk of the items of the innermost, and then what remains of the others
 pub left-walk : (rules : Rules) (s : State) (line depth : ℕ) (texts : Texts) (x : Open) (below : List Open)
     → open_left rules s line depth texts (x ∷ below)
-    ≡ and_then (walk rules s (deeper_of rules s (room_in depth below)) (Some line) (open_writers texts x below) 0 (open_items texts x below))
+    ≡ and_then (walk rules s (deeper_of rules s (room_in depth below)) (Some line) (open_hide_set texts x below) 0 (open_items texts x below))
     (open_left rules s line depth texts below)
 unfolding open_left
 left-walk rules s line depth texts x below =
     ap (λ (o : Outcome). and_then o (open_left rules s line depth texts below))
-    (expand_walk rules s (room_in depth below) (Some line) (open_writers texts x below) (open_items texts x below))
+    (expand_walk rules s (room_in depth below) (Some line) (open_hide_set texts x below) (open_items texts x below))
 
 -- an open text goes on behind some of its bytes in the text of the same macros
-behind-writers : (texts : Texts) (x : Open) (below : List Open) (n : ℕ) (mode : Mode) → open_writers texts (open_behind x n mode) below ≡ open_writers texts x below
-unfolding open_behind open_scope writers_at
-behind-writers texts x below n mode = refl
+behind-hidden : (texts : Texts) (x : Open) (below : List Open) (n : ℕ) (mode : Mode) → open_hide_set texts (open_behind x n mode) below ≡ open_hide_set texts x below
+unfolding open_behind open_scope hide_set
+behind-hidden texts x below n mode = refl
 
 -- what remains behind some bytes of the innermost open text
 pub behind-walk : (rules : Rules) (s : State) (line depth : ℕ) (texts : Texts) (x : Open) (below : List Open) (n : ℕ) (mode : Mode)
-    → and_then (walk rules s (deeper_of rules s (room_in depth below)) (Some line) (open_writers texts x below) 0 (open_items texts (open_behind x n mode) below))
+    → and_then (walk rules s (deeper_of rules s (room_in depth below)) (Some line) (open_hide_set texts x below) 0 (open_items texts (open_behind x n mode) below))
     (open_left rules s line depth texts below)
     ≡ open_left rules s line depth texts (open_behind x n mode ∷ below)
 behind-walk rules s line depth texts x below n mode =
     ap (λ (o : List (List ℕ)). and_then (walk rules s (deeper_of rules s (room_in depth below)) (Some line) o 0 (open_items texts (open_behind x n mode) below)) (open_left rules s line depth texts below))
-    (sym (behind-writers texts x below n mode))
+    (sym (behind-hidden texts x below n mode))
     ∙ sym (left-walk rules s line depth texts (open_behind x n mode) below)
 
 -- what remains by the first token of the innermost open text
 first-walk : (rules : Rules) (s : State) (line depth : ℕ) (texts : Texts) (x : Open) (below : List Open) (item : Item) → 0 < length (open_bytes texts x below)
     → item_at texts (x ∷ below) (open_scope x below) (first_token texts x below) ≡ item
     → open_left rules s line depth texts (x ∷ below)
-    ≡ and_then (walk rules s (deeper_of rules s (room_in depth below)) (Some line) (open_writers texts x below) 0 (item ∷ open_items texts (first_behind texts x below) below))
+    ≡ and_then (walk rules s (deeper_of rules s (room_in depth below)) (Some line) (open_hide_set texts x below) 0 (item ∷ open_items texts (first_behind texts x below) below))
     (open_left rules s line depth texts below)
 first-walk rules s line depth texts x below item some e =
     left-walk rules s line depth texts x below
-    ∙ ap (λ (items : List Item). and_then (walk rules s (deeper_of rules s (room_in depth below)) (Some line) (open_writers texts x below) 0 items) (open_left rules s line depth texts below))
+    ∙ ap (λ (items : List Item). and_then (walk rules s (deeper_of rules s (room_in depth below)) (Some line) (open_hide_set texts x below) 0 items) (open_left rules s line depth texts below))
     (first-items texts x below some ∙ ap (λ (i : Item). i ∷ open_items texts (first_behind texts x below) below) e)
 
 -- (1) an open text of which nothing is left is closed
@@ -114,18 +114,18 @@ pub step-closes : (rules : Rules) (s : State) (line depth : ℕ) (texts : Texts)
 unfolding walk
 step-closes rules s line depth texts x below e =
     left-walk rules s line depth texts x below
-    ∙ ap (λ (items : List Item). and_then (walk rules s (deeper_of rules s (room_in depth below)) (Some line) (open_writers texts x below) 0 items) (open_left rules s line depth texts below))
+    ∙ ap (λ (items : List Item). and_then (walk rules s (deeper_of rules s (room_in depth below)) (Some line) (open_hide_set texts x below) 0 items) (open_left rules s line depth texts below))
     (no-items texts x below e)
     ∙ and_then-gives_nil (open_left rules s line depth texts below)
 
 -- a text that is opened remains in front of the others, where there is room
 pub opens-room : (rules : Rules) (s : State) (line depth : ℕ) (texts : Texts) (new : Open) (opens : List Open) → length opens < depth
-    → and_then (deeper_of rules s (depth - length opens) line (open_writers texts new opens) (open_items texts new opens)) (open_left rules s line depth texts opens)
+    → and_then (deeper_of rules s (depth - length opens) line (open_hide_set texts new opens) (open_items texts new opens)) (open_left rules s line depth texts opens)
     ≡ open_left rules s line depth texts (new ∷ opens)
 unfolding deeper_of open_left
 opens-room rules s line depth texts new opens h =
     let r : depth - length opens ≡ suc (depth - suc (length opens)) = omega (arith, h) in
-    ap (λ (n : ℕ). and_then (deeper_of rules s n line (open_writers texts new opens) (open_items texts new opens)) (open_left rules s line depth texts opens)) r
+    ap (λ (n : ℕ). and_then (deeper_of rules s n line (open_hide_set texts new opens) (open_items texts new opens)) (open_left rules s line depth texts opens)) r
 
 -- and is a fault where there is none
 pub opens-deep : (rules : Rules) (s : State) (line depth : ℕ) (o : List (List ℕ)) (items : List Item) (n : ℕ) (rest : Outcome) → depth ≤ n
@@ -147,17 +147,17 @@ formal-item texts opens k t bytes place new h is named stands =
 
 -- an open text is opened in the same way in front of another one behind some of its bytes, by what it is
 same-by : (texts : Texts) (x : Open) (below : List Open) (n : ℕ) (mode : Mode) (part : Part) (parent : ℕ) (kind : OpenKind)
-    → Arg (open_writers texts (record { part = part; parent = parent; kind = kind }) (x ∷ below)) (packed (open_items texts (record { part = part; parent = parent; kind = kind }) (x ∷ below)))
-    ≡ Arg (open_writers texts (record { part = part; parent = parent; kind = kind }) (open_behind x n mode ∷ below)) (packed (open_items texts (record { part = part; parent = parent; kind = kind }) (open_behind x n mode ∷ below)))
-unfolding open_behind open_items item_at open_scope writers_at text_around scope_text
+    → Arg (open_hide_set texts (record { part = part; parent = parent; kind = kind }) (x ∷ below)) (packed (open_items texts (record { part = part; parent = parent; kind = kind }) (x ∷ below)))
+    ≡ Arg (open_hide_set texts (record { part = part; parent = parent; kind = kind }) (open_behind x n mode ∷ below)) (packed (open_items texts (record { part = part; parent = parent; kind = kind }) (open_behind x n mode ∷ below)))
+unfolding open_behind open_items item_at open_scope hide_set text_around scope_text
 same-by texts x below n mode part parent (OpenBody id parts) = refl
 same-by texts x below n mode part parent OpenActual = refl
 same-by texts x below n mode part parent (OpenDefault id place) = refl
 
 -- an open text is opened in the same way in front of another one behind some of its bytes
 behind-mark : (texts : Texts) (x : Open) (below : List Open) (n : ℕ) (mode : Mode) (new : Open)
-    → Arg (open_writers texts new (x ∷ below)) (packed (open_items texts new (x ∷ below)))
-    ≡ Arg (open_writers texts new (open_behind x n mode ∷ below)) (packed (open_items texts new (open_behind x n mode ∷ below)))
+    → Arg (open_hide_set texts new (x ∷ below)) (packed (open_items texts new (x ∷ below)))
+    ≡ Arg (open_hide_set texts new (open_behind x n mode ∷ below)) (packed (open_items texts new (open_behind x n mode ∷ below)))
 behind-mark texts x below n mode new = same-by texts x below n mode new.part new.parent new.kind
 
 -- the first token of an open text, by its kind
@@ -172,19 +172,19 @@ formal-walk : (rules : Rules) (s : State) (line depth : ℕ) (texts : Texts) (x 
     → formal_named (scope_formals texts.macros (x ∷ below) (open_scope x below)) (first_bytes texts x below) ≡ Some place
     → found_standing texts.macros (scope_open (x ∷ below) (open_scope x below)) (open_scope x below) place ≡ Some new
     → open_left rules s line depth texts (x ∷ below)
-    ≡ and_then (deeper_of rules s (room_in depth below) line (open_writers texts new (first_behind texts x below ∷ below)) (open_items texts new (first_behind texts x below ∷ below)))
+    ≡ and_then (deeper_of rules s (room_in depth below) line (open_hide_set texts new (first_behind texts x below ∷ below)) (open_items texts new (first_behind texts x below ∷ below)))
     (open_left rules s line depth texts (first_behind texts x below ∷ below))
 unfolding walk first_behind
 formal-walk rules s line depth texts x below place new h some name named found =
     let rest = first_behind texts x below in
     let under = open_left rules s line depth texts below in
     let deeper = deeper_of rules s (room_in depth below) in
-    let o = open_writers texts new (rest ∷ below) in
+    let o = open_hide_set texts new (rest ∷ below) in
     let items = open_items texts new (rest ∷ below) in
     let t = token_of x.part.mode (open_bytes texts x below) in
     let m : IsMarkOf texts (x ∷ below) new (item_at texts (x ∷ below) (open_scope x below) (first_token texts x below)) =
     formal-item texts (x ∷ below) (open_scope x below) (first_token texts x below) (first_bytes texts x below) place new h (first-named texts x below Name name) named found in
-    let left = walk rules s deeper (Some line) (open_writers texts x below) 0 (open_items texts rest below) in
+    let left = walk rules s deeper (Some line) (open_hide_set texts x below) 0 (open_items texts rest below) in
     first-walk rules s line depth texts x below (Arg o (packed items)) some
     (m.mark ∙ text-mark texts (x ∷ below) new m.text m.inside ∙ behind-mark texts x below t.len t.next_mode new)
     ∙ and_then-assoc (deeper line o (listed (packed items))) left under
@@ -210,7 +210,7 @@ pub step-formal_deep : (rules : Rules) (s : State) (line depth : ℕ) (texts : T
 step-formal_deep rules s line depth texts x below place new h some name named found deep =
     let rest = first_behind texts x below in
     formal-walk rules s line depth texts x below place new h some name named found
-    ∙ opens-deep rules s line depth (open_writers texts new (rest ∷ below)) (open_items texts new (rest ∷ below)) (suc (length below))
+    ∙ opens-deep rules s line depth (open_hide_set texts new (rest ∷ below)) (open_items texts new (rest ∷ below)) (suc (length below))
     (open_left rules s line depth texts (rest ∷ below)) deep
 
 -- a token that no body marks is as it is written, in a scope of its own
@@ -234,10 +234,10 @@ plain-item : (texts : Texts) (opens : List Open) (k : ℕ) (t : SourceToken)
 unfolding item_at
 plain-item texts [] k t e = refl
 plain-item texts (x ∷ below) k t e =
-    one-choice (k == suc (length below)) (own_item texts x.kind (scope_text texts below x.parent) (item_at texts below x.parent) (writers_at texts below x.parent) t)
+    one-choice (k == suc (length below)) (own_item texts x.kind (scope_text texts below x.parent) (item_at texts below x.parent) (hide_set texts below x.parent) t)
     (item_at texts below k t) (Written t)
-    (plain-own texts x.kind (scope_text texts below x.parent) (item_at texts below x.parent) (writers_at texts below x.parent) t
-    (λ macro formals actuals. e macro formals actuals (writers_at texts below x.parent)))
+    (plain-own texts x.kind (scope_text texts below x.parent) (item_at texts below x.parent) (hide_set texts below x.parent) t
+    (λ macro formals actuals. e macro formals actuals (hide_set texts below x.parent)))
     (plain-item texts below k t e)
 
 -- a token that stands for itself is as it is written, by its kind
@@ -260,7 +260,7 @@ step-copies rules s line depth texts x below h some copied alone =
     let t = token_of x.part.mode (open_bytes texts x below) in
     let token : SourceToken = record { sort = Ordinary (first_kind texts x below); bytes = first_bytes texts x below; line = 0 } in
     let deeper = deeper_of rules s (room_in depth below) in
-    let o = open_writers texts x below in
+    let o = open_hide_set texts x below in
     let items = open_items texts (first_behind texts x below) below in
     let under = open_left rules s line depth texts below in
     first-walk rules s line depth texts x below (Written token) some
@@ -284,15 +284,15 @@ step-bare rules s line depth texts x below some e =
 -- what remains at a usage, by what it comes to
 pub usage-left : (rules : Rules) (s : State) (line depth : ℕ) (texts : Texts) (x : Open) (below : List Open) (u : Usage Item)
     → 0 < length (open_bytes texts x below) → first_kind texts x below ≡ Back
-    → usage_of rules s (item_reads (Some line)) line (open_writers texts x below) (drop 1 (first_bytes texts x below)) (open_items texts (first_behind texts x below) below) ≡ u
+    → usage_of rules s (item_reads (Some line)) line (open_hide_set texts x below) (drop 1 (first_bytes texts x below)) (open_items texts (first_behind texts x below) below) ≡ u
     → open_left rules s line depth texts (x ∷ below)
-    ≡ and_then (usage_walk rules s (deeper_of rules s (room_in depth below)) (Some line) (open_writers texts x below) line
+    ≡ and_then (usage_walk rules s (deeper_of rules s (room_in depth below)) (Some line) (open_hide_set texts x below) line
     (open_items texts (first_behind texts x below) below) u) (open_left rules s line depth texts below)
 unfolding marked
 usage-left rules s line depth texts x below u some e comes =
     let token : SourceToken = record { sort = Ordinary Back; bytes = first_bytes texts x below; line = 0 } in
     let deeper = deeper_of rules s (room_in depth below) in
-    let o = open_writers texts x below in
+    let o = open_hide_set texts x below in
     let items = open_items texts (first_behind texts x below) below in
     first-walk rules s line depth texts x below (Written token) some
     (ap (λ (t : SourceToken). item_at texts (x ∷ below) (open_scope x below) t) (first-named texts x below Back e)
@@ -302,26 +302,26 @@ usage-left rules s line depth texts x below u some e comes =
 -- the items of the body that a call opens are its macro's, with the parts of the call as actuals
 pub body-items : (texts : Texts) (id : ℕ) (parts : List Part) (scope : ℕ) (opens : List Open)
     → open_items texts (open_body texts id parts scope) opens
-    ≡ substituted (macro_at texts.macros id) (part_items (item_at texts opens scope) (scope_text texts opens scope) parts) (writers_at texts opens scope)
+    ≡ substituted (macro_at texts.macros id) (part_items (item_at texts opens scope) (scope_text texts opens scope) parts) (hide_set texts opens scope)
 unfolding open_items open_body open_scope own_item substituted text_around own_text
 body-items texts id parts scope opens =
     let m = macro_at texts.macros id in
     let new : Open = record { part = record { from = 0; end = length m.body; mode = Plain }; parent = scope; kind = OpenBody id parts } in
     ap (λ (f : SourceToken → Item). map f (part_tokens m.body (record { from = 0; end = length m.body; mode = Plain }))) (item-own texts new opens)
-    ∙ ap (λ (ts : List SourceToken). map (marked m.name (formals_of m) (part_items (item_at texts opens scope) (scope_text texts opens scope) parts) (writers_at texts opens scope)) ts)
+    ∙ ap (λ (ts : List SourceToken). map (marked m.name (formals_of m) (part_items (item_at texts opens scope) (scope_text texts opens scope) parts) (hide_set texts opens scope)) ts)
     (part-whole m.body)
 
 -- and it is written in the text of its macro, and of those around its call
-pub body-writers : (texts : Texts) (id : ℕ) (parts : List Part) (scope : ℕ) (opens : List Open)
-    → open_writers texts (open_body texts id parts scope) opens ≡ (macro_at texts.macros id).name ∷ writers_at texts opens scope
-unfolding open_body open_scope own_writers
-body-writers texts id parts scope opens =
-    writers-own texts (record { part = record { from = 0; end = length (macro_at texts.macros id).body; mode = Plain }; parent = scope; kind = OpenBody id parts }) opens
+pub body-hidden : (texts : Texts) (id : ℕ) (parts : List Part) (scope : ℕ) (opens : List Open)
+    → open_hide_set texts (open_body texts id parts scope) opens ≡ (macro_at texts.macros id).name ∷ hide_set texts opens scope
+unfolding open_body open_scope own_hide_set
+body-hidden texts id parts scope opens =
+    hidden-own texts (record { part = record { from = 0; end = length (macro_at texts.macros id).body; mode = Plain }; parent = scope; kind = OpenBody id parts }) opens
 
 -- the scope of an open text that goes on is in the text of the same macros
-pub scope-writers : (texts : Texts) (x : Open) (below : List Open) (n : ℕ) (mode : Mode) → writers_at texts (open_behind x n mode ∷ below) (open_scope x below) ≡ open_writers texts x below
-unfolding open_behind writers_at
-scope-writers texts x below n mode = refl
+pub scope-hidden : (texts : Texts) (x : Open) (below : List Open) (n : ℕ) (mode : Mode) → hide_set texts (open_behind x n mode ∷ below) (open_scope x below) ≡ open_hide_set texts x below
+unfolding open_behind hide_set
+scope-hidden texts x below n mode = refl
 
 -- what remains of the body that a usage in a source opens is what its items expand to, with the parts of what is kept of its call as
 -- actuals
@@ -329,24 +329,24 @@ pub first-left : (rules : Rules) (s : State) (line d : ℕ) (texts : Texts) (id 
     → open_left rules s line (suc d) texts (open_body texts id parts 0 ∷ [])
     ≡ expand rules s d (Some line) ((macro_at texts.macros id).name ∷ [])
     (substituted (macro_at texts.macros id) (map (map Written) (map (part_tokens texts.arguments) parts)) [])
-unfolding open_left writers_at item_at scope_text
+unfolding open_left hide_set item_at scope_text
 first-left rules s line d texts id parts =
     let m = macro_at texts.macros id in
     let new = open_body texts id parts 0 in
     let same : suc d - 1 ≡ d = omega arith in
-    and_then-nil (expand rules s (suc d - 1) (Some line) (open_writers texts new []) (open_items texts new []))
-    ∙ ap (λ (n : ℕ). expand rules s n (Some line) (open_writers texts new []) (open_items texts new [])) same
-    ∙ ap (λ (w : List (List ℕ)). expand rules s d (Some line) w (open_items texts new [])) (body-writers texts id parts 0 [] ∙ none)
+    and_then-nil (expand rules s (suc d - 1) (Some line) (open_hide_set texts new []) (open_items texts new []))
+    ∙ ap (λ (n : ℕ). expand rules s n (Some line) (open_hide_set texts new []) (open_items texts new [])) same
+    ∙ ap (λ (w : List (List ℕ)). expand rules s d (Some line) w (open_items texts new [])) (body-hidden texts id parts 0 [] ∙ none)
     ∙ ap (λ (xs : List Item). expand rules s d (Some line) (m.name ∷ []) xs) (body-items texts id parts 0 [] ∙ actuals)
   where
-    none : (macro_at texts.macros id).name ∷ writers_at texts [] 0 ≡ (macro_at texts.macros id).name ∷ []
+    none : (macro_at texts.macros id).name ∷ hide_set texts [] 0 ≡ (macro_at texts.macros id).name ∷ []
     none = refl
 
     written : (ps : List Part) → part_items (item_at texts [] 0) texts.arguments ps ≡ map (map Written) (map (part_tokens texts.arguments) ps)
     written [] = refl
     written (p ∷ ps) = ap (λ (xs : List (List Item)). map Written (part_tokens texts.arguments p) ∷ xs) (written ps)
 
-    actuals : substituted (macro_at texts.macros id) (part_items (item_at texts [] 0) (scope_text texts [] 0) parts) (writers_at texts [] 0)
+    actuals : substituted (macro_at texts.macros id) (part_items (item_at texts [] 0) (scope_text texts [] 0) parts) (hide_set texts [] 0)
         ≡ substituted (macro_at texts.macros id) (map (map Written) (map (part_tokens texts.arguments) parts)) []
     actuals = ap (λ (xs : List (List Item)). substituted (macro_at texts.macros id) xs []) (written parts)
 
@@ -354,9 +354,9 @@ first-left rules s line d texts id parts =
 pub left-mode : (rules : Rules) (s : State) (line depth : ℕ) (texts : Texts) (x : Open) (below : List Open) (n : ℕ) (mode next : Mode)
     → text_tokens mode (open_bytes texts (open_behind x n mode) below) ≡ text_tokens next (open_bytes texts (open_behind x n mode) below)
     → open_left rules s line depth texts (open_behind x n mode ∷ below) ≡ open_left rules s line depth texts (open_behind x n next ∷ below)
-unfolding open_left open_items part_tokens open_bytes open_behind item_at open_scope writers_at
+unfolding open_left open_items part_tokens open_bytes open_behind item_at open_scope hide_set
 left-mode rules s line depth texts x below n mode next e =
-    ap (λ (ts : List SourceToken). and_then (expand rules s (room_in depth below) (Some line) (open_writers texts x below) (map (item_at texts (x ∷ below) (open_scope x below)) ts))
+    ap (λ (ts : List SourceToken). and_then (expand rules s (room_in depth below) (Some line) (open_hide_set texts x below) (map (item_at texts (x ∷ below) (open_scope x below)) ts))
     (open_left rules s line depth texts below)) e
 
 -- A usage in an open text, by the tokens behind its name: its fault, or the body that it opens.
@@ -398,8 +398,8 @@ item-role : (texts : Texts) (opens : List Open) (k : ℕ) (t : SourceToken) → 
 unfolding item_at item_role
 item-role texts [] k t = refl
 item-role texts (x ∷ below) k t =
-    role-choice (k == suc (length below)) (own_item texts x.kind (scope_text texts below x.parent) (item_at texts below x.parent) (writers_at texts below x.parent) t)
-    (item_at texts below k t) t (own-role texts x.kind (scope_text texts below x.parent) (item_at texts below x.parent) (writers_at texts below x.parent) t)
+    role-choice (k == suc (length below)) (own_item texts x.kind (scope_text texts below x.parent) (item_at texts below x.parent) (hide_set texts below x.parent) t)
+    (item_at texts below k t) t (own-role texts x.kind (scope_text texts below x.parent) (item_at texts below x.parent) (hide_set texts below x.parent) t)
     (item-role texts below k t)
 
 -- a mark or a token without its line, whatever it stands for
@@ -439,9 +439,9 @@ item-unlined : (texts : Texts) (opens : List Open) (k : ℕ) (t : SourceToken) �
 unfolding item_at unlined_item
 item-unlined texts [] k t = refl
 item-unlined texts (x ∷ below) k t =
-    let own : SourceToken → Item = own_item texts x.kind (scope_text texts below x.parent) (item_at texts below x.parent) (writers_at texts below x.parent) in
+    let own : SourceToken → Item = own_item texts x.kind (scope_text texts below x.parent) (item_at texts below x.parent) (hide_set texts below x.parent) in
     unlined-choice (k == suc (length below)) (own t) (item_at texts below k t) (own (unlined t)) (item_at texts below k (unlined t))
-    (own-unlined texts x.kind (scope_text texts below x.parent) (item_at texts below x.parent) (writers_at texts below x.parent) t)
+    (own-unlined texts x.kind (scope_text texts below x.parent) (item_at texts below x.parent) (hide_set texts below x.parent) t)
     (item-unlined texts below k t)
 
 -- a token of a scope is read as its item is
@@ -499,18 +499,18 @@ items-parts item text (p ∷ ps) = ap (λ (xs : List (List Item)). map item (par
 -- what the usage at the front of an open text comes to
 unfoldable pub first_usage : Rules → State → ℕ → Texts → Open → List Open → Usage SourceToken
 first_usage rules s line texts x below =
-    usage_of rules s text_reads line (open_writers texts x below) (drop 1 (first_bytes texts x below)) (tokens_behind texts x below)
+    usage_of rules s text_reads line (open_hide_set texts x below) (drop 1 (first_bytes texts x below)) (tokens_behind texts x below)
 
 -- what remains at a usage, by what it comes to
 usage-walks-on : (rules : Rules) (s : State) (line depth : ℕ) (texts : Texts) (x : Open) (below : List Open) (u : Usage SourceToken)
     → 0 < length (open_bytes texts x below) → first_kind texts x below ≡ Back → first_usage rules s line texts x below ≡ u
     → open_left rules s line depth texts (x ∷ below)
-    ≡ and_then (usage_walk rules s (deeper_of rules s (room_in depth below)) (Some line) (open_writers texts x below) line
+    ≡ and_then (usage_walk rules s (deeper_of rules s (room_in depth below)) (Some line) (open_hide_set texts x below) line
     (open_items texts (first_behind texts x below) below) (map_usage (item_at texts (x ∷ below) (open_scope x below)) u)) (open_left rules s line depth texts below)
 unfolding first_usage
 usage-walks-on rules s line depth texts x below u some back comes =
     let item = item_at texts (x ∷ below) (open_scope x below) in
-    let o = open_writers texts x below in
+    let o = open_hide_set texts x below in
     let name = drop 1 (first_bytes texts x below) in
     usage-left rules s line depth texts x below (map_usage item u) some back
     (ap (λ (xs : List Item). usage_of rules s (item_reads (Some line)) line o name xs) (behind-items texts x below)
@@ -533,7 +533,7 @@ pub step-usage_deep : (rules : Rules) (s : State) (line depth : ℕ) (texts : Te
 unfolding usage_walk map_usage
 step-usage_deep rules s line depth texts x below m actuals used some back comes deep =
     let deeper = deeper_of rules s (room_in depth below) in
-    let o = open_writers texts x below in
+    let o = open_hide_set texts x below in
     let items = map (map (item_at texts (x ∷ below) (open_scope x below))) actuals in
     let rest = walk rules s deeper (Some line) o used (open_items texts (first_behind texts x below) below) in
     let under = open_left rules s line depth texts below in
@@ -568,7 +568,7 @@ step-usage rules s line depth texts x below id parts used n mode h some back com
     let given = map (map item) (map (part_tokens (text_around texts x.kind x.parent below)) parts) in
     let actuals = part_items (item_at texts opens scope) (scope_text texts opens scope) parts in
     let deeper = deeper_of rules s (room_in depth below) in
-    let o = open_writers texts x below in
+    let o = open_hide_set texts x below in
     let items = open_items texts (first_behind texts x below) below in
     let body = deeper line (m.name ∷ o) (substituted m given o) in
     let last = open_left rules s line depth texts opens in
@@ -580,7 +580,7 @@ step-usage rules s line depth texts x below id parts used n mode h some back com
     (ap (λ (xs : List Item). drop used xs) (behind-items texts x below) ∙ drop-map item used (tokens_behind texts x below) ∙ ap (λ (ts : List SourceToken). map item ts) left ∙ behind-part texts x below n mode))
     ∙ ap (λ (y : Outcome). and_then body y) (behind-walk rules s line depth texts x below n mode)
     ∙ ap (λ (xs : List (List Item)). and_then (deeper line (m.name ∷ o) (substituted m xs o)) last) (actual-items texts x below n mode parts h)
-    ∙ ap (λ (w : List (List ℕ)). and_then (deeper line (m.name ∷ w) (substituted m actuals w)) last) (sym (scope-writers texts x below n mode))
-    ∙ ap (λ (xs : List Item). and_then (deeper line (m.name ∷ writers_at texts opens scope) xs) last) (sym (body-items texts id parts scope opens))
-    ∙ ap (λ (w : List (List ℕ)). and_then (deeper line w (open_items texts new opens)) last) (sym (body-writers texts id parts scope opens))
+    ∙ ap (λ (w : List (List ℕ)). and_then (deeper line (m.name ∷ w) (substituted m actuals w)) last) (sym (scope-hidden texts x below n mode))
+    ∙ ap (λ (xs : List Item). and_then (deeper line (m.name ∷ hide_set texts opens scope) xs) last) (sym (body-items texts id parts scope opens))
+    ∙ ap (λ (w : List (List ℕ)). and_then (deeper line w (open_items texts new opens)) last) (sym (body-hidden texts id parts scope opens))
     ∙ opens-room rules s line depth texts new opens room

@@ -9,7 +9,7 @@ use Rattle.rdlpp_meaning.specs.State.{Rules, State}
 use Rattle.rdlpp_meaning.specs.Items.{Item, Written}
 use Rattle.rdlpp_meaning.specs.Substitution.{marked}
 use Rattle.rdlpp_meaning.specs.Expansion.{expand}
-use Rattle.rdlpp_meaning.specs.Opens.{Part, OpenKind, OpenBody, OpenActual, OpenDefault, Open, Texts, scope_text, text_around, part_tokens, open_scope, writers_at}
+use Rattle.rdlpp_meaning.specs.Opens.{Part, OpenKind, OpenBody, OpenActual, OpenDefault, Open, Texts, scope_text, text_around, part_tokens, open_scope, hide_set}
 
 -- the items of parts of a text, by what its tokens are
 abbrev pub part_items : (SourceToken → Item) → List ℕ → List Part → List (List Item)
@@ -28,7 +28,7 @@ unfoldable pub item_at : Texts → List Open → ℕ → SourceToken → Item
 item_at texts [] k t = Written t
 item_at texts (x ∷ below) k t =
     if k == suc (length below)
-    then own_item texts x.kind (scope_text texts below x.parent) (item_at texts below x.parent) (writers_at texts below x.parent) t
+    then own_item texts x.kind (scope_text texts below x.parent) (item_at texts below x.parent) (hide_set texts below x.parent) t
     else item_at texts below k t
 
 -- the items that are left of an open text, in front of others
@@ -37,12 +37,12 @@ open_items texts x below =
     map (item_at texts (x ∷ below) (open_scope x below)) (part_tokens (text_around texts x.kind x.parent below) x.part)
 
 -- the macros in whose text an open text is written, in front of others
-abbrev pub open_writers : Texts → Open → List Open → List (List ℕ)
-open_writers texts x below = writers_at texts (x ∷ below) (open_scope x below)
+abbrev pub open_hide_set : Texts → Open → List Open → List (List ℕ)
+open_hide_set texts x below = hide_set texts (x ∷ below) (open_scope x below)
 
 -- what remains of open texts, innermost first, of a usage at a line, where so many texts may be open
 unfoldable pub open_left : Rules → State → ℕ → ℕ → Texts → List Open → Outcome
 open_left rules s line depth texts [] = gives []
 open_left rules s line depth texts (x ∷ below) =
-    and_then (expand rules s (depth - suc (length below)) (Some line) (open_writers texts x below) (open_items texts x below))
+    and_then (expand rules s (depth - suc (length below)) (Some line) (open_hide_set texts x below) (open_items texts x below))
     (open_left rules s line depth texts below)

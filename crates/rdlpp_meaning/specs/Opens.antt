@@ -144,13 +144,13 @@ open_body texts id parts parent = record {
 }
 
 -- the macros in whose text a scope is, by what it is and those of its parent
-unfoldable pub own_writers : Texts → OpenKind → List (List ℕ) → List (List ℕ)
-own_writers texts (OpenBody id parts) writers = (macro_at texts.macros id).name ∷ writers
-own_writers texts OpenActual writers = []
-own_writers texts (OpenDefault id place) writers = writers
+unfoldable pub own_hide_set : Texts → OpenKind → List (List ℕ) → List (List ℕ)
+own_hide_set texts (OpenBody id parts) hidden = (macro_at texts.macros id).name ∷ hidden
+own_hide_set texts OpenActual hidden = []
+own_hide_set texts (OpenDefault id place) hidden = hidden
 
 -- the macros in whose text a scope is: those of the bodies down the chain of parents
-unfoldable pub writers_at : Texts → List Open → ℕ → List (List ℕ)
-writers_at texts [] k = []
-writers_at texts (x ∷ below) k =
-    if k == suc (length below) then own_writers texts x.kind (writers_at texts below x.parent) else writers_at texts below k
+unfoldable pub hide_set : Texts → List Open → ℕ → List (List ℕ)
+hide_set texts [] k = []
+hide_set texts (x ∷ below) k =
+    if k == suc (length below) then own_hide_set texts x.kind (hide_set texts below x.parent) else hide_set texts below k

@@ -17,7 +17,7 @@ use Rattle.rdlpp_texts.specs.declared.frame.FrameKind.{FrameKind}
 use Rattle.rdlpp_texts.specs.declared.frame.FrameKind.TheVariants as frame
 use Rattle.rdlpp_texts.specs.Opened.{kind_of, bindings_below, open_of, opens_of, frame_source, is_body_of, kind_outer, outer_of, AreParentedFrames}
 use Rattle.rdlpp_texts.specs.Places.{texts_of, source_text, source_formals}
-use Rattle.rdlpp_texts.specs.Scopes.{kind_source, found_source, own_source, front_source, front_scope, innermost_place, own_ids, writer_ids, IsBound, AreBound}
+use Rattle.rdlpp_texts.specs.Scopes.{kind_source, found_source, own_source, front_source, front_scope, innermost_place, own_ids, hidden_ids, IsBound, AreBound}
 
 -- the text of a scope, by the open text that it is
 unfoldable text_found : Texts → Option Open → List ℕ
@@ -458,14 +458,14 @@ standing-actual formals id place scope parent end range parts none e p =
         ap (λ (b : Bool). b && not (length (formal_at formals place).text == 0)) (ne_eqb (range.to - range.from) 0 (λ z. omega (arith, less, z)))
 
 -- the source is in no macro's text
-ids-source : (opens : List Open) → writer_ids opens 0 ≡ []
-unfolding writer_ids
+ids-source : (opens : List Open) → hidden_ids opens 0 ≡ []
+unfolding hidden_ids
 ids-source [] = refl
 ids-source (x ∷ below) = rw (not_next 0 (length below) (omega arith)) (ids-source below)
 
 -- a scope further out is in the same texts with one more open text
-ids-around : (x : Open) (below : List Open) (k : ℕ) → k ≤ length below → writer_ids (x ∷ below) k ≡ writer_ids below k
-unfolding writer_ids
+ids-around : (x : Open) (below : List Open) (k : ℕ) → k ≤ length below → hidden_ids (x ∷ below) k ≡ hidden_ids below k
+unfolding hidden_ids
 ids-around x below k h = rw (not_next k (length below) h) refl
 
 -- the scope in which a frame's call is written is its parent or the source
@@ -477,13 +477,13 @@ outer-inside (frame.Default id place) parent = omega arith
 -- what a scope's frame tells of the macros in whose text it is
 pub record IsWritten (frames : List Frame) (bindings : List Range) (k id : ℕ) (own : Frame) : Type 0 where
   pub further : outer_of own < k
-  pub step : list_any (λ j. id == j) (writer_ids (opens_of frames bindings) k)
-      ≡ (is_body_of own.kind id || list_any (λ j. id == j) (writer_ids (opens_of frames bindings) (outer_of own)))
+  pub step : list_any (λ j. id == j) (hidden_ids (opens_of frames bindings) k)
+      ≡ (is_body_of own.kind id || list_any (λ j. id == j) (hidden_ids (opens_of frames bindings) (outer_of own)))
 
 -- the innermost open text's own scope, by what it is
 own-step : (id : ℕ) (x : Open) (below : List Open) (kind : FrameKind) (bindings : List Range) (parent : ℕ) → parent ≤ length below
-    → list_any (λ j. id == j) (own_ids (kind_of kind bindings) (writer_ids below parent))
-    ≡ (is_body_of kind id || list_any (λ j. id == j) (writer_ids (x ∷ below) (kind_outer kind parent)))
+    → list_any (λ j. id == j) (own_ids (kind_of kind bindings) (hidden_ids below parent))
+    ≡ (is_body_of kind id || list_any (λ j. id == j) (hidden_ids (x ∷ below) (kind_outer kind parent)))
 own-step id x below (frame.Body own first) bindings parent h =
     ap (λ (ids : List ℕ). (id == own) || list_any (λ j. id == j) ids) (sym (ids-around x below parent h))
 own-step id x below frame.Actual bindings parent h = sym (ap (λ (ids : List ℕ). list_any (λ j. id == j) ids) (ids-source (x ∷ below)))
@@ -493,7 +493,7 @@ own-step id x below (frame.Default own place) bindings parent h =
 -- it tells that
 pub written-step : (frames : List Frame) (bindings : List Range) (k id : ℕ) (own : Frame) → AreParentedFrames frames → 0 < k → k ≤ length frames
     → own ≡ get_or frames (length frames - k) own → IsWritten frames bindings k id own
-unfolding opens_of writer_ids
+unfolding opens_of hidden_ids
 written-step [] bindings k id own parented positive inside e = absurd (omega (arith, positive, inside))
 written-step (y ∷ ys) bindings k id own parented positive inside e =
     by (k == suc (length ys)) refl (λ (less : k ≤ length ys) (f : own ≡ get_or ys (length ys - k) own). written-step ys (bindings_below y.kind bindings) k id own parented.1 positive less f)
@@ -512,8 +512,8 @@ written-step (y ∷ ys) bindings k id own parented positive inside e =
         let outer = outer-inside y.kind y.parent in
         subst (λ (z : Frame). IsWritten (y ∷ ys) bindings k id z) (sym is) (record {
           further = omega (arith, outer, parent, last);
-          step = ap (λ (m : ℕ). list_any (λ j. id == j) (if k == suc m then own_ids (kind_of y.kind bindings) (writer_ids (opens_of ys (bindings_below y.kind bindings)) y.parent) else writer_ids (opens_of ys (bindings_below y.kind bindings)) k)) n
-              ∙ ap (λ (b : Bool). list_any (λ j. id == j) (if b then own_ids (kind_of y.kind bindings) (writer_ids (opens_of ys (bindings_below y.kind bindings)) y.parent) else writer_ids (opens_of ys (bindings_below y.kind bindings)) k)) h
+          step = ap (λ (m : ℕ). list_any (λ j. id == j) (if k == suc m then own_ids (kind_of y.kind bindings) (hidden_ids (opens_of ys (bindings_below y.kind bindings)) y.parent) else hidden_ids (opens_of ys (bindings_below y.kind bindings)) k)) n
+              ∙ ap (λ (b : Bool). list_any (λ j. id == j) (if b then own_ids (kind_of y.kind bindings) (hidden_ids (opens_of ys (bindings_below y.kind bindings)) y.parent) else hidden_ids (opens_of ys (bindings_below y.kind bindings)) k)) h
               ∙ own-step id (open_of y bindings) (opens_of ys (bindings_below y.kind bindings)) y.kind bindings y.parent (omega (arith, n, parent));
         })
     by false h rest =
@@ -524,8 +524,8 @@ written-step (y ∷ ys) bindings k id own parented positive inside e =
         let further = inner.further in
         record {
           further = further;
-          step = ap (λ (m : ℕ). list_any (λ j. id == j) (if k == suc m then own_ids (kind_of y.kind bindings) (writer_ids (opens_of ys (bindings_below y.kind bindings)) y.parent) else writer_ids (opens_of ys (bindings_below y.kind bindings)) k)) n
-              ∙ ap (λ (b : Bool). list_any (λ j. id == j) (if b then own_ids (kind_of y.kind bindings) (writer_ids (opens_of ys (bindings_below y.kind bindings)) y.parent) else writer_ids (opens_of ys (bindings_below y.kind bindings)) k)) h
+          step = ap (λ (m : ℕ). list_any (λ j. id == j) (if k == suc m then own_ids (kind_of y.kind bindings) (hidden_ids (opens_of ys (bindings_below y.kind bindings)) y.parent) else hidden_ids (opens_of ys (bindings_below y.kind bindings)) k)) n
+              ∙ ap (λ (b : Bool). list_any (λ j. id == j) (if b then own_ids (kind_of y.kind bindings) (hidden_ids (opens_of ys (bindings_below y.kind bindings)) y.parent) else hidden_ids (opens_of ys (bindings_below y.kind bindings)) k)) h
               ∙ inner.step
               ∙ ap (λ (ids : List ℕ). is_body_of own.kind id || list_any (λ j. id == j) ids)
               (sym (ids-around (open_of y bindings) (opens_of ys (bindings_below y.kind bindings)) (outer_of own) (omega (arith, further, less, n))));
@@ -534,25 +534,25 @@ written-step (y ∷ ys) bindings k id own parented positive inside e =
 -- a scope whose frame has the body is in that macro's text
 pub written-found : (frames : List Frame) (bindings : List Range) (k scope id : ℕ) (own : Frame) → AreParentedFrames frames → 0 < k → k ≤ length frames
     → own ≡ get_or frames (length frames - k) own → is_body_of own.kind id ≡ true
-    → list_any (λ j. id == j) (writer_ids (opens_of frames bindings) k) ≡ list_any (λ j. id == j) (writer_ids (opens_of frames bindings) scope)
-    → true ≡ list_any (λ j. id == j) (writer_ids (opens_of frames bindings) scope)
+    → list_any (λ j. id == j) (hidden_ids (opens_of frames bindings) k) ≡ list_any (λ j. id == j) (hidden_ids (opens_of frames bindings) scope)
+    → true ≡ list_any (λ j. id == j) (hidden_ids (opens_of frames bindings) scope)
 written-found frames bindings k scope id own parented positive inside e here same =
     sym ((written-step frames bindings k id own parented positive inside e).step
-    ∙ ap (λ (b : Bool). b || list_any (λ j. id == j) (writer_ids (opens_of frames bindings) (outer_of own))) here) ∙ same
+    ∙ ap (λ (b : Bool). b || list_any (λ j. id == j) (hidden_ids (opens_of frames bindings) (outer_of own))) here) ∙ same
 
 -- and one whose frame hasn't is where that of its parent is
 pub written-further : (frames : List Frame) (bindings : List Range) (k scope id : ℕ) (own : Frame) → AreParentedFrames frames → 0 < k → k ≤ length frames
     → own ≡ get_or frames (length frames - k) own → is_body_of own.kind id ≡ false
-    → list_any (λ j. id == j) (writer_ids (opens_of frames bindings) k) ≡ list_any (λ j. id == j) (writer_ids (opens_of frames bindings) scope)
-    → list_any (λ j. id == j) (writer_ids (opens_of frames bindings) (outer_of own)) ≡ list_any (λ j. id == j) (writer_ids (opens_of frames bindings) scope)
+    → list_any (λ j. id == j) (hidden_ids (opens_of frames bindings) k) ≡ list_any (λ j. id == j) (hidden_ids (opens_of frames bindings) scope)
+    → list_any (λ j. id == j) (hidden_ids (opens_of frames bindings) (outer_of own)) ≡ list_any (λ j. id == j) (hidden_ids (opens_of frames bindings) scope)
 written-further frames bindings k scope id own parented positive inside e here same =
     sym ((written-step frames bindings k id own parented positive inside e).step
-    ∙ ap (λ (b : Bool). b || list_any (λ j. id == j) (writer_ids (opens_of frames bindings) (outer_of own))) here) ∙ same
+    ∙ ap (λ (b : Bool). b || list_any (λ j. id == j) (hidden_ids (opens_of frames bindings) (outer_of own))) here) ∙ same
 
 -- the source is in none
 pub written-source : (frames : List Frame) (bindings : List Range) (k scope id : ℕ) → k ≡ 0
-    → list_any (λ j. id == j) (writer_ids (opens_of frames bindings) k) ≡ list_any (λ j. id == j) (writer_ids (opens_of frames bindings) scope)
-    → false ≡ list_any (λ j. id == j) (writer_ids (opens_of frames bindings) scope)
+    → list_any (λ j. id == j) (hidden_ids (opens_of frames bindings) k) ≡ list_any (λ j. id == j) (hidden_ids (opens_of frames bindings) scope)
+    → false ≡ list_any (λ j. id == j) (hidden_ids (opens_of frames bindings) scope)
 written-source frames bindings k scope id e same =
-    sym (ap (λ (j : ℕ). list_any (λ i. id == i) (writer_ids (opens_of frames bindings) j)) e
+    sym (ap (λ (j : ℕ). list_any (λ i. id == i) (hidden_ids (opens_of frames bindings) j)) e
     ∙ ap (λ (ids : List ℕ). list_any (λ i. id == i) ids) (ids-source (opens_of frames bindings))) ∙ same

@@ -14,7 +14,7 @@ use Rattle.rdlpp_meaning.specs.declared.fault.FaultKind.{FaultKind}
 use Rattle.rdlpp_texts.specs.BoundCalls.{AreWithin, IsBoundCall, range_part}
 use Rattle.rdlpp_texts.specs.Calls.{IsCallBound, IsOpening}
 use Rattle.rdlpp_texts.specs.Opened.{AreBounded, AreLaid, CursorsView, IsFree, IsNoBody, IsStack, IsWithin, bindings_below, bound_by, is_excluded, is_spent, kept_by, kind_of, moved_to, open_of, opens_of}
-use Rattle.rdlpp_texts.specs.Scopes.{own_ids, writer_ids}
+use Rattle.rdlpp_texts.specs.Scopes.{own_ids, hidden_ids}
 use Rattle.rdlpp_texts.specs.declared.bindings.Range.{Range}
 use Rattle.rdlpp_texts.specs.declared.cursors.call.Opening.TheVariants.{Deep, Opened, Refused}
 use Rattle.rdlpp_texts.specs.declared.frame.Bounds.{Bounds}
@@ -38,23 +38,23 @@ kind-ids frame.Actual xs ys ids = refl
 kind-ids (frame.Default id place) xs ys ids = refl
 
 -- nor do those of any
-ids-same : (frames : List Frame) (xs ys : List Range) (k : ℕ) → writer_ids (opens_of frames xs) k ≡ writer_ids (opens_of frames ys) k
-unfolding opens_of writer_ids
+ids-same : (frames : List Frame) (xs ys : List Range) (k : ℕ) → hidden_ids (opens_of frames xs) k ≡ hidden_ids (opens_of frames ys) k
+unfolding opens_of hidden_ids
 ids-same [] xs ys k = refl
 ids-same (y ∷ below) xs ys k =
     let inner : List Range → List Open = λ (bs : List Range). opens_of below (bindings_below y.kind bs) in
-    let own : List Range → List ℕ = λ (bs : List Range). own_ids (kind_of y.kind bs) (writer_ids (inner bs) y.parent) in
+    let own : List Range → List ℕ = λ (bs : List Range). own_ids (kind_of y.kind bs) (hidden_ids (inner bs) y.parent) in
     let owns : own xs ≡ own ys =
     ap (λ (ids : List ℕ). own_ids (kind_of y.kind xs) ids) (ids-same below (bindings_below y.kind xs) (bindings_below y.kind ys) y.parent)
-    ∙ kind-ids y.kind xs ys (writer_ids (inner ys) y.parent) in
-    ap (λ (m : ℕ). if k == suc m then own xs else writer_ids (inner xs) k) (opens-length below (bindings_below y.kind xs))
-    ∙ ap (λ (ids : List ℕ). if k == suc (length below) then ids else writer_ids (inner xs) k) owns
+    ∙ kind-ids y.kind xs ys (hidden_ids (inner ys) y.parent) in
+    ap (λ (m : ℕ). if k == suc m then own xs else hidden_ids (inner xs) k) (opens-length below (bindings_below y.kind xs))
+    ∙ ap (λ (ids : List ℕ). if k == suc (length below) then ids else hidden_ids (inner xs) k) owns
     ∙ ap (λ (ids : List ℕ). if k == suc (length below) then own ys else ids) (ids-same below (bindings_below y.kind xs) (bindings_below y.kind ys) k)
-    ∙ sym (ap (λ (m : ℕ). if k == suc m then own ys else writer_ids (inner ys) k) (opens-length below (bindings_below y.kind ys)))
+    ∙ sym (ap (λ (m : ℕ). if k == suc m then own ys else hidden_ids (inner ys) k) (opens-length below (bindings_below y.kind ys)))
 
 -- a scope that no frame is is in no macro's text
-pub ids-none : (frames : List Frame) (bindings : List Range) (k : ℕ) → (k ≡ 0) ⊎ ((k ≡ 0 → ⊥) × (length frames < k)) → writer_ids (opens_of frames bindings) k ≡ []
-unfolding opens_of writer_ids
+pub ids-none : (frames : List Frame) (bindings : List Range) (k : ℕ) → (k ≡ 0) ⊎ ((k ≡ 0 → ⊥) × (length frames < k)) → hidden_ids (opens_of frames bindings) k ≡ []
+unfolding opens_of hidden_ids
 ids-none [] bindings k h = refl
 ids-none (y ∷ ys) bindings k h =
     let n = opens-length ys (bindings_below y.kind bindings) in
@@ -72,8 +72,8 @@ ids-none (y ∷ ys) bindings k h =
 
 -- a scope's macros are within the bounds of its frame
 pub bounded-at : (frames : List Frame) (bindings : List Range) (k : ℕ) (own : Frame) → AreBounded frames → 0 < k → k ≤ length frames
-    → own ≡ get_or frames (length frames - k) own → AllByRecursion (IsWithin own.bounds) (writer_ids (opens_of frames bindings) k)
-unfolding opens_of writer_ids AreBounded
+    → own ≡ get_or frames (length frames - k) own → AllByRecursion (IsWithin own.bounds) (hidden_ids (opens_of frames bindings) k)
+unfolding opens_of hidden_ids AreBounded
 bounded-at [] bindings k own bounded positive inside e = absurd (omega (arith, positive, inside))
 bounded-at (y ∷ ys) bindings k own bounded positive inside e =
     by (k == suc (length ys)) refl (λ (less : k ≤ length ys) (f : own ≡ get_or ys (length ys - k) own). bounded-at ys (bindings_below y.kind bindings) k own bounded.1 positive less f)
@@ -85,23 +85,23 @@ bounded-at (y ∷ ys) bindings k own bounded positive inside e =
     n = opens-length ys (bindings_below y.kind bindings)
 
     here-is : (here : Bool) → (k == suc (length ys)) ≡ here
-        → writer_ids (opens_of (y ∷ ys) bindings) k ≡ (if here then own_ids (kind_of y.kind bindings) (writer_ids inner y.parent) else writer_ids inner k)
+        → hidden_ids (opens_of (y ∷ ys) bindings) k ≡ (if here then own_ids (kind_of y.kind bindings) (hidden_ids inner y.parent) else hidden_ids inner k)
     here-is here h =
-        ap (λ (m : ℕ). if k == suc m then own_ids (kind_of y.kind bindings) (writer_ids inner y.parent) else writer_ids inner k) n
-        ∙ ap (λ (b : Bool). if b then own_ids (kind_of y.kind bindings) (writer_ids inner y.parent) else writer_ids inner k) h
+        ap (λ (m : ℕ). if k == suc m then own_ids (kind_of y.kind bindings) (hidden_ids inner y.parent) else hidden_ids inner k) n
+        ∙ ap (λ (b : Bool). if b then own_ids (kind_of y.kind bindings) (hidden_ids inner y.parent) else hidden_ids inner k) h
 
     by : (here : Bool) → (k == suc (length ys)) ≡ here
-        → (k ≤ length ys → own ≡ get_or ys (length ys - k) own → AllByRecursion (IsWithin own.bounds) (writer_ids inner k))
-        → AllByRecursion (IsWithin own.bounds) (writer_ids (opens_of (y ∷ ys) bindings) k)
+        → (k ≤ length ys → own ≡ get_or ys (length ys - k) own → AllByRecursion (IsWithin own.bounds) (hidden_ids inner k))
+        → AllByRecursion (IsWithin own.bounds) (hidden_ids (opens_of (y ∷ ys) bindings) k)
     by true h rest =
         let last : k ≡ suc (length ys) = eqb-true k (suc (length ys)) h in
         let zeroth : suc (length ys) - k ≡ 0 = omega (arith, last) in
         let is : own ≡ y = e ∙ ap (λ (i : ℕ). get_or (y ∷ ys) i own) zeroth in
-        let ids : own_ids (kind_of y.kind []) (writer_ids (opens_of ys []) y.parent) ≡ writer_ids (opens_of (y ∷ ys) bindings) k =
+        let ids : own_ids (kind_of y.kind []) (hidden_ids (opens_of ys []) y.parent) ≡ hidden_ids (opens_of (y ∷ ys) bindings) k =
         ap (λ (ids : List ℕ). own_ids (kind_of y.kind []) ids) (ids-same ys [] (bindings_below y.kind bindings) y.parent)
-        ∙ kind-ids y.kind [] bindings (writer_ids inner y.parent)
+        ∙ kind-ids y.kind [] bindings (hidden_ids inner y.parent)
         ∙ sym (here-is true h) in
-        subst (λ (z : Frame). AllByRecursion (IsWithin z.bounds) (writer_ids (opens_of (y ∷ ys) bindings) k)) (sym is)
+        subst (λ (z : Frame). AllByRecursion (IsWithin z.bounds) (hidden_ids (opens_of (y ∷ ys) bindings) k)) (sym is)
         (subst (λ (ids : List ℕ). AllByRecursion (IsWithin y.bounds) ids) ids bounded.0)
     by false h rest =
         let apart : k ≡ suc (length ys) → ⊥ = eqb-false k (suc (length ys)) h in
@@ -135,10 +135,10 @@ excluded-none (j ∷ ids) bounds id out h =
 -- a scope whose frame's bounds exclude a macro isn't in its text
 pub bounded-excluded : (frames : List Frame) (bindings : List Range) (k scope id : ℕ) (own : Frame) → AreBounded frames → 0 < k → k ≤ length frames
     → own ≡ get_or frames (length frames - k) own → is_excluded own.bounds id ≡ true
-    → list_any (λ j. id == j) (writer_ids (opens_of frames bindings) k) ≡ list_any (λ j. id == j) (writer_ids (opens_of frames bindings) scope)
-    → false ≡ list_any (λ j. id == j) (writer_ids (opens_of frames bindings) scope)
+    → list_any (λ j. id == j) (hidden_ids (opens_of frames bindings) k) ≡ list_any (λ j. id == j) (hidden_ids (opens_of frames bindings) scope)
+    → false ≡ list_any (λ j. id == j) (hidden_ids (opens_of frames bindings) scope)
 bounded-excluded frames bindings k scope id own bounded positive inside e out same =
-    sym (excluded-none (writer_ids (opens_of frames bindings) k) own.bounds id out (bounded-at frames bindings k own bounded positive inside e)) ∙ same
+    sym (excluded-none (hidden_ids (opens_of frames bindings) k) own.bounds id out (bounded-at frames bindings k own bounded positive inside e)) ∙ same
 
 -- the bounds of a text that is no body are those of its parent
 pub text-bounded : (kind : FrameKind) (bounds : Bounds) (ids : List ℕ) → IsNoBody kind → AllByRecursion (IsWithin bounds) ids
@@ -165,7 +165,7 @@ closed-bounded frames first own inside e h =
 
 -- what is asked of the bounds of a frame in front of others
 abbrev pub IsBoundedOn : Frame → List Frame → Type 0
-IsBoundedOn new frames = AllByRecursion (IsWithin new.bounds) (own_ids (kind_of new.kind []) (writer_ids (opens_of frames []) new.parent))
+IsBoundedOn new frames = AllByRecursion (IsWithin new.bounds) (own_ids (kind_of new.kind []) (hidden_ids (opens_of frames []) new.parent))
 
 -- no open text is bounded
 pub none-bounded : AreBounded []
@@ -180,7 +180,7 @@ more-bounded new frames own h = (own, h)
 -- the bounds of a frame are asked of the same macros where the innermost goes on at a place
 pub moved-on : (new : Frame) (frames : List Frame) (first at : ℕ) (own : Frame) → first < length frames → own ≡ get_or frames first own → IsBoundedOn new (drop first frames)
     → IsBoundedOn new (drop first (set frames first (record own { from = at })))
-unfolding opens_of writer_ids
+unfolding opens_of hidden_ids
 moved-on new frames first at own inside e h =
     let both : IsBoundedOn new (own ∷ drop (first + 1) frames) = subst (λ (s : List Frame). IsBoundedOn new s) (frames-at frames first own inside e) h in
     subst (λ (s : List Frame). IsBoundedOn new s) (sym (drop-set frames first (record own { from = at }) inside)) both
@@ -194,21 +194,21 @@ lent-bounded frames lent first e h =
 
 -- the bounds of the body of a macro that are told of the frames as they are lent
 pub lent-body : (frames lent : List Frame) (first id parent : ℕ) (bounds : Bounds) → lent ≡ frames
-    → ((bindings : List Range) → AllByRecursion (IsWithin bounds) (id ∷ writer_ids (opens_of (take (length lent - first) (drop first lent)) bindings) parent))
-    → AllByRecursion (IsWithin bounds) (id ∷ writer_ids (opens_of (drop first frames) []) parent)
+    → ((bindings : List Range) → AllByRecursion (IsWithin bounds) (id ∷ hidden_ids (opens_of (take (length lent - first) (drop first lent)) bindings) parent))
+    → AllByRecursion (IsWithin bounds) (id ∷ hidden_ids (opens_of (drop first frames) []) parent)
 lent-body frames lent first id parent bounds e h =
     let size = length-drop first lent in
-    subst (λ (s : List Frame). AllByRecursion (IsWithin bounds) (id ∷ writer_ids (opens_of s []) parent))
+    subst (λ (s : List Frame). AllByRecursion (IsWithin bounds) (id ∷ hidden_ids (opens_of s []) parent))
     (take_all (length lent - first) (drop first lent) (omega (arith, size)) ∙ ap (λ (s : List Frame). drop first s) e) (h [])
 
 -- those of a text that is no body
 pub lent-text : (frames lent : List Frame) (first parent : ℕ) (kind : FrameKind) (bounds : Bounds) → lent ≡ frames → IsNoBody kind
-    → ((bindings : List Range) → AllByRecursion (IsWithin bounds) (writer_ids (opens_of (take (length lent - first) (drop first lent)) bindings) parent))
-    → AllByRecursion (IsWithin bounds) (own_ids (kind_of kind []) (writer_ids (opens_of (drop first frames) []) parent))
+    → ((bindings : List Range) → AllByRecursion (IsWithin bounds) (hidden_ids (opens_of (take (length lent - first) (drop first lent)) bindings) parent))
+    → AllByRecursion (IsWithin bounds) (own_ids (kind_of kind []) (hidden_ids (opens_of (drop first frames) []) parent))
 lent-text frames lent first parent kind bounds e nobody h =
     let size = length-drop first lent in
-    text-bounded kind bounds (writer_ids (opens_of (drop first frames) []) parent) nobody
-    (subst (λ (s : List Frame). AllByRecursion (IsWithin bounds) (writer_ids (opens_of s []) parent))
+    text-bounded kind bounds (hidden_ids (opens_of (drop first frames) []) parent) nobody
+    (subst (λ (s : List Frame). AllByRecursion (IsWithin bounds) (hidden_ids (opens_of s []) parent))
     (take_all (length lent - first) (drop first lent) (omega (arith, size)) ∙ ap (λ (s : List Frame). drop first s) e) (h []))
 
 -- no macro is within no bounds, and none is asked for

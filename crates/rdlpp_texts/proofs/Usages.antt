@@ -16,7 +16,7 @@ use Rattle.rdlpp_table.specs.View.{IsSound, IsSoundMacro, TableView, macro_at, n
 use Rattle.rdlpp_table.proofs.Orders.{place_of_name}
 use Rattle.rdlpp_meaning.specs.Actuals.{Reads, text_reads}
 use Rattle.rdlpp_meaning.specs.Expansion.{Opens, Refuses, usage_of, usage_of_formals, usage_of_macro}
-use Rattle.rdlpp_meaning.specs.Opens.{AreOpen, Open, OpenActual, OpenBody, OpenDefault, OpenKind, Texts, open_behind, open_body, open_bytes, open_scope, own_text, own_writers, part_tokens, scope_open, text_around, writers_at}
+use Rattle.rdlpp_meaning.specs.Opens.{AreOpen, Open, OpenActual, OpenBody, OpenDefault, OpenKind, Texts, open_behind, open_body, open_bytes, open_scope, own_text, own_hide_set, part_tokens, scope_open, text_around, hide_set}
 use Rattle.rdlpp_meaning.specs.State.{Rules, State}
 use Rattle.rdlpp_meaning.specs.declared.fault.FaultKind.{FaultKind}
 use Rattle.rdlpp_meaning.specs.declared.fault.FaultKind.TheVariants.{ArgumentCount, ArgumentsMissing, ArgumentsOpen, BareBackquote, DepthPassed, DirectiveInText, RecursiveMacro, UndefinedMacro}
@@ -27,7 +27,7 @@ use Rattle.rdlpp_texts.specs.Digits.{IsFalling}
 use Rattle.rdlpp_texts.specs.TextItems.{AreCopied, IsNextItem, IsTextItem, IsPeek, IsPeekAhead}
 use Rattle.rdlpp_texts.specs.Opened.{AreParentedFrames, CursorsView, bindings_below, moved_to, open_of, opens_of}
 use Rattle.rdlpp_texts.specs.Places.{IsPlaced, IsSource, place_bytes, source_formals, source_text, texts_of}
-use Rattle.rdlpp_texts.specs.Scopes.{AreFurtherOut, found_source, front_scope, front_source, innermost_place, kind_source, own_ids, own_source, writer_ids}
+use Rattle.rdlpp_texts.specs.Scopes.{AreFurtherOut, found_source, front_scope, front_source, innermost_place, kind_source, own_ids, own_source, hidden_ids}
 use Rattle.rdlpp_texts.specs.Steps.{AreInside, AreSound, IsKnown, IsPlacedStep, IsStep, StaysRefused, StepsTo, wordless}
 use Rattle.rdlpp_texts.specs.Usages.{IsRefused, IsUsed, front_name, is_text_fault, unknown_kind}
 use Rattle.rdlpp_texts.specs.declared.bindings.Range.{Range}
@@ -253,11 +253,11 @@ usage-word texts (x ∷ below) peek len from end h l e f g =
 first-is : (rules : Rules) (s : State) (line : ℕ) (texts : Texts) (x : Open) (below : List Open) (len : ℕ) → x.part.mode ≡ Plain
     → (token_of Plain (open_bytes texts x below)).len ≡ len
     → first_usage rules s line texts x below
-    ≡ usage_of rules s text_reads line (writers_at texts (x ∷ below) (front_scope (x ∷ below))) (front_name texts (x ∷ below) len)
+    ≡ usage_of rules s text_reads line (hide_set texts (x ∷ below) (front_scope (x ∷ below))) (front_name texts (x ∷ below) len)
     (tokens_behind texts x below)
 unfolding first_usage front_name front_scope
 first-is rules s line texts x below len m e =
-    ap (λ (bytes : List ℕ). usage_of rules s text_reads line (writers_at texts (x ∷ below) (open_scope x below)) (drop 1 bytes) (tokens_behind texts x below)) (bytes-first texts x below len m e)
+    ap (λ (bytes : List ℕ). usage_of rules s text_reads line (hide_set texts (x ∷ below) (open_scope x below)) (drop 1 bytes) (tokens_behind texts x below)) (bytes-first texts x below len m e)
 
 -- the name of a directive is refused
 reserved-is : (reads : Reads SourceToken) (rules : Rules) (s : State) (line : ℕ) (o : List (List ℕ)) (name : List ℕ) (ts : List SourceToken) → is_reserved name ≡ true
@@ -296,7 +296,7 @@ unknown-refused texts opens name false e r rules s line ts m =
 -- so is a name that stands in the text of its macro
 pub recursive-refused : (texts : Texts) (opens : List Open) (name : List ℕ) (id : ℕ) → is_reserved name ≡ false
     → macro_named texts.macros name ≡ Some (macro_at texts.macros id)
-    → list_any (bytes_eq name) (writers_at texts opens (front_scope opens)) ≡ true
+    → list_any (bytes_eq name) (hide_set texts opens (front_scope opens)) ≡ true
     → IsRefused texts opens name RecursiveMacro
 unfolding IsRefused
 recursive-refused texts opens name id r e w rules s line ts m =
@@ -371,29 +371,29 @@ step-opened_deep line depth texts x below len id new fault h f used none deep k 
     ∙ sym (fault-same s line texts fault DepthPassed [] k w)
 
 -- the macros in whose text a scope is, by name and by place
-pub writers-ids : (texts : Texts) (opens : List Open) (k id : ℕ) (name : List ℕ) → AreInside texts opens
+pub hidden-ids : (texts : Texts) (opens : List Open) (k id : ℕ) (name : List ℕ) → AreInside texts opens
     → ((j : ℕ) → j < length texts.macros → bytes_eq name (macro_at texts.macros j).name ≡ (id == j))
-    → list_any (bytes_eq name) (writers_at texts opens k) ≡ list_any (λ j. id == j) (writer_ids opens k)
-unfolding writers_at writer_ids own_writers
-writers-ids texts [] k id name h alone = refl
-writers-ids texts (x ∷ below) k id name h alone =
-    by (k == suc (length below)) (kind-ids x.kind h.0 (writers-ids texts below x.parent id name rest alone)) (writers-ids texts below k id name rest alone)
+    → list_any (bytes_eq name) (hide_set texts opens k) ≡ list_any (λ j. id == j) (hidden_ids opens k)
+unfolding hide_set hidden_ids own_hide_set
+hidden-ids texts [] k id name h alone = refl
+hidden-ids texts (x ∷ below) k id name h alone =
+    by (k == suc (length below)) (kind-ids x.kind h.0 (hidden-ids texts below x.parent id name rest alone)) (hidden-ids texts below k id name rest alone)
   where
     rest : AreInside texts below
     rest = ((h.1).1).1
 
     kind-ids : (kind : OpenKind) → IsKnown texts.macros kind
-        → list_any (bytes_eq name) (writers_at texts below x.parent) ≡ list_any (λ j. id == j) (writer_ids below x.parent)
-        → list_any (bytes_eq name) (own_writers texts kind (writers_at texts below x.parent)) ≡ list_any (λ j. id == j) (own_ids kind (writer_ids below x.parent))
+        → list_any (bytes_eq name) (hide_set texts below x.parent) ≡ list_any (λ j. id == j) (hidden_ids below x.parent)
+        → list_any (bytes_eq name) (own_hide_set texts kind (hide_set texts below x.parent)) ≡ list_any (λ j. id == j) (own_ids kind (hidden_ids below x.parent))
     kind-ids (OpenBody own parts) known e =
-        ap (λ (b : Bool). b || list_any (bytes_eq name) (writers_at texts below x.parent)) (alone own known) ∙ ap (λ (b : Bool). (id == own) || b) e
+        ap (λ (b : Bool). b || list_any (bytes_eq name) (hide_set texts below x.parent)) (alone own known) ∙ ap (λ (b : Bool). (id == own) || b) e
     kind-ids OpenActual known e = refl
     kind-ids (OpenDefault own place) known e = e
 
-    by : (here : Bool) → list_any (bytes_eq name) (own_writers texts x.kind (writers_at texts below x.parent)) ≡ list_any (λ j. id == j) (own_ids x.kind (writer_ids below x.parent))
-        → list_any (bytes_eq name) (writers_at texts below k) ≡ list_any (λ j. id == j) (writer_ids below k)
-        → list_any (bytes_eq name) (if here then own_writers texts x.kind (writers_at texts below x.parent) else writers_at texts below k)
-        ≡ list_any (λ j. id == j) (if here then own_ids x.kind (writer_ids below x.parent) else writer_ids below k)
+    by : (here : Bool) → list_any (bytes_eq name) (own_hide_set texts x.kind (hide_set texts below x.parent)) ≡ list_any (λ j. id == j) (own_ids x.kind (hidden_ids below x.parent))
+        → list_any (bytes_eq name) (hide_set texts below k) ≡ list_any (λ j. id == j) (hidden_ids below k)
+        → list_any (bytes_eq name) (if here then own_hide_set texts x.kind (hide_set texts below x.parent) else hide_set texts below k)
+        ≡ list_any (λ j. id == j) (if here then own_ids x.kind (hidden_ids below x.parent) else hidden_ids below k)
     by true a b = a
     by false a b = b
 
@@ -410,35 +410,35 @@ table-unreserved table name id h e inside =
     ap (λ (n : List ℕ). is_reserved n) (name-at table name id h e inside) ∙ (All-get_or IsSoundMacro table.macros id no_macro inside h.each).unreserved
 
 -- a name stands in the text of its macro where its scope is in that of the macro at its place
-pub table-writers : (table : TableView) (arguments : List ℕ) (opens : List Open) (name : List ℕ) (id : ℕ) (written : Bool) → IsSound table
+pub table-hidden : (table : TableView) (arguments : List ℕ) (opens : List Open) (name : List ℕ) (id : ℕ) (written : Bool) → IsSound table
     → AreInside (texts_of table.macros arguments) opens → place_named table.macros name ≡ Some id
-    → written ≡ list_any (λ own. id == own) (writer_ids opens (front_scope opens))
-    → list_any (bytes_eq name) (writers_at (texts_of table.macros arguments) opens (front_scope opens)) ≡ written
-table-writers table arguments opens name id written h inside e w =
-    writers-ids (texts_of table.macros arguments) opens (front_scope opens) id name inside (λ j l. place_of_name table.macros name id j h.distinct e l) ∙ sym w
+    → written ≡ list_any (λ own. id == own) (hidden_ids opens (front_scope opens))
+    → list_any (bytes_eq name) (hide_set (texts_of table.macros arguments) opens (front_scope opens)) ≡ written
+table-hidden table arguments opens name id written h inside e w =
+    hidden-ids (texts_of table.macros arguments) opens (front_scope opens) id name inside (λ j l. place_of_name table.macros name id j h.distinct e l) ∙ sym w
 
 -- what a search in a table tells of a name in open texts, by whether its scope is in the text of the macro
 pub table-used : (table : TableView) (arguments : List ℕ) (opens : List Open) (name : List ℕ) (id : ℕ) → IsSound table
     → AreInside (texts_of table.macros arguments) opens → place_named table.macros name ≡ Some id → id < length table.macros
     → macro_named table.macros name ≡ Some (macro_at table.macros id)
-    → false ≡ list_any (λ own. id == own) (writer_ids opens (front_scope opens))
+    → false ≡ list_any (λ own. id == own) (hidden_ids opens (front_scope opens))
     → IsUsed (texts_of table.macros arguments) opens name id
 table-used table arguments opens name id h inside e l m w = record {
   inside = l;
   named = m;
   unreserved = table-unreserved table name id h e l;
-  apart = table-writers table arguments opens name id false h inside e w;
+  apart = table-hidden table arguments opens name id false h inside e w;
 }
 
 -- and it is refused where that is so
 pub table-recursive : (table : TableView) (arguments : List ℕ) (opens : List Open) (name : List ℕ) (id : ℕ) → IsSound table
     → AreInside (texts_of table.macros arguments) opens → place_named table.macros name ≡ Some id → id < length table.macros
     → macro_named table.macros name ≡ Some (macro_at table.macros id)
-    → true ≡ list_any (λ own. id == own) (writer_ids opens (front_scope opens))
+    → true ≡ list_any (λ own. id == own) (hidden_ids opens (front_scope opens))
     → IsRefused (texts_of table.macros arguments) opens name RecursiveMacro
 table-recursive table arguments opens name id h inside e l m w =
     recursive-refused (texts_of table.macros arguments) opens name id (table-unreserved table name id h e l) m
-    (table-writers table arguments opens name id true h inside e w)
+    (table-hidden table arguments opens name id true h inside e w)
 
 -- the parents of open texts are further out
 pub parents-out : (texts : Texts) (opens : List Open) → AreOpen texts opens → AreFurtherOut opens
@@ -450,9 +450,9 @@ pub parents-same : (view mid : CursorsView) → mid ≡ view → AreFurtherOut v
 parents-same view mid e h = subst (λ (v : CursorsView). AreFurtherOut v.opens) (sym e) h
 
 -- whose scope is in the text of the same macros
-pub inside-same : (view mid : CursorsView) (id : ℕ) (written : Bool) → mid ≡ view → written ≡ list_any (λ own. id == own) (writer_ids mid.opens (front_scope mid.opens))
-    → written ≡ list_any (λ own. id == own) (writer_ids view.opens (front_scope view.opens))
-inside-same view mid id written e w = subst (λ (v : CursorsView). written ≡ list_any (λ own. id == own) (writer_ids v.opens (front_scope v.opens))) e w
+pub inside-same : (view mid : CursorsView) (id : ℕ) (written : Bool) → mid ≡ view → written ≡ list_any (λ own. id == own) (hidden_ids mid.opens (front_scope mid.opens))
+    → written ≡ list_any (λ own. id == own) (hidden_ids view.opens (front_scope view.opens))
+inside-same view mid id written e w = subst (λ (v : CursorsView). written ≡ list_any (λ own. id == own) (hidden_ids v.opens (front_scope v.opens))) e w
 
 -- the parents of open texts are those of their frames
 pub frames-parented : (frames : List Frame) (bindings : List Range) → AreFurtherOut (opens_of frames bindings) → AreParentedFrames frames

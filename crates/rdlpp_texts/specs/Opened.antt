@@ -8,7 +8,7 @@ use Rattle.rdlpp_texts.specs.BoundCalls.{range_part}
 use Rattle.rdlpp_texts.specs.declared.bindings.Range.{Range}
 use Rattle.rdlpp_texts.specs.declared.place.TextSource.{TextSource}
 use Rattle.rdlpp_texts.specs.declared.place.TextSource.TheVariants as source
-use Rattle.rdlpp_texts.specs.Scopes.{own_ids, writer_ids}
+use Rattle.rdlpp_texts.specs.Scopes.{own_ids, hidden_ids}
 use Rattle.rdlpp_texts.specs.declared.frame.Bounds.{Bounds}
 use Rattle.rdlpp_texts.specs.declared.frame.Frame.{Frame}
 use Rattle.rdlpp_texts.specs.declared.frame.FrameKind.{FrameKind}
@@ -91,7 +91,7 @@ is_excluded bounds id = nat_lt id bounds.least || nat_lt bounds.greatest id
 unfoldable pub AreBounded : List Frame → Type 0
 AreBounded [] = Unit
 AreBounded (frame ∷ below) =
-    AllByRecursion (IsWithin frame.bounds) (own_ids (kind_of frame.kind []) (writer_ids (opens_of below []) frame.parent)) × AreBounded below
+    AllByRecursion (IsWithin frame.bounds) (own_ids (kind_of frame.kind []) (hidden_ids (opens_of below []) frame.parent)) × AreBounded below
 
 -- how the frames and the ranges lie: the open texts stand from `first` on, no more frames are made than texts may be open, and there
 -- is memory for so many; and for the ranges of one body more, since a call is bound before a frame is sought (source: this

@@ -47,10 +47,10 @@ own_ids OpenActual ids = []
 own_ids (OpenDefault id place) ids = ids
 
 -- the macros in whose text a scope is, by their places in the table
-unfoldable pub writer_ids : List Open → ℕ → List ℕ
-writer_ids [] k = []
-writer_ids (x ∷ below) k =
-    if k == suc (length below) then own_ids x.kind (writer_ids below x.parent) else writer_ids below k
+unfoldable pub hidden_ids : List Open → ℕ → List ℕ
+hidden_ids [] k = []
+hidden_ids (x ∷ below) k =
+    if k == suc (length below) then own_ids x.kind (hidden_ids below x.parent) else hidden_ids below k
 
 -- a body has a range for each formal of its macro, which is in the table; so is the macro of a default, with its formal
 abbrev pub IsBound : List Macro → OpenKind → Type 0

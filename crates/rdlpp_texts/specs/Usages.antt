@@ -11,7 +11,7 @@ use Rattle.rdlpp_table.specs.View.{macro_at}
 use Rattle.rdlpp_meaning.specs.declared.fault.FaultKind.{FaultKind}
 use Rattle.rdlpp_meaning.specs.declared.fault.FaultKind.TheVariants.{BareBackquote, UndefinedMacro, RecursiveMacro, DirectiveInText, ArgumentsMissing, ArgumentsOpen, ArgumentCount, DepthPassed}
 use Rattle.rdlpp_meaning.specs.State.{Rules, State}
-use Rattle.rdlpp_meaning.specs.Opens.{Open, Texts, open_bytes, writers_at}
+use Rattle.rdlpp_meaning.specs.Opens.{Open, Texts, open_bytes, hide_set}
 use Rattle.rdlpp_texts.specs.Scopes.{front_scope}
 use Rattle.rdlpp_texts.specs.declared.step.CursorStep.{CursorStep}
 use Rattle.rdlpp_texts.specs.declared.step.CursorStep.TheVariants.{Lends, Silent, Refused}
@@ -28,7 +28,7 @@ pub record IsUsed (texts : Texts) (opens : List Open) (name : List ℕ) (id : �
   pub inside : id < length texts.macros
   pub named : macro_named texts.macros name ≡ Some (macro_at texts.macros id)
   pub unreserved : is_reserved name ≡ false
-  pub apart : list_any (bytes_eq name) (writers_at texts opens (front_scope opens)) ≡ false
+  pub apart : list_any (bytes_eq name) (hide_set texts opens (front_scope opens)) ≡ false
 
 -- the fault of a usage whose name no macro has (source: this project's profile)
 abbrev pub unknown_kind : Bool → FaultKind
@@ -38,7 +38,7 @@ unknown_kind reserved = if reserved then DirectiveInText else UndefinedMacro
 unfoldable pub IsRefused : Texts → List Open → List ℕ → FaultKind → Type 0
 IsRefused texts opens name kind =
     (rules : Rules) (s : State) (line : ℕ) (ts : List SourceToken) → s.macros ≡ texts.macros
-    → usage_of rules s text_reads line (writers_at texts opens (front_scope opens)) name ts ≡ Refuses kind name line
+    → usage_of rules s text_reads line (hide_set texts opens (front_scope opens)) name ts ≡ Refuses kind name line
 
 -- whether open texts end with a fault: for what stands in them, or since no further text may be open (source: this project's profile)
 unfoldable pub is_text_fault : FaultKind → Bool

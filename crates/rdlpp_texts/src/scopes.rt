@@ -6,7 +6,7 @@ ghost use Rattle.rdlpp_table.specs.View.{formal_at, formals_of, macro_at};
 ghost use Rattle.rdlpp_meaning.specs.Opens.{open_standing, part_at, Part, found_standing, scope_open};
 ghost use Rattle.rdlpp_texts.specs.Opened.{is_body_of, open_of, opens_of, outer_of, frame_source, AreBounded, AreParentedFrames, IsWithin};
 ghost use Rattle.rdlpp_texts.specs.Places.{place_bytes, source_formals, source_text, texts_of, IsPlaced, IsSource};
-ghost use Rattle.rdlpp_texts.specs.Scopes.{found_source, front_scope, front_source, innermost_place, writer_ids, AreBound};
+ghost use Rattle.rdlpp_texts.specs.Scopes.{found_source, front_scope, front_source, innermost_place, hidden_ids, AreBound};
 ghost use Rattle.rdlpp_texts.specs.BoundCalls.{range_part};
 ghost use Rattle.rdlpp_texts.specs.declared.bindings.Range.{Range as Bound};
 
@@ -181,7 +181,7 @@ pub(crate) fn standing(
 // The bounds of a scope.
 pub(crate) fn scope_bounds(frames: &[Frame], scope: usize) -> Bounds
     requires { AreBounded frames.now }
-    ensures { (bindings : List Bound) → AllByRecursion (IsWithin result) (writer_ids (opens_of frames.now bindings) scope) }
+    ensures { (bindings : List Bound) → AllByRecursion (IsWithin result) (hidden_ids (opens_of frames.now bindings) scope) }
 {
     if scope == 0 || frames.len() < scope {
         return NO_BOUNDS;
@@ -192,7 +192,7 @@ pub(crate) fn scope_bounds(frames: &[Frame], scope: usize) -> Bounds
 // The bounds of the body of a macro whose call is written in a scope.
 pub(crate) fn body_bounds(frames: &[Frame], scope: usize, id: MacroId) -> Bounds
     requires { AreBounded frames.now }
-    ensures { (bindings : List Bound) → AllByRecursion (IsWithin result) (id ∷ writer_ids (opens_of frames.now bindings) scope) }
+    ensures { (bindings : List Bound) → AllByRecursion (IsWithin result) (id ∷ hidden_ids (opens_of frames.now bindings) scope) }
 {
     let outer = scope_bounds(frames, scope);
     Bounds {
@@ -222,11 +222,11 @@ fn outer_of(frame: &Frame) -> usize
 }
 
 // Whether a scope is in the text of a macro: its own, or that of a parent further out.
-fn is_written_in(frames: &[Frame], scope: usize, id: MacroId) -> bool
+fn is_hidden(frames: &[Frame], scope: usize, id: MacroId) -> bool
     requires parented { AreParentedFrames frames.now }
     requires bounded { AreBounded frames.now }
     requires inside { scope ≤ length frames.now }
-    ensures { (bindings : List Bound) → result ≡ list_any (λ own. id == own) (writer_ids (opens_of frames.now bindings) scope) }
+    ensures { (bindings : List Bound) → result ≡ list_any (λ own. id == own) (hidden_ids (opens_of frames.now bindings) scope) }
 {
     let mut at = scope;
     while at > 0 {
@@ -248,12 +248,12 @@ pub(crate) fn is_front_in(frames: &[Frame], id: MacroId) -> bool
     requires some { 0 < length frames.now }
     requires parented { AreParentedFrames frames.now }
     requires bounded { AreBounded frames.now }
-    ensures { (bindings : List Bound) → result ≡ list_any (λ own. id == own) (writer_ids (opens_of frames.now bindings) (front_scope (opens_of frames.now bindings))) }
+    ensures { (bindings : List Bound) → result ≡ list_any (λ own. id == own) (hidden_ids (opens_of frames.now bindings) (front_scope (opens_of frames.now bindings))) }
 {
     let scope = front_scope(frames);
     let frame = &frames[0];
     if scope == frames.len() && is_excluded(frame.bounds, id) {
         return false;
     }
-    is_written_in(frames, scope, id)
+    is_hidden(frames, scope, id)
 }

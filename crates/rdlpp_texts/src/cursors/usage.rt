@@ -6,7 +6,7 @@ ghost use Rattle.rdlpp_scan.specs.Reserved.{is_reserved};
 ghost use Rattle.rdlpp_meaning.specs.Opens.{open_body};
 ghost use Rattle.rdlpp_texts.specs.Opened.{moved_to};
 ghost use Rattle.rdlpp_texts.specs.Places.{texts_of};
-ghost use Rattle.rdlpp_texts.specs.Scopes.{front_scope, writer_ids, AreFurtherOut};
+ghost use Rattle.rdlpp_texts.specs.Scopes.{front_scope, hidden_ids, AreFurtherOut};
 ghost use Rattle.rdlpp_texts.specs.Steps.{IsUnlent};
 ghost use Rattle.rdlpp_texts.specs.Taking.{PeeksAt, TakesStep};
 ghost use Rattle.rdlpp_texts.specs.Usages.{front_name, is_text_fault, unknown_kind, IsRefused, IsUsed};
@@ -84,7 +84,7 @@ impl Cursors {
     fn is_inside(&self, id: MacroId) -> bool
         requires some { 0 < length self.now.opens }
         requires parented { AreFurtherOut self.now.opens }
-        ensures { result ≡ list_any (λ own. id == own) (writer_ids self.now.opens (front_scope self.now.opens)) }
+        ensures { result ≡ list_any (λ own. id == own) (hidden_ids self.now.opens (front_scope self.now.opens)) }
     {
         let frames = self.frames.as_slice();
         is_front_in(&frames[self.first..], id)

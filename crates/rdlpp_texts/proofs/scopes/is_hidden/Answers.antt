@@ -1,7 +1,7 @@
 use Rattle.std.proofs.Common.{◌≤◌, arith, sym, ◌∙◌, []}
 use Rattle.rdlpp_texts.proofs.Stacking.{bounded-excluded}
 use Rattle.rdlpp_texts.proofs.Scoping.{written-found, written-further, written-source, written-step}
-use Rattle.rdlpp_texts.proofs.scopes.is_written_in.Goals as goal
+use Rattle.rdlpp_texts.proofs.scopes.is_hidden.Goals as goal
 
 pub returns-then-is_body_of : goal.returns-then-is_body_of
 returns-then-is_body_of c bindings =
