@@ -14,7 +14,7 @@ use Rattle.rdlpp_scan.specs.declared.token.Kind.{Kind}
 use Rattle.rdlpp_scan.specs.declared.token.Kind.TheVariants.{Back, BareBackquote}
 use Rattle.rdlpp_table.specs.Table.{Macro, macro_named}
 use Rattle.rdlpp_meaning.specs.Actuals.{Halt, Role, item_reads, token_role}
-use Rattle.rdlpp_meaning.specs.CallScan.{Before, Inside, Refused as RefusedCall, Scanned, Stand, call_of, call_of_scan, fault_at_end, room_behind, scan, scanned, source_role, stand_behind, turn, turn_before, turn_inside}
+use Rattle.rdlpp_meaning.specs.CallScan.{Before, Inside, Refused as RefusedCall, Scanned, CallState, call_of, call_of_scan, fault_at_end, room_behind, scan, scanned, source_role, call_state_behind, turn, turn_before, turn_inside}
 use Rattle.rdlpp_meaning.specs.Expansion.{Opens, Refuses, Usage, bytes_of, expand, is_copied, name_of, run_outcome, usage_of, usage_token, walk}
 use Rattle.rdlpp_meaning.specs.Items.{Item, Written}
 use Rattle.rdlpp_meaning.specs.Meaning.{Nest, Passage, Progress, behind_bytes, defines, goes_on, leaves, nest_of, refusal, single}
@@ -425,32 +425,32 @@ unfolding source_role
 source_role_directive t d e = rw (e, source_role) refl
 
 -- what ends the run ends a scan as nothing more does
-pub halted : {A : Type 0} (at : Stand) (fits : Bool) (t : A) (rest : Scanned A) → RefusedCall (fault_at_end at) ≡ scanned (turn at Halt fits) t rest
+pub halted : {A : Type 0} (at : CallState) (fits : Bool) (t : A) (rest : Scanned A) → RefusedCall (fault_at_end at) ≡ scanned (turn at Halt fits) t rest
 unfolding fault_at_end scanned turn turn_before turn_inside
 halted Before fits t rest = refl
 halted (Inside k) fits t rest = refl
 
 -- the first token of a scan, by what it begins
-scan_by : (size : SourceToken → ℕ) (at : Stand) (room : ℕ) (t : SourceToken) (ts : List SourceToken) (d : Option Directive) → directive_of t ≡ d
-    → ((to : Stand) (left : ℕ) → scan token_role size to left (leading ts) ≡ scan source_role size to left ts)
+scan_by : (size : SourceToken → ℕ) (at : CallState) (room : ℕ) (t : SourceToken) (ts : List SourceToken) (d : Option Directive) → directive_of t ≡ d
+    → ((to : CallState) (left : ℕ) → scan token_role size to left (leading ts) ≡ scan source_role size to left ts)
     → scan token_role size at room (leading (t ∷ ts)) ≡ scan source_role size at room (t ∷ ts)
 unfolding scan
 scan_by size at room t ts None e rest =
     let fits = nat_le (size t) room in
     let r = token_role t in
     let go : Role → List SourceToken → Scanned SourceToken =
-    λ q us. scanned (turn at q fits) t (scan token_role size (stand_behind at q) (room_behind at room q (size t)) us) in
+    λ q us. scanned (turn at q fits) t (scan token_role size (call_state_behind at q) (room_behind at room q (size t)) us) in
     ap (scan token_role size at room) (leading_text t ts e)
-    ∙ ap (scanned (turn at r fits) t) (rest (stand_behind at r) (room_behind at room r (size t)))
-    ∙ ap (λ (q : Role). scanned (turn at q fits) t (scan source_role size (stand_behind at q) (room_behind at room q (size t)) ts)) (sym (source_role_text t e))
+    ∙ ap (scanned (turn at r fits) t) (rest (call_state_behind at r) (room_behind at room r (size t)))
+    ∙ ap (λ (q : Role). scanned (turn at q fits) t (scan source_role size (call_state_behind at q) (room_behind at room q (size t)) ts)) (sym (source_role_text t e))
 scan_by size at room t ts (Some d) e rest =
     let fits = nat_le (size t) room in
     ap (scan token_role size at room) (leading_directive t ts d e)
-    ∙ halted at fits t (scan source_role size (stand_behind at Halt) (room_behind at room Halt (size t)) ts)
-    ∙ ap (λ (q : Role). scanned (turn at q fits) t (scan source_role size (stand_behind at q) (room_behind at room q (size t)) ts)) (sym (source_role_directive t d e))
+    ∙ halted at fits t (scan source_role size (call_state_behind at Halt) (room_behind at room Halt (size t)) ts)
+    ∙ ap (λ (q : Role). scanned (turn at q fits) t (scan source_role size (call_state_behind at q) (room_behind at room q (size t)) ts)) (sym (source_role_directive t d e))
 
 -- the scan of the tokens in front of the first directive is that of all tokens, where a directive halts
-pub scan_leading : (size : SourceToken → ℕ) (ts : List SourceToken) (at : Stand) (room : ℕ)
+pub scan_leading : (size : SourceToken → ℕ) (ts : List SourceToken) (at : CallState) (room : ℕ)
     → scan token_role size at room (leading ts) ≡ scan source_role size at room ts
 unfolding scan leading
 scan_leading size [] at room = refl

@@ -17,7 +17,7 @@ use Rattle.rdlpp_scan.proofs.StopKinds.{block_token-kind, string_token-kind}
 use Rattle.rdlpp_scan.proofs.TokenSteps.{comment_rest, end_of, string_rest}
 use Rattle.rdlpp_meaning.specs.Actuals.{Broke, Cut, Down, Dropped, End, Ends, Halt, Lacking, Remark, Role, Space, Start, Stops, Text, Up, broken_role, kept, kept_size, kind_role, level_behind, map_call, token_role}
 use Rattle.rdlpp_meaning.specs.CallReading.{ReadClosed, Reading, ReadRefused, ReadStopped, is_part_breach, is_part_sort, onto_kept, part_kept, read, read_by, reading_of, rest_role, role_in}
-use Rattle.rdlpp_meaning.specs.CallScan.{Before, Breaks, Closed, Closes, Inside, IsClosed, Keeps, Passes, Refused, Refuses, Scanned, Stand, Stopped, Turn, call_of, call_of_scan, is_call_text, is_kept, level_of_things, room_behind, scan, scan_onto, scanned, source_role, stand_behind, stand_behind_lead, turn, turn_before, turn_fitting, turn_inside}
+use Rattle.rdlpp_meaning.specs.CallScan.{Before, Breaks, Closed, Closes, Inside, IsClosed, Keeps, Passes, Refused, Refuses, Scanned, CallState, Stopped, Turn, call_of, call_of_scan, is_call_text, is_kept, level_of_things, room_behind, scan, scan_onto, scanned, source_role, call_state_behind, call_state_behind_lead, turn, turn_before, turn_fitting, turn_inside}
 use Rattle.rdlpp_meaning.specs.Expansion.{bytes_of}
 use Rattle.rdlpp_meaning.specs.Items.{unlined}
 use Rattle.rdlpp_meaning.specs.Parts.{directive_of}
@@ -110,8 +110,8 @@ behind_lead r before inside = before
 
 -- it is that
 lead_scan : {A : Type 0} (role : A → Role) (size : A → ℕ) (r : Role) (room : ℕ) (xs : List A)
-    → scan role size (stand_behind_lead r) room xs ≡ behind_lead r (scan role size Before room xs) (scan role size (Inside 0) room xs)
-unfolding stand_behind_lead behind_lead
+    → scan role size (call_state_behind_lead r) room xs ≡ behind_lead r (scan role size Before room xs) (scan role size (Inside 0) room xs)
+unfolding call_state_behind_lead behind_lead
 lead_scan role size Start room xs = refl
 lead_scan role size r room xs = refl
 
@@ -190,7 +190,7 @@ inside_by role k x xs kept used (Breaks f line) s facts rest e = absurd (cc)
 -- how a scan from behind the `(` that closes lies in its things
 pub closed_inside : {A : Type 0} (role : A → Role) (size : A → ℕ) (k room : ℕ) (xs kept : List A) (used : ℕ)
     → scan role size (Inside k) room xs ≡ Closed kept used → IsClosedInside role k xs kept used
-unfolding scan turn stand_behind room_behind
+unfolding scan turn call_state_behind room_behind
 closed_inside role size k room [] kept used e = absurd (cc)
 closed_inside role size k room (x ∷ xs) kept used e =
     let r = role x in
@@ -232,7 +232,7 @@ before_by role r x xs kept used before inside is rest opened e = absurd (cc)
 -- how a scan that closes lies in its things
 pub closed_scan : {A : Type 0} (role : A → Role) (size : A → ℕ) (room : ℕ) (xs kept : List A) (used : ℕ)
     → scan role size Before room xs ≡ Closed kept used → IsClosed role xs kept used
-unfolding scan turn stand_behind room_behind
+unfolding scan turn call_state_behind room_behind
 closed_scan role size room [] kept used e = absurd (cc)
 closed_scan role size room (x ∷ xs) kept used e =
     before_by role (role x) x xs kept used (scan role size Before room xs) (scan role size (Inside 0) room xs) refl
@@ -270,14 +270,14 @@ reading_front t ts (Refuses f) s = refl
 reading_front t ts (Breaks f line) s = refl
 
 -- reading whole tokens is their scan
-pub read_is_scan : (ts : List SourceToken) (at : Stand) (room : ℕ) → read at false room ts ≡ reading_of ts (scan source_role kept at room ts)
+pub read_is_scan : (ts : List SourceToken) (at : CallState) (room : ℕ) → read at false room ts ≡ reading_of ts (scan source_role kept at room ts)
 unfolding read scan reading_of role_in kept
 read_is_scan [] at room = refl
 read_is_scan (t ∷ ts) at room =
     let r = source_role t in
     let fits = nat_le (length t.bytes) room in
-    ap (read_by (turn at r fits) t ts) (read_is_scan ts (stand_behind at r) (room_behind at room r (length t.bytes)))
-    ∙ reading_front t ts (turn at r fits) (scan source_role kept (stand_behind at r) (room_behind at room r (length t.bytes)) ts)
+    ap (read_by (turn at r fits) t ts) (read_is_scan ts (call_state_behind at r) (room_behind at room r (length t.bytes)))
+    ∙ reading_front t ts (turn at r fits) (scan source_role kept (call_state_behind at r) (room_behind at room r (length t.bytes)) ts)
 
 -- two parts fit together where the first does, and the second what is left
 fits_in_parts : (x y room : ℕ) → nat_le (x + y) room ≡ (nat_le x room && nat_le y (room - x))
@@ -349,7 +349,7 @@ broken_parts f line room part whole t ts one other e =
 part_by : (p : Bool) (k room line own : ℕ) (part : List ℕ) (sort : Sort) (bytes : List ℕ) (ts : List SourceToken) → is_part_sort sort ≡ true
     → read (Inside k) p room (with_part part line (record { sort = sort; bytes = bytes; line = own }) ∷ ts)
     ≡ part_kept (nat_le (length part) room) part (read (Inside k) true (room - length part) (record { sort = sort; bytes = bytes; line = own } ∷ ts))
-unfolding is_part_sort read role_in source_role directive_of rest_role token_role kind_role with_part line_with turn turn_inside stand_behind room_behind level_behind kept_size
+unfolding is_part_sort read role_in source_role directive_of rest_role token_role kind_role with_part line_with turn turn_inside call_state_behind room_behind level_behind kept_size
 part_by true k room line own part (Ordinary Str) bytes ts e =
     kept_parts k room part (record { sort = Ordinary Str; bytes = part ++ bytes; line = line }) (record { sort = Ordinary Str; bytes = bytes; line = own }) ts refl
 part_by false k room line own part (Ordinary Str) bytes ts e =
@@ -384,7 +384,7 @@ part_inside p k room line part t ts e = part_by p k room line t.line part t.sort
 pub comment_part_before : (p : Bool) (room line own : ℕ) (part bytes : List ℕ) (ts : List SourceToken)
     → read Before p room (with_part part line (record { sort = Ordinary BlockComment; bytes = bytes; line = own }) ∷ ts)
     ≡ read Before true room (record { sort = Ordinary BlockComment; bytes = bytes; line = own } ∷ ts)
-unfolding read role_in source_role directive_of rest_role token_role kind_role with_part line_with turn turn_before read_by stand_behind stand_behind_lead room_behind
+unfolding read role_in source_role directive_of rest_role token_role kind_role with_part line_with turn turn_before read_by call_state_behind call_state_behind_lead room_behind
 comment_part_before true room line own part bytes ts = refl
 comment_part_before false room line own part bytes ts = refl
 
@@ -413,7 +413,7 @@ unfolding read role_in source_role directive_of rest_role token_role with_part l
 open_comment_before true room line own part bytes b ts e h = refl
 open_comment_before false room line own part bytes b ts e h =
     let whole : SourceToken = record { sort = Broken b; bytes = part ++ bytes; line = own } in
-    ap (λ (r : Role). read_by (turn_before r) whole ts (read (stand_behind Before r) false (room_behind Before room r (length (part ++ bytes))) ts))
+    ap (λ (r : Role). read_by (turn_before r) whole ts (read (call_state_behind Before r) false (room_behind Before room r (length (part ++ bytes))) ts))
     (broken_role_before b (part ++ bytes) own e h)
 
 -- before the `(`, a string is missing arguments at once
@@ -429,7 +429,7 @@ pub open_string_before : (room line : ℕ) (bytes : List ℕ) (b : Breach) (ts :
 unfolding read role_in source_role directive_of token_role turn turn_before read_by
 open_string_before room line bytes b ts e h =
     let whole : SourceToken = record { sort = Broken b; bytes = bytes; line = line } in
-    ap (λ (r : Role). read_by (turn_before r) whole ts (read (stand_behind Before r) false (room_behind Before room r (length bytes)) ts))
+    ap (λ (r : Role). read_by (turn_before r) whole ts (read (call_state_behind Before r) false (room_behind Before room r (length bytes)) ts))
     (broken_string_before b bytes line e h)
 
 -- What remains of a source in a string or in a comment begins with the rest of it, which is whole, or broken as a string or a

@@ -11,7 +11,7 @@ use Rattle.rdlpp_scan.specs.declared.token.Mode.TheVariants.{Plain}
 use Rattle.rdlpp_scan.specs.declared.token.Token.{Token}
 use Rattle.rdlpp_table.specs.Table.{Formal, Macro, macro_named}
 use Rattle.rdlpp_meaning.specs.Actuals.{Bound, Broke, Call, Cut, Halt, Lacking, Reads, Role, Text, actual_of, behind_space, is_space, item_reads, item_role, item_size, kept, kind_role, level_behind, map_call, source_reads, text_reads, token_role, trimmed}
-use Rattle.rdlpp_meaning.specs.CallScan.{Before, Breaks, Closed, Closes, Keeps as KeepsThing, Passes, Refused, Refuses as RefusesThing, Scanned, Split, Stand, Stopped, Turn, all_parts, call_of, call_of_scan, is_kept, room_behind, scan, scan_onto, scanned, source_role, split, split_by, stand_behind, turn}
+use Rattle.rdlpp_meaning.specs.CallScan.{Before, Breaks, Closed, Closes, Keeps as KeepsThing, Passes, Refused, Refuses as RefusesThing, Scanned, Split, CallState, Stopped, Turn, all_parts, call_of, call_of_scan, is_kept, room_behind, scan, scan_onto, scanned, source_role, split, split_by, call_state_behind, turn}
 use Rattle.rdlpp_meaning.specs.Expansion.{Opens, Refuses, Usage, bound_parts, bytes_of, expand, is_count, run_outcome, usage_of, usage_of_call, usage_of_formals, usage_of_macro, usage_token, walk}
 use Rattle.rdlpp_meaning.specs.Items.{Arg, Item, Written, broken_line, unlined, unlined_item}
 use Rattle.rdlpp_meaning.specs.Meaning.{Passage, Progress, goes_on, leaves}
@@ -112,17 +112,17 @@ pub record Keeps {A B : Type 0} (role : A → Role) (size : A → ℕ) (role' : 
 
 -- a scan
 scan-map : {A B : Type 0} (role : A → Role) (size : A → ℕ) (role' : B → Role) (size' : B → ℕ) (f : A → B)
-    → Keeps role size role' size' f → (at : Stand) (room : ℕ) (xs : List A) → scan role' size' at room (map f xs) ≡ map_scan f (scan role size at room xs)
+    → Keeps role size role' size' f → (at : CallState) (room : ℕ) (xs : List A) → scan role' size' at room (map f xs) ≡ map_scan f (scan role size at room xs)
 unfolding scan map_scan
 scan-map role size role' size' f keeps at room [] = refl
 scan-map {B = B} role size role' size' f keeps at room (x ∷ xs) =
     let by : Role → ℕ → Scanned B =
-    λ r n. scanned (turn at r (nat_le n room)) (f x) (scan role' size' (stand_behind at r) (room_behind at room r n) (map f xs)) in
+    λ r n. scanned (turn at r (nat_le n room)) (f x) (scan role' size' (call_state_behind at r) (room_behind at room r n) (map f xs)) in
     ap (λ (r : Role). by r (size' (f x))) (keeps.role_of x)
     ∙ ap (by (role x)) (keeps.size_of x)
     ∙ ap (scanned (turn at (role x) (nat_le (size x) room)) (f x))
-    (scan-map role size role' size' f keeps (stand_behind at (role x)) (room_behind at room (role x) (size x)) xs)
-    ∙ scanned-map f (turn at (role x) (nat_le (size x) room)) x (scan role size (stand_behind at (role x)) (room_behind at room (role x) (size x)) xs)
+    (scan-map role size role' size' f keeps (call_state_behind at (role x)) (room_behind at room (role x) (size x)) xs)
+    ∙ scanned-map f (turn at (role x) (nat_le (size x) room)) x (scan role size (call_state_behind at (role x)) (room_behind at room (role x) (size x)) xs)
 
 -- a thing in front of parts, of things and of what they become
 split_by-map : {A B : Type 0} (f : A → B) (r : Role) (k : ℕ) (x : A) (s : Split A)

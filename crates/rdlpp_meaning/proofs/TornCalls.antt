@@ -9,7 +9,7 @@ use Rattle.rdlpp_scan.specs.declared.token.Directive.TheVariants.{Define, Else, 
 use Rattle.rdlpp_scan.specs.declared.token.Kind.TheVariants.{Back, Blank}
 use Rattle.rdlpp_table.specs.Table.{Formal, Macro, macro_named}
 use Rattle.rdlpp_meaning.specs.Actuals.{Dropped, End, Ends, Halt, Reads, Role, Space, Stops, Text, item_role, token_role}
-use Rattle.rdlpp_meaning.specs.CallScan.{Before, Breaks, Closed, Closes, Inside, Keeps, Passes, Refused, Refuses as RefusesThing, Scanned, Stand, Stopped, Turn, call_of_scan, fault_at_end, room_behind, scan, scan_onto, scanned, stand_behind, turn, turn_before, turn_fitting, turn_inside}
+use Rattle.rdlpp_meaning.specs.CallScan.{Before, Breaks, Closed, Closes, Inside, Keeps, Passes, Refused, Refuses as RefusesThing, Scanned, CallState, Stopped, Turn, call_of_scan, fault_at_end, room_behind, scan, scan_onto, scanned, call_state_behind, turn, turn_before, turn_fitting, turn_inside}
 use Rattle.rdlpp_meaning.specs.Expansion.{Opens, Refuses, Usage, usage_of, usage_of_call, usage_of_formals, usage_of_macro}
 use Rattle.rdlpp_meaning.specs.Items.{Written}
 use Rattle.rdlpp_meaning.specs.LimitLaws.{is_limit}
@@ -91,7 +91,7 @@ turn-torn (RefusesThing f) x n c d h = inr (refl, tt)
 turn-torn (Breaks f line) x n c d h = inr (refl, tt)
 
 -- at a thing that doesn't fit, the scan finds that, or does the same as at one that does
-unfitting : (at : Stand) (r : Role) (more : Bool) → (turn at r false ≡ RefusesThing ArgumentBytes) ⊎ (turn at r more ≡ turn at r false)
+unfitting : (at : CallState) (r : Role) (more : Bool) → (turn at r false ≡ RefusesThing ArgumentBytes) ⊎ (turn at r more ≡ turn at r false)
 unfolding turn turn_inside turn_fitting
 unfitting Before r more = inr refl
 unfitting (Inside zero) End more = inr refl
@@ -103,12 +103,12 @@ unfitting (Inside k) (Stops f line) more = inl refl
 unfitting (Inside k) r more = inl refl
 
 -- at one that fits in more room where it does in less
-fitting : (at : Stand) (r : Role) (fits more : Bool) → (fits ≡ true → more ≡ true) → (turn at r fits ≡ RefusesThing ArgumentBytes) ⊎ (turn at r more ≡ turn at r fits)
+fitting : (at : CallState) (r : Role) (fits more : Bool) → (fits ≡ true → more ≡ true) → (turn at r fits ≡ RefusesThing ArgumentBytes) ⊎ (turn at r more ≡ turn at r fits)
 fitting at r true more imp = inr (ap (turn at r) (imp refl))
 fitting at r false more imp = unfitting at r more
 
 -- a thing in front, of which the larger limit allows more
-step-torn : {A : Type 0} (at : Stand) (r : Role) (fits more : Bool) (x : A) (n : ℕ) (c d : Scanned A) → (fits ≡ true → more ≡ true) → ScanTorn n c d
+step-torn : {A : Type 0} (at : CallState) (r : Role) (fits more : Bool) (x : A) (n : ℕ) (c d : Scanned A) → (fits ≡ true → more ≡ true) → ScanTorn n c d
     → ScanTorn (suc n) (scanned (turn at r fits) x c) (scanned (turn at r more) x d)
 unfolding ScanTorn IsLimited scanned is_limit
 step-torn {A} at r fits more x n c d imp h =
@@ -127,16 +127,16 @@ string-missing Space x rest h = absurd h
 string-missing r x rest h = absurd h
 
 -- where the run ends, the scan does as nothing more does
-scan-halts : {A : Type 0} (role : A → Role) (size : A → ℕ) (at : Stand) (room : ℕ) (us : List A) → FollowsHalt role us
+scan-halts : {A : Type 0} (role : A → Role) (size : A → ℕ) (at : CallState) (room : ℕ) (us : List A) → FollowsHalt role us
     → scan role size at room us ≡ Refused (fault_at_end at)
 unfolding FollowsHalt scan
 scan-halts role size at room [] h = refl
 scan-halts role size at room (u ∷ us) h =
-    ap (λ (r : Role). scanned (turn at r (nat_le (size u) room)) u (scan role size (stand_behind at r) (room_behind at room r (size u)) us)) h
-    ∙ sym (halted at (nat_le (size u) room) u (scan role size (stand_behind at Halt) (room_behind at room Halt (size u)) us))
+    ap (λ (r : Role). scanned (turn at r (nat_le (size u) room)) u (scan role size (call_state_behind at r) (room_behind at room r (size u)) us)) h
+    ∙ sym (halted at (nat_le (size u) room) u (scan role size (call_state_behind at Halt) (room_behind at room Halt (size u)) us))
 
 -- a torn thing, by its role
-tear : {A : Type 0} (role : A → Role) (size : A → ℕ) (at : Stand) (most : ℕ) (r : Role) (fits : Bool) (t : A) (us : List A) (rest : Scanned A)
+tear : {A : Type 0} (role : A → Role) (size : A → ℕ) (at : CallState) (most : ℕ) (r : Role) (fits : Bool) (t : A) (us : List A) (rest : Scanned A)
     → TornBy role r us → ScanTorn 0 (scanned (turn at r fits) t rest) (scan role size at most us)
 unfolding TornBy ScanTorn IsLimited TakesUpTo turn turn_before turn_inside turn_fitting scanned is_limit FollowsHalt FollowsString scan fault_at_end
 tear role size Before most (Stops f line) fits t us rest h = inl h
@@ -156,20 +156,20 @@ fits-more : (n room most : ℕ) → room ≤ most → nat_le n room ≡ true →
 fits-more n room most h e = le-leb n most (le_trans (leb-true n room e) h)
 
 -- more room stays so
-room-more : (at : Stand) (r : Role) (n room most : ℕ) → room ≤ most → room_behind at room r n ≤ room_behind at most r n
+room-more : (at : CallState) (r : Role) (n room most : ℕ) → room ≤ most → room_behind at room r n ≤ room_behind at most r n
 unfolding room_behind
 room-more Before r n room most h = h
 room-more (Inside k) r n room most h = omega (arith, h)
 
 -- the scan of things with such an end
-scan-torn : {A : Type 0} (role : A → Role) (size : A → ℕ) (at : Stand) (room most : ℕ) (xs ys zs : List A) → room ≤ most → IsTail role ys zs
+scan-torn : {A : Type 0} (role : A → Role) (size : A → ℕ) (at : CallState) (room most : ℕ) (xs ys zs : List A) → room ≤ most → IsTail role ys zs
     → ScanTorn (length xs) (scan role size at room (xs ++ ys)) (scan role size at most (xs ++ zs))
 unfolding scan IsTail ScanTorn TakesUpTo
 scan-torn role size at room most [] [] zs h tail = inr (ap (scan role size at most) tail, tt)
 scan-torn role size at room most [] (t ∷ ts) zs h tail = tear role size at most (role t) (nat_le (size t) room) t zs _ tail
 scan-torn role size at room most (x ∷ xs) ys zs h tail =
     step-torn at (role x) (nat_le (size x) room) (nat_le (size x) most) x (length xs) _ _ (fits-more (size x) room most h)
-    (scan-torn role size (stand_behind at (role x)) (room_behind at room (role x) (size x)) (room_behind at most (role x) (size x)) xs ys zs
+    (scan-torn role size (call_state_behind at (role x)) (room_behind at room (role x) (size x)) (room_behind at most (role x) (size x)) xs ys zs
     (room-more at (role x) (size x) room most h) tail)
 
 -- a usage that a limit refuses

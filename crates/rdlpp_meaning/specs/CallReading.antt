@@ -9,7 +9,7 @@ use Rattle.rdlpp_meaning.specs.declared.fault.FaultKind.{FaultKind}
 use Rattle.rdlpp_meaning.specs.declared.fault.FaultKind.TheVariants.{ArgumentBytes}
 use Rattle.rdlpp_meaning.specs.State.{breach_kind}
 use Rattle.rdlpp_meaning.specs.Actuals.{Role, Stops, Text, kind_role}
-use Rattle.rdlpp_meaning.specs.CallScan.{Stand, Turn, Passes, Keeps, Closes, Refuses, Breaks, turn, stand_behind, room_behind, fault_at_end, Scanned, Refused, Stopped, Closed, source_role}
+use Rattle.rdlpp_meaning.specs.CallScan.{CallState, Turn, Passes, Keeps, Closes, Refuses, Breaks, turn, call_state_behind, room_behind, fault_at_end, Scanned, Refused, Stopped, Closed, source_role}
 use Rattle.rdlpp_meaning.specs.Expansion.{bytes_of}
 
 -- what reading a call comes to: a fault of its own, that of a broken token at its line, or the bytes that it keeps and the
@@ -48,12 +48,12 @@ read_by (Breaks f line) t ts rest = ReadStopped f line
 
 -- what a call keeps of tokens of a source, from where its scan stands, with room for so many kept bytes; the flag says that
 -- the first token is the rest of one (source: this project's profile)
-unfoldable pub read : Stand → Bool → ℕ → List SourceToken → Reading
+unfoldable pub read : CallState → Bool → ℕ → List SourceToken → Reading
 read at part room [] = ReadRefused (fault_at_end at)
 read at part room (t ∷ ts) =
     let r = role_in part t in
     read_by (turn at r (nat_le (length t.bytes) room)) t ts
-    (read (stand_behind at r) false (room_behind at room r (length t.bytes)) ts)
+    (read (call_state_behind at r) false (room_behind at room r (length t.bytes)) ts)
 
 -- a scan of tokens as reading: the bytes of what it keeps, and the tokens behind what it takes
 unfoldable pub reading_of : List SourceToken → Scanned SourceToken → Reading

@@ -8,9 +8,9 @@ use Rattle.rdlpp_meaning.specs.Actuals.{Role, Space, Dropped, Remark, Start, End
 use Rattle.rdlpp_meaning.specs.Parts.{directive_of}
 
 -- where the scan of a call stands: before its `(`, or behind it at a level of openers (source: this project's profile)
-pub data Stand : Type 0 where
-  Before : Stand
-  Inside : ℕ → Stand
+pub data CallState : Type 0 where
+  Before : CallState
+  Inside : ℕ → CallState
 
 -- what the scan does at a thing: it passes it, keeps it, ends at it, or ends with a fault, its own or that of a broken token
 -- at its line (source: this project's profile)
@@ -44,27 +44,27 @@ turn_inside (Stops f line) k fits = turn_fitting fits (Breaks f line)
 turn_inside r k fits = turn_fitting fits Keeps
 
 -- what the scan does at a thing of a role that fits what may be kept or not
-unfoldable pub turn : Stand → Role → Bool → Turn
+unfoldable pub turn : CallState → Role → Bool → Turn
 turn Before r fits = turn_before r
 turn (Inside k) r fits = turn_inside r k fits
 
 -- where the scan stands behind a thing before the `(`
-unfoldable pub stand_behind_lead : Role → Stand
-stand_behind_lead Start = Inside 0
-stand_behind_lead r = Before
+unfoldable pub call_state_behind_lead : Role → CallState
+call_state_behind_lead Start = Inside 0
+call_state_behind_lead r = Before
 
 -- where the scan stands behind a thing
-unfoldable pub stand_behind : Stand → Role → Stand
-stand_behind Before r = stand_behind_lead r
-stand_behind (Inside k) r = Inside (level_behind r k)
+unfoldable pub call_state_behind : CallState → Role → CallState
+call_state_behind Before r = call_state_behind_lead r
+call_state_behind (Inside k) r = Inside (level_behind r k)
 
 -- how many bytes may be kept behind a thing of a role and a size
-unfoldable pub room_behind : Stand → ℕ → Role → ℕ → ℕ
+unfoldable pub room_behind : CallState → ℕ → Role → ℕ → ℕ
 room_behind Before room r n = room
 room_behind (Inside k) room r n = room - kept_size r n
 
 -- the fault where nothing follows
-unfoldable pub fault_at_end : Stand → FaultKind
+unfoldable pub fault_at_end : CallState → FaultKind
 fault_at_end Before = ArgumentsMissing
 fault_at_end (Inside k) = ArgumentsOpen
 
@@ -90,11 +90,11 @@ scanned (Refuses f) x rest = Refused f
 scanned (Breaks f line) x rest = Stopped f line
 
 -- the scan of a call from the left, from where it stands, with room for so many kept bytes (source: this project's profile)
-unfoldable pub scan : {A : Type 0} → (A → Role) → (A → ℕ) → Stand → ℕ → List A → Scanned A
+unfoldable pub scan : {A : Type 0} → (A → Role) → (A → ℕ) → CallState → ℕ → List A → Scanned A
 scan role size at room [] = Refused (fault_at_end at)
 scan role size at room (x ∷ xs) =
     scanned (turn at (role x) (nat_le (size x) room)) x
-    (scan role size (stand_behind at (role x)) (room_behind at room (role x) (size x)) xs)
+    (scan role size (call_state_behind at (role x)) (room_behind at room (role x) (size x)) xs)
 
 -- the parts of things: the first, and the further ones (source: this project's profile)
 pub record Split (A : Type 0) : Type 0 where

@@ -12,7 +12,7 @@ use Rattle.rdlpp_scan.specs.declared.token.Mode.{Mode}
 use Rattle.rdlpp_scan.specs.declared.token.Mode.TheVariants.{Plain}
 use Rattle.rdlpp_scan.specs.declared.token.Token.{Token}
 use Rattle.rdlpp_meaning.specs.Actuals.{Down, Dropped, End, Ends, Halt, Lacking, Remark, Role, Space, Start, Stops, Up, kept_size, kind_role, level_behind, not_kept, token_role}
-use Rattle.rdlpp_meaning.specs.CallScan.{Before, Closed, Closes, Inside, Keeps, Passes, Refused, Scanned, Stand, Turn, call_of, call_of_scan, fault_at_end, is_call_text, is_kept, room_behind, scan, scan_onto, scanned, stand_behind, stand_behind_lead, turn, turn_before, turn_fitting, turn_inside}
+use Rattle.rdlpp_meaning.specs.CallScan.{Before, Closed, Closes, Inside, Keeps, Passes, Refused, Scanned, CallState, Turn, call_of, call_of_scan, fault_at_end, is_call_text, is_kept, room_behind, scan, scan_onto, scanned, call_state_behind, call_state_behind_lead, turn, turn_before, turn_fitting, turn_inside}
 use Rattle.rdlpp_meaning.specs.Expansion.{bytes_of}
 use Rattle.rdlpp_meaning.specs.Substitution.{body_tokens, spelled}
 use Rattle.rdlpp_meaning.specs.TextTokens.{text_tokens}
@@ -65,10 +65,10 @@ pub record IsLed (at n : ℕ) (ts : List SourceToken) : Type 0 where
   pub scans : (room : ℕ) → scan token_role not_kept Before room ts ≡ passing (suc (length lead)) (scan token_role not_kept (Inside 0) room rest)
 
 -- where no `(` follows, by the role of the first token
-none_by : (r : Role) (t : SourceToken) (here : ℕ) (found : Option ℕ) (s : Stand → Scanned SourceToken) → is_call_text r ≡ true
+none_by : (r : Role) (t : SourceToken) (here : ℕ) (found : Option ℕ) (s : CallState → Scanned SourceToken) → is_call_text r ≡ true
     → (found ≡ None → s Before ≡ Refused ArgumentsMissing) → opener_by r here found ≡ None
-    → scanned (turn_before r) t (s (stand_behind_lead r)) ≡ Refused ArgumentsMissing
-unfolding opener_by scanned turn_before stand_behind_lead is_call_text scan_onto
+    → scanned (turn_before r) t (s (call_state_behind_lead r)) ≡ Refused ArgumentsMissing
+unfolding opener_by scanned turn_before call_state_behind_lead is_call_text scan_onto
 none_by Space t here found s text rest e = ap (scan_onto []) (rest e)
 none_by Dropped t here found s text rest e = ap (scan_onto []) (rest e)
 none_by Remark t here found s text rest e = ap (scan_onto []) (rest e)
@@ -79,7 +79,7 @@ none_by r t here found s text rest e = refl
 -- where no `(` follows, arguments are missing
 pub opener_none : (ts : List SourceToken) (at room : ℕ) → All (λ t. is_call_text (token_role t) ≡ true) ts → opener_from at ts ≡ None
     → scan token_role not_kept Before room ts ≡ Refused ArgumentsMissing
-unfolding opener_from scan fault_at_end turn stand_behind room_behind
+unfolding opener_from scan fault_at_end turn call_state_behind room_behind
 opener_none [] at room all e = refl
 opener_none (t ∷ ts) at room all e =
     let P : SourceToken → Type 0 = λ u. is_call_text (token_role u) ≡ true in
@@ -88,9 +88,9 @@ opener_none (t ∷ ts) at room all e =
 
 -- the scan before the `(` at a token, by its role
 scan_before : (room : ℕ) (t : SourceToken) (ts : List SourceToken) (r : Role) → token_role t ≡ r
-    → scan token_role not_kept Before room (t ∷ ts) ≡ scanned (turn_before r) t (scan token_role not_kept (stand_behind_lead r) room ts)
-unfolding scan turn stand_behind room_behind
-scan_before room t ts r e = ap (λ (q : Role). scanned (turn_before q) t (scan token_role not_kept (stand_behind_lead q) room ts)) e
+    → scan token_role not_kept Before room (t ∷ ts) ≡ scanned (turn_before r) t (scan token_role not_kept (call_state_behind_lead r) room ts)
+unfolding scan turn call_state_behind room_behind
+scan_before room t ts r e = ap (λ (q : Role). scanned (turn_before q) t (scan token_role not_kept (call_state_behind_lead q) room ts)) e
 
 -- a token in front of such a front of a call
 led : (t : SourceToken) (ts : List SourceToken) (at n : ℕ) → ((room : ℕ) → scan token_role not_kept Before room (t ∷ ts) ≡ scan_onto [] (scan token_role not_kept Before room ts))
@@ -111,7 +111,7 @@ led t ts at n step c =
 -- the front of a call by the role of the first token
 led_by : (r : Role) (t : SourceToken) (ts : List SourceToken) (at n : ℕ) (found : Option ℕ) → token_role t ≡ r
     → (found ≡ Some n → IsLed (at + length t.bytes) n ts) → opener_by r (at + length t.bytes) found ≡ Some n → IsLed at n (t ∷ ts)
-unfolding opener_by passing turn_before stand_behind_lead scanned
+unfolding opener_by passing turn_before call_state_behind_lead scanned
 led_by Space t ts at n found is rest e = led t ts at n (λ room. scan_before room t ts Space is) (rest e)
 led_by Dropped t ts at n found is rest e = led t ts at n (λ room. scan_before room t ts Dropped is) (rest e)
 led_by Remark t ts at n found is rest e = led t ts at n (λ room. scan_before room t ts Remark is) (rest e)
@@ -151,7 +151,7 @@ scan_inside : (k room : ℕ) (t : SourceToken) (ts : List SourceToken) → is_ca
     → scan token_role not_kept (Inside k) room (t ∷ ts)
     ≡ scanned (cond (ends_call (token_role t) k) Closes (cond (is_kept (token_role t)) Keeps Passes)) t
     (scan token_role not_kept (Inside (level_behind (token_role t) k)) (room - kept_size (token_role t) 0) ts)
-unfolding scan turn stand_behind room_behind not_kept
+unfolding scan turn call_state_behind room_behind not_kept
 scan_inside k room t ts text =
     let r = token_role t in
     let rest = scan token_role not_kept (Inside (level_behind r k)) (room - kept_size r 0) ts in

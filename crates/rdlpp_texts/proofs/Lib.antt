@@ -5,7 +5,7 @@ pub mod Usages
 pub mod Scoping
 pub mod Stopping
 pub mod Falling
-pub mod Taking
+pub mod TakenSteps
 pub mod QuickTokens
 pub mod CallLaws
 pub mod PartLaws

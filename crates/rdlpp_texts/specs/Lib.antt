@@ -6,7 +6,7 @@ pub mod Steps
 pub mod Usages
 pub mod Calls
 pub mod Digits
-pub mod Taking
+pub mod TakenSteps
 pub mod Turns
 pub mod LookupHints
 pub mod CallTokens

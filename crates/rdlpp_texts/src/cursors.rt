@@ -9,7 +9,7 @@ ghost use Rattle.rdlpp_texts.specs.Opened.{bound_by, is_spent, kept_by, moved_to
 ghost use Rattle.rdlpp_texts.specs.Places.{source_text, texts_of};
 ghost use Rattle.rdlpp_texts.specs.Scopes.{innermost_place};
 ghost use Rattle.rdlpp_texts.specs.Steps.{AreSound};
-ghost use Rattle.rdlpp_texts.specs.Taking.{TakesStep};
+ghost use Rattle.rdlpp_texts.specs.TakenSteps.{TakesStep};
 ghost use Rattle.rdlpp_texts.specs.Turns.{Closes};
 ghost use Rattle.rdlpp_texts.specs.declared.step.CursorStep.TheVariants.{Silent};
 

@@ -6,7 +6,7 @@ use Rattle.rdlpp_scan.specs.SourceTokens.{line_ends, SourceToken, remaining_toke
 use Rattle.rdlpp_scan.specs.Pieces.{is_open}
 use Rattle.rdlpp_meaning.specs.declared.fault.FaultKind.{FaultKind}
 use Rattle.rdlpp_meaning.specs.CallReading.{ReadRefused, ReadStopped, ReadClosed, onto_kept, read, is_part_breach, Reading}
-use Rattle.rdlpp_meaning.specs.CallScan.{Stand, Before, fault_at_end}
+use Rattle.rdlpp_meaning.specs.CallScan.{CallState, Before, fault_at_end}
 use Rattle.rdlpp_meaning.specs.Expansion.{bytes_of}
 use Rattle.rdlpp_meaning.specs.Parts.{only_blanks}
 use Rattle.rdlpp_meaning.proofs.ReadCalls.{onto_kept-append, onto_kept-nil, read_closed, read_refused, read_stopped}
@@ -17,10 +17,10 @@ use Rattle.rdlpp_read.specs.declared.files.File.{File}
 use Rattle.rdlpp_read.proofs.BufferTokens.{ends_line, moves-on, moves-past, moves-told, text-on, text-past, torn_after-append}
 use Rattle.rdlpp_usages.specs.CallReads.{TellsCall, used_buffer, with_used, IsEndOfText, IsEnded, IsExactCall, IsTaken, ReadsCall, ReadsUpTo, is_failed_call, IsCallOf, MeansCall}
 use Rattle.rdlpp_usages.specs.Reads.{Closes, GoesOn, reading}
-use Rattle.rdlpp_usages.specs.Taking.{Around, IsAround, IsClose, IsUse, kept_of, stand_meant, tokens_at, tokens_behind, IsTaking, level_in}
+use Rattle.rdlpp_usages.specs.CallActions.{Around, IsAround, IsClose, IsConsumed, kept_of, call_state_meant, tokens_at, tokens_behind, IsAction, level_in}
 use Rattle.rdlpp_usages.specs.declared.reading.CallRead.{CallRead}
 use Rattle.rdlpp_usages.specs.declared.reading.CallRead.TheVariants.{Closed, Refused, Broken as BrokenCall, Failed, Broken}
-use Rattle.rdlpp_usages.specs.declared.taking.Use.{Use}
+use Rattle.rdlpp_usages.specs.declared.action.Consumed.{Consumed}
 use Rattle.rdlpp_scan.specs.Front.{Breach, StringOpen, CommentOpen, front}
 use Rattle.rdlpp_meaning.specs.declared.fault.FaultKind.TheVariants.{EmbeddedPerl}
 use Rattle.rdlpp_meaning.specs.State.{breach_kind}
@@ -29,7 +29,7 @@ use Rattle.rdlpp_read.specs.Filling.{ended_tokens, only_broken}
 use Rattle.rdlpp_read.proofs.Growing.{calls-on}
 use Rattle.rdlpp_source.specs.declared.sources.Sources.{Ghosts}
 use Rattle.rdlpp_usages.specs.Store.{StoreView}
-use Rattle.rdlpp_usages.specs.declared.taking.Taking.TheVariants.{Refused as RefusedTaking, Perl}
+use Rattle.rdlpp_usages.specs.declared.action.CallAction.TheVariants.{Refused as RefusedAction, Perl}
 use Rattle.rdlpp_usages.proofs.Halts.{broken_reads}
 use Rattle.rdlpp_scan.proofs.RemainingLaws.{course}
 
@@ -77,8 +77,8 @@ pub used_text : {R : Type 0} (unread : R → List ℕ) (f : BufferView R) (len :
 used_text unread f len next = text-past unread f (used_buffer f len next) len (behind_held f len next) (behind_rest unread f len next)
 
 -- a token that is used
-pub token_goes_on : {R : Type 0} (unread : R → List ℕ) (at : Stand) (room : ℕ) (f : BufferView R) (u : Use) → EndsHeld f → IsUse at f.mode room (held_of f) u
-    → GoesOn Unit unread at (stand_meant u.stand) room (kept_of u.is_kept (take u.len (held_of f))) (take u.len (held_of f)) f (used_buffer f u.len u.next_mode)
+pub token_goes_on : {R : Type 0} (unread : R → List ℕ) (at : CallState) (room : ℕ) (f : BufferView R) (u : Consumed) → EndsHeld f → IsConsumed at f.mode room (held_of f) u
+    → GoesOn Unit unread at (call_state_meant u.call_state) room (kept_of u.is_kept (take u.len (held_of f))) (take u.len (held_of f)) f (used_buffer f u.len u.next_mode)
 unfolding reading tokens_left entered_mode
 token_goes_on unread at room f u ends how =
     let kept = kept_of u.is_kept (take u.len (held_of f)) in
@@ -87,14 +87,14 @@ token_goes_on unread at room f u ends how =
       fits = how.fits;
       reads = λ _.
           how.reads (around_of unread f) (is_around unread f ends)
-          ∙ ap (λ ts. onto_kept kept (read (stand_meant u.stand) (is_open u.next_mode) (room - length kept) ts)) (behind_used unread f u.len u.next_mode);
+          ∙ ap (λ ts. onto_kept kept (read (call_state_meant u.call_state) (is_open u.next_mode) (room - length kept) ts)) (behind_used unread f u.len u.next_mode);
       bytes = λ _.
           how.bytes (around_of unread f) (is_around unread f ends)
           ∙ ap (λ ts. take u.len (held_of f) ++ bytes_of ts) (behind_used unread f u.len u.next_mode);
     }
 
 -- the `)`
-pub close_closes : {R : Type 0} (unread : R → List ℕ) (at : Stand) (room : ℕ) (f : BufferView R) → EndsHeld f → 0 < length (held_of f) → IsClose at f.mode room (held_of f)
+pub close_closes : {R : Type 0} (unread : R → List ℕ) (at : CallState) (room : ℕ) (f : BufferView R) → EndsHeld f → 0 < length (held_of f) → IsClose at f.mode room (held_of f)
     → Closes Unit unread at room [] (take 1 (held_of f)) f (used_buffer f 1 Plain)
 unfolding reading tokens_left entered_mode
 close_closes unread at room f ends some close =
@@ -110,21 +110,21 @@ close_closes unread at room f ends some close =
     }
 
 -- a refusal at a token
-pub taking_refused : {R : Type 0} (unread : R → List ℕ) (at : Stand) (room : ℕ) (f : BufferView R) (kind : FaultKind) → EndsHeld f
+pub action_refused : {R : Type 0} (unread : R → List ℕ) (at : CallState) (room : ℕ) (f : BufferView R) (kind : FaultKind) → EndsHeld f
     → ((a : Around) → IsAround (held_of f) a → read at (is_open f.mode) room (tokens_at a f.mode (held_of f)) ≡ ReadRefused kind)
     → reading unread at room f ≡ ReadRefused kind
 unfolding reading tokens_left
-taking_refused unread at room f kind ends law = law (around_of unread f) (is_around unread f ends)
+action_refused unread at room f kind ends law = law (around_of unread f) (is_around unread f ends)
 
 -- a break at a token
-pub taking_broken : {R : Type 0} (unread : R → List ℕ) (at : Stand) (room : ℕ) (f : BufferView R) (kind : FaultKind) → EndsHeld f
+pub action_broken : {R : Type 0} (unread : R → List ℕ) (at : CallState) (room : ℕ) (f : BufferView R) (kind : FaultKind) → EndsHeld f
     → ((a : Around) → IsAround (held_of f) a → read at (is_open f.mode) room (tokens_at a f.mode (held_of f)) ≡ ReadStopped kind a.line)
     → reading unread at room f ≡ ReadStopped kind f.line
 unfolding reading tokens_left
-taking_broken unread at room f kind ends law = law (around_of unread f) (is_around unread f ends)
+action_broken unread at room f kind ends law = law (around_of unread f) (is_around unread f ends)
 
 -- nothing was used, and the tokens stay
-pub fill_goes_on : {R : Type 0} (tells : Type 0) (unread : R → List ℕ) (at : Stand) (room : ℕ) (old new : BufferView R)
+pub fill_goes_on : {R : Type 0} (tells : Type 0) (unread : R → List ℕ) (at : CallState) (room : ℕ) (old new : BufferView R)
     → unused_of new ≡ unused_of old → new.mode ≡ old.mode → (tells → tokens_left unread new ≡ tokens_left unread old)
     → GoesOn tells unread at at room [] [] old new
 unfolding reading
@@ -145,7 +145,7 @@ less_room : (room a b c : ℕ) → c ≡ a + b → (room - a) - b ≡ room - c
 less_room room a b c e = omega (arith, e)
 
 -- reading went on, and went on again
-pub goes_on_twice : {R : Type 0} (tells : Type 0) (unread : R → List ℕ) (at to last : Stand) (room : ℕ) (k l u v : List ℕ) (f g h : BufferView R)
+pub goes_on_twice : {R : Type 0} (tells : Type 0) (unread : R → List ℕ) (at to last : CallState) (room : ℕ) (k l u v : List ℕ) (f g h : BufferView R)
     → GoesOn tells unread at to room k u f g → GoesOn tells unread to last (room - length k) l v g h → GoesOn tells unread at last room (k ++ l) (u ++ v) f h
 unfolding reading
 goes_on_twice tells unread at to last room k l u v f g h a b =
@@ -162,7 +162,7 @@ goes_on_twice tells unread at to last room k l u v f g h a b =
     }
 
 -- reading went on, and then came to an answer
-pub tells_behind : {R : Type 0} (tells : Type 0) (unread : R → List ℕ) (at to : Stand) (room : ℕ) (k l u v : List ℕ) (f g h : BufferView R) (result : CallRead)
+pub tells_behind : {R : Type 0} (tells : Type 0) (unread : R → List ℕ) (at to : CallState) (room : ℕ) (k l u v : List ℕ) (f g h : BufferView R) (result : CallRead)
     → GoesOn tells unread at to room k u f g → TellsCall tells unread to (room - length k) l v g h result → TellsCall tells unread at room (k ++ l) (u ++ v) f h result
 unfolding onto_kept
 tells_behind tells unread at to room k l u v f g h Closed a b =
@@ -180,12 +180,12 @@ tells_behind tells unread at to room k l u v f g h Failed a b =
     record { to = b.to; goes_on = goes_on_twice tells unread at to b.to room k l u v f g h a b.goes_on }
 
 -- what needs no word of the sources holds with it
-pub goes_on_told : {R : Type 0} (tells : Type 0) (unread : R → List ℕ) (at to : Stand) (room : ℕ) (k u : List ℕ) (f g : BufferView R)
+pub goes_on_told : {R : Type 0} (tells : Type 0) (unread : R → List ℕ) (at to : CallState) (room : ℕ) (k u : List ℕ) (f g : BufferView R)
     → GoesOn Unit unread at to room k u f g → GoesOn tells unread at to room k u f g
 goes_on_told tells unread at to room k u f g a =
     record { unused = a.unused; fits = a.fits; reads = λ t. a.reads tt; bytes = λ t. a.bytes tt }
 
-pub tells_told : {R : Type 0} (tells : Type 0) (unread : R → List ℕ) (at : Stand) (room : ℕ) (k u : List ℕ) (f g : BufferView R) (result : CallRead)
+pub tells_told : {R : Type 0} (tells : Type 0) (unread : R → List ℕ) (at : CallState) (room : ℕ) (k u : List ℕ) (f g : BufferView R) (result : CallRead)
     → TellsCall Unit unread at room k u f g result → TellsCall tells unread at room k u f g result
 tells_told tells unread at room k u f g Closed a =
     record { unused = a.unused; fits = a.fits; plain = a.plain; reads = λ t. a.reads tt; bytes = λ t. a.bytes tt }
@@ -235,7 +235,7 @@ used_files {R = R} len lines next files mid new entered used counted =
 -- The reading of a call as it goes on: what was read so far, and what each turn makes of it.
 
 -- a call of which some was read: the store has what is kept of the used bytes, and reading goes on where it stands
-pub record IsReading {S R : Type 0} (g : Ghosts S R) (failed : Bool) (first now : S) (old new : FilesView R) (most : ℕ) (store : StoreView) (at : Stand) : Type 0 where
+pub record IsReading {S R : Type 0} (g : Ghosts S R) (failed : Bool) (first now : S) (old new : FilesView R) (most : ℕ) (store : StoreView) (at : CallState) : Type 0 where
   pub used : List ℕ
   pub only : new ≡ record old { nest = new.nest }
   pub inner : new.nest ≡ with_used (inner_buffer new.nest) used old.nest
@@ -258,7 +258,7 @@ same_moves : {R : Type 0} (tells exact : Type 0) (unread : R → List ℕ) (f : 
 same_moves tells exact unread f = moves-past tells exact unread [] f f refl (omega arith) refl
 
 -- nothing was kept yet
-reads_nothing : {R : Type 0} (tells : Type 0) (unread : R → List ℕ) (at : Stand) (room : ℕ) (f new : BufferView R) → unused_of f ≤ unused_of new + 1 → ReadsUpTo tells unread at room [] f new
+reads_nothing : {R : Type 0} (tells : Type 0) (unread : R → List ℕ) (at : CallState) (room : ℕ) (f new : BufferView R) → unused_of f ≤ unused_of new + 1 → ReadsUpTo tells unread at room [] f new
 reads_nothing tells unread at room f new most =
     record { to = at; used = []; there = f; goes_on = fill_goes_on tells unread at room f f refl refl (λ t. refl); whole = omega (arith, most) }
 
@@ -292,7 +292,7 @@ used_on {R = R} old mid new x y a b =
     b ∙ ap (λ (m : List (File R)). with_used (inner_buffer new) y m) a ∙ used_twice (inner_buffer mid) (inner_buffer new) x y old
 
 -- a buffer was filled, and the tokens stay
-pub filled : {S R : Type 0} (g : Ghosts S R) (failed : Bool) (first now after : S) (old mid new : FilesView R) (most : ℕ) (store : StoreView) (at : Stand)
+pub filled : {S R : Type 0} (g : Ghosts S R) (failed : Bool) (first now after : S) (old mid new : FilesView R) (most : ℕ) (store : StoreView) (at : CallState)
     → IsReading g false first now old mid most store at
     → new ≡ record mid { nest = with_buffer (inner_buffer new.nest) mid.nest }
     → unused_of (inner_buffer new.nest) ≡ unused_of (inner_buffer mid.nest) → (inner_buffer new.nest).mode ≡ (inner_buffer mid.nest).mode
@@ -321,7 +321,7 @@ filled g failed first now after old mid new most store at r only unused mode tok
     }
 
 -- a token was taken
-pub taken : {S R : Type 0} (g : Ghosts S R) (first now : S) (old mid new : FilesView R) (most : ℕ) (store after : StoreView) (at to : Stand)
+pub taken : {S R : Type 0} (g : Ghosts S R) (first now : S) (old mid new : FilesView R) (most : ℕ) (store after : StoreView) (at to : CallState)
     → IsReading g false first now old mid most store at
     → new ≡ record mid { nest = new.nest } → after.most ≡ store.most
     → IsTaken at to (store.most - length store.bytes) store.bytes after.bytes mid.nest new.nest
@@ -349,7 +349,7 @@ taken {R = R} g first now old mid new most store after at to r only room t =
     }
 
 -- an answer behind what was read
-pub answered : {S R : Type 0} (g : Ghosts S R) (first now : S) (old mid : FilesView R) (new : List (File R)) (most : ℕ) (store : StoreView) (at : Stand) (used : List ℕ) (result : CallRead)
+pub answered : {S R : Type 0} (g : Ghosts S R) (first now : S) (old mid : FilesView R) (new : List (File R)) (most : ℕ) (store : StoreView) (at : CallState) (used : List ℕ) (result : CallRead)
     → IsReading g false first now old mid most store at
     → new ≡ with_used (inner_buffer new) used mid.nest → unused_of (inner_buffer new) + length used ≡ unused_of (inner_buffer mid.nest)
     → MovesOver (g.tells first) (IsExactCall result) g.unread used (inner_buffer mid.nest) (inner_buffer new)
@@ -381,7 +381,7 @@ answered g first now old mid new most store at used result r inner unused moves 
     }
 
 -- an answer at a token
-pub answered_token : {S R : Type 0} (g : Ghosts S R) (first now : S) (old mid : FilesView R) (new : List (File R)) (most : ℕ) (store after : StoreView) (at : Stand) (result : CallRead)
+pub answered_token : {S R : Type 0} (g : Ghosts S R) (first now : S) (old mid : FilesView R) (new : List (File R)) (most : ℕ) (store after : StoreView) (at : CallState) (result : CallRead)
     → IsReading g false first now old mid most store at
     → IsEnded at (store.most - length store.bytes) store.bytes after.bytes mid.nest new result
     → ReadsCall (g.tells first) g.unread Before most after.bytes result old.nest new
@@ -401,7 +401,7 @@ answered_token g first now old mid new most store after at result r e =
     }))
 
 -- an answer where nothing more is held
-pub answered_unfilled : {S R : Type 0} (g : Ghosts S R) (first now : S) (old mid new : FilesView R) (most : ℕ) (store : StoreView) (at : Stand) (result : CallRead)
+pub answered_unfilled : {S R : Type 0} (g : Ghosts S R) (first now : S) (old mid new : FilesView R) (most : ℕ) (store : StoreView) (at : CallState) (result : CallRead)
     → IsReading g false first now old mid most store at
     → new ≡ record mid { nest = with_buffer (inner_buffer new.nest) mid.nest } → unused_of (inner_buffer new.nest) ≡ unused_of (inner_buffer mid.nest)
     → MovesOver (g.tells now) (IsExactCall result) g.unread [] (inner_buffer mid.nest) (inner_buffer new.nest)
@@ -416,7 +416,7 @@ answered_unfilled g first now old mid new most store at result r only unused mov
     (reads_nothing (g.tells first) g.unread at (most - length store.bytes) (inner_buffer mid.nest) (inner_buffer new.nest) (omega (arith, unused)))
 
 -- a read failed behind what was read
-pub answered_failed : {S R : Type 0} (g : Ghosts S R) (first now : S) (old new : FilesView R) (most : ℕ) (store : StoreView) (at : Stand)
+pub answered_failed : {S R : Type 0} (g : Ghosts S R) (first now : S) (old new : FilesView R) (most : ℕ) (store : StoreView) (at : CallState)
     → IsReading g true first now old new most store at
     → ReadsCall (g.tells first) g.unread Before most store.bytes Failed old.nest new.nest
 answered_failed g first now old new most store at r =
@@ -431,7 +431,7 @@ answered_failed g first now old new most store at r =
     }
 
 -- what an answer at the end of a text tells
-pub end_tells : {R : Type 0} (tells : Type 0) (unread : R → List ℕ) (at : Stand) (room : ℕ) (old new : BufferView R) (result : CallRead)
+pub end_tells : {R : Type 0} (tells : Type 0) (unread : R → List ℕ) (at : CallState) (room : ℕ) (old new : BufferView R) (result : CallRead)
     → IsEndOfText at room new result → new.mode ≡ old.mode → new.open_token_line ≡ old.open_token_line
     → (tells → tokens_left unread old ≡ ended_tokens old.mode old.open_token_line)
     → TellsCall tells unread at room [] [] old new result
@@ -449,14 +449,14 @@ end_tells tells unread at room old new (Broken kind line) e mode opened tokens =
 end_tells tells unread at room old new Closed e mode opened tokens = absurd e
 end_tells tells unread at room old new Failed e mode opened tokens = absurd e
 
-pub end_read : {R : Type 0} (at : Stand) (room : ℕ) (f : BufferView R) (result : CallRead) → IsEndOfText at room f result → is_failed_call result ≡ false
+pub end_read : {R : Type 0} (at : CallState) (room : ℕ) (f : BufferView R) (result : CallRead) → IsEndOfText at room f result → is_failed_call result ≡ false
 end_read at room f (Refused kind) e = refl
 end_read at room f (Broken kind line) e = refl
 end_read at room f Closed e = absurd e
 end_read at room f Failed e = absurd e
 
 -- what a line that breaks the text tells
-pub break_tells : {R : Type 0} (tells : Type 0) (unread : R → List ℕ) (at : Stand) (room : ℕ) (old new : BufferView R) (b : Breach) (line : ℕ)
+pub break_tells : {R : Type 0} (tells : Type 0) (unread : R → List ℕ) (at : CallState) (room : ℕ) (old new : BufferView R) (b : Breach) (line : ℕ)
     → is_part_breach b ≡ true → line ≡ old.line → (tells → tokens_left unread old ≡ only_broken b old.line)
     → TellsCall tells unread at room [] [] old new (Broken (breach_kind b) line)
 unfolding reading
@@ -464,34 +464,34 @@ break_tells tells unread at room old new b line part same tokens t =
     ap (read at (is_open old.mode) room) (tokens t) ∙ broken_reads at (is_open old.mode) room b old.line part ∙ ap (ReadStopped (breach_kind b)) (sym same)
 
 -- what stands at the end of a text, in plain text, in a string and in a comment
-pub end_plain : {R : Type 0} (at : Stand) (room : ℕ) (f : BufferView R) → f.mode ≡ Plain → read at (is_open f.mode) room (ended_tokens f.mode f.open_token_line) ≡ ReadRefused (fault_at_end at)
+pub end_plain : {R : Type 0} (at : CallState) (room : ℕ) (f : BufferView R) → f.mode ≡ Plain → read at (is_open f.mode) room (ended_tokens f.mode f.open_token_line) ≡ ReadRefused (fault_at_end at)
 unfolding read is_open
 end_plain at room f is = ap (λ (m : Mode). read at (is_open m) room (ended_tokens m f.open_token_line)) is
 
-pub end_string : {R : Type 0} (at : Stand) (room : ℕ) (f : BufferView R) → f.mode ≡ InStr
+pub end_string : {R : Type 0} (at : CallState) (room : ℕ) (f : BufferView R) → f.mode ≡ InStr
     → read at (is_open f.mode) room (ended_tokens f.mode f.open_token_line) ≡ ReadStopped (breach_kind StringOpen) f.open_token_line
 unfolding is_part_breach
 end_string at room f is = ap (λ (m : Mode). read at (is_open m) room (ended_tokens m f.open_token_line)) is ∙ broken_reads at (is_open InStr) room StringOpen f.open_token_line refl
 
-pub end_comment : {R : Type 0} (at : Stand) (room : ℕ) (f : BufferView R) → f.mode ≡ InBlock
+pub end_comment : {R : Type 0} (at : CallState) (room : ℕ) (f : BufferView R) → f.mode ≡ InBlock
     → read at (is_open f.mode) room (ended_tokens f.mode f.open_token_line) ≡ ReadStopped (breach_kind CommentOpen) f.open_token_line
 unfolding is_part_breach
 end_comment at room f is = ap (λ (m : Mode). read at (is_open m) room (ended_tokens m f.open_token_line)) is ∙ broken_reads at (is_open InBlock) room CommentOpen f.open_token_line refl
 
 -- a token that is used, by what is done with it
-pub token_used : {R : Type 0} (at : Stand) (m : Mode) (room most : ℕ) (held kept bytes after : List ℕ) (old new : List (File R)) (u : Use)
+pub token_used : {R : Type 0} (at : CallState) (m : Mode) (room most : ℕ) (held kept bytes after : List ℕ) (old new : List (File R)) (u : Consumed)
     → 0 < length old → EndsHeld (inner_buffer old) → m ≡ (inner_buffer old).mode → held ≡ held_of (inner_buffer old) → room ≡ most - length bytes
-    → IsUse at m room held u → kept ≡ kept_of u.is_kept (take u.len held) → after ≡ bytes ++ kept
+    → IsConsumed at m room held u → kept ≡ kept_of u.is_kept (take u.len held) → after ≡ bytes ++ kept
     → new ≡ with_used (used_buffer (inner_buffer old) u.len u.next_mode) (take u.len (held_of (inner_buffer old))) old
-    → IsTaken at (stand_meant u.stand) (most - length bytes) bytes after old new
+    → IsTaken at (call_state_meant u.call_state) (most - length bytes) bytes after old new
 unfolding entered_mode
 token_used {R = R} at m room most held kept bytes after old new u some ends mode text left how keeps becomes uses =
     let f = inner_buffer old in
     let g = used_buffer f u.len u.next_mode in
     let used = take u.len (held_of f) in
-    let own : IsUse at f.mode (most - length bytes) (held_of f) u =
-    subst (λ (d : Mode). IsUse at d (most - length bytes) (held_of f) u) mode
-    (subst (λ (xs : List ℕ). IsUse at m (most - length bytes) xs u) text (subst (λ n. IsUse at m n held u) left how)) in
+    let own : IsConsumed at f.mode (most - length bytes) (held_of f) u =
+    subst (λ (d : Mode). IsConsumed at d (most - length bytes) (held_of f) u) mode
+    (subst (λ (xs : List ℕ). IsConsumed at m (most - length bytes) xs u) text (subst (λ n. IsConsumed at m n held u) left how)) in
     let inner : inner_buffer new ≡ g = ap inner_buffer uses ∙ used_inner g used old some in
     let size : length used ≡ u.len = length-take-le u.len (held_of f) own.inside in
     record {
@@ -505,12 +505,12 @@ token_used {R = R} at m room most held kept bytes after old new u some ends mode
       moves = λ unread. subst (λ (b : BufferView R). MovesOver Unit Unit unread used f b) (sym inner) (used_moves Unit Unit unread f u.len u.next_mode own.inside);
       text = λ unread. used_text unread f u.len u.next_mode ∙ ap (λ (b : BufferView R). used ++ text_left unread b) (sym inner);
       goes_on = λ unread.
-          subst (λ (b : BufferView R). GoesOn Unit unread at (stand_meant u.stand) (most - length bytes) (kept_of u.is_kept used) used f b) (sym inner)
+          subst (λ (b : BufferView R). GoesOn Unit unread at (call_state_meant u.call_state) (most - length bytes) (kept_of u.is_kept used) used f b) (sym inner)
           (token_goes_on unread at (most - length bytes) f u ends own);
     }
 
 -- the `)`, by what is done with it
-pub token_closed : {R : Type 0} (at : Stand) (m : Mode) (room most : ℕ) (held bytes : List ℕ) (old new : List (File R))
+pub token_closed : {R : Type 0} (at : CallState) (m : Mode) (room most : ℕ) (held bytes : List ℕ) (old new : List (File R))
     → 0 < length old → EndsHeld (inner_buffer old) → 0 < length (held_of (inner_buffer old)) → m ≡ (inner_buffer old).mode → held ≡ held_of (inner_buffer old) → room ≡ most - length bytes
     → IsClose at m room held → new ≡ with_used (used_buffer (inner_buffer old) 1 Plain) (take 1 (held_of (inner_buffer old))) old
     → IsEnded at (most - length bytes) bytes bytes old new Closed
@@ -539,44 +539,44 @@ token_closed {R = R} at m room most held bytes old new some ends there mode text
     }
 
 -- nothing was used
-nothing_used : {R : Type 0} (unread : R → List ℕ) (at : Stand) (room : ℕ) (nest : List (File R)) (result : CallRead)
+nothing_used : {R : Type 0} (unread : R → List ℕ) (at : CallState) (room : ℕ) (nest : List (File R)) (result : CallRead)
     → TellsCall Unit unread at room [] [] (inner_buffer nest) (inner_buffer nest) result → ReadsCall Unit unread at room [] result nest nest
 nothing_used unread at room nest result tells = record { used = []; inner = same_used nest; unused = omega arith; moves = same_moves Unit (IsExactCall result) unread (inner_buffer nest); so_far = reads_nothing Unit unread at room (inner_buffer nest) (inner_buffer nest) (omega arith); text = λ exact t. refl; answer = tells }
 
 -- a call that is refused at a token
-pub token_refused : {R : Type 0} (at : Stand) (m : Mode) (room most : ℕ) (held bytes : List ℕ) (nest : List (File R)) (kind : FaultKind)
+pub token_refused : {R : Type 0} (at : CallState) (m : Mode) (room most : ℕ) (held bytes : List ℕ) (nest : List (File R)) (kind : FaultKind)
     → EndsHeld (inner_buffer nest) → m ≡ (inner_buffer nest).mode → held ≡ held_of (inner_buffer nest) → room ≡ most - length bytes
-    → IsTaking at m room held (RefusedTaking kind) → IsEnded at (most - length bytes) bytes bytes nest nest (Refused kind)
+    → IsAction at m room held (RefusedAction kind) → IsEnded at (most - length bytes) bytes bytes nest nest (Refused kind)
 token_refused at m room most held bytes nest kind ends mode text left law =
     let f = inner_buffer nest in
-    let own : IsTaking at f.mode (most - length bytes) (held_of f) (RefusedTaking kind) =
-    subst (λ (d : Mode). IsTaking at d (most - length bytes) (held_of f) (RefusedTaking kind)) mode
-    (subst (λ (xs : List ℕ). IsTaking at m (most - length bytes) xs (RefusedTaking kind)) text (subst (λ n. IsTaking at m n held (RefusedTaking kind)) left law)) in
+    let own : IsAction at f.mode (most - length bytes) (held_of f) (RefusedAction kind) =
+    subst (λ (d : Mode). IsAction at d (most - length bytes) (held_of f) (RefusedAction kind)) mode
+    (subst (λ (xs : List ℕ). IsAction at m (most - length bytes) xs (RefusedAction kind)) text (subst (λ n. IsAction at m n held (RefusedAction kind)) left law)) in
     record {
       bytes = refl;
       answers = refl;
-      reads = λ unread. nothing_used unread at (most - length bytes) nest (Refused kind) (λ _. taking_refused unread at (most - length bytes) f kind ends own);
+      reads = λ unread. nothing_used unread at (most - length bytes) nest (Refused kind) (λ _. action_refused unread at (most - length bytes) f kind ends own);
     }
 
 -- a call that embedded Perl breaks
-pub token_perl : {R : Type 0} (at : Stand) (m : Mode) (room most line : ℕ) (held bytes : List ℕ) (nest : List (File R))
+pub token_perl : {R : Type 0} (at : CallState) (m : Mode) (room most line : ℕ) (held bytes : List ℕ) (nest : List (File R))
     → EndsHeld (inner_buffer nest) → m ≡ (inner_buffer nest).mode → held ≡ held_of (inner_buffer nest) → room ≡ most - length bytes → line ≡ (inner_buffer nest).line
-    → IsTaking at m room held Perl → IsEnded at (most - length bytes) bytes bytes nest nest (Broken EmbeddedPerl line)
+    → IsAction at m room held Perl → IsEnded at (most - length bytes) bytes bytes nest nest (Broken EmbeddedPerl line)
 token_perl at m room most line held bytes nest ends mode text left where_ law =
     let f = inner_buffer nest in
-    let own : IsTaking at f.mode (most - length bytes) (held_of f) Perl =
-    subst (λ (d : Mode). IsTaking at d (most - length bytes) (held_of f) Perl) mode
-    (subst (λ (xs : List ℕ). IsTaking at m (most - length bytes) xs Perl) text (subst (λ n. IsTaking at m n held Perl) left law)) in
+    let own : IsAction at f.mode (most - length bytes) (held_of f) Perl =
+    subst (λ (d : Mode). IsAction at d (most - length bytes) (held_of f) Perl) mode
+    (subst (λ (xs : List ℕ). IsAction at m (most - length bytes) xs Perl) text (subst (λ n. IsAction at m n held Perl) left law)) in
     record {
       bytes = refl;
       answers = refl;
       reads = λ unread.
           nothing_used unread at (most - length bytes) nest (Broken EmbeddedPerl line)
-          (λ _. taking_broken unread at (most - length bytes) f EmbeddedPerl ends own ∙ ap (ReadStopped EmbeddedPerl) (sym where_));
+          (λ _. action_broken unread at (most - length bytes) f EmbeddedPerl ends own ∙ ap (ReadStopped EmbeddedPerl) (sym where_));
     }
 
 -- a token uses bytes
-pub less_left : {R : Type 0} (unread : R → List ℕ) (at to : Stand) (room most : ℕ) (bytes after : List ℕ) (old mid new : List (File R))
+pub less_left : {R : Type 0} (unread : R → List ℕ) (at to : CallState) (room most : ℕ) (bytes after : List ℕ) (old mid new : List (File R))
     → IsTaken at to room bytes after mid new → unused_of (inner_buffer mid) ≡ unused_of (inner_buffer old) → unused_of (inner_buffer new) < unused_of (inner_buffer old)
 less_left unread at to room most bytes after old mid new t same =
     let on = (t.goes_on unread).unused in

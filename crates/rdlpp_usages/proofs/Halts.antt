@@ -23,12 +23,12 @@ use Rattle.rdlpp_scan.proofs.TokenSteps.{is_kept_kind, back_held, next_held}
 use Rattle.rdlpp_meaning.specs.declared.fault.FaultKind.TheVariants.{ArgumentsMissing, EmbeddedPerl}
 use Rattle.rdlpp_meaning.specs.Actuals.{Role, Remark, Text, kind_role, kept_size, level_behind, token_role, Halt, broken_role}
 use Rattle.rdlpp_meaning.specs.CallReading.{Reading, ReadRefused, is_part_sort, part_kept, read, read_by, rest_role, role_in, ReadStopped, is_part_breach}
-use Rattle.rdlpp_meaning.specs.CallScan.{Stand, Before, Inside, Keeps, turn, turn_before, turn_inside, turn_fitting, stand_behind, stand_behind_lead, room_behind, source_role, fault_at_end}
+use Rattle.rdlpp_meaning.specs.CallScan.{CallState, Before, Inside, Keeps, turn, turn_before, turn_inside, turn_fitting, call_state_behind, call_state_behind_lead, room_behind, source_role, fault_at_end}
 use Rattle.rdlpp_meaning.specs.Expansion.{bytes_of, usage_token}
 use Rattle.rdlpp_meaning.specs.Parts.{directive_of, directive_named}
 use Rattle.rdlpp_meaning.proofs.ReadCalls.{BrokenRest, IsRest, WholeRest, comment_part_before, comment_remains, open_comment_before, open_string_before, part_inside, string_before, string_remains}
 use Rattle.rdlpp_meaning.proofs.LargerRuns.{row-string}
-use Rattle.rdlpp_usages.specs.Taking.{Around, IsAround, tokens_at, tokens_behind}
+use Rattle.rdlpp_usages.specs.CallActions.{Around, IsAround, tokens_at, tokens_behind}
 use Rattle.rdlpp_scan.specs.declared.token.Directive.{Directive}
 use Rattle.rdlpp_scan.specs.declared.token.Directive.TheVariants.{Undef, Ifdef, Ifndef, Elsif, Else, Endif, Include}
 use Rattle.rdlpp_scan.specs.Reserved.{is_reserved, reserved_names}
@@ -42,10 +42,10 @@ abbrev pub own_token : Token → List ℕ → ℕ → SourceToken
 own_token t held line = record { sort = Ordinary t.kind; bytes = take t.len held; line = line }
 
 -- the first token of held bytes is read by its role, and then what stands behind it
-pub record IsFirst (at : Stand) (m : Mode) (room : ℕ) (held : List ℕ) (t : Token) (r : Role) (a : Around) : Type 0 where
+pub record IsFirst (at : CallState) (m : Mode) (room : ℕ) (held : List ℕ) (t : Token) (r : Role) (a : Around) : Type 0 where
   pub reads : read at (is_open m) room (tokens_at a m held)
       ≡ read_by (turn at r (nat_le t.len room)) (own_token t held a.line) (tokens_behind a m held t.len t.next_mode)
-      (read (stand_behind at r) (is_open t.next_mode) (room_behind at room r t.len) (tokens_behind a m held t.len t.next_mode))
+      (read (call_state_behind at r) (is_open t.next_mode) (room_behind at room r t.len) (tokens_behind a m held t.len t.next_mode))
   pub bytes : bytes_of (tokens_at a m held) ≡ take t.len held ++ bytes_of (tokens_behind a m held t.len t.next_mode)
 
 -- the role of a token of a kind that stands in the list as it is
@@ -62,16 +62,16 @@ kept_role InStr k bytes line h = refl
 kept_role InBlock k bytes line h = refl
 
 -- the first of tokens is read by its role
-pub head_read : (at : Stand) (p : Bool) (room : ℕ) (t : SourceToken) (ts : List SourceToken) (r : Role) (n : ℕ) (next : Mode)
+pub head_read : (at : CallState) (p : Bool) (room : ℕ) (t : SourceToken) (ts : List SourceToken) (r : Role) (n : ℕ) (next : Mode)
     → role_in p t ≡ r → length t.bytes ≡ n → next ≡ Plain
-    → read at p room (t ∷ ts) ≡ read_by (turn at r (nat_le n room)) t ts (read (stand_behind at r) (is_open next) (room_behind at room r n) ts)
+    → read at p room (t ∷ ts) ≡ read_by (turn at r (nat_le n room)) t ts (read (call_state_behind at r) (is_open next) (room_behind at room r n) ts)
 unfolding read is_open
 head_read at p room t ts r n next role size plain =
-    let F : Role → ℕ → Bool → Reading = λ q i b. read_by (turn at q (nat_le i room)) t ts (read (stand_behind at q) b (room_behind at room q i) ts) in
+    let F : Role → ℕ → Bool → Reading = λ q i b. read_by (turn at q (nat_le i room)) t ts (read (call_state_behind at q) b (room_behind at room q i) ts) in
     ap (λ q. F q (length t.bytes) false) role ∙ ap (λ i. F r i false) size ∙ ap (F r n) (sym (ap is_open plain))
 
 -- a token that is whole in held bytes
-pub whole_first : (at : Stand) (m : Mode) (room : ℕ) (held : List ℕ) (t : Token) (r : Role) (a : Around)
+pub whole_first : (at : CallState) (m : Mode) (room : ℕ) (held : List ℕ) (t : Token) (r : Role) (a : Around)
     → length (take t.len held) ≡ t.len → t.next_mode ≡ Plain → role_in (is_open m) (own_token t held a.line) ≡ r
     → tokens_at a m held ≡ own_token t held a.line ∷ remaining_tokens a.most Plain a.line (a.line + line_ends (take t.len held)) (drop t.len held) a.left a.rest
     → IsFirst at m room held t r a
@@ -89,7 +89,7 @@ whole_first at m room held t r a size closed role e =
     }
 
 -- a token that is closed in held bytes
-closed_first : (at : Stand) (m : Mode) (room : ℕ) (held : List ℕ) (a : Around) → IsAround held a → 0 < length held → is_kept_kind (token_of m held).kind ≡ true → (token_of m held).next_mode ≡ Plain
+closed_first : (at : CallState) (m : Mode) (room : ℕ) (held : List ℕ) (a : Around) → IsAround held a → 0 < length held → is_kept_kind (token_of m held).kind ≡ true → (token_of m held).next_mode ≡ Plain
     → IsFirst at m room held (token_of m held) (kind_role (token_of m held).kind (take (token_of m held).len held)) a
 closed_first at m room held a around some kept closed =
     let t = token_of m held in
@@ -145,7 +145,7 @@ open_inside : (k : ℕ) (m : Mode) (room : ℕ) (held : List ℕ) (t : Token) (r
     → IsHead (tokens_behind a m held t.len t.next_mode)
     → tokens_at a m held ≡ onto_tokens (take t.len held) a.line (tokens_behind a m held t.len t.next_mode)
     → IsFirst (Inside k) m room held t r a
-unfolding turn stand_behind room_behind
+unfolding turn call_state_behind room_behind
 open_inside k m room held t r a inside turns level kept open_ head e =
     let own = take t.len held in
     let us = tokens_behind a m held t.len t.next_mode in
@@ -244,7 +244,7 @@ cut_part m held a around some kind mode lt perl =
     ∙ ap (λ (d : Mode). onto_tokens own a.line (tokens_behind a m held t.len d)) (sym mode)
 
 -- a string in held bytes that isn't closed there, by where the call stands
-string_by : (at : Stand) (m : Mode) (room : ℕ) (held : List ℕ) (t : Token) (a : Around) → 0 < length held → 0 < t.len → t.len ≤ length held
+string_by : (at : CallState) (m : Mode) (room : ℕ) (held : List ℕ) (t : Token) (a : Around) → 0 < length held → 0 < t.len → t.len ≤ length held
     → (at ≡ Before → m ≡ Plain) → (m ≡ Plain → (slice_index held 0 == 34) ≡ true) → t.next_mode ≡ InStr
     → tokens_at a m held ≡ onto_tokens (take t.len held) a.line (tokens_behind a m held t.len t.next_mode)
     → IsFirst at m room held t Text a
@@ -272,11 +272,11 @@ string_by Before m room held t a some long inside lead quote mode e =
     }
 
 -- a comment in held bytes that isn't closed there, by where the call stands
-comment_by : (at : Stand) (m : Mode) (room : ℕ) (held : List ℕ) (t : Token) (a : Around) → 0 < length held → 0 < t.len → t.len ≤ length held
+comment_by : (at : CallState) (m : Mode) (room : ℕ) (held : List ℕ) (t : Token) (a : Around) → 0 < length held → 0 < t.len → t.len ≤ length held
     → (is_open m ≡ false → (slice_index held 0 == 34) ≡ false) → t.next_mode ≡ InBlock
     → tokens_at a m held ≡ onto_tokens (take t.len held) a.line (tokens_behind a m held t.len t.next_mode)
     → IsFirst at m room held t Remark a
-unfolding turn turn_before turn_inside read_by level_behind kept_size is_open stand_behind stand_behind_lead room_behind
+unfolding turn turn_before turn_inside read_by level_behind kept_size is_open call_state_behind call_state_behind_lead room_behind
 comment_by (Inside k) m room held t a some long inside slash mode e =
     let rest : IsRest BlockComment (tokens_behind a m held t.len t.next_mode) =
     subst (λ (d : Mode). IsRest BlockComment (tokens_behind a m held t.len d)) (sym mode)
@@ -299,7 +299,7 @@ comment_by Before m room held t a some long inside slash mode e =
     }
 
 -- a string stands in plain text, or in a string
-string_mode : (at : Stand) (m : Mode) (held : List ℕ) → (token_of m held).kind ≡ Str → (at ≡ Before → m ≢ InStr) → at ≡ Before → m ≡ Plain
+string_mode : (at : CallState) (m : Mode) (held : List ℕ) → (token_of m held).kind ≡ Str → (at ≡ Before → m ≢ InStr) → at ≡ Before → m ≡ Plain
 unfolding token_of
 string_mode at Plain held kind lead is = refl
 string_mode at InStr held kind lead is = absurd (lead is refl)
@@ -326,7 +326,7 @@ unfolding kind_role
 comment_role k bytes is = sym (ap (λ (x : Kind). kind_role x bytes) is)
 
 -- the first token of held bytes, or the part of it that is held
-pub token_first : (at : Stand) (m : Mode) (room : ℕ) (held : List ℕ) (a : Around) → IsAround held a → 0 < length held → is_kept_kind (token_of m held).kind ≡ true → (at ≡ Before → m ≢ InStr)
+pub token_first : (at : CallState) (m : Mode) (room : ℕ) (held : List ℕ) (a : Around) → IsAround held a → 0 < length held → is_kept_kind (token_of m held).kind ≡ true → (at ≡ Before → m ≢ InStr)
     → Seam held [] (token_of m held) (token_of m (held ++ []))
     → IsFirst at m room held (token_of m held) (kind_role (token_of m held).kind (take (token_of m held).len held)) a
 token_first at m room held a around some kept lead (Closed e closed) = closed_first at m room held a around some kept closed
@@ -366,7 +366,7 @@ none_fit : (room : ℕ) → nat_le 0 room ≡ true
 none_fit room = le-leb 0 room (omega arith)
 
 -- a broken token without bytes, whole or the rest of one, by where the call stands
-pub broken_reads : (at : Stand) (p : Bool) (room : ℕ) (b : Breach) (line : ℕ) → is_part_breach b ≡ true
+pub broken_reads : (at : CallState) (p : Bool) (room : ℕ) (b : Breach) (line : ℕ) → is_part_breach b ≡ true
     → read at p room (record { sort = Broken b; bytes = []; line = line } ∷ []) ≡ ReadStopped (breach_kind b) line
 unfolding read role_in source_role directive_of token_role broken_role rest_role turn turn_before turn_inside turn_fitting read_by is_part_breach
 broken_reads at p room DefineLong line h = absurd (false≢true h)
@@ -385,31 +385,31 @@ perl_tokens InStr held a around some is = remaining-perl_in_string a.most a.open
 perl_tokens InBlock held a around some is = let k = block_token-kind 0 held in absurd (cc)
 
 -- embedded Perl breaks a call
-pub perl_reads : (at : Stand) (m : Mode) (room : ℕ) (held : List ℕ) (a : Around) → IsAround held a → 0 < length held → (token_of m held).kind ≡ Perl
+pub perl_reads : (at : CallState) (m : Mode) (room : ℕ) (held : List ℕ) (a : Around) → IsAround held a → 0 < length held → (token_of m held).kind ≡ Perl
     → read at (is_open m) room (tokens_at a m held) ≡ ReadStopped EmbeddedPerl a.line
 unfolding is_part_breach breach_kind
 perl_reads at m room held a around some is =
     ap (read at (is_open m) room) (perl_tokens m held a around some is) ∙ broken_reads at (is_open m) room PerlFound a.line refl
 
 -- a halt ends a call
-halt_reads : (at : Stand) (room : ℕ) (t : SourceToken) (ts : List SourceToken) → source_role t ≡ Halt → read at false room (t ∷ ts) ≡ ReadRefused (fault_at_end at)
+halt_reads : (at : CallState) (room : ℕ) (t : SourceToken) (ts : List SourceToken) → source_role t ≡ Halt → read at false room (t ∷ ts) ≡ ReadRefused (fault_at_end at)
 unfolding read role_in turn turn_before turn_inside fault_at_end read_by
 halt_reads Before room t ts h =
-    ap (λ (r : Role). read_by (turn Before r (nat_le (length t.bytes) room)) t ts (read (stand_behind Before r) false (room_behind Before room r (length t.bytes)) ts)) h
+    ap (λ (r : Role). read_by (turn Before r (nat_le (length t.bytes) room)) t ts (read (call_state_behind Before r) false (room_behind Before room r (length t.bytes)) ts)) h
 halt_reads (Inside k) room t ts h =
-    ap (λ (r : Role). read_by (turn (Inside k) r (nat_le (length t.bytes) room)) t ts (read (stand_behind (Inside k) r) false (room_behind (Inside k) room r (length t.bytes)) ts)) h
+    ap (λ (r : Role). read_by (turn (Inside k) r (nat_le (length t.bytes) room)) t ts (read (call_state_behind (Inside k) r) false (room_behind (Inside k) room r (length t.bytes)) ts)) h
 
 -- a step that halts
 unfoldable Halts : Step → Type 0
 Halts (Last t) = source_role t ≡ Halt
 Halts (Next t) = source_role t ≡ Halt
 
-halted_step : (c : Course) (at : Stand) (room l b : ℕ) (bs : List ℕ) (s : Step) → Halts s → read at false room (after_step c l b bs s) ≡ ReadRefused (fault_at_end at)
+halted_step : (c : Course) (at : CallState) (room l b : ℕ) (bs : List ℕ) (s : Step) → Halts s → read at false room (after_step c l b bs s) ≡ ReadRefused (fault_at_end at)
 unfolding Halts after_step
 halted_step c at room l b bs (Last t) h = halt_reads at room t [] h
 halted_step c at room l b bs (Next t) h = halt_reads at room t _ h
 
-halted_tokens : (c : Course) (at : Stand) (room o l : ℕ) (bs : List ℕ) → 0 < length bs → Halts (source_step c Plain o l bs) → read at false room (source_tokens c Plain o l 0 bs) ≡ ReadRefused (fault_at_end at)
+halted_tokens : (c : Course) (at : CallState) (room o l : ℕ) (bs : List ℕ) → 0 < length bs → Halts (source_step c Plain o l bs) → read at false room (source_tokens c Plain o l 0 bs) ≡ ReadRefused (fault_at_end at)
 halted_tokens c at room o l [] some h = absurd (omega arith)
 halted_tokens c at room o l (b ∷ bs) some h = ap (read at false room) (tokens_step c Plain o l b bs) ∙ halted_step c at room l b bs (source_step c Plain o l (b ∷ bs)) h
 
@@ -502,7 +502,7 @@ pub back_bytes : (bs : List ℕ) → (token_of Plain bs).kind ≡ Back → 0 < l
 back_bytes bs is some = back_by bs (token_of Plain bs) (token_of-row bs) is some
 
 -- a directive halts a call
-pub directive_reads : (at : Stand) (room : ℕ) (held : List ℕ) (a : Around) → IsAround held a → 0 < length held → (token_of Plain held).kind ≡ Back
+pub directive_reads : (at : CallState) (room : ℕ) (held : List ℕ) (a : Around) → IsAround held a → 0 < length held → (token_of Plain held).kind ≡ Back
     → is_reserved (take ((token_of Plain held).len - 1) (drop 1 held)) ≡ true
     → read at false room (tokens_at a Plain held) ≡ ReadRefused (fault_at_end at)
 unfolding remaining_tokens Halts
@@ -542,7 +542,7 @@ not_word name free =
     (a.0, i.0)
 
 -- a backquoted name that isn't reserved is text of a call
-pub name_first : (at : Stand) (room : ℕ) (held : List ℕ) (a : Around) → IsAround held a → 0 < length held → (token_of Plain held).kind ≡ Back
+pub name_first : (at : CallState) (room : ℕ) (held : List ℕ) (a : Around) → IsAround held a → 0 < length held → (token_of Plain held).kind ≡ Back
     → (token_of Plain held).next_mode ≡ Plain → is_reserved (take ((token_of Plain held).len - 1) (drop 1 held)) ≡ false
     → IsFirst at Plain room held (token_of Plain held) Text a
 unfolding remaining_tokens role_in is_open token_role kind_role

@@ -24,7 +24,7 @@ use Rattle.rdlpp_scan.proofs.TokenSteps.{is_kept_kind}
 use Rattle.rdlpp_meaning.specs.Actuals as role
 use Rattle.rdlpp_meaning.specs.Actuals.{Dropped, End, Ends, Halt, Remark, Role, Space, Start, Stops, Text, kept_size, kind_role, level_behind}
 use Rattle.rdlpp_meaning.specs.CallReading.{ReadClosed, Reading, ReadRefused, ReadStopped, onto_kept, read, read_by, role_in}
-use Rattle.rdlpp_meaning.specs.CallScan.{Before, Breaks, Closes, Inside, Keeps, Passes, Refuses, Stand, Turn, fault_at_end, room_behind, stand_behind, stand_behind_lead, turn, turn_before, turn_fitting, turn_inside}
+use Rattle.rdlpp_meaning.specs.CallScan.{Before, Breaks, Closes, Inside, Keeps, Passes, Refuses, CallState, Turn, fault_at_end, room_behind, call_state_behind, call_state_behind_lead, turn, turn_before, turn_fitting, turn_inside}
 use Rattle.rdlpp_meaning.specs.Expansion.{bytes_of}
 use Rattle.rdlpp_meaning.specs.declared.fault.FaultKind.{FaultKind}
 use Rattle.rdlpp_meaning.specs.declared.fault.FaultKind.TheVariants as fault
@@ -40,12 +40,12 @@ use Rattle.rdlpp_read.specs.Files.{inner_buffer}
 use Rattle.rdlpp_read.specs.declared.files.File.{File}
 use Rattle.rdlpp_usages.specs.CallReads.{IsEnded, is_read_fault}
 use Rattle.rdlpp_usages.specs.Reads.{reading}
-use Rattle.rdlpp_usages.specs.Taking.{Answers, Around, IsAround, IsClose, IsKeptAt, IsStep, IsTaking, IsUse, is_calm, kept_len, kept_of, level_in, stand_meant, tokens_at, tokens_behind}
+use Rattle.rdlpp_usages.specs.CallActions.{Answers, Around, IsAround, IsClose, IsKeptAt, IsStep, IsAction, IsConsumed, is_calm, kept_len, kept_of, level_in, call_state_meant, tokens_at, tokens_behind}
 use Rattle.rdlpp_usages.specs.declared.reading.CallRead.TheVariants as call
-use Rattle.rdlpp_usages.specs.declared.taking.Stand.TheVariants.{Inside as InsideCall}
-use Rattle.rdlpp_usages.specs.declared.taking.Taking.{Taking}
-use Rattle.rdlpp_usages.specs.declared.taking.Taking.TheVariants.{Closes as ClosesCall, Perl as PerlFound, Refused, Uses}
-use Rattle.rdlpp_usages.specs.declared.taking.Use.{Use}
+use Rattle.rdlpp_usages.specs.declared.action.CallState.TheVariants.{Inside as InsideCall}
+use Rattle.rdlpp_usages.specs.declared.action.CallAction.{CallAction}
+use Rattle.rdlpp_usages.specs.declared.action.CallAction.TheVariants.{Closes as ClosesCall, Perl as PerlFound, Refused, Consumes}
+use Rattle.rdlpp_usages.specs.declared.action.Consumed.{Consumed}
 use Rattle.rdlpp_usages.proofs.Halts.{IsFirst, directive_reads, name_first, own_token, perl_reads, token_first}
 
 -- What is answered at a token behind the `(`, by its role.
@@ -81,13 +81,13 @@ one_level r k = omega arith
 
 -- and is kept where it fits
 pub keeps_step : (r : Role) (k room : ℕ) (t : Token) (level : ℕ) → IsKeptAt r k → t.len ≤ room → 0 < t.len → level ≡ level_behind r k
-    → IsStep (Inside k) r room t (record { len = t.len; next_mode = t.next_mode; stand = InsideCall level; is_kept = true })
-unfolding turn turn_fitting stand_meant stand_behind room_behind level_in
+    → IsStep (Inside k) r room t (record { len = t.len; next_mode = t.next_mode; call_state = InsideCall level; is_kept = true })
+unfolding turn turn_fitting call_state_meant call_state_behind room_behind level_in
 keeps_step r k room t level kept fits some is =
     record {
       len = refl;
       mode = refl;
-      stand = ap Inside is;
+      call_state = ap Inside is;
       turns = kept.turns (nat_le t.len room) ∙ ap (λ b. turn_fitting b Keeps) (le-leb t.len room fits);
       left = ap (λ n. room - n) (kept.size t.len);
       fits = fits;
@@ -95,10 +95,10 @@ keeps_step r k room t level kept fits some is =
     }
 
 -- a `//` comment is passed
-pub comment_step : (k room : ℕ) (t : Token) → IsStep (Inside k) role.Dropped room t (record { len = t.len; next_mode = t.next_mode; stand = InsideCall k; is_kept = false })
-unfolding turn turn_inside stand_meant stand_behind room_behind level_in level_behind kept_size
+pub comment_step : (k room : ℕ) (t : Token) → IsStep (Inside k) role.Dropped room t (record { len = t.len; next_mode = t.next_mode; call_state = InsideCall k; is_kept = false })
+unfolding turn turn_inside call_state_meant call_state_behind room_behind level_in level_behind kept_size
 comment_step k room t =
-    record { len = refl; mode = refl; stand = refl; turns = refl; left = refl; fits = omega arith; level = omega arith }
+    record { len = refl; mode = refl; call_state = refl; turns = refl; left = refl; fits = omega arith; level = omega arith }
 
 -- What is done with the first token of held bytes is what reading the call comes to there.
 
@@ -114,9 +114,9 @@ kept_size_of true bytes n e = e
 kept_size_of false bytes n e = refl
 
 -- a token that is used
-uses_taken : (at : Stand) (m : Mode) (room : ℕ) (held : List ℕ) (t : Token) (r : Role) (u : Use) → 0 < t.len → t.len ≤ length held
-    → (stand_behind at r ≡ Before → turn at r (nat_le t.len room) ≡ cond u.is_kept Keeps Passes → t.next_mode ≢ InStr)
-    → ((a : Around) → IsAround held a → IsFirst at m room held t r a) → IsStep at r room t u → IsUse at m room held u
+uses_taken : (at : CallState) (m : Mode) (room : ℕ) (held : List ℕ) (t : Token) (r : Role) (u : Consumed) → 0 < t.len → t.len ≤ length held
+    → (call_state_behind at r ≡ Before → turn at r (nat_le t.len room) ≡ cond u.is_kept Keeps Passes → t.next_mode ≢ InStr)
+    → ((a : Around) → IsAround held a → IsFirst at m room held t r a) → IsStep at r room t u → IsConsumed at m room held u
 uses_taken at m room held t r u some inside lead first step =
     let b = u.is_kept in
     let size : length (take t.len held) ≡ t.len = length-take-le t.len held inside in
@@ -126,20 +126,20 @@ uses_taken at m room held t r u some inside lead first step =
       some = omega (arith, step.len);
       inside = omega (arith, step.len);
       fits = omega (arith, own, step.fits);
-      level = (let e = ap level_in step.stand in omega (arith, own, step.level, e));
-      lead = λ before open_. lead (sym step.stand ∙ before) step.turns (sym step.mode ∙ open_);
+      level = (let e = ap level_in step.call_state in omega (arith, own, step.level, e));
+      lead = λ before open_. lead (sym step.call_state ∙ before) step.turns (sym step.mode ∙ open_);
       reads = λ a around.
           let f = first a around in
           let us = tokens_behind a m held t.len t.next_mode in
           let T = own_token t held a.line in
-          let G : ℕ → Mode → Stand → ℕ → Reading = λ n d st left. onto_kept (kept_of b (take n held)) (read st (is_open d) left (tokens_behind a m held n d)) in
+          let G : ℕ → Mode → CallState → ℕ → Reading = λ n d st left. onto_kept (kept_of b (take n held)) (read st (is_open d) left (tokens_behind a m held n d)) in
           f.reads
-          ∙ ap (λ (w : Turn). read_by w T us (read (stand_behind at r) (is_open t.next_mode) (room_behind at room r t.len) us)) step.turns
-          ∙ read_used b T us (read (stand_behind at r) (is_open t.next_mode) (room_behind at room r t.len) us)
-          ∙ ap (G t.len t.next_mode (stand_behind at r)) (step.left ∙ ap (λ n. room - n) (sym own))
-          ∙ ap (λ st. G t.len t.next_mode st (room - length (kept_of b (take u.len held)))) (sym step.stand)
-          ∙ ap (λ d. G t.len d (stand_meant u.stand) (room - length (kept_of b (take u.len held)))) (sym step.mode)
-          ∙ ap (λ n. G n u.next_mode (stand_meant u.stand) (room - length (kept_of b (take u.len held)))) (sym step.len);
+          ∙ ap (λ (w : Turn). read_by w T us (read (call_state_behind at r) (is_open t.next_mode) (room_behind at room r t.len) us)) step.turns
+          ∙ read_used b T us (read (call_state_behind at r) (is_open t.next_mode) (room_behind at room r t.len) us)
+          ∙ ap (G t.len t.next_mode (call_state_behind at r)) (step.left ∙ ap (λ n. room - n) (sym own))
+          ∙ ap (λ st. G t.len t.next_mode st (room - length (kept_of b (take u.len held)))) (sym step.call_state)
+          ∙ ap (λ d. G t.len d (call_state_meant u.call_state) (room - length (kept_of b (take u.len held)))) (sym step.mode)
+          ∙ ap (λ n. G n u.next_mode (call_state_meant u.call_state) (room - length (kept_of b (take u.len held)))) (sym step.len);
       bytes = λ a around.
           (first a around).bytes
           ∙ ap (λ d. take t.len held ++ bytes_of (tokens_behind a m held t.len d)) (sym step.mode)
@@ -147,7 +147,7 @@ uses_taken at m room held t r u some inside lead first step =
     }
 
 -- the call closes at a `)` alone
-closes_end : (at : Stand) (r : Role) (fits : Bool) → turn at r fits ≡ Closes → r ≡ End
+closes_end : (at : CallState) (r : Role) (fits : Bool) → turn at r fits ≡ Closes → r ≡ End
 unfolding turn turn_before turn_inside turn_fitting
 closes_end Before Start fits e = absurd (cc)
 closes_end Before (Stops f line) fits e = absurd (cc)
@@ -170,7 +170,7 @@ end_kind Opener bytes e =
 end_kind k bytes e = absurd (cc)
 
 -- a token that closes the call
-closes_taken : (at : Stand) (m : Mode) (room : ℕ) (held : List ℕ) (t : Token) (r : Role) → t.len ≡ 1 → t.next_mode ≡ Plain
+closes_taken : (at : CallState) (m : Mode) (room : ℕ) (held : List ℕ) (t : Token) (r : Role) → t.len ≡ 1 → t.next_mode ≡ Plain
     → ((a : Around) → IsAround held a → IsFirst at m room held t r a) → turn at r (nat_le t.len room) ≡ Closes → IsClose at m room held
 unfolding read_by
 closes_taken at m room held t r one plain first closes =
@@ -178,7 +178,7 @@ closes_taken at m room held t r one plain first closes =
       reads = λ a around.
           let us = tokens_behind a m held t.len t.next_mode in
           (first a around).reads
-          ∙ ap (λ (w : Turn). read_by w (own_token t held a.line) us (read (stand_behind at r) (is_open t.next_mode) (room_behind at room r t.len) us)) closes
+          ∙ ap (λ (w : Turn). read_by w (own_token t held a.line) us (read (call_state_behind at r) (is_open t.next_mode) (room_behind at room r t.len) us)) closes
           ∙ ap (λ d. ReadClosed [] (tokens_behind a m held t.len d)) plain
           ∙ ap (λ n. ReadClosed [] (tokens_behind a m held n Plain)) one;
       bytes = λ a around.
@@ -188,51 +188,51 @@ closes_taken at m room held t r one plain first closes =
     }
 
 -- a token at which the call is refused
-refused_taken : (at : Stand) (m : Mode) (room : ℕ) (held : List ℕ) (t : Token) (r : Role) (f : FaultKind)
+refused_taken : (at : CallState) (m : Mode) (room : ℕ) (held : List ℕ) (t : Token) (r : Role) (f : FaultKind)
     → ((a : Around) → IsAround held a → IsFirst at m room held t r a) → turn at r (nat_le t.len room) ≡ Refuses f
     → (a : Around) → IsAround held a → read at (is_open m) room (tokens_at a m held) ≡ ReadRefused f
 unfolding read_by
 refused_taken at m room held t r f first refuses a around =
     let us = tokens_behind a m held t.len t.next_mode in
     (first a around).reads
-    ∙ ap (λ (w : Turn). read_by w (own_token t held a.line) us (read (stand_behind at r) (is_open t.next_mode) (room_behind at room r t.len) us)) refuses
+    ∙ ap (λ (w : Turn). read_by w (own_token t held a.line) us (read (call_state_behind at r) (is_open t.next_mode) (room_behind at room r t.len) us)) refuses
 
 -- each answer, by the role of the first token
-taken_by : (at : Stand) (m : Mode) (room : ℕ) (held : List ℕ) (t : Token) (r : Role) (x : Taking) → 0 < t.len → t.len ≤ length held
-    → (stand_behind at r ≡ Before → (b : Bool) → turn at r (nat_le t.len room) ≡ cond b Keeps Passes → t.next_mode ≢ InStr)
+taken_by : (at : CallState) (m : Mode) (room : ℕ) (held : List ℕ) (t : Token) (r : Role) (x : CallAction) → 0 < t.len → t.len ≤ length held
+    → (call_state_behind at r ≡ Before → (b : Bool) → turn at r (nat_le t.len room) ≡ cond b Keeps Passes → t.next_mode ≢ InStr)
     → (r ≡ End → (t.len ≡ 1) × (t.next_mode ≡ Plain))
-    → ((a : Around) → IsAround held a → IsFirst at m room held t r a) → Answers at r room t x → IsTaking at m room held x
-taken_by at m room held t r (Uses u) some inside lead end first answer = uses_taken at m room held t r u some inside (λ h e. lead h u.is_kept e) first answer
+    → ((a : Around) → IsAround held a → IsFirst at m room held t r a) → Answers at r room t x → IsAction at m room held x
+taken_by at m room held t r (Consumes u) some inside lead end first answer = uses_taken at m room held t r u some inside (λ h e. lead h u.is_kept e) first answer
 taken_by at m room held t r ClosesCall some inside lead end first answer =
     let e = end (closes_end at r (nat_le t.len room) answer) in closes_taken at m room held t r e.0 e.1 first answer
 taken_by at m room held t r (Refused f) some inside lead end first answer = refused_taken at m room held t r f first answer
 taken_by at m room held t r PerlFound some inside lead end first answer = absurd answer
 
 -- text before the `(` is refused
-text_refused : (at : Stand) (fits b : Bool) → stand_behind at Text ≡ Before → turn at Text fits ≡ cond b Keeps Passes → at ≢ at
-unfolding turn turn_before stand_behind stand_behind_lead
+text_refused : (at : CallState) (fits b : Bool) → call_state_behind at Text ≡ Before → turn at Text fits ≡ cond b Keeps Passes → at ≢ at
+unfolding turn turn_before call_state_behind call_state_behind_lead
 text_refused Before fits true is e = absurd (cc)
 text_refused Before fits false is e = absurd (cc)
 text_refused (Inside k) fits b is e = absurd (cc)
 
 -- behind what is used before the `(` no string is open
-no_string : (at : Stand) (m : Mode) (held : List ℕ) (fits b : Bool) (own : List ℕ) → Seam held [] (token_of m held) (token_of m (held ++ []))
-    → stand_behind at (kind_role (token_of m held).kind own) ≡ Before → turn at (kind_role (token_of m held).kind own) fits ≡ cond b Keeps Passes → (token_of m held).next_mode ≢ InStr
+no_string : (at : CallState) (m : Mode) (held : List ℕ) (fits b : Bool) (own : List ℕ) → Seam held [] (token_of m held) (token_of m (held ++ []))
+    → call_state_behind at (kind_role (token_of m held).kind own) ≡ Before → turn at (kind_role (token_of m held).kind own) fits ≡ cond b Keeps Passes → (token_of m held).next_mode ≢ InStr
 unfolding kind_role
 no_string at m held fits b own (Closed e closed) before turns open_ = (let no : Plain ≡ InStr = sym closed ∙ open_ in cc)
 no_string at m held fits b own (OpenComment is e) before turns open_ = (let mode = ap (λ (v : Token). v.next_mode) is in let no : InBlock ≡ InStr = sym mode ∙ open_ in cc)
 no_string at m held fits b own (BeforePerl e is lt perl) before turns open_ =
     let kind = ap (λ (v : Token). v.kind) is in
     let role = ap (λ k. kind_role k own) kind in
-    text_refused at fits b (ap (stand_behind at) (sym role) ∙ before) (ap (λ r. turn at r fits) (sym role) ∙ turns) refl
+    text_refused at fits b (ap (call_state_behind at) (sym role) ∙ before) (ap (λ r. turn at r fits) (sym role) ∙ turns) refl
 no_string at m held fits b own (OpenString is e) before turns open_ =
     let kind = ap (λ (v : Token). v.kind) is in
     let role = ap (λ k. kind_role k own) kind in
-    text_refused at fits b (ap (stand_behind at) (sym role) ∙ before) (ap (λ r. turn at r fits) (sym role) ∙ turns) refl
+    text_refused at fits b (ap (call_state_behind at) (sym role) ∙ before) (ap (λ r. turn at r fits) (sym role) ∙ turns) refl
 
 -- the first token of held bytes, by its role: neither `<%` nor a backquoted name
-pub role_taken : (at : Stand) (m : Mode) (room : ℕ) (held : List ℕ) (t : Token) (r : Role) (x : Taking) → 0 < length held → t ≡ token_of m held
-    → is_kept_kind t.kind ≡ true → (at ≡ Before → m ≢ InStr) → r ≡ kind_role t.kind (slice_index held 0 ∷ []) → Answers at r room t x → IsTaking at m room held x
+pub role_taken : (at : CallState) (m : Mode) (room : ℕ) (held : List ℕ) (t : Token) (r : Role) (x : CallAction) → 0 < length held → t ≡ token_of m held
+    → is_kept_kind t.kind ≡ true → (at ≡ Before → m ≢ InStr) → r ≡ kind_role t.kind (slice_index held 0 ∷ []) → Answers at r room t x → IsAction at m room held x
 unfolding opens_mode is_one_byte
 role_taken at m room held t r x some is kept lead role answer =
     let v = token_of m held in
@@ -252,8 +252,8 @@ role_taken at m room held t r x some is kept lead role answer =
     (subst (λ (w : Token). Answers at (kind_role v.kind own) room w x) is (subst (λ (q : Role). Answers at q room t x) (sym text) answer))
 
 -- a backquoted name that isn't reserved
-pub name_taken : (at : Stand) (room : ℕ) (held : List ℕ) (t : Token) (x : Taking) → 0 < length held → t ≡ token_of Plain held → t.kind ≡ Back
-    → is_reserved (take (t.len - 1) (drop 1 held)) ≡ false → Answers at Text room t x → IsTaking at Plain room held x
+pub name_taken : (at : CallState) (room : ℕ) (held : List ℕ) (t : Token) (x : CallAction) → 0 < length held → t ≡ token_of Plain held → t.kind ≡ Back
+    → is_reserved (take (t.len - 1) (drop 1 held)) ≡ false → Answers at Text room t x → IsAction at Plain room held x
 unfolding opens_mode
 name_taken at room held t x some is back free answer =
     let v = token_of Plain held in
@@ -268,15 +268,15 @@ name_taken at room held t x some is back free answer =
     (subst (λ (w : Token). Answers at Text room w x) is answer)
 
 -- a directive
-pub directive_taken : (at : Stand) (room : ℕ) (held : List ℕ) (t : Token) → 0 < length held → t ≡ token_of Plain held → t.kind ≡ Back
-    → is_reserved (take (t.len - 1) (drop 1 held)) ≡ true → IsTaking at Plain room held (Refused (fault_at_end at))
+pub directive_taken : (at : CallState) (room : ℕ) (held : List ℕ) (t : Token) → 0 < length held → t ≡ token_of Plain held → t.kind ≡ Back
+    → is_reserved (take (t.len - 1) (drop 1 held)) ≡ true → IsAction at Plain room held (Refused (fault_at_end at))
 unfolding is_open
 directive_taken at room held t some is back reserved a around =
     directive_reads at room held a around some (ap (λ (w : Token). w.kind) (sym is) ∙ back)
     (ap (λ (w : Token). is_reserved (take (w.len - 1) (drop 1 held))) (sym is) ∙ reserved)
 
 -- embedded Perl
-pub perl_taken : (at : Stand) (m : Mode) (room : ℕ) (held : List ℕ) → 0 < length held → (token_of m held).kind ≡ Perl → IsTaking at m room held PerlFound
+pub perl_taken : (at : CallState) (m : Mode) (room : ℕ) (held : List ℕ) → 0 < length held → (token_of m held).kind ≡ Perl → IsAction at m room held PerlFound
 perl_taken at m room held some is a around =
     perl_reads at m room held a around some is
 
@@ -439,19 +439,19 @@ calm_first (b ∷ bs) some = elim (cases_Bool (is_calm b)) [
 ]
 
 -- so many bytes are kept at a level of further openers, which stays
-abbrev calm_use : ℕ → ℕ → Use
-calm_use k n = record { len = n; next_mode = Plain; stand = InsideCall k; is_kept = true }
+abbrev calm_use : ℕ → ℕ → Consumed
+calm_use k n = record { len = n; next_mode = Plain; call_state = InsideCall k; is_kept = true }
 
 -- such a token is used so, where it fits
 first_used : (k room : ℕ) (held : List ℕ) → 0 < length held → IsCalmToken held (token_of Plain held) → (token_of Plain held).len ≤ room
-    → IsUse (Inside k) Plain room held (calm_use k (token_of Plain held).len)
+    → IsConsumed (Inside k) Plain room held (calm_use k (token_of Plain held).len)
 first_used k room held some calm fits =
     let t = token_of Plain held in
     let own = slice_index held 0 ∷ [] in
     let r = kind_role t.kind own in
     let kept : IsKeptAt r k = record { turns = λ f. calm.kind.turns own k f; size = λ n. calm.kind.size own n } in
-    subst (λ (m : Mode). IsUse (Inside k) Plain room held (record { len = t.len; next_mode = m; stand = InsideCall k; is_kept = true })) calm.next
-    (role_taken (Inside k) Plain room held t r (Uses (record { len = t.len; next_mode = t.next_mode; stand = InsideCall k; is_kept = true })) some refl calm.kind.kept
+    subst (λ (m : Mode). IsConsumed (Inside k) Plain room held (record { len = t.len; next_mode = m; call_state = InsideCall k; is_kept = true })) calm.next
+    (role_taken (Inside k) Plain room held t r (Consumes (record { len = t.len; next_mode = t.next_mode; call_state = InsideCall k; is_kept = true })) some refl calm.kind.kept
     (λ before (no : Plain ≡ InStr). (cc)) refl
     (keeps_step r k room t k kept fits (token_of-part Plain held some).not_empty (sym (calm.kind.level own k))))
 
@@ -472,9 +472,9 @@ behind_both a held m n none =
     same x y = omega arith
 
 -- two uses are one
-used_both : (k room m n : ℕ) (held : List ℕ) → IsUse (Inside k) Plain room held (calm_use k m) → IsUse (Inside k) Plain (room - m) (drop m held) (calm_use k n)
-    → line_ends (take m held) ≡ 0 → m + n ≤ length held → m + n ≤ room → IsUse (Inside k) Plain room held (calm_use k (m + n))
-unfolding stand_meant level_in
+used_both : (k room m n : ℕ) (held : List ℕ) → IsConsumed (Inside k) Plain room held (calm_use k m) → IsConsumed (Inside k) Plain (room - m) (drop m held) (calm_use k n)
+    → line_ends (take m held) ≡ 0 → m + n ≤ length held → m + n ≤ room → IsConsumed (Inside k) Plain room held (calm_use k (m + n))
+unfolding call_state_meant level_in
 used_both k room m n held p q none inside fits =
     let first : length (take m held) ≡ m = length-take-le m held (omega (arith, inside)) in
     let size : length (take (m + n) held) ≡ m + n = length-take-le (m + n) held inside in
@@ -511,7 +511,7 @@ used_both k room m n held p q none inside fits =
 
 -- all such bytes are used at once
 calm_run : (fuel k room : ℕ) (held : List ℕ) → prefix_len is_calm held ≤ fuel → 0 < prefix_len is_calm held → prefix_len is_calm held ≤ room
-    → IsUse (Inside k) Plain room held (calm_use k (prefix_len is_calm held))
+    → IsConsumed (Inside k) Plain room held (calm_use k (prefix_len is_calm held))
 calm_run zero k room held most some fits = absurd (omega (arith, most, some))
 calm_run (suc fuel) k room held most some fits =
     let all = prefix_len-le-length is_calm held in
@@ -525,12 +525,12 @@ calm_run (suc fuel) k room held most some fits =
       | inl e ↦
           let none = leb-true (prefix_len is_calm (drop m held)) 0 e in
           let same : m ≡ prefix_len is_calm held = omega (arith, rest, none) in
-          subst (λ (n : ℕ). IsUse (Inside k) Plain room held (calm_use k n)) same first
+          subst (λ (n : ℕ). IsConsumed (Inside k) Plain room held (calm_use k n)) same first
       | inr e ↦
           let n = prefix_len is_calm (drop m held) in
           let more = leb-false n 0 e in
           let same : m + n ≡ prefix_len is_calm held = omega (arith, rest) in
-          subst (λ (x : ℕ). IsUse (Inside k) Plain room held (calm_use k x)) same
+          subst (λ (x : ℕ). IsConsumed (Inside k) Plain room held (calm_use k x)) same
           (used_both k room m n held first
           (calm_run fuel k (room - m) (drop m held) (omega (arith, rest, most, long)) more (omega (arith, rest, fits)))
           (no_line_ends m held size) (omega (arith, same, all)) (omega (arith, same, fits)))
@@ -538,9 +538,9 @@ calm_run (suc fuel) k room held most some fits =
 
 -- so they are behind a call's `(`
 pub calm_used : (k room n : ℕ) (held : List ℕ) → n ≡ prefix_len is_calm held → (n ≡ 0 → ⊥) → n ≤ room
-    → IsUse (Inside k) Plain room held (record { len = n; next_mode = Plain; stand = InsideCall k; is_kept = true })
+    → IsConsumed (Inside k) Plain room held (record { len = n; next_mode = Plain; call_state = InsideCall k; is_kept = true })
 calm_used k room n held is some fits =
-    subst (λ (x : ℕ). IsUse (Inside k) Plain room held (calm_use k x)) (sym is)
+    subst (λ (x : ℕ). IsConsumed (Inside k) Plain room held (calm_use k x)) (sym is)
     (calm_run (prefix_len is_calm held) k room held (omega arith) (omega (arith, is, some)) (omega (arith, is, fits)))
 
 -- The faults that the reading of a call ends with.
@@ -578,13 +578,13 @@ inside (Stops f line) k fits = fitting fits (Breaks f line) tt
 inside r k fits = fitting fits Keeps tt
 
 -- at any turn
-at_turn : (at : Stand) (r : Role) (fits : Bool) → RefusesCall (turn at r fits)
+at_turn : (at : CallState) (r : Role) (fits : Bool) → RefusesCall (turn at r fits)
 unfolding turn
 at_turn Before r fits = before r
 at_turn (Inside k) r fits = inside r k fits
 
 -- where nothing follows
-pub end_fault : (at : Stand) → is_read_fault (fault_at_end at) ≡ true
+pub end_fault : (at : CallState) → is_read_fault (fault_at_end at) ≡ true
 unfolding fault_at_end is_read_fault
 end_fault Before = refl
 end_fault (Inside k) = refl
@@ -611,16 +611,16 @@ by_turn (Refuses g) t ts rest f own further e = subst (λ (k : FaultKind). is_re
 by_turn (Breaks g line) t ts rest f own further e = cc
 
 -- a reading that is refused is so for a fault of a call
-pub refused_fault : (at : Stand) (part : Bool) (room : ℕ) (ts : List SourceToken) (f : FaultKind) → read at part room ts ≡ ReadRefused f → is_read_fault f ≡ true
+pub refused_fault : (at : CallState) (part : Bool) (room : ℕ) (ts : List SourceToken) (f : FaultKind) → read at part room ts ≡ ReadRefused f → is_read_fault f ≡ true
 unfolding read
 refused_fault at part room [] f e = subst (λ (k : FaultKind). is_read_fault k ≡ true) (same_fault (fault_at_end at) f e) (end_fault at)
 refused_fault at part room (t ∷ ts) f e =
     let r = role_in part t in
-    by_turn (turn at r (nat_le (length t.bytes) room)) t ts (read (stand_behind at r) false (room_behind at room r (length t.bytes)) ts) f
-    (at_turn at r (nat_le (length t.bytes) room)) (refused_fault (stand_behind at r) false (room_behind at room r (length t.bytes)) ts f) e
+    by_turn (turn at r (nat_le (length t.bytes) room)) t ts (read (call_state_behind at r) false (room_behind at room r (length t.bytes)) ts) f
+    (at_turn at r (nat_le (length t.bytes) room)) (refused_fault (call_state_behind at r) false (room_behind at room r (length t.bytes)) ts f) e
 
 -- so it is where a call ends at a token
-pub ended_fault : {R : Type 0} (at : Stand) (room : ℕ) (old_bytes new_bytes : List ℕ) (old new : List (File R)) (f : FaultKind)
+pub ended_fault : {R : Type 0} (at : CallState) (room : ℕ) (old_bytes new_bytes : List ℕ) (old new : List (File R)) (f : FaultKind)
     → IsEnded at room old_bytes new_bytes old new (call.Refused f) → is_read_fault f ≡ true
 unfolding reading
 ended_fault {R} at room old_bytes new_bytes old new f h =

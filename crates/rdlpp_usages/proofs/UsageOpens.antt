@@ -34,7 +34,7 @@ use Rattle.rdlpp_texts.specs.Opened.{CursorsView, bound_by, usage_id}
 use Rattle.rdlpp_texts.specs.Places.{texts_of}
 use Rattle.rdlpp_texts.specs.SourceBound.{OpensBound}
 use Rattle.rdlpp_texts.specs.Steps.{AreSound, IsPlacedStep, KeepsOpen, StaysRefused}
-use Rattle.rdlpp_texts.specs.Taking.{TakesStep}
+use Rattle.rdlpp_texts.specs.TakenSteps.{TakesStep}
 use Rattle.rdlpp_texts.specs.declared.bindings.Range.{Range}
 use Rattle.rdlpp_texts.specs.declared.step.CursorStep.{CursorStep}
 use Rattle.rdlpp_texts.specs.declared.step.CursorStep.TheVariants.{Lends, Refused as Fault, Silent}

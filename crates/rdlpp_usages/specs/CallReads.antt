@@ -10,7 +10,7 @@ use Rattle.rdlpp_meaning.specs.declared.fault.FaultKind.TheVariants.{ArgumentsMi
 use Rattle.rdlpp_meaning.specs.Actuals.{Broke, Lacking, map_call, token_role, kept as kept_token}
 use Rattle.rdlpp_meaning.specs.CallReading.{ReadRefused, ReadStopped, read}
 use Rattle.rdlpp_meaning.specs.CallScan as scan
-use Rattle.rdlpp_meaning.specs.CallScan.{Before, Stand, call_of_scan, is_kept, call_of}
+use Rattle.rdlpp_meaning.specs.CallScan.{Before, CallState, call_of_scan, is_kept, call_of}
 use Rattle.rdlpp_meaning.specs.Resumed.{leading}
 use Rattle.rdlpp_meaning.specs.Substitution.{body_tokens}
 use Rattle.rdlpp_meaning.specs.Items.{unlined}
@@ -20,7 +20,7 @@ use Rattle.rdlpp_read.specs.Files.{inner_buffer, torn_after, with_inner}
 use Rattle.rdlpp_read.specs.Filling.{ended_tokens}
 use Rattle.rdlpp_read.specs.declared.files.File.{File}
 use Rattle.rdlpp_usages.specs.Reads.{Closes, GoesOn, reading}
-use Rattle.rdlpp_usages.specs.Taking.{level_in, stand_meant}
+use Rattle.rdlpp_usages.specs.CallActions.{level_in, call_state_meant}
 use Rattle.rdlpp_usages.specs.declared.reading.CallRead.{CallRead}
 use Rattle.rdlpp_usages.specs.declared.reading.CallRead.TheVariants.{Closed, Refused, Broken, Failed}
 use Rattle.rdlpp_usages.specs.declared.reading.Next.{Next}
@@ -37,12 +37,12 @@ with_used buffer used nest =
 
 -- a read failed inside a call: from where the reading stands on, what remains comes to what it would have come to, with the kept
 -- bytes in front
-pub record Pauses {R : Type 0} (tells : Type 0) (unread : R → List ℕ) (at : Stand) (room : ℕ) (kept used : List ℕ) (old new : BufferView R) : Type 0 where
-  pub to : Stand
+pub record Pauses {R : Type 0} (tells : Type 0) (unread : R → List ℕ) (at : CallState) (room : ℕ) (kept used : List ℕ) (old new : BufferView R) : Type 0 where
+  pub to : CallState
   pub goes_on : GoesOn tells unread at to room kept used old new
 
 -- what the answer says of the call, from where its reading stands (source: this project's profile)
-abbrev pub TellsCall : {R : Type 0} → Type 0 → (R → List ℕ) → Stand → ℕ → List ℕ → List ℕ → BufferView R → BufferView R → CallRead → Type 0
+abbrev pub TellsCall : {R : Type 0} → Type 0 → (R → List ℕ) → CallState → ℕ → List ℕ → List ℕ → BufferView R → BufferView R → CallRead → Type 0
 TellsCall tells unread at room kept used old new Closed = Closes tells unread at room kept used old new
 TellsCall tells unread at room kept used old new (Refused f) = tells → reading unread at room old ≡ ReadRefused f
 TellsCall tells unread at room kept used old new (Broken f line) =
@@ -61,8 +61,8 @@ abbrev pub IsExactCall : CallRead → Type 0
 IsExactCall result = (line : ℕ) → result ≡ Broken LineTooLong line → ⊥
 
 -- what was kept of a call so far: that of all its bytes that were used, but for a `)` behind them
-pub record ReadsUpTo {R : Type 0} (tells : Type 0) (unread : R → List ℕ) (at : Stand) (room : ℕ) (kept : List ℕ) (old new : BufferView R) : Type 0 where
-  pub to : Stand
+pub record ReadsUpTo {R : Type 0} (tells : Type 0) (unread : R → List ℕ) (at : CallState) (room : ℕ) (kept : List ℕ) (old new : BufferView R) : Type 0 where
+  pub to : CallState
   pub used : List ℕ
   pub there : BufferView R
   pub goes_on : GoesOn tells unread at to room kept used old there
@@ -70,7 +70,7 @@ pub record ReadsUpTo {R : Type 0} (tells : Type 0) (unread : R → List ℕ) (at
 
 -- a call was read: bytes of the innermost source were used, and nothing else of the sources changed; its window moved on over its
 -- text, which is what was used and what remains
-pub record ReadsCall {R : Type 0} (tells : Type 0) (unread : R → List ℕ) (at : Stand) (room : ℕ) (kept : List ℕ) (result : CallRead) (old new : List (File R)) : Type 0 where
+pub record ReadsCall {R : Type 0} (tells : Type 0) (unread : R → List ℕ) (at : CallState) (room : ℕ) (kept : List ℕ) (result : CallRead) (old new : List (File R)) : Type 0 where
   pub used : List ℕ
   pub inner : new ≡ with_used (inner_buffer new) used old
   pub unused : unused_of (inner_buffer new) + length used ≡ unused_of (inner_buffer old)
@@ -80,7 +80,7 @@ pub record ReadsCall {R : Type 0} (tells : Type 0) (unread : R → List ℕ) (at
   pub answer : TellsCall tells unread at room kept used (inner_buffer old) (inner_buffer new) result
 
 -- a token was taken, or the part of it that was held, and the call goes on
-pub record IsTaken {R : Type 0} (at to : Stand) (room : ℕ) (old_bytes new_bytes : List ℕ) (old new : List (File R)) : Type 0 where
+pub record IsTaken {R : Type 0} (at to : CallState) (room : ℕ) (old_bytes new_bytes : List ℕ) (old new : List (File R)) : Type 0 where
   pub used : List ℕ
   pub kept : List ℕ
   pub some : 0 < length used
@@ -93,18 +93,18 @@ pub record IsTaken {R : Type 0} (at to : Stand) (room : ℕ) (old_bytes new_byte
   pub goes_on : (unread : R → List ℕ) → GoesOn Unit unread at to room kept used (inner_buffer old) (inner_buffer new)
 
 -- the reading ended at a token
-pub record IsEnded {R : Type 0} (at : Stand) (room : ℕ) (old_bytes new_bytes : List ℕ) (old new : List (File R)) (result : CallRead) : Type 0 where
+pub record IsEnded {R : Type 0} (at : CallState) (room : ℕ) (old_bytes new_bytes : List ℕ) (old new : List (File R)) (result : CallRead) : Type 0 where
   pub bytes : new_bytes ≡ old_bytes
   pub answers : is_failed_call result ≡ false
   pub reads : (unread : R → List ℕ) → ReadsCall Unit unread at room [] result old new
 
 -- what follows a token
-abbrev pub TakesToken : {R : Type 0} → Stand → ℕ → List ℕ → List ℕ → List (File R) → List (File R) → Next → Type 0
-TakesToken at room old_bytes new_bytes old new (Goes to) = IsTaken at (stand_meant to) room old_bytes new_bytes old new
+abbrev pub TakesToken : {R : Type 0} → CallState → ℕ → List ℕ → List ℕ → List (File R) → List (File R) → Next → Type 0
+TakesToken at room old_bytes new_bytes old new (Goes to) = IsTaken at (call_state_meant to) room old_bytes new_bytes old new
 TakesToken at room old_bytes new_bytes old new (Ends result) = IsEnded at room old_bytes new_bytes old new result
 
 -- what a call comes to where a text has ended
-abbrev pub IsEndOfText : {R : Type 0} → Stand → ℕ → BufferView R → CallRead → Type 0
+abbrev pub IsEndOfText : {R : Type 0} → CallState → ℕ → BufferView R → CallRead → Type 0
 IsEndOfText at room f Closed = ⊥
 IsEndOfText at room f (Refused kind) = read at (is_open f.mode) room (ended_tokens f.mode f.open_token_line) ≡ ReadRefused kind
 IsEndOfText at room f (Broken kind line) = read at (is_open f.mode) room (ended_tokens f.mode f.open_token_line) ≡ ReadStopped kind line

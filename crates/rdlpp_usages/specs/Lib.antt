@@ -1,5 +1,5 @@
 pub mod Usages
 pub mod Store
 pub mod Reads
-pub mod Taking
+pub mod CallActions
 pub mod CallReads

@@ -2,10 +2,10 @@
 //! arguments are bound, and the body is opened.
 #![tactic(auto)]
 
+mod action;
 mod expansion;
 mod reading;
 mod store;
-mod taking;
 
 pub use expansion::{Expansion, Opening};
 pub use reading::{CallRead, read_call};

@@ -18,10 +18,10 @@ ghost use Rattle.rdlpp_usages.specs.CallReads.{
   used_buffer,
   with_used,
 };
-ghost use Rattle.rdlpp_usages.specs.Taking.{kept_of, level_in, stand_meant};
+ghost use Rattle.rdlpp_usages.specs.CallActions.{kept_of, level_in, call_state_meant};
 
 use crate::store::ArgumentStore;
-use crate::taking::{Stand, Taking, Use, taking_of};
+use crate::action::{CallState, CallAction, Consumed, action_at};
 use rdlpp_meaning::FaultKind;
 use rdlpp_read::{Files, Fill};
 use rdlpp_scan::{Mode, line_ends_in};
@@ -45,7 +45,7 @@ pub enum CallRead {
 // What follows one token of a call.
 enum Next {
     // The call goes on where it stands then.
-    Goes(Stand),
+    Goes(CallState),
     // The reading ends.
     Ends(CallRead),
 }
@@ -83,7 +83,7 @@ pub fn read_call<S: Sources>(
     read_tokens(files, sources, store)
 }
 
-// Uses the first `len` held bytes of the innermost source, behind which its text stands in a mode.
+// Consumes the first `len` held bytes of the innermost source, behind which its text stands in a mode.
 fn use_bytes<R: Drop>(files: &mut Files<R>, len: usize, next: Mode)
     requires some { 0 < length files.old.nest }
     requires inside { len ≤ length (held_of (inner_buffer files.old.nest)) }
@@ -95,7 +95,7 @@ fn use_bytes<R: Drop>(files: &mut Files<R>, len: usize, next: Mode)
 }
 
 // What is kept of the held bytes that a token uses.
-fn kept_part(token: Use, held: &[u8]) -> &[u8]
+fn kept_part(token: Consumed, held: &[u8]) -> &[u8]
     requires { token.len ≤ length held.now }
     ensures { result.now ≡ kept_of token.is_kept (take token.len held.now) }
 {
@@ -107,31 +107,31 @@ fn kept_part(token: Use, held: &[u8]) -> &[u8]
 }
 
 // Takes one token of a call, or the part of it that is held, or a run of calm bytes.
-fn take_token<R: Drop>(files: &mut Files<R>, store: &mut ArgumentStore, stand: Stand) -> Next
+fn take_token<R: Drop>(files: &mut Files<R>, store: &mut ArgumentStore, call_state: CallState) -> Next
     requires some { 0 < length files.old.nest }
     requires held { 0 < length (held_of (inner_buffer files.old.nest)) }
-    requires level { level_in (stand_meant stand) ≤ length store.old.bytes }
-    requires lead { stand_meant stand ≡ Before → (inner_buffer files.old.nest).mode ≢ InStr }
+    requires level { level_in (call_state_meant call_state) ≤ length store.old.bytes }
+    requires lead { call_state_meant call_state ≡ Before → (inner_buffer files.old.nest).mode ≢ InStr }
     ensures only { files.new ≡ record files.old { nest = files.new.nest } }
     ensures room { store.new.most ≡ store.old.most }
-    ensures takes { TakesToken (stand_meant stand) (store.old.most - length store.old.bytes) store.old.bytes store.new.bytes files.old.nest files.new.nest result }
+    ensures takes { TakesToken (call_state_meant call_state) (store.old.most - length store.old.bytes) store.old.bytes store.new.bytes files.old.nest files.new.nest result }
     ensures fault { IsNextFault result }
     ensures line { IsNextLine result }
 {
     let buffer = &files.file().buffer;
     let (held, line) = (buffer.held(), buffer.line());
-    match taking_of(stand, buffer.mode(), store.room(), held) {
-        Taking::Uses(token) => {
+    match action_at(call_state, buffer.mode(), store.room(), held) {
+        CallAction::Consumes(token) => {
             store.append(kept_part(token, held));
             use_bytes(files, token.len, token.next_mode);
-            Next::Goes(token.stand)
+            Next::Goes(token.call_state)
         }
-        Taking::Closes => {
+        CallAction::Closes => {
             use_bytes(files, 1, Mode::Plain);
             Next::Ends(CallRead::Closed)
         }
-        Taking::Refused(kind) => Next::Ends(CallRead::Refused(kind)),
-        Taking::Perl => Next::Ends(CallRead::Broken(FaultKind::EmbeddedPerl, line)),
+        CallAction::Refused(kind) => Next::Ends(CallRead::Refused(kind)),
+        CallAction::Perl => Next::Ends(CallRead::Broken(FaultKind::EmbeddedPerl, line)),
     }
 }
 
@@ -147,16 +147,16 @@ fn inner_line<R: Drop>(files: &Files<R>) -> u64
 }
 
 // What a call comes to where the text of the innermost source has ended.
-fn end_of_text<R: Drop>(files: &Files<R>, stand: Stand) -> CallRead
+fn end_of_text<R: Drop>(files: &Files<R>, call_state: CallState) -> CallRead
     requires { 0 < length files.now.nest }
-    ensures text { (room : ℕ) → IsEndOfText (stand_meant stand) room (inner_buffer files.now.nest) result }
+    ensures text { (room : ℕ) → IsEndOfText (call_state_meant call_state) room (inner_buffer files.now.nest) result }
     ensures fault { IsReadFault result }
     ensures line { IsReadLine result }
 {
     let buffer = &files.file().buffer;
     buffer.facts();
     match buffer.mode() {
-        Mode::Plain => CallRead::Refused(stand.fault_at_end()),
+        Mode::Plain => CallRead::Refused(call_state.fault_at_end()),
         Mode::InStr => CallRead::Broken(FaultKind::OpenString, buffer.open_token_line()),
         Mode::InBlock => CallRead::Broken(FaultKind::OpenComment, buffer.open_token_line()),
     }
@@ -179,14 +179,14 @@ fn read_tokens<S: Sources>(
     ensures line { IsReadLine result }
 {
     store.clear();
-    let mut stand = Stand::Before;
+    let mut call_state = CallState::Before;
     'tokens: loop {
         match files.fill(sources) {
-            Fill::Held => match take_token(files, store, stand) {
-                Next::Goes(to) => stand = to,
+            Fill::Held => match take_token(files, store, call_state) {
+                Next::Goes(to) => call_state = to,
                 Next::Ends(read) => return read,
             },
-            Fill::End => return end_of_text(files, stand),
+            Fill::End => return end_of_text(files, call_state),
             Fill::SourceLong => {
                 return CallRead::Broken(FaultKind::SourceTooLong, inner_line(files));
             }

@@ -6,7 +6,7 @@ ghost use Rattle.rdlpp_texts.specs.BoundCalls.{KeepsAll};
 ghost use Rattle.rdlpp_texts.specs.Calls.{IsCallFault, IsCallMiscounted, IsCallStarted, IsOpening};
 ghost use Rattle.rdlpp_texts.specs.Places.{texts_of};
 ghost use Rattle.rdlpp_texts.specs.Steps.{IsUnlent};
-ghost use Rattle.rdlpp_texts.specs.Taking.{PeeksAt, TakesStep};
+ghost use Rattle.rdlpp_texts.specs.TakenSteps.{PeeksAt, TakesStep};
 ghost use Rattle.rdlpp_texts.specs.Usages.{front_name, IsUsed};
 
 use crate::cursors::Cursors;

@@ -7,7 +7,7 @@ ghost use Rattle.rdlpp_texts.specs.Places.{source_formals, texts_of};
 ghost use Rattle.rdlpp_meaning.specs.Opens.{found_standing, scope_open};
 ghost use Rattle.rdlpp_texts.specs.Scopes.{found_source, front_scope, AreBound};
 ghost use Rattle.rdlpp_texts.specs.Steps.{AreSound, IsUnlent};
-ghost use Rattle.rdlpp_texts.specs.Taking.{TakesStep};
+ghost use Rattle.rdlpp_texts.specs.TakenSteps.{TakesStep};
 
 use crate::cursors::Cursors;
 use crate::peek::{TextItem, Peek};

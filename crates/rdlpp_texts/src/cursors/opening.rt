@@ -2,7 +2,7 @@
 ghost use Rattle.std.specs.Prelude.{false, length, true, ◌<◌, ◌≡◌};
 ghost use Rattle.rdlpp_texts.specs.Places.{texts_of};
 ghost use Rattle.rdlpp_texts.specs.Steps.{IsUnlent};
-ghost use Rattle.rdlpp_texts.specs.Taking.{is_idle, PeeksAt, TakesStep};
+ghost use Rattle.rdlpp_texts.specs.TakenSteps.{is_idle, PeeksAt, TakesStep};
 
 use crate::cursors::Cursors;
 use crate::peek::{TextItem, Peek};

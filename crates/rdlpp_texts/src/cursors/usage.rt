@@ -8,7 +8,7 @@ ghost use Rattle.rdlpp_texts.specs.Opened.{moved_to};
 ghost use Rattle.rdlpp_texts.specs.Places.{texts_of};
 ghost use Rattle.rdlpp_texts.specs.Scopes.{front_scope, hidden_ids, AreFurtherOut};
 ghost use Rattle.rdlpp_texts.specs.Steps.{IsUnlent};
-ghost use Rattle.rdlpp_texts.specs.Taking.{PeeksAt, TakesStep};
+ghost use Rattle.rdlpp_texts.specs.TakenSteps.{PeeksAt, TakesStep};
 ghost use Rattle.rdlpp_texts.specs.Usages.{front_name, is_text_fault, unknown_kind, IsRefused, IsUsed};
 
 use crate::cursors::Cursors;

@@ -2,7 +2,7 @@ use Rattle.std.proofs.Common.{arith, refl}
 use Rattle.rdlpp_texts.specs.Places.{texts_of}
 use Rattle.rdlpp_texts.proofs.Calling.{list-used, peek-call, opening-open, pass-call_deep, pass-call_opened, pass-call_refused}
 use Rattle.rdlpp_texts.proofs.Falling.{outer-called, turned-call}
-use Rattle.rdlpp_texts.proofs.Taking.{takes-named, takes-silent, takes-wordless}
+use Rattle.rdlpp_texts.proofs.TakenSteps.{takes-named, takes-silent, takes-wordless}
 use Rattle.rdlpp_texts.proofs.Usages.{fault-deep, fault-call, usage-place}
 use Rattle.rdlpp_texts.proofs.cursors.Cursors.call.Goals as goal
 

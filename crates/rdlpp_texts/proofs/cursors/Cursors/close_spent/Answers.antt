@@ -1,7 +1,7 @@
 use Rattle.std.proofs.Common.{◌<◌, length, ap, sym, ◌∙◌, arith}
 use Rattle.rdlpp_texts.specs.Turns.{Closed}
 use Rattle.rdlpp_texts.proofs.Falling.{closes-more, outer-closed, outer-on}
-use Rattle.rdlpp_texts.proofs.Taking.{rest-fewer, rest-open, spent-closed, taken-twice}
+use Rattle.rdlpp_texts.proofs.TakenSteps.{rest-fewer, rest-open, spent-closed, taken-twice}
 use Rattle.rdlpp_texts.proofs.cursors.Cursors.close_spent.Goals as goal
 
 pub loop-self-init : goal.loop-self-init

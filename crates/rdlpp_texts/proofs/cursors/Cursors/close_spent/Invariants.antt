@@ -2,7 +2,7 @@ use Rattle.std.proofs.Common.{◌<◌, ◌≡◌, length, true}
 use Rattle.rdlpp_meaning.specs.Opens.{Texts}
 use Rattle.rdlpp_texts.specs.Opened.{is_spent, StaysOutermost}
 use Rattle.rdlpp_texts.specs.Steps.{AreSound}
-use Rattle.rdlpp_texts.specs.Taking.{TakesStep}
+use Rattle.rdlpp_texts.specs.TakenSteps.{TakesStep}
 use Rattle.rdlpp_texts.specs.Turns.{Closes}
 use Rattle.rdlpp_texts.specs.declared.step.CursorStep.TheVariants.{Silent}
 use Rattle.rdlpp_texts.proofs.cursors.Cursors.close_spent.Given as goal

@@ -1,7 +1,7 @@
 use Rattle.std.proofs.Common.{◌∙◌, ◌∷◌, [], ap, refl, sym, arith}
 use Rattle.rdlpp_texts.specs.Places.{texts_of}
 use Rattle.rdlpp_texts.proofs.Falling.{formal-inside, outer-opened, turned-formal}
-use Rattle.rdlpp_texts.proofs.Taking.{formal-place, formal-text, pass-deep, pass-formal, pass-nothing, room-moved, sound-bound, takes-silent, takes-wordless}
+use Rattle.rdlpp_texts.proofs.TakenSteps.{formal-place, formal-text, pass-deep, pass-formal, pass-nothing, room-moved, sound-bound, takes-silent, takes-wordless}
 use Rattle.rdlpp_texts.proofs.Usages.{fault-deep}
 use Rattle.rdlpp_texts.specs.Opened.{open_of}
 use Rattle.rdlpp_texts.proofs.cursors.Cursors.formal.Goals as goal

@@ -2,7 +2,7 @@ use Rattle.std.proofs.Common.{◌≡◌, true, false, length, sym, ◌∙◌, ar
 use Rattle.std.proofs.lemmas.Bool.{lt-leb}
 use Rattle.rdlpp_texts.specs.Places.{texts_of}
 use Rattle.rdlpp_texts.proofs.Passing.{pass-bare}
-use Rattle.rdlpp_texts.proofs.Taking.{ended-spent, idle-closed, idle-formal, idle-last, idle-usage, takes-wordless}
+use Rattle.rdlpp_texts.proofs.TakenSteps.{ended-spent, idle-closed, idle-formal, idle-last, idle-usage, takes-wordless}
 use Rattle.rdlpp_texts.proofs.Usages.{fault-bare}
 use Rattle.rdlpp_texts.proofs.cursors.Cursors.open_front.Goals as goal
 use Rattle.rdlpp_texts.proofs.cursors.Cursors.open_front.Goals.{then-lent+else-len-le1, else-lent}

@@ -1,6 +1,6 @@
 use Rattle.std.proofs.lemmas.Bool.{le-ltb, lt-ltb}
 use Rattle.rdlpp_texts.specs.Places.{texts_of}
-use Rattle.rdlpp_texts.proofs.Taking.{on-lent, on-peek, on-taken}
+use Rattle.rdlpp_texts.proofs.TakenSteps.{on-lent, on-peek, on-taken}
 use Rattle.rdlpp_texts.proofs.cursors.Cursors.step.Goals as goal
 
 pub open_front-opened-requires : goal.open_front-opened-requires

@@ -1,7 +1,7 @@
 use Rattle.std.proofs.Common.{sym, ap, ◌∙◌, refl, arith, leb-true, leb-false}
 use Rattle.rdlpp_texts.specs.Places.{texts_of}
 use Rattle.rdlpp_texts.proofs.Falling.{outer-opened, turned-usage}
-use Rattle.rdlpp_texts.proofs.Taking.{takes-named, takes-silent, takes-wordless}
+use Rattle.rdlpp_texts.proofs.TakenSteps.{takes-named, takes-silent, takes-wordless}
 use Rattle.rdlpp_texts.proofs.Usages.{entered-same, fault-deep, full-same, has-list, no-list, pass-deep, pass-opened, pass-refused, pass-same, usage-place}
 use Rattle.rdlpp_texts.proofs.cursors.Cursors.usage.Goals as goal
 

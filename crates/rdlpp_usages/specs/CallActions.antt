@@ -14,21 +14,21 @@ use Rattle.rdlpp_meaning.specs.declared.fault.FaultKind.TheVariants.{EmbeddedPer
 use Rattle.rdlpp_meaning.specs.Actuals.{Role, kept_size}
 use Rattle.rdlpp_meaning.specs.CallReading.{ReadRefused, ReadStopped, ReadClosed, onto_kept, read}
 use Rattle.rdlpp_meaning.specs.CallScan as scan
-use Rattle.rdlpp_meaning.specs.CallScan.{Keeps, Passes, turn, stand_behind, room_behind}
+use Rattle.rdlpp_meaning.specs.CallScan.{Keeps, Passes, turn, call_state_behind, room_behind}
 use Rattle.rdlpp_meaning.specs.Expansion.{bytes_of}
-use Rattle.rdlpp_usages.specs.declared.taking.Stand.{Stand}
-use Rattle.rdlpp_usages.specs.declared.taking.Stand.TheVariants.{Before, Inside}
-use Rattle.rdlpp_usages.specs.declared.taking.Use.{Use}
-use Rattle.rdlpp_usages.specs.declared.taking.Taking.{Taking}
-use Rattle.rdlpp_usages.specs.declared.taking.Taking.TheVariants.{Uses, Closes, Refused, Perl}
+use Rattle.rdlpp_usages.specs.declared.action.CallState.{CallState}
+use Rattle.rdlpp_usages.specs.declared.action.CallState.TheVariants.{Before, Inside}
+use Rattle.rdlpp_usages.specs.declared.action.Consumed.{Consumed}
+use Rattle.rdlpp_usages.specs.declared.action.CallAction.{CallAction}
+use Rattle.rdlpp_usages.specs.declared.action.CallAction.TheVariants.{Consumes, Closes, Refused, Perl}
 
 -- where the scan of a call stands
-unfoldable pub stand_meant : Stand → scan.Stand
-stand_meant Before = scan.Before
-stand_meant (Inside level) = scan.Inside level
+unfoldable pub call_state_meant : CallState → scan.CallState
+call_state_meant Before = scan.Before
+call_state_meant (Inside level) = scan.Inside level
 
 -- the level of further openers there
-unfoldable pub level_in : scan.Stand → ℕ
+unfoldable pub level_in : scan.CallState → ℕ
 level_in scan.Before = 0
 level_in (scan.Inside level) = level
 
@@ -63,33 +63,33 @@ abbrev pub kept_of : Bool → List ℕ → List ℕ
 kept_of is_kept bytes = if is_kept then bytes else []
 
 -- what the scan of a call does at a token of a role is what is answered
-pub record IsStep (at : scan.Stand) (r : Role) (room : ℕ) (t : Token) (u : Use) : Type 0 where
+pub record IsStep (at : scan.CallState) (r : Role) (room : ℕ) (t : Token) (u : Consumed) : Type 0 where
   pub len : u.len ≡ t.len
   pub mode : u.next_mode ≡ t.next_mode
-  pub stand : stand_meant u.stand ≡ stand_behind at r
+  pub call_state : call_state_meant u.call_state ≡ call_state_behind at r
   pub turns : turn at r (nat_le t.len room) ≡ (if u.is_kept then Keeps else Passes)
   pub left : room_behind at room r t.len ≡ room - kept_len u.is_kept t.len
   pub fits : kept_len u.is_kept t.len ≤ room
-  pub level : level_in (stand_behind at r) ≤ level_in at + kept_len u.is_kept t.len
+  pub level : level_in (call_state_behind at r) ≤ level_in at + kept_len u.is_kept t.len
 
 -- the same of each answer
-abbrev pub Answers : scan.Stand → Role → ℕ → Token → Taking → Type 0
-Answers at r room t (Uses u) = IsStep at r room t u
+abbrev pub Answers : scan.CallState → Role → ℕ → Token → CallAction → Type 0
+Answers at r room t (Consumes u) = IsStep at r room t u
 Answers at r room t Closes = turn at r (nat_le t.len room) ≡ scan.Closes
 Answers at r room t (Refused f) = turn at r (nat_le t.len room) ≡ scan.Refuses f
 Answers at r room t Perl = ⊥
 
 -- held bytes are used, and kept or not, and the reading of the call goes on behind them
-pub record IsUse (at : scan.Stand) (mode : Mode) (room : ℕ) (held : List ℕ) (u : Use) : Type 0 where
+pub record IsConsumed (at : scan.CallState) (mode : Mode) (room : ℕ) (held : List ℕ) (u : Consumed) : Type 0 where
   pub some : 0 < u.len
   pub inside : u.len ≤ length held
   pub fits : length (kept_of u.is_kept (take u.len held)) ≤ room
-  pub level : level_in (stand_meant u.stand) ≤ level_in at + length (kept_of u.is_kept (take u.len held))
-  pub lead : stand_meant u.stand ≡ scan.Before → u.next_mode ≢ InStr
+  pub level : level_in (call_state_meant u.call_state) ≤ level_in at + length (kept_of u.is_kept (take u.len held))
+  pub lead : call_state_meant u.call_state ≡ scan.Before → u.next_mode ≢ InStr
   pub reads : (a : Around) → IsAround held a
       → read at (is_open mode) room (tokens_at a mode held)
       ≡ onto_kept (kept_of u.is_kept (take u.len held))
-      (read (stand_meant u.stand) (is_open u.next_mode) (room - length (kept_of u.is_kept (take u.len held))) (tokens_behind a mode held u.len u.next_mode))
+      (read (call_state_meant u.call_state) (is_open u.next_mode) (room - length (kept_of u.is_kept (take u.len held))) (tokens_behind a mode held u.len u.next_mode))
   pub bytes : (a : Around) → IsAround held a
       → bytes_of (tokens_at a mode held) ≡ take u.len held ++ bytes_of (tokens_behind a mode held u.len u.next_mode)
 
@@ -100,19 +100,19 @@ is_calm b =
     not (is_line_end b) && (not (is_opener b) && (not (is_closer b) && (not (b == 34) && (not (b == 47) && (not (b == 60) && not (b == 96))))))
 
 -- the first byte closes the call
-pub record IsClose (at : scan.Stand) (mode : Mode) (room : ℕ) (held : List ℕ) : Type 0 where
+pub record IsClose (at : scan.CallState) (mode : Mode) (room : ℕ) (held : List ℕ) : Type 0 where
   pub reads : (a : Around) → IsAround held a
       → read at (is_open mode) room (tokens_at a mode held) ≡ ReadClosed [] (tokens_behind a mode held 1 Plain)
   pub bytes : (a : Around) → IsAround held a
       → bytes_of (tokens_at a mode held) ≡ take 1 held ++ bytes_of (tokens_behind a mode held 1 Plain)
 
 -- what is done with the first token of held bytes is what reading the call comes to there (source: this project's profile)
-abbrev pub IsTaking : scan.Stand → Mode → ℕ → List ℕ → Taking → Type 0
-IsTaking at mode room held (Uses u) = IsUse at mode room held u
-IsTaking at mode room held Closes = IsClose at mode room held
-IsTaking at mode room held (Refused f) = (a : Around) → IsAround held a
+abbrev pub IsAction : scan.CallState → Mode → ℕ → List ℕ → CallAction → Type 0
+IsAction at mode room held (Consumes u) = IsConsumed at mode room held u
+IsAction at mode room held Closes = IsClose at mode room held
+IsAction at mode room held (Refused f) = (a : Around) → IsAround held a
     → read at (is_open mode) room (tokens_at a mode held) ≡ ReadRefused f
-IsTaking at mode room held Perl = (a : Around) → IsAround held a
+IsAction at mode room held Perl = (a : Around) → IsAround held a
     → read at (is_open mode) room (tokens_at a mode held) ≡ ReadStopped EmbeddedPerl a.line
 
 -- whether a token of a role at a level of openers is kept where it fits: it is neither the `)` nor dropped

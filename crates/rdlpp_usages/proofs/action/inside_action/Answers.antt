@@ -1,14 +1,14 @@
 use Rattle.std.proofs.Common.{sym, ◌∙◌, nat_le}
 use Rattle.rdlpp_texts.specs.CallTokens.{role_meant}
 use Rattle.rdlpp_usages.proofs.Takes.{closing, comment_step, kept_at}
-use Rattle.rdlpp_usages.proofs.taking.inside_taking.Goals as goal
+use Rattle.rdlpp_usages.proofs.action.inside_action.Goals as goal
 
 pub returns-then-ends_call : goal.returns-then-ends_call
 returns-then-ends_call c =
     closing c.args.role c.args.level (nat_le c.args.token.len c.args.room) (sym c.ends_call.ensures ∙ c.if-ends_call.true)
 
-pub kept_taking-requires : goal.kept_taking-requires
-kept_taking-requires c = record {
+pub kept_action-requires : goal.kept_action-requires
+kept_action-requires c = record {
   level = c.requires.level;
   some = c.requires.some;
   text = kept_at c.args.role c.args.level (sym c.ends_call.ensures ∙ c.if-ends_call.false) c.in_default.not-LineComment;

@@ -27,7 +27,7 @@ use Rattle.rdlpp_texts.specs.Opened.{CursorsView, IsNoBody, StaysOutermost, is_s
 use Rattle.rdlpp_texts.specs.Places.{place_bytes, source_formals, source_text, texts_of}
 use Rattle.rdlpp_texts.specs.Scopes.{AreBound, IsBound, found_source, front_scope, front_source, kind_source}
 use Rattle.rdlpp_texts.specs.Steps.{AreSound, IsKnown, IsPlacedStep, IsStep, IsUnlent, KeepActuals, NamesWord, StaysRefused, StepsTo, wordless}
-use Rattle.rdlpp_texts.specs.Taking.{PeeksAt, TakesStep, is_idle}
+use Rattle.rdlpp_texts.specs.TakenSteps.{PeeksAt, TakesStep, is_idle}
 use Rattle.rdlpp_texts.specs.Turns.{Closed, Stays, Turned}
 use Rattle.rdlpp_texts.specs.Usages.{front_name, is_text_fault}
 use Rattle.rdlpp_texts.specs.declared.peek.TextItem.{TextItem}

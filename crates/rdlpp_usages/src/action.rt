@@ -6,7 +6,7 @@ ghost use Rattle.rdlpp_scan.specs.declared.token.Kind.TheVariants.{Back};
 ghost use Rattle.rdlpp_scan.specs.declared.token.Mode.TheVariants.{InStr, Plain};
 ghost use Rattle.rdlpp_meaning.specs.CallScan.{Before, Inside, fault_at_end};
 ghost use Rattle.rdlpp_texts.specs.CallTokens.{role_meant};
-ghost use Rattle.rdlpp_usages.specs.Taking.{is_calm, Answers, IsKeptAt, IsTaking, IsUse, level_in, stand_meant};
+ghost use Rattle.rdlpp_usages.specs.CallActions.{is_calm, Answers, IsKeptAt, IsAction, IsConsumed, level_in, call_state_meant};
 
 use rdlpp_meaning::FaultKind;
 use rdlpp_scan::{Kind, Mode, Token, first_token, reserved};
@@ -14,7 +14,7 @@ use rdlpp_texts::{CallRole, ends_call, level_behind, role_of};
 
 // Where the reading of a call stands.
 #[derive(Clone, Copy)]
-pub(crate) enum Stand {
+pub(crate) enum CallState {
     // Before its `(`.
     Before,
     // Behind it, at a level of further openers.
@@ -23,22 +23,22 @@ pub(crate) enum Stand {
 
 // The use of a token, or of the part of one.
 #[derive(Clone, Copy)]
-pub(crate) struct Use {
+pub(crate) struct Consumed {
     // How many bytes it has.
     pub(crate) len: usize,
     // Where the text stands behind it.
     pub(crate) next_mode: Mode,
     // Where the call stands behind it.
-    pub(crate) stand: Stand,
+    pub(crate) call_state: CallState,
     // Whether its bytes are kept.
     pub(crate) is_kept: bool,
 }
 
 // What is done with the first token of held bytes.
 #[derive(Clone, Copy)]
-pub(crate) enum Taking {
+pub(crate) enum CallAction {
     // It is used, and the call goes on.
-    Uses(Use),
+    Consumes(Consumed),
     // It is the `)` of the call, of one byte.
     Closes,
     // The call is refused.
@@ -47,108 +47,108 @@ pub(crate) enum Taking {
     Perl,
 }
 
-impl Stand {
+impl CallState {
     // The fault of a call that goes no further.
-    #[tactic(auto, unfolding(crate::specs::Taking::stand_meant, rdlpp_meaning::specs::CallScan::fault_at_end))]
+    #[tactic(auto, unfolding(crate::specs::CallActions::call_state_meant, rdlpp_meaning::specs::CallScan::fault_at_end))]
     pub(crate) fn fault_at_end(&self) -> FaultKind
-        ensures { result ≡ fault_at_end (stand_meant self.now) }
+        ensures { result ≡ fault_at_end (call_state_meant self.now) }
     {
         match self {
-            Stand::Before => FaultKind::ArgumentsMissing,
-            Stand::Inside(_) => FaultKind::ArgumentsOpen,
+            CallState::Before => FaultKind::ArgumentsMissing,
+            CallState::Inside(_) => FaultKind::ArgumentsOpen,
         }
     }
 }
 
 // A token that is passed.
-fn passes(token: Token, stand: Stand) -> Taking
-    ensures { result ≡ Taking.Uses (record { len = token.len; next_mode = token.next_mode; stand = stand; is_kept = false }) }
+fn passes(token: Token, call_state: CallState) -> CallAction
+    ensures { result ≡ CallAction.Consumes (record { len = token.len; next_mode = token.next_mode; call_state = call_state; is_kept = false }) }
 {
-    Taking::Uses(Use {
+    CallAction::Consumes(Consumed {
         len: token.len,
         next_mode: token.next_mode,
-        stand,
+        call_state,
         is_kept: false,
     })
 }
 
 // What is done before the `(` with a token of a role.
-#[tactic(auto, unfolding(crate::specs::Taking::stand_meant, crate::specs::Taking::level_in, rdlpp_texts::specs::CallTokens::role_meant, rdlpp_meaning::specs::CallScan::turn, rdlpp_meaning::specs::CallScan::turn_before, rdlpp_meaning::specs::CallScan::stand_behind, rdlpp_meaning::specs::CallScan::stand_behind_lead, rdlpp_meaning::specs::CallScan::room_behind))]
-fn lead_taking(role: CallRole, token: Token) -> Taking
+#[tactic(auto, unfolding(crate::specs::CallActions::call_state_meant, crate::specs::CallActions::level_in, rdlpp_texts::specs::CallTokens::role_meant, rdlpp_meaning::specs::CallScan::turn, rdlpp_meaning::specs::CallScan::turn_before, rdlpp_meaning::specs::CallScan::call_state_behind, rdlpp_meaning::specs::CallScan::call_state_behind_lead, rdlpp_meaning::specs::CallScan::room_behind))]
+fn lead_action(role: CallRole, token: Token) -> CallAction
     ensures { (room : ℕ) → Answers Before (role_meant role) room token result }
 {
     match role {
         CallRole::Space | CallRole::LineComment | CallRole::BlockComment => {
-            passes(token, Stand::Before)
+            passes(token, CallState::Before)
         }
-        CallRole::Start => passes(token, Stand::Inside(0)),
-        _ => Taking::Refused(FaultKind::ArgumentsMissing),
+        CallRole::Start => passes(token, CallState::Inside(0)),
+        _ => CallAction::Refused(FaultKind::ArgumentsMissing),
     }
 }
 
 // What is done behind the `(`, at a level of further openers, with a token of a role.
-fn inside_taking(level: usize, room: usize, role: CallRole, token: Token) -> Taking
+fn inside_action(level: usize, room: usize, role: CallRole, token: Token) -> CallAction
     requires level { level + room ≤ usize.MAX }
     requires some { 0 < token.len }
     ensures { Answers (Inside level) (role_meant role) room token result }
 {
     if ends_call(role, level) {
-        return Taking::Closes;
+        return CallAction::Closes;
     }
     match role {
-        CallRole::LineComment => passes(token, Stand::Inside(level)),
-        _ => kept_taking(level, room, role, token),
+        CallRole::LineComment => passes(token, CallState::Inside(level)),
+        _ => kept_action(level, room, role, token),
     }
 }
 
 // What is done behind the `(` with a token that is kept where it fits.
-fn kept_taking(level: usize, room: usize, role: CallRole, token: Token) -> Taking
+fn kept_action(level: usize, room: usize, role: CallRole, token: Token) -> CallAction
     requires level { level + room ≤ usize.MAX }
     requires some { 0 < token.len }
     requires text { IsKeptAt (role_meant role) level }
     ensures { Answers (Inside level) (role_meant role) room token result }
 {
     if room < token.len {
-        return Taking::Refused(FaultKind::ArgumentBytes);
+        return CallAction::Refused(FaultKind::ArgumentBytes);
     }
-    Taking::Uses(Use {
+    CallAction::Consumes(Consumed {
         len: token.len,
         next_mode: token.next_mode,
-        stand: Stand::Inside(level_behind(role, level)),
+        call_state: CallState::Inside(level_behind(role, level)),
         is_kept: true,
     })
 }
 
 // What is done with a token of a role.
-#[tactic(auto, unfolding(crate::specs::Taking::stand_meant, crate::specs::Taking::level_in))]
-fn role_taking(stand: Stand, room: usize, role: CallRole, token: Token) -> Taking
-    requires level { level_in (stand_meant stand) + room ≤ usize.MAX }
+#[tactic(auto, unfolding(crate::specs::CallActions::call_state_meant, crate::specs::CallActions::level_in))]
+fn role_action(call_state: CallState, room: usize, role: CallRole, token: Token) -> CallAction
+    requires level { level_in (call_state_meant call_state) + room ≤ usize.MAX }
     requires some { 0 < token.len }
-    ensures { Answers (stand_meant stand) (role_meant role) room token result }
+    ensures { Answers (call_state_meant call_state) (role_meant role) room token result }
 {
-    match stand {
-        Stand::Before => lead_taking(role, token),
-        Stand::Inside(level) => inside_taking(level, room, role, token),
+    match call_state {
+        CallState::Before => lead_action(role, token),
+        CallState::Inside(level) => inside_action(level, room, role, token),
     }
 }
 
 // What is done with a backquote and its name: a directive ends the call.
-fn name_taking(stand: Stand, room: usize, held: &[u8], token: Token) -> Taking
+fn name_action(call_state: CallState, room: usize, held: &[u8], token: Token) -> CallAction
     requires some { 0 < token.len }
     requires inside { token.len ≤ length held.now }
-    requires level { level_in (stand_meant stand) + room ≤ usize.MAX }
+    requires level { level_in (call_state_meant call_state) + room ≤ usize.MAX }
     requires first { token ≡ token_of Plain held.now }
     requires back { token.kind ≡ Back }
-    ensures { IsTaking (stand_meant stand) Plain room held.now result }
+    ensures { IsAction (call_state_meant call_state) Plain room held.now result }
 {
     if reserved(&held[1..token.len]).is_some() {
-        return Taking::Refused(stand.fault_at_end());
+        return CallAction::Refused(call_state.fault_at_end());
     }
-    role_taking(stand, room, CallRole::Text, token)
+    role_action(call_state, room, CallRole::Text, token)
 }
 
 // Whether a byte is neither LF nor a bracket, and begins no string, no comment, no usage and no `<%`.
-#[tactic(auto, unfolding(crate::specs::Taking::is_calm, rdlpp_scan::specs::Bytes::is_line_end, rdlpp_scan::specs::Bytes::is_opener, rdlpp_scan::specs::Bytes::is_closer))]
+#[tactic(auto, unfolding(crate::specs::CallActions::is_calm, rdlpp_scan::specs::Bytes::is_line_end, rdlpp_scan::specs::Bytes::is_opener, rdlpp_scan::specs::Bytes::is_closer))]
 fn is_calm(b: u8) -> bool
     ensures { result ≡ is_calm b }
 {
@@ -171,31 +171,31 @@ fn calm_bytes(text: &[u8]) -> usize
 
 // The use of the calm bytes with which held bytes begin in plain text, at a level of further openers, if there are some and they
 // fit.
-fn plain_calm_use(level: usize, room: usize, held: &[u8]) -> Option<Use>
-    ensures { IfSome result (λ u. IsUse (Inside level) Plain room held.now u) }
+fn plain_calm_use(level: usize, room: usize, held: &[u8]) -> Option<Consumed>
+    ensures { IfSome result (λ u. IsConsumed (Inside level) Plain room held.now u) }
 {
     let len = calm_bytes(held);
     if len == 0 || room < len {
         return None;
     }
-    Some(Use {
+    Some(Consumed {
         len,
         next_mode: Mode::Plain,
-        stand: Stand::Inside(level),
+        call_state: CallState::Inside(level),
         is_kept: true,
     })
 }
 
 // The same in any mode, and wherever the reading stands.
-fn calm_use(stand: Stand, mode: Mode, room: usize, held: &[u8]) -> Option<Use>
-    ensures { IfSome result (λ u. IsUse (stand_meant stand) mode room held.now u) }
+fn calm_use(call_state: CallState, mode: Mode, room: usize, held: &[u8]) -> Option<Consumed>
+    ensures { IfSome result (λ u. IsConsumed (call_state_meant call_state) mode room held.now u) }
 {
-    match stand {
-        Stand::Inside(level) => match mode {
+    match call_state {
+        CallState::Inside(level) => match mode {
             Mode::Plain => plain_calm_use(level, room, held),
             _ => None,
         },
-        Stand::Before => None,
+        CallState::Before => None,
     }
 }
 
@@ -208,19 +208,19 @@ fn calm_use(stand: Stand, mode: Mode, room: usize, held: &[u8]) -> Option<Use>
 ///
 /// Before the `(` stand white space and comments alone; a directive ends the call; a token that passes
 /// the room is one byte too many, before a fault of its own (this project's profile).
-pub(crate) fn taking_of(stand: Stand, mode: Mode, room: usize, held: &[u8]) -> Taking
+pub(crate) fn action_at(call_state: CallState, mode: Mode, room: usize, held: &[u8]) -> CallAction
     requires some { 0 < length held.now }
-    requires level { level_in (stand_meant stand) + room ≤ usize.MAX }
-    requires lead { stand_meant stand ≡ Before → mode ≢ InStr }
-    ensures { IsTaking (stand_meant stand) mode room held.now result }
+    requires level { level_in (call_state_meant call_state) + room ≤ usize.MAX }
+    requires lead { call_state_meant call_state ≡ Before → mode ≢ InStr }
+    ensures { IsAction (call_state_meant call_state) mode room held.now result }
 {
-    if let Some(calm) = calm_use(stand, mode, room, held) {
-        return Taking::Uses(calm);
+    if let Some(calm) = calm_use(call_state, mode, room, held) {
+        return CallAction::Consumes(calm);
     }
     let token = first_token(mode, held);
     match token.kind {
-        Kind::Perl => Taking::Perl,
-        Kind::Back => name_taking(stand, room, held, token),
-        kind => role_taking(stand, room, role_of(kind, held[0]), token),
+        Kind::Perl => CallAction::Perl,
+        Kind::Back => name_action(call_state, room, held, token),
+        kind => role_action(call_state, room, role_of(kind, held[0]), token),
     }
 }

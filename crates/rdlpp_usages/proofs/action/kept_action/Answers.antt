@@ -1,6 +1,6 @@
 use Rattle.rdlpp_usages.proofs.Takes.{keeps_step, passes_room}
 use Rattle.rdlpp_texts.specs.CallTokens.{role_meant}
-use Rattle.rdlpp_usages.proofs.taking.kept_taking.Goals as goal
+use Rattle.rdlpp_usages.proofs.action.kept_action.Goals as goal
 
 pub returns-then-room-token : goal.returns-then-room-token
 returns-then-room-token c = passes_room (role_meant c.args.role) c.args.level c.args.room c.args.token.len c.requires.text c.if-room-token.true
