@@ -12,7 +12,7 @@ use borrow.Rule.Simd.Moves.{SwzOk, swz_l}
 use lib.Bits.{and_le_r, bit_and}
 use lib.Count.{count_trailing_zeros, ones}
 use lib.Lanes.{chunk, mask_l, top, zip2}
-use Rattle.rdlpp_scan.specs.Bytes.{begins_block_comment, begins_line_comment, begins_perl, is_blank, is_closer, is_digit, is_letter, is_line_end, is_opener, is_quiet, is_word, takes_word}
+use Rattle.rdlpp_scan.specs.Bytes.{begins_block_comment, begins_line_comment, begins_perl, is_blank, is_closer, is_digit, is_letter, is_line_end, is_opener, is_inert, is_word, takes_word}
 use Rattle.rdlpp_scan.specs.Front.{Breach, Break, CommentOpen, DefineCut, DefineLong, PerlFound, StringOpen}
 use Rattle.rdlpp_scan.specs.Lines.{EndsLine, IsWholeLines}
 use Rattle.rdlpp_scan.specs.Ordinary.{IsEdge, IsOrdinary, IsPlainToken, is_plain_kind}
@@ -29,7 +29,7 @@ use Rattle.rdlpp_scan.specs.declared.token.Token.{Token}
 use Rattle.rdlpp_scan.proofs.StopKinds.{IsPlainPart, both_first, closed_kind_plain, plain_token-plain}
 use Rattle.rdlpp_scan.proofs.SourceLaws.{IsWholeLines-drop, line_ends-append, line_ends-most, line_ends-part, source_tokens-next, source_tokens-opened}
 use Rattle.rdlpp_scan.proofs.Seams.{IsCut-drop, IsCut-from_line, IsCut-rest, stops-append}
-use Rattle.rdlpp_scan.proofs.TokenLens.{first_place-at, first_place-before, first_place-le, no_perl, quiet_at, token_of-part}
+use Rattle.rdlpp_scan.proofs.TokenLens.{first_place-at, first_place-before, first_place-le, no_perl, inert_at, token_of-part}
 
 -- Ordinary text goes through as it is.
 
@@ -73,12 +73,12 @@ nothing-ordinary c l x =
 ordinary_more : (c : Course) (l b : ℕ) (w x : List ℕ) → Quiet (b ∷ w) x → IsEdge (b ∷ w) x
     → ((d : Course) (m : ℕ) (v y : List ℕ) → length v ≤ length w → Quiet v y → IsEdge v y → IsOrdinary d m v y) → IsOrdinary c l (b ∷ w) x
 unfolding token_of Quiet
-ordinary_more c l b w x quiet edge later =
+ordinary_more c l b w x inert edge later =
     let W = b ∷ w in
     let y = b ∷ w ++ x in
     let t = token_of Plain y in
     let n = t.len in
-    let still : stops_plain_text y ≡ false = quiet 0 (omega arith) in
+    let still : stops_plain_text y ≡ false = inert 0 (omega arith) in
     let part : IsPlainPart t W = plain_token-plain b w x still edge in
     let whole = token_of-part Plain y (omega arith) in
     let tok : SourceToken = record { sort = Ordinary t.kind; bytes = take n y; line = l } in
@@ -86,7 +86,7 @@ ordinary_more c l b w x quiet edge later =
     let step : (o : ℕ) → source_step c Plain o l y ≡ Next tok = λ o. source_step-plain c o l y ∙ step_by-plain c l l t y part.plain in
     let front : take n y ≡ take n W = take-append-le n W x part.inside in
     let back : drop n y ≡ drop n W ++ x = drop-append-le n W x part.inside in
-    let rest = later c (l + line_ends (take n W)) (drop n W) x (omega (arith, length-drop n W, whole.not_empty)) (Quiet-drop n W x part.inside quiet) (IsEdge-drop n W x edge) in
+    let rest = later c (l + line_ends (take n W)) (drop n W) x (omega (arith, length-drop n W, whole.not_empty)) (Quiet-drop n W x part.inside inert) (IsEdge-drop n W x edge) in
     let lines : l + line_ends (take n W) + line_ends (drop n W) ≡ l + line_ends W = omega (arith, line_ends-append (take n W) (drop n W), ap line_ends (take-append-drop n W)) in
     let go : (o i k : ℕ) (z : List ℕ) → List SourceToken = λ o i k z. source_tokens c Plain o i k z in
     record {
@@ -103,9 +103,9 @@ ordinary_more c l b w x quiet edge later =
     }
 
 ordinary_within : (k : ℕ) (c : Course) (l : ℕ) (w x : List ℕ) → length w ≤ k → Quiet w x → IsEdge w x → IsOrdinary c l w x
-ordinary_within k c l [] x fuel quiet edge = nothing-ordinary c l x
-ordinary_within zero c l (b ∷ w) x fuel quiet edge = absurd (omega arith)
-ordinary_within (suc k) c l (b ∷ w) x fuel quiet edge = ordinary_more c l b w x quiet edge (λ d m v y short. ordinary_within k d m v y (omega arith))
+ordinary_within k c l [] x fuel inert edge = nothing-ordinary c l x
+ordinary_within zero c l (b ∷ w) x fuel inert edge = absurd (omega arith)
+ordinary_within (suc k) c l (b ∷ w) x fuel inert edge = ordinary_more c l b w x inert edge (λ d m v y short. ordinary_within k d m v y (omega arith))
 
 -- ordinary text with something behind it
 pub ordinary_text : (c : Course) (l : ℕ) (w x : List ℕ) → length w ≤ plain_len (w ++ x) → IsEdge w x → IsOrdinary c l w x
@@ -275,12 +275,12 @@ source_step_gives c InBlock opened line bs = gives_token c opened line InBlock b
 -- Ordinary text that is passed byte by byte and block by block.
 
 -- ordinary text goes on at a byte where it can't stop
-pub quiet_byte : (bytes : List ℕ) (at : ℕ) → is_mark (slice_index bytes at) ≡ false → stops_plain_text (drop at bytes) ≡ false
+pub inert_byte : (bytes : List ℕ) (at : ℕ) → is_mark (slice_index bytes at) ≡ false → stops_plain_text (drop at bytes) ≡ false
 unfolding is_mark
-quiet_byte bytes at h =
+inert_byte bytes at h =
     let b = slice_index bytes at in
     let p = or_parts (eqb b 96 || eqb b 34 || eqb b 47) (eqb b 60) h in
-    quiet_at bytes at p.0 (no_perl bytes at p.1)
+    inert_at bytes at p.0 (no_perl bytes at p.1)
 
 -- no text has been passed yet
 pub passed_none : (bytes : List ℕ) → IsPassed bytes 0 0
@@ -291,11 +291,11 @@ passed_none bytes = record { inside = omega arith; plain = λ j lt. absurd (omeg
 pub passed_part : (bytes : List ℕ) (at count more lines : ℕ) → IsPassed bytes at count → at + more ≤ length bytes
     → ((j : ℕ) → at ≤ j → j < at + more → is_mark (slice_index bytes j) ≡ false)
     → lines ≡ line_ends (take more (drop at bytes)) → IsPassed bytes (at + more) (count + lines)
-passed_part bytes at count more lines before fits quiet is =
+passed_part bytes at count more lines before fits inert is =
     let same : at + more - at ≡ more = omega arith in
     record {
       inside = fits;
-      plain = λ j lt. ⊎_elim (λ less. before.plain j less) (λ past. quiet_byte bytes j (quiet j past lt)) (cases_lt j at);
+      plain = λ j lt. ⊎_elim (λ less. before.plain j less) (λ past. inert_byte bytes j (inert j past lt)) (cases_lt j at);
       ends = ap (λ n. n + lines) before.ends ∙ ap (λ n. line_ends (take at bytes) + n) (is ∙ ap (λ n. line_ends (take n (drop at bytes))) (sym same))
           ∙ line_ends-part bytes at more;
     }
@@ -417,9 +417,9 @@ marks_mask block long =
 -- Blocks that are passed.
 
 -- a block without a mark
-pub quiet_block : (bytes : List ℕ) (at : ℕ) → at + 16 ≤ length bytes → mask_l (map is_mark (chunk at 16 bytes)) ≡ 0
+pub inert_block : (bytes : List ℕ) (at : ℕ) → at + 16 ≤ length bytes → mask_l (map is_mark (chunk at 16 bytes)) ≡ 0
     → (j : ℕ) → at ≤ j → j < at + 16 → is_mark (get_or bytes j 0) ≡ false
-quiet_block bytes at inside none = none_from_empty_mask is_mark bytes at 16 0 inside none
+inert_block bytes at inside none = none_from_empty_mask is_mark bytes at 16 0 inside none
 
 -- how many LF a block has
 pub block_ends : (block : List ℕ) → ones (mask_l (map is_line_end block)) ≡ line_ends block
@@ -456,7 +456,7 @@ front_lines bytes at len ends inside few is =
 pub passed_block : (bytes : List ℕ) (at count marks ends : ℕ) → IsPassed bytes at count → at + 16 ≤ length bytes
     → marks ≡ mask_l (map is_mark (chunk at 16 bytes)) → marks ≡ 0 → ends ≡ mask_l (map is_line_end (chunk at 16 bytes)) → IsPassed bytes (at + 16) (count + ones ends)
 passed_block bytes at count marks ends before inside is none told =
-    passed_part bytes at count 16 (ones ends) before inside (quiet_block bytes at inside (sym is ∙ none)) (ap ones told ∙ block_ends (chunk at 16 bytes))
+    passed_part bytes at count 16 (ones ends) before inside (inert_block bytes at inside (sym is ∙ none)) (ap ones told ∙ block_ends (chunk at 16 bytes))
 
 -- no more LF are counted than there are bytes
 pub passed_fits : (bytes : List ℕ) (len count : ℕ) → IsPassed bytes len count → count ≤ length bytes
@@ -472,7 +472,7 @@ is_still BareBackquote = false
 is_still _ = true
 
 -- a token of one byte that is neither a name nor a usage
-pub record IsQuietToken (t : Token) : Type 0 where
+pub record IsInertToken (t : Token) : Type 0 where
   pub len : t.len ≡ 1
   pub next : t.next_mode ≡ Plain
   pub still : is_still t.kind ≡ true
@@ -482,10 +482,10 @@ no_first true q h = absurd (false≢true h)
 no_first false q h = (refl, h)
 
 -- a byte that isn't a blank is a token by itself
-pub quiet_first : (b : ℕ) (bs : List ℕ) → is_quiet b ≡ true → is_blank b ≡ false → IsQuietToken (token_of Plain (b ∷ bs))
-unfolding token_of plain_token whole is_quiet is_still begins_perl begins_line_comment begins_block_comment
-quiet_first b bs quiet dark =
-    let letter = no_first (is_letter b) _ quiet in
+pub inert_first : (b : ℕ) (bs : List ℕ) → is_inert b ≡ true → is_blank b ≡ false → IsInertToken (token_of Plain (b ∷ bs))
+unfolding token_of plain_token whole is_inert is_still begins_perl begins_line_comment begins_block_comment
+inert_first b bs inert dark =
+    let letter = no_first (is_letter b) _ inert in
     let digit = no_first (is_digit b) _ letter.1 in
     let takes = no_first (takes_word b) _ digit.1 in
     let back = no_first (eqb b 96) _ takes.1 in
@@ -493,7 +493,7 @@ quiet_first b bs quiet dark =
     let slash = no_first (eqb b 47) _ quote.1 in
     let less = not-true (eqb b 60) slash.1 in
     let c = get_or (b ∷ bs) 1 0 in
-    let P : Token → Type 0 = λ t. IsQuietToken t in
+    let P : Token → Type 0 = λ t. IsInertToken t in
     cond_both (begins_perl (b ∷ bs)) _ _ P (λ h. absurd (both_ways _ less (both_first _ _ h))) (λ _.
     cond_both (is_line_end b) _ _ P (λ _. record { len = refl; next = refl; still = refl }) (λ _.
     cond_both (is_blank b) _ _ P (λ h. absurd (both_ways _ dark h)) (λ _.

@@ -121,10 +121,10 @@ takes-line b h = ⊎_elim (λ e. ap (λ n. eqb n 10) (eqb-true b 39 e)) (λ e. a
 -- the first token of ordinary text is plain, and doesn't go over its end
 pub plain_token-plain : (b : ℕ) (w x : List ℕ) → stops_plain_text (b ∷ w ++ x) ≡ false → IsEdge (b ∷ w) x → IsPlainPart (plain_token (b ∷ w ++ x)) (b ∷ w)
 unfolding plain_token whole is_plain_kind
-plain_token-plain b w x quiet edge =
+plain_token-plain b w x inert edge =
     let bs = b ∷ w ++ x in
     let c = get_or bs 1 0 in
-    let g = goes_on bs quiet in
+    let g = goes_on bs inert in
     let P : Token → Type 0 = λ t. IsPlainPart t (b ∷ w) in
     let one : (k : Kind) → is_plain_kind k ≡ true → P (whole k 1) = λ k h. record { plain = h; inside = omega arith } in
     let run : (k : Kind) (p : ℕ → Bool) → IsRunTest p → is_plain_kind k ≡ true → P (whole k (prefix_len p bs)) = λ k p t h. record { plain = h; inside = run-inside p t (b ∷ w) x (omega arith) edge } in
@@ -159,40 +159,40 @@ pub data Row (bs : List ℕ) (t : Token) : Type 0 where
   AtPlain : is_plain_kind t.kind ≡ true → stops_plain_text bs ≡ false → Row bs t
 
 -- a byte of a class that has none of the four bytes where ordinary text stops
-pub quiet_byte : (p : ℕ → Bool) (bs : List ℕ) → p 96 ≡ false → p 34 ≡ false → p 47 ≡ false → p 60 ≡ false → p (get_or bs 0 0) ≡ true → stops_plain_text bs ≡ false
-quiet_byte p bs backquote quote slash less h = false_from_ne_true (stops_plain_text bs) (λ s. false≢true (sym (at_stop p bs backquote quote slash less s) ∙ h))
+pub inert_byte : (p : ℕ → Bool) (bs : List ℕ) → p 96 ≡ false → p 34 ≡ false → p 47 ≡ false → p 60 ≡ false → p (get_or bs 0 0) ≡ true → stops_plain_text bs ≡ false
+inert_byte p bs backquote quote slash less h = false_from_ne_true (stops_plain_text bs) (λ s. false≢true (sym (at_stop p bs backquote quote slash less s) ∙ h))
 
-quiet_line : (bs : List ℕ) → is_line_end (get_or bs 0 0) ≡ true → stops_plain_text bs ≡ false
+inert_line : (bs : List ℕ) → is_line_end (get_or bs 0 0) ≡ true → stops_plain_text bs ≡ false
 unfolding is_line_end
-quiet_line bs h = quiet_byte is_line_end bs refl refl refl refl h
+inert_line bs h = inert_byte is_line_end bs refl refl refl refl h
 
-quiet_blank : (bs : List ℕ) → is_blank (get_or bs 0 0) ≡ true → stops_plain_text bs ≡ false
+inert_blank : (bs : List ℕ) → is_blank (get_or bs 0 0) ≡ true → stops_plain_text bs ≡ false
 unfolding is_blank
-quiet_blank bs h = quiet_byte is_blank bs refl refl refl refl h
+inert_blank bs h = inert_byte is_blank bs refl refl refl refl h
 
-quiet_letter : (bs : List ℕ) → is_letter (get_or bs 0 0) ≡ true → stops_plain_text bs ≡ false
+inert_letter : (bs : List ℕ) → is_letter (get_or bs 0 0) ≡ true → stops_plain_text bs ≡ false
 unfolding is_letter
-quiet_letter bs h = quiet_byte is_letter bs refl refl refl refl h
+inert_letter bs h = inert_byte is_letter bs refl refl refl refl h
 
-quiet_digit : (bs : List ℕ) → is_digit (get_or bs 0 0) ≡ true → stops_plain_text bs ≡ false
+inert_digit : (bs : List ℕ) → is_digit (get_or bs 0 0) ≡ true → stops_plain_text bs ≡ false
 unfolding is_digit
-quiet_digit bs h = quiet_byte is_digit bs refl refl refl refl h
+inert_digit bs h = inert_byte is_digit bs refl refl refl refl h
 
-quiet_takes : (bs : List ℕ) → takes_word (get_or bs 0 0) ≡ true → stops_plain_text bs ≡ false
+inert_takes : (bs : List ℕ) → takes_word (get_or bs 0 0) ≡ true → stops_plain_text bs ≡ false
 unfolding takes_word
-quiet_takes bs h = quiet_byte takes_word bs refl refl refl refl h
+inert_takes bs h = inert_byte takes_word bs refl refl refl refl h
 
-quiet_opener : (bs : List ℕ) → is_opener (get_or bs 0 0) ≡ true → stops_plain_text bs ≡ false
+inert_opener : (bs : List ℕ) → is_opener (get_or bs 0 0) ≡ true → stops_plain_text bs ≡ false
 unfolding is_opener
-quiet_opener bs h = quiet_byte is_opener bs refl refl refl refl h
+inert_opener bs h = inert_byte is_opener bs refl refl refl refl h
 
-quiet_closer : (bs : List ℕ) → is_closer (get_or bs 0 0) ≡ true → stops_plain_text bs ≡ false
+inert_closer : (bs : List ℕ) → is_closer (get_or bs 0 0) ≡ true → stops_plain_text bs ≡ false
 unfolding is_closer
-quiet_closer bs h = quiet_byte is_closer bs refl refl refl refl h
+inert_closer bs h = inert_byte is_closer bs refl refl refl refl h
 
-quiet_other : (bs : List ℕ) → begins_perl bs ≡ false → begins_line_comment bs ≡ false → begins_block_comment bs ≡ false → eqb (get_or bs 0 0) 34 ≡ false → eqb (get_or bs 0 0) 96 ≡ false → stops_plain_text bs ≡ false
+inert_other : (bs : List ℕ) → begins_perl bs ≡ false → begins_line_comment bs ≡ false → begins_block_comment bs ≡ false → eqb (get_or bs 0 0) 34 ≡ false → eqb (get_or bs 0 0) 96 ≡ false → stops_plain_text bs ≡ false
 unfolding stops_plain_text
-quiet_other bs perl line block quote back = or_from _ _ (or_from _ _ (or_from _ _ (or_from _ _ back quote) line) block) perl
+inert_other bs perl line block quote back = or_from _ _ (or_from _ _ (or_from _ _ (or_from _ _ back quote) line) block) perl
 
 -- a string is a string
 pub string_token-kind : (from : ℕ) (bs : List ℕ) → (string_token from bs).kind ≡ Str
@@ -216,19 +216,19 @@ plain_token-row bs =
     let c = get_or bs 1 0 in
     let P : Token → Type 0 = λ t. Row bs t in
     cond_both (begins_perl bs) _ _ P (λ h. AtPerl h refl) (λ perl.
-    cond_both (is_line_end b) _ _ P (λ h. AtPlain refl (quiet_line bs h)) (λ _.
-    cond_both (is_blank b) _ _ P (λ h. AtPlain refl (quiet_blank bs h)) (λ _.
+    cond_both (is_line_end b) _ _ P (λ h. AtPlain refl (inert_line bs h)) (λ _.
+    cond_both (is_blank b) _ _ P (λ h. AtPlain refl (inert_blank bs h)) (λ _.
     cond_both (begins_line_comment bs) _ _ P (λ h. AtLineComment h refl) (λ line.
     cond_both (begins_block_comment bs) _ _ P (λ h. AtBlockComment h (block_token-kind 2 bs)) (λ block.
     cond_both (eqb b 34) _ _ P (λ h. AtString h (string_token-kind 1 bs)) (λ quote.
-    cond_both (is_letter b) _ _ P (λ h. AtPlain refl (quiet_letter bs h)) (λ _.
-    cond_both (is_digit b) _ _ P (λ h. AtPlain refl (quiet_digit bs h)) (λ _.
-    cond_both (takes_word b && is_word c) _ _ P (λ h. AtPlain refl (quiet_takes bs (and_parts (takes_word b) (is_word c) h).0)) (λ _.
+    cond_both (is_letter b) _ _ P (λ h. AtPlain refl (inert_letter bs h)) (λ _.
+    cond_both (is_digit b) _ _ P (λ h. AtPlain refl (inert_digit bs h)) (λ _.
+    cond_both (takes_word b && is_word c) _ _ P (λ h. AtPlain refl (inert_takes bs (and_parts (takes_word b) (is_word c) h).0)) (λ _.
     cond_both (eqb b 96 && is_letter c) _ _ P (λ h. AtBack (and_parts (eqb b 96) (is_letter c) h).0 refl) (λ named.
     cond_both (eqb b 96) _ _ P (λ h. AtBare h (back_letter b c h named) refl) (λ back.
-    cond_both (is_opener b) _ _ P (λ h. AtPlain refl (quiet_opener bs h)) (λ _.
-    cond_both (is_closer b) _ _ P (λ h. AtPlain refl (quiet_closer bs h)) (λ _.
-    cond_both (eqb b 44) _ _ P (λ _. AtPlain refl (quiet_other bs perl line block quote back)) (λ _. AtPlain refl (quiet_other bs perl line block quote back)))))))))))))))
+    cond_both (is_opener b) _ _ P (λ h. AtPlain refl (inert_opener bs h)) (λ _.
+    cond_both (is_closer b) _ _ P (λ h. AtPlain refl (inert_closer bs h)) (λ _.
+    cond_both (eqb b 44) _ _ P (λ _. AtPlain refl (inert_other bs perl line block quote back)) (λ _. AtPlain refl (inert_other bs perl line block quote back)))))))))))))))
 
 -- the same of the first token in plain text
 pub token_of-row : (bs : List ℕ) → Row bs (token_of Plain bs)

@@ -198,9 +198,9 @@ unfolding begins_perl
 no_perl bs i h = ap (λ n. eqb n 60 && eqb (get_or (drop i bs) 1 0) 37) (at_zero bs i) ∙ ap (λ t. t && eqb (get_or (drop i bs) 1 0) 37) h
 
 -- ordinary text goes on at a byte that doesn't matter, where no `<%` begins
-pub quiet_at : (bs : List ℕ) (i : ℕ) → is_byte3 96 34 47 (get_or bs i 0) ≡ false → begins_perl (drop i bs) ≡ false → stops_plain_text (drop i bs) ≡ false
+pub inert_at : (bs : List ℕ) (i : ℕ) → is_byte3 96 34 47 (get_or bs i 0) ≡ false → begins_perl (drop i bs) ≡ false → stops_plain_text (drop i bs) ≡ false
 unfolding stops_plain_text begins_line_comment begins_block_comment
-quiet_at bs i h perl =
+inert_at bs i h perl =
     let b = get_or (drop i bs) 0 0 in
     let c = get_or (drop i bs) 1 0 in
     let here : is_byte3 96 34 47 b ≡ false = ap (is_byte3 96 34 47) (at_zero bs i) ∙ h in
@@ -211,8 +211,8 @@ quiet_at bs i h perl =
     ∙ ap (λ t. (t && eqb c 47) || (t && eqb c 42) || begins_perl (drop i bs)) p.1 ∙ perl
 
 -- a place further, where it goes on
-pub quiet_through : (bs : List ℕ) (place : ℕ) → ((j : ℕ) → j < place → stops_plain_text (drop j bs) ≡ false) → stops_plain_text (drop place bs) ≡ false → (j : ℕ) → j < place + 1 → stops_plain_text (drop j bs) ≡ false
-quiet_through bs place before here j lt =
+pub inert_through : (bs : List ℕ) (place : ℕ) → ((j : ℕ) → j < place → stops_plain_text (drop j bs) ≡ false) → stops_plain_text (drop place bs) ≡ false → (j : ℕ) → j < place + 1 → stops_plain_text (drop j bs) ≡ false
+inert_through bs place before here j lt =
     ⊎_elim (λ less. before j less) (λ past. let e : place ≡ j = omega arith in subst (λ i. stops_plain_text (drop i bs) ≡ false) e here) (cases_lt j place)
 
 -- the place where ordinary text stops
@@ -229,20 +229,20 @@ plain_len-to_end bs i le before end =
 
 -- Where a string stops, by a search for the bytes that matter to it.
 
-quiet_step : (a b c p : Bool) (s : Bool → ℕ) → (a || b || c) ≡ false → cond (a || (c && p)) 0 (suc (s b)) ≡ suc (s false)
-quiet_step false false false p s h = refl
-quiet_step false false true p s h = absurd (false≢true (sym h))
-quiet_step false true c p s h = absurd (false≢true (sym h))
-quiet_step true b c p s h = absurd (false≢true (sym h))
+inert_step : (a b c p : Bool) (s : Bool → ℕ) → (a || b || c) ≡ false → cond (a || (c && p)) 0 (suc (s b)) ≡ suc (s false)
+inert_step false false false p s h = refl
+inert_step false false true p s h = absurd (false≢true (sym h))
+inert_step false true c p s h = absurd (false≢true (sym h))
+inert_step true b c p s h = absurd (false≢true (sym h))
 
 -- bytes that don't matter to a string are passed over
 string_stop-pass : (xs : List ℕ) (k : ℕ) → k ≤ length xs → ((j : ℕ) → j < k → is_byte3 34 92 60 (get_or xs j 0) ≡ false) → string_stop false xs ≡ k + string_stop false (drop k xs)
 unfolding string_stop begins_perl
-string_stop-pass xs zero le quiet = omega arith
-string_stop-pass [] (suc k) le quiet = absurd (omega arith)
-string_stop-pass (x ∷ xs) (suc k) le quiet =
-    let rest : string_stop false xs ≡ k + string_stop false (drop k xs) = string_stop-pass xs k (omega arith) (λ j lt. quiet (suc j) (omega arith)) in
-    quiet_step (eqb x 34) (eqb x 92) (eqb x 60) (eqb (get_or (x ∷ xs) 1 0) 37) (λ t. string_stop t xs) (quiet 0 (omega arith)) ∙ omega (arith, rest)
+string_stop-pass xs zero le inert = omega arith
+string_stop-pass [] (suc k) le inert = absurd (omega arith)
+string_stop-pass (x ∷ xs) (suc k) le inert =
+    let rest : string_stop false xs ≡ k + string_stop false (drop k xs) = string_stop-pass xs k (omega arith) (λ j lt. inert (suc j) (omega arith)) in
+    inert_step (eqb x 34) (eqb x 92) (eqb x 60) (eqb (get_or (x ∷ xs) 1 0) 37) (λ t. string_stop t xs) (inert 0 (omega arith)) ∙ omega (arith, rest)
 
 -- a backslash takes the next byte along
 string_stop-escape : (xs : List ℕ) → string_stop false (92 ∷ xs) ≡ min 2 (suc (length xs)) + string_stop false (drop (min 2 (suc (length xs))) (92 ∷ xs))

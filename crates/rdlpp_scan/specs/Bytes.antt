@@ -36,8 +36,8 @@ takes_word b = b == 39 || b == 92
 
 -- a byte that begins no name, no number, no usage, no string, no comment and no `<%`: a blank, or a token by itself (this project's
 -- profile)
-unfoldable pub is_quiet : ℕ → Bool
-is_quiet b =
+unfoldable pub is_inert : ℕ → Bool
+is_inert b =
     not (is_letter b) && (not (is_digit b) && (not (takes_word b) && (not (b == 96) && (not (b == 34) && (not (b == 47) && not (b == 60))))))
 
 -- `<%`, where embedded Perl begins (SystemRDL 2.0, preprocessor clause)

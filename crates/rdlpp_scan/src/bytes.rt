@@ -10,7 +10,7 @@ ghost use Rattle.rdlpp_scan.specs.Bytes.{
   is_digit,
   is_letter,
   is_opener,
-  is_quiet,
+  is_inert,
   is_word,
   takes_word,
 };
@@ -71,15 +71,15 @@ pub fn word_bytes(bytes: &[u8]) -> usize
 /// number, a usage, a string, a comment or `<%` (this project's profile).
 ///
 /// Costs time linear in that count.
-pub fn quiet_bytes(bytes: &[u8]) -> usize
-    ensures value { result ≡ prefix_len is_quiet bytes.now }
+pub fn inert_bytes(bytes: &[u8]) -> usize
+    ensures value { result ≡ prefix_len is_inert bytes.now }
     ensures inside { result ≤ length bytes.now }
 {
-    bytes.iter().take_while(|b| is_quiet(**b)).count()
+    bytes.iter().take_while(|b| is_inert(**b)).count()
 }
 
-fn is_quiet(b: u8) -> bool
-    ensures { result ≡ is_quiet b }
+fn is_inert(b: u8) -> bool
+    ensures { result ≡ is_inert b }
 {
     CLASSES[b as usize] & QUIET != 0
 }

@@ -62,7 +62,7 @@ fn before_mark(bytes: &[u8], from: PlainText) -> PlainText
     if bytes.len() - run.len < BLOCK_BYTES {
         return before_near_mark(bytes, run);
     }
-    let front = quiet_front(bytes, run.len);
+    let front = inert_front(bytes, run.len);
     PlainText {
         len: run.len + front.len,
         lines: run.lines + front.lines,
@@ -91,10 +91,10 @@ fn before_marked_block(bytes: &[u8], from: PlainText) -> PlainText
 
 // The bytes of a block, which begins at a place, up to the first one at which ordinary text may stop.
 #[inline(always)]
-fn quiet_front(bytes: &[u8], at: usize) -> PlainText
+fn inert_front(bytes: &[u8], at: usize) -> PlainText
     requires { at + 16 ≤ length bytes.now }
     ensures few { result.len ≤ 16 }
-    ensures quiet { (j : ℕ) → at ≤ j → j < at + result.len → is_mark (slice_index bytes.now j) ≡ false }
+    ensures inert { (j : ℕ) → at ≤ j → j < at + result.len → is_mark (slice_index bytes.now j) ≡ false }
     ensures lines { result.lines ≡ line_ends (take result.len (drop at bytes.now)) }
 {
     let block = u8x16::from_slice(&bytes[at..]);

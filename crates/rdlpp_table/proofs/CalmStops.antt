@@ -3,7 +3,7 @@ use Rattle.std.proofs.Common.{◌≡◌, ℕ, zero, suc, ◌+◌, ◌-◌, ◌<�
 use Rattle.std.specs.List.{prefix_len}
 use Rattle.std.proofs.lemmas.Bool.{cases_Bool, false≢true, cond_both, cond-true, cond-false, or_cases, and_parts, cases_lt, not-true}
 use Rattle.std.proofs.lemmas.List.{drop-take}
-use Rattle.rdlpp_scan.specs.Bytes.{begins_block_comment, begins_line_comment, begins_perl, is_blank, is_closer, is_digit, is_letter, is_line_end, is_opener, is_quiet, is_word, takes_word}
+use Rattle.rdlpp_scan.specs.Bytes.{begins_block_comment, begins_line_comment, begins_perl, is_blank, is_closer, is_digit, is_letter, is_line_end, is_opener, is_inert, is_word, takes_word}
 use Rattle.rdlpp_scan.specs.LexFaults.{is_calm}
 use Rattle.rdlpp_scan.specs.declared.token.Kind.{Kind}
 use Rattle.rdlpp_scan.specs.declared.token.Kind.TheVariants.{Name, Word, Back, Blank, LineEnd, Str, LineComment, BlockComment, Opener, Closer, Comma, Other, Perl, BareBackquote}
@@ -22,7 +22,7 @@ use Rattle.rdlpp_table.specs.declared.point_cache.PackedKind.TheVariants as kept
 use Rattle.rdlpp_table.specs.ExpansionPoints.{next_expansion_point, is_none, or_point, point_at, point_name, point_of}
 use Rattle.rdlpp_table.specs.Table.{Formal}
 use Rattle.rdlpp_table.specs.View.{formal_named}
-use Rattle.rdlpp_table.proofs.FirstPoints.{IsFrom, back_when, begins, begins_end, behind_place, when, cut_more, cut_token, front_first, one_token, or_none, or_some, quiet_one, run_drop, tokens_within}
+use Rattle.rdlpp_table.proofs.FirstPoints.{IsFrom, back_when, begins, begins_end, behind_place, when, cut_more, cut_token, front_first, one_token, or_none, or_some, inert_one, run_drop, tokens_within}
 
 -- The first token of a text that begins with a calm byte.
 
@@ -60,21 +60,21 @@ calm_token b bs s =
     cond_both (is_closer b) _ _ P (λ _. one Closer) (λ _.
     cond_both (eqb b 44) _ _ P (λ _. one Comma) (λ _. one Other))))))))))))))
 
--- a blank is quiet
-blank_quiet : (b : ℕ) → is_blank b ≡ true → is_quiet b ≡ true
-unfolding is_blank is_quiet is_letter is_digit takes_word
-blank_quiet b h =
-    let P : ℕ → Type 0 = λ n. is_quiet n ≡ true in
-    let at : (n : ℕ) → is_quiet n ≡ true → eqb b n ≡ true → P b = λ n q e. subst P (sym (eqb-true b n e)) q in
+-- a blank is inert
+blank_inert : (b : ℕ) → is_blank b ≡ true → is_inert b ≡ true
+unfolding is_blank is_inert is_letter is_digit takes_word
+blank_inert b h =
+    let P : ℕ → Type 0 = λ n. is_inert n ≡ true in
+    let at : (n : ℕ) → is_inert n ≡ true → eqb b n ≡ true → P b = λ n q e. subst P (sym (eqb-true b n e)) q in
     ⊎_elim (λ h4. ⊎_elim (λ h3. ⊎_elim (λ h2. ⊎_elim (at 32 refl) (at 9 refl) (or_cases _ _ h2)) (at 13 refl) (or_cases _ _ h3)) (at 11 refl) (or_cases _ _ h4)) (at 12 refl) (or_cases _ _ h)
 
-no_blank : (b : ℕ) → is_quiet b ≡ false → is_blank b ≡ false
-no_blank b q = ⊎_elim (λ h. absurd (false≢true (sym q ∙ blank_quiet b h))) (λ h. h) (cases_Bool (is_blank b))
+no_blank : (b : ℕ) → is_inert b ≡ false → is_blank b ≡ false
+no_blank b q = ⊎_elim (λ h. absurd (false≢true (sym q ∙ blank_inert b h))) (λ h. h) (cases_Bool (is_blank b))
 
--- a quiet byte is none of a word
-quiet_apart : (b : ℕ) → is_quiet b ≡ true → is_word b ≡ false
-unfolding is_quiet is_word
-quiet_apart b q =
+-- an inert byte is none of a word
+inert_apart : (b : ℕ) → is_inert b ≡ true → is_word b ≡ false
+unfolding is_inert is_word
+inert_apart b q =
     let letter = and_parts (not (is_letter b)) _ q in
     let digit = and_parts (not (is_digit b)) _ letter.1 in
     ap (λ (t : Bool). t || is_digit b) (not-true (is_letter b) letter.0) ∙ not-true (is_digit b) digit.0
@@ -166,22 +166,22 @@ cut_step formals at m u some next le none =
 
 -- From a place on.
 
--- whether no token goes on at a place of a text: it is the front, or a quiet byte stands before it
+-- whether no token goes on at a place of a text: it is the front, or an inert byte stands before it
 abbrev IsCut : List ℕ → ℕ → Type 0
-IsCut u n = (n ≡ 0) ⊎ (is_quiet (get_or u (n - 1) 0) ≡ true)
+IsCut u n = (n ≡ 0) ⊎ (is_inert (get_or u (n - 1) 0) ≡ true)
 
 -- a cut further on is one of what is left of the text
 cut_left : (k n : ℕ) (u : List ℕ) → k < n → IsCut u n → IsCut (drop k u) (n - k)
 cut_left k n u lt (inl none) = absurd (omega arith)
 cut_left k n u lt (inr q) =
     let there : k + (n - k - 1) ≡ n - 1 = omega arith in
-    inr (ap is_quiet (get_or-drop k u (n - k - 1) 0 ∙ ap (λ (m : ℕ). get_or u m 0) there) ∙ q)
+    inr (ap is_inert (get_or-drop k u (n - k - 1) 0 ∙ ap (λ (m : ℕ). get_or u m 0) there) ∙ q)
 
--- the first token of a text isn't white space and ends before a quiet byte further on
-token_before : (b n : ℕ) (bs : List ℕ) → is_calm b ≡ true → is_quiet b ≡ false → is_quiet (get_or (b ∷ bs) n 0) ≡ true → (token_of Plain (b ∷ bs)).len ≤ n
+-- the first token of a text isn't white space and ends before an inert byte further on
+token_before : (b n : ℕ) (bs : List ℕ) → is_calm b ≡ true → is_inert b ≡ false → is_inert (get_or (b ∷ bs) n 0) ≡ true → (token_of Plain (b ∷ bs)).len ≤ n
 token_before b zero bs calm dark q = absurd (false≢true (sym dark ∙ q))
 token_before b (suc n) bs calm dark q =
-    omega (arith, (calm_token b bs calm).short (no_blank b dark), run_points is_word n bs (quiet_apart (get_or bs n 0) q))
+    omega (arith, (calm_token b bs calm).short (no_blank b dark), run_points is_word n bs (inert_apart (get_or bs n 0) q))
 
 -- a first expansion point that is none, or begins no nearer than a cut among the calm bytes, is the first one from there on
 point_from : (fuel : ℕ) (formals : List Formal) (at n : ℕ) (u : List ℕ) (s : ExpansionPoint) → length u ≤ fuel → n ≤ prefix_len is_calm u → IsCut u n → s ≡ next_expansion_point formals at (tokens_from Plain 0 u) u → (is_none s ≡ false → at + n ≤ begins s)
@@ -198,10 +198,10 @@ point_from (suc fuel) formals at (suc n) (b ∷ bs) s room run cut e far =
     ⊎_elim
     (λ q.
     let next : IsCut bs n = cut_left_one n cut in
-    point_from fuel formals (at + 1) n bs s (omega arith) one.1 next (e ∙ quiet_one formals at b bs q) (λ h. omega (arith, far h))
+    point_from fuel formals (at + 1) n bs s (omega arith) one.1 next (e ∙ inert_one formals at b bs q) (λ h. omega (arith, far h))
     ∙ ap (λ (m : ℕ). next_expansion_point formals m (tokens_from Plain 0 (drop n bs)) (drop n bs)) (omega arith))
     (λ dark.
-    let before : t.len ≤ n = token_before b n bs one.0 dark (quiet_there cut) in
+    let before : t.len ≤ n = token_before b n bs one.0 dark (inert_there cut) in
     let none = passed_here formals at u s some e (λ h. omega (arith, far h)) in
     let not_empty : 0 < t.len = (token_of-part Plain u some).not_empty in
     let left : suc n - t.len ≤ prefix_len is_calm (drop t.len u) = run_drop is_calm t.len (suc n - t.len) u (omega arith) in
@@ -210,11 +210,11 @@ point_from (suc fuel) formals at (suc n) (b ∷ bs) s room run cut e far =
     point_from fuel formals (at + t.len) (suc n - t.len) (drop t.len u) s (omega (arith, length-drop t.len u)) left (cut_left t.len (suc n) u (omega arith) cut) (e ∙ text_step formals at u some calm.next none) (λ h. omega (arith, far h))
     ∙ (ap (λ (l : List ℕ). next_expansion_point formals (at + t.len + (suc n - t.len)) (tokens_from Plain 0 l) l) (drop-drop (suc n - t.len) t.len u ∙ ap (λ (m : ℕ). drop m u) sum)
     ∙ ap (λ (m : ℕ). next_expansion_point formals m (tokens_from Plain 0 (drop (suc n) u)) (drop (suc n) u)) place))
-    (cases_Bool (is_quiet b))
+    (cases_Bool (is_inert b))
   where
-    quiet_there : IsCut (b ∷ bs) (suc n) → is_quiet (get_or (b ∷ bs) n 0) ≡ true
-    quiet_there (inl none) = absurd (omega (arith, none))
-    quiet_there (inr q) = let there : n ≡ suc n - 1 = omega arith in ap (λ (m : ℕ). is_quiet (get_or (b ∷ bs) m 0)) there ∙ q
+    inert_there : IsCut (b ∷ bs) (suc n) → is_inert (get_or (b ∷ bs) n 0) ≡ true
+    inert_there (inl none) = absurd (omega (arith, none))
+    inert_there (inr q) = let there : n ≡ suc n - 1 = omega arith in ap (λ (m : ℕ). is_inert (get_or (b ∷ bs) m 0)) there ∙ q
 
     cut_left_one : (k : ℕ) → IsCut (b ∷ bs) (suc k) → IsCut bs k
     cut_left_one zero c = inl refl
@@ -222,7 +222,7 @@ point_from (suc fuel) formals at (suc n) (b ∷ bs) s room run cut e far =
     cut_left_one (suc k) (inr q) =
         let less : suc k - 1 ≡ k = omega arith in
         let there : suc k ≡ suc (suc k) - 1 = omega arith in
-        inr (ap (λ (m : ℕ). is_quiet (get_or bs m 0)) less ∙ (ap (λ (m : ℕ). is_quiet (get_or (b ∷ bs) m 0)) there ∙ q))
+        inr (ap (λ (m : ℕ). is_inert (get_or bs m 0)) less ∙ (ap (λ (m : ℕ). is_inert (get_or (b ∷ bs) m 0)) there ∙ q))
 
 -- The front of a text.
 
@@ -241,7 +241,7 @@ point_behind (suc fuel) formals at (suc m) (b ∷ bs) s room run ends e far =
     let calm = calm_token b bs one.0 in
     let some : 0 < length u = omega arith in
     ⊎_elim
-    (λ q. quiet_one formals at b (take m bs) q ∙ point_behind fuel formals (at + 1) m bs s (omega arith) one.1 ends (e ∙ quiet_one formals at b bs q) (λ h. omega (arith, far h)))
+    (λ q. inert_one formals at b (take m bs) q ∙ point_behind fuel formals (at + 1) m bs s (omega arith) one.1 ends (e ∙ inert_one formals at b bs q) (λ h. omega (arith, far h)))
     (λ dark.
     let inside : t.len ≤ suc m = omega (arith, calm.short (no_blank b dark), run_points is_word m bs ends) in
     let none = passed_here formals at u s some e (λ h. omega (arith, far h)) in
@@ -251,7 +251,7 @@ point_behind (suc fuel) formals at (suc m) (b ∷ bs) s room run ends e far =
     let still : is_word (get_or (drop t.len u) (suc m - t.len) 0) ≡ false = ap is_word (get_or-drop t.len u (suc m - t.len) 0 ∙ ap (λ (k : ℕ). get_or u k 0) sum) ∙ ends in
     cut_step formals at (suc m) u some calm.next inside none
     ∙ point_behind fuel formals (at + t.len) (suc m - t.len) (drop t.len u) s (omega (arith, length-drop t.len u)) left still (e ∙ text_step formals at u some calm.next none) (λ h. omega (arith, far h)))
-    (cases_Bool (is_quiet b))
+    (cases_Bool (is_inert b))
 
 -- an expansion point behind calm bytes alone is the first one of each front of the text that has it
 point_inside : (fuel : ℕ) (formals : List Formal) (at m : ℕ) (u : List ℕ) (s : ExpansionPoint) → length u ≤ fuel → s ≡ next_expansion_point formals at (tokens_from Plain 0 u) u → is_none s ≡ false → begins s ≤ at + prefix_len is_calm u → begins s ≤ point_end s → point_end s ≤ at + m
@@ -358,7 +358,7 @@ cut_place text start from low h =
           (λ (e : eqb from start ≡ true). absurd (omega (arith, lt, eqb-true from start e)))
           (λ q.
           let there : start + (from - start - 1) ≡ from - 1 = omega (arith, lt) in
-          inr (ap is_quiet (get_or-drop start text (from - start - 1) 0 ∙ ap (λ (m : ℕ). get_or text m 0) there) ∙ q))
+          inr (ap is_inert (get_or-drop start text (from - start - 1) 0 ∙ ap (λ (m : ℕ). get_or text m 0) there) ∙ q))
           (or_cases _ _ h)
       | inr past ↦ inl (omega (arith, past))
     ]
@@ -368,7 +368,7 @@ cut_near : (text : List ℕ) (start from calm : ℕ) → (eqb from start || (leb
 unfolding is_cut
 cut_near text start from calm h =
     ⊎_elim
-    (λ (e : eqb from start ≡ true). (omega (arith, eqb-true from start e), ap (λ (t : Bool). t || is_quiet (get_or text (from - 1) 0)) e))
+    (λ (e : eqb from start ≡ true). (omega (arith, eqb-true from start e), ap (λ (t : Bool). t || is_inert (get_or text (from - 1) 0)) e))
     (λ w. let two = and_parts (leb from (start + calm)) _ w in (leb-true _ _ two.0, two.1))
     (or_cases _ _ h)
 

@@ -55,18 +55,18 @@ unfolding is_default
 default_from text c h = and_from _ _ (text_clean text c) h
 
 -- a token that neither ends a default text nor changes its level
-quiet_fill : (l : ℕ) (t : Token) (ts : List Token) (text : List ℕ) → ends_default t.kind (get_or text 0 0) ≡ false → level_behind t.kind l ≡ l → fills l (t ∷ ts) text ≡ fills l ts (drop t.len text)
+inert_fill : (l : ℕ) (t : Token) (ts : List Token) (text : List ℕ) → ends_default t.kind (get_or text 0 0) ≡ false → level_behind t.kind l ≡ l → fills l (t ∷ ts) text ≡ fills l ts (drop t.len text)
 unfolding fills
-quiet_fill l t ts text e f =
+inert_fill l t ts text e f =
     ap (λ b. not b && fills (level_behind t.kind l) ts (drop t.len text)) (and_right (eqb l 0) _ e) ∙ ap (λ n. fills n ts (drop t.len text)) f
 
 blank_fill : (l n : ℕ) (ts : List Token) (text : List ℕ) → fills l (whole Blank n ∷ ts) text ≡ fills l ts (drop n text)
 unfolding whole ends_default level_behind
-blank_fill l n ts text = quiet_fill l (whole Blank n) ts text refl refl
+blank_fill l n ts text = inert_fill l (whole Blank n) ts text refl refl
 
 line_fill : (l : ℕ) (ts : List Token) (text : List ℕ) → fills l (whole LineEnd 1 ∷ ts) text ≡ fills l ts (drop 1 text)
 unfolding whole ends_default level_behind
-line_fill l ts text = quiet_fill l (whole LineEnd 1) ts text refl refl
+line_fill l ts text = inert_fill l (whole LineEnd 1) ts text refl refl
 
 -- whether a text fills a level up
 abbrev fills_text : ℕ → List ℕ → Bool
@@ -160,10 +160,10 @@ by_texts (t ∷ ts) l text some =
     ∙ ap (λ x. first && x) (by_texts ts (level_behind t.kind l) (drop t.len text) some.1)
 
 -- a `//` comment does neither
-comment_quiet : (k : Kind) (l b : ℕ) → is_line_comment k ≡ true → (ends_default k b ≡ false) × (level_behind k l ≡ l)
+comment_inert : (k : Kind) (l b : ℕ) → is_line_comment k ≡ true → (ends_default k b ≡ false) × (level_behind k l ≡ l)
 unfolding is_line_comment ends_default level_behind
-comment_quiet LineComment l b h = (refl, refl)
-comment_quiet _ l b h = absurd (false≢true h)
+comment_inert LineComment l b h = (refl, refl)
+comment_inert _ l b h = absurd (false≢true h)
 
 others_fill : (ts : List Token) (l : ℕ) (text : List ℕ) → fills_by l (other_tokens ts) (other_texts ts text) ≡ fills_by l ts (token_texts ts text)
 unfolding other_tokens other_texts token_texts fills_by
@@ -176,7 +176,7 @@ others_fill (t ∷ ts) l text =
     let first : Bool = not (eqb l 0 && ends_default t.kind (get_or own 0 0)) in
     let P : Bool → Type 0 = λ c. is_line_comment t.kind ≡ c → fills_by l (cond (not c) (t ∷ kept) kept) (cond c texts (own ∷ texts)) ≡ (first && fills_by (level_behind t.kind l) ts all) in
     let at_comment : P true = λ h.
-    let q = comment_quiet t.kind l (get_or own 0 0) h in
+    let q = comment_inert t.kind l (get_or own 0 0) h in
     others_fill ts l (drop t.len text)
     ∙ sym (ap (λ b. not b && fills_by (level_behind t.kind l) ts all) (and_right (eqb l 0) _ q.0) ∙ ap (λ n. fills_by n ts all) q.1) in
     let at_other : P false = λ _. ap (λ x. first && x) (others_fill ts (level_behind t.kind l) (drop t.len text)) in

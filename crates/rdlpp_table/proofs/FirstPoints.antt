@@ -3,7 +3,7 @@ use Rattle.std.proofs.Common.{◌≡◌, ℕ, zero, suc, ◌+◌, ◌-◌, ◌<�
 use Rattle.std.specs.List.{prefix_len}
 use Rattle.std.proofs.lemmas.Bool.{cases_Bool, false≢true, cond-false, cond-true}
 use Rattle.std.proofs.lemmas.List.{drop_more, take_more_set, drop-replicate, nil_from_length}
-use Rattle.rdlpp_scan.specs.Bytes.{is_blank, is_digit, is_letter, is_quiet, is_word}
+use Rattle.rdlpp_scan.specs.Bytes.{is_blank, is_digit, is_letter, is_inert, is_word}
 use Rattle.rdlpp_scan.proofs.StopKinds.{AtBack, AtBare, AtBlockComment, AtLineComment, AtPerl, AtPlain, AtString, Row, letter_token, token_of-row}
 use Rattle.rdlpp_scan.specs.declared.token.Kind.{Kind}
 use Rattle.rdlpp_scan.specs.declared.token.Kind.TheVariants.{Name, Word, Back, Blank, LineEnd, Str, LineComment, BlockComment, Opener, Closer, Comma, Other, Perl, BareBackquote}
@@ -12,7 +12,7 @@ use Rattle.rdlpp_scan.specs.declared.token.Mode.TheVariants.{Plain}
 use Rattle.rdlpp_scan.specs.declared.token.Token.{Token}
 use Rattle.rdlpp_scan.specs.Tokens.{token_of, tokens_from, whole}
 use Rattle.rdlpp_scan.proofs.CleanTexts.{blank-step}
-use Rattle.rdlpp_scan.proofs.OrdinaryLaws.{is_still, quiet_first, IsQuietToken}
+use Rattle.rdlpp_scan.proofs.OrdinaryLaws.{is_still, inert_first, IsInertToken}
 use Rattle.rdlpp_scan.proofs.TokenLens.{tokens_from-step, token_of-part}
 use Rattle.rdlpp_table.specs.declared.point.ExpansionPoint.{ExpansionPoint}
 use Rattle.rdlpp_table.specs.Table.{Formal, Macro}
@@ -133,11 +133,11 @@ blank_token : (formals : List Formal) (at b : ℕ) (bs : List ℕ) → is_blank 
 unfolding next_expansion_point point_at or_point whole
 blank_token formals at b bs h = ap (λ (ts : List Token). next_expansion_point formals at ts (b ∷ bs)) (blank-step b bs h)
 
--- a quiet byte that isn't a blank is passed
-quiet_mark : (formals : List Formal) (at b : ℕ) (bs : List ℕ) → IsQuietToken (token_of Plain (b ∷ bs))
+-- an inert byte that isn't a blank is passed
+inert_mark : (formals : List Formal) (at b : ℕ) (bs : List ℕ) → IsInertToken (token_of Plain (b ∷ bs))
     → next_expansion_point formals at (tokens_from Plain 0 (b ∷ bs)) (b ∷ bs) ≡ next_expansion_point formals (at + 1) (tokens_from Plain 0 bs) bs
 unfolding is_still
-quiet_mark formals at b bs q =
+inert_mark formals at b bs q =
     let t = token_of Plain (b ∷ bs) in
     let some : 0 < length (b ∷ bs) = omega arith in
     let none : is_none (point_at formals at t (take t.len (b ∷ bs))) ≡ true = still_passed formals at t.len t.kind t.next_mode (take t.len (b ∷ bs)) q.still in
@@ -159,39 +159,39 @@ blank_run formals at (b ∷ bs) =
     (λ h. here ∙ ap F (sym (prefix_none is_blank b bs h)))
     (cases_Bool (is_blank b))
 
--- a quiet byte is passed
-pub quiet_one : (formals : List Formal) (at b : ℕ) (bs : List ℕ) → is_quiet b ≡ true
+-- an inert byte is passed
+pub inert_one : (formals : List Formal) (at b : ℕ) (bs : List ℕ) → is_inert b ≡ true
     → next_expansion_point formals at (tokens_from Plain 0 (b ∷ bs)) (b ∷ bs) ≡ next_expansion_point formals (at + 1) (tokens_from Plain 0 bs) bs
-quiet_one formals at b bs q =
+inert_one formals at b bs q =
     let k = prefix_len is_blank bs in
     ⊎_elim
     (λ h. blank_token formals at b bs h
     ∙ (ap (λ (n : ℕ). next_expansion_point formals (at + n) (tokens_from Plain 0 (drop n (b ∷ bs))) (drop n (b ∷ bs))) (prefix_more is_blank b bs h)
     ∙ (ap (λ (n : ℕ). next_expansion_point formals n (tokens_from Plain 0 (drop k bs)) (drop k bs)) (omega arith)
     ∙ sym (blank_run formals (at + 1) bs))))
-    (λ h. quiet_mark formals at b bs (quiet_first b bs q h))
+    (λ h. inert_mark formals at b bs (inert_first b bs q h))
     (cases_Bool (is_blank b))
 
--- quiet bytes are passed
-quiet_some : (formals : List Formal) (at n : ℕ) (bs : List ℕ) → n ≤ prefix_len is_quiet bs
+-- inert bytes are passed
+inert_some : (formals : List Formal) (at n : ℕ) (bs : List ℕ) → n ≤ prefix_len is_inert bs
     → next_expansion_point formals (at + n) (tokens_from Plain 0 (drop n bs)) (drop n bs) ≡ next_expansion_point formals at (tokens_from Plain 0 bs) bs
-quiet_some formals at zero bs h = ap (λ (m : ℕ). next_expansion_point formals m (tokens_from Plain 0 bs) bs) (omega arith)
-quiet_some formals at (suc n) [] h = absurd (omega arith)
-quiet_some formals at (suc n) (b ∷ bs) h =
+inert_some formals at zero bs h = ap (λ (m : ℕ). next_expansion_point formals m (tokens_from Plain 0 bs) bs) (omega arith)
+inert_some formals at (suc n) [] h = absurd (omega arith)
+inert_some formals at (suc n) (b ∷ bs) h =
     ⊎_elim
     (λ q. ap (λ (m : ℕ). next_expansion_point formals m (tokens_from Plain 0 (drop n bs)) (drop n bs)) (omega arith)
-    ∙ (quiet_some formals (at + 1) n bs (omega (arith, prefix_more is_quiet b bs q)) ∙ sym (quiet_one formals at b bs q)))
-    (λ q. absurd (omega (arith, prefix_none is_quiet b bs q)))
-    (cases_Bool (is_quiet b))
+    ∙ (inert_some formals (at + 1) n bs (omega (arith, prefix_more is_inert b bs q)) ∙ sym (inert_one formals at b bs q)))
+    (λ q. absurd (omega (arith, prefix_none is_inert b bs q)))
+    (cases_Bool (is_inert b))
 
-pub stopping_quiet : (formals : List Formal) (from : ℕ) (text : List ℕ) (mode : Mode) (at n : ℕ) (rest : List ℕ) → IsStopping formals from text mode at rest → mode ≡ Plain → n ≤ prefix_len is_quiet rest → n ≤ length rest
+pub stopping_inert : (formals : List Formal) (from : ℕ) (text : List ℕ) (mode : Mode) (at n : ℕ) (rest : List ℕ) → IsStopping formals from text mode at rest → mode ≡ Plain → n ≤ prefix_len is_inert rest → n ≤ length rest
     → IsStopping formals from text mode (at + n) (take (length rest - n) (drop n rest))
-stopping_quiet formals from text mode at n rest i plain h le =
+stopping_inert formals from text mode at n rest i plain h le =
     let e : take (length rest - n) (drop n rest) ≡ drop n rest = take_all (length rest - n) (drop n rest) (omega (arith, length-drop n rest)) in
     let here : next_expansion_point formals at (tokens_from Plain 0 rest) rest ≡ next_expansion_point formals at (tokens_from mode 0 rest) rest = ap (λ (m : Mode). next_expansion_point formals at (tokens_from m 0 rest) rest) (sym plain) in
     record {
       same = ap (λ (m : Mode). next_expansion_point formals (at + n) (tokens_from m 0 (take (length rest - n) (drop n rest))) (take (length rest - n) (drop n rest))) plain
-          ∙ (ap (λ (r : List ℕ). next_expansion_point formals (at + n) (tokens_from Plain 0 r) r) e ∙ (quiet_some formals at n rest h ∙ (here ∙ i.same)));
+          ∙ (ap (λ (r : List ℕ). next_expansion_point formals (at + n) (tokens_from Plain 0 r) r) e ∙ (inert_some formals at n rest h ∙ (here ∙ i.same)));
       place = omega (arith, ap length e, length-drop n rest, i.place, le);
     }
 

@@ -2,7 +2,7 @@
 -- A definition that names no source is this project's own.
 use Rattle.std.specs.Prelude.{ℕ, zero, suc, ◌+◌, ◌-◌, Bool, nat_le, nat_lt, not, if◌then◌else◌, ◌&&◌, ◌||◌, ◌==◌, List, [], ◌∷◌, length, slice_index, take, drop, Option, Some, None}
 use Rattle.std.specs.List.{prefix_len}
-use Rattle.rdlpp_scan.specs.Bytes.{is_quiet, is_word}
+use Rattle.rdlpp_scan.specs.Bytes.{is_inert, is_word}
 use Rattle.rdlpp_scan.specs.LexFaults.{is_calm}
 use Rattle.rdlpp_table.specs.declared.point_cache.PointCache.{PointCache}
 use Rattle.rdlpp_table.specs.declared.point_cache.PackedPoint.{PackedPoint}
@@ -80,9 +80,9 @@ unfoldable pub cached_points : List Formal → List ℕ → PointCache
 cached_points formals text = record { all = points_behind 10 formals text 0 }
 
 -- whether it is known that no token goes on at a place of a text that is read from another one on, behind calm bytes: it is that place,
--- or a quiet byte stands before it
+-- or an inert byte stands before it
 unfoldable pub is_cut : List ℕ → ℕ → ℕ → Bool
-is_cut text start from = from == start || is_quiet (slice_index text (from - 1))
+is_cut text start from = from == start || is_inert (slice_index text (from - 1))
 
 -- the first expansion point of a range of a text, behind whose front no token goes on, where the one that is kept as the first one from a place on
 -- tells it, behind which so many bytes are calm: that one, where it lies in the range, or the range goes up to the end; none, where it

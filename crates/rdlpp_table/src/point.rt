@@ -1,7 +1,7 @@
 // Where the text of a body isn't copied as it stands.
 ghost use Rattle.std.specs.Prelude.{[], length, slice_index, slice_index_or, true, ◌+◌, ◌<◌, ◌≡◌, ◌≤◌, ◌^◌};
 ghost use Rattle.std.specs.List.{prefix_len};
-ghost use Rattle.rdlpp_scan.specs.Bytes.{is_quiet};
+ghost use Rattle.rdlpp_scan.specs.Bytes.{is_inert};
 ghost use Rattle.rdlpp_scan.specs.Tokens.{token_of};
 ghost use Rattle.rdlpp_scan.specs.declared.token.Mode.TheVariants.{Plain};
 ghost use Rattle.rdlpp_table.specs.Shapes.{AreShapes, shape};
@@ -11,7 +11,7 @@ ghost use Rattle.rdlpp_table.specs.Store.{formals_read, IsListed};
 
 use crate::marks::{Listed, place_of};
 use crate::stored::shape;
-use rdlpp_scan::{Kind, Mode, Token, first_token, is_letter, quiet_bytes, word_bytes};
+use rdlpp_scan::{Kind, Mode, Token, first_token, is_letter, inert_bytes, word_bytes};
 
 /// The first place of a range of a body that isn't copied as it stands.
 ///
@@ -81,15 +81,15 @@ fn point_at(formals: &Listed, shapes: &[bool], at: usize, token: Token, text: &[
     }
 }
 
-// How many quiet bytes plain text begins with: none of them is an expansion point, whatever tokens they are.
+// How many inert bytes plain text begins with: none of them is an expansion point, whatever tokens they are.
 #[inline(always)]
-fn quiet_len(mode: Mode, text: &[u8]) -> usize
+fn inert_len(mode: Mode, text: &[u8]) -> usize
     ensures plain { 0 < result → mode ≡ Plain }
-    ensures quiet { result ≤ prefix_len is_quiet text.now }
+    ensures inert { result ≤ prefix_len is_inert text.now }
     ensures inside { result ≤ length text.now }
 {
     match mode {
-        Mode::Plain => quiet_bytes(text),
+        Mode::Plain => inert_bytes(text),
         _ => 0,
     }
 }
@@ -140,10 +140,10 @@ pub(crate) fn next_expansion_point(formals: &Listed, shapes: &[bool], text: &[u8
     let mut rest = text;
     let mut at = from;
     while !rest.is_empty() {
-        let quiet = quiet_len(mode, rest);
-        if quiet > 0 {
-            at += quiet;
-            rest = &rest[quiet..];
+        let inert = inert_len(mode, rest);
+        if inert > 0 {
+            at += inert;
+            rest = &rest[inert..];
             continue;
         }
         let token = token_in_body(mode, rest);

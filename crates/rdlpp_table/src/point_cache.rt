@@ -24,7 +24,7 @@ ghost use Rattle.rdlpp_table.specs.Table.{Formal};
 
 use crate::marks::{Listed, shapes};
 use crate::point::{ExpansionPoint, next_expansion_point};
-use rdlpp_scan::{calm_bytes, quiet_bytes, word_bytes};
+use rdlpp_scan::{calm_bytes, inert_bytes, word_bytes};
 
 // What an expansion point is that is kept: unknown, where its numbers are too large.
 #[derive(Clone, Copy, Drop)]
@@ -201,14 +201,14 @@ pub(crate) fn cached_points(formals: &Listed, body: &[u8]) -> PointCache
 }
 
 // Whether it is known that no token goes on at a place of a body that is read from another one on, behind calm bytes: it is that place,
-// or a quiet byte stands before it.
+// or an inert byte stands before it.
 #[tactic(auto, unfolding(crate::specs::PointCache::is_cut))]
 fn is_cut(body: &[u8], start: usize, from: usize) -> bool
     requires order { start ≤ from }
     requires inside { from ≤ length body.now }
     ensures { result ≡ is_cut body.now start from }
 {
-    from == start || quiet_bytes(&body[from - 1..from]) == 1
+    from == start || inert_bytes(&body[from - 1..from]) == 1
 }
 
 // Whether a word may go on at a place of a body.

@@ -584,9 +584,9 @@ run_mark b bs back quote slash digit =
     taken = ap (λ (t : Bool). whole Word (cond t (prefix_len is_word (b ∷ bs)) (suc (prefix_len is_word bs)))) digit
 
 -- each such byte is copied
-quiet_step : (b : ℕ) (bs : List ℕ) → (b == 96) ≡ false → (b == 34) ≡ false → (b == 47) ≡ false → run (b ∷ bs) ≡ 1 + run bs
+inert_step : (b : ℕ) (bs : List ℕ) → (b == 96) ≡ false → (b == 34) ≡ false → (b == 47) ≡ false → run (b ∷ bs) ≡ 1 + run bs
 unfolding is_word kind_of plain_kind
-quiet_step b bs back quote slash = elim (cases_Bool (is_word b)) [
+inert_step b bs back quote slash = elim (cases_Bool (is_word b)) [
   | inl w ↦ run_step is_word run_word b bs w
   | inr w ↦ elim (cases_Bool (is_blank b)) [
     | inl h ↦ run_step is_blank run_blank b bs h
@@ -599,14 +599,14 @@ quiet_step b bs back quote slash = elim (cases_Bool (is_word b)) [
 ]
 
 -- and so are all in front of a backquote
-quiet_run : (bs : List ℕ) (n : ℕ) → n ≤ length bs
+inert_run : (bs : List ℕ) (n : ℕ) → n ≤ length bs
     → ((i : ℕ) → i < n → ((get_or bs i 0 == 96) ≡ false) × ((get_or bs i 0 == 34) ≡ false) × ((get_or bs i 0 == 47) ≡ false)) → run bs ≡ n + run (drop n bs)
-quiet_run bs zero few quiet = omega arith
-quiet_run [] (suc n) few quiet = absurd (omega (arith, few))
-quiet_run (b ∷ bs) (suc n) few quiet =
-    let q = quiet 0 (omega arith) in
-    let first : run (b ∷ bs) ≡ 1 + run bs = quiet_step b bs q.0 q.1 q.2 in
-    let rest : run bs ≡ n + run (drop n bs) = quiet_run bs n (omega (arith, few)) (λ i h. quiet (suc i) (omega (arith, h))) in
+inert_run bs zero few inert = omega arith
+inert_run [] (suc n) few inert = absurd (omega (arith, few))
+inert_run (b ∷ bs) (suc n) few inert =
+    let q = inert 0 (omega arith) in
+    let first : run (b ∷ bs) ≡ 1 + run bs = inert_step b bs q.0 q.1 q.2 in
+    let rest : run bs ≡ n + run (drop n bs) = inert_run bs n (omega (arith, few)) (λ i h. inert (suc i) (omega (arith, h))) in
     omega (arith, first, rest)
 
 -- a text that begins with a backquote begins with a usage or a lone backquote
@@ -618,9 +618,9 @@ back_first bs e =
     ∙ cond_both (is_letter (get_or bs 1 0)) Back BareBackquote (λ (k : Kind). is_back k ≡ true) (λ _. refl) (λ _. refl)
 
 -- the bytes in front of a place at or before the first backquote, where neither `"` nor `/` stands before it
-quiet_before : (text : List ℕ) (at k : ℕ) → IsFirstByte (is_byte 96) text (Some at) → k ≤ at → ((i : ℕ) → i < k → is_byte2 34 47 (get_or (take at text) i 0) ≡ true → ⊥)
+inert_before : (text : List ℕ) (at k : ℕ) → IsFirstByte (is_byte 96) text (Some at) → k ≤ at → ((i : ℕ) → i < k → is_byte2 34 47 (get_or (take at text) i 0) ≡ true → ⊥)
     → (i : ℕ) → i < k → ((get_or text i 0 == 96) ≡ false) × ((get_or text i 0 == 34) ≡ false) × ((get_or text i 0 == 47) ≡ false)
-quiet_before text at k first few h i l =
+inert_before text at k first few h i l =
     let same : get_or (take at text) i 0 ≡ get_or text i 0 = get_or-take at text i 0 (omega (arith, l, few)) in
     let back = false_from_ne_true (get_or text i 0 == 96) (λ b. first.0.before i (omega arith) (omega (arith, l, few)) b) in
     let marks = false_from_ne_true (get_or text i 0 == 34 || get_or text i 0 == 47) (λ b. h i l (ap (λ (n : ℕ). n == 34 || n == 47) same ∙ b)) in
@@ -635,8 +635,8 @@ run_found text at (Some k) first e h = absurd (cc)
 run_found text at None first e h =
     let inside : at < length text = first.0.high in
     let size : length (take at text) ≡ at = length-take-le at text (omega arith) in
-    let quiet = quiet_before text at at first (omega arith) (λ i l. h i (omega arith) (omega (arith, size, l))) in
-    let whole : at + run (drop at text) ≡ run text = sym (quiet_run text at (omega arith) quiet) in
+    let inert = inert_before text at at first (omega arith) (λ i l. h i (omega arith) (omega (arith, size, l))) in
+    let whole : at + run (drop at text) ≡ run text = sym (inert_run text at (omega arith) inert) in
     let zero_behind : at + 0 ≡ at = omega arith in
     let here : get_or (drop at text) 0 0 ≡ 96 = get_or-drop at text 0 0 ∙ ap (λ (k : ℕ). get_or text k 0) zero_behind ∙ eqb-true (get_or text at 0) 96 first.1 in
     running-point text Plain at (token_of Plain (drop at text)) (record { inside = omega arith; same = whole }) inside refl (back_first (drop at text) here)
@@ -651,5 +651,5 @@ run_behind text at near (Some k) first e h =
     let inside : at < length text = first.0.high in
     let size : length (take at text) ≡ at = length-take-le at text (omega arith) in
     let few : near < at = omega (arith, same, size, h.0.high) in
-    let quiet = quiet_before text at near first (omega (arith, few)) (λ i l. h.0.before i (omega arith) (omega (arith, same, l))) in
-    (omega (arith, few, inside), quiet_run text near (omega (arith, few, inside)) quiet)
+    let inert = inert_before text at near first (omega (arith, few)) (λ i l. h.0.before i (omega arith) (omega (arith, same, l))) in
+    (omega (arith, few, inside), inert_run text near (omega (arith, few, inside)) inert)

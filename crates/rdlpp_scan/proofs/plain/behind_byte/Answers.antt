@@ -1,6 +1,6 @@
 use Rattle.std.proofs.Common.{rules, ◌+◌, ◌∙◌, ap, arith}
 use Rattle.rdlpp_scan.proofs.SourceLaws.{line_ends-most}
-use Rattle.rdlpp_scan.proofs.TokenLens.{quiet_through}
+use Rattle.rdlpp_scan.proofs.TokenLens.{inert_through}
 use Rattle.rdlpp_scan.proofs.plain.behind_byte.Goals as goal
 
 pub overflow_add-result-2 : goal.overflow_add-result-2
@@ -15,6 +15,6 @@ overflow_add-result-2 c =
 pub returns-clause-passed : goal.returns-clause-passed
 returns-clause-passed c = record {
   inside = omega (arith, c.requires.some);
-  plain = quiet_through c.args.bytes.now c.args.run.len c.requires.passed.plain c.requires.goes_on;
+  plain = inert_through c.args.bytes.now c.args.run.len c.requires.passed.plain c.requires.goes_on;
   ends = ap (λ n. n + c.line_end_at.result) c.requires.passed.ends ∙ c.line_end_at.ensures;
 }

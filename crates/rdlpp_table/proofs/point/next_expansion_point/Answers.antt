@@ -1,7 +1,7 @@
 use Rattle.std.proofs.Common.{◌∙◌, ◌<◌, ap, length, arith, sym, eqb-true}
 use Rattle.rdlpp_table.specs.PointCache.{point_end}
 use Rattle.rdlpp_table.specs.Store.{formals_read}
-use Rattle.rdlpp_table.proofs.FirstPoints.{none_end, token_end, stopping_ended, stopping_found, stopping_more, stopping_quiet, stopping_start}
+use Rattle.rdlpp_table.proofs.FirstPoints.{none_end, token_end, stopping_ended, stopping_found, stopping_more, stopping_inert, stopping_start}
 use Rattle.rdlpp_table.proofs.point.next_expansion_point.Goals as goal
 
 pub loop-rest-init : goal.loop-rest-init
@@ -28,6 +28,6 @@ returns-clause-value c = stopping_ended _ _ _ _ _ _ c.loop-rest.invariant (eqb-t
 pub returns-clause-end : goal.returns-clause-end
 returns-clause-end c = omega (arith, none_end)
 
-pub loop-rest-preserved-then-quiet-gt0 : goal.loop-rest-preserved-then-quiet-gt0
-loop-rest-preserved-then-quiet-gt0 c =
-    stopping_quiet _ _ _ _ _ _ _ c.loop-rest.invariant (c.quiet_len-quiet.ensures.plain c.if-quiet-gt0.true) c.quiet_len-quiet.ensures.quiet c.quiet_len-quiet.ensures.inside
+pub loop-rest-preserved-then-inert-gt0 : goal.loop-rest-preserved-then-inert-gt0
+loop-rest-preserved-then-inert-gt0 c =
+    stopping_inert _ _ _ _ _ _ _ c.loop-rest.invariant (c.inert_len-inert.ensures.plain c.if-inert-gt0.true) c.inert_len-inert.ensures.inert c.inert_len-inert.ensures.inside
