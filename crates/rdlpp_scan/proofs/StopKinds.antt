@@ -1,10 +1,10 @@
--- Which token stands at the front of a text: by its first bytes, by its parts, and behind calm bytes.
+-- Which token stands at the front of a text: by its first bytes, by its parts, and behind plain argument bytes.
 use Rattle.std.proofs.Common.{◌≡◌, ℕ, suc, ◌+◌, ◌<◌, ◌≤◌, Bool, true, false, cond, ◌||◌, ◌&&◌, eqb, List, [], ◌∷◌, ◌++◌, length, get_or, refl, sym, ap, ◌∙◌, subst, inl, inr, ⊎_elim, arith, ltb, drop, Option, eqb-true, append-nil}
 use Rattle.std.specs.List.{prefix_len}
 use Rattle.std.proofs.lemmas.Bool.{and_parts, cases_Bool, cond_both, false_from_ne_true, false≢true, or_cases, or_from, or_parts}
 use Rattle.std.proofs.lemmas.List.Sums.{prefix_len-le-length}
 use Rattle.rdlpp_scan.specs.Bytes.{begins_block_comment, begins_line_comment, begins_perl, ends_block_comment, is_blank, is_closer, is_digit, is_letter, is_line_end, is_opener, is_word, takes_word}
-use Rattle.rdlpp_scan.specs.LexFaults.{calm_len, fault_of_tokens, is_calm, is_perl}
+use Rattle.rdlpp_scan.specs.LexFaults.{plain_argument_len, fault_of_tokens, is_plain_argument, is_perl}
 use Rattle.rdlpp_scan.specs.Lines.{IsWholeLines}
 use Rattle.rdlpp_scan.specs.Ordinary.{IsEdge, is_plain_kind}
 use Rattle.rdlpp_scan.specs.TokenKinds.{is_one_byte, opens_mode}
@@ -638,17 +638,17 @@ run_one class b bs h =
 first_passed : (class : ℕ → Bool) → ((bs : List ℕ) → fault bs ≡ fault (drop (prefix_len class bs) bs)) → (b : ℕ) (bs : List ℕ) → class b ≡ true → fault (b ∷ bs) ≡ fault bs
 first_passed class passed b bs h = passed (b ∷ bs) ∙ ap fault (run_one class b bs h) ∙ sym (passed bs)
 
--- a byte that isn't calm
-pub no_calm : (b n : ℕ) → is_calm b ≡ true → is_calm n ≡ false → eqb b n ≡ true → ⊥
-no_calm b n s f e = false≢true (sym f ∙ subst (λ (k : ℕ). is_calm k ≡ true) (eqb-true b n e) s)
+-- a byte that isn't plain argument
+pub no_plain_argument : (b n : ℕ) → is_plain_argument b ≡ true → is_plain_argument n ≡ false → eqb b n ≡ true → ⊥
+no_plain_argument b n s f e = false≢true (sym f ∙ subst (λ (k : ℕ). is_plain_argument k ≡ true) (eqb-true b n e) s)
 
 pub both_first : (p q : Bool) → (p && q) ≡ true → p ≡ true
 both_first true q h = refl
 both_first false q h = absurd (false≢true h)
 
--- a calm byte is passed
-byte_passed : (b : ℕ) (bs : List ℕ) → is_calm b ≡ true → fault (b ∷ bs) ≡ fault bs
-unfolding token_of plain_token whole is_perl begins_perl begins_line_comment begins_block_comment is_calm
+-- a plain argument byte is passed
+byte_passed : (b : ℕ) (bs : List ℕ) → is_plain_argument b ≡ true → fault (b ∷ bs) ≡ fault bs
+unfolding token_of plain_token whole is_perl begins_perl begins_line_comment begins_block_comment is_plain_argument
 byte_passed b bs s =
     let T = b ∷ bs in
     let c = get_or T 1 0 in
@@ -656,12 +656,12 @@ byte_passed b bs s =
     let one : (k : Kind) → is_perl k ≡ false → P (whole k 1) = λ k still e. turn T k 1 (omega arith) e still in
     let taken : (k : Kind) → is_perl k ≡ false → P (whole k (suc (prefix_len is_word bs))) = λ k still e. turn T k _ (omega arith) e still ∙ sym (word_passed bs) in
     let by : P (token_of Plain T) =
-    cond_both (begins_perl T) _ _ P (λ h. absurd (no_calm b 60 s refl (both_first _ _ h))) (λ _.
+    cond_both (begins_perl T) _ _ P (λ h. absurd (no_plain_argument b 60 s refl (both_first _ _ h))) (λ _.
     cond_both (is_line_end b) _ _ P (λ _. one LineEnd refl) (λ _.
     cond_both (is_blank b) _ _ P (λ h _. first_passed is_blank blanks_passed b bs h) (λ _.
-    cond_both (begins_line_comment T) _ _ P (λ h. absurd (no_calm b 47 s refl (both_first _ _ h))) (λ _.
-    cond_both (begins_block_comment T) _ _ P (λ h. absurd (no_calm b 47 s refl (both_first _ _ h))) (λ _.
-    cond_both (eqb b 34) _ _ P (λ h. absurd (no_calm b 34 s refl h)) (λ _.
+    cond_both (begins_line_comment T) _ _ P (λ h. absurd (no_plain_argument b 47 s refl (both_first _ _ h))) (λ _.
+    cond_both (begins_block_comment T) _ _ P (λ h. absurd (no_plain_argument b 47 s refl (both_first _ _ h))) (λ _.
+    cond_both (eqb b 34) _ _ P (λ h. absurd (no_plain_argument b 34 s refl h)) (λ _.
     cond_both (is_letter b) _ _ P (λ h _. first_passed is_word word_passed b bs (is_word-letter b h)) (λ _.
     cond_both (is_digit b) _ _ P (λ h _. first_passed is_word word_passed b bs (is_word-digit b h)) (λ _.
     cond_both (takes_word b && is_word c) _ _ P (λ _. taken Word refl) (λ _.
@@ -672,19 +672,19 @@ byte_passed b bs s =
     cond_both (eqb b 44) _ _ P (λ _. one Comma refl) (λ _. one Other refl)))))))))))))) in
     by refl
 
--- calm bytes are passed
-calm_run : (bs : List ℕ) → fault bs ≡ fault (drop (prefix_len is_calm bs) bs)
-calm_run [] = refl
-calm_run (b ∷ bs) = elim (cases_Bool (is_calm b)) [
-  | inl s ↦ byte_passed b bs s ∙ calm_run bs ∙ ap fault (sym (run_one is_calm b bs s))
+-- plain argument bytes are passed
+plain_argument_run : (bs : List ℕ) → fault bs ≡ fault (drop (prefix_len is_plain_argument bs) bs)
+plain_argument_run [] = refl
+plain_argument_run (b ∷ bs) = elim (cases_Bool (is_plain_argument b)) [
+  | inl s ↦ byte_passed b bs s ∙ plain_argument_run bs ∙ ap fault (sym (run_one is_plain_argument b bs s))
   | inr s ↦
-      let none : prefix_len is_calm (b ∷ bs) ≡ 0 = ap (λ (t : Bool). cond t (1 + prefix_len is_calm bs) 0) s in
+      let none : prefix_len is_plain_argument (b ∷ bs) ≡ 0 = ap (λ (t : Bool). cond t (1 + prefix_len is_plain_argument bs) 0) s in
       ap (λ (k : ℕ). fault (drop k (b ∷ bs))) (sym none)
 ]
 
--- in each mode the first fault of a text is that behind its calm bytes
-pub calm_passed : (mode : Mode) (bs : List ℕ) → fault_of_tokens mode (tokens_from mode 0 bs) ≡ fault_of_tokens mode (tokens_from mode 0 (drop (calm_len mode bs) bs))
-unfolding calm_len fault
-calm_passed Plain bs = calm_run bs
-calm_passed InStr bs = refl
-calm_passed InBlock bs = refl
+-- in each mode the first fault of a text is that behind its plain argument bytes
+pub plain_argument_passed : (mode : Mode) (bs : List ℕ) → fault_of_tokens mode (tokens_from mode 0 bs) ≡ fault_of_tokens mode (tokens_from mode 0 (drop (plain_argument_len mode bs) bs))
+unfolding plain_argument_len fault
+plain_argument_passed Plain bs = plain_argument_run bs
+plain_argument_passed InStr bs = refl
+plain_argument_passed InBlock bs = refl

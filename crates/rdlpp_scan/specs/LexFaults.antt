@@ -32,10 +32,10 @@ unfoldable pub lex_fault_from : Mode → List ℕ → Option LexFault
 lex_fault_from mode bytes = fault_of_tokens mode (tokens_from mode 0 bytes)
 
 -- a byte that begins no string, no comment and no `<%`, whatever stands behind it
-unfoldable pub is_calm : ℕ → Bool
-is_calm b = not (b == 34 || b == 47 || b == 60)
+unfoldable pub is_plain_argument : ℕ → Bool
+is_plain_argument b = not (b == 34 || b == 47 || b == 60)
 
 -- how many such bytes stand at the front of a text from a mode on: none in a string or a block comment
-unfoldable pub calm_len : Mode → List ℕ → ℕ
-calm_len Plain bytes = prefix_len is_calm bytes
-calm_len mode bytes = 0
+unfoldable pub plain_argument_len : Mode → List ℕ → ℕ
+plain_argument_len Plain bytes = prefix_len is_plain_argument bytes
+plain_argument_len mode bytes = 0

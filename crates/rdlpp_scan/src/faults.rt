@@ -1,7 +1,7 @@
 // What is wrong with a whole text, as tokens.
 ghost use Rattle.std.specs.Prelude.{length, ◌≡◌, ◌≤◌};
 ghost use Rattle.std.specs.List.{prefix_len};
-ghost use Rattle.rdlpp_scan.specs.LexFaults.{calm_len, is_calm, is_perl, lex_fault_from, open_fault};
+ghost use Rattle.rdlpp_scan.specs.LexFaults.{plain_argument_len, is_plain_argument, is_perl, lex_fault_from, open_fault};
 ghost use Rattle.rdlpp_scan.specs.declared.token.Mode.TheVariants.{Plain};
 
 use crate::scan::first_token;
@@ -15,9 +15,10 @@ use memchr::memchr3;
 pub fn lex_fault(bytes: &[u8]) -> Option<LexFault>
     ensures { result ≡ lex_fault_from Plain bytes.now }
 {
-    // Whatever tokens calm bytes are, none of them has a fault: one search finds where the next string, comment or `<%` may begin.
+    // Whatever tokens plain argument bytes are, none of them has a fault: one search finds where the next string, comment or `<%`
+    // may begin.
     let mut mode = Mode::Plain;
-    let mut at = calm_bytes(bytes);
+    let mut at = plain_argument_bytes(bytes);
     while at < bytes.len() {
         let token = first_token(mode, &bytes[at..]);
         if is_perl(token.kind) {
@@ -25,28 +26,29 @@ pub fn lex_fault(bytes: &[u8]) -> Option<LexFault>
         }
         mode = token.next_mode;
         at += token.len;
-        at += calm_len(mode, &bytes[at..]);
+        at += plain_argument_len(mode, &bytes[at..]);
     }
     open_fault(mode)
 }
 
-// How many calm bytes stand at the front of a text from a mode on.
-#[tactic(auto, unfolding(crate::specs::LexFaults::calm_len))]
-fn calm_len(mode: Mode, bytes: &[u8]) -> usize
-    ensures value { result ≡ calm_len mode bytes.now }
+// How many plain argument bytes stand at the front of a text from a mode on.
+#[tactic(auto, unfolding(crate::specs::LexFaults::plain_argument_len))]
+fn plain_argument_len(mode: Mode, bytes: &[u8]) -> usize
+    ensures value { result ≡ plain_argument_len mode bytes.now }
     ensures inside { result ≤ length bytes.now }
 {
     match mode {
-        Mode::Plain => calm_bytes(bytes),
+        Mode::Plain => plain_argument_bytes(bytes),
         _ => 0,
     }
 }
 
-/// How many calm bytes a text begins with: none of them begins a string, a comment or `<%`, since it is no `"`, no `/` and no `<`.
+/// How many plain argument bytes a text begins with: none of them begins a string, a comment or `<%`, since it is no `"`, no `/`
+/// and no `<`.
 ///
 /// Costs time linear in the result.
-pub fn calm_bytes(bytes: &[u8]) -> usize
-    ensures value { result ≡ prefix_len is_calm bytes.now }
+pub fn plain_argument_bytes(bytes: &[u8]) -> usize
+    ensures value { result ≡ prefix_len is_plain_argument bytes.now }
     ensures inside { result ≤ length bytes.now }
 {
     memchr3(b'"', b'/', b'<', bytes).unwrap_or(bytes.len())

@@ -10,7 +10,7 @@ mod scan;
 mod token;
 
 pub use bytes::{byte_at, is_blank, is_letter, inert_bytes, word_bytes};
-pub use faults::{calm_bytes, is_perl, lex_fault, open_fault};
+pub use faults::{plain_argument_bytes, is_perl, lex_fault, open_fault};
 pub use lines::{last_line_end, line_ends_in, line_len, logical_line, rest_of_line};
 pub use names::{is_name, reserved};
 pub use plain::{PlainText, plain_text, plain_text_len, stops_plain_text};

@@ -372,14 +372,14 @@ run_drop p (suc n) m (x ∷ xs) h =
 
 -- an expansion point as it is kept by its numbers, where these are small enough
 abbrev pub when : Bool → PackedKind → ℕ → ℕ → ℕ → ℕ → PackedPoint
-when b kind at len place calm = if b then record { end = at + len; len = len; place = place; calm = calm; kind = kind } else endless kept.Unknown 0
+when b kind at len place plain_argument = if b then record { end = at + len; len = len; place = place; plain_argument = plain_argument; kind = kind } else endless kept.Unknown 0
 
-pub back_when : (b : Bool) (kind : PackedKind) (at len place calm : ℕ) (s : ExpansionPoint) → point_by kind at len place ≡ Some s → IfSome (point_kept (when b kind at len place calm)) (λ x. x ≡ s)
+pub back_when : (b : Bool) (kind : PackedKind) (at len place plain_argument : ℕ) (s : ExpansionPoint) → point_by kind at len place ≡ Some s → IfSome (point_kept (when b kind at len place plain_argument)) (λ x. x ≡ s)
 unfolding point_kept point_by endless
-back_when true kind at len place calm s e =
+back_when true kind at len place plain_argument s e =
     let there : at + len - len ≡ at = omega arith in
     subst (λ (x : Option ExpansionPoint). IfSome x (λ y. y ≡ s)) (sym (ap (λ (n : ℕ). point_by kind n len place) there ∙ e)) refl
-back_when false kind at len place calm s e = tt
+back_when false kind at len place plain_argument s e = tt
 
 pub none_end : point_end point.None ≡ 0
 unfolding point_end
@@ -462,7 +462,7 @@ all_points formals text points e = ap (λ (x : PointCache). x.all) e
 
 -- an expansion point without anything
 abbrev pub no_point : PackedPoint
-no_point = record { end = 0; len = 0; place = 0; calm = 0; kind = kept.Unknown }
+no_point = record { end = 0; len = 0; place = 0; plain_argument = 0; kind = kept.Unknown }
 
 -- the expansion point at a place among them is the first one from the end of the one before, and those behind it come from its own end on
 pub point_next : (formals : List Formal) (text : List ℕ) (all : List PackedPoint) (d k : PackedPoint) (i start : ℕ) → length all ≡ 10 → i < 10 → drop i all ≡ points_behind (10 - i) formals text start → k ≡ get_or all i d → (k ≡ kept_from formals text start) × (drop (i + 1) all ≡ points_behind (10 - (i + 1)) formals text k.end)

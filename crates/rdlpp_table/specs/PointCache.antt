@@ -3,7 +3,7 @@
 use Rattle.std.specs.Prelude.{ℕ, zero, suc, ◌+◌, ◌-◌, Bool, nat_le, nat_lt, not, if◌then◌else◌, ◌&&◌, ◌||◌, ◌==◌, List, [], ◌∷◌, length, slice_index, take, drop, Option, Some, None}
 use Rattle.std.specs.List.{prefix_len}
 use Rattle.rdlpp_scan.specs.Bytes.{is_inert, is_word}
-use Rattle.rdlpp_scan.specs.LexFaults.{is_calm}
+use Rattle.rdlpp_scan.specs.LexFaults.{is_plain_argument}
 use Rattle.rdlpp_table.specs.declared.point_cache.PointCache.{PointCache}
 use Rattle.rdlpp_table.specs.declared.point_cache.PackedPoint.{PackedPoint}
 use Rattle.rdlpp_table.specs.declared.point_cache.PackedKind.{PackedKind}
@@ -22,21 +22,21 @@ point_end (point.Bare at) = at + 1
 
 -- what is kept where no expansion point is known to end
 unfoldable pub endless : PackedKind → ℕ → PackedPoint
-endless kind calm = record { end = 65535; len = 0; place = 0; calm = calm; kind = kind }
+endless kind plain_argument = record { end = 65535; len = 0; place = 0; plain_argument = plain_argument; kind = kind }
 
 -- an expansion point as it is kept, by its numbers: unknown, where these are too large
 unfoldable pub placed : PackedKind → ℕ → ℕ → ℕ → ℕ → PackedPoint
-placed kind at len place calm =
+placed kind at len place plain_argument =
     if nat_lt at 65535 && (nat_lt len 256 && (nat_lt place 256 && nat_lt (at + len) 65535))
-    then record { end = at + len; len = len; place = place; calm = calm; kind = kind }
+    then record { end = at + len; len = len; place = place; plain_argument = plain_argument; kind = kind }
     else endless kept.Unknown 0
 
--- an expansion point as it is kept, with how many calm bytes stand first in its text
+-- an expansion point as it is kept, with how many plain argument bytes stand first in its text
 unfoldable pub kept_of : ExpansionPoint → ℕ → PackedPoint
-kept_of point.None calm = endless kept.None calm
-kept_of (point.Formal at len place) calm = placed kept.Formal at len place calm
-kept_of (point.Usage at len) calm = placed kept.Usage at len 0 calm
-kept_of (point.Bare at) calm = placed kept.Bare at 1 0 calm
+kept_of point.None plain_argument = endless kept.None plain_argument
+kept_of (point.Formal at len place) plain_argument = placed kept.Formal at len place plain_argument
+kept_of (point.Usage at len) plain_argument = placed kept.Usage at len 0 plain_argument
+kept_of (point.Bare at) plain_argument = placed kept.Bare at 1 0 plain_argument
 
 -- the expansion point of a kind between two places
 unfoldable pub point_by : PackedKind → ℕ → ℕ → ℕ → Option ExpansionPoint
@@ -58,12 +58,12 @@ before_point (point.Usage at len) from text = take (at - from) text
 before_point (point.Bare at) from text = take (at - from) text
 
 -- how many bytes that can begin no string, no comment and no `<%` a text begins with, as they are kept
-unfoldable pub calm_kept : List ℕ → ℕ
-calm_kept text = prefix_len is_calm (take 255 text)
+unfoldable pub plain_argument_kept : List ℕ → ℕ
+plain_argument_kept text = prefix_len is_plain_argument (take 255 text)
 
 -- an expansion point of a text that begins at a place, as it is kept
 unfoldable pub kept_point : ExpansionPoint → ℕ → List ℕ → PackedPoint
-kept_point s from text = kept_of s (calm_kept (before_point s from text))
+kept_point s from text = kept_of s (plain_argument_kept (before_point s from text))
 
 -- the first expansion point of a text from a place on, as it is kept: unknown, where the place is too far behind
 unfoldable pub kept_from : List Formal → List ℕ → ℕ → PackedPoint
@@ -79,13 +79,13 @@ points_behind (suc n) formals text from = kept_from formals text from ∷ points
 unfoldable pub cached_points : List Formal → List ℕ → PointCache
 cached_points formals text = record { all = points_behind 10 formals text 0 }
 
--- whether it is known that no token goes on at a place of a text that is read from another one on, behind calm bytes: it is that place,
+-- whether it is known that no token goes on at a place of a text that is read from another one on, behind plain argument bytes: it is that place,
 -- or an inert byte stands before it
 unfoldable pub is_cut : List ℕ → ℕ → ℕ → Bool
 is_cut text start from = from == start || is_inert (slice_index text (from - 1))
 
 -- the first expansion point of a range of a text, behind whose front no token goes on, where the one that is kept as the first one from a place on
--- tells it, behind which so many bytes are calm: that one, where it lies in the range, or the range goes up to the end; none, where it
+-- tells it, behind which so many bytes are plain argument: that one, where it lies in the range, or the range goes up to the end; none, where it
 -- begins behind the range, and no word goes on there
 unfoldable pub point_within : List ℕ → ℕ → PackedPoint → ℕ → Option ExpansionPoint
 point_within text reach k to =
@@ -96,4 +96,4 @@ point_within text reach k to =
 -- the first expansion point of a range of a text, where the one that is kept as the first one from a place on tells it
 unfoldable pub point_known : List ℕ → ℕ → PackedPoint → ℕ → ℕ → Option ExpansionPoint
 point_known text start k from to =
-    if from == start || (nat_le from (start + k.calm) && is_cut text start from) then point_within text (start + k.calm) k to else None
+    if from == start || (nat_le from (start + k.plain_argument) && is_cut text start from) then point_within text (start + k.plain_argument) k to else None

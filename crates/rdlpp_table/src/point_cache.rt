@@ -3,7 +3,7 @@ ghost use Rattle.std.specs.Prelude.{drop, length, slice_index, slice_range, IfSo
 ghost use Rattle.rdlpp_scan.specs.Bytes.{is_word};
 ghost use Rattle.rdlpp_table.specs.PointCache.{
   before_point,
-  calm_kept,
+  plain_argument_kept,
   endless,
   cached_points,
   is_cut,
@@ -24,7 +24,7 @@ ghost use Rattle.rdlpp_table.specs.Table.{Formal};
 
 use crate::marks::{Listed, shapes};
 use crate::point::{ExpansionPoint, next_expansion_point};
-use rdlpp_scan::{calm_bytes, inert_bytes, word_bytes};
+use rdlpp_scan::{plain_argument_bytes, inert_bytes, word_bytes};
 
 // What an expansion point is that is kept: unknown, where its numbers are too large.
 #[derive(Clone, Copy, Drop)]
@@ -44,8 +44,9 @@ pub(crate) struct PackedPoint {
     pub(crate) len: u8,
     // Which formal it is.
     pub(crate) place: u8,
-    // How many calm bytes stand first in the text of which it is the first expansion point, and before it: 255, where there are more.
-    pub(crate) calm: u8,
+    // How many plain argument bytes stand first in the text of which it is the first expansion point, and before it: 255, where
+    // there are more.
+    pub(crate) plain_argument: u8,
     pub(crate) kind: PackedKind,
 }
 
@@ -60,22 +61,22 @@ pub(crate) struct PointCache {
 
 // What is kept where no expansion point is known to end.
 #[tactic(auto, unfolding(crate::specs::PointCache::endless))]
-fn endless(kind: PackedKind, calm: u8) -> PackedPoint
-    ensures { result ≡ endless kind calm }
+fn endless(kind: PackedKind, plain_argument: u8) -> PackedPoint
+    ensures { result ≡ endless kind plain_argument }
 {
     PackedPoint {
         end: 65535,
         len: 0,
         place: 0,
-        calm,
+        plain_argument,
         kind,
     }
 }
 
 // What is kept of an expansion point by its numbers.
 #[tactic(auto, unfolding(crate::specs::PointCache::placed, crate::specs::PointCache::endless))]
-fn placed(kind: PackedKind, at: usize, len: usize, place: usize, calm: u8) -> PackedPoint
-    ensures value { result ≡ placed kind at len place calm }
+fn placed(kind: PackedKind, at: usize, len: usize, place: usize, plain_argument: u8) -> PackedPoint
+    ensures value { result ≡ placed kind at len place plain_argument }
     ensures end { result.end < 65535 → result.end ≡ at + len }
 {
     if at < 65535 && len < 256 && place < 256 && at + len < 65535 {
@@ -83,7 +84,7 @@ fn placed(kind: PackedKind, at: usize, len: usize, place: usize, calm: u8) -> Pa
             end: (at + len) as u16,
             len: len as u8,
             place: place as u8,
-            calm,
+            plain_argument,
             kind,
         }
     } else {
@@ -91,17 +92,17 @@ fn placed(kind: PackedKind, at: usize, len: usize, place: usize, calm: u8) -> Pa
     }
 }
 
-// An expansion point as it is kept, with how many calm bytes stand first in its text.
+// An expansion point as it is kept, with how many plain argument bytes stand first in its text.
 #[tactic(auto, unfolding(crate::specs::PointCache::kept_of, crate::specs::PointCache::endless, crate::specs::PointCache::point_end))]
-fn kept_of(point: ExpansionPoint, calm: u8) -> PackedPoint
-    ensures value { result ≡ kept_of point calm }
+fn kept_of(point: ExpansionPoint, plain_argument: u8) -> PackedPoint
+    ensures value { result ≡ kept_of point plain_argument }
     ensures end { result.end < 65535 → result.end ≡ point_end point }
 {
     match point {
-        ExpansionPoint::None => endless(PackedKind::None, calm),
-        ExpansionPoint::Formal { at, len, place } => placed(PackedKind::Formal, at, len, place, calm),
-        ExpansionPoint::Usage { at, len } => placed(PackedKind::Usage, at, len, 0, calm),
-        ExpansionPoint::Bare { at } => placed(PackedKind::Bare, at, 1, 0, calm),
+        ExpansionPoint::None => endless(PackedKind::None, plain_argument),
+        ExpansionPoint::Formal { at, len, place } => placed(PackedKind::Formal, at, len, place, plain_argument),
+        ExpansionPoint::Usage { at, len } => placed(PackedKind::Usage, at, len, 0, plain_argument),
+        ExpansionPoint::Bare { at } => placed(PackedKind::Bare, at, 1, 0, plain_argument),
     }
 }
 
@@ -143,13 +144,13 @@ fn before_point(point: ExpansionPoint, from: usize, text: &[u8]) -> &[u8]
     }
 }
 
-// How many calm bytes a text begins with, as they are kept.
-#[tactic(auto, unfolding(crate::specs::PointCache::calm_kept))]
-fn calm_kept(text: &[u8]) -> u8
-    ensures { result ≡ calm_kept text.now }
+// How many plain argument bytes a text begins with, as they are kept.
+#[tactic(auto, unfolding(crate::specs::PointCache::plain_argument_kept))]
+fn plain_argument_kept(text: &[u8]) -> u8
+    ensures { result ≡ plain_argument_kept text.now }
 {
     let near = text.len().min(255);
-    calm_bytes(&text[..near]) as u8
+    plain_argument_bytes(&text[..near]) as u8
 }
 
 // An expansion point of a text that begins at a place, as it is kept.
@@ -159,7 +160,7 @@ fn kept_point(point: ExpansionPoint, from: usize, text: &[u8]) -> PackedPoint
     ensures value { result ≡ kept_point point from text.now }
     ensures end { result.end < 65535 → result.end ≡ point_end point }
 {
-    kept_of(point, calm_kept(before_point(point, from, text)))
+    kept_of(point, plain_argument_kept(before_point(point, from, text)))
 }
 
 // The first expansion point of a body from a place on.
@@ -200,8 +201,8 @@ pub(crate) fn cached_points(formals: &Listed, body: &[u8]) -> PointCache
     PointCache { all }
 }
 
-// Whether it is known that no token goes on at a place of a body that is read from another one on, behind calm bytes: it is that place,
-// or an inert byte stands before it.
+// Whether it is known that no token goes on at a place of a body that is read from another one on, behind plain argument bytes: it
+// is that place, or an inert byte stands before it.
 #[tactic(auto, unfolding(crate::specs::PointCache::is_cut))]
 fn is_cut(body: &[u8], start: usize, from: usize) -> bool
     requires order { start ≤ from }
@@ -245,7 +246,7 @@ fn point_known(body: &[u8], start: u16, kept: PackedPoint, from: usize, to: usiz
     ensures { result ≡ point_known body.now start kept from to }
 {
     let start = start as usize;
-    let reach = start + kept.calm as usize;
+    let reach = start + kept.plain_argument as usize;
     if from == start || (from <= reach && is_cut(body, start, from)) {
         point_within(body, reach, kept, to)
     } else {

@@ -10,4 +10,4 @@ pub mod QuickTokens
 pub mod CallLaws
 pub mod PartLaws
 pub mod BoundParts
-mod CalmRuns
+mod PlainRuns

@@ -24,7 +24,7 @@ use Rattle.rdlpp_meaning.proofs.KeptTexts.{body_text, first_size, first_spelled,
 use Rattle.rdlpp_texts.specs.CallParts.{ends_call, ends_part, ends_text, is_white, opener_by, opener_from, part_from, space_from}
 use Rattle.rdlpp_texts.specs.CallTokens as call
 use Rattle.rdlpp_texts.specs.CallTokens.{IsFirstToken, role_meant}
-use Rattle.rdlpp_texts.specs.CalmBytes.{begins_white}
+use Rattle.rdlpp_texts.specs.PlainArgumentBytes.{begins_white}
 use Rattle.rdlpp_texts.specs.declared.parts.Part.{Part}
 use Rattle.rdlpp_texts.specs.declared.parts.PartEnd.TheVariants.{Comma as AtComma, Last}
 use Rattle.rdlpp_texts.specs.declared.tokens.CallRole.{CallRole}

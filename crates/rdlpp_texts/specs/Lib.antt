@@ -11,7 +11,7 @@ pub mod Turns
 pub mod LookupHints
 pub mod CallTokens
 pub mod CallParts
-pub mod CalmBytes
+pub mod PlainArgumentBytes
 pub mod BoundCalls
 pub mod SourceBound
 pub mod KeptTexts

@@ -3,7 +3,6 @@
 #![tactic(auto)]
 
 mod bindings;
-mod calm;
 mod cursors;
 mod frame;
 mod frames;
@@ -12,6 +11,7 @@ mod kept;
 mod parts;
 mod peek;
 mod place;
+mod plain_argument;
 mod scopes;
 mod step;
 mod tokens;

@@ -5,7 +5,7 @@ ghost use Rattle.rdlpp_meaning.specs.Substitution.{body_tokens};
 ghost use Rattle.rdlpp_texts.specs.CallParts.{IsNextPart, ends_text, is_white, opener_from, part_from, space_from};
 ghost use Rattle.rdlpp_texts.specs.CallTokens.{role_meant};
 
-use crate::calm::{Passed, is_white, pass_calm};
+use crate::plain_argument::{Passed, is_white, pass_plain_argument};
 use crate::tokens::{CallRole, ends_call, ends_part, level_behind, token_in_call};
 use rdlpp_scan::{Mode, byte_at, word_bytes};
 
@@ -118,7 +118,7 @@ fn part_at(text: &[u8], from: usize, closes: bool) -> Part
     part_by_tokens(text, from, closes)
 }
 
-// The same, token by token, where white space and calm bytes are passed at once.
+// The same, token by token, where white space and plain argument bytes are passed at once.
 #[inline(never)]
 fn part_by_tokens(text: &[u8], from: usize, closes: bool) -> Part
     requires { from ≤ length text.now }
@@ -128,7 +128,7 @@ fn part_by_tokens(text: &[u8], from: usize, closes: bool) -> Part
     let mut level = 0;
     let mut mode = Mode::Plain;
     loop {
-        passed = pass_calm(mode, level, text, passed);
+        passed = pass_plain_argument(mode, level, text, passed);
         if passed.at >= text.len() {
             break;
         }

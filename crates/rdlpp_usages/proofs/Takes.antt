@@ -40,7 +40,7 @@ use Rattle.rdlpp_read.specs.Files.{inner_buffer}
 use Rattle.rdlpp_read.specs.declared.files.File.{File}
 use Rattle.rdlpp_usages.specs.CallReads.{IsEnded, is_read_fault}
 use Rattle.rdlpp_usages.specs.Reads.{reading}
-use Rattle.rdlpp_usages.specs.CallActions.{Answers, Around, IsAround, IsClose, IsKeptAt, IsStep, IsAction, IsConsumed, is_calm, kept_len, kept_of, level_in, call_state_meant, tokens_at, tokens_behind}
+use Rattle.rdlpp_usages.specs.CallActions.{Answers, Around, IsAround, IsClose, IsKeptAt, IsStep, IsAction, IsConsumed, is_plain_argument, kept_len, kept_of, level_in, call_state_meant, tokens_at, tokens_behind}
 use Rattle.rdlpp_usages.specs.declared.reading.CallRead.TheVariants as call
 use Rattle.rdlpp_usages.specs.declared.action.CallState.TheVariants.{Inside as InsideCall}
 use Rattle.rdlpp_usages.specs.declared.action.CallAction.{CallAction}
@@ -329,79 +329,79 @@ behind p (suc m) (b ∷ bs) inside = elim (cases_Bool (p b)) [
 ]
 
 -- no LF is among such bytes
-no_line_end : (b : ℕ) → is_calm b ≡ true → b ≡ 10 → ⊥
-unfolding is_calm is_line_end
-no_line_end b calm e = false≢true (subst (λ (n : ℕ). is_calm n ≡ true) e calm)
+no_line_end : (b : ℕ) → is_plain_argument b ≡ true → b ≡ 10 → ⊥
+unfolding is_plain_argument is_line_end
+no_line_end b plain_argument e = false≢true (subst (λ (n : ℕ). is_plain_argument n ≡ true) e plain_argument)
 
-no_line_ends : (m : ℕ) (bs : List ℕ) → m ≤ prefix_len is_calm bs → line_ends (take m bs) ≡ 0
+no_line_ends : (m : ℕ) (bs : List ℕ) → m ≤ prefix_len is_plain_argument bs → line_ends (take m bs) ≡ 0
 unfolding line_ends
 no_line_ends zero bs inside = refl
 no_line_ends (suc m) bs inside =
-    let all = prefix_len-le-length is_calm bs in
+    let all = prefix_len-le-length is_plain_argument bs in
     let one : suc m ≡ m + 1 = omega arith in
     ap (λ (n : ℕ). line_ends (take n bs)) one
-    ∙ line_ends-miss bs m (omega (arith, inside, all)) (no_line_end (get_or bs m 0) (prefix_len_passes is_calm bs m 0 (omega (arith, inside))))
+    ∙ line_ends-miss bs m (omega (arith, inside, all)) (no_line_end (get_or bs m 0) (prefix_len_passes is_plain_argument bs m 0 (omega (arith, inside))))
     ∙ no_line_ends m bs (omega (arith, inside))
 
 -- a kind of token that is kept behind the `(` and neither opens nor closes anything there
-record IsCalmKind (kind : Kind) : Type 0 where
+record IsPlainArgumentKind (kind : Kind) : Type 0 where
   kept : is_kept_kind kind ≡ true
   turns : (own : List ℕ) (k : ℕ) (fits : Bool) → turn_inside (kind_role kind own) k fits ≡ turn_fitting fits Keeps
   size : (own : List ℕ) (n : ℕ) → kept_size (kind_role kind own) n ≡ n
   level : (own : List ℕ) (k : ℕ) → level_behind (kind_role kind own) k ≡ k
 
-calm_name : IsCalmKind Name
+plain_argument_name : IsPlainArgumentKind Name
 unfolding is_kept_kind kind_role turn_inside kept_size level_behind
-calm_name = record { kept = refl; turns = λ own k fits. refl; size = λ own n. refl; level = λ own k. refl }
+plain_argument_name = record { kept = refl; turns = λ own k fits. refl; size = λ own n. refl; level = λ own k. refl }
 
-calm_word : IsCalmKind Word
+plain_argument_word : IsPlainArgumentKind Word
 unfolding is_kept_kind kind_role turn_inside kept_size level_behind
-calm_word = record { kept = refl; turns = λ own k fits. refl; size = λ own n. refl; level = λ own k. refl }
+plain_argument_word = record { kept = refl; turns = λ own k fits. refl; size = λ own n. refl; level = λ own k. refl }
 
-calm_blank : IsCalmKind Blank
+plain_argument_blank : IsPlainArgumentKind Blank
 unfolding is_kept_kind kind_role turn_inside kept_size level_behind
-calm_blank = record { kept = refl; turns = λ own k fits. refl; size = λ own n. refl; level = λ own k. refl }
+plain_argument_blank = record { kept = refl; turns = λ own k fits. refl; size = λ own n. refl; level = λ own k. refl }
 
-calm_comma : IsCalmKind Comma
+plain_argument_comma : IsPlainArgumentKind Comma
 unfolding is_kept_kind kind_role turn_inside kept_size level_behind
-calm_comma = record { kept = refl; turns = λ own k fits. refl; size = λ own n. refl; level = λ own k. refl }
+plain_argument_comma = record { kept = refl; turns = λ own k fits. refl; size = λ own n. refl; level = λ own k. refl }
 
-calm_other : IsCalmKind Other
+plain_argument_other : IsPlainArgumentKind Other
 unfolding is_kept_kind kind_role turn_inside kept_size level_behind
-calm_other = record { kept = refl; turns = λ own k fits. refl; size = λ own n. refl; level = λ own k. refl }
+plain_argument_other = record { kept = refl; turns = λ own k fits. refl; size = λ own n. refl; level = λ own k. refl }
 
 -- the first token of such bytes is one of them, and plain text stands behind it
-record IsCalmToken (held : List ℕ) (t : Token) : Type 0 where
-  size : t.len ≤ prefix_len is_calm held
+record IsPlainArgumentToken (held : List ℕ) (t : Token) : Type 0 where
+  size : t.len ≤ prefix_len is_plain_argument held
   next : t.next_mode ≡ Plain
-  kind : IsCalmKind t.kind
+  kind : IsPlainArgumentKind t.kind
 
--- a byte that isn't calm is none of a class
+-- a byte that isn't plain argument is none of a class
 none_of : (p : ℕ → Bool) (b n : ℕ) → p n ≡ false → p b ≡ true → (b == n) ≡ false
 none_of p b n dark e = elim (cases_Bool (b == n)) [
   | inl h ↦ absurd (false≢true (sym dark ∙ subst (λ (m : ℕ). p m ≡ true) (eqb-true b n h) e))
   | inr h ↦ h
 ]
 
-calm_by : (b : ℕ) (p : ℕ → Bool) → p b ≡ true → p 10 ≡ false → p 40 ≡ false → p 91 ≡ false → p 123 ≡ false → p 41 ≡ false → p 93 ≡ false → p 125 ≡ false
-    → p 34 ≡ false → p 47 ≡ false → p 60 ≡ false → p 96 ≡ false → is_calm b ≡ true
-unfolding is_calm is_line_end is_opener is_closer
-calm_by b p e h10 h40 h91 h123 h41 h93 h125 h34 h47 h60 h96 =
+plain_argument_by : (b : ℕ) (p : ℕ → Bool) → p b ≡ true → p 10 ≡ false → p 40 ≡ false → p 91 ≡ false → p 123 ≡ false → p 41 ≡ false → p 93 ≡ false → p 125 ≡ false
+    → p 34 ≡ false → p 47 ≡ false → p 60 ≡ false → p 96 ≡ false → is_plain_argument b ≡ true
+unfolding is_plain_argument is_line_end is_opener is_closer
+plain_argument_by b p e h10 h40 h91 h123 h41 h93 h125 h34 h47 h60 h96 =
     rw (none_of p b 10 h10 e, none_of p b 40 h40 e, none_of p b 91 h91 e, none_of p b 123 h123 e, none_of p b 41 h41 e, none_of p b 93 h93 e, none_of p b 125 h125 e, none_of p b 34 h34 e, none_of p b 47 h47 e, none_of p b 60 h60 e, none_of p b 96 h96 e) refl
 
-word_calm : (b : ℕ) → is_word b ≡ true → is_calm b ≡ true
+word_plain_argument : (b : ℕ) → is_word b ≡ true → is_plain_argument b ≡ true
 unfolding is_word is_letter is_digit
-word_calm b e = calm_by b is_word e refl refl refl refl refl refl refl refl refl refl refl
+word_plain_argument b e = plain_argument_by b is_word e refl refl refl refl refl refl refl refl refl refl refl
 
-blank_calm : (b : ℕ) → is_blank b ≡ true → is_calm b ≡ true
+blank_plain_argument : (b : ℕ) → is_blank b ≡ true → is_plain_argument b ≡ true
 unfolding is_blank
-blank_calm b e = calm_by b is_blank e refl refl refl refl refl refl refl refl refl refl refl
+blank_plain_argument b e = plain_argument_by b is_blank e refl refl refl refl refl refl refl refl refl refl refl
 
 -- such a byte begins one of these tokens
-calm_token : (b : ℕ) (bs : List ℕ) → is_calm b ≡ true → IsCalmToken (b ∷ bs) (token_of Plain (b ∷ bs))
-unfolding is_calm token_of plain_token whole begins_perl begins_line_comment begins_block_comment
-calm_token b bs calm =
-    let line = no_first (is_line_end b) _ calm in
+plain_argument_token : (b : ℕ) (bs : List ℕ) → is_plain_argument b ≡ true → IsPlainArgumentToken (b ∷ bs) (token_of Plain (b ∷ bs))
+unfolding is_plain_argument token_of plain_token whole begins_perl begins_line_comment begins_block_comment
+plain_argument_token b bs plain_argument =
+    let line = no_first (is_line_end b) _ plain_argument in
     let opener = no_first (is_opener b) _ line.1 in
     let closer = no_first (is_closer b) _ opener.1 in
     let quote = no_first (b == 34) _ closer.1 in
@@ -409,51 +409,51 @@ calm_token b bs calm =
     let less = no_first (b == 60) _ slash.1 in
     let back = not-true (b == 96) less.1 in
     let held = b ∷ bs in
-    let first : prefix_len is_calm held ≡ 1 + prefix_len is_calm bs = ap (λ (t : Bool). cond t (1 + prefix_len is_calm bs) 0) calm in
-    let P : Token → Type 0 = λ t. IsCalmToken held t in
-    let word = longer is_word is_calm word_calm held in
-    let taken = longer is_word is_calm word_calm bs in
-    let one : (kind : Kind) → IsCalmKind kind → P (whole kind 1) = λ kind k. record { size = omega (arith, first); next = refl; kind = k } in
+    let first : prefix_len is_plain_argument held ≡ 1 + prefix_len is_plain_argument bs = ap (λ (t : Bool). cond t (1 + prefix_len is_plain_argument bs) 0) plain_argument in
+    let P : Token → Type 0 = λ t. IsPlainArgumentToken held t in
+    let word = longer is_word is_plain_argument word_plain_argument held in
+    let taken = longer is_word is_plain_argument word_plain_argument bs in
+    let one : (kind : Kind) → IsPlainArgumentKind kind → P (whole kind 1) = λ kind k. record { size = omega (arith, first); next = refl; kind = k } in
     cond_both (begins_perl held) _ _ P (λ h. absurd (both_ways _ less.0 (both_first _ _ h))) (λ _.
     cond_both (is_line_end b) _ _ P (λ h. absurd (both_ways _ line.0 h)) (λ _.
-    cond_both (is_blank b) _ _ P (λ _. record { size = longer is_blank is_calm blank_calm held; next = refl; kind = calm_blank }) (λ _.
+    cond_both (is_blank b) _ _ P (λ _. record { size = longer is_blank is_plain_argument blank_plain_argument held; next = refl; kind = plain_argument_blank }) (λ _.
     cond_both (begins_line_comment held) _ _ P (λ h. absurd (both_ways _ slash.0 (both_first _ _ h))) (λ _.
     cond_both (begins_block_comment held) _ _ P (λ h. absurd (both_ways _ slash.0 (both_first _ _ h))) (λ _.
     cond_both (b == 34) _ _ P (λ h. absurd (both_ways _ quote.0 h)) (λ _.
-    cond_both (is_letter b) _ _ P (λ _. record { size = word; next = refl; kind = calm_name }) (λ _.
-    cond_both (is_digit b) _ _ P (λ _. record { size = word; next = refl; kind = calm_word }) (λ _.
-    cond_both (takes_word b && is_word (get_or held 1 0)) _ _ P (λ _. record { size = omega (arith, first, taken); next = refl; kind = calm_word }) (λ _.
+    cond_both (is_letter b) _ _ P (λ _. record { size = word; next = refl; kind = plain_argument_name }) (λ _.
+    cond_both (is_digit b) _ _ P (λ _. record { size = word; next = refl; kind = plain_argument_word }) (λ _.
+    cond_both (takes_word b && is_word (get_or held 1 0)) _ _ P (λ _. record { size = omega (arith, first, taken); next = refl; kind = plain_argument_word }) (λ _.
     cond_both (b == 96 && is_letter (get_or held 1 0)) _ _ P (λ h. absurd (both_ways _ back (both_first _ _ h))) (λ _.
     cond_both (b == 96) _ _ P (λ h. absurd (both_ways _ back h)) (λ _.
     cond_both (is_opener b) _ _ P (λ h. absurd (both_ways _ opener.0 h)) (λ _.
     cond_both (is_closer b) _ _ P (λ h. absurd (both_ways _ closer.0 h)) (λ _.
-    cond_both (b == 44) _ _ P (λ _. one Comma calm_comma) (λ _. one Other calm_other))))))))))))))
+    cond_both (b == 44) _ _ P (λ _. one Comma plain_argument_comma) (λ _. one Other plain_argument_other))))))))))))))
 
-calm_first : (held : List ℕ) → 0 < prefix_len is_calm held → IsCalmToken held (token_of Plain held)
-calm_first [] some = absurd (omega (arith, some))
-calm_first (b ∷ bs) some = elim (cases_Bool (is_calm b)) [
-  | inl e ↦ calm_token b bs e
+plain_argument_first : (held : List ℕ) → 0 < prefix_len is_plain_argument held → IsPlainArgumentToken held (token_of Plain held)
+plain_argument_first [] some = absurd (omega (arith, some))
+plain_argument_first (b ∷ bs) some = elim (cases_Bool (is_plain_argument b)) [
+  | inl e ↦ plain_argument_token b bs e
   | inr e ↦
-      let none : prefix_len is_calm (b ∷ bs) ≡ 0 = ap (λ (t : Bool). cond t (1 + prefix_len is_calm bs) 0) e in
+      let none : prefix_len is_plain_argument (b ∷ bs) ≡ 0 = ap (λ (t : Bool). cond t (1 + prefix_len is_plain_argument bs) 0) e in
       absurd (omega (arith, none, some))
 ]
 
 -- so many bytes are kept at a level of further openers, which stays
-abbrev calm_use : ℕ → ℕ → Consumed
-calm_use k n = record { len = n; next_mode = Plain; call_state = InsideCall k; is_kept = true }
+abbrev plain_argument_use : ℕ → ℕ → Consumed
+plain_argument_use k n = record { len = n; next_mode = Plain; call_state = InsideCall k; is_kept = true }
 
 -- such a token is used so, where it fits
-first_used : (k room : ℕ) (held : List ℕ) → 0 < length held → IsCalmToken held (token_of Plain held) → (token_of Plain held).len ≤ room
-    → IsConsumed (Inside k) Plain room held (calm_use k (token_of Plain held).len)
-first_used k room held some calm fits =
+first_used : (k room : ℕ) (held : List ℕ) → 0 < length held → IsPlainArgumentToken held (token_of Plain held) → (token_of Plain held).len ≤ room
+    → IsConsumed (Inside k) Plain room held (plain_argument_use k (token_of Plain held).len)
+first_used k room held some plain_argument fits =
     let t = token_of Plain held in
     let own = slice_index held 0 ∷ [] in
     let r = kind_role t.kind own in
-    let kept : IsKeptAt r k = record { turns = λ f. calm.kind.turns own k f; size = λ n. calm.kind.size own n } in
-    subst (λ (m : Mode). IsConsumed (Inside k) Plain room held (record { len = t.len; next_mode = m; call_state = InsideCall k; is_kept = true })) calm.next
-    (role_taken (Inside k) Plain room held t r (Consumes (record { len = t.len; next_mode = t.next_mode; call_state = InsideCall k; is_kept = true })) some refl calm.kind.kept
+    let kept : IsKeptAt r k = record { turns = λ f. plain_argument.kind.turns own k f; size = λ n. plain_argument.kind.size own n } in
+    subst (λ (m : Mode). IsConsumed (Inside k) Plain room held (record { len = t.len; next_mode = m; call_state = InsideCall k; is_kept = true })) plain_argument.next
+    (role_taken (Inside k) Plain room held t r (Consumes (record { len = t.len; next_mode = t.next_mode; call_state = InsideCall k; is_kept = true })) some refl plain_argument.kind.kept
     (λ before (no : Plain ≡ InStr). (cc)) refl
-    (keeps_step r k room t k kept fits (token_of-part Plain held some).not_empty (sym (calm.kind.level own k))))
+    (keeps_step r k room t k kept fits (token_of-part Plain held some).not_empty (sym (plain_argument.kind.level own k))))
 
 -- the tokens behind two parts of held bytes, the first of which has no line end
 behind_both : (a : Around) (held : List ℕ) (m n : ℕ) → line_ends (take m held) ≡ 0
@@ -472,8 +472,8 @@ behind_both a held m n none =
     same x y = omega arith
 
 -- two uses are one
-used_both : (k room m n : ℕ) (held : List ℕ) → IsConsumed (Inside k) Plain room held (calm_use k m) → IsConsumed (Inside k) Plain (room - m) (drop m held) (calm_use k n)
-    → line_ends (take m held) ≡ 0 → m + n ≤ length held → m + n ≤ room → IsConsumed (Inside k) Plain room held (calm_use k (m + n))
+used_both : (k room m n : ℕ) (held : List ℕ) → IsConsumed (Inside k) Plain room held (plain_argument_use k m) → IsConsumed (Inside k) Plain (room - m) (drop m held) (plain_argument_use k n)
+    → line_ends (take m held) ≡ 0 → m + n ≤ length held → m + n ≤ room → IsConsumed (Inside k) Plain room held (plain_argument_use k (m + n))
 unfolding call_state_meant level_in
 used_both k room m n held p q none inside fits =
     let first : length (take m held) ≡ m = length-take-le m held (omega (arith, inside)) in
@@ -510,38 +510,38 @@ used_both k room m n held p q none inside fits =
     around_behind a bytes at = record { most = a.most; opened = opening Plain a.opened a.line; line = a.line + line_ends (take at bytes); left = a.left; rest = a.rest }
 
 -- all such bytes are used at once
-calm_run : (fuel k room : ℕ) (held : List ℕ) → prefix_len is_calm held ≤ fuel → 0 < prefix_len is_calm held → prefix_len is_calm held ≤ room
-    → IsConsumed (Inside k) Plain room held (calm_use k (prefix_len is_calm held))
-calm_run zero k room held most some fits = absurd (omega (arith, most, some))
-calm_run (suc fuel) k room held most some fits =
-    let all = prefix_len-le-length is_calm held in
-    let calm = calm_first held some in
-    let size = calm.size in
+plain_argument_run : (fuel k room : ℕ) (held : List ℕ) → prefix_len is_plain_argument held ≤ fuel → 0 < prefix_len is_plain_argument held → prefix_len is_plain_argument held ≤ room
+    → IsConsumed (Inside k) Plain room held (plain_argument_use k (prefix_len is_plain_argument held))
+plain_argument_run zero k room held most some fits = absurd (omega (arith, most, some))
+plain_argument_run (suc fuel) k room held most some fits =
+    let all = prefix_len-le-length is_plain_argument held in
+    let plain_argument = plain_argument_first held some in
+    let size = plain_argument.size in
     let m = (token_of Plain held).len in
     let long = (token_of-part Plain held (omega (arith, some, all))).not_empty in
-    let first = first_used k room held (omega (arith, some, all)) calm (omega (arith, size, fits)) in
-    let rest = behind is_calm m held size in
-    elim (cases_Bool (nat_le (prefix_len is_calm (drop m held)) 0)) [
+    let first = first_used k room held (omega (arith, some, all)) plain_argument (omega (arith, size, fits)) in
+    let rest = behind is_plain_argument m held size in
+    elim (cases_Bool (nat_le (prefix_len is_plain_argument (drop m held)) 0)) [
       | inl e ↦
-          let none = leb-true (prefix_len is_calm (drop m held)) 0 e in
-          let same : m ≡ prefix_len is_calm held = omega (arith, rest, none) in
-          subst (λ (n : ℕ). IsConsumed (Inside k) Plain room held (calm_use k n)) same first
+          let none = leb-true (prefix_len is_plain_argument (drop m held)) 0 e in
+          let same : m ≡ prefix_len is_plain_argument held = omega (arith, rest, none) in
+          subst (λ (n : ℕ). IsConsumed (Inside k) Plain room held (plain_argument_use k n)) same first
       | inr e ↦
-          let n = prefix_len is_calm (drop m held) in
+          let n = prefix_len is_plain_argument (drop m held) in
           let more = leb-false n 0 e in
-          let same : m + n ≡ prefix_len is_calm held = omega (arith, rest) in
-          subst (λ (x : ℕ). IsConsumed (Inside k) Plain room held (calm_use k x)) same
+          let same : m + n ≡ prefix_len is_plain_argument held = omega (arith, rest) in
+          subst (λ (x : ℕ). IsConsumed (Inside k) Plain room held (plain_argument_use k x)) same
           (used_both k room m n held first
-          (calm_run fuel k (room - m) (drop m held) (omega (arith, rest, most, long)) more (omega (arith, rest, fits)))
+          (plain_argument_run fuel k (room - m) (drop m held) (omega (arith, rest, most, long)) more (omega (arith, rest, fits)))
           (no_line_ends m held size) (omega (arith, same, all)) (omega (arith, same, fits)))
     ]
 
 -- so they are behind a call's `(`
-pub calm_used : (k room n : ℕ) (held : List ℕ) → n ≡ prefix_len is_calm held → (n ≡ 0 → ⊥) → n ≤ room
+pub plain_argument_used : (k room n : ℕ) (held : List ℕ) → n ≡ prefix_len is_plain_argument held → (n ≡ 0 → ⊥) → n ≤ room
     → IsConsumed (Inside k) Plain room held (record { len = n; next_mode = Plain; call_state = InsideCall k; is_kept = true })
-calm_used k room n held is some fits =
-    subst (λ (x : ℕ). IsConsumed (Inside k) Plain room held (calm_use k x)) (sym is)
-    (calm_run (prefix_len is_calm held) k room held (omega arith) (omega (arith, is, some)) (omega (arith, is, fits)))
+plain_argument_used k room n held is some fits =
+    subst (λ (x : ℕ). IsConsumed (Inside k) Plain room held (plain_argument_use k x)) (sym is)
+    (plain_argument_run (prefix_len is_plain_argument held) k room held (omega arith) (omega (arith, is, some)) (omega (arith, is, fits)))
 
 -- The faults that the reading of a call ends with.
 

@@ -1,5 +1,5 @@
 -- What is done with the first token of the held bytes of a source, in a call, or with the part of it that is held, or with a run of
--- calm bytes.
+-- plain argument bytes.
 -- A definition that names no source is this project's own.
 use Rattle.std.specs.Prelude.{◌≡◌, ◌≢◌, ℕ, ◌+◌, ◌-◌, ◌≤◌, ◌<◌, Bool, not, nat_le, ◌&&◌, ◌==◌, List, [], ◌++◌, length, take, drop, if◌then◌else◌}
 use Rattle.rdlpp_scan.specs.Bytes.{is_closer, is_line_end, is_opener}
@@ -95,8 +95,8 @@ pub record IsConsumed (at : scan.CallState) (mode : Mode) (room : ℕ) (held : L
 
 -- whether a byte is neither LF nor a bracket, and begins no string, no comment, no usage and no `<%`: tokens of such bytes open
 -- nothing and close nothing (source: this project's profile)
-unfoldable pub is_calm : ℕ → Bool
-is_calm b =
+unfoldable pub is_plain_argument : ℕ → Bool
+is_plain_argument b =
     not (is_line_end b) && (not (is_opener b) && (not (is_closer b) && (not (b == 34) && (not (b == 47) && (not (b == 60) && not (b == 96))))))
 
 -- the first byte closes the call

@@ -1,4 +1,4 @@
-// One token of a call, or the part of it that is held, or a run of calm bytes.
+// One token of a call, or the part of it that is held, or a run of plain argument bytes.
 ghost use Rattle.std.specs.Prelude.{◌≡◌, ◌≢◌, ℕ, ◌+◌, ◌≤◌, ◌<◌, ◌∷◌, [], length, false, IfSome};
 ghost use Rattle.std.specs.List.{prefix_len};
 ghost use Rattle.rdlpp_scan.specs.Tokens.{token_of};
@@ -6,7 +6,7 @@ ghost use Rattle.rdlpp_scan.specs.declared.token.Kind.TheVariants.{Back};
 ghost use Rattle.rdlpp_scan.specs.declared.token.Mode.TheVariants.{InStr, Plain};
 ghost use Rattle.rdlpp_meaning.specs.CallScan.{Before, Inside, fault_at_end};
 ghost use Rattle.rdlpp_texts.specs.CallTokens.{role_meant};
-ghost use Rattle.rdlpp_usages.specs.CallActions.{is_calm, Answers, IsKeptAt, IsAction, IsConsumed, level_in, call_state_meant};
+ghost use Rattle.rdlpp_usages.specs.CallActions.{is_plain_argument, Answers, IsKeptAt, IsAction, IsConsumed, level_in, call_state_meant};
 
 use rdlpp_meaning::FaultKind;
 use rdlpp_scan::{Kind, Mode, Token, first_token, reserved};
@@ -148,9 +148,9 @@ fn name_action(call_state: CallState, room: usize, held: &[u8], token: Token) ->
 }
 
 // Whether a byte is neither LF nor a bracket, and begins no string, no comment, no usage and no `<%`.
-#[tactic(auto, unfolding(crate::specs::CallActions::is_calm, rdlpp_scan::specs::Bytes::is_line_end, rdlpp_scan::specs::Bytes::is_opener, rdlpp_scan::specs::Bytes::is_closer))]
-fn is_calm(b: u8) -> bool
-    ensures { result ≡ is_calm b }
+#[tactic(auto, unfolding(crate::specs::CallActions::is_plain_argument, rdlpp_scan::specs::Bytes::is_line_end, rdlpp_scan::specs::Bytes::is_opener, rdlpp_scan::specs::Bytes::is_closer))]
+fn is_plain_argument(b: u8) -> bool
+    ensures { result ≡ is_plain_argument b }
 {
     b != b'\n'
         && !(b == b'(' || b == b'[' || b == b'{')
@@ -162,19 +162,19 @@ fn is_calm(b: u8) -> bool
 }
 
 // How many such bytes a text begins with.
-fn calm_bytes(text: &[u8]) -> usize
-    ensures value { result ≡ prefix_len is_calm text.now }
+fn plain_argument_bytes(text: &[u8]) -> usize
+    ensures value { result ≡ prefix_len is_plain_argument text.now }
     ensures inside { result ≤ length text.now }
 {
-    text.iter().take_while(|b| is_calm(**b)).count()
+    text.iter().take_while(|b| is_plain_argument(**b)).count()
 }
 
-// The use of the calm bytes with which held bytes begin in plain text, at a level of further openers, if there are some and they
-// fit.
-fn plain_calm_use(level: usize, room: usize, held: &[u8]) -> Option<Consumed>
+// The use of the plain argument bytes with which held bytes begin in plain text, at a level of further openers, if there are some
+// and they fit.
+fn inside_argument_use(level: usize, room: usize, held: &[u8]) -> Option<Consumed>
     ensures { IfSome result (λ u. IsConsumed (Inside level) Plain room held.now u) }
 {
-    let len = calm_bytes(held);
+    let len = plain_argument_bytes(held);
     if len == 0 || room < len {
         return None;
     }
@@ -187,12 +187,12 @@ fn plain_calm_use(level: usize, room: usize, held: &[u8]) -> Option<Consumed>
 }
 
 // The same in any mode, and wherever the reading stands.
-fn calm_use(call_state: CallState, mode: Mode, room: usize, held: &[u8]) -> Option<Consumed>
+fn plain_argument_use(call_state: CallState, mode: Mode, room: usize, held: &[u8]) -> Option<Consumed>
     ensures { IfSome result (λ u. IsConsumed (call_state_meant call_state) mode room held.now u) }
 {
     match call_state {
         CallState::Inside(level) => match mode {
-            Mode::Plain => plain_calm_use(level, room, held),
+            Mode::Plain => inside_argument_use(level, room, held),
             _ => None,
         },
         CallState::Before => None,
@@ -214,8 +214,8 @@ pub(crate) fn action_at(call_state: CallState, mode: Mode, room: usize, held: &[
     requires lead { call_state_meant call_state ≡ Before → mode ≢ InStr }
     ensures { IsAction (call_state_meant call_state) mode room held.now result }
 {
-    if let Some(calm) = calm_use(call_state, mode, room, held) {
-        return CallAction::Consumes(calm);
+    if let Some(plain_argument) = plain_argument_use(call_state, mode, room, held) {
+        return CallAction::Consumes(plain_argument);
     }
     let token = first_token(mode, held);
     match token.kind {

@@ -106,7 +106,7 @@ fn kept_part(token: Consumed, held: &[u8]) -> &[u8]
     }
 }
 
-// Takes one token of a call, or the part of it that is held, or a run of calm bytes.
+// Takes one token of a call, or the part of it that is held, or a run of plain argument bytes.
 fn take_token<R: Drop>(files: &mut Files<R>, store: &mut ArgumentStore, call_state: CallState) -> Next
     requires some { 0 < length files.old.nest }
     requires held { 0 < length (held_of (inner_buffer files.old.nest)) }

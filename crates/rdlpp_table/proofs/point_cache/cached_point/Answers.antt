@@ -1,4 +1,4 @@
-use Rattle.rdlpp_table.proofs.CalmStops.{range_told}
+use Rattle.rdlpp_table.proofs.PlainPoints.{range_told}
 use Rattle.rdlpp_table.proofs.point_cache.cached_point.Goals as goal
 
 pub returns : goal.returns

@@ -1,4 +1,4 @@
-use Rattle.rdlpp_texts.proofs.CalmRuns.{kept_is}
+use Rattle.rdlpp_texts.proofs.PlainRuns.{kept_is}
 use Rattle.rdlpp_texts.proofs.kept.keeps_each.Goals as goal
 
 pub returns-then-has_no_slash : goal.returns-then-has_no_slash

@@ -3,7 +3,7 @@ use Rattle.std.proofs.lemmas.Slice.{between_to_end}
 use Rattle.rdlpp_scan.specs.declared.token.Mode.TheVariants.{Plain}
 use Rattle.rdlpp_scan.specs.Tokens.{tokens_from}
 use Rattle.rdlpp_texts.specs.TextItems.{run_len}
-use Rattle.rdlpp_texts.proofs.CalmRuns.{run_behind, run_found}
+use Rattle.rdlpp_texts.proofs.PlainRuns.{run_behind, run_found}
 use Rattle.rdlpp_texts.proofs.Stopping.{run_searched}
 use Rattle.rdlpp_texts.proofs.peek.run_len.Goals as goal
 

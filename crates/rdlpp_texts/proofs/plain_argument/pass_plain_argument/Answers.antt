@@ -1,6 +1,6 @@
 use Rattle.std.proofs.Common.{refl, arith}
-use Rattle.rdlpp_texts.proofs.CalmRuns.{other_dark}
-use Rattle.rdlpp_texts.proofs.calm.pass_calm.Goals as goal
+use Rattle.rdlpp_texts.proofs.PlainRuns.{other_dark}
+use Rattle.rdlpp_texts.proofs.plain_argument.pass_plain_argument.Goals as goal
 
 pub returns-in_default : goal.returns-in_default
 returns-in_default c = record {

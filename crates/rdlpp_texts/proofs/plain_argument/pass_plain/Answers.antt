@@ -1,6 +1,6 @@
 use Rattle.std.proofs.Common.{◌∙◌, sym, arith}
-use Rattle.rdlpp_texts.proofs.CalmRuns.{calm_passed, end_dark, mark_dark, white_passed}
-use Rattle.rdlpp_texts.proofs.calm.pass_plain.Goals as goal
+use Rattle.rdlpp_texts.proofs.PlainRuns.{plain_argument_passed, end_dark, mark_dark, white_passed}
+use Rattle.rdlpp_texts.proofs.plain_argument.pass_plain.Goals as goal
 
 pub loop-at-preserved-in-White : goal.loop-at-preserved-in-White
 loop-at-preserved-in-White c = record {
@@ -16,7 +16,7 @@ loop-at-preserved c = record {
   order = omega (arith, c.loop-at.invariant.order);
   inside = omega (arith, c.loop-at-test.true);
   same = λ closes start.
-      calm_passed closes c.args.text.now start c.loop-at.at c.args.level c.loop-at.to c.loop-at-test.true (sym c.in-Calm.is ∙ c.byte_class.ensures)
+      plain_argument_passed closes c.args.text.now start c.loop-at.at c.args.level c.loop-at.to c.loop-at-test.true (sym c.in-PlainArgument.is ∙ c.byte_class.ensures)
       ∙ c.loop-at.invariant.same closes start;
 }
 

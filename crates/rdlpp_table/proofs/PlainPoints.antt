@@ -1,21 +1,21 @@
--- Stops behind calm bytes: those from a place on at which no token goes on, and those of the front of a text.
+-- Stops behind plain argument bytes: those from a place on at which no token goes on, and those of the front of a text.
 use Rattle.std.proofs.Common.{◌≡◌, ℕ, zero, suc, ◌+◌, ◌-◌, ◌<◌, ◌≤◌, Bool, true, false, List, [], ◌∷◌, ⊎_elim, length, take, drop, refl, ap, sym, ◌∙◌, arith, inl, inr, eqb, not, ◌&&◌, ◌||◌, get_or, subst, Option, Some, None, ◌⊎◌, IfSome, slice_range, leb, ltb, if◌then◌else◌, eqb-true, leb-true, ltb-true, get_or-drop, length-drop, length-take, drop-drop, take_all}
 use Rattle.std.specs.List.{prefix_len}
 use Rattle.std.proofs.lemmas.Bool.{cases_Bool, false≢true, cond_both, cond-true, cond-false, or_cases, and_parts, cases_lt, not-true}
 use Rattle.std.proofs.lemmas.List.{drop-take}
 use Rattle.rdlpp_scan.specs.Bytes.{begins_block_comment, begins_line_comment, begins_perl, is_blank, is_closer, is_digit, is_letter, is_line_end, is_opener, is_inert, is_word, takes_word}
-use Rattle.rdlpp_scan.specs.LexFaults.{is_calm}
+use Rattle.rdlpp_scan.specs.LexFaults.{is_plain_argument}
 use Rattle.rdlpp_scan.specs.declared.token.Kind.{Kind}
 use Rattle.rdlpp_scan.specs.declared.token.Kind.TheVariants.{Name, Word, Back, Blank, LineEnd, Str, LineComment, BlockComment, Opener, Closer, Comma, Other, Perl, BareBackquote}
 use Rattle.rdlpp_scan.specs.declared.token.Mode.{Mode}
 use Rattle.rdlpp_scan.specs.declared.token.Mode.TheVariants.{Plain}
 use Rattle.rdlpp_scan.specs.declared.token.Token.{Token}
 use Rattle.rdlpp_scan.specs.Tokens.{plain_token, token_of, tokens_from, whole}
-use Rattle.rdlpp_scan.proofs.StopKinds.{both_first, no_calm}
+use Rattle.rdlpp_scan.proofs.StopKinds.{both_first, no_plain_argument}
 use Rattle.rdlpp_scan.proofs.TokenLens.{token_of-part}
 use Rattle.rdlpp_table.specs.declared.point.ExpansionPoint.{ExpansionPoint}
 use Rattle.rdlpp_table.specs.declared.point.ExpansionPoint.TheVariants as point
-use Rattle.rdlpp_table.specs.PointCache.{before_point, calm_kept, endless, is_cut, kept_from, kept_of, kept_point, placed, point_by, point_end, point_kept, point_known, point_within}
+use Rattle.rdlpp_table.specs.PointCache.{before_point, plain_argument_kept, endless, is_cut, kept_from, kept_of, kept_point, placed, point_by, point_end, point_kept, point_known, point_within}
 use Rattle.rdlpp_table.specs.declared.point_cache.PackedPoint.{PackedPoint}
 use Rattle.rdlpp_table.specs.declared.point_cache.PackedKind.{PackedKind}
 use Rattle.rdlpp_table.specs.declared.point_cache.PackedKind.TheVariants as kept
@@ -24,10 +24,10 @@ use Rattle.rdlpp_table.specs.Table.{Formal}
 use Rattle.rdlpp_table.specs.View.{formal_named}
 use Rattle.rdlpp_table.proofs.FirstPoints.{IsFrom, back_when, begins, begins_end, behind_place, when, cut_more, cut_token, front_first, one_token, or_none, or_some, inert_one, run_drop, tokens_within}
 
--- The first token of a text that begins with a calm byte.
+-- The first token of a text that begins with a plain argument byte.
 
 -- such a token leaves plain text plain; and one that isn't white space goes no further than the word behind its first byte
-record IsCalmToken (b : ℕ) (bs : List ℕ) (t : Token) : Type 0 where
+record IsPlainArgumentToken (b : ℕ) (bs : List ℕ) (t : Token) : Type 0 where
   next : t.next_mode ≡ Plain
   short : is_blank b ≡ false → t.len ≤ 1 + prefix_len is_word bs
 
@@ -38,19 +38,19 @@ word_run b bs =
     (λ h. omega (arith, cond-false (is_word b) (1 + prefix_len is_word bs) 0 h))
     (cases_Bool (is_word b))
 
-calm_token : (b : ℕ) (bs : List ℕ) → is_calm b ≡ true → IsCalmToken b bs (token_of Plain (b ∷ bs))
-unfolding token_of plain_token whole begins_perl begins_line_comment begins_block_comment is_calm
-calm_token b bs s =
+plain_argument_token : (b : ℕ) (bs : List ℕ) → is_plain_argument b ≡ true → IsPlainArgumentToken b bs (token_of Plain (b ∷ bs))
+unfolding token_of plain_token whole begins_perl begins_line_comment begins_block_comment is_plain_argument
+plain_argument_token b bs s =
     let c = get_or (b ∷ bs) 1 0 in
-    let P : Token → Type 0 = λ t. IsCalmToken b bs t in
+    let P : Token → Type 0 = λ t. IsPlainArgumentToken b bs t in
     let one : (k : Kind) → P (whole k 1) = λ k. record { next = refl; short = λ _. omega arith } in
     let word : (k : Kind) → P (whole k (prefix_len is_word (b ∷ bs))) = λ k. record { next = refl; short = λ _. word_run b bs } in
-    cond_both (begins_perl (b ∷ bs)) _ _ P (λ h. absurd (no_calm b 60 s refl (both_first _ _ h))) (λ _.
+    cond_both (begins_perl (b ∷ bs)) _ _ P (λ h. absurd (no_plain_argument b 60 s refl (both_first _ _ h))) (λ _.
     cond_both (is_line_end b) _ _ P (λ _. one LineEnd) (λ _.
     cond_both (is_blank b) _ _ P (λ h. record { next = refl; short = λ f. absurd (false≢true (sym f ∙ h)) }) (λ _.
-    cond_both (begins_line_comment (b ∷ bs)) _ _ P (λ h. absurd (no_calm b 47 s refl (both_first _ _ h))) (λ _.
-    cond_both (begins_block_comment (b ∷ bs)) _ _ P (λ h. absurd (no_calm b 47 s refl (both_first _ _ h))) (λ _.
-    cond_both (eqb b 34) _ _ P (λ h. absurd (no_calm b 34 s refl h)) (λ _.
+    cond_both (begins_line_comment (b ∷ bs)) _ _ P (λ h. absurd (no_plain_argument b 47 s refl (both_first _ _ h))) (λ _.
+    cond_both (begins_block_comment (b ∷ bs)) _ _ P (λ h. absurd (no_plain_argument b 47 s refl (both_first _ _ h))) (λ _.
+    cond_both (eqb b 34) _ _ P (λ h. absurd (no_plain_argument b 34 s refl h)) (λ _.
     cond_both (is_letter b) _ _ P (λ _. word Name) (λ _.
     cond_both (is_digit b) _ _ P (λ _. word Word) (λ _.
     cond_both (takes_word b && is_word c) _ _ P (λ _. record { next = refl; short = λ _. omega arith }) (λ _.
@@ -178,13 +178,13 @@ cut_left k n u lt (inr q) =
     inr (ap is_inert (get_or-drop k u (n - k - 1) 0 ∙ ap (λ (m : ℕ). get_or u m 0) there) ∙ q)
 
 -- the first token of a text isn't white space and ends before an inert byte further on
-token_before : (b n : ℕ) (bs : List ℕ) → is_calm b ≡ true → is_inert b ≡ false → is_inert (get_or (b ∷ bs) n 0) ≡ true → (token_of Plain (b ∷ bs)).len ≤ n
-token_before b zero bs calm dark q = absurd (false≢true (sym dark ∙ q))
-token_before b (suc n) bs calm dark q =
-    omega (arith, (calm_token b bs calm).short (no_blank b dark), run_points is_word n bs (inert_apart (get_or bs n 0) q))
+token_before : (b n : ℕ) (bs : List ℕ) → is_plain_argument b ≡ true → is_inert b ≡ false → is_inert (get_or (b ∷ bs) n 0) ≡ true → (token_of Plain (b ∷ bs)).len ≤ n
+token_before b zero bs plain_argument dark q = absurd (false≢true (sym dark ∙ q))
+token_before b (suc n) bs plain_argument dark q =
+    omega (arith, (plain_argument_token b bs plain_argument).short (no_blank b dark), run_points is_word n bs (inert_apart (get_or bs n 0) q))
 
--- a first expansion point that is none, or begins no nearer than a cut among the calm bytes, is the first one from there on
-point_from : (fuel : ℕ) (formals : List Formal) (at n : ℕ) (u : List ℕ) (s : ExpansionPoint) → length u ≤ fuel → n ≤ prefix_len is_calm u → IsCut u n → s ≡ next_expansion_point formals at (tokens_from Plain 0 u) u → (is_none s ≡ false → at + n ≤ begins s)
+-- a first expansion point that is none, or begins no nearer than a cut among the plain argument bytes, is the first one from there on
+point_from : (fuel : ℕ) (formals : List Formal) (at n : ℕ) (u : List ℕ) (s : ExpansionPoint) → length u ≤ fuel → n ≤ prefix_len is_plain_argument u → IsCut u n → s ≡ next_expansion_point formals at (tokens_from Plain 0 u) u → (is_none s ≡ false → at + n ≤ begins s)
     → s ≡ next_expansion_point formals (at + n) (tokens_from Plain 0 (drop n u)) (drop n u)
 point_from fuel formals at zero u s room run cut e far = e ∙ ap (λ (m : ℕ). next_expansion_point formals m (tokens_from Plain 0 u) u) (omega arith)
 point_from fuel formals at (suc n) [] s room run cut e far = absurd (omega arith)
@@ -192,8 +192,8 @@ point_from zero formals at (suc n) (b ∷ bs) s room run cut e far = absurd (ome
 point_from (suc fuel) formals at (suc n) (b ∷ bs) s room run cut e far =
     let u = b ∷ bs in
     let t = token_of Plain u in
-    let one = run_one is_calm n b bs run in
-    let calm = calm_token b bs one.0 in
+    let one = run_one is_plain_argument n b bs run in
+    let plain_argument = plain_argument_token b bs one.0 in
     let some : 0 < length u = omega arith in
     ⊎_elim
     (λ q.
@@ -204,10 +204,10 @@ point_from (suc fuel) formals at (suc n) (b ∷ bs) s room run cut e far =
     let before : t.len ≤ n = token_before b n bs one.0 dark (inert_there cut) in
     let none = passed_here formals at u s some e (λ h. omega (arith, far h)) in
     let not_empty : 0 < t.len = (token_of-part Plain u some).not_empty in
-    let left : suc n - t.len ≤ prefix_len is_calm (drop t.len u) = run_drop is_calm t.len (suc n - t.len) u (omega arith) in
+    let left : suc n - t.len ≤ prefix_len is_plain_argument (drop t.len u) = run_drop is_plain_argument t.len (suc n - t.len) u (omega arith) in
     let sum : t.len + (suc n - t.len) ≡ suc n = omega arith in
     let place : at + t.len + (suc n - t.len) ≡ at + suc n = omega arith in
-    point_from fuel formals (at + t.len) (suc n - t.len) (drop t.len u) s (omega (arith, length-drop t.len u)) left (cut_left t.len (suc n) u (omega arith) cut) (e ∙ text_step formals at u some calm.next none) (λ h. omega (arith, far h))
+    point_from fuel formals (at + t.len) (suc n - t.len) (drop t.len u) s (omega (arith, length-drop t.len u)) left (cut_left t.len (suc n) u (omega arith) cut) (e ∙ text_step formals at u some plain_argument.next none) (λ h. omega (arith, far h))
     ∙ (ap (λ (l : List ℕ). next_expansion_point formals (at + t.len + (suc n - t.len)) (tokens_from Plain 0 l) l) (drop-drop (suc n - t.len) t.len u ∙ ap (λ (m : ℕ). drop m u) sum)
     ∙ ap (λ (m : ℕ). next_expansion_point formals m (tokens_from Plain 0 (drop (suc n) u)) (drop (suc n) u)) place))
     (cases_Bool (is_inert b))
@@ -226,9 +226,9 @@ point_from (suc fuel) formals at (suc n) (b ∷ bs) s room run cut e far =
 
 -- The front of a text.
 
--- a front of calm bytes has no expansion point, where the first expansion point of the text begins no nearer than at its end, and
+-- a front of plain argument bytes has no expansion point, where the first expansion point of the text begins no nearer than at its end, and
 -- no word goes on there
-point_behind : (fuel : ℕ) (formals : List Formal) (at m : ℕ) (u : List ℕ) (s : ExpansionPoint) → length u ≤ fuel → m ≤ prefix_len is_calm u → is_word (get_or u m 0) ≡ false → s ≡ next_expansion_point formals at (tokens_from Plain 0 u) u → (is_none s ≡ false → at + m ≤ begins s)
+point_behind : (fuel : ℕ) (formals : List Formal) (at m : ℕ) (u : List ℕ) (s : ExpansionPoint) → length u ≤ fuel → m ≤ prefix_len is_plain_argument u → is_word (get_or u m 0) ≡ false → s ≡ next_expansion_point formals at (tokens_from Plain 0 u) u → (is_none s ≡ false → at + m ≤ begins s)
     → next_expansion_point formals at (tokens_from Plain 0 (take m u)) (take m u) ≡ point.None
 unfolding next_expansion_point tokens_from
 point_behind fuel formals at zero u s room run ends e far = refl
@@ -237,24 +237,24 @@ point_behind zero formals at (suc m) (b ∷ bs) s room run ends e far = absurd (
 point_behind (suc fuel) formals at (suc m) (b ∷ bs) s room run ends e far =
     let u = b ∷ bs in
     let t = token_of Plain u in
-    let one = run_one is_calm m b bs run in
-    let calm = calm_token b bs one.0 in
+    let one = run_one is_plain_argument m b bs run in
+    let plain_argument = plain_argument_token b bs one.0 in
     let some : 0 < length u = omega arith in
     ⊎_elim
     (λ q. inert_one formals at b (take m bs) q ∙ point_behind fuel formals (at + 1) m bs s (omega arith) one.1 ends (e ∙ inert_one formals at b bs q) (λ h. omega (arith, far h)))
     (λ dark.
-    let inside : t.len ≤ suc m = omega (arith, calm.short (no_blank b dark), run_points is_word m bs ends) in
+    let inside : t.len ≤ suc m = omega (arith, plain_argument.short (no_blank b dark), run_points is_word m bs ends) in
     let none = passed_here formals at u s some e (λ h. omega (arith, far h)) in
     let not_empty : 0 < t.len = (token_of-part Plain u some).not_empty in
-    let left : suc m - t.len ≤ prefix_len is_calm (drop t.len u) = run_drop is_calm t.len (suc m - t.len) u (omega arith) in
+    let left : suc m - t.len ≤ prefix_len is_plain_argument (drop t.len u) = run_drop is_plain_argument t.len (suc m - t.len) u (omega arith) in
     let sum : t.len + (suc m - t.len) ≡ suc m = omega arith in
     let still : is_word (get_or (drop t.len u) (suc m - t.len) 0) ≡ false = ap is_word (get_or-drop t.len u (suc m - t.len) 0 ∙ ap (λ (k : ℕ). get_or u k 0) sum) ∙ ends in
-    cut_step formals at (suc m) u some calm.next inside none
-    ∙ point_behind fuel formals (at + t.len) (suc m - t.len) (drop t.len u) s (omega (arith, length-drop t.len u)) left still (e ∙ text_step formals at u some calm.next none) (λ h. omega (arith, far h)))
+    cut_step formals at (suc m) u some plain_argument.next inside none
+    ∙ point_behind fuel formals (at + t.len) (suc m - t.len) (drop t.len u) s (omega (arith, length-drop t.len u)) left still (e ∙ text_step formals at u some plain_argument.next none) (λ h. omega (arith, far h)))
     (cases_Bool (is_inert b))
 
--- an expansion point behind calm bytes alone is the first one of each front of the text that has it
-point_inside : (fuel : ℕ) (formals : List Formal) (at m : ℕ) (u : List ℕ) (s : ExpansionPoint) → length u ≤ fuel → s ≡ next_expansion_point formals at (tokens_from Plain 0 u) u → is_none s ≡ false → begins s ≤ at + prefix_len is_calm u → begins s ≤ point_end s → point_end s ≤ at + m
+-- an expansion point behind plain argument bytes alone is the first one of each front of the text that has it
+point_inside : (fuel : ℕ) (formals : List Formal) (at m : ℕ) (u : List ℕ) (s : ExpansionPoint) → length u ≤ fuel → s ≡ next_expansion_point formals at (tokens_from Plain 0 u) u → is_none s ≡ false → begins s ≤ at + prefix_len is_plain_argument u → begins s ≤ point_end s → point_end s ≤ at + m
     → next_expansion_point formals at (tokens_from Plain 0 (take m u)) (take m u) ≡ s
 unfolding next_expansion_point tokens_from is_none IsFrom point_of
 point_inside fuel formals at m [] s room e found run order inside = absurd (false≢true (sym found ∙ ap is_none e))
@@ -270,11 +270,11 @@ point_inside (suc fuel) formals at m (b ∷ bs) s room e found run order inside 
     (λ none.
     let is : s ≡ later = step ∙ or_none (here formals at u) later none in
     let far : at + t.len ≤ begins s = omega (arith, tokens_within formals (at + t.len) (tokens_from t.next_mode 0 (drop t.len u)) (drop t.len u) (ap is_none (sym is) ∙ found), ap begins is) in
-    let one = run_one is_calm 0 b bs (omega (arith, far, run, part.not_empty)) in
-    let calm = calm_token b bs one.0 in
-    let left : begins s - (at + t.len) ≤ prefix_len is_calm (drop t.len u) = run_drop is_calm t.len (begins s - (at + t.len)) u (omega (arith, far, run)) in
-    cut_step formals at m u some calm.next (omega (arith, far, order, inside)) none
-    ∙ point_inside fuel formals (at + t.len) (m - t.len) (drop t.len u) s (omega (arith, length-drop t.len u, part.not_empty)) (e ∙ text_step formals at u some calm.next none) found (omega (arith, far, left)) order (omega (arith, far, order, inside)))
+    let one = run_one is_plain_argument 0 b bs (omega (arith, far, run, part.not_empty)) in
+    let plain_argument = plain_argument_token b bs one.0 in
+    let left : begins s - (at + t.len) ≤ prefix_len is_plain_argument (drop t.len u) = run_drop is_plain_argument t.len (begins s - (at + t.len)) u (omega (arith, far, run)) in
+    cut_step formals at m u some plain_argument.next (omega (arith, far, order, inside)) none
+    ∙ point_inside fuel formals (at + t.len) (m - t.len) (drop t.len u) s (omega (arith, length-drop t.len u, part.not_empty)) (e ∙ text_step formals at u some plain_argument.next none) found (omega (arith, far, left)) order (omega (arith, far, order, inside)))
     (λ h.
     let is : s ≡ here formals at u = step ∙ or_some (here formals at u) later h in
     front_first formals at m u some h (omega (arith, ap point_end is, inside)) ∙ sym is)
@@ -299,55 +299,55 @@ run_most p (x ∷ xs) =
     (λ q. omega (arith, cond-false (p x) (1 + prefix_len p xs) 0 q))
     (cases_Bool (p x))
 
--- the calm bytes that are kept with the first expansion point of a text are calm bytes of it
-calm_few : (s : ExpansionPoint) (from : ℕ) (text : List ℕ) → calm_kept (before_point s from text) ≤ prefix_len is_calm text
-unfolding calm_kept before_point
-calm_few point.None from text = run_front is_calm 255 text
-calm_few (point.Formal at len place) from text = omega (arith, run_front is_calm 255 (take (at - from) text), run_front is_calm (at - from) text)
-calm_few (point.Usage at len) from text = omega (arith, run_front is_calm 255 (take (at - from) text), run_front is_calm (at - from) text)
-calm_few (point.Bare at) from text = omega (arith, run_front is_calm 255 (take (at - from) text), run_front is_calm (at - from) text)
+-- the plain argument bytes that are kept with the first expansion point of a text are plain argument bytes of it
+plain_argument_few : (s : ExpansionPoint) (from : ℕ) (text : List ℕ) → plain_argument_kept (before_point s from text) ≤ prefix_len is_plain_argument text
+unfolding plain_argument_kept before_point
+plain_argument_few point.None from text = run_front is_plain_argument 255 text
+plain_argument_few (point.Formal at len place) from text = omega (arith, run_front is_plain_argument 255 (take (at - from) text), run_front is_plain_argument (at - from) text)
+plain_argument_few (point.Usage at len) from text = omega (arith, run_front is_plain_argument 255 (take (at - from) text), run_front is_plain_argument (at - from) text)
+plain_argument_few (point.Bare at) from text = omega (arith, run_front is_plain_argument 255 (take (at - from) text), run_front is_plain_argument (at - from) text)
 
 -- and stand before it
-calm_front : (at from : ℕ) (text : List ℕ) → from ≤ at → from + prefix_len is_calm (take 255 (take (at - from) text)) ≤ at
-calm_front at from text h = omega (arith, run_front is_calm 255 (take (at - from) text), run_most is_calm (take (at - from) text), length-take (at - from) text)
+plain_argument_front : (at from : ℕ) (text : List ℕ) → from ≤ at → from + prefix_len is_plain_argument (take 255 (take (at - from) text)) ≤ at
+plain_argument_front at from text h = omega (arith, run_front is_plain_argument 255 (take (at - from) text), run_most is_plain_argument (take (at - from) text), length-take (at - from) text)
 
-calm_before : (s : ExpansionPoint) (from : ℕ) (text : List ℕ) → is_none s ≡ false → from ≤ begins s → from + calm_kept (before_point s from text) ≤ begins s
-unfolding calm_kept before_point begins is_none
-calm_before point.None from text h low = absurd (cc)
-calm_before (point.Formal at len place) from text h low = calm_front at from text low
-calm_before (point.Usage at len) from text h low = calm_front at from text low
-calm_before (point.Bare at) from text h low = calm_front at from text low
+plain_argument_before : (s : ExpansionPoint) (from : ℕ) (text : List ℕ) → is_none s ≡ false → from ≤ begins s → from + plain_argument_kept (before_point s from text) ≤ begins s
+unfolding plain_argument_kept before_point begins is_none
+plain_argument_before point.None from text h low = absurd (cc)
+plain_argument_before (point.Formal at len place) from text h low = plain_argument_front at from text low
+plain_argument_before (point.Usage at len) from text h low = plain_argument_front at from text low
+plain_argument_before (point.Bare at) from text h low = plain_argument_front at from text low
 
 -- what is kept of the first expansion point of a text from a place on
 record IsKeptPoint (s : ExpansionPoint) (start : ℕ) (rest : List ℕ) (k : PackedPoint) : Type 0 where
   back : IfSome (point_kept k) (λ x. x ≡ s)
-  few : k.calm ≤ prefix_len is_calm rest
-  before : is_none s ≡ false → start + k.calm ≤ begins s
-  place : is_none s ≡ false → (k.end - k.len ≡ begins s) ⊎ (k.calm ≡ 0)
+  few : k.plain_argument ≤ prefix_len is_plain_argument rest
+  before : is_none s ≡ false → start + k.plain_argument ≤ begins s
+  place : is_none s ≡ false → (k.end - k.len ≡ begins s) ⊎ (k.plain_argument ≡ 0)
   some : 0 < k.len → (is_none s ≡ false) × ((begins s ≡ k.end - k.len) × (point_end s ≡ k.end))
 
 none_kept : (s : ExpansionPoint) (start : ℕ) (rest : List ℕ) → (is_none s ≡ false → start ≤ begins s) → IsKeptPoint s start rest (endless kept.Unknown 0)
 unfolding point_kept point_by endless
 none_kept s start rest low = record { back = tt; few = omega arith; before = λ h. omega (arith, low h); place = λ _. inr refl; some = λ h. absurd (omega (arith, h)) }
 
-when_kept : (b : Bool) (kind : PackedKind) (at len place calm : ℕ) (s : ExpansionPoint) (start : ℕ) (rest : List ℕ) → point_by kind at len place ≡ Some s → is_none s ≡ false → begins s ≡ at → point_end s ≡ at + len → calm ≤ prefix_len is_calm rest → start + calm ≤ at → IsKeptPoint s start rest (when b kind at len place calm)
-when_kept true kind at len place calm s start rest e found there ends few before =
+when_kept : (b : Bool) (kind : PackedKind) (at len place plain_argument : ℕ) (s : ExpansionPoint) (start : ℕ) (rest : List ℕ) → point_by kind at len place ≡ Some s → is_none s ≡ false → begins s ≡ at → point_end s ≡ at + len → plain_argument ≤ prefix_len is_plain_argument rest → start + plain_argument ≤ at → IsKeptPoint s start rest (when b kind at len place plain_argument)
+when_kept true kind at len place plain_argument s start rest e found there ends few before =
     let back : at + len - len ≡ at = omega arith in
     record {
-      back = back_when true kind at len place calm s e;
+      back = back_when true kind at len place plain_argument s e;
       few = few;
       before = λ _. omega (arith, there, before);
       place = λ _. inl (back ∙ sym there);
       some = λ _. (found, (there ∙ sym back, ends));
     }
-when_kept false kind at len place calm s start rest e found there ends few before = none_kept s start rest (λ _. omega (arith, there, before))
+when_kept false kind at len place plain_argument s start rest e found there ends few before = none_kept s start rest (λ _. omega (arith, there, before))
 
-of_kept : (s : ExpansionPoint) (calm start : ℕ) (rest : List ℕ) → calm ≤ prefix_len is_calm rest → (is_none s ≡ false → start + calm ≤ begins s) → IsKeptPoint s start rest (kept_of s calm)
+of_kept : (s : ExpansionPoint) (plain_argument start : ℕ) (rest : List ℕ) → plain_argument ≤ prefix_len is_plain_argument rest → (is_none s ≡ false → start + plain_argument ≤ begins s) → IsKeptPoint s start rest (kept_of s plain_argument)
 unfolding kept_of placed endless point_kept point_by is_none begins point_end
-of_kept point.None calm start rest few before = record { back = refl; few = few; before = λ h. absurd (cc); place = λ h. absurd (cc); some = λ h. absurd (omega (arith, h)) }
-of_kept (point.Formal at len place) calm start rest few before = when_kept _ kept.Formal at len place calm _ start rest refl refl refl refl few (before refl)
-of_kept (point.Usage at len) calm start rest few before = when_kept _ kept.Usage at len 0 calm _ start rest refl refl refl refl few (before refl)
-of_kept (point.Bare at) calm start rest few before = when_kept _ kept.Bare at 1 0 calm _ start rest refl refl refl refl few (before refl)
+of_kept point.None plain_argument start rest few before = record { back = refl; few = few; before = λ h. absurd (cc); place = λ h. absurd (cc); some = λ h. absurd (omega (arith, h)) }
+of_kept (point.Formal at len place) plain_argument start rest few before = when_kept _ kept.Formal at len place plain_argument _ start rest refl refl refl refl few (before refl)
+of_kept (point.Usage at len) plain_argument start rest few before = when_kept _ kept.Usage at len 0 plain_argument _ start rest refl refl refl refl few (before refl)
+of_kept (point.Bare at) plain_argument start rest few before = when_kept _ kept.Bare at 1 0 plain_argument _ start rest refl refl refl refl few (before refl)
 
 -- a cut of a text, counted from the place from which on it is read
 cut_place : (text : List ℕ) (start from : ℕ) → start ≤ from → is_cut text start from ≡ true → IsCut (drop start text) (from - start)
@@ -363,17 +363,17 @@ cut_place text start from low h =
       | inr past ↦ inl (omega (arith, past))
     ]
 
--- a place at which an expansion point is kept is a cut among the calm bytes, however many these are
-cut_near : (text : List ℕ) (start from calm : ℕ) → (eqb from start || (leb from (start + calm) && is_cut text start from)) ≡ true → (from ≤ start + calm) × (is_cut text start from ≡ true)
+-- a place at which an expansion point is kept is a cut among the plain argument bytes, however many these are
+cut_near : (text : List ℕ) (start from plain_argument : ℕ) → (eqb from start || (leb from (start + plain_argument) && is_cut text start from)) ≡ true → (from ≤ start + plain_argument) × (is_cut text start from ≡ true)
 unfolding is_cut
-cut_near text start from calm h =
+cut_near text start from plain_argument h =
     ⊎_elim
     (λ (e : eqb from start ≡ true). (omega (arith, eqb-true from start e), ap (λ (t : Bool). t || is_inert (get_or text (from - 1) 0)) e))
-    (λ w. let two = and_parts (leb from (start + calm)) _ w in (leb-true _ _ two.0, two.1))
+    (λ w. let two = and_parts (leb from (start + plain_argument)) _ w in (leb-true _ _ two.0, two.1))
     (or_cases _ _ h)
 
--- the first expansion point of a text from a place on is that from a cut among the calm bytes on
-point_further : (formals : List Formal) (text : List ℕ) (start from : ℕ) (s : ExpansionPoint) (k : PackedPoint) → IsKeptPoint s start (drop start text) k → s ≡ point_of formals start (drop start text) → start ≤ from → from ≤ start + k.calm → is_cut text start from ≡ true → s ≡ next_expansion_point formals from (tokens_from Plain 0 (drop from text)) (drop from text)
+-- the first expansion point of a text from a place on is that from a cut among the plain argument bytes on
+point_further : (formals : List Formal) (text : List ℕ) (start from : ℕ) (s : ExpansionPoint) (k : PackedPoint) → IsKeptPoint s start (drop start text) k → s ≡ point_of formals start (drop start text) → start ≤ from → from ≤ start + k.plain_argument → is_cut text start from ≡ true → s ≡ next_expansion_point formals from (tokens_from Plain 0 (drop from text)) (drop from text)
 unfolding point_of
 point_further formals text start from s k is e low near cut =
     let n = from - start in
@@ -382,11 +382,11 @@ point_further formals text start from s k is e low near cut =
     ∙ (ap (λ (l : List ℕ). next_expansion_point formals (start + n) (tokens_from Plain 0 l) l) (drop-drop n start text)
     ∙ ap (λ (m : ℕ). next_expansion_point formals m (tokens_from Plain 0 (drop m text)) (drop m text)) there)
 
--- calm bytes behind a place further on
-run_further : (text : List ℕ) (start from m : ℕ) → start ≤ from → from - start + m ≤ prefix_len is_calm (drop start text) → m ≤ prefix_len is_calm (drop from text)
+-- plain argument bytes behind a place further on
+run_further : (text : List ℕ) (start from m : ℕ) → start ≤ from → from - start + m ≤ prefix_len is_plain_argument (drop start text) → m ≤ prefix_len is_plain_argument (drop from text)
 run_further text start from m low h =
     let there : start + (from - start) ≡ from = omega (arith, low) in
-    subst (λ (l : List ℕ). m ≤ prefix_len is_calm l) (drop-drop (from - start) start text ∙ ap (λ (n : ℕ). drop n text) there) (run_drop is_calm (from - start) m (drop start text) h)
+    subst (λ (l : List ℕ). m ≤ prefix_len is_plain_argument l) (drop-drop (from - start) start text ∙ ap (λ (n : ℕ). drop n text) there) (run_drop is_plain_argument (from - start) m (drop start text) h)
 
 -- an expansion point that is kept tells the first one of a range
 known_range : (formals : List Formal) (text : List ℕ) (start from to : ℕ) (s : ExpansionPoint) (k : PackedPoint) → IsKeptPoint s start (drop start text) k → s ≡ point_of formals start (drop start text) → start ≤ from → from ≤ to → to ≤ length text → IfSome (point_known text start k from to) (λ x. x ≡ point_of formals from (slice_range text from to))
@@ -396,34 +396,34 @@ known_range formals text start from to s k is e low order high =
     let m = to - from in
     let S : ExpansionPoint = point_of formals from (slice_range text from to) in
     let P : Option ExpansionPoint → Type 0 = λ r. IfSome r (λ x. x ≡ S) in
-    cond_both (eqb from start || (leb from (start + k.calm) && is_cut text start from)) _ None P
+    cond_both (eqb from start || (leb from (start + k.plain_argument) && is_cut text start from)) _ None P
     (λ h.
-    let two = cut_near text start from k.calm h in
-    let near : from ≤ start + k.calm = two.0 in
+    let two = cut_near text start from k.plain_argument h in
+    let near : from ≤ start + k.plain_argument = two.0 in
     let further : s ≡ next_expansion_point formals from (tokens_from Plain 0 u) u = point_further formals text start from s k is e low near two.1 in
-    cond_both (eqb to (length text) || (ltb 0 k.len && (leb k.end to && leb (k.end - k.len) (start + k.calm)))) (point_kept k) _ P
+    cond_both (eqb to (length text) || (ltb 0 k.len && (leb k.end to && leb (k.end - k.len) (start + k.plain_argument)))) (point_kept k) _ P
     (λ g. subst (λ (x : ExpansionPoint). IfSome (point_kept k) (λ y. y ≡ x)) (⊎_elim
     (λ w. further ∙ ap (point_of formals from) (sym (behind_place from text) ∙ ap (λ (n : ℕ). slice_range text from n) (sym (eqb-true to (length text) w))))
     (λ w.
     let a = and_parts (ltb 0 k.len) _ w in
-    let b = and_parts (leb k.end to) (leb (k.end - k.len) (start + k.calm)) a.1 in
+    let b = and_parts (leb k.end to) (leb (k.end - k.len) (start + k.plain_argument)) a.1 in
     let some = is.some (ltb-true 0 k.len a.0) in
     let ends : k.end ≤ to = leb-true _ _ b.0 in
-    let reached : k.end - k.len ≤ start + k.calm = leb-true _ _ b.1 in
+    let reached : k.end - k.len ≤ start + k.plain_argument = leb-true _ _ b.1 in
     let after : from ≤ begins s = omega (arith, near, is.before some.0) in
-    let run : begins s - from ≤ prefix_len is_calm u = run_further text start from (begins s - from) low (omega (arith, after, low, some.1.0, reached, is.few)) in
+    let run : begins s - from ≤ prefix_len is_plain_argument u = run_further text start from (begins s - from) low (omega (arith, after, low, some.1.0, reached, is.few)) in
     sym (point_inside (length u) formals from m u s (omega arith) further some.0 (omega (arith, after, run)) (begins_end s some.0) (omega (arith, order, some.1.1, ends))))
     (or_cases _ _ g)) is.back)
     (λ _.
-    cond_both (leb to (k.end - k.len) && (leb to (start + k.calm) && not (is_word (get_or text to 0)))) (Some point.None) None P
+    cond_both (leb to (k.end - k.len) && (leb to (start + k.plain_argument) && not (is_word (get_or text to 0)))) (Some point.None) None P
     (λ g.
     let a = and_parts (leb to (k.end - k.len)) _ g in
-    let b = and_parts (leb to (start + k.calm)) (not (is_word (get_or text to 0))) a.1 in
+    let b = and_parts (leb to (start + k.plain_argument)) (not (is_word (get_or text to 0))) a.1 in
     let before : to ≤ k.end - k.len = leb-true _ _ a.0 in
-    let reached : to ≤ start + k.calm = leb-true _ _ b.0 in
+    let reached : to ≤ start + k.plain_argument = leb-true _ _ b.0 in
     let sum : from + m ≡ to = omega (arith, order) in
     let ends : is_word (get_or u m 0) ≡ false = ap is_word (get_or-drop from text m 0 ∙ ap (λ (n : ℕ). get_or text n 0) sum) ∙ not-true (is_word (get_or text to 0)) b.1 in
-    let run : m ≤ prefix_len is_calm u = run_further text start from m low (omega (arith, order, low, reached, is.few)) in
+    let run : m ≤ prefix_len is_plain_argument u = run_further text start from m low (omega (arith, order, low, reached, is.few)) in
     let far : is_none s ≡ false → from + m ≤ begins s = λ h. ⊎_elim (λ p. omega (arith, order, before, p)) (λ z. omega (arith, order, reached, z, is.before h)) (is.place h) in
     sym (point_behind (length u) formals from m u s (omega arith) run ends further far))
     (λ _. tt)))
@@ -435,8 +435,8 @@ when_range true formals text start from to low order high =
     let rest = drop start text in
     let s = point_of formals start rest in
     let at : is_none s ≡ false → start ≤ begins s = tokens_within formals start (tokens_from Plain 0 rest) rest in
-    known_range formals text start from to s (kept_of s (calm_kept (before_point s start rest)))
-    (of_kept s (calm_kept (before_point s start rest)) start rest (calm_few s start rest) (λ h. calm_before s start rest h (at h))) refl low order high
+    known_range formals text start from to s (kept_of s (plain_argument_kept (before_point s start rest)))
+    (of_kept s (plain_argument_kept (before_point s start rest)) start rest (plain_argument_few s start rest) (λ h. plain_argument_before s start rest h (at h))) refl low order high
 when_range false formals text start from to low order high =
     let rest = drop start text in
     let s = point_of formals start rest in

@@ -1,10 +1,10 @@
-// The white space and the calm bytes of a call, which the search for the end of a part passes byte by byte.
+// The white space and the plain argument bytes of a call, which the search for the end of a part passes byte by byte.
 ghost use Rattle.std.specs.Prelude.{◌≡◌, ◌≤◌, ◌==◌, ◌&&◌, not, ℕ, false, Bool, length, drop, if◌then◌else◌};
 ghost use Rattle.rdlpp_scan.specs.declared.token.Mode.TheVariants.{Plain};
 ghost use Rattle.rdlpp_meaning.specs.TextTokens.{text_tokens};
 ghost use Rattle.rdlpp_texts.specs.CallParts.{is_white, part_from};
-ghost use Rattle.rdlpp_texts.specs.CalmBytes.{begins_white, byte_class};
-ghost use Rattle.rdlpp_texts.specs.declared.calm.ByteClass.TheVariants.{Calm, Mark};
+ghost use Rattle.rdlpp_texts.specs.PlainArgumentBytes.{begins_white, byte_class};
+ghost use Rattle.rdlpp_texts.specs.declared.plain_argument.ByteClass.TheVariants.{PlainArgument, Mark};
 
 use rdlpp_scan::{Mode, is_blank};
 
@@ -14,7 +14,7 @@ pub(crate) enum ByteClass {
     // White space.
     White,
     // Any other that opens, closes and cuts nothing, and begins no string, no comment and no `<%`.
-    Calm,
+    PlainArgument,
     // Any other: it takes its token to tell.
     Mark,
 }
@@ -28,8 +28,9 @@ pub(crate) struct Passed {
     pub(crate) to: usize,
 }
 
-// Passes the white space and the calm bytes that stand from a place on, at a level of openers. None stand in a string or in a comment.
-pub(crate) fn pass_calm(mode: Mode, level: usize, text: &[u8], from: Passed) -> Passed
+// Passes the white space and the plain argument bytes that stand from a place on, at a level of openers. None stand in a string or
+// in a comment.
+pub(crate) fn pass_plain_argument(mode: Mode, level: usize, text: &[u8], from: Passed) -> Passed
     requires { from.at ≤ length text.now }
     ensures order { from.at ≤ result.at }
     ensures inside { result.at ≤ length text.now }
@@ -57,7 +58,7 @@ fn pass_plain(level: usize, text: &[u8], from: Passed) -> Passed
     while at < text.len() {
         match byte_class(level, text[at]) {
             ByteClass::White => at += 1,
-            ByteClass::Calm => {
+            ByteClass::PlainArgument => {
                 at += 1;
                 to = at;
             }
@@ -74,28 +75,28 @@ fn byte_class(level: usize, b: u8) -> ByteClass
     ensures { result ≡ byte_class level b }
 {
     if b >= 64 {
-        calm_or_mark(is_calm_letter(b))
+        plain_argument_or_mark(is_plain_argument_letter(b))
     } else if b == b' ' {
         ByteClass::White
     } else if b < b' ' {
         if is_white(b) {
             ByteClass::White
         } else {
-            ByteClass::Calm
+            ByteClass::PlainArgument
         }
     } else if b == b',' {
-        calm_or_mark(level > 0)
+        plain_argument_or_mark(level > 0)
     } else {
-        calm_or_mark(is_calm_mark(b))
+        plain_argument_or_mark(is_plain_argument_mark(b))
     }
 }
 
 // What a byte is that is no white space.
-fn calm_or_mark(is_calm: bool) -> ByteClass
-    ensures { result ≡ (if is_calm then Calm else Mark) }
+fn plain_argument_or_mark(is_plain_argument: bool) -> ByteClass
+    ensures { result ≡ (if is_plain_argument then PlainArgument else Mark) }
 {
-    if is_calm {
-        ByteClass::Calm
+    if is_plain_argument {
+        ByteClass::PlainArgument
     } else {
         ByteClass::Mark
     }
@@ -109,15 +110,15 @@ pub(crate) fn is_white(b: u8) -> bool
     is_blank(b) || b == b'\n'
 }
 
-// Whether a byte between the blank and 64 other than a comma is calm: no round bracket, no `"`, no `/` and no `<`.
-fn is_calm_mark(b: u8) -> bool
+// Whether a byte between the blank and 64 other than a comma is a plain argument byte: no round bracket, no `"`, no `/` and no `<`.
+fn is_plain_argument_mark(b: u8) -> bool
     ensures { result ≡ (not (b == 40) && (not (b == 41) && (not (b == 34) && (not (b == 47) && not (b == 60))))) }
 {
     b != b'(' && b != b')' && b != b'"' && b != b'/' && b != b'<'
 }
 
-// Whether a byte from 64 on is calm: no square bracket and no brace.
-fn is_calm_letter(b: u8) -> bool
+// Whether a byte from 64 on is a plain argument byte: no square bracket and no brace.
+fn is_plain_argument_letter(b: u8) -> bool
     ensures { result ≡ (not (b == 91) && (not (b == 123) && (not (b == 93) && not (b == 125)))) }
 {
     b != b'[' && b != b'{' && b != b']' && b != b'}'

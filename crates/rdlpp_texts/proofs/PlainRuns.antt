@@ -24,15 +24,15 @@ use Rattle.rdlpp_meaning.proofs.KeptTexts.{body_text, either_kept, first_spelled
 use Rattle.rdlpp_texts.specs.CallParts.{ends_call, ends_part, ends_text, is_white, part_from}
 use Rattle.rdlpp_texts.specs.CallTokens as call
 use Rattle.rdlpp_texts.specs.CallTokens.{IsFirstToken, role_meant}
-use Rattle.rdlpp_texts.specs.CalmBytes.{begins_white, byte_class, is_calm, is_calm_at}
+use Rattle.rdlpp_texts.specs.PlainArgumentBytes.{begins_white, byte_class, is_plain_argument, is_plain_argument_at}
 use Rattle.rdlpp_texts.specs.TextItems.{is_back, run_len}
 use Rattle.rdlpp_texts.specs.KeptTexts.{is_no_slash, keeps_each}
-use Rattle.rdlpp_texts.specs.declared.calm.ByteClass.TheVariants.{Calm, Mark, White}
+use Rattle.rdlpp_texts.specs.declared.plain_argument.ByteClass.TheVariants.{PlainArgument, Mark, White}
 use Rattle.rdlpp_texts.specs.declared.tokens.CallRole.TheVariants as role
 use Rattle.rdlpp_texts.proofs.QuickTokens.{blank_token, comma_here, named, rest_turn, word_text}
 use Rattle.rdlpp_texts.proofs.Stopping.{passed, running-point}
 
--- White space is calm.
+-- White space is plain argument.
 
 white_in : (P : ℕ → Type 0) (b : ℕ) → P 32 → P 9 → P 13 → P 11 → P 12 → P 10 → is_white b ≡ true → P b
 unfolding is_white is_blank is_line_end
@@ -42,37 +42,37 @@ white_in P b space tab return vertical form line h =
     (λ h5. ⊎_elim (λ h4. ⊎_elim (λ h3. ⊎_elim (λ h2. ⊎_elim (at 32 space) (at 9 tab) (or_cases _ _ h2)) (at 13 return) (or_cases _ _ h3)) (at 11 vertical) (or_cases _ _ h4)) (at 12 form) (or_cases _ _ h5))
     (at 10 line) (or_cases _ _ h)
 
-pub white_calm : (level b : ℕ) → is_white b ≡ true → is_calm_at level b ≡ true
-unfolding is_calm_at is_calm is_opener is_closer
-white_calm level b h = or_left (is_calm b) _ (white_in (λ n. is_calm n ≡ true) b refl refl refl refl refl refl h)
+pub white_plain_argument : (level b : ℕ) → is_white b ≡ true → is_plain_argument_at level b ≡ true
+unfolding is_plain_argument_at is_plain_argument is_opener is_closer
+white_plain_argument level b h = or_left (is_plain_argument b) _ (white_in (λ n. is_plain_argument n ≡ true) b refl refl refl refl refl refl h)
 
 -- A class tells what a byte is.
 
-of_white : (w c : Bool) → White ≡ cond w White (cond c Calm Mark) → w ≡ true
+of_white : (w c : Bool) → White ≡ cond w White (cond c PlainArgument Mark) → w ≡ true
 of_white true c h = refl
 of_white false true h = absurd (cc)
 of_white false false h = absurd (cc)
 
-of_calm : (w c : Bool) → Calm ≡ cond w White (cond c Calm Mark) → (w ≡ false) × (c ≡ true)
-of_calm true c h = absurd (cc)
-of_calm false true h = (refl, refl)
-of_calm false false h = absurd (cc)
+of_plain_argument : (w c : Bool) → PlainArgument ≡ cond w White (cond c PlainArgument Mark) → (w ≡ false) × (c ≡ true)
+of_plain_argument true c h = absurd (cc)
+of_plain_argument false true h = (refl, refl)
+of_plain_argument false false h = absurd (cc)
 
-of_mark : (w c : Bool) → Mark ≡ cond w White (cond c Calm Mark) → w ≡ false
+of_mark : (w c : Bool) → Mark ≡ cond w White (cond c PlainArgument Mark) → w ≡ false
 of_mark true c h = absurd (cc)
 of_mark false c h = refl
 
 pub class_white : (level b : ℕ) → White ≡ byte_class level b → is_white b ≡ true
 unfolding byte_class
-class_white level b h = of_white (is_white b) (is_calm_at level b) h
+class_white level b h = of_white (is_white b) (is_plain_argument_at level b) h
 
-pub class_calm : (level b : ℕ) → Calm ≡ byte_class level b → (is_white b ≡ false) × (is_calm_at level b ≡ true)
+pub class_plain_argument : (level b : ℕ) → PlainArgument ≡ byte_class level b → (is_white b ≡ false) × (is_plain_argument_at level b ≡ true)
 unfolding byte_class
-class_calm level b h = of_calm (is_white b) (is_calm_at level b) h
+class_plain_argument level b h = of_plain_argument (is_white b) (is_plain_argument_at level b) h
 
 class_mark : (level b : ℕ) → Mark ≡ byte_class level b → is_white b ≡ false
 unfolding byte_class
-class_mark level b h = of_mark (is_white b) (is_calm_at level b) h
+class_mark level b h = of_mark (is_white b) (is_plain_argument_at level b) h
 
 -- a text doesn't begin with white space at a mark
 pub mark_dark : (level : ℕ) (text : List ℕ) (at : ℕ) → at < length text → Mark ≡ byte_class level (get_or text at 0) → begins_white Plain (drop at text) ≡ false
@@ -104,10 +104,10 @@ or_none true = refl
 or_none false = refl
 
 -- the class of a byte that isn't white space
-dark_class : (level b : ℕ) (calm : Bool) → is_white b ≡ false → calm ≡ is_calm_at level b → cond calm Calm Mark ≡ byte_class level b
+dark_class : (level b : ℕ) (plain_argument : Bool) → is_white b ≡ false → plain_argument ≡ is_plain_argument_at level b → cond plain_argument PlainArgument Mark ≡ byte_class level b
 unfolding byte_class
-dark_class level b calm dark is =
-    ap (λ (t : Bool). cond t Calm Mark) is ∙ sym (ap (λ (t : Bool). cond t White (cond (is_calm_at level b) Calm Mark)) dark)
+dark_class level b plain_argument dark is =
+    ap (λ (t : Bool). cond t PlainArgument Mark) is ∙ sym (ap (λ (t : Bool). cond t White (cond (is_plain_argument_at level b) PlainArgument Mark)) dark)
 
 high_is : (o p c d : Bool) → (not o && (not p && (not c && not d))) ≡ (not ((false || o) || p) && (not ((false || c) || d) && true))
 high_is true p c d = refl
@@ -116,9 +116,9 @@ high_is false false true d = refl
 high_is false false false true = refl
 high_is false false false false = refl
 
-calm_high : (b : ℕ) → 64 ≤ b → (not (b == 91) && (not (b == 123) && (not (b == 93) && not (b == 125)))) ≡ is_calm b
-unfolding is_calm is_opener is_closer
-calm_high b high =
+plain_argument_high : (b : ℕ) → 64 ≤ b → (not (b == 91) && (not (b == 123) && (not (b == 93) && not (b == 125)))) ≡ is_plain_argument b
+unfolding is_plain_argument is_opener is_closer
+plain_argument_high b high =
     rw (unequal b 40 (λ e. omega (arith, e, high)), unequal b 41 (λ e. omega (arith, e, high)), unequal b 44 (λ e. omega (arith, e, high)), unequal b 34 (λ e. omega (arith, e, high)), unequal b 47 (λ e. omega (arith, e, high)), unequal b 60 (λ e. omega (arith, e, high)))
     (high_is (b == 91) (b == 123) (b == 93) (b == 125))
 
@@ -129,58 +129,58 @@ dark_over b over =
     refl
 
 -- a byte from 64 on
-pub high_class : (level b : ℕ) (calm : Bool) → 64 ≤ b → calm ≡ (not (b == 91) && (not (b == 123) && (not (b == 93) && not (b == 125))))
-    → cond calm Calm Mark ≡ byte_class level b
-unfolding is_calm_at
-high_class level b calm high is =
-    dark_class level b calm (dark_over b (omega (arith, high)))
-    (is ∙ calm_high b high ∙ or_none (is_calm b) ∙ sym (ap (λ (t : Bool). is_calm b || (t && nat_lt 0 level)) (unequal b 44 (λ e. omega (arith, e, high)))))
+pub high_class : (level b : ℕ) (plain_argument : Bool) → 64 ≤ b → plain_argument ≡ (not (b == 91) && (not (b == 123) && (not (b == 93) && not (b == 125))))
+    → cond plain_argument PlainArgument Mark ≡ byte_class level b
+unfolding is_plain_argument_at
+high_class level b plain_argument high is =
+    dark_class level b plain_argument (dark_over b (omega (arith, high)))
+    (is ∙ plain_argument_high b high ∙ or_none (is_plain_argument b) ∙ sym (ap (λ (t : Bool). is_plain_argument b || (t && nat_lt 0 level)) (unequal b 44 (λ e. omega (arith, e, high)))))
 
 low_is : (o c x : Bool) → (not o && (not c && x)) ≡ (not ((o || false) || false) && (not ((c || false) || false) && x))
 low_is true c x = refl
 low_is false true x = refl
 low_is false false x = refl
 
-calm_low : (b : ℕ) → b < 64
-    → (not (b == 40) && (not (b == 41) && (not (b == 44) && (not (b == 34) && (not (b == 47) && not (b == 60)))))) ≡ is_calm b
-unfolding is_calm is_opener is_closer
-calm_low b low =
+plain_argument_low : (b : ℕ) → b < 64
+    → (not (b == 40) && (not (b == 41) && (not (b == 44) && (not (b == 34) && (not (b == 47) && not (b == 60)))))) ≡ is_plain_argument b
+unfolding is_plain_argument is_opener is_closer
+plain_argument_low b low =
     rw (unequal b 91 (λ e. omega (arith, e, low)), unequal b 123 (λ e. omega (arith, e, low)), unequal b 93 (λ e. omega (arith, e, low)), unequal b 125 (λ e. omega (arith, e, low)))
     (low_is (b == 40) (b == 41) (not (b == 44) && (not (b == 34) && (not (b == 47) && not (b == 60)))))
 
 -- one between the blank and 64 that is no comma
-pub mark_class : (level b : ℕ) (calm : Bool) → b < 64 → 32 < b → (b ≡ 44 → ⊥)
-    → calm ≡ (not (b == 40) && (not (b == 41) && (not (b == 34) && (not (b == 47) && not (b == 60)))))
-    → cond calm Calm Mark ≡ byte_class level b
-unfolding is_calm_at
-mark_class level b calm low over other is =
+pub mark_class : (level b : ℕ) (plain_argument : Bool) → b < 64 → 32 < b → (b ≡ 44 → ⊥)
+    → plain_argument ≡ (not (b == 40) && (not (b == 41) && (not (b == 34) && (not (b == 47) && not (b == 60)))))
+    → cond plain_argument PlainArgument Mark ≡ byte_class level b
+unfolding is_plain_argument_at
+mark_class level b plain_argument low over other is =
     let none = unequal b 44 other in
     let rest = not (b == 34) && (not (b == 47) && not (b == 60)) in
-    dark_class level b calm (dark_over b over)
-    (is ∙ sym (ap (λ (t : Bool). not (b == 40) && (not (b == 41) && (not t && rest))) none) ∙ calm_low b low
-    ∙ or_none (is_calm b) ∙ sym (ap (λ (t : Bool). is_calm b || (t && nat_lt 0 level)) none))
+    dark_class level b plain_argument (dark_over b over)
+    (is ∙ sym (ap (λ (t : Bool). not (b == 40) && (not (b == 41) && (not t && rest))) none) ∙ plain_argument_low b low
+    ∙ or_none (is_plain_argument b) ∙ sym (ap (λ (t : Bool). is_plain_argument b || (t && nat_lt 0 level)) none))
 
--- a comma, which is calm within further openers
-pub comma_class : (level b : ℕ) → b ≡ 44 → cond (nat_lt 0 level) Calm Mark ≡ byte_class level b
-unfolding byte_class is_white is_blank is_line_end is_calm_at is_calm is_opener is_closer
-comma_class level b e = subst (λ (n : ℕ). cond (nat_lt 0 level) Calm Mark ≡ byte_class level n) (sym e) refl
+-- a comma, which is plain argument within further openers
+pub comma_class : (level b : ℕ) → b ≡ 44 → cond (nat_lt 0 level) PlainArgument Mark ≡ byte_class level b
+unfolding byte_class is_white is_blank is_line_end is_plain_argument_at is_plain_argument is_opener is_closer
+comma_class level b e = subst (λ (n : ℕ). cond (nat_lt 0 level) PlainArgument Mark ≡ byte_class level n) (sym e) refl
 
 -- the blank
 pub blank_class : (level b : ℕ) → b ≡ 32 → White ≡ byte_class level b
 unfolding byte_class is_white is_blank
 blank_class level b e = subst (λ (n : ℕ). White ≡ byte_class level n) (sym e) refl
 
--- a byte below it is calm
-control_calm : (level b : ℕ) → b < 32 → is_calm_at level b ≡ true
-unfolding is_calm_at
-control_calm level b low =
-    or_left (is_calm b) _ (sym (calm_low b (omega (arith, low)))
+-- a byte below it is plain argument
+control_plain_argument : (level b : ℕ) → b < 32 → is_plain_argument_at level b ≡ true
+unfolding is_plain_argument_at
+control_plain_argument level b low =
+    or_left (is_plain_argument b) _ (sym (plain_argument_low b (omega (arith, low)))
     ∙ rw (unequal b 40 (λ e. omega (arith, e, low)), unequal b 41 (λ e. omega (arith, e, low)), unequal b 44 (λ e. omega (arith, e, low)), unequal b 34 (λ e. omega (arith, e, low)), unequal b 47 (λ e. omega (arith, e, low)), unequal b 60 (λ e. omega (arith, e, low))) refl)
 
 -- so that only white space is told apart
-pub control_class : (level b : ℕ) → b < 32 → cond (is_white b) White Calm ≡ byte_class level b
+pub control_class : (level b : ℕ) → b < 32 → cond (is_white b) White PlainArgument ≡ byte_class level b
 unfolding byte_class
-control_class level b low = sym (ap (λ (t : Bool). cond (is_white b) White (cond t Calm Mark)) (control_calm level b low))
+control_class level b low = sym (ap (λ (t : Bool). cond (is_white b) White (cond t PlainArgument Mark)) (control_plain_argument level b low))
 
 -- The search for the end of a part passes what opens, closes and cuts nothing byte by byte, whatever tokens it has.
 
@@ -284,36 +284,36 @@ line_step closes start at level end b bs e =
     subst (λ (n : ℕ). IsFirstToken Plain (n ∷ bs) (call.plain_token role.Space 1)) (sym (eqb-true b 10 e)) (line_here bs) in
     space_turn closes start at level end (b ∷ bs) 1 here
 
--- the token of any other calm byte is that byte alone, or takes the word behind it along
-IsCalmFirst : ℕ → List ℕ → Type 0
-IsCalmFirst b bs = IsFirstToken Plain (b ∷ bs) (call.plain_token role.Text 1) ⊎ IsFirstToken Plain (b ∷ bs) (call.plain_token role.Text (suc (prefix_len is_word bs)))
+-- the token of any other plain argument byte is that byte alone, or takes the word behind it along
+IsPlainArgumentFirst : ℕ → List ℕ → Type 0
+IsPlainArgumentFirst b bs = IsFirstToken Plain (b ∷ bs) (call.plain_token role.Text 1) ⊎ IsFirstToken Plain (b ∷ bs) (call.plain_token role.Text (suc (prefix_len is_word bs)))
 
 -- the token of a byte alone
-alone : (b : ℕ) (bs : List ℕ) (k : Kind) → token_of Plain (b ∷ bs) ≡ whole k 1 → role_meant role.Text ≡ kind_role k (b ∷ []) → IsCalmFirst b bs
-unfolding whole IsCalmFirst
+alone : (b : ℕ) (bs : List ℕ) (k : Kind) → token_of Plain (b ∷ bs) ≡ whole k 1 → role_meant role.Text ≡ kind_role k (b ∷ []) → IsPlainArgumentFirst b bs
+unfolding whole IsPlainArgumentFirst
 alone b bs k e r = inl (named (b ∷ bs) (whole k 1) role.Text (sym e) (omega arith) (omega arith) r)
 
 -- that of a byte and a word
-along : (b : ℕ) (bs : List ℕ) (k : Kind) → token_of Plain (b ∷ bs) ≡ whole k (suc (prefix_len is_word bs)) → role_meant role.Text ≡ kind_role k (b ∷ []) → IsCalmFirst b bs
-unfolding whole IsCalmFirst
+along : (b : ℕ) (bs : List ℕ) (k : Kind) → token_of Plain (b ∷ bs) ≡ whole k (suc (prefix_len is_word bs)) → role_meant role.Text ≡ kind_role k (b ∷ []) → IsPlainArgumentFirst b bs
+unfolding whole IsPlainArgumentFirst
 along b bs k e r =
     let all = prefix_len-le-length is_word bs in
     inr (named (b ∷ bs) (whole k (suc (prefix_len is_word bs))) role.Text (sym e) (omega arith) (omega (arith, all)) r)
 
 -- by the rows of the token table
-mark_first : (b : ℕ) (bs : List ℕ) → is_calm b ≡ true → is_line_end b ≡ false → is_digit b ≡ false
-    → token_of Plain (b ∷ bs) ≡ parts Plain (mark_kind b (get_or (b ∷ bs) 1 0)) (b ∷ bs) → IsCalmFirst b bs
-unfolding is_calm parts stop_of mode_behind len_of mark_kind whole kind_role role_meant
-mark_first b bs calm line digit =
+mark_first : (b : ℕ) (bs : List ℕ) → is_plain_argument b ≡ true → is_line_end b ≡ false → is_digit b ≡ false
+    → token_of Plain (b ∷ bs) ≡ parts Plain (mark_kind b (get_or (b ∷ bs) 1 0)) (b ∷ bs) → IsPlainArgumentFirst b bs
+unfolding is_plain_argument parts stop_of mode_behind len_of mark_kind whole kind_role role_meant
+mark_first b bs plain_argument line digit =
     let T = b ∷ bs in
     let c = get_or T 1 0 in
-    let opener = no_first (is_opener b) _ calm in
+    let opener = no_first (is_opener b) _ plain_argument in
     let closer = no_first (is_closer b) _ opener.1 in
     let comma = no_first (b == 44) _ closer.1 in
     let quote = no_first (b == 34) _ comma.1 in
     let slash = no_first (b == 47) _ quote.1 in
     let less = not-true (b == 60) slash.1 in
-    let P : Kind → Type 0 = λ k. token_of Plain T ≡ parts Plain k T → IsCalmFirst b bs in
+    let P : Kind → Type 0 = λ k. token_of Plain T ≡ parts Plain k T → IsPlainArgumentFirst b bs in
     cond_both (b == 44) _ _ P (λ h. absurd (both_ways _ comma.0 h)) (λ _.
     cond_both (is_opener b) _ _ P (λ h. absurd (both_ways _ opener.0 h)) (λ _.
     cond_both (is_closer b) _ _ P (λ h. absurd (both_ways _ closer.0 h)) (λ _.
@@ -330,27 +330,27 @@ mark_first b bs calm line digit =
     taken = ap (λ (t : Bool). whole Word (cond t (prefix_len is_word (b ∷ bs)) (suc (prefix_len is_word bs)))) digit
 
 -- the search passes such a byte
-mark_step : (closes : Bool) (start at level end b : ℕ) (bs : List ℕ) → is_calm b ≡ true → is_blank b ≡ false → is_line_end b ≡ false → is_word b ≡ false
+mark_step : (closes : Bool) (start at level end b : ℕ) (bs : List ℕ) → is_plain_argument b ≡ true → is_blank b ≡ false → is_line_end b ≡ false → is_word b ≡ false
     → part_from closes start at level end (text_tokens Plain (b ∷ bs)) ≡ part_from closes start (at + 1) level (at + 1) (text_tokens Plain bs)
-unfolding is_word kind_of plain_kind IsCalmFirst
-mark_step closes start at level end b bs calm blank line word =
+unfolding is_word kind_of plain_kind IsPlainArgumentFirst
+mark_step closes start at level end b bs plain_argument blank line word =
     let T = b ∷ bs in
     let h = or_parts (is_letter b) (is_digit b) word in
     let kind : plain_kind b (get_or T 1 0) ≡ mark_kind b (get_or T 1 0) = rw (h.0, blank, h.1) refl in
     let is : token_of Plain T ≡ parts Plain (mark_kind b (get_or T 1 0)) T = token_parts Plain T ∙ ap (λ (k : Kind). parts Plain k T) kind in
-    ⊎_elim (λ f. text_turn closes start at level end T 1 f) (λ f. taken_step closes start at level end b bs f) (mark_first b bs calm line h.1 is)
+    ⊎_elim (λ f. text_turn closes start at level end T 1 f) (λ f. taken_step closes start at level end b bs f) (mark_first b bs plain_argument line h.1 is)
 
--- the search passes a calm byte
-calm_step : (closes : Bool) (start at level end b : ℕ) (bs : List ℕ) → is_calm b ≡ true
+-- the search passes a plain argument byte
+plain_argument_step : (closes : Bool) (start at level end b : ℕ) (bs : List ℕ) → is_plain_argument b ≡ true
     → part_from closes start at level end (text_tokens Plain (b ∷ bs)) ≡ part_from closes start (at + 1) level (cond (is_white b) end (at + 1)) (text_tokens Plain bs)
 unfolding is_white
-calm_step closes start at level end b bs calm =
+plain_argument_step closes start at level end b bs plain_argument =
     let G : ℕ → Type 0 = λ n. part_from closes start at level end (text_tokens Plain (b ∷ bs)) ≡ part_from closes start (at + 1) level n (text_tokens Plain bs) in
     cond_both (is_white b) _ _ G
     (λ white. ⊎_elim (blank_step closes start at level end b bs) (line_step closes start at level end b bs) (or_cases _ _ white))
     (λ dark.
     let h = or_parts (is_blank b) (is_line_end b) dark in
-    ⊎_elim (word_step closes start at level end b bs) (mark_step closes start at level end b bs calm h.0 h.1) (cases_Bool (is_word b)))
+    ⊎_elim (word_step closes start at level end b bs) (mark_step closes start at level end b bs plain_argument h.0 h.1) (cases_Bool (is_word b)))
 
 -- a comma within an opener is a token that the search passes
 comma_turn : (closes : Bool) (start at k end : ℕ) (bs : List ℕ)
@@ -371,36 +371,36 @@ both_last : (p q : Bool) → (p && q) ≡ true → q ≡ true
 both_last true q h = h
 both_last false q h = absurd (false≢true h)
 
--- the search passes a calm byte at its level
-level_step : (closes : Bool) (start at level end b : ℕ) (bs : List ℕ) → is_calm_at level b ≡ true
+-- the search passes a plain argument byte at its level
+level_step : (closes : Bool) (start at level end b : ℕ) (bs : List ℕ) → is_plain_argument_at level b ≡ true
     → part_from closes start at level end (text_tokens Plain (b ∷ bs)) ≡ part_from closes start (at + 1) level (cond (is_white b) end (at + 1)) (text_tokens Plain bs)
-unfolding is_calm_at
+unfolding is_plain_argument_at
 level_step closes start at level end b bs e =
-    ⊎_elim (calm_step closes start at level end b bs) (λ h. comma_step closes start at level end b bs (both_first _ _ h) (both_last _ _ h)) (or_cases _ _ e)
+    ⊎_elim (plain_argument_step closes start at level end b bs) (λ h. comma_step closes start at level end b bs (both_first _ _ h) (both_last _ _ h)) (or_cases _ _ e)
 
 -- so of a text at a place
-byte_passed : (closes : Bool) (text : List ℕ) (start at level end : ℕ) → at < length text → is_calm_at level (get_or text at 0) ≡ true
+byte_passed : (closes : Bool) (text : List ℕ) (start at level end : ℕ) → at < length text → is_plain_argument_at level (get_or text at 0) ≡ true
     → part_from closes start (at + 1) level (cond (is_white (get_or text at 0)) end (at + 1)) (text_tokens Plain (drop (at + 1) text))
     ≡ part_from closes start at level end (text_tokens Plain (drop at text))
-byte_passed closes text start at level end inside calm =
+byte_passed closes text start at level end inside plain_argument =
     let b = get_or text at 0 in
     sym (ap (λ (l : List ℕ). part_from closes start at level end (text_tokens Plain l)) (drop_more text at 0 inside)
-    ∙ level_step closes start at level end b (drop (at + 1) text) calm)
+    ∙ level_step closes start at level end b (drop (at + 1) text) plain_argument)
 
--- white space leaves where the part ends, and any other calm byte moves it
+-- white space leaves where the part ends, and any other plain argument byte moves it
 pub white_passed : (closes : Bool) (text : List ℕ) (start at level end : ℕ) → at < length text → White ≡ byte_class level (get_or text at 0)
     → part_from closes start (at + 1) level end (text_tokens Plain (drop (at + 1) text)) ≡ part_from closes start at level end (text_tokens Plain (drop at text))
 white_passed closes text start at level end inside is =
     let b = get_or text at 0 in
     let white = class_white level b is in
     ap (λ (t : Bool). part_from closes start (at + 1) level (cond t end (at + 1)) (text_tokens Plain (drop (at + 1) text))) (sym white)
-    ∙ byte_passed closes text start at level end inside (white_calm level b white)
+    ∙ byte_passed closes text start at level end inside (white_plain_argument level b white)
 
-pub calm_passed : (closes : Bool) (text : List ℕ) (start at level end : ℕ) → at < length text → Calm ≡ byte_class level (get_or text at 0)
+pub plain_argument_passed : (closes : Bool) (text : List ℕ) (start at level end : ℕ) → at < length text → PlainArgument ≡ byte_class level (get_or text at 0)
     → part_from closes start (at + 1) level (at + 1) (text_tokens Plain (drop (at + 1) text)) ≡ part_from closes start at level end (text_tokens Plain (drop at text))
-calm_passed closes text start at level end inside is =
+plain_argument_passed closes text start at level end inside is =
     let b = get_or text at 0 in
-    let c = class_calm level b is in
+    let c = class_plain_argument level b is in
     ap (λ (t : Bool). part_from closes start (at + 1) level (cond t end (at + 1)) (text_tokens Plain (drop (at + 1) text))) (sym c.0)
     ∙ byte_passed closes text start at level end inside c.1
 
