@@ -9,7 +9,7 @@ use Rattle.std.proofs.lemmas.List.Edits.{get_or-insert_above, get_or-insert_at, 
 use Rattle.rdlpp_table.specs.Entries.{AreWithin}
 use Rattle.rdlpp_table.specs.Index.{IsDivided, IsGap, IsIndex, IsIndexed, IsPlace, closed, index_order, key_at, name_at, name_order, names_of, bucket_of}
 use Rattle.rdlpp_table.specs.Layout.{IsHeld, view_of}
-use Rattle.rdlpp_table.specs.Marks.{table_marks}
+use Rattle.rdlpp_table.specs.FormalOffsets.{table_offsets}
 use Rattle.rdlpp_table.specs.Store.{IsStored, entry_end, macro_in, macros_in, name_of}
 use Rattle.rdlpp_table.specs.Table.{Macro, without}
 use Rattle.rdlpp_table.specs.View.{TableView, no_macro, place_named}
@@ -623,12 +623,12 @@ pub index_front : (bytes : List ℕ) (entries : List Entry) (items : List ℕ) �
 index_front bytes entries items x =
     omega (arith, index_length bytes entries (take (length entries) items) x, length-take (length entries) items, min-le_right (length entries) (length items))
 
--- the marks of the macros without the one of a name
-pub marks_without : (ms : List Macro) (name : List ℕ) (place : ℕ) → IsDistinct bytes_eq (map (λ m. m.name) ms) → place_named ms name ≡ Some place → table_marks (remove ms place) ≡ table_marks (without name ms)
-marks_without ms name place d e = ap table_marks (sym (without_at name ms place d e))
+-- the offsets of the macros without the one of a name
+pub offsets_without : (ms : List Macro) (name : List ℕ) (place : ℕ) → IsDistinct bytes_eq (map (λ m. m.name) ms) → place_named ms name ≡ Some place → table_offsets (remove ms place) ≡ table_offsets (without name ms)
+offsets_without ms name place d e = ap table_offsets (sym (without_at name ms place d e))
 
-pub marks_nowhere : (ms : List Macro) (name : List ℕ) → place_named ms name ≡ None → table_marks ms ≡ table_marks (without name ms)
-marks_nowhere ms name e = ap table_marks (sym (without_nowhere name ms e))
+pub offsets_nowhere : (ms : List Macro) (name : List ℕ) → place_named ms name ≡ None → table_offsets ms ≡ table_offsets (without name ms)
+offsets_nowhere ms name e = ap table_offsets (sym (without_nowhere name ms e))
 
 pub left_nowhere : (ms : List Macro) (order bucket_starts name : List ℕ) → place_named ms name ≡ None → IsIndexed (names_of ms) order bucket_starts → IsIndexed (names_of (without name ms)) order bucket_starts
 left_nowhere ms order bucket_starts name at x =
@@ -660,18 +660,18 @@ index_of_nothing bytes entries order bucket_starts e f l z =
     let Q : List Macro → Type 0 = λ l. IsIndexed (names_of l) order bucket_starts in
     subst Q (sym (macros_of_none bytes entries e)) (subst P (sym f) none)
 
--- a list without anything has nothing behind it, and no marks
+-- a list without anything has nothing behind it, and no offsets
 pub nothing_front : (order : List ℕ) (n : ℕ) → order ≡ [] → take n order ≡ []
 nothing_front order n e = nil_from_length (take n order) (omega (arith, length-take n order, min-le_right n (length order), ap (length {A = ℕ}) e))
 
-pub nothing_marked : (bytes : List ℕ) (entries : List Entry) (order : List ℕ) (n : ℕ) → entries ≡ [] → order ≡ [] → drop n order ≡ table_marks (macros_in bytes entries)
-unfolding table_marks
+pub nothing_marked : (bytes : List ℕ) (entries : List Entry) (order : List ℕ) (n : ℕ) → entries ≡ [] → order ≡ [] → drop n order ≡ table_offsets (macros_in bytes entries)
+unfolding table_offsets
 nothing_marked bytes entries order n e f =
-    nil_from_length (drop n order) (omega (arith, length-drop n order, ap (length {A = ℕ}) f)) ∙ sym (ap table_marks (macros_of_none bytes entries e))
+    nil_from_length (drop n order) (omega (arith, length-drop n order, ap (length {A = ℕ}) f)) ∙ sym (ap table_offsets (macros_of_none bytes entries e))
 
--- the marks of macros, as they are read back
-pub marked_after : {from ahead : ℕ} (bytes : List ℕ) (entries : List Entry) (marks : List ℕ) (ms : List Macro) → IsStored from ahead bytes entries ms → marks ≡ table_marks ms → marks ≡ table_marks (macros_in bytes entries)
-marked_after bytes entries marks ms s e = e ∙ ap table_marks (sym (read_back bytes entries ms s))
+-- the offsets of macros, as they are read back
+pub marked_after : {from ahead : ℕ} (bytes : List ℕ) (entries : List Entry) (formal_offsets : List ℕ) (ms : List Macro) → IsStored from ahead bytes entries ms → formal_offsets ≡ table_offsets ms → formal_offsets ≡ table_offsets (macros_in bytes entries)
+marked_after bytes entries formal_offsets ms s e = e ∙ ap table_offsets (sym (read_back bytes entries ms s))
 
 -- the place of a name among the macros of a table
 pub viewed_place : (bs : List ℕ) (es : List Entry) (bytes : List ℕ) (entries : List Entry) (a b : ℕ) (view : TableView) (name : List ℕ) (r : Option ℕ) → bs ≡ bytes → es ≡ entries → view_of bytes entries a b ≡ view → r ≡ place_named (macros_in bs es) name → r ≡ place_named view.macros name

@@ -34,9 +34,9 @@ use Rattle.rdlpp_table.specs.declared.point_cache.PointCache.{PointCache}
 use Rattle.rdlpp_lines.proofs.Measures.{left_len}
 use Rattle.rdlpp_table.specs.declared.entry.Entry.{Entry}
 use Rattle.rdlpp_table.specs.Formals.{IsRead, listed}
-use Rattle.rdlpp_table.specs.Marks.{macro_marks, marks_of}
-use Rattle.rdlpp_table.specs.Store.{entry_of, formals_read, is_plain_formal, is_plain_macro, list_size, IsListed}
-use Rattle.rdlpp_table.proofs.Sizes.{few_marks_of, length_list_bytes}
+use Rattle.rdlpp_table.specs.FormalOffsets.{macro_offsets, offsets_of}
+use Rattle.rdlpp_table.specs.Store.{entry_of, formals_read, is_plain_formal, is_plain_macro, list_size, AreStoredFormals}
+use Rattle.rdlpp_table.proofs.Sizes.{few_offsets_of, length_list_bytes}
 use Rattle.rdlpp_table.proofs.FirstPoints.{behind_place}
 use Rattle.rdlpp_table.specs.declared.fault.DefineKind.TheVariants as kind
 
@@ -333,27 +333,27 @@ appended_between named listed all here arity list size count from to body l e f 
     appended arity list size count (slice_range here from to) l n
     (ap (λ (x : List ℕ). slice_range x from to) whole ∙ between_parts named formals body from to (sym i) (omega (arith, i, j, ap (length {A = ℕ}) e, length-append named formals)))
 
--- the marks that were kept behind a list are those of its formals
-pub appended_listed : (arity : Option ℕ) (list : List ℕ) (size count : ℕ) (last between order here : List ℕ) (from : ℕ) → IsAppended arity list size count last → IsAppended arity list size count between → here ≡ order ++ marks_of (formals_read count last) → from ≡ length order → IsListed count between (take (length here - from) (drop from here))
+-- the offsets that were kept behind a list are those of its formals
+pub appended_listed : (arity : Option ℕ) (list : List ℕ) (size count : ℕ) (last between order here : List ℕ) (from : ℕ) → IsAppended arity list size count last → IsAppended arity list size count between → here ≡ order ++ offsets_of (formals_read count last) → from ≡ length order → AreStoredFormals count between (take (length here - from) (drop from here))
 appended_listed arity list size count last between order here from a b e i = record {
   whole = b.whole;
   plain = b.plain;
   marked =
       behind_place from here
       ∙ (ap (drop from) e
-      ∙ (drop_at order (marks_of (formals_read count last)) from (sym i)
-      ∙ ap marks_of (a.read ∙ sym b.read)));
+      ∙ (drop_at order (offsets_of (formals_read count last)) from (sym i)
+      ∙ ap offsets_of (a.read ∙ sym b.read)));
 }
 
 -- as are those of the macro
-pub appended_marks : (name : List ℕ) (arity : Option ℕ) (list : List ℕ) (size : ℕ) (is_logical : Bool) (text : List ℕ) (count : ℕ) (last : List ℕ) → IsAppended arity list size count last → marks_of (formals_read count last) ≡ macro_marks (new_macro name arity list is_logical text)
-unfolding macro_marks
-appended_marks name arity list size is_logical text count last a = ap marks_of a.read
+pub appended_offsets : (name : List ℕ) (arity : Option ℕ) (list : List ℕ) (size : ℕ) (is_logical : Bool) (text : List ℕ) (count : ℕ) (last : List ℕ) → IsAppended arity list size count last → offsets_of (formals_read count last) ≡ macro_offsets (new_macro name arity list is_logical text)
+unfolding macro_offsets
+appended_offsets name arity list size is_logical text count last a = ap offsets_of a.read
 
 -- they are few
-pub appended_few : (arity : Option ℕ) (list : List ℕ) (size count : ℕ) (last : List ℕ) → IsList arity list size → IsAppended arity list size count last → length (marks_of (formals_read count last)) ≤ 2 * (size / 8)
+pub appended_few : (arity : Option ℕ) (list : List ℕ) (size count : ℕ) (last : List ℕ) → IsList arity list size → IsAppended arity list size count last → length (offsets_of (formals_read count last)) ≤ 2 * (size / 8)
 appended_few arity list size count last l a =
-    omega (arith, ap (λ (fs : List Formal). length (marks_of fs)) a.read, few_marks_of (unwrap_or (list_formals arity list) []), l.size_is)
+    omega (arith, ap (λ (fs : List Formal). length (offsets_of fs)) a.read, few_offsets_of (unwrap_or (list_formals arity list) []), l.size_is)
 
 -- the first stops of its body are told by its formals and its body
 pub new_points : (name : List ℕ) (arity : Option ℕ) (list : List ℕ) (size : ℕ) (is_logical : Bool) (text named listed all : List ℕ) (from to count : ℕ) (points : PointCache) → IsList arity list size → listed ≡ named ++ flat_map formal_bytes (unwrap_or (list_formals arity list) []) → all ≡ listed ++ body_of_text is_logical text → from ≡ length named → to ≡ length listed → count ≡ unwrap_or arity 0 → points ≡ points_told all from to count → (let m : Macro = new_macro name arity list is_logical text in points ≡ cached_points (formals_of m) m.body)
@@ -370,15 +370,15 @@ new_points name arity list size is_logical text named listed all from to count p
     ∙ (ap (λ (k : ℕ). cached_points (formals_read k (flat_map formal_bytes formals)) body) n
     ∙ ap (λ (fs : List Formal). cached_points fs body) (same_formals arity list size l))))
 
-pub new_entry : (start marks : ℕ) (name : List ℕ) (arity : Option ℕ) (list : List ℕ) (size : ℕ) (is_logical : Bool) (text : List ℕ) (len : ℕ) (points : PointCache) → IsNew name arity list size is_logical text len → (let m : Macro = new_macro name arity list is_logical text in points ≡ cached_points (formals_of m) m.body) → (let e : Entry = record { start = start; name_len = length name; list_len = size; body_len = len; arity = arity; marks = marks; points = points } in e) ≡ entry_of start marks (new_macro name arity list is_logical text)
+pub new_entry : (start formal_offsets : ℕ) (name : List ℕ) (arity : Option ℕ) (list : List ℕ) (size : ℕ) (is_logical : Bool) (text : List ℕ) (len : ℕ) (points : PointCache) → IsNew name arity list size is_logical text len → (let m : Macro = new_macro name arity list is_logical text in points ≡ cached_points (formals_of m) m.body) → (let e : Entry = record { start = start; name_len = length name; list_len = size; body_len = len; arity = arity; formal_offsets = formal_offsets; points = points } in e) ≡ entry_of start formal_offsets (new_macro name arity list is_logical text)
 unfolding entry_of list_size
-new_entry start marks name arity list size is_logical text len points n h =
+new_entry start formal_offsets name arity list size is_logical text len points n h =
     let body : ℕ = length (body_of_text is_logical text) in
     let sum : ℕ = sum_by formal_size (unwrap_or (list_formals arity list) []) in
-    ap (λ (k : ℕ). let e : Entry = record { start = start; name_len = length name; list_len = k; body_len = len; arity = arity; marks = marks; points = points } in e) (sym n.listed.size_is)
-    ∙ (ap (λ (k : ℕ). let e : Entry = record { start = start; name_len = length name; list_len = sum; body_len = k; arity = arity; marks = marks; points = points } in e) (sym (left_len (trims false) (cleared None (joined is_logical text)) len n.body_is))
-    ∙ (ap (λ (a : Option ℕ). let e : Entry = record { start = start; name_len = length name; list_len = sum; body_len = body; arity = a; marks = marks; points = points } in e) (sym n.listed.arity_is)
-    ∙ ap (λ (b : PointCache). let e : Entry = record { start = start; name_len = length name; list_len = sum; body_len = body; arity = option_map length (list_formals arity list); marks = marks; points = b } in e) h))
+    ap (λ (k : ℕ). let e : Entry = record { start = start; name_len = length name; list_len = k; body_len = len; arity = arity; formal_offsets = formal_offsets; points = points } in e) (sym n.listed.size_is)
+    ∙ (ap (λ (k : ℕ). let e : Entry = record { start = start; name_len = length name; list_len = sum; body_len = k; arity = arity; formal_offsets = formal_offsets; points = points } in e) (sym (left_len (trims false) (cleared None (joined is_logical text)) len n.body_is))
+    ∙ (ap (λ (a : Option ℕ). let e : Entry = record { start = start; name_len = length name; list_len = sum; body_len = body; arity = a; formal_offsets = formal_offsets; points = points } in e) (sym n.listed.arity_is)
+    ∙ ap (λ (b : PointCache). let e : Entry = record { start = start; name_len = length name; list_len = sum; body_len = body; arity = option_map length (list_formals arity list); formal_offsets = formal_offsets; points = b } in e) h))
 
 pub new_plain : (name : List ℕ) (arity : Option ℕ) (list : List ℕ) (size : ℕ) (is_logical : Bool) (text : List ℕ) → IsList arity list size → is_plain_macro (new_macro name arity list is_logical text) ≡ true
 unfolding is_plain_macro

@@ -16,11 +16,11 @@ use Rattle.rdlpp_lines.specs.Continuations.{joined}
 use Rattle.rdlpp_lines.specs.Texts.{text_behind}
 use Rattle.rdlpp_lines.proofs.Joins.{SameRun, first_in, first_out, joined_none, same_run, word_back}
 use Rattle.rdlpp_table.specs.Define.{Accepted, Draft, FormalList, Listed, Refused, Rejected, Unlisted, after_space, define_of, formal_list, formals_of_list, is_space, leading_name, logical_text, macro_from, macro_of, name_fault, observed, refused_word, stored, stored_draft, unended, with_body, with_list}
-use Rattle.rdlpp_table.specs.Entries.{marks_len}
+use Rattle.rdlpp_table.specs.Entries.{offsets_len}
 use Rattle.rdlpp_table.specs.Formals.{IsPart}
 use Rattle.rdlpp_table.specs.Layout.{IsHeld, view_of}
-use Rattle.rdlpp_table.specs.Marks.{macro_marks, marks_of, table_marks}
-use Rattle.rdlpp_table.specs.Store.{IsListed, IsStored, StoredFormal, behind_stored, body_of, body_start, entries_of, entry_end, entry_of, formal_behind, formal_read, formals_read, is_default, is_name_byte, is_plain_formal, is_plain_macro, list_of, list_size, list_start, macro_in, macros_in, name_of}
+use Rattle.rdlpp_table.specs.FormalOffsets.{macro_offsets, offsets_of, table_offsets}
+use Rattle.rdlpp_table.specs.Store.{AreStoredFormals, IsStored, StoredFormal, behind_stored, body_of, body_start, entries_of, entry_end, entry_of, formal_behind, formal_read, formals_read, is_default, is_name_byte, is_plain_formal, is_plain_macro, list_of, list_size, list_start, macro_in, macros_in, name_of}
 use Rattle.rdlpp_table.specs.Table.{Formal, Macro, default_bytes, formal_bytes, formal_size, macro_bytes, macro_size, table_bytes, table_size, without}
 use Rattle.rdlpp_table.specs.View.{IsSound, IsSoundMacro, TableView, formals_of, macro_at, place_named}
 use Rattle.rdlpp_table.specs.Words.{spelled}
@@ -29,8 +29,8 @@ use Rattle.rdlpp_table.specs.declared.fault.DefineFault.{DefineFault}
 use Rattle.rdlpp_table.specs.declared.fault.DefineKind.{DefineKind}
 use Rattle.rdlpp_table.specs.declared.fault.DefineKind.TheVariants as kind
 use Rattle.rdlpp_table.proofs.Defaults.{default_read_back}
-use Rattle.rdlpp_table.proofs.Sizes.{entry_of_macro, inside_by_place, length_list_bytes, length_macro_bytes, length_macros_in, length_table_bytes, macro_at_entry, marks_len_of, size_of_none, table_size-append, table_size-cons}
-use Rattle.rdlpp_table.proofs.Taken.{between_parts, bytes_round, entries_of-append, length_entries_of, marks_at, pushed_distinct, size_of_entry, split_at, table_bytes-append, table_bytes-cons, table_marks-append, table_marks-cons, whole_bytes, without_at, without_distinct, without_length, without_nowhere, without_size}
+use Rattle.rdlpp_table.proofs.Sizes.{entry_of_macro, inside_by_place, length_list_bytes, length_macro_bytes, length_macros_in, length_table_bytes, macro_at_entry, offsets_len_of, size_of_none, table_size-append, table_size-cons}
+use Rattle.rdlpp_table.proofs.Taken.{between_parts, bytes_round, entries_of-append, length_entries_of, offsets_at, pushed_distinct, size_of_entry, split_at, table_bytes-append, table_bytes-cons, table_offsets-append, table_offsets-cons, whole_bytes, without_at, without_distinct, without_length, without_nowhere, without_size}
 
 -- The macros of a table are read back from its lists as they are.
 
@@ -131,7 +131,7 @@ unfolding macros_in entries_of
 read_macros before k [] h = refl
 read_macros before k (m ∷ ms) h =
     let parts = and_parts (is_plain_macro m) (list_all is_plain_macro ms) h in
-    let j : ℕ = k + length (macro_marks m) in
+    let j : ℕ = k + length (macro_offsets m) in
     let whole : before ++ table_bytes (m ∷ ms) ≡ before ++ (macro_bytes m ++ table_bytes ms) = ap (λ (l : List ℕ). before ++ l) (table_bytes-cons m ms) in
     let moved : before ++ (macro_bytes m ++ table_bytes ms) ≡ (before ++ macro_bytes m) ++ table_bytes ms = sym (append_assoc before (macro_bytes m) (table_bytes ms)) in
     let n : length before + macro_size m ≡ length (before ++ macro_bytes m) = omega (arith, length-append before (macro_bytes m), length_macro_bytes m) in
@@ -149,7 +149,7 @@ read_back {from = from} {ahead = ahead} bytes entries ms s =
     ap (λ (l : List ℕ). macros_in l entries) (whole_bytes bytes entries ms s)
     ∙ (ap (macros_in (before ++ table_bytes ms)) (s.entries_are ∙ ap (λ (i : ℕ). entries_of i ahead ms) long) ∙ read_macros before ahead ms s.plain)
 
--- The formals of a macro in a table, as they lie there with their marks.
+-- The formals of a macro in a table, as they lie there with their offsets.
 
 -- so many formals, also where there is no list
 read_any : (arity : Option ℕ) (list : List ℕ) → unwrap_or (option_map (λ (n : ℕ). formals_read n list) arity) [] ≡ formals_read (unwrap_or arity 0) list
@@ -170,14 +170,14 @@ plain_at ms place h e =
     let parts = and_parts (list_all is_plain_macro front) (list_all is_plain_macro behind) (sym (list_all-append is_plain_macro front behind) ∙ (ap (list_all is_plain_macro) (sym (split_at ms place h)) ∙ e)) in
     (and_parts (is_plain_macro (macro_at ms place)) (list_all is_plain_macro (drop (place + 1) ms)) parts.1).0
 
--- an entry's list and its marks among those of all, where the entry counts so many that are given up
-pub record IsEntryListed (ahead : ℕ) (bytes marks : List ℕ) (entry : Entry) : Type 0 where
-  pub behind : ahead ≤ entry.marks
-  pub within : entry.marks - ahead + marks_len entry ≤ length marks
-  pub listed : IsListed (unwrap_or entry.arity 0) (list_of bytes entry) (slice_range marks (entry.marks - ahead) (entry.marks - ahead + marks_len entry))
+-- an entry's list and its offsets among those of all, where the entry counts so many that are given up
+pub record IsEntryListed (ahead : ℕ) (bytes formal_offsets : List ℕ) (entry : Entry) : Type 0 where
+  pub behind : ahead ≤ entry.formal_offsets
+  pub within : entry.formal_offsets - ahead + offsets_len entry ≤ length formal_offsets
+  pub listed : AreStoredFormals (unwrap_or entry.arity 0) (list_of bytes entry) (slice_range formal_offsets (entry.formal_offsets - ahead) (entry.formal_offsets - ahead + offsets_len entry))
 
 module _ (from ahead : ℕ) (bytes : List ℕ) (ms : List Macro) (place : ℕ) (entry : Entry) (h : place < length ms)
-    (is : entry ≡ entry_of (from + table_size (take place ms)) (ahead + length (table_marks (take place ms))) (macro_at ms place)) where
+    (is : entry ≡ entry_of (from + table_size (take place ms)) (ahead + length (table_offsets (take place ms))) (macro_at ms place)) where
   abbrev xs : List Macro
   xs = take place ms
 
@@ -187,54 +187,54 @@ module _ (from ahead : ℕ) (bytes : List ℕ) (ms : List Macro) (place : ℕ) (
   abbrev ys : List Macro
   ys = drop (place + 1) ms
 
-  marks_split : table_marks ms ≡ table_marks xs ++ (macro_marks m ++ table_marks ys)
-  marks_split = ap table_marks (split_at ms place h) ∙ (table_marks-append xs (m ∷ ys) ∙ ap (λ (l : List ℕ). table_marks xs ++ l) (table_marks-cons m ys))
+  offsets_split : table_offsets ms ≡ table_offsets xs ++ (macro_offsets m ++ table_offsets ys)
+  offsets_split = ap table_offsets (split_at ms place h) ∙ (table_offsets-append xs (m ∷ ys) ∙ ap (λ (l : List ℕ). table_offsets xs ++ l) (table_offsets-cons m ys))
 
-  marks_from : entry.marks ≡ ahead + length (table_marks xs)
-  marks_from = ap (λ (e : Entry). e.marks) is ∙ marks_at _ _ m
+  offsets_from : entry.formal_offsets ≡ ahead + length (table_offsets xs)
+  offsets_from = ap (λ (e : Entry). e.formal_offsets) is ∙ offsets_at _ _ m
 
-  marks_count : marks_len entry ≡ length (macro_marks m)
-  marks_count = ap marks_len is ∙ marks_len_of _ _ m
+  offsets_count : offsets_len entry ≡ length (macro_offsets m)
+  offsets_count = ap offsets_len is ∙ offsets_len_of _ _ m
 
-  marks_here : slice_range (table_marks ms) (entry.marks - ahead) (entry.marks - ahead + marks_len entry) ≡ macro_marks m
-  marks_here =
-      ap (λ (l : List ℕ). slice_range l (entry.marks - ahead) (entry.marks - ahead + marks_len entry)) marks_split
-      ∙ between_parts (table_marks xs) (macro_marks m) (table_marks ys) _ _ (omega (arith, marks_from)) (omega (arith, marks_count))
+  offsets_here : slice_range (table_offsets ms) (entry.formal_offsets - ahead) (entry.formal_offsets - ahead + offsets_len entry) ≡ macro_offsets m
+  offsets_here =
+      ap (λ (l : List ℕ). slice_range l (entry.formal_offsets - ahead) (entry.formal_offsets - ahead + offsets_len entry)) offsets_split
+      ∙ between_parts (table_offsets xs) (macro_offsets m) (table_offsets ys) _ _ (omega (arith, offsets_from)) (omega (arith, offsets_count))
 
-  marks_fit : entry.marks - ahead + marks_len entry ≤ length (table_marks ms)
-  marks_fit = omega (arith, marks_from, marks_count, ap (length {A = ℕ}) marks_split, length-append (table_marks xs) (macro_marks m ++ table_marks ys), length-append (macro_marks m) (table_marks ys))
+  offsets_fit : entry.formal_offsets - ahead + offsets_len entry ≤ length (table_offsets ms)
+  offsets_fit = omega (arith, offsets_from, offsets_count, ap (length {A = ℕ}) offsets_split, length-append (table_offsets xs) (macro_offsets m ++ table_offsets ys), length-append (macro_offsets m) (table_offsets ys))
 
   list_here : from ≤ length bytes → bytes ≡ take from bytes ++ table_bytes ms → list_of bytes entry ≡ flat_map formal_bytes (formals_of m)
   list_here f e =
       let before : List ℕ = take from bytes ++ table_bytes xs in
       let start : from + table_size xs ≡ length before = omega (arith, length-append (take from bytes) (table_bytes xs), length-take-le from bytes f, length_table_bytes xs) in
       ap (λ (l : List ℕ). list_of l entry) (bytes_round from bytes ms place e h)
-      ∙ (ap (list_of (before ++ (macro_bytes m ++ table_bytes ys))) (is ∙ ap (λ (n : ℕ). entry_of n (ahead + length (table_marks xs)) m) start)
+      ∙ (ap (list_of (before ++ (macro_bytes m ++ table_bytes ys))) (is ∙ ap (λ (n : ℕ). entry_of n (ahead + length (table_offsets xs)) m) start)
       ∙ list_back before (table_bytes ys) _ m)
 
 -- of every entry of a table
-pub entry_listed : {from ahead : ℕ} (bytes marks : List ℕ) (entries : List Entry) (place : ℕ) (entry : Entry) → IsStored from ahead bytes entries (macros_in bytes entries) → marks ≡ table_marks (macros_in bytes entries) → place < length entries → entry ≡ get_or entries place entry → IsEntryListed ahead bytes marks entry
-unfolding macro_marks
-entry_listed {from = from} {ahead = ahead} bytes marks entries place entry s e h q =
+pub entry_listed : {from ahead : ℕ} (bytes formal_offsets : List ℕ) (entries : List Entry) (place : ℕ) (entry : Entry) → IsStored from ahead bytes entries (macros_in bytes entries) → formal_offsets ≡ table_offsets (macros_in bytes entries) → place < length entries → entry ≡ get_or entries place entry → IsEntryListed ahead bytes formal_offsets entry
+unfolding macro_offsets
+entry_listed {from = from} {ahead = ahead} bytes formal_offsets entries place entry s e h q =
     let ms : List Macro = macros_in bytes entries in
     let inside : place < length ms = omega (arith, length_macros_in bytes entries) in
-    let is : entry ≡ entry_of (from + table_size (take place ms)) (ahead + length (table_marks (take place ms))) (macro_at ms place) =
+    let is : entry ≡ entry_of (from + table_size (take place ms)) (ahead + length (table_offsets (take place ms))) (macro_at ms place) =
     q ∙ (ap (λ (es : List Entry). get_or es place entry) s.entries_are ∙ entry_of_macro from ahead ms place entry inside) in
     let same : macro_in bytes entry ≡ macro_at ms place = ap (macro_in bytes) q ∙ sym (macro_at_entry bytes entries 0 0 (view_of bytes entries 0 0) place entry refl h) in
     let read : formals_read (unwrap_or entry.arity 0) (list_of bytes entry) ≡ formals_of (macro_at ms place) = read_here bytes entry ∙ ap formals_of same in
     record {
-      behind = omega (arith, marks_from from ahead bytes ms place entry inside is);
-      within = omega (arith, marks_fit from ahead bytes ms place entry inside is, ap (length {A = ℕ}) e);
+      behind = omega (arith, offsets_from from ahead bytes ms place entry inside is);
+      within = omega (arith, offsets_fit from ahead bytes ms place entry inside is, ap (length {A = ℕ}) e);
       listed = record {
         whole = ap (flat_map formal_bytes) read ∙ sym (list_here from ahead bytes ms place entry inside is s.inside (whole_bytes bytes entries ms s));
         plain = ap (list_all is_plain_formal) read ∙ plain_at ms place inside s.plain;
-        marked = ap (λ (l : List ℕ). slice_range l (entry.marks - ahead) (entry.marks - ahead + marks_len entry)) e ∙ (marks_here from ahead bytes ms place entry inside is ∙ ap marks_of (sym read));
+        marked = ap (λ (l : List ℕ). slice_range l (entry.formal_offsets - ahead) (entry.formal_offsets - ahead + offsets_len entry)) e ∙ (offsets_here from ahead bytes ms place entry inside is ∙ ap offsets_of (sym read));
       };
     }
 
 -- the same, of what was read
-pub listed_as : (count n : ℕ) (list bytes marks kept : List ℕ) → count ≡ n → list ≡ bytes → marks ≡ kept → IsListed n bytes kept → IsListed count list marks
-listed_as count n list bytes marks kept p q r l = rw (p, q, r) l
+pub listed_as : (count n : ℕ) (list bytes formal_offsets kept : List ℕ) → count ≡ n → list ≡ bytes → formal_offsets ≡ kept → AreStoredFormals n bytes kept → AreStoredFormals count list formal_offsets
+listed_as count n list bytes formal_offsets kept p q r l = rw (p, q, r) l
 
 -- so many formals are read as were asked for
 pub count_read : (count : ℕ) (list : List ℕ) → length (formals_read count list) ≡ count
@@ -259,12 +259,12 @@ one_bytes : (m : Macro) → table_bytes (m ∷ []) ≡ macro_bytes m
 unfolding table_bytes
 one_bytes m = append-nil (macro_bytes m)
 
-one_marks : (m : Macro) → table_marks (m ∷ []) ≡ macro_marks m
-unfolding table_marks
-one_marks m = append-nil (macro_marks m)
+one_offsets : (m : Macro) → table_offsets (m ∷ []) ≡ macro_offsets m
+unfolding table_offsets
+one_offsets m = append-nil (macro_offsets m)
 
-pub put_stored : {from ahead : ℕ} (bytes : List ℕ) (entries : List Entry) (ms : List Macro) (m : Macro) (start marks : ℕ) (bytes' : List ℕ) (entries' : List Entry) → IsStored from ahead bytes entries ms → is_plain_macro m ≡ true → start ≡ length bytes → marks ≡ ahead + length (table_marks ms) → bytes' ≡ bytes ++ macro_bytes m → entries' ≡ entries ++ entry_of start marks m ∷ [] → IsStored from ahead bytes' entries' (ms ++ m ∷ [])
-put_stored {from = from} {ahead = ahead} bytes entries ms m start marks bytes' entries' s p n k b e =
+pub put_stored : {from ahead : ℕ} (bytes : List ℕ) (entries : List Entry) (ms : List Macro) (m : Macro) (start formal_offsets : ℕ) (bytes' : List ℕ) (entries' : List Entry) → IsStored from ahead bytes entries ms → is_plain_macro m ≡ true → start ≡ length bytes → formal_offsets ≡ ahead + length (table_offsets ms) → bytes' ≡ bytes ++ macro_bytes m → entries' ≡ entries ++ entry_of start formal_offsets m ∷ [] → IsStored from ahead bytes' entries' (ms ++ m ∷ [])
+put_stored {from = from} {ahead = ahead} bytes entries ms m start formal_offsets bytes' entries' s p n k b e =
     let at : start ≡ from + table_size ms = omega (arith, n, stored_length bytes entries ms s) in
     record {
       inside = omega (arith, s.inside, ap (length {A = ℕ}) b, length-append bytes (macro_bytes m));
@@ -272,23 +272,23 @@ put_stored {from = from} {ahead = ahead} bytes entries ms m start marks bytes' e
       bytes_are = ap (drop from) b ∙ (drop-append-le from bytes (macro_bytes m) s.inside ∙ (ap (λ (l : List ℕ). l ++ macro_bytes m) s.bytes_are ∙ (ap (λ (l : List ℕ). table_bytes ms ++ l) (sym (one_bytes m)) ∙ sym (table_bytes-append ms (m ∷ [])))));
       entries_are =
           e
-          ∙ (ap (λ (l : List Entry). l ++ entry_of start marks m ∷ []) s.entries_are
-          ∙ (ap (λ (i : ℕ). entries_of from ahead ms ++ entry_of i marks m ∷ []) at
+          ∙ (ap (λ (l : List Entry). l ++ entry_of start formal_offsets m ∷ []) s.entries_are
+          ∙ (ap (λ (i : ℕ). entries_of from ahead ms ++ entry_of i formal_offsets m ∷ []) at
           ∙ (ap (λ (i : ℕ). entries_of from ahead ms ++ entry_of (from + table_size ms) i m ∷ []) k
-          ∙ (ap (λ (l : List Entry). entries_of from ahead ms ++ l) (sym (one_entry (from + table_size ms) (ahead + length (table_marks ms)) m))
+          ∙ (ap (λ (l : List Entry). entries_of from ahead ms ++ l) (sym (one_entry (from + table_size ms) (ahead + length (table_offsets ms)) m))
           ∙ sym (entries_of-append from ahead ms (m ∷ []))))));
       plain = list_all-append is_plain_macro ms (m ∷ []) ∙ and_from _ _ s.plain (and_from _ _ p refl);
     }
 
--- the marks of a macro that was put behind the others, behind an index of so many places
-pub put_marks : (order marks order' : List ℕ) (ms : List Macro) (m : Macro) (n : ℕ) → n ≤ length order → drop n order ≡ table_marks ms → marks ≡ macro_marks m → order' ≡ order ++ marks → (take n order' ≡ take n order) × (drop n order' ≡ table_marks (ms ++ m ∷ []))
-put_marks order marks order' ms m n l d e o = (
-  ap (take n) o ∙ take-append-le n order marks l,
+-- the offsets of a macro that was put behind the others, behind an index of so many places
+pub put_offsets : (order formal_offsets order' : List ℕ) (ms : List Macro) (m : Macro) (n : ℕ) → n ≤ length order → drop n order ≡ table_offsets ms → formal_offsets ≡ macro_offsets m → order' ≡ order ++ formal_offsets → (take n order' ≡ take n order) × (drop n order' ≡ table_offsets (ms ++ m ∷ []))
+put_offsets order formal_offsets order' ms m n l d e o = (
+  ap (take n) o ∙ take-append-le n order formal_offsets l,
   ap (drop n) o
-      ∙ (drop-append-le n order marks l
-      ∙ (ap (λ (x : List ℕ). x ++ marks) d
-      ∙ (ap (λ (x : List ℕ). table_marks ms ++ x) (e ∙ sym (one_marks m))
-      ∙ sym (table_marks-append ms (m ∷ []))))),
+      ∙ (drop-append-le n order formal_offsets l
+      ∙ (ap (λ (x : List ℕ). x ++ formal_offsets) d
+      ∙ (ap (λ (x : List ℕ). table_offsets ms ++ x) (e ∙ sym (one_offsets m))
+      ∙ sym (table_offsets-append ms (m ∷ []))))),
 )
 
 size_of_remove : (ms : List Macro) (place : ℕ) → place < length ms → macro_size (macro_at ms place) + table_size (remove ms place) ≡ table_size ms
@@ -308,7 +308,7 @@ length_of_remove ms place h =
 pub usage_without_size : {from ahead : ℕ} (bytes : List ℕ) (entries : List Entry) (ms : List Macro) (name : List ℕ) (place : ℕ) (d : Entry) → IsStored from ahead bytes entries ms → IsDistinct bytes_eq (map (λ m. m.name) ms) → place_named ms name ≡ Some place → from + ((get_or entries place d).name_len + (get_or entries place d).list_len + (get_or entries place d).body_len + table_size (without name ms)) ≡ length bytes
 usage_without_size {from = from} {ahead = ahead} bytes entries ms name place d s distinct at =
     let h : place < length ms = inside_by_place ms name place at in
-    let is : get_or entries place d ≡ entry_of (from + table_size (take place ms)) (ahead + length (table_marks (take place ms))) (macro_at ms place) = ap (λ (es : List Entry). get_or es place d) s.entries_are ∙ entry_of_macro from ahead ms place d h in
+    let is : get_or entries place d ≡ entry_of (from + table_size (take place ms)) (ahead + length (table_offsets (take place ms))) (macro_at ms place) = ap (λ (es : List Entry). get_or es place d) s.entries_are ∙ entry_of_macro from ahead ms place d h in
     let size : (get_or entries place d).name_len + (get_or entries place d).list_len + (get_or entries place d).body_len ≡ macro_size (macro_at ms place) = ap (λ (x : Entry). x.name_len + x.list_len + x.body_len) is ∙ size_of_entry _ _ (macro_at ms place) in
     omega (arith, ap table_size (without_at name ms place distinct at), size_of_remove ms place h, stored_length bytes entries ms s)
 

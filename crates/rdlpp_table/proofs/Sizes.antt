@@ -15,11 +15,11 @@ use Rattle.rdlpp_scan.specs.Reserved.{is_reserved, reserved_names}
 use Rattle.rdlpp_scan.specs.SourceTokens.{is_continued, logical_len}
 use Rattle.rdlpp_scan.specs.Tokens.{block_token, first_place, plain_token, string_stop, string_token, token_of, tokens_from, whole}
 use Rattle.rdlpp_table.specs.Define.{Drawn, after_space, behind_name, continuation_len, default_in, default_of_tokens, ends_default, formal_fault, formal_in, formal_list, formal_name, formals_in, formals_of_list, is_space, leading_name, level_behind, logical_text, macro_from, macro_of, name_fault, onto_default, onto_trimmed, trimmed, trimmed_default, trimmed_of, unended, with_body, with_default, with_list, without_continuations, without_end, without_remarks}
-use Rattle.rdlpp_table.specs.Entries.{AreWithin, marks_len}
+use Rattle.rdlpp_table.specs.Entries.{AreWithin, offsets_len}
 use Rattle.rdlpp_table.specs.PointCache.{cached_points}
 use Rattle.rdlpp_table.specs.Layout.{IsHeld, view_of}
 use Rattle.rdlpp_table.specs.Limits.{AreInRange, IsWithin, is_within, limit_fault}
-use Rattle.rdlpp_table.specs.Marks.{halves, is_marked, macro_marks, marks_of, starts_of, table_marks}
+use Rattle.rdlpp_table.specs.FormalOffsets.{halves, has_offsets, macro_offsets, offsets_of, starts_of, table_offsets}
 use Rattle.rdlpp_table.specs.Store.{IsStored, body_start, entries_of, entry_end, entry_of, list_size, list_start, macro_in, macros_in}
 use Rattle.rdlpp_table.specs.Table.{Formal, Macro, default_bytes, default_size, formal_bytes, formal_size, macro_bytes, macro_named, macro_size, table_bytes, table_size}
 use Rattle.rdlpp_table.specs.View.{TableView, formals_of, macro_at, no_macro, place_named}
@@ -67,7 +67,7 @@ position_first p x xs =
 
 -- an entry without anything
 abbrev pub no_entry : Entry
-no_entry = record { start = 0; name_len = 0; list_len = 0; body_len = 0; arity = None; marks = 0; points = record { all = [] } }
+no_entry = record { start = 0; name_len = 0; list_len = 0; body_len = 0; arity = None; formal_offsets = 0; points = record { all = [] } }
 
 -- a list counts its items
 pub count_items : {A : Type 0} (v : Vec A Global) → vec_len v ≡ length v.items
@@ -117,17 +117,17 @@ length_table_bytes [] = refl
 length_table_bytes (m ∷ ms) =
     omega (arith, length-append (macro_bytes m) (flat_map macro_bytes ms), length_macro_bytes m, length_table_bytes ms, sum_by-cons macro_size m ms)
 
-pub entry_end_of : (start marks : ℕ) (m : Macro) → entry_end (entry_of start marks m) ≡ start + macro_size m
+pub entry_end_of : (start formal_offsets : ℕ) (m : Macro) → entry_end (entry_of start formal_offsets m) ≡ start + macro_size m
 unfolding entry_end entry_of body_start list_start list_size macro_size
-entry_end_of start marks m = omega arith
+entry_end_of start formal_offsets m = omega arith
 
-ends_within : (start marks : ℕ) (ms : List Macro) → All (λ e. entry_end e ≤ start + table_size ms) (entries_of start marks ms)
+ends_within : (start formal_offsets : ℕ) (ms : List Macro) → All (λ e. entry_end e ≤ start + table_size ms) (entries_of start formal_offsets ms)
 unfolding entries_of
-ends_within start marks [] = All-nil _
-ends_within start marks (m ∷ ms) =
+ends_within start formal_offsets [] = All-nil _
+ends_within start formal_offsets (m ∷ ms) =
     All-cons (λ e. entry_end e ≤ start + table_size (m ∷ ms)) _ _
-    (omega (arith, entry_end_of start marks m, table_size-cons m ms))
-    (λ k d h. omega (arith, ends_within (start + macro_size m) (marks + length (macro_marks m)) ms k d h, table_size-cons m ms))
+    (omega (arith, entry_end_of start formal_offsets m, table_size-cons m ms))
+    (λ k d h. omega (arith, ends_within (start + macro_size m) (formal_offsets + length (macro_offsets m)) ms k d h, table_size-cons m ms))
 
 pub stored_within : {from ahead : ℕ} (bytes : List ℕ) (entries : List Entry) (ms : List Macro) → IsStored from ahead bytes entries ms → AreWithin (length bytes) entries
 stored_within {from = from} {ahead = ahead} bytes entries ms s =
@@ -135,24 +135,24 @@ stored_within {from = from} {ahead = ahead} bytes entries ms s =
     let P : List Entry → Type 0 = λ l. AreWithin (length bytes) l in
     subst P (sym s.entries_are) (λ k d h. omega (arith, ends_within from ahead ms k d h, long))
 
-pub length_marks-cons : (m : Macro) (ms : List Macro) → length (table_marks (m ∷ ms)) ≡ length (macro_marks m) + length (table_marks ms)
-unfolding table_marks
-length_marks-cons m ms = length-append (macro_marks m) (flat_map macro_marks ms)
+pub length_offsets-cons : (m : Macro) (ms : List Macro) → length (table_offsets (m ∷ ms)) ≡ length (macro_offsets m) + length (table_offsets ms)
+unfolding table_offsets
+length_offsets-cons m ms = length-append (macro_offsets m) (flat_map macro_offsets ms)
 
-pub no_marks : length (table_marks []) ≡ 0
-unfolding table_marks
-no_marks = refl
+pub no_offsets : length (table_offsets []) ≡ 0
+unfolding table_offsets
+no_offsets = refl
 
 -- the entry of a macro
-pub entry_of_macro : (start marks : ℕ) (ms : List Macro) (i : ℕ) (d : Entry) → i < length ms → get_or (entries_of start marks ms) i d ≡ entry_of (start + table_size (take i ms)) (marks + length (table_marks (take i ms))) (macro_at ms i)
+pub entry_of_macro : (start formal_offsets : ℕ) (ms : List Macro) (i : ℕ) (d : Entry) → i < length ms → get_or (entries_of start formal_offsets ms) i d ≡ entry_of (start + table_size (take i ms)) (formal_offsets + length (table_offsets (take i ms))) (macro_at ms i)
 unfolding entries_of table_size
-entry_of_macro start marks [] i d h = absurd (omega arith)
-entry_of_macro start marks (m ∷ ms) zero d h =
-    ap (λ (n : ℕ). entry_of n marks m) (sym (add-zero start)) ∙ ap (λ (n : ℕ). entry_of (start + 0) n m) (let e : marks ≡ marks + length (table_marks []) = omega (arith, no_marks) in e)
-entry_of_macro start marks (m ∷ ms) (suc i) d h =
-    entry_of_macro (start + macro_size m) (marks + length (macro_marks m)) ms i d (omega arith)
-    ∙ (ap (λ (n : ℕ). entry_of n (marks + length (macro_marks m) + length (table_marks (take i ms))) (macro_at ms i)) (omega (arith, sum_by-cons macro_size m (take i ms)))
-    ∙ ap (λ (n : ℕ). entry_of (start + sum_by macro_size (m ∷ take i ms)) n (macro_at ms i)) (omega (arith, length_marks-cons m (take i ms))))
+entry_of_macro start formal_offsets [] i d h = absurd (omega arith)
+entry_of_macro start formal_offsets (m ∷ ms) zero d h =
+    ap (λ (n : ℕ). entry_of n formal_offsets m) (sym (add-zero start)) ∙ ap (λ (n : ℕ). entry_of (start + 0) n m) (let e : formal_offsets ≡ formal_offsets + length (table_offsets []) = omega (arith, no_offsets) in e)
+entry_of_macro start formal_offsets (m ∷ ms) (suc i) d h =
+    entry_of_macro (start + macro_size m) (formal_offsets + length (macro_offsets m)) ms i d (omega arith)
+    ∙ (ap (λ (n : ℕ). entry_of n (formal_offsets + length (macro_offsets m) + length (table_offsets (take i ms))) (macro_at ms i)) (omega (arith, sum_by-cons macro_size m (take i ms)))
+    ∙ ap (λ (n : ℕ). entry_of (start + sum_by macro_size (m ∷ take i ms)) n (macro_at ms i)) (omega (arith, length_offsets-cons m (take i ms))))
 
 count_of : (o : Option (List Formal)) → unwrap_or (option_map length o) 0 ≡ length (unwrap_or o [])
 count_of None = refl
@@ -173,37 +173,37 @@ length_halves (n ∷ ns) = omega (arith, length_halves ns)
 pub length_start_halves : (fs : List Formal) → length (halves (starts_of 0 fs)) ≡ 2 * length fs
 length_start_halves fs = omega (arith, length_halves (starts_of 0 fs), length_starts 0 fs)
 
--- how many marks formals have
-pub length_marks_of : (fs : List Formal) → length (marks_of fs) ≡ cond (is_marked (length fs) (sum_by formal_size fs)) (2 * length fs) 0
-unfolding marks_of
-length_marks_of fs = elim (is_marked (length fs) (sum_by formal_size fs)) as (λ b. length (cond b (halves (starts_of 0 fs)) []) ≡ cond b (2 * length fs) 0) [
+-- how many offsets formals have
+pub length_offsets_of : (fs : List Formal) → length (offsets_of fs) ≡ cond (has_offsets (length fs) (sum_by formal_size fs)) (2 * length fs) 0
+unfolding offsets_of
+length_offsets_of fs = elim (has_offsets (length fs) (sum_by formal_size fs)) as (λ b. length (cond b (halves (starts_of 0 fs)) []) ≡ cond b (2 * length fs) 0) [
   | true ↦ length_start_halves fs
   | false ↦ refl
 ]
 
--- how many marks an entry has
-pub marks_len_of : (start marks : ℕ) (m : Macro) → marks_len (entry_of start marks m) ≡ length (macro_marks m)
-unfolding marks_len entry_of list_size macro_marks
-marks_len_of start marks m =
-    ap (λ (n : ℕ). cond (is_marked n (sum_by formal_size (unwrap_or m.formals []))) (2 * n) 0) (count_of m.formals)
-    ∙ sym (length_marks_of (unwrap_or m.formals []))
+-- how many offsets an entry has
+pub offsets_len_of : (start formal_offsets : ℕ) (m : Macro) → offsets_len (entry_of start formal_offsets m) ≡ length (macro_offsets m)
+unfolding offsets_len entry_of list_size macro_offsets
+offsets_len_of start formal_offsets m =
+    ap (λ (n : ℕ). cond (has_offsets n (sum_by formal_size (unwrap_or m.formals []))) (2 * n) 0) (count_of m.formals)
+    ∙ sym (length_offsets_of (unwrap_or m.formals []))
 
--- formals have at most two marks for eight bytes
-pub few_marks_of : (fs : List Formal) → length (marks_of fs) ≤ 2 * (sum_by formal_size fs / 8)
-unfolding is_marked
-few_marks_of fs = elim (leb_tells (8 * length fs) (sum_by formal_size fs)) [
-  | inl e ↦ omega (arith, length_marks_of fs ∙ cond-true _ (2 * length fs) 0 e.0, e.1)
-  | inr e ↦ omega (arith, length_marks_of fs ∙ cond-false _ (2 * length fs) 0 e.0)
+-- formals have at most two offsets for eight bytes
+pub few_offsets_of : (fs : List Formal) → length (offsets_of fs) ≤ 2 * (sum_by formal_size fs / 8)
+unfolding has_offsets
+few_offsets_of fs = elim (leb_tells (8 * length fs) (sum_by formal_size fs)) [
+  | inl e ↦ omega (arith, length_offsets_of fs ∙ cond-true _ (2 * length fs) 0 e.0, e.1)
+  | inr e ↦ omega (arith, length_offsets_of fs ∙ cond-false _ (2 * length fs) 0 e.0)
 ]
 
-pub few_marks_in : (m : Macro) → length (macro_marks m) ≤ 2 * (macro_size m / 8)
-unfolding macro_marks macro_size
-few_marks_in m = omega (arith, few_marks_of (unwrap_or m.formals []))
+pub few_offsets_in : (m : Macro) → length (macro_offsets m) ≤ 2 * (macro_size m / 8)
+unfolding macro_offsets macro_size
+few_offsets_in m = omega (arith, few_offsets_of (unwrap_or m.formals []))
 
--- macros have at most two marks for eight bytes
-pub few_marks : (ms : List Macro) → length (table_marks ms) ≤ 2 * (table_size ms / 8)
-few_marks [] = omega (arith, no_marks)
-few_marks (m ∷ ms) = omega (arith, length_marks-cons m ms, table_size-cons m ms, few_marks_in m, few_marks ms)
+-- macros have at most two offsets for eight bytes
+pub few_offsets : (ms : List Macro) → length (table_offsets ms) ≤ 2 * (table_size ms / 8)
+few_offsets [] = omega (arith, no_offsets)
+few_offsets (m ∷ ms) = omega (arith, length_offsets-cons m ms, table_size-cons m ms, few_offsets_in m, few_offsets ms)
 
 pub size_of_none : table_size [] ≡ 0
 unfolding table_size

@@ -11,11 +11,11 @@ use Rattle.std.proofs.lemmas.List.Elements.{All-cons, All-nil}
 use Rattle.rdlpp_table.specs.Index.{names_of}
 use Rattle.rdlpp_table.specs.Table.{Macro, table_size, without, macro_size, macro_bytes, table_bytes}
 use Rattle.rdlpp_table.specs.View.{place_named, macro_at, no_macro}
-use Rattle.rdlpp_table.proofs.Sizes.{table_size-cons, stored_within, length_macro_bytes, length_table_bytes, length_marks-cons, marks_len_of, no_marks, few_marks, few_marks_in, length_macros_in, entry_of_macro}
+use Rattle.rdlpp_table.proofs.Sizes.{table_size-cons, stored_within, length_macro_bytes, length_table_bytes, length_offsets-cons, offsets_len_of, no_offsets, few_offsets, few_offsets_in, length_macros_in, entry_of_macro}
 use Rattle.rdlpp_table.specs.declared.entry.Entry.{Entry}
 use Rattle.rdlpp_table.specs.Store.{entry_of, entries_of, entry_end, body_start, list_start, list_size, is_plain_macro, macros_in, IsStored}
-use Rattle.rdlpp_table.specs.Marks.{macro_marks, table_marks}
-use Rattle.rdlpp_table.specs.Entries.{marks_len, moved_down, moved_up, AreBehind, AreLow}
+use Rattle.rdlpp_table.specs.FormalOffsets.{macro_offsets, table_offsets}
+use Rattle.rdlpp_table.specs.Entries.{offsets_len, moved_down, moved_up, AreBehind, AreLow}
 
 -- The macros but the one of a name: what stays, and that it is the list without one place.
 
@@ -158,29 +158,29 @@ pushed_distinct m ms d =
 
 -- A macro taken out of the lists in which a table lies.
 
-pub length_entries_of : (start marks : ℕ) (ms : List Macro) → length (entries_of start marks ms) ≡ length ms
+pub length_entries_of : (start formal_offsets : ℕ) (ms : List Macro) → length (entries_of start formal_offsets ms) ≡ length ms
 unfolding entries_of
-length_entries_of start marks [] = refl
-length_entries_of start marks (m ∷ ms) = ap suc (length_entries_of (start + macro_size m) (marks + length (macro_marks m)) ms)
+length_entries_of start formal_offsets [] = refl
+length_entries_of start formal_offsets (m ∷ ms) = ap suc (length_entries_of (start + macro_size m) (formal_offsets + length (macro_offsets m)) ms)
 
-pub entries_of-append : (start marks : ℕ) (xs ys : List Macro) → entries_of start marks (xs ++ ys) ≡ entries_of start marks xs ++ entries_of (start + table_size xs) (marks + length (table_marks xs)) ys
+pub entries_of-append : (start formal_offsets : ℕ) (xs ys : List Macro) → entries_of start formal_offsets (xs ++ ys) ≡ entries_of start formal_offsets xs ++ entries_of (start + table_size xs) (formal_offsets + length (table_offsets xs)) ys
 unfolding entries_of table_size
-entries_of-append start marks [] ys =
-    ap (λ (n : ℕ). entries_of n marks ys) (sym (add-zero start)) ∙ ap (λ (n : ℕ). entries_of (start + 0) n ys) (let e : marks ≡ marks + length (table_marks []) = omega (arith, no_marks) in e)
-entries_of-append start marks (x ∷ xs) ys =
-    let k : ℕ = marks + length (macro_marks x) in
-    ap (λ (es : List Entry). entry_of start marks x ∷ es)
+entries_of-append start formal_offsets [] ys =
+    ap (λ (n : ℕ). entries_of n formal_offsets ys) (sym (add-zero start)) ∙ ap (λ (n : ℕ). entries_of (start + 0) n ys) (let e : formal_offsets ≡ formal_offsets + length (table_offsets []) = omega (arith, no_offsets) in e)
+entries_of-append start formal_offsets (x ∷ xs) ys =
+    let k : ℕ = formal_offsets + length (macro_offsets x) in
+    ap (λ (es : List Entry). entry_of start formal_offsets x ∷ es)
     (entries_of-append (start + macro_size x) k xs ys
-    ∙ (ap (λ (n : ℕ). entries_of (start + macro_size x) k xs ++ entries_of n (k + length (table_marks xs)) ys) (omega (arith, table_size-cons x xs))
-    ∙ ap (λ (n : ℕ). entries_of (start + macro_size x) k xs ++ entries_of (start + table_size (x ∷ xs)) n ys) (omega (arith, length_marks-cons x xs))))
+    ∙ (ap (λ (n : ℕ). entries_of (start + macro_size x) k xs ++ entries_of n (k + length (table_offsets xs)) ys) (omega (arith, table_size-cons x xs))
+    ∙ ap (λ (n : ℕ). entries_of (start + macro_size x) k xs ++ entries_of (start + table_size (x ∷ xs)) n ys) (omega (arith, length_offsets-cons x xs))))
 
-pub table_marks-append : (xs ys : List Macro) → table_marks (xs ++ ys) ≡ table_marks xs ++ table_marks ys
-unfolding table_marks
-table_marks-append xs ys = flat_map-append macro_marks xs ys
+pub table_offsets-append : (xs ys : List Macro) → table_offsets (xs ++ ys) ≡ table_offsets xs ++ table_offsets ys
+unfolding table_offsets
+table_offsets-append xs ys = flat_map-append macro_offsets xs ys
 
-pub table_marks-cons : (m : Macro) (ys : List Macro) → table_marks (m ∷ ys) ≡ macro_marks m ++ table_marks ys
-unfolding table_marks
-table_marks-cons m ys = refl
+pub table_offsets-cons : (m : Macro) (ys : List Macro) → table_offsets (m ∷ ys) ≡ macro_offsets m ++ table_offsets ys
+unfolding table_offsets
+table_offsets-cons m ys = refl
 
 pub table_bytes-append : (xs ys : List Macro) → table_bytes (xs ++ ys) ≡ table_bytes xs ++ table_bytes ys
 unfolding table_bytes
@@ -190,39 +190,39 @@ pub table_bytes-cons : (m : Macro) (ys : List Macro) → table_bytes (m ∷ ys) 
 unfolding table_bytes
 table_bytes-cons m ys = refl
 
-moved_entry : (n size k marks : ℕ) (m : Macro) → moved_down size marks (entry_of (n + size) (k + marks) m) ≡ entry_of n k m
+moved_entry : (n size k formal_offsets : ℕ) (m : Macro) → moved_down size formal_offsets (entry_of (n + size) (k + formal_offsets) m) ≡ entry_of n k m
 unfolding moved_down entry_of
-moved_entry n size k marks m =
-    ap (λ (i : ℕ). let e : Entry = record { start = i; name_len = _; list_len = _; body_len = _; arity = _; marks = k + marks - marks; points = _ } in e) (let e : n + size - size ≡ n = omega arith in e)
-    ∙ ap (λ (i : ℕ). let e : Entry = record { start = n; name_len = _; list_len = _; body_len = _; arity = _; marks = i; points = _ } in e) (let e : k + marks - marks ≡ k = omega arith in e)
+moved_entry n size k formal_offsets m =
+    ap (λ (i : ℕ). let e : Entry = record { start = i; name_len = _; list_len = _; body_len = _; arity = _; formal_offsets = k + formal_offsets - formal_offsets; points = _ } in e) (let e : n + size - size ≡ n = omega arith in e)
+    ∙ ap (λ (i : ℕ). let e : Entry = record { start = n; name_len = _; list_len = _; body_len = _; arity = _; formal_offsets = i; points = _ } in e) (let e : k + formal_offsets - formal_offsets ≡ k = omega arith in e)
 
-moved_entries : (n size k marks : ℕ) (ys : List Macro) → map (moved_down size marks) (entries_of (n + size) (k + marks) ys) ≡ entries_of n k ys
+moved_entries : (n size k formal_offsets : ℕ) (ys : List Macro) → map (moved_down size formal_offsets) (entries_of (n + size) (k + formal_offsets) ys) ≡ entries_of n k ys
 unfolding entries_of
-moved_entries n size k marks [] = refl
-moved_entries n size k marks (y ∷ ys) =
-    let j : ℕ = length (macro_marks y) in
+moved_entries n size k formal_offsets [] = refl
+moved_entries n size k formal_offsets (y ∷ ys) =
+    let j : ℕ = length (macro_offsets y) in
     let e : n + size + macro_size y ≡ n + macro_size y + size = omega arith in
-    let f : k + marks + j ≡ k + j + marks = omega arith in
-    ap (λ (i : ℕ). moved_down size marks (entry_of (n + size) (k + marks) y) ∷ map (moved_down size marks) (entries_of i (k + marks + j) ys)) e
-    ∙ (ap (λ (i : ℕ). moved_down size marks (entry_of (n + size) (k + marks) y) ∷ map (moved_down size marks) (entries_of (n + macro_size y + size) i ys)) f
-    ∙ (ap (λ (x : Entry). x ∷ map (moved_down size marks) (entries_of (n + macro_size y + size) (k + j + marks) ys)) (moved_entry n size k marks y)
-    ∙ ap (λ (es : List Entry). entry_of n k y ∷ es) (moved_entries (n + macro_size y) size (k + j) marks ys)))
+    let f : k + formal_offsets + j ≡ k + j + formal_offsets = omega arith in
+    ap (λ (i : ℕ). moved_down size formal_offsets (entry_of (n + size) (k + formal_offsets) y) ∷ map (moved_down size formal_offsets) (entries_of i (k + formal_offsets + j) ys)) e
+    ∙ (ap (λ (i : ℕ). moved_down size formal_offsets (entry_of (n + size) (k + formal_offsets) y) ∷ map (moved_down size formal_offsets) (entries_of (n + macro_size y + size) i ys)) f
+    ∙ (ap (λ (x : Entry). x ∷ map (moved_down size formal_offsets) (entries_of (n + macro_size y + size) (k + j + formal_offsets) ys)) (moved_entry n size k formal_offsets y)
+    ∙ ap (λ (es : List Entry). entry_of n k y ∷ es) (moved_entries (n + macro_size y) size (k + j) formal_offsets ys)))
 
 start_of : (n k : ℕ) (m : Macro) → (entry_of n k m).start ≡ n
 unfolding entry_of
 start_of n k m = refl
 
-pub marks_at : (n k : ℕ) (m : Macro) → (entry_of n k m).marks ≡ k
+pub offsets_at : (n k : ℕ) (m : Macro) → (entry_of n k m).formal_offsets ≡ k
 unfolding entry_of
-marks_at n k m = refl
+offsets_at n k m = refl
 
-starts_behind : (low few n k : ℕ) (ms : List Macro) → low ≤ n → few ≤ k → All (λ e. (low ≤ e.start) × (few ≤ e.marks)) (entries_of n k ms)
+starts_behind : (low few n k : ℕ) (ms : List Macro) → low ≤ n → few ≤ k → All (λ e. (low ≤ e.start) × (few ≤ e.formal_offsets)) (entries_of n k ms)
 unfolding entries_of
 starts_behind low few n k [] h g = All-nil _
 starts_behind low few n k (m ∷ ms) h g =
-    All-cons (λ e. (low ≤ e.start) × (few ≤ e.marks)) _ _
-    (omega (arith, start_of n k m), omega (arith, marks_at n k m))
-    (starts_behind low few (n + macro_size m) (k + length (macro_marks m)) ms (omega arith) (omega arith))
+    All-cons (λ e. (low ≤ e.start) × (few ≤ e.formal_offsets)) _ _
+    (omega (arith, start_of n k m), omega (arith, offsets_at n k m))
+    (starts_behind low few (n + macro_size m) (k + length (macro_offsets m)) ms (omega arith) (omega arith))
 
 -- a part of a text between two others
 pub between_parts : (a b c : List ℕ) (i j : ℕ) → length a ≡ i → i + length b ≡ j → slice_range (a ++ (b ++ c)) i j ≡ b
@@ -269,38 +269,38 @@ plain_left ms place h plain =
     list_all-append is_plain_macro xs ys ∙ and_from _ _ p.0 (and_parts (is_plain_macro m) (list_all is_plain_macro ys) p.1).1
 
 -- the entries round one of them
-entries_between : (from ahead : ℕ) (entries : List Entry) (xs : List Macro) (m : Macro) (ys : List Macro) → entries ≡ entries_of from ahead (xs ++ m ∷ ys) → entries ≡ entries_of from ahead xs ++ entry_of (from + table_size xs) (ahead + length (table_marks xs)) m ∷ entries_of (from + table_size xs + macro_size m) (ahead + length (table_marks xs) + length (macro_marks m)) ys
+entries_between : (from ahead : ℕ) (entries : List Entry) (xs : List Macro) (m : Macro) (ys : List Macro) → entries ≡ entries_of from ahead (xs ++ m ∷ ys) → entries ≡ entries_of from ahead xs ++ entry_of (from + table_size xs) (ahead + length (table_offsets xs)) m ∷ entries_of (from + table_size xs + macro_size m) (ahead + length (table_offsets xs) + length (macro_offsets m)) ys
 unfolding entries_of
 entries_between from ahead entries xs m ys e = e ∙ entries_of-append from ahead xs (m ∷ ys)
 
 -- what the entry that was taken out says, and what the entries without it are
-pub record Taken (from ahead : ℕ) (entries rest : List Entry) (entry : Entry) (ms : List Macro) (place size marks : ℕ) : Type 0 where
+pub record Taken (from ahead : ℕ) (entries rest : List Entry) (entry : Entry) (ms : List Macro) (place size formal_offsets : ℕ) : Type 0 where
   pub start : entry.start ≡ from + table_size (take place ms)
   pub size_is : size ≡ macro_size (macro_at ms place)
-  pub marks_from : entry.marks ≡ ahead + length (table_marks (take place ms))
-  pub marks_are : marks ≡ length (macro_marks (macro_at ms place))
+  pub offsets_from : entry.formal_offsets ≡ ahead + length (table_offsets (take place ms))
+  pub offsets_are : formal_offsets ≡ length (macro_offsets (macro_at ms place))
   pub front : take place rest ≡ entries_of from ahead (take place ms)
-  pub back : drop place rest ≡ entries_of (from + table_size (take place ms) + macro_size (macro_at ms place)) (ahead + length (table_marks (take place ms)) + length (macro_marks (macro_at ms place))) (drop (place + 1) ms)
+  pub back : drop place rest ≡ entries_of (from + table_size (take place ms) + macro_size (macro_at ms place)) (ahead + length (table_offsets (take place ms)) + length (macro_offsets (macro_at ms place))) (drop (place + 1) ms)
 
 pub size_of_entry : (n k : ℕ) (m : Macro) → (entry_of n k m).name_len + (entry_of n k m).list_len + (entry_of n k m).body_len ≡ macro_size m
 unfolding entry_of list_size macro_size
 size_of_entry n k m = omega arith
 
-pub taken : (from ahead : ℕ) (entries rest : List Entry) (entry : Entry) (ms : List Macro) (place size marks : ℕ) → entries ≡ entries_of from ahead ms → place < length ms → entry ≡ get_or entries place entry → rest ≡ remove entries place → size ≡ entry.name_len + entry.list_len + entry.body_len → marks ≡ marks_len entry → Taken from ahead entries rest entry ms place size marks
-taken from ahead entries rest entry ms place size marks e h q r z f =
+pub taken : (from ahead : ℕ) (entries rest : List Entry) (entry : Entry) (ms : List Macro) (place size formal_offsets : ℕ) → entries ≡ entries_of from ahead ms → place < length ms → entry ≡ get_or entries place entry → rest ≡ remove entries place → size ≡ entry.name_len + entry.list_len + entry.body_len → formal_offsets ≡ offsets_len entry → Taken from ahead entries rest entry ms place size formal_offsets
+taken from ahead entries rest entry ms place size formal_offsets e h q r z f =
     let xs : List Macro = take place ms in
     let m : Macro = macro_at ms place in
     let ys : List Macro = drop (place + 1) ms in
-    let k : ℕ = length (table_marks xs) in
+    let k : ℕ = length (table_offsets xs) in
     let n : length (entries_of from ahead xs) ≡ place = length_entries_of from ahead xs ∙ length-take-le place ms (omega arith) in
     let is : entry ≡ entry_of (from + table_size xs) (ahead + k) m = q ∙ (ap (λ (es : List Entry). get_or es place entry) e ∙ entry_of_macro from ahead ms place entry h) in
-    let around : rest ≡ entries_of from ahead xs ++ entries_of (from + table_size xs + macro_size m) (ahead + k + length (macro_marks m)) ys =
+    let around : rest ≡ entries_of from ahead xs ++ entries_of (from + table_size xs + macro_size m) (ahead + k + length (macro_offsets m)) ys =
     r ∙ (ap (λ (es : List Entry). remove es place) (entries_between from ahead entries xs m ys (e ∙ ap (entries_of from ahead) (split_at ms place h))) ∙ removed_between (entries_of from ahead xs) _ _ place n) in
     record {
       start = ap (λ (x : Entry). x.start) is ∙ start_of (from + table_size xs) (ahead + k) m;
       size_is = z ∙ (ap (λ (x : Entry). x.name_len + x.list_len + x.body_len) is ∙ size_of_entry (from + table_size xs) (ahead + k) m);
-      marks_from = ap (λ (x : Entry). x.marks) is ∙ marks_at (from + table_size xs) (ahead + k) m;
-      marks_are = f ∙ (ap marks_len is ∙ marks_len_of (from + table_size xs) (ahead + k) m);
+      offsets_from = ap (λ (x : Entry). x.formal_offsets) is ∙ offsets_at (from + table_size xs) (ahead + k) m;
+      offsets_are = f ∙ (ap offsets_len is ∙ offsets_len_of (from + table_size xs) (ahead + k) m);
       front = ap (take place) around ∙ take_at (entries_of from ahead xs) _ place n;
       back = ap (drop place) around ∙ drop_at (entries_of from ahead xs) _ place n;
     }
@@ -309,8 +309,8 @@ removed_parts : (ms : List Macro) (place : ℕ) → remove ms place ≡ take pla
 removed_parts ms place = ap (λ (k : ℕ). take place ms ++ drop k ms) (sym (add-one place))
 
 -- what is left of the lists once those behind a macro came to the front
-pub taken_stored : {from ahead : ℕ} (bytes : List ℕ) (entries rest : List Entry) (entry : Entry) (ms : List Macro) (place size marks : ℕ) (bytes' : List ℕ) (entries' : List Entry) → IsStored from ahead bytes entries ms → Taken from ahead entries rest entry ms place size marks → place < length ms → bytes' ≡ remove_range bytes entry.start (entry.start + size) → entries' ≡ take place rest ++ map (moved_down size marks) (drop place rest) → IsStored from ahead bytes' entries' (remove ms place)
-taken_stored {from = from} {ahead = ahead} bytes entries rest entry ms place size marks bytes' entries' s t h b e =
+pub taken_stored : {from ahead : ℕ} (bytes : List ℕ) (entries rest : List Entry) (entry : Entry) (ms : List Macro) (place size formal_offsets : ℕ) (bytes' : List ℕ) (entries' : List Entry) → IsStored from ahead bytes entries ms → Taken from ahead entries rest entry ms place size formal_offsets → place < length ms → bytes' ≡ remove_range bytes entry.start (entry.start + size) → entries' ≡ take place rest ++ map (moved_down size formal_offsets) (drop place rest) → IsStored from ahead bytes' entries' (remove ms place)
+taken_stored {from = from} {ahead = ahead} bytes entries rest entry ms place size formal_offsets bytes' entries' s t h b e =
     let xs : List Macro = take place ms in
     let m : Macro = macro_at ms place in
     let ys : List Macro = drop (place + 1) ms in
@@ -322,43 +322,43 @@ taken_stored {from = from} {ahead = ahead} bytes entries rest entry ms place siz
     ∙ (ap (λ (bs : List ℕ). remove_range bs entry.start (entry.start + size)) (bytes_round from bytes ms place (whole_bytes bytes entries ms s) h)
     ∙ (cut_middle (before ++ table_bytes xs) (macro_bytes m) (table_bytes ys) _ _ till (omega (arith, length_macro_bytes m, t.size_is))
     ∙ append_assoc before (table_bytes xs) (table_bytes ys))) in
-    let k : ℕ = ahead + length (table_marks xs) in
-    let moved : map (moved_down size marks) (drop place rest) ≡ entries_of (from + table_size xs) k ys =
-    ap (map (moved_down size marks)) t.back
-    ∙ (ap (λ (i : ℕ). map (moved_down i marks) (entries_of (from + table_size xs + macro_size m) (k + length (macro_marks m)) ys)) t.size_is
-    ∙ (ap (λ (i : ℕ). map (moved_down (macro_size m) i) (entries_of (from + table_size xs + macro_size m) (k + length (macro_marks m)) ys)) t.marks_are
-    ∙ moved_entries (from + table_size xs) (macro_size m) k (length (macro_marks m)) ys)) in
+    let k : ℕ = ahead + length (table_offsets xs) in
+    let moved : map (moved_down size formal_offsets) (drop place rest) ≡ entries_of (from + table_size xs) k ys =
+    ap (map (moved_down size formal_offsets)) t.back
+    ∙ (ap (λ (i : ℕ). map (moved_down i formal_offsets) (entries_of (from + table_size xs + macro_size m) (k + length (macro_offsets m)) ys)) t.size_is
+    ∙ (ap (λ (i : ℕ). map (moved_down (macro_size m) i) (entries_of (from + table_size xs + macro_size m) (k + length (macro_offsets m)) ys)) t.offsets_are
+    ∙ moved_entries (from + table_size xs) (macro_size m) k (length (macro_offsets m)) ys)) in
     record {
       inside = omega (arith, ap (length {A = ℕ}) left, length-append before (table_bytes xs ++ table_bytes ys));
       few = s.few;
       bytes_are = ap (drop from) left ∙ (drop_at before _ from long ∙ (sym (table_bytes-append xs ys) ∙ ap table_bytes (sym (removed_parts ms place))));
       entries_are =
           e
-          ∙ (ap (λ (l : List Entry). l ++ map (moved_down size marks) (drop place rest)) t.front
+          ∙ (ap (λ (l : List Entry). l ++ map (moved_down size formal_offsets) (drop place rest)) t.front
           ∙ (ap (λ (l : List Entry). entries_of from ahead xs ++ l) moved
           ∙ (sym (entries_of-append from ahead xs ys) ∙ ap (entries_of from ahead) (sym (removed_parts ms place)))));
       plain = ap (list_all is_plain_macro) (removed_parts ms place) ∙ plain_left ms place h s.plain;
     }
 
-raised_entry : (n size k marks : ℕ) (m : Macro) → moved_up size marks (entry_of n k m) ≡ entry_of (n + size) (k + marks) m
+raised_entry : (n size k formal_offsets : ℕ) (m : Macro) → moved_up size formal_offsets (entry_of n k m) ≡ entry_of (n + size) (k + formal_offsets) m
 unfolding moved_up entry_of
-raised_entry n size k marks m = refl
+raised_entry n size k formal_offsets m = refl
 
-raised_entries : (n size k marks : ℕ) (xs : List Macro) → map (moved_up size marks) (entries_of n k xs) ≡ entries_of (n + size) (k + marks) xs
+raised_entries : (n size k formal_offsets : ℕ) (xs : List Macro) → map (moved_up size formal_offsets) (entries_of n k xs) ≡ entries_of (n + size) (k + formal_offsets) xs
 unfolding entries_of
-raised_entries n size k marks [] = refl
-raised_entries n size k marks (x ∷ xs) =
-    let j : ℕ = length (macro_marks x) in
+raised_entries n size k formal_offsets [] = refl
+raised_entries n size k formal_offsets (x ∷ xs) =
+    let j : ℕ = length (macro_offsets x) in
     let e : n + macro_size x + size ≡ n + size + macro_size x = omega arith in
-    let f : k + j + marks ≡ k + marks + j = omega arith in
-    ap (λ (y : Entry). y ∷ map (moved_up size marks) (entries_of (n + macro_size x) (k + j) xs)) (raised_entry n size k marks x)
-    ∙ ap (λ (es : List Entry). entry_of (n + size) (k + marks) x ∷ es)
-    (raised_entries (n + macro_size x) size (k + j) marks xs
-    ∙ (ap (λ (i : ℕ). entries_of i (k + j + marks) xs) e ∙ ap (λ (i : ℕ). entries_of (n + size + macro_size x) i xs) f))
+    let f : k + j + formal_offsets ≡ k + formal_offsets + j = omega arith in
+    ap (λ (y : Entry). y ∷ map (moved_up size formal_offsets) (entries_of (n + macro_size x) (k + j) xs)) (raised_entry n size k formal_offsets x)
+    ∙ ap (λ (es : List Entry). entry_of (n + size) (k + formal_offsets) x ∷ es)
+    (raised_entries (n + macro_size x) size (k + j) formal_offsets xs
+    ∙ (ap (λ (i : ℕ). entries_of i (k + j + formal_offsets) xs) e ∙ ap (λ (i : ℕ). entries_of (n + size + macro_size x) i xs) f))
 
 -- what is left of the lists once those before a macro came to the back, over it
-pub covered_stored : {from ahead : ℕ} (bytes : List ℕ) (entries rest : List Entry) (entry : Entry) (ms : List Macro) (place size marks : ℕ) (bytes' : List ℕ) (entries' : List Entry) → IsStored from ahead bytes entries ms → Taken from ahead entries rest entry ms place size marks → place < length ms → drop (from + size) bytes' ≡ slice_range bytes from entry.start ++ drop (entry.start + size) bytes → length bytes' ≡ length bytes → entries' ≡ map (moved_up size marks) (take place rest) ++ drop place rest → IsStored (from + size) (ahead + marks) bytes' entries' (remove ms place)
-covered_stored {from = from} {ahead = ahead} bytes entries rest entry ms place size marks bytes' entries' s t h b l e =
+pub covered_stored : {from ahead : ℕ} (bytes : List ℕ) (entries rest : List Entry) (entry : Entry) (ms : List Macro) (place size formal_offsets : ℕ) (bytes' : List ℕ) (entries' : List Entry) → IsStored from ahead bytes entries ms → Taken from ahead entries rest entry ms place size formal_offsets → place < length ms → drop (from + size) bytes' ≡ slice_range bytes from entry.start ++ drop (entry.start + size) bytes → length bytes' ≡ length bytes → entries' ≡ map (moved_up size formal_offsets) (take place rest) ++ drop place rest → IsStored (from + size) (ahead + formal_offsets) bytes' entries' (remove ms place)
+covered_stored {from = from} {ahead = ahead} bytes entries rest entry ms place size formal_offsets bytes' entries' s t h b l e =
     let xs : List Macro = take place ms in
     let m : Macro = macro_at ms place in
     let ys : List Macro = drop (place + 1) ms in
@@ -374,16 +374,16 @@ covered_stored {from = from} {ahead = ahead} bytes entries rest entry ms place s
     let behind : drop (entry.start + size) bytes ≡ table_bytes ys =
     ap (drop (entry.start + size)) (round ∙ sym (append_assoc (before ++ table_bytes xs) (macro_bytes m) (table_bytes ys)))
     ∙ drop_at ((before ++ table_bytes xs) ++ macro_bytes m) (table_bytes ys) _ past in
-    let k : ℕ = ahead + marks + length (table_marks xs) in
-    let raised : map (moved_up size marks) (take place rest) ≡ entries_of (from + size) (ahead + marks) xs =
-    ap (map (moved_up size marks)) t.front ∙ raised_entries from size ahead marks xs in
+    let k : ℕ = ahead + formal_offsets + length (table_offsets xs) in
+    let raised : map (moved_up size formal_offsets) (take place rest) ≡ entries_of (from + size) (ahead + formal_offsets) xs =
+    ap (map (moved_up size formal_offsets)) t.front ∙ raised_entries from size ahead formal_offsets xs in
     let stay : drop place rest ≡ entries_of (from + size + table_size xs) k ys =
     t.back
-    ∙ (ap (λ (i : ℕ). entries_of i (ahead + length (table_marks xs) + length (macro_marks m)) ys) (omega (arith, t.size_is))
-    ∙ ap (λ (i : ℕ). entries_of (from + size + table_size xs) i ys) (omega (arith, t.marks_are))) in
+    ∙ (ap (λ (i : ℕ). entries_of i (ahead + length (table_offsets xs) + length (macro_offsets m)) ys) (omega (arith, t.size_is))
+    ∙ ap (λ (i : ℕ). entries_of (from + size + table_size xs) i ys) (omega (arith, t.offsets_are))) in
     record {
       inside = omega (arith, l, all, t.start);
-      few = omega (arith, s.few, few_marks_in m, t.size_is, t.marks_are);
+      few = omega (arith, s.few, few_offsets_in m, t.size_is, t.offsets_are);
       bytes_are =
           b
           ∙ (ap (λ (bs : List ℕ). bs ++ drop (entry.start + size) bytes) moved
@@ -392,8 +392,8 @@ covered_stored {from = from} {ahead = ahead} bytes entries rest entry ms place s
       entries_are =
           e
           ∙ (ap (λ (es : List Entry). es ++ drop place rest) raised
-          ∙ (ap (λ (es : List Entry). entries_of (from + size) (ahead + marks) xs ++ es) stay
-          ∙ (sym (entries_of-append (from + size) (ahead + marks) xs ys) ∙ ap (entries_of (from + size) (ahead + marks)) (sym (removed_parts ms place)))));
+          ∙ (ap (λ (es : List Entry). entries_of (from + size) (ahead + formal_offsets) xs ++ es) stay
+          ∙ (sym (entries_of-append (from + size) (ahead + formal_offsets) xs ys) ∙ ap (entries_of (from + size) (ahead + formal_offsets)) (sym (removed_parts ms place)))));
       plain = ap (list_all is_plain_macro) (removed_parts ms place) ∙ plain_left ms place h s.plain;
     }
 
@@ -419,17 +419,17 @@ stored_behind {from = from} {ahead = ahead} bytes entries ms s =
     let P : List Entry → Type 0 = λ l. AreBehind from ahead l in
     subst P (sym s.entries_are) (starts_behind from ahead from ahead ms (omega arith) (omega arith))
 
-pub taken_behind : {from ahead : ℕ} (entries rest : List Entry) (entry : Entry) (ms : List Macro) (place size marks : ℕ) → Taken from ahead entries rest entry ms place size marks → AreBehind size marks (drop place rest)
-taken_behind entries rest entry ms place size marks t =
-    rw (t.back, t.size_is, t.marks_are) (starts_behind (macro_size (macro_at ms place)) (length (macro_marks (macro_at ms place))) _ _ _ (omega arith) (omega arith))
+pub taken_behind : {from ahead : ℕ} (entries rest : List Entry) (entry : Entry) (ms : List Macro) (place size formal_offsets : ℕ) → Taken from ahead entries rest entry ms place size formal_offsets → AreBehind size formal_offsets (drop place rest)
+taken_behind entries rest entry ms place size formal_offsets t =
+    rw (t.back, t.size_is, t.offsets_are) (starts_behind (macro_size (macro_at ms place)) (length (macro_offsets (macro_at ms place))) _ _ _ (omega arith) (omega arith))
 
-low_entries : (n k last most : ℕ) (ms : List Macro) → n + table_size ms ≤ last → k + length (table_marks ms) ≤ most → All (λ e. (e.start ≤ last) × (e.marks ≤ most)) (entries_of n k ms)
+low_entries : (n k last most : ℕ) (ms : List Macro) → n + table_size ms ≤ last → k + length (table_offsets ms) ≤ most → All (λ e. (e.start ≤ last) × (e.formal_offsets ≤ most)) (entries_of n k ms)
 unfolding entries_of
 low_entries n k last most [] h g = All-nil _
 low_entries n k last most (m ∷ ms) h g =
-    All-cons (λ e. (e.start ≤ last) × (e.marks ≤ most)) _ _
-    (omega (arith, start_of n k m, h), omega (arith, marks_at n k m, g))
-    (low_entries (n + macro_size m) (k + length (macro_marks m)) last most ms (omega (arith, h, table_size-cons m ms)) (omega (arith, g, length_marks-cons m ms)))
+    All-cons (λ e. (e.start ≤ last) × (e.formal_offsets ≤ most)) _ _
+    (omega (arith, start_of n k m, h), omega (arith, offsets_at n k m, g))
+    (low_entries (n + macro_size m) (k + length (macro_offsets m)) last most ms (omega (arith, h, table_size-cons m ms)) (omega (arith, g, length_offsets-cons m ms)))
 
 pub end_within : {from ahead : ℕ} (bytes : List ℕ) (entries : List Entry) (ms : List Macro) (place : ℕ) (entry : Entry) → IsStored from ahead bytes entries ms → place < length entries → entry ≡ get_or entries place entry → entry.start + (entry.name_len + entry.list_len + entry.body_len) ≤ length bytes
 unfolding entry_end body_start list_start
@@ -439,68 +439,68 @@ end_within bytes entries ms place entry s h q =
     omega (arith, end)
 
 -- the macro at a place behind what is given up
-pub taken_live : {from ahead : ℕ} (bytes : List ℕ) (items : List Entry) (front place : ℕ) (entry : Entry) (size marks : ℕ) → IsStored from ahead bytes (drop front items) (macros_in bytes (drop front items)) → place < length (drop front items) → entry ≡ get_or items (front + place) entry → size ≡ entry.name_len + entry.list_len + entry.body_len → marks ≡ marks_len entry → Taken from ahead (drop front items) (remove (drop front items) place) entry (macros_in bytes (drop front items)) place size marks
-taken_live {from = from} {ahead = ahead} bytes items front place entry size marks s h q z f =
-    taken from ahead (drop front items) _ entry _ place size marks s.entries_are (omega (arith, h, length_macros_in bytes (drop front items))) (q ∙ sym (get_or-drop front items place entry)) refl z f
+pub taken_live : {from ahead : ℕ} (bytes : List ℕ) (items : List Entry) (front place : ℕ) (entry : Entry) (size formal_offsets : ℕ) → IsStored from ahead bytes (drop front items) (macros_in bytes (drop front items)) → place < length (drop front items) → entry ≡ get_or items (front + place) entry → size ≡ entry.name_len + entry.list_len + entry.body_len → formal_offsets ≡ offsets_len entry → Taken from ahead (drop front items) (remove (drop front items) place) entry (macros_in bytes (drop front items)) place size formal_offsets
+taken_live {from = from} {ahead = ahead} bytes items front place entry size formal_offsets s h q z f =
+    taken from ahead (drop front items) _ entry _ place size formal_offsets s.entries_are (omega (arith, h, length_macros_in bytes (drop front items))) (q ∙ sym (get_or-drop front items place entry)) refl z f
 
 -- what its numbers are between
-pub record IsRanged (from ahead len : ℕ) (entry : Entry) (size marks : ℕ) : Type 0 where
+pub record IsRanged (from ahead len : ℕ) (entry : Entry) (size formal_offsets : ℕ) : Type 0 where
   pub start : from ≤ entry.start
   pub end : entry.start + size ≤ len
-  pub behind : ahead ≤ entry.marks
-  pub few : entry.marks + marks ≤ entry.start + size
+  pub behind : ahead ≤ entry.formal_offsets
+  pub few : entry.formal_offsets + formal_offsets ≤ entry.start + size
 
-pub taken_range : {from ahead : ℕ} (bytes : List ℕ) (items : List Entry) (front place : ℕ) (entry : Entry) (size marks : ℕ) → IsStored from ahead bytes (drop front items) (macros_in bytes (drop front items)) → place < length (drop front items) → entry ≡ get_or items (front + place) entry → size ≡ entry.name_len + entry.list_len + entry.body_len → marks ≡ marks_len entry → IsRanged from ahead (length bytes) entry size marks
-taken_range {from = from} bytes items front place entry size marks s h q z f =
+pub taken_range : {from ahead : ℕ} (bytes : List ℕ) (items : List Entry) (front place : ℕ) (entry : Entry) (size formal_offsets : ℕ) → IsStored from ahead bytes (drop front items) (macros_in bytes (drop front items)) → place < length (drop front items) → entry ≡ get_or items (front + place) entry → size ≡ entry.name_len + entry.list_len + entry.body_len → formal_offsets ≡ offsets_len entry → IsRanged from ahead (length bytes) entry size formal_offsets
+taken_range {from = from} bytes items front place entry size formal_offsets s h q z f =
     let ms : List Macro = macros_in bytes (drop front items) in
-    let t = taken_live bytes items front place entry size marks s h q z f in
+    let t = taken_live bytes items front place entry size formal_offsets s h q z f in
     let inside : place < length ms = omega (arith, h, length_macros_in bytes (drop front items)) in
     record {
       start = omega (arith, t.start);
       end = omega (arith, z, end_within bytes (drop front items) ms place entry s h (q ∙ sym (get_or-drop front items place entry)));
-      behind = omega (arith, t.marks_from);
-      few = omega (arith, t.start, t.marks_from, s.few, few_marks (take place ms), few_marks_in (macro_at ms place), t.size_is, t.marks_are);
+      behind = omega (arith, t.offsets_from);
+      few = omega (arith, t.start, t.offsets_from, s.few, few_offsets (take place ms), few_offsets_in (macro_at ms place), t.size_is, t.offsets_are);
     }
 
 -- the entries before it can be moved up
-pub taken_low : {from ahead : ℕ} (bytes : List ℕ) (items : List Entry) (front place : ℕ) (entry : Entry) (size marks : ℕ) → IsStored from ahead bytes (drop front items) (macros_in bytes (drop front items)) → place < length (drop front items) → entry ≡ get_or items (front + place) entry → size ≡ entry.name_len + entry.list_len + entry.body_len → marks ≡ marks_len entry → length bytes < 2 ^ 32 → AreLow size marks (take place (remove (drop front items) place))
-taken_low {from = from} {ahead = ahead} bytes items front place entry size marks s h q z f n =
+pub taken_low : {from ahead : ℕ} (bytes : List ℕ) (items : List Entry) (front place : ℕ) (entry : Entry) (size formal_offsets : ℕ) → IsStored from ahead bytes (drop front items) (macros_in bytes (drop front items)) → place < length (drop front items) → entry ≡ get_or items (front + place) entry → size ≡ entry.name_len + entry.list_len + entry.body_len → formal_offsets ≡ offsets_len entry → length bytes < 2 ^ 32 → AreLow size formal_offsets (take place (remove (drop front items) place))
+taken_low {from = from} {ahead = ahead} bytes items front place entry size formal_offsets s h q z f n =
     let ms : List Macro = macros_in bytes (drop front items) in
-    let t = taken_live bytes items front place entry size marks s h q z f in
-    let r = taken_range bytes items front place entry size marks s h q z f in
-    let P : List Entry → Type 0 = λ l. AreLow size marks l in
-    let low : All (λ e. (e.start ≤ entry.start) × (e.marks ≤ entry.marks)) (entries_of from ahead (take place ms)) =
-    low_entries from ahead entry.start entry.marks (take place ms) (omega (arith, t.start)) (omega (arith, t.marks_from)) in
+    let t = taken_live bytes items front place entry size formal_offsets s h q z f in
+    let r = taken_range bytes items front place entry size formal_offsets s h q z f in
+    let P : List Entry → Type 0 = λ l. AreLow size formal_offsets l in
+    let low : All (λ e. (e.start ≤ entry.start) × (e.formal_offsets ≤ entry.formal_offsets)) (entries_of from ahead (take place ms)) =
+    low_entries from ahead entry.start entry.formal_offsets (take place ms) (omega (arith, t.start)) (omega (arith, t.offsets_from)) in
     subst P (sym t.front) (λ k d g. (omega (arith, low k d g, r.end, n), omega (arith, low k d g, r.few, r.end, n)))
 
--- the marks of the macros that stay, behind an index of so many places
-pub taken_marks : {from ahead : ℕ} (order : List ℕ) (entries rest : List Entry) (entry : Entry) (ms : List Macro) (place size marks n : ℕ) (order' : List ℕ) → n ≤ length order → drop n order ≡ table_marks ms → Taken from ahead entries rest entry ms place size marks → place < length ms → order' ≡ remove_range order (n + (entry.marks - ahead)) (n + (entry.marks - ahead) + marks) → (take n order' ≡ take n order) × (drop n order' ≡ table_marks (remove ms place))
-taken_marks {ahead = ahead} order entries rest entry ms place size marks n order' l d t h o =
+-- the offsets of the macros that stay, behind an index of so many places
+pub taken_offsets : {from ahead : ℕ} (order : List ℕ) (entries rest : List Entry) (entry : Entry) (ms : List Macro) (place size formal_offsets n : ℕ) (order' : List ℕ) → n ≤ length order → drop n order ≡ table_offsets ms → Taken from ahead entries rest entry ms place size formal_offsets → place < length ms → order' ≡ remove_range order (n + (entry.formal_offsets - ahead)) (n + (entry.formal_offsets - ahead) + formal_offsets) → (take n order' ≡ take n order) × (drop n order' ≡ table_offsets (remove ms place))
+taken_offsets {ahead = ahead} order entries rest entry ms place size formal_offsets n order' l d t h o =
     let xs : List Macro = take place ms in
     let m : Macro = macro_at ms place in
     let ys : List Macro = drop (place + 1) ms in
     let front : List ℕ = take n order in
     let long : length front ≡ n = length-take-le n order l in
-    let whole : order ≡ (front ++ table_marks xs) ++ (macro_marks m ++ table_marks ys) =
+    let whole : order ≡ (front ++ table_offsets xs) ++ (macro_offsets m ++ table_offsets ys) =
     sym (take-append-drop n order)
-    ∙ (ap (λ (x : List ℕ). front ++ x) (d ∙ (ap table_marks (split_at ms place h) ∙ (table_marks-append xs (m ∷ ys) ∙ ap (λ (x : List ℕ). table_marks xs ++ x) (table_marks-cons m ys))))
-    ∙ sym (append_assoc front (table_marks xs) _)) in
-    let left : order' ≡ front ++ table_marks (remove ms place) =
+    ∙ (ap (λ (x : List ℕ). front ++ x) (d ∙ (ap table_offsets (split_at ms place h) ∙ (table_offsets-append xs (m ∷ ys) ∙ ap (λ (x : List ℕ). table_offsets xs ++ x) (table_offsets-cons m ys))))
+    ∙ sym (append_assoc front (table_offsets xs) _)) in
+    let left : order' ≡ front ++ table_offsets (remove ms place) =
     o
-    ∙ (ap (λ (x : List ℕ). remove_range x (n + (entry.marks - ahead)) (n + (entry.marks - ahead) + marks)) whole
-    ∙ (cut_middle (front ++ table_marks xs) (macro_marks m) (table_marks ys) _ _ (omega (arith, length-append front (table_marks xs), t.marks_from)) (omega (arith, t.marks_are))
-    ∙ (append_assoc front (table_marks xs) (table_marks ys)
-    ∙ ap (λ (x : List ℕ). front ++ x) (sym (table_marks-append xs ys) ∙ ap (λ (k : ℕ). table_marks (xs ++ drop k ms)) (add-one place))))) in
+    ∙ (ap (λ (x : List ℕ). remove_range x (n + (entry.formal_offsets - ahead)) (n + (entry.formal_offsets - ahead) + formal_offsets)) whole
+    ∙ (cut_middle (front ++ table_offsets xs) (macro_offsets m) (table_offsets ys) _ _ (omega (arith, length-append front (table_offsets xs), t.offsets_from)) (omega (arith, t.offsets_are))
+    ∙ (append_assoc front (table_offsets xs) (table_offsets ys)
+    ∙ ap (λ (x : List ℕ). front ++ x) (sym (table_offsets-append xs ys) ∙ ap (λ (k : ℕ). table_offsets (xs ++ drop k ms)) (add-one place))))) in
     (ap (take n) left ∙ take_at front _ n long, ap (drop n) left ∙ drop_at front _ n long)
 
--- the marks of an entry lie among those of all
-pub marks_within : {from ahead : ℕ} (entries rest : List Entry) (entry : Entry) (ms : List Macro) (place size marks : ℕ) → Taken from ahead entries rest entry ms place size marks → place < length ms → entry.marks - ahead + marks ≤ length (table_marks ms)
-marks_within entries rest entry ms place size marks t h =
-    omega (arith, t.marks_from, t.marks_are, ap (λ (l : List Macro). length (table_marks l)) (split_at ms place h), ap (length {A = ℕ}) (table_marks-append (take place ms) (macro_at ms place ∷ drop (place + 1) ms)), length-append (table_marks (take place ms)) (table_marks (macro_at ms place ∷ drop (place + 1) ms)), length_marks-cons (macro_at ms place) (drop (place + 1) ms))
+-- the offsets of an entry lie among those of all
+pub offsets_within : {from ahead : ℕ} (entries rest : List Entry) (entry : Entry) (ms : List Macro) (place size formal_offsets : ℕ) → Taken from ahead entries rest entry ms place size formal_offsets → place < length ms → entry.formal_offsets - ahead + formal_offsets ≤ length (table_offsets ms)
+offsets_within entries rest entry ms place size formal_offsets t h =
+    omega (arith, t.offsets_from, t.offsets_are, ap (λ (l : List Macro). length (table_offsets l)) (split_at ms place h), ap (length {A = ℕ}) (table_offsets-append (take place ms) (macro_at ms place ∷ drop (place + 1) ms)), length-append (table_offsets (take place ms)) (table_offsets (macro_at ms place ∷ drop (place + 1) ms)), length_offsets-cons (macro_at ms place) (drop (place + 1) ms))
 
-pub marks_end : {from ahead : ℕ} (order : List ℕ) (entries rest : List Entry) (entry : Entry) (ms : List Macro) (place size marks n : ℕ) → n ≤ length order → drop n order ≡ table_marks ms → Taken from ahead entries rest entry ms place size marks → place < length ms → n + (entry.marks - ahead) + marks ≤ length order
-marks_end order entries rest entry ms place size marks n l d t h =
-    omega (arith, marks_within entries rest entry ms place size marks t h, ap (length {A = ℕ}) d, length-drop n order)
+pub offsets_end : {from ahead : ℕ} (order : List ℕ) (entries rest : List Entry) (entry : Entry) (ms : List Macro) (place size formal_offsets n : ℕ) → n ≤ length order → drop n order ≡ table_offsets ms → Taken from ahead entries rest entry ms place size formal_offsets → place < length ms → n + (entry.formal_offsets - ahead) + formal_offsets ≤ length order
+offsets_end order entries rest entry ms place size formal_offsets n l d t h =
+    omega (arith, offsets_within entries rest entry ms place size formal_offsets t h, ap (length {A = ℕ}) d, length-drop n order)
 
 pub bytes_fit : (v : Vec ℕ Global) → length v.items < 2 ^ 63
 bytes_fit v = omega (arith, v.ok.0, v.ok.1, v.small)

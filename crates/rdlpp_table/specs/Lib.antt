@@ -4,7 +4,7 @@ pub mod ExpansionPoints
 pub mod Shapes
 pub mod PointCache
 pub mod Limits
-pub mod Marks
+pub mod FormalOffsets
 pub mod Words
 pub mod Define
 pub mod Store

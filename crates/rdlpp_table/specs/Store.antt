@@ -9,7 +9,7 @@ use Rattle.rdlpp_scan.specs.LexFaults.{lex_fault_from}
 use Rattle.rdlpp_scan.specs.Tokens.{tokens_from}
 use Rattle.rdlpp_lines.specs.Texts.{cleared, ends_default, level_behind, text_behind}
 use Rattle.rdlpp_table.specs.Table.{Formal, Macro, macro_size, table_bytes, formal_bytes, formal_size}
-use Rattle.rdlpp_table.specs.Marks.{macro_marks, marks_of}
+use Rattle.rdlpp_table.specs.FormalOffsets.{macro_offsets, offsets_of}
 use Rattle.rdlpp_table.specs.View.{formals_of}
 use Rattle.rdlpp_table.specs.PointCache.{cached_points}
 use Rattle.rdlpp_table.specs.declared.entry.Entry.{Entry}
@@ -18,14 +18,14 @@ use Rattle.rdlpp_table.specs.declared.entry.Entry.{Entry}
 unfoldable pub list_size : Macro → ℕ
 list_size m = sum_by formal_size (unwrap_or m.formals [])
 
--- the entry of a macro whose bytes begin at a place, and its marks at another one
+-- the entry of a macro whose bytes begin at a place, and its offsets at another one
 unfoldable pub entry_of : ℕ → ℕ → Macro → Entry
-entry_of start marks m = record { start = start; name_len = length m.name; list_len = list_size m; body_len = length m.body; arity = option_map length m.formals; marks = marks; points = cached_points (formals_of m) m.body }
+entry_of start formal_offsets m = record { start = start; name_len = length m.name; list_len = list_size m; body_len = length m.body; arity = option_map length m.formals; formal_offsets = formal_offsets; points = cached_points (formals_of m) m.body }
 
--- the entries of macros whose bytes begin at a place, and their marks at another one
+-- the entries of macros whose bytes begin at a place, and their offsets at another one
 unfoldable pub entries_of : ℕ → ℕ → List Macro → List Entry
-entries_of start marks [] = []
-entries_of start marks (m ∷ ms) = entry_of start marks m ∷ entries_of (start + macro_size m) (marks + length (macro_marks m)) ms
+entries_of start formal_offsets [] = []
+entries_of start formal_offsets (m ∷ ms) = entry_of start formal_offsets m ∷ entries_of (start + macro_size m) (formal_offsets + length (macro_offsets m)) ms
 
 -- a byte of a formal's name in a table's bytes: neither the `,` nor the `=` that stands behind it
 unfoldable pub is_name_byte : ℕ → Bool
@@ -113,16 +113,16 @@ is_plain_macro m = list_all is_plain_formal (unwrap_or m.formals [])
 abbrev pub live : ℕ → List Entry → List Entry
 live front entries = drop front entries
 
--- the bytes and the entries of macros behind so many bytes that are given up, where the entries count so many marks that aren't there
-pub record IsStored (from marks : ℕ) (bytes : List ℕ) (entries : List Entry) (macros : List Macro) : Type 0 where
+-- the bytes and the entries of macros behind so many bytes that are given up, where the entries count so many offsets that aren't there
+pub record IsStored (from formal_offsets : ℕ) (bytes : List ℕ) (entries : List Entry) (macros : List Macro) : Type 0 where
   pub inside : from ≤ length bytes
-  pub few : marks ≤ from
+  pub few : formal_offsets ≤ from
   pub bytes_are : drop from bytes ≡ table_bytes macros
-  pub entries_are : entries ≡ entries_of from marks macros
+  pub entries_are : entries ≡ entries_of from formal_offsets macros
   pub plain : list_all is_plain_macro macros ≡ true
 
--- bytes are those of so many formals, and marks are those of these
-pub record IsListed (count : ℕ) (list marks : List ℕ) : Type 0 where
+-- bytes are those of so many formals, and offsets are those of these
+pub record AreStoredFormals (count : ℕ) (list formal_offsets : List ℕ) : Type 0 where
   pub whole : flat_map formal_bytes (formals_read count list) ≡ list
   pub plain : list_all is_plain_formal (formals_read count list) ≡ true
-  pub marked : marks ≡ marks_of (formals_read count list)
+  pub marked : formal_offsets ≡ offsets_of (formals_read count list)

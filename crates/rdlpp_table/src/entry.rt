@@ -1,10 +1,10 @@
 // Where the parts of one definition lie in a table's bytes.
 ghost use Rattle.std.specs.Prelude.{◌≡◌, ◌≤◌, ◌+◌, ◌-◌, length, slice_range, unwrap_or};
-ghost use Rattle.rdlpp_table.specs.Entries.{marks_len};
+ghost use Rattle.rdlpp_table.specs.Entries.{offsets_len};
 ghost use Rattle.rdlpp_table.specs.Store.{body_of, entry_end, list_of, name_of};
 
 use crate::point_cache::PointCache;
-use crate::marks::{Listed, is_marked};
+use crate::offsets::{StoredFormals, has_offsets};
 
 // A definition's name, its formals with a comma after each, and its body lie one after another.
 #[derive(Clone, Copy, Drop)]
@@ -12,8 +12,8 @@ pub(crate) struct Entry {
     pub(crate) start: u32,
     pub(crate) list_len: u32,
     pub(crate) body_len: u32,
-    // Where its marks begin, counted with those that are given up.
-    pub(crate) marks: u32,
+    // Where its offsets begin, counted with those that are given up.
+    pub(crate) formal_offsets: u32,
     pub(crate) name_len: u8,
     // How many formals it has, where it has a list.
     pub(crate) arity: Option<u8>,
@@ -56,40 +56,40 @@ pub(crate) fn arity_in(entry: &Entry) -> Option<usize>
     }
 }
 
-// How many marks a definition has: two for each formal, where any are kept.
-#[tactic(auto, unfolding(crate::specs::Entries::marks_len, crate::specs::Marks::is_marked))]
-pub(crate) fn marks_len(entry: &Entry) -> usize
-    ensures { result ≡ marks_len entry.now }
+// How many offsets a definition has: two for each formal, where any are kept.
+#[tactic(auto, unfolding(crate::specs::Entries::offsets_len, crate::specs::FormalOffsets::has_offsets))]
+pub(crate) fn offsets_len(entry: &Entry) -> usize
+    ensures { result ≡ offsets_len entry.now }
 {
     let count = arity_in(entry).unwrap_or(0);
-    if is_marked(count, entry.list_len as usize) {
+    if has_offsets(count, entry.list_len as usize) {
         2 * count
     } else {
         0
     }
 }
 
-// The formals of a definition as they lie in a table, and their marks among those of all macros, where so many that the entry counts
+// The formals of a definition as they lie in a table, and their offsets among those of all macros, where so many that the entry counts
 // are given up.
 pub(crate) fn listed_in<'a>(
     bytes: &'a [u8],
-    marks: &'a [u16],
+    formal_offsets: &'a [u16],
     given_up: usize,
     entry: &Entry,
-) -> Listed<'a>
+) -> StoredFormals<'a>
     requires bytes { entry_end entry.now ≤ length bytes.now }
-    requires given_up { given_up ≤ entry.now.marks }
-    requires marks { entry.now.marks - given_up + marks_len entry.now ≤ length marks.now }
+    requires given_up { given_up ≤ entry.now.formal_offsets }
+    requires formal_offsets { entry.now.formal_offsets - given_up + offsets_len entry.now ≤ length formal_offsets.now }
     ensures list { result.list.now ≡ list_of bytes.now entry.now }
     ensures count { result.count ≡ unwrap_or entry.now.arity 0 }
-    ensures marks { result.marks.now ≡ slice_range marks.now (entry.now.marks - given_up) (entry.now.marks - given_up + marks_len entry.now) }
+    ensures formal_offsets { result.formal_offsets.now ≡ slice_range formal_offsets.now (entry.now.formal_offsets - given_up) (entry.now.formal_offsets - given_up + offsets_len entry.now) }
 {
-    let first = entry.marks as usize - given_up;
-    let end = first + marks_len(entry);
-    Listed {
+    let first = entry.formal_offsets as usize - given_up;
+    let end = first + offsets_len(entry);
+    StoredFormals {
         list: list_in(bytes, entry),
         count: arity_in(entry).unwrap_or(0),
-        marks: &marks[first..end],
+        formal_offsets: &formal_offsets[first..end],
     }
 }
 

@@ -4,13 +4,14 @@ ghost use Rattle.rdlpp_table.specs.Store.{live};
 
 use crate::entry::Entry;
 
-// How many bytes and how many entries are given up, and how many marks the entries count that aren't there any more. An entry
-// counts its bytes and its marks from the front of all that was there, so that those behind stay as they are when a front is given up.
+// How many bytes and how many entries are given up, and how many offsets the entries count that aren't there any more. An entry
+// counts its bytes and its offsets from the front of all that was there, so that those behind stay as they are when a front is
+// given up.
 #[derive(Clone, Copy, Drop)]
 pub(crate) struct GivenUp {
     pub(crate) bytes: usize,
     pub(crate) entries: usize,
-    pub(crate) marks: usize,
+    pub(crate) formal_offsets: usize,
 }
 
 // The entries that aren't given up.

@@ -1,6 +1,6 @@
-// The index of a table: the places of its entries, sorted by the buckets in which their names stand, and then by name. A table has at
-// most 65,536 macros, so that two bytes are enough for a place. Behind it, in the same list, lie the marks of its macros; a definition
-// moves two bytes for each place behind its own, and the marks.
+// The index of a table: the places of its entries, sorted by the buckets in which their names stand, and then by name. A table has
+// at most 65,536 macros, so that two bytes are enough for a place. Behind it, in the same list, lie the offsets of its macros; a
+// definition moves two bytes for each place behind its own, and the offsets.
 ghost use Rattle.std.specs.Prelude.{◌≡◌, ◌+◌, ◌<◌, ◌≤◌, ◌^◌, ◌-◌, ◌++◌, MatchResult, drop, insert, length, map, remove, slice_index, take, vec_capacity, vec_len};
 ghost use Rattle.rdlpp_table.specs.Entries.{AreWithin};
 ghost use Rattle.rdlpp_table.specs.Index.{closed, names_of, IsCounted, IsGap, IsIndexed, IsMiddle, IsPlace};
@@ -95,7 +95,7 @@ pub(crate) fn leave(order: &mut Vec<u16>, count: usize, at: usize) -> usize
     requires count { count ≤ vec_len order.old }
     ensures value { result ≡ slice_index (take count order.old.items) at }
     ensures index { take (count - 1) order.new.items ≡ map (closed result) (remove (take count order.old.items) at) }
-    ensures marks { drop (count - 1) order.new.items ≡ drop count order.old.items }
+    ensures formal_offsets { drop (count - 1) order.new.items ≡ drop count order.old.items }
     ensures len { vec_len order.new + 1 ≡ vec_len order.old }
     ensures capacity { vec_capacity order.new ≡ vec_capacity order.old }
 {

@@ -7,9 +7,9 @@ ghost use Rattle.rdlpp_scan.specs.declared.token.Mode.TheVariants.{Plain};
 ghost use Rattle.rdlpp_table.specs.Shapes.{AreShapes, shape};
 ghost use Rattle.rdlpp_table.specs.PointCache.{point_end};
 ghost use Rattle.rdlpp_table.specs.ExpansionPoints.{is_none, point_at, point_of};
-ghost use Rattle.rdlpp_table.specs.Store.{formals_read, IsListed};
+ghost use Rattle.rdlpp_table.specs.Store.{formals_read, AreStoredFormals};
 
-use crate::marks::{Listed, place_of};
+use crate::offsets::{StoredFormals, place_of};
 use crate::stored::shape;
 use rdlpp_scan::{Kind, Mode, Token, first_token, is_letter, inert_bytes, word_bytes};
 
@@ -60,8 +60,8 @@ fn has_shape(shapes: &[bool], name: &[u8]) -> bool
 
 // What a token at a place is, among formals as they lie in a table.
 #[tactic(auto, unfolding(crate::specs::ExpansionPoints::point_at))]
-fn point_at(formals: &Listed, shapes: &[bool], at: usize, token: Token, text: &[u8]) -> ExpansionPoint
-    requires listed { IsListed formals.now.count formals.now.list.now formals.now.marks.now }
+fn point_at(formals: &StoredFormals, shapes: &[bool], at: usize, token: Token, text: &[u8]) -> ExpansionPoint
+    requires listed { AreStoredFormals formals.now.count formals.now.list.now formals.now.formal_offsets.now }
     requires told { AreShapes (formals_read formals.now.count formals.now.list.now) shapes.now }
     ensures { result ≡ point_at (formals_read formals.now.count formals.now.list.now) at token text.now }
 {
@@ -129,8 +129,8 @@ fn plain_token(text: &[u8]) -> Token
 // The first expansion point of a text whose first byte stands at a place, among formals as they lie in a table. It may be told of
 // which shapes their names are, so that most other words are passed without a look at them.
 #[inline(always)]
-pub(crate) fn next_expansion_point(formals: &Listed, shapes: &[bool], text: &[u8], from: usize) -> ExpansionPoint
-    requires listed { IsListed formals.now.count formals.now.list.now formals.now.marks.now }
+pub(crate) fn next_expansion_point(formals: &StoredFormals, shapes: &[bool], text: &[u8], from: usize) -> ExpansionPoint
+    requires listed { AreStoredFormals formals.now.count formals.now.list.now formals.now.formal_offsets.now }
     requires told { AreShapes (formals_read formals.now.count formals.now.list.now) shapes.now }
     requires short { from + length text.now < 2 ^ 64 }
     ensures value { result ≡ point_of (formals_read formals.now.count formals.now.list.now) from text.now }

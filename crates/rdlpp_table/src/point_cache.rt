@@ -19,10 +19,10 @@ ghost use Rattle.rdlpp_table.specs.PointCache.{
 };
 ghost use Rattle.rdlpp_table.specs.Shapes.{AreShapes};
 ghost use Rattle.rdlpp_table.specs.ExpansionPoints.{point_of};
-ghost use Rattle.rdlpp_table.specs.Store.{formals_read, IsListed};
+ghost use Rattle.rdlpp_table.specs.Store.{formals_read, AreStoredFormals};
 ghost use Rattle.rdlpp_table.specs.Table.{Formal};
 
-use crate::marks::{Listed, shapes};
+use crate::offsets::{StoredFormals, shapes};
 use crate::point::{ExpansionPoint, next_expansion_point};
 use rdlpp_scan::{plain_argument_bytes, inert_bytes, word_bytes};
 
@@ -165,8 +165,8 @@ fn kept_point(point: ExpansionPoint, from: usize, text: &[u8]) -> PackedPoint
 
 // The first expansion point of a body from a place on.
 #[tactic(auto, unfolding(crate::specs::PointCache::kept_from, crate::specs::PointCache::endless))]
-fn kept_from(formals: &Listed, shapes: &[bool], body: &[u8], from: u16) -> PackedPoint
-    requires listed { IsListed formals.now.count formals.now.list.now formals.now.marks.now }
+fn kept_from(formals: &StoredFormals, shapes: &[bool], body: &[u8], from: u16) -> PackedPoint
+    requires listed { AreStoredFormals formals.now.count formals.now.list.now formals.now.formal_offsets.now }
     requires told { AreShapes (formals_read formals.now.count formals.now.list.now) shapes.now }
     requires short { length body.now < 2 ^ 64 }
     requires inside { from < 65535 → from ≤ length body.now }
@@ -183,8 +183,8 @@ fn kept_from(formals: &Listed, shapes: &[bool], body: &[u8], from: u16) -> Packe
 }
 
 // The first expansion points of a body, among formals as they lie in a table. Behind one that isn't known to end nothing is looked for.
-pub(crate) fn cached_points(formals: &Listed, body: &[u8]) -> PointCache
-    requires listed { IsListed formals.now.count formals.now.list.now formals.now.marks.now }
+pub(crate) fn cached_points(formals: &StoredFormals, body: &[u8]) -> PointCache
+    requires listed { AreStoredFormals formals.now.count formals.now.list.now formals.now.formal_offsets.now }
     requires short { length body.now < 2 ^ 64 }
     ensures { result ≡ cached_points (formals_read formals.now.count formals.now.list.now) body.now }
 {

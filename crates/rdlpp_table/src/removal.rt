@@ -4,72 +4,72 @@ ghost use Rattle.rdlpp_table.specs.Table.{macro_named, without};
 ghost use Rattle.std.specs.List.{remove_range, IsDistinct};
 ghost use Rattle.rdlpp_table.specs.Entries.{moved_down, moved_up, AreBehind, AreLow};
 ghost use Rattle.rdlpp_table.specs.Index.{names_of, IsGap, IsIndexed};
-ghost use Rattle.rdlpp_table.specs.Marks.{table_marks};
+ghost use Rattle.rdlpp_table.specs.FormalOffsets.{table_offsets};
 ghost use Rattle.rdlpp_table.specs.Store.{live, macros_in, IsStored};
 
-use crate::entry::{ENTRY_BYTES, Entry, marks_len};
+use crate::entry::{ENTRY_BYTES, Entry, offsets_len};
 use crate::given_up::{GivenUp, live};
 use crate::index::{leave, seek};
 use crate::buckets::{begin_sooner, bucket_of};
 use crate::lookup::{LookupKey, Steps};
 
-// The bytes of an entry were moved so much further to the front, and its marks as much as another number says.
+// The bytes of an entry were moved so much further to the front, and its offsets as much as another number says.
 #[inline(always)]
 #[tactic(auto, unfolding(crate::specs::Entries::moved_down))]
-fn move_down(entry: &mut Entry, size: usize, marks: usize)
-    requires { (size ≤ entry.old.start) × (marks ≤ entry.old.marks) }
-    ensures { entry.new ≡ moved_down size marks entry.old }
+fn move_down(entry: &mut Entry, size: usize, formal_offsets: usize)
+    requires { (size ≤ entry.old.start) × (formal_offsets ≤ entry.old.formal_offsets) }
+    ensures { entry.new ≡ moved_down size formal_offsets entry.old }
 {
     entry.start = (entry.start as usize - size) as u32;
-    entry.marks = (entry.marks as usize - marks) as u32;
+    entry.formal_offsets = (entry.formal_offsets as usize - formal_offsets) as u32;
 }
 
-// The entries behind the first `by` ones come to the front, and their bytes and marks were moved. One pass does both: a long list of
+// The entries behind the first `by` ones come to the front, and their bytes and offsets were moved. One pass does both: a long list of
 // entries is read once.
-fn draw_down(entries: &mut [Entry], by: usize, size: usize, marks: usize)
+fn draw_down(entries: &mut [Entry], by: usize, size: usize, formal_offsets: usize)
     requires some { by ≤ length entries.old }
-    requires behind { AreBehind size marks (drop by entries.old) }
-    ensures { entries.new ≡ map (moved_down size marks) (drop by entries.old) ++ drop (length entries.old - by) entries.old }
+    requires behind { AreBehind size formal_offsets (drop by entries.old) }
+    ensures { entries.new ≡ map (moved_down size formal_offsets) (drop by entries.old) ++ drop (length entries.old - by) entries.old }
 {
     for at in 0..entries.len() - by {
         entries[at] = entries[at + by];
-        move_down(&mut entries[at], size, marks);
+        move_down(&mut entries[at], size, formal_offsets);
     }
 }
 
-// Takes out the entry at a place; the bytes and the marks of those behind it were moved so much further to the front.
-fn take_entry(entries: &mut Vec<Entry>, place: usize, size: usize, marks: usize)
+// Takes out the entry at a place; the bytes and the offsets of those behind it were moved so much further to the front.
+fn take_entry(entries: &mut Vec<Entry>, place: usize, size: usize, formal_offsets: usize)
     requires place { place < vec_len entries.old }
-    requires behind { AreBehind size marks (drop place (remove entries.old.items place)) }
-    ensures items { entries.new.items ≡ take place (remove entries.old.items place) ++ map (moved_down size marks) (drop place (remove entries.old.items place)) }
+    requires behind { AreBehind size formal_offsets (drop place (remove entries.old.items place)) }
+    ensures items { entries.new.items ≡ take place (remove entries.old.items place) ++ map (moved_down size formal_offsets) (drop place (remove entries.old.items place)) }
     ensures len { vec_len entries.new + 1 ≡ vec_len entries.old }
     ensures capacity { vec_capacity entries.new ≡ vec_capacity entries.old }
 {
-    draw_down(&mut entries[place..], 1, size, marks);
+    draw_down(&mut entries[place..], 1, size, formal_offsets);
     entries.truncate(entries.len() - 1);
 }
 
-// The bytes of an entry are moved so much further to the back, and its marks count as many more as another number says.
+// The bytes of an entry are moved so much further to the back, and its offsets count as many more as another number says.
 #[inline(always)]
 #[tactic(auto, unfolding(crate::specs::Entries::moved_up))]
-fn move_up(entry: &mut Entry, size: usize, marks: usize)
-    requires { (entry.old.start + size < 2 ^ 32) × (entry.old.marks + marks < 2 ^ 32) }
-    ensures { entry.new ≡ moved_up size marks entry.old }
+fn move_up(entry: &mut Entry, size: usize, formal_offsets: usize)
+    requires { (entry.old.start + size < 2 ^ 32) × (entry.old.formal_offsets + formal_offsets < 2 ^ 32) }
+    ensures { entry.new ≡ moved_up size formal_offsets entry.old }
 {
     entry.start = (entry.start as usize + size) as u32;
-    entry.marks = (entry.marks as usize + marks) as u32;
+    entry.formal_offsets = (entry.formal_offsets as usize + formal_offsets) as u32;
 }
 
 // The entries before the last one come a place to the back, and their bytes are moved.
-fn draw_up(entries: &mut [Entry], size: usize, marks: usize)
+fn draw_up(entries: &mut [Entry], size: usize, formal_offsets: usize)
     requires some { 0 < length entries.old }
-    requires low { AreLow size marks (take (length entries.old - 1) entries.old) }
-    ensures { entries.new ≡ take 1 entries.old ++ map (moved_up size marks) (take (length entries.old - 1) entries.old) }
+    requires low { AreLow size formal_offsets (take (length entries.old - 1) entries.old) }
+    ensures { entries.new ≡ take 1 entries.old ++ map (moved_up size formal_offsets) (take (length entries.old - 1) entries.old) }
 {
     let mut at = entries.len() - 1;
     while at > 0 {
         entries[at] = entries[at - 1];
-        move_up(&mut entries[at], size, marks);
+        move_up(&mut entries[at], size, formal_offsets);
         at -= 1;
     }
 }
@@ -77,14 +77,14 @@ fn draw_up(entries: &mut [Entry], size: usize, marks: usize)
 // Takes out the entry at a place, counted behind the first `front` ones, which are given up: the entries between these and the place
 // move one place to the back, over the entry that is taken out, and the first place of theirs is given up too. Those behind stay where
 // they are. The bytes of the moved ones were moved so much further to the back.
-fn cover_entry(entries: &mut Vec<Entry>, front: usize, place: usize, size: usize, marks: usize)
+fn cover_entry(entries: &mut Vec<Entry>, front: usize, place: usize, size: usize, formal_offsets: usize)
     requires place { front + place < vec_len entries.old }
-    requires low { AreLow size marks (take place (remove (drop front entries.old.items) place)) }
-    ensures items { drop (front + 1) entries.new.items ≡ map (moved_up size marks) (take place (remove (drop front entries.old.items) place)) ++ drop place (remove (drop front entries.old.items) place) }
+    requires low { AreLow size formal_offsets (take place (remove (drop front entries.old.items) place)) }
+    ensures items { drop (front + 1) entries.new.items ≡ map (moved_up size formal_offsets) (take place (remove (drop front entries.old.items) place)) ++ drop place (remove (drop front entries.old.items) place) }
     ensures len { vec_len entries.new ≡ vec_len entries.old }
     ensures capacity { vec_capacity entries.new ≡ vec_capacity entries.old }
 {
-    draw_up(&mut entries[front..front + place + 1], size, marks);
+    draw_up(&mut entries[front..front + place + 1], size, formal_offsets);
 }
 
 // Takes bytes out of the middle: those behind move to the front as one block.
@@ -108,8 +108,8 @@ fn cover(bytes: &mut Vec<u8>, from: usize, to: usize, size: usize)
     bytes.copy_within(from..to, from + size);
 }
 
-// Takes marks out of the middle: those behind move to the front as one block. Most macros have none, and then nothing moves.
-fn cut_marks(order: &mut Vec<u16>, from: usize, to: usize)
+// Takes offsets out of the middle: those behind move to the front as one block. Most macros have none, and then nothing moves.
+fn cut_offsets(order: &mut Vec<u16>, from: usize, to: usize)
     requires { (from ≤ to) × (to ≤ vec_len order.old) }
     ensures items { order.new.items ≡ remove_range order.old.items from to }
     ensures capacity { vec_capacity order.new ≡ vec_capacity order.old }
@@ -142,12 +142,12 @@ fn has_room(bytes: &Vec<u8>, entries: &Vec<Entry>, front: &GivenUp, size: usize)
 // behind the macro is moved to the front, and so it is where nothing is given up yet and there is no room for one more macro of this
 // size, which the next definition would have to make by a move of all.
 fn take_stored(bytes: &mut Vec<u8>, entries: &mut Vec<Entry>, front: &mut GivenUp, place: usize)
-    requires stored { IsStored front.old.bytes front.old.marks bytes.old.items (live front.old.entries entries.old.items) (macros_in bytes.old.items (live front.old.entries entries.old.items)) }
+    requires stored { IsStored front.old.bytes front.old.formal_offsets bytes.old.items (live front.old.entries entries.old.items) (macros_in bytes.old.items (live front.old.entries entries.old.items)) }
     requires narrow { vec_capacity bytes.old < 2 ^ 32 }
     requires given_up { front.old.entries ≤ vec_len entries.old }
     requires place { place < length (live front.old.entries entries.old.items) }
     requires few { length (live front.old.entries entries.old.items) ≤ 65536 }
-    ensures stored { IsStored front.new.bytes front.new.marks bytes.new.items (live front.new.entries entries.new.items) (remove (macros_in bytes.old.items (live front.old.entries entries.old.items)) place) }
+    ensures stored { IsStored front.new.bytes front.new.formal_offsets bytes.new.items (live front.new.entries entries.new.items) (remove (macros_in bytes.old.items (live front.old.entries entries.old.items)) place) }
     ensures given_up { front.new.entries ≤ vec_len entries.new }
     ensures no_longer { (vec_len bytes.new ≤ vec_len bytes.old) × (vec_len entries.new ≤ vec_len entries.old) }
     ensures capacity { (vec_capacity bytes.new ≡ vec_capacity bytes.old) × (vec_capacity entries.new ≡ vec_capacity entries.old) }
@@ -155,19 +155,19 @@ fn take_stored(bytes: &mut Vec<u8>, entries: &mut Vec<Entry>, front: &mut GivenU
     let at = front.entries + place;
     let entry = entries[at];
     let size = size_of_entry(&entry);
-    let marks = marks_len(&entry);
+    let formal_offsets = offsets_len(&entry);
     let start = entry.start as usize;
     let before = (start - front.bytes) + ENTRY_BYTES * place;
     let behind = (bytes.len() - (start + size)) + ENTRY_BYTES * (entries.len() - (at + 1));
     if before < behind / 3 && has_room(bytes, entries, front, size) {
         cover(bytes, front.bytes, start, size);
-        cover_entry(entries, front.entries, place, size, marks);
+        cover_entry(entries, front.entries, place, size, formal_offsets);
         front.bytes += size;
         front.entries += 1;
-        front.marks += marks;
+        front.formal_offsets += formal_offsets;
     } else {
         cut(bytes, start, start + size);
-        take_entry(entries, at, size, marks);
+        take_entry(entries, at, size, formal_offsets);
     }
 }
 
@@ -179,32 +179,32 @@ fn remove_at(
     order: &mut Vec<u16>,
     place: usize,
 )
-    requires stored { IsStored front.old.bytes front.old.marks bytes.old.items (live front.old.entries entries.old.items) (macros_in bytes.old.items (live front.old.entries entries.old.items)) }
+    requires stored { IsStored front.old.bytes front.old.formal_offsets bytes.old.items (live front.old.entries entries.old.items) (macros_in bytes.old.items (live front.old.entries entries.old.items)) }
     requires narrow { vec_capacity bytes.old < 2 ^ 32 }
     requires given_up { front.old.entries ≤ vec_len entries.old }
     requires place { place < length (live front.old.entries entries.old.items) }
     requires few { length (live front.old.entries entries.old.items) ≤ 65536 }
     requires index { length (live front.old.entries entries.old.items) ≤ vec_len order.old + 1 }
-    requires marked { drop (length (live front.old.entries entries.old.items) - 1) order.old.items ≡ table_marks (macros_in bytes.old.items (live front.old.entries entries.old.items)) }
-    ensures stored { IsStored front.new.bytes front.new.marks bytes.new.items (live front.new.entries entries.new.items) (remove (macros_in bytes.old.items (live front.old.entries entries.old.items)) place) }
+    requires marked { drop (length (live front.old.entries entries.old.items) - 1) order.old.items ≡ table_offsets (macros_in bytes.old.items (live front.old.entries entries.old.items)) }
+    ensures stored { IsStored front.new.bytes front.new.formal_offsets bytes.new.items (live front.new.entries entries.new.items) (remove (macros_in bytes.old.items (live front.old.entries entries.old.items)) place) }
     ensures given_up { front.new.entries ≤ vec_len entries.new }
     ensures no_longer { (vec_len bytes.new ≤ vec_len bytes.old) × (vec_len entries.new ≤ vec_len entries.old) }
     ensures index { take (length (live front.new.entries entries.new.items)) order.new.items ≡ take (length (live front.old.entries entries.old.items) - 1) order.old.items }
-    ensures marked { drop (length (live front.new.entries entries.new.items)) order.new.items ≡ table_marks (remove (macros_in bytes.old.items (live front.old.entries entries.old.items)) place) }
+    ensures marked { drop (length (live front.new.entries entries.new.items)) order.new.items ≡ table_offsets (remove (macros_in bytes.old.items (live front.old.entries entries.old.items)) place) }
     ensures capacity { (vec_capacity bytes.new ≡ vec_capacity bytes.old) × (vec_capacity entries.new ≡ vec_capacity entries.old) × (vec_capacity order.new ≡ vec_capacity order.old) }
 {
     let entry = live(entries, front)[place];
-    let first = entries.len() - front.entries - 1 + (entry.marks as usize - front.marks);
-    cut_marks(order, first, first + marks_len(&entry));
+    let first = entries.len() - front.entries - 1 + (entry.formal_offsets as usize - front.formal_offsets);
+    cut_offsets(order, first, first + offsets_len(&entry));
     take_stored(bytes, entries, front, place);
 }
 
 // Moves all that isn't given up to the fronts of the lists, so that the room of what is given up lies behind it.
 pub(crate) fn settle(bytes: &mut Vec<u8>, entries: &mut Vec<Entry>, front: &mut GivenUp)
-    requires stored { IsStored front.old.bytes front.old.marks bytes.old.items (live front.old.entries entries.old.items) (macros_in bytes.old.items (live front.old.entries entries.old.items)) }
+    requires stored { IsStored front.old.bytes front.old.formal_offsets bytes.old.items (live front.old.entries entries.old.items) (macros_in bytes.old.items (live front.old.entries entries.old.items)) }
     requires given_up { front.old.entries ≤ vec_len entries.old }
     ensures stored { IsStored 0 0 bytes.new.items (live front.new.entries entries.new.items) (macros_in bytes.old.items (live front.old.entries entries.old.items)) }
-    ensures front { front.new ≡ record { bytes = 0; entries = 0; marks = 0 } }
+    ensures front { front.new ≡ record { bytes = 0; entries = 0; formal_offsets = 0 } }
     ensures capacity { (vec_capacity bytes.new ≡ vec_capacity bytes.old) × (vec_capacity entries.new ≡ vec_capacity entries.old) }
 {
     cut(bytes, 0, front.bytes);
@@ -212,13 +212,13 @@ pub(crate) fn settle(bytes: &mut Vec<u8>, entries: &mut Vec<Entry>, front: &mut 
         entries.as_mut_slice(),
         front.entries,
         front.bytes,
-        front.marks,
+        front.formal_offsets,
     );
     entries.truncate(entries.len() - front.entries);
     *front = GivenUp {
         bytes: 0,
         entries: 0,
-        marks: 0,
+        formal_offsets: 0,
     };
 }
 
@@ -232,20 +232,20 @@ pub(crate) fn remove_named(
     bucket_starts: &mut [u32],
     name: &[u8],
 ) -> (bool, usize)
-    requires stored { IsStored front.old.bytes front.old.marks bytes.old.items (live front.old.entries entries.old.items) (macros_in bytes.old.items (live front.old.entries entries.old.items)) }
+    requires stored { IsStored front.old.bytes front.old.formal_offsets bytes.old.items (live front.old.entries entries.old.items) (macros_in bytes.old.items (live front.old.entries entries.old.items)) }
     requires narrow { vec_capacity bytes.old < 2 ^ 32 }
     requires given_up { front.old.entries ≤ vec_len entries.old }
     requires distinct { IsDistinct bytes_eq (map (λ m. m.name) (macros_in bytes.old.items (live front.old.entries entries.old.items))) }
     requires indexed { IsIndexed (names_of (macros_in bytes.old.items (live front.old.entries entries.old.items))) (take (length (live front.old.entries entries.old.items)) order.old.items) bucket_starts.old }
-    requires marked { drop (length (live front.old.entries entries.old.items)) order.old.items ≡ table_marks (macros_in bytes.old.items (live front.old.entries entries.old.items)) }
+    requires marked { drop (length (live front.old.entries entries.old.items)) order.old.items ≡ table_offsets (macros_in bytes.old.items (live front.old.entries entries.old.items)) }
     requires few { length (live front.old.entries entries.old.items) ≤ 65536 }
     ensures value { result.0 ≡ is_some (macro_named (macros_in bytes.old.items (live front.old.entries entries.old.items)) name.now) }
     ensures gap { IsGap (names_of (macros_in bytes.new.items (live front.new.entries entries.new.items))) (take (length (live front.new.entries entries.new.items)) order.new.items) name.now result.1 }
-    ensures stored { IsStored front.new.bytes front.new.marks bytes.new.items (live front.new.entries entries.new.items) (without name.now (macros_in bytes.old.items (live front.old.entries entries.old.items))) }
+    ensures stored { IsStored front.new.bytes front.new.formal_offsets bytes.new.items (live front.new.entries entries.new.items) (without name.now (macros_in bytes.old.items (live front.old.entries entries.old.items))) }
     ensures given_up { front.new.entries ≤ vec_len entries.new }
     ensures no_longer { (vec_len bytes.new ≤ vec_len bytes.old) × (vec_len entries.new ≤ vec_len entries.old) }
     ensures indexed { IsIndexed (names_of (without name.now (macros_in bytes.old.items (live front.old.entries entries.old.items)))) (take (length (live front.new.entries entries.new.items)) order.new.items) bucket_starts.new }
-    ensures marked { drop (length (live front.new.entries entries.new.items)) order.new.items ≡ table_marks (without name.now (macros_in bytes.old.items (live front.old.entries entries.old.items))) }
+    ensures marked { drop (length (live front.new.entries entries.new.items)) order.new.items ≡ table_offsets (without name.now (macros_in bytes.old.items (live front.old.entries entries.old.items))) }
     ensures capacity { (vec_capacity bytes.new ≡ vec_capacity bytes.old) × (vec_capacity entries.new ≡ vec_capacity entries.old) × (vec_capacity order.new ≡ vec_capacity order.old) }
 {
     let count = entries.len() - front.entries;

@@ -28,8 +28,8 @@ ghost use Rattle.std.specs.Prelude.{
 };
 ghost use Rattle.std.specs.List.{flat_map, IsDistinct};
 ghost use Rattle.rdlpp_table.specs.Index.{names_of, IsIndexed};
-ghost use Rattle.rdlpp_table.specs.Marks.{table_marks};
-ghost use Rattle.rdlpp_table.specs.Store.{live, macros_in, IsListed, IsStored};
+ghost use Rattle.rdlpp_table.specs.FormalOffsets.{table_offsets};
+ghost use Rattle.rdlpp_table.specs.Store.{live, macros_in, AreStoredFormals, IsStored};
 ghost use Rattle.rdlpp_table.specs.Table.{formal_bytes, table_size, without};
 ghost use Rattle.rdlpp_table.specs.NewMacro.{list_formals, new_macro, points_told, IsList, IsNew};
 
@@ -38,7 +38,7 @@ use crate::formals::append_list;
 use crate::given_up::{GivenUp, live};
 use crate::index::{enter, place_in};
 use crate::point_cache::{PointCache, cached_points};
-use crate::marks::{Listed, push_marks};
+use crate::offsets::{StoredFormals, push_offsets};
 use crate::buckets::{begin_later, bucket_of};
 use crate::removal::{settle, size_of_entry, remove_named};
 use crate::lookup::Steps;
@@ -69,17 +69,17 @@ fn append_formals(bytes: &mut Vec<u8>, new: &NewMacro)
     }
 }
 
-// The first expansion points of the body behind a place, by the formals between two places and their marks.
-fn points_at(bytes: &[u8], list: usize, body: usize, count: usize, marks: &[u16]) -> PointCache
+// The first expansion points of the body behind a place, by the formals between two places and their offsets.
+fn points_at(bytes: &[u8], list: usize, body: usize, count: usize, formal_offsets: &[u16]) -> PointCache
     requires order { (list ≤ body) × (body ≤ length bytes.now) }
     requires short { length bytes.now < 2 ^ 64 }
-    requires listed { IsListed count (slice_range bytes.now list body) marks.now }
+    requires listed { AreStoredFormals count (slice_range bytes.now list body) formal_offsets.now }
     ensures { result ≡ points_told bytes.now list body count }
 {
-    let formals = Listed {
+    let formals = StoredFormals {
         list: &bytes[list..body],
         count,
-        marks,
+        formal_offsets,
     };
     cached_points(&formals, &bytes[body..])
 }
@@ -103,23 +103,23 @@ fn put(
     order: &mut Vec<u16>,
     new: &NewMacro,
 )
-    requires stored { IsStored front.now.bytes front.now.marks bytes.old.items (live front.now.entries entries.old.items) (macros_in bytes.old.items (live front.now.entries entries.old.items)) }
+    requires stored { IsStored front.now.bytes front.now.formal_offsets bytes.old.items (live front.now.entries entries.old.items) (macros_in bytes.old.items (live front.now.entries entries.old.items)) }
     requires given_up { front.now.entries ≤ vec_len entries.old }
     requires counted { IsNew new.now.name.now new.now.arity new.now.list.now new.now.list_len new.now.is_logical new.now.text.now new.now.body_len }
     requires index { length (live front.now.entries entries.old.items) < vec_len order.old }
-    requires marked { drop (length (live front.now.entries entries.old.items) + 1) order.old.items ≡ table_marks (macros_in bytes.old.items (live front.now.entries entries.old.items)) }
+    requires marked { drop (length (live front.now.entries entries.old.items) + 1) order.old.items ≡ table_offsets (macros_in bytes.old.items (live front.now.entries entries.old.items)) }
     requires room { vec_len bytes.old + (length new.now.name.now + (new.now.list_len + new.now.body_len)) ≤ vec_capacity bytes.old }
     requires entry_room { vec_len entries.old < vec_capacity entries.old }
-    requires mark_room { vec_len order.old + 2 * (new.now.list_len / 8) ≤ vec_capacity order.old }
+    requires offset_room { vec_len order.old + 2 * (new.now.list_len / 8) ≤ vec_capacity order.old }
     requires small { new.now.list_len < 2 ^ 32 }
     requires narrow { vec_capacity bytes.old < 2 ^ 32 }
     requires short { length new.now.name.now < 256 }
     requires few_formals { unwrap_or new.now.arity 0 < 256 }
-    ensures stored { IsStored front.now.bytes front.now.marks bytes.new.items (live front.now.entries entries.new.items) (macros_in bytes.old.items (live front.now.entries entries.old.items) ++ new_macro new.now.name.now new.now.arity new.now.list.now new.now.is_logical new.now.text.now ∷ []) }
+    ensures stored { IsStored front.now.bytes front.now.formal_offsets bytes.new.items (live front.now.entries entries.new.items) (macros_in bytes.old.items (live front.now.entries entries.old.items) ++ new_macro new.now.name.now new.now.arity new.now.list.now new.now.is_logical new.now.text.now ∷ []) }
     ensures given_up { front.now.entries ≤ vec_len entries.new }
     ensures longer { (vec_len bytes.old ≤ vec_len bytes.new) × (vec_len entries.old ≤ vec_len entries.new) }
     ensures index { take (length (live front.now.entries entries.new.items)) order.new.items ≡ take (length (live front.now.entries entries.old.items) + 1) order.old.items }
-    ensures marked { drop (length (live front.now.entries entries.new.items)) order.new.items ≡ table_marks (macros_in bytes.old.items (live front.now.entries entries.old.items) ++ new_macro new.now.name.now new.now.arity new.now.list.now new.now.is_logical new.now.text.now ∷ []) }
+    ensures marked { drop (length (live front.now.entries entries.new.items)) order.new.items ≡ table_offsets (macros_in bytes.old.items (live front.now.entries entries.old.items) ++ new_macro new.now.name.now new.now.arity new.now.list.now new.now.is_logical new.now.text.now ∷ []) }
     ensures capacity { (vec_capacity bytes.new ≡ vec_capacity bytes.old) × (vec_capacity entries.new ≡ vec_capacity entries.old) × (vec_capacity order.new ≡ vec_capacity order.old) }
 {
     let start = bytes.len();
@@ -129,15 +129,15 @@ fn put(
     let body = bytes.len();
     let first = order.len();
     let count = new.arity.unwrap_or(0);
-    push_marks(order, &bytes[list..], count);
+    push_offsets(order, &bytes[list..], count);
     append_trimmed(bytes, new.text, new.is_logical, false, new.body_len);
     let points = points_at(bytes.as_slice(), list, body, count, &order[first..]);
-    let marks = first - (entries.len() - front.entries + 1) + front.marks;
+    let formal_offsets = first - (entries.len() - front.entries + 1) + front.formal_offsets;
     entries.push_reserved(Entry {
         start: start as u32,
         list_len: new.list_len as u32,
         body_len: new.body_len as u32,
-        marks: marks as u32,
+        formal_offsets: formal_offsets as u32,
         name_len: new.name.len() as u8,
         arity: small_arity(new.arity),
         points,
@@ -160,7 +160,7 @@ pub(crate) fn usage_without(
     bucket_starts: &[u32],
     name: &[u8],
 ) -> UsageWithout
-    requires stored { IsStored front.now.bytes front.now.marks bytes.now (live front.now.entries entries.now) (macros_in bytes.now (live front.now.entries entries.now)) }
+    requires stored { IsStored front.now.bytes front.now.formal_offsets bytes.now (live front.now.entries entries.now) (macros_in bytes.now (live front.now.entries entries.now)) }
     requires given_up { front.now.entries ≤ length entries.now }
     requires distinct { IsDistinct bytes_eq (map (λ m. m.name) (macros_in bytes.now (live front.now.entries entries.now))) }
     requires indexed { IsIndexed (names_of (macros_in bytes.now (live front.now.entries entries.now))) order.now bucket_starts.now }
@@ -194,11 +194,11 @@ fn is_sparse(bytes: &Vec<u8>, entries: &Vec<Entry>, front: &GivenUp) -> bool
 // room that was given up there becomes room behind. So no more is given up then than is there. A move is paid for by the last removal
 // that gave up room, which left in place three quarters or more of what there was, and by the definitions since.
 fn make_room(bytes: &mut Vec<u8>, entries: &mut Vec<Entry>, front: &mut GivenUp, size: usize)
-    requires stored { IsStored front.old.bytes front.old.marks bytes.old.items (live front.old.entries entries.old.items) (macros_in bytes.old.items (live front.old.entries entries.old.items)) }
+    requires stored { IsStored front.old.bytes front.old.formal_offsets bytes.old.items (live front.old.entries entries.old.items) (macros_in bytes.old.items (live front.old.entries entries.old.items)) }
     requires given_up { front.old.entries ≤ vec_len entries.old }
     requires room { table_size (macros_in bytes.old.items (live front.old.entries entries.old.items)) + size ≤ vec_capacity bytes.old }
     requires entry_room { length (live front.old.entries entries.old.items) < vec_capacity entries.old }
-    ensures stored { IsStored front.new.bytes front.new.marks bytes.new.items (live front.new.entries entries.new.items) (macros_in bytes.old.items (live front.old.entries entries.old.items)) }
+    ensures stored { IsStored front.new.bytes front.new.formal_offsets bytes.new.items (live front.new.entries entries.new.items) (macros_in bytes.old.items (live front.old.entries entries.old.items)) }
     ensures given_up { front.new.entries ≤ vec_len entries.new }
     ensures few_given_up { (front.new.bytes ≤ vec_len bytes.new - front.new.bytes) × (front.new.entries ≤ vec_len entries.new - front.new.entries) }
     ensures room { vec_len bytes.new + size ≤ vec_capacity bytes.new }
@@ -222,11 +222,11 @@ pub(crate) fn replace(
     bucket_starts: &mut [u32],
     new: &NewMacro,
 )
-    requires stored { IsStored front.old.bytes front.old.marks bytes.old.items (live front.old.entries entries.old.items) (macros_in bytes.old.items (live front.old.entries entries.old.items)) }
+    requires stored { IsStored front.old.bytes front.old.formal_offsets bytes.old.items (live front.old.entries entries.old.items) (macros_in bytes.old.items (live front.old.entries entries.old.items)) }
     requires given_up { front.old.entries ≤ vec_len entries.old }
     requires distinct { IsDistinct bytes_eq (map (λ m. m.name) (macros_in bytes.old.items (live front.old.entries entries.old.items))) }
     requires indexed { IsIndexed (names_of (macros_in bytes.old.items (live front.old.entries entries.old.items))) (take (length (live front.old.entries entries.old.items)) order.old.items) bucket_starts.old }
-    requires marked { drop (length (live front.old.entries entries.old.items)) order.old.items ≡ table_marks (macros_in bytes.old.items (live front.old.entries entries.old.items)) }
+    requires marked { drop (length (live front.old.entries entries.old.items)) order.old.items ≡ table_offsets (macros_in bytes.old.items (live front.old.entries entries.old.items)) }
     requires few { length (live front.old.entries entries.old.items) ≤ 65536 }
     requires small { new.now.list_len < 2 ^ 32 }
     requires narrow { vec_capacity bytes.old < 2 ^ 32 }
@@ -237,11 +237,11 @@ pub(crate) fn replace(
     requires entry_room { length (without new.now.name.now (macros_in bytes.old.items (live front.old.entries entries.old.items))) < vec_capacity entries.old }
     requires places { vec_capacity entries.old ≤ 65536 }
     requires index_room { length (without new.now.name.now (macros_in bytes.old.items (live front.old.entries entries.old.items))) + 2 * ((table_size (without new.now.name.now (macros_in bytes.old.items (live front.old.entries entries.old.items))) + new.now.list_len) / 8) < vec_capacity order.old }
-    ensures stored { IsStored front.new.bytes front.new.marks bytes.new.items (live front.new.entries entries.new.items) (without new.now.name.now (macros_in bytes.old.items (live front.old.entries entries.old.items)) ++ new_macro new.now.name.now new.now.arity new.now.list.now new.now.is_logical new.now.text.now ∷ []) }
+    ensures stored { IsStored front.new.bytes front.new.formal_offsets bytes.new.items (live front.new.entries entries.new.items) (without new.now.name.now (macros_in bytes.old.items (live front.old.entries entries.old.items)) ++ new_macro new.now.name.now new.now.arity new.now.list.now new.now.is_logical new.now.text.now ∷ []) }
     ensures given_up { front.new.entries ≤ vec_len entries.new }
     ensures few_given_up { (front.new.bytes ≤ vec_len bytes.new - front.new.bytes) × (front.new.entries ≤ vec_len entries.new - front.new.entries) }
     ensures indexed { IsIndexed (names_of (without new.now.name.now (macros_in bytes.old.items (live front.old.entries entries.old.items)) ++ new_macro new.now.name.now new.now.arity new.now.list.now new.now.is_logical new.now.text.now ∷ [])) (take (length (live front.new.entries entries.new.items)) order.new.items) bucket_starts.new }
-    ensures marked { drop (length (live front.new.entries entries.new.items)) order.new.items ≡ table_marks (without new.now.name.now (macros_in bytes.old.items (live front.old.entries entries.old.items)) ++ new_macro new.now.name.now new.now.arity new.now.list.now new.now.is_logical new.now.text.now ∷ []) }
+    ensures marked { drop (length (live front.new.entries entries.new.items)) order.new.items ≡ table_offsets (without new.now.name.now (macros_in bytes.old.items (live front.old.entries entries.old.items)) ++ new_macro new.now.name.now new.now.arity new.now.list.now new.now.is_logical new.now.text.now ∷ []) }
     ensures capacity { (vec_capacity bytes.new ≡ vec_capacity bytes.old) × (vec_capacity entries.new ≡ vec_capacity entries.old) × (vec_capacity order.new ≡ vec_capacity order.old) }
 {
     let (_, gap) = remove_named(bytes, entries, front, order, bucket_starts, new.name);

@@ -9,7 +9,7 @@ ghost use Rattle.rdlpp_table.specs.Table.{macro_named, table_bytes, table_size, 
 ghost use Rattle.rdlpp_scan.specs.SourceTokens.{logical_len};
 ghost use Rattle.rdlpp_table.specs.Define.{define_of, name_fault, observed, set_of, stored, stored_draft, with_body, with_list};
 ghost use Rattle.rdlpp_table.specs.PointCache.{cached_points};
-ghost use Rattle.rdlpp_table.specs.Store.{entry_end, formals_read, macro_in, IsListed};
+ghost use Rattle.rdlpp_table.specs.Store.{entry_end, formals_read, macro_in, AreStoredFormals};
 ghost use Rattle.rdlpp_table.specs.View.{TableView, AreSoundFormals, IsSound, IsSoundMacro, formal_at, formal_named, formals_of, macro_at, place_named};
 
 use crate::entry::{Entry, arity_in, body_in, listed_in, name_in};
@@ -20,7 +20,7 @@ use crate::header::{after_space, leading_name, list_behind, unended};
 use crate::index::place_in;
 use crate::point_cache::cached_point;
 use crate::limits::Limits;
-use crate::marks::{LONG_FORMAL, Listed, default_of, place_of};
+use crate::offsets::{LONG_FORMAL, StoredFormals, default_of, place_of};
 use crate::name::check_name;
 use crate::buckets::BUCKET_STARTS;
 use crate::removal::remove_named;
@@ -113,8 +113,8 @@ impl Table {
         };
         // A mark takes two items, and a place in the index one: the other is spare. What an engine asks for by its limits is a
         // stated number, which stays.
-        let marks = limits.definition_bytes / LONG_FORMAL;
-        let order = match Vec::with_capacity(alloc, 2 * (limits.definitions + marks)) {
+        let formal_offsets = limits.definition_bytes / LONG_FORMAL;
+        let order = match Vec::with_capacity(alloc, 2 * (limits.definitions + formal_offsets)) {
             Ok(order) => order,
             Err(_) => return Err(NoMemory),
         };
@@ -124,7 +124,7 @@ impl Table {
             front: GivenUp {
                 bytes: 0,
                 entries: 0,
-                marks: 0,
+                formal_offsets: 0,
             },
             order,
             bucket_starts: [0; BUCKET_STARTS],
@@ -317,18 +317,18 @@ impl Table {
         default_of(&self.formals(id), i)
     }
 
-    // The formals of a macro as they lie in the table, and their marks.
-    fn formals(&self, id: MacroId) -> Listed<'_>
+    // The formals of a macro as they lie in the table, and their offsets.
+    fn formals(&self, id: MacroId) -> StoredFormals<'_>
         requires { id < length self.now.macros }
         ensures formals { formals_read result.count result.list.now ≡ formals_of (macro_at self.now.macros id) }
-        ensures listed { IsListed result.count result.list.now result.marks.now }
+        ensures listed { AreStoredFormals result.count result.list.now result.formal_offsets.now }
     {
         let entries = live(&self.entries, &self.front);
-        let (_, marks) = self.order.split_at(entries.len());
+        let (_, formal_offsets) = self.order.split_at(entries.len());
         listed_in(
             self.bytes.as_slice(),
-            marks,
-            self.front.marks,
+            formal_offsets,
+            self.front.formal_offsets,
             &entries[id.index],
         )
     }

@@ -15,7 +15,7 @@ returns-clause-index c =
     let l : c.args.count ≤ length c.args.order.now.items = omega (arith, c.requires.count, count_items c.args.order.now) in
     (closed_front c.args.order.now.items _ _ _ _ c.args.count c.args.at _ c.requires.at l c.remove-taken.ensures.items (sym (count_items c.remove-taken.new.self)) c.as_mut_slice.ensures.value c.close_up.ensures).0
 
-pub returns-clause-marks : goal.returns-clause-marks
-returns-clause-marks c =
+pub returns-clause-formal_offsets : goal.returns-clause-formal_offsets
+returns-clause-formal_offsets c =
     let l : c.args.count ≤ length c.args.order.now.items = omega (arith, c.requires.count, count_items c.args.order.now) in
     (closed_front c.args.order.now.items _ _ _ _ c.args.count c.args.at _ c.requires.at l c.remove-taken.ensures.items (sym (count_items c.remove-taken.new.self)) c.as_mut_slice.ensures.value c.close_up.ensures).1

@@ -2,7 +2,7 @@ use Rattle.std.proofs.Common.{◌∙◌, ◌≡◌, true, false, get_or, sym}
 use Rattle.rdlpp_table.specs.Shapes.{shape}
 use Rattle.rdlpp_table.specs.Store.{formals_read}
 use Rattle.rdlpp_table.proofs.FirstPoints.{name_point, none_point, some_point}
-use Rattle.rdlpp_table.proofs.Marked.{no_shape}
+use Rattle.rdlpp_table.proofs.FormalOffsets.{no_shape}
 use Rattle.rdlpp_table.proofs.point.point_at.Goals as goal
 
 pub returns-in-Some : goal.returns-in-Some

@@ -2,7 +2,7 @@ use Rattle.std.proofs.Common.{rules, arith, inl, inr, false, replicate, subst, s
 use Rattle.rdlpp_table.specs.Shapes.{AreShapes}
 use Rattle.rdlpp_table.specs.Store.{formals_read}
 use Rattle.rdlpp_table.proofs.FirstPoints.{rest_unknown, points_more, points_whole}
-use Rattle.rdlpp_table.proofs.Marked.{shapes_told}
+use Rattle.rdlpp_table.proofs.FormalOffsets.{shapes_told}
 use Rattle.rdlpp_table.proofs.point_cache.cached_points.Goals as goal
 
 pub loop-count-preserved : goal.loop-count-preserved

@@ -10,11 +10,11 @@ move_up-requires c =
     let n = length c.args.entries.now - 1 in
     let h : n < length c.args.entries.now = omega (arith, c.requires.some) in
     let g : c.loop-at.at - 1 < length (take n c.args.entries.now) = omega (arith, length-take-le n c.args.entries.now (omega arith), c.loop-at.invariant.0) in
-    let P : Entry → Type 0 = λ e. (e.start + c.args.size < 2 ^ 32) × (e.marks + c.args.marks < 2 ^ 32) in
-    subst P (sym (raised (moved_up c.args.size c.args.marks) c.args.entries.now c.loop-at.entries (c.loop-at.at - 1) c.loop-at.at n no_entry no_entry (omega arith) (omega (arith, c.loop-at.invariant.0)) h c.loop-at.invariant.1)) (c.requires.low (c.loop-at.at - 1) no_entry g)
+    let P : Entry → Type 0 = λ e. (e.start + c.args.size < 2 ^ 32) × (e.formal_offsets + c.args.formal_offsets < 2 ^ 32) in
+    subst P (sym (raised (moved_up c.args.size c.args.formal_offsets) c.args.entries.now c.loop-at.entries (c.loop-at.at - 1) c.loop-at.at n no_entry no_entry (omega arith) (omega (arith, c.loop-at.invariant.0)) h c.loop-at.invariant.1)) (c.requires.low (c.loop-at.at - 1) no_entry g)
 
 pub loop-at-preserved : goal.loop-at-preserved
 loop-at-preserved c =
     let n = length c.args.entries.now - 1 in
     let h : n < length c.args.entries.now = omega (arith, c.requires.some) in
-    (omega (arith, c.loop-at.invariant.0), raised_more (moved_up c.args.size c.args.marks) c.args.entries.now c.loop-at.entries (c.loop-at.at - 1) c.loop-at.at n _ _ _ (omega arith) (omega (arith, c.loop-at.invariant.0)) h c.loop-at.invariant.1 c.move_up.ensures)
+    (omega (arith, c.loop-at.invariant.0), raised_more (moved_up c.args.size c.args.formal_offsets) c.args.entries.now c.loop-at.entries (c.loop-at.at - 1) c.loop-at.at n _ _ _ (omega arith) (omega (arith, c.loop-at.invariant.0)) h c.loop-at.invariant.1 c.move_up.ensures)

@@ -2,7 +2,7 @@ use Rattle.std.proofs.Common.{◌≡◌, ◌-◌, ◌∙◌, ℕ, Some, None, ap
 use Rattle.rdlpp_table.specs.Index.{closed}
 use Rattle.rdlpp_table.proofs.Sizes.{count_items, live_count, is_named, stored_slices_within}
 use Rattle.rdlpp_table.proofs.RoundTrip.{stored_without, stored_nowhere}
-use Rattle.rdlpp_table.proofs.Indexed.{entry_inside, gap_without, gapped, index_front, left_nowhere, left_without, length_front, marks_nowhere, marks_without, placed, sooner_is, sooner_more}
+use Rattle.rdlpp_table.proofs.Indexed.{entry_inside, gap_without, gapped, index_front, left_nowhere, left_without, length_front, offsets_nowhere, offsets_without, placed, sooner_is, sooner_more}
 use Rattle.rdlpp_table.proofs.Orders.{indexed_gap, indexed_place}
 use Rattle.rdlpp_table.proofs.removal.remove_named.Goals as goal
 
@@ -46,7 +46,7 @@ remove_at-requires-clause-index c =
 pub remove_at-requires-clause-marked : goal.remove_at-requires-clause-marked
 remove_at-requires-clause-marked c =
     let n : c.len.result - c.args.front.now.entries ≡ length (drop c.args.front.now.entries c.args.entries.now.items) = omega (arith, c.len.ensures, live_count c.args.front.now.entries c.args.entries.now) in
-    ap (λ (n : ℕ). drop (n - 1) c.leave-place.new.order.items) (sym n) ∙ (c.leave-place.ensures.marks ∙ (ap (λ (n : ℕ). drop n c.args.order.now.items) n ∙ c.requires.marked))
+    ap (λ (n : ℕ). drop (n - 1) c.leave-place.new.order.items) (sym n) ∙ (c.leave-place.ensures.formal_offsets ∙ (ap (λ (n : ℕ). drop n c.args.order.now.items) n ∙ c.requires.marked))
 
 pub returns-in-Ok-clause-value : goal.returns-in-Ok-clause-value
 returns-in-Ok-clause-value c =
@@ -91,7 +91,7 @@ returns-in-Ok-clause-marked c =
     let n : c.len.result - c.args.front.now.entries ≡ length (drop c.args.front.now.entries c.args.entries.now.items) = omega (arith, c.len.ensures, live_count c.args.front.now.entries c.args.entries.now) in
     let p = placed _ _ _ _ _ _ _ _ _ c.deref.ensures.value (c.live.ensures ∙ ap (drop c.args.front.now.entries) c.deref-2.ensures.value) (ap (take (c.len.result - c.args.front.now.entries)) c.deref-3.ensures.value ∙ ap (λ (n : ℕ). take n c.args.order.now.items) n) c.new.ensures c.in-Ok.ensures.found in
     let value : c.leave-place.result ≡ get_or (take (length (drop c.args.front.now.entries c.args.entries.now.items)) c.args.order.now.items) c.in-Ok.at 0 = c.leave-place.ensures.value ∙ ap (λ (n : ℕ). get_or (take n c.args.order.now.items) c.in-Ok.at 0) n in
-    c.remove_at.ensures.marked ∙ marks_without _ _ _ c.requires.distinct (indexed_place _ _ _ _ c.requires.indexed.index p ∙ ap Some (sym value))
+    c.remove_at.ensures.marked ∙ offsets_without _ _ _ c.requires.distinct (indexed_place _ _ _ _ c.requires.indexed.index p ∙ ap Some (sym value))
 
 pub returns-clause-value : goal.returns-clause-value
 returns-clause-value c =
@@ -115,7 +115,7 @@ pub returns-clause-marked : goal.returns-clause-marked
 returns-clause-marked c =
     let n : c.len.result - c.args.front.now.entries ≡ length (drop c.args.front.now.entries c.args.entries.now.items) = omega (arith, c.len.ensures, live_count c.args.front.now.entries c.args.entries.now) in
     let g = gapped _ _ _ _ _ _ _ _ _ c.deref.ensures.value (c.live.ensures ∙ ap (drop c.args.front.now.entries) c.deref-2.ensures.value) (ap (take (c.len.result - c.args.front.now.entries)) c.deref-3.ensures.value ∙ ap (λ (n : ℕ). take n c.args.order.now.items) n) c.new.ensures c.in-Err.ensures.found in
-    c.requires.marked ∙ marks_nowhere _ _ (indexed_gap _ _ _ _ c.requires.indexed.index g)
+    c.requires.marked ∙ offsets_nowhere _ _ (indexed_gap _ _ _ _ c.requires.indexed.index g)
 
 pub returns-clause-gap : goal.returns-clause-gap
 returns-clause-gap c =

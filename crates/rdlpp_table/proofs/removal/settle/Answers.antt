@@ -8,11 +8,11 @@ use Rattle.rdlpp_table.proofs.removal.settle.Goals as goal
 
 pub draw_down-requires-clause-behind : goal.draw_down-requires-clause-behind
 draw_down-requires-clause-behind c =
-    let P : List Entry → Type 0 = λ l. AreBehind c.args.front.now.bytes c.args.front.now.marks l in
+    let P : List Entry → Type 0 = λ l. AreBehind c.args.front.now.bytes c.args.front.now.formal_offsets l in
     subst P (ap (drop c.args.front.now.entries) (sym c.as_mut_slice.ensures.value)) (stored_behind _ _ _ c.requires.stored)
 
 pub returns-clause-stored : goal.returns-clause-stored
 returns-clause-stored c =
     let h : c.args.front.now.entries ≤ length c.args.entries.now.items = omega (arith, c.requires.given_up, count_items c.args.entries.now) in
     settled_stored _ _ _ _ _ c.requires.stored c.cut.ensures.items
-    (settled_list (moved_down c.args.front.now.bytes c.args.front.now.marks) c.args.entries.now.items c.as_mut_slice.result.now _ _ _ c.args.front.now.entries _ _ h (count_items c.args.entries.now) c.len.ensures c.as_mut_slice.ensures.value c.draw_down.ensures c.truncate.ensures.items)
+    (settled_list (moved_down c.args.front.now.bytes c.args.front.now.formal_offsets) c.args.entries.now.items c.as_mut_slice.result.now _ _ _ c.args.front.now.entries _ _ h (count_items c.args.entries.now) c.len.ensures c.as_mut_slice.ensures.value c.draw_down.ensures c.truncate.ensures.items)

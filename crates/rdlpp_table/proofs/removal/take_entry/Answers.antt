@@ -8,10 +8,10 @@ use Rattle.rdlpp_table.proofs.removal.take_entry.Goals as goal
 pub draw_down-requires-clause-behind : goal.draw_down-requires-clause-behind
 draw_down-requires-clause-behind c =
     let h : c.args.place < length c.args.entries.now.items = omega (arith, c.requires.place, count_items c.args.entries.now) in
-    let P : List Entry → Type 0 = λ l. AreBehind c.args.size c.args.marks l in
+    let P : List Entry → Type 0 = λ l. AreBehind c.args.size c.args.formal_offsets l in
     subst P (behind_removed c.args.entries.now.items c.args.place h ∙ sym (ap (drop 1) (tail_of c.args.entries.now.items c.deref_mut.result.now c.args.place c.deref_mut.ensures.value))) c.requires.behind
 
 pub returns-clause-items : goal.returns-clause-items
 returns-clause-items c =
     let h : c.args.place < length c.args.entries.now.items = omega (arith, c.requires.place, count_items c.args.entries.now) in
-    closed_list (moved_down c.args.size c.args.marks) c.args.entries.now.items c.deref_mut.result.now _ _ _ _ c.args.place _ _ h (count_items c.args.entries.now) c.len.ensures c.deref_mut.ensures.value c.draw_down.ensures c.truncate.ensures.items
+    closed_list (moved_down c.args.size c.args.formal_offsets) c.args.entries.now.items c.deref_mut.result.now _ _ _ _ c.args.place _ _ h (count_items c.args.entries.now) c.len.ensures c.deref_mut.ensures.value c.draw_down.ensures c.truncate.ensures.items

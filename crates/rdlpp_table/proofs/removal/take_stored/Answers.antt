@@ -9,32 +9,32 @@ use Rattle.rdlpp_table.proofs.removal.take_stored.Goals as goal
 
 pub overflow_cast-start : goal.overflow_cast-start
 overflow_cast-start c =
-    let r = taken_range c.args.bytes.now.items c.args.entries.now.items _ _ _ _ _ c.requires.stored c.requires.place c.index.ensures c.size_of_entry-size.ensures c.marks_len-marks.ensures in
+    let r = taken_range c.args.bytes.now.items c.args.entries.now.items _ _ _ _ _ c.requires.stored c.requires.place c.index.ensures c.size_of_entry-size.ensures c.offsets_len-formal_offsets.ensures in
     omega (arith, r.end, bytes_fit c.args.bytes.now)
 
 pub overflow_sub-before : goal.overflow_sub-before
 overflow_sub-before c =
-    let r = taken_range c.args.bytes.now.items c.args.entries.now.items _ _ _ _ _ c.requires.stored c.requires.place c.index.ensures c.size_of_entry-size.ensures c.marks_len-marks.ensures in
+    let r = taken_range c.args.bytes.now.items c.args.entries.now.items _ _ _ _ _ c.requires.stored c.requires.place c.index.ensures c.size_of_entry-size.ensures c.offsets_len-formal_offsets.ensures in
     r.start
 
 pub overflow_add-before : goal.overflow_add-before
 overflow_add-before c =
-    let r = taken_range c.args.bytes.now.items c.args.entries.now.items _ _ _ _ _ c.requires.stored c.requires.place c.index.ensures c.size_of_entry-size.ensures c.marks_len-marks.ensures in
+    let r = taken_range c.args.bytes.now.items c.args.entries.now.items _ _ _ _ _ c.requires.stored c.requires.place c.index.ensures c.size_of_entry-size.ensures c.offsets_len-formal_offsets.ensures in
     omega (arith, r.end, bytes_fit c.args.bytes.now, c.requires.few, c.requires.place, c.requires.narrow, count_items c.args.bytes.now, c.args.bytes.now.ok.0)
 
 pub overflow_add-behind : goal.overflow_add-behind
 overflow_add-behind c =
-    let r = taken_range c.args.bytes.now.items c.args.entries.now.items _ _ _ _ _ c.requires.stored c.requires.place c.index.ensures c.size_of_entry-size.ensures c.marks_len-marks.ensures in
+    let r = taken_range c.args.bytes.now.items c.args.entries.now.items _ _ _ _ _ c.requires.stored c.requires.place c.index.ensures c.size_of_entry-size.ensures c.offsets_len-formal_offsets.ensures in
     omega (arith, r.end, bytes_fit c.args.bytes.now)
 
 pub overflow_sub-behind : goal.overflow_sub-behind
 overflow_sub-behind c =
-    let r = taken_range c.args.bytes.now.items c.args.entries.now.items _ _ _ _ _ c.requires.stored c.requires.place c.index.ensures c.size_of_entry-size.ensures c.marks_len-marks.ensures in
+    let r = taken_range c.args.bytes.now.items c.args.entries.now.items _ _ _ _ _ c.requires.stored c.requires.place c.index.ensures c.size_of_entry-size.ensures c.offsets_len-formal_offsets.ensures in
     omega (arith, r.end, c.len.ensures, count_items c.args.bytes.now)
 
 pub cover-requires : goal.cover-requires
 cover-requires c =
-    let r = taken_range c.args.bytes.now.items c.args.entries.now.items _ _ _ _ _ c.requires.stored c.requires.place c.index.ensures c.size_of_entry-size.ensures c.marks_len-marks.ensures in
+    let r = taken_range c.args.bytes.now.items c.args.entries.now.items _ _ _ _ _ c.requires.stored c.requires.place c.index.ensures c.size_of_entry-size.ensures c.offsets_len-formal_offsets.ensures in
     (r.start, omega (arith, r.end, count_items c.args.bytes.now))
 
 pub cover_entry-requires-clause-place : goal.cover_entry-requires-clause-place
@@ -45,44 +45,44 @@ cover_entry-requires-clause-place c =
 pub cover_entry-requires-clause-low : goal.cover_entry-requires-clause-low
 cover_entry-requires-clause-low c =
     let n : length c.args.bytes.now.items < 2 ^ 32 = omega (arith, c.requires.narrow, c.args.bytes.now.ok.0, count_items c.args.bytes.now) in
-    taken_low c.args.bytes.now.items c.args.entries.now.items _ _ _ _ _ c.requires.stored c.requires.place c.index.ensures c.size_of_entry-size.ensures c.marks_len-marks.ensures n
+    taken_low c.args.bytes.now.items c.args.entries.now.items _ _ _ _ _ c.requires.stored c.requires.place c.index.ensures c.size_of_entry-size.ensures c.offsets_len-formal_offsets.ensures n
 
 pub overflow_add-front : goal.overflow_add-front
 overflow_add-front c =
-    let r = taken_range c.args.bytes.now.items c.args.entries.now.items _ _ _ _ _ c.requires.stored c.requires.place c.index.ensures c.size_of_entry-size.ensures c.marks_len-marks.ensures in
+    let r = taken_range c.args.bytes.now.items c.args.entries.now.items _ _ _ _ _ c.requires.stored c.requires.place c.index.ensures c.size_of_entry-size.ensures c.offsets_len-formal_offsets.ensures in
     omega (arith, r.start, r.end, bytes_fit c.args.bytes.now)
 
 pub overflow_add-front-then-has_room-2 : goal.overflow_add-front-then-has_room-2
 overflow_add-front-then-has_room-2 c =
-    let r = taken_range c.args.bytes.now.items c.args.entries.now.items _ _ _ _ _ c.requires.stored c.requires.place c.index.ensures c.size_of_entry-size.ensures c.marks_len-marks.ensures in
+    let r = taken_range c.args.bytes.now.items c.args.entries.now.items _ _ _ _ _ c.requires.stored c.requires.place c.index.ensures c.size_of_entry-size.ensures c.offsets_len-formal_offsets.ensures in
     omega (arith, r.few, r.behind, r.end, bytes_fit c.args.bytes.now)
 
 pub overflow_add-start : goal.overflow_add-start
 overflow_add-start c =
-    let r = taken_range c.args.bytes.now.items c.args.entries.now.items _ _ _ _ _ c.requires.stored c.requires.place c.index.ensures c.size_of_entry-size.ensures c.marks_len-marks.ensures in
+    let r = taken_range c.args.bytes.now.items c.args.entries.now.items _ _ _ _ _ c.requires.stored c.requires.place c.index.ensures c.size_of_entry-size.ensures c.offsets_len-formal_offsets.ensures in
     omega (arith, r.end, bytes_fit c.args.bytes.now)
 
 pub cut-requires : goal.cut-requires
 cut-requires c =
-    let r = taken_range c.args.bytes.now.items c.args.entries.now.items _ _ _ _ _ c.requires.stored c.requires.place c.index.ensures c.size_of_entry-size.ensures c.marks_len-marks.ensures in
+    let r = taken_range c.args.bytes.now.items c.args.entries.now.items _ _ _ _ _ c.requires.stored c.requires.place c.index.ensures c.size_of_entry-size.ensures c.offsets_len-formal_offsets.ensures in
     (omega arith, omega (arith, r.end, count_items c.args.bytes.now))
 
 pub take_entry-requires-clause-behind : goal.take_entry-requires-clause-behind
 take_entry-requires-clause-behind c =
     let h : c.args.front.now.entries + c.args.place < length c.args.entries.now.items = omega (arith, c.requires.place, live_count c.args.front.now.entries c.args.entries.now, count_items c.args.entries.now) in
-    let t = taken_live c.args.bytes.now.items c.args.entries.now.items _ _ _ _ _ c.requires.stored c.requires.place c.index.ensures c.size_of_entry-size.ensures c.marks_len-marks.ensures in
-    let P : List Entry → Type 0 = λ l. AreBehind c.size_of_entry-size.result c.marks_len-marks.result l in
+    let t = taken_live c.args.bytes.now.items c.args.entries.now.items _ _ _ _ _ c.requires.stored c.requires.place c.index.ensures c.size_of_entry-size.ensures c.offsets_len-formal_offsets.ensures in
+    let P : List Entry → Type 0 = λ l. AreBehind c.size_of_entry-size.result c.offsets_len-formal_offsets.result l in
     subst P (sym (live_behind c.args.entries.now.items c.args.front.now.entries c.args.place h)) (taken_behind _ _ _ _ _ _ _ t)
 
 pub returns-then-has_room-clause-stored : goal.returns-then-has_room-clause-stored
 returns-then-has_room-clause-stored c =
     let m : c.args.place < length (macros_in c.args.bytes.now.items (drop c.args.front.now.entries c.args.entries.now.items)) = omega (arith, c.requires.place, length_macros_in c.args.bytes.now.items (drop c.args.front.now.entries c.args.entries.now.items)) in
-    let t = taken_live c.args.bytes.now.items c.args.entries.now.items _ _ _ _ _ c.requires.stored c.requires.place c.index.ensures c.size_of_entry-size.ensures c.marks_len-marks.ensures in
+    let t = taken_live c.args.bytes.now.items c.args.entries.now.items _ _ _ _ _ c.requires.stored c.requires.place c.index.ensures c.size_of_entry-size.ensures c.offsets_len-formal_offsets.ensures in
     covered_stored _ _ _ _ _ _ _ _ _ _ c.requires.stored t m c.cover.ensures.items (sym (count_items c.cover.new.bytes) ∙ (c.cover.ensures.len ∙ count_items c.args.bytes.now)) c.cover_entry.ensures.items
 
 pub returns-else-before-behind-clause-stored : goal.returns-else-before-behind-clause-stored
 returns-else-before-behind-clause-stored c =
     let h : c.args.front.now.entries + c.args.place < length c.args.entries.now.items = omega (arith, c.requires.place, live_count c.args.front.now.entries c.args.entries.now, count_items c.args.entries.now) in
     let m : c.args.place < length (macros_in c.args.bytes.now.items (drop c.args.front.now.entries c.args.entries.now.items)) = omega (arith, c.requires.place, length_macros_in c.args.bytes.now.items (drop c.args.front.now.entries c.args.entries.now.items)) in
-    let t = taken_live c.args.bytes.now.items c.args.entries.now.items _ _ _ _ _ c.requires.stored c.requires.place c.index.ensures c.size_of_entry-size.ensures c.marks_len-marks.ensures in
-    taken_stored _ _ _ _ _ _ _ _ _ _ c.requires.stored t m c.cut.ensures.items (live_taken (moved_down c.size_of_entry-size.result c.marks_len-marks.result) _ _ _ _ h c.take_entry.ensures.items)
+    let t = taken_live c.args.bytes.now.items c.args.entries.now.items _ _ _ _ _ c.requires.stored c.requires.place c.index.ensures c.size_of_entry-size.ensures c.offsets_len-formal_offsets.ensures in
+    taken_stored _ _ _ _ _ _ _ _ _ _ c.requires.stored t m c.cut.ensures.items (live_taken (moved_down c.size_of_entry-size.result c.offsets_len-formal_offsets.result) _ _ _ _ h c.take_entry.ensures.items)

@@ -1,5 +1,5 @@
 use Rattle.std.proofs.Common.{arith}
-use Rattle.rdlpp_table.proofs.Marked.{passed_start, passed_more, passed_last}
+use Rattle.rdlpp_table.proofs.FormalOffsets.{passed_start, passed_more, passed_last}
 use Rattle.rdlpp_table.proofs.stored.default_in_list.Goals as goal
 
 pub loop-init : goal.loop-init

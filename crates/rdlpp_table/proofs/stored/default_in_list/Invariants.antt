@@ -1,4 +1,4 @@
-use Rattle.rdlpp_table.proofs.Marked.{IsPassed}
+use Rattle.rdlpp_table.proofs.FormalOffsets.{IsPassed}
 use Rattle.rdlpp_table.proofs.stored.default_in_list.Given as goal
 
 abbrev pub invariant-loop : goal.invariant-loop

@@ -1,5 +1,5 @@
 use Rattle.std.proofs.Common.{◌∙◌, sym, arith}
-use Rattle.rdlpp_table.proofs.Marked.{reached_found, reached_more, reached_none, reached_start}
+use Rattle.rdlpp_table.proofs.FormalOffsets.{reached_found, reached_more, reached_none, reached_start}
 use Rattle.rdlpp_table.proofs.stored.place_in_list.Goals as goal
 
 pub loop-place-init : goal.loop-place-init

@@ -1,4 +1,4 @@
-use Rattle.rdlpp_table.proofs.Marked.{IsReached}
+use Rattle.rdlpp_table.proofs.FormalOffsets.{IsReached}
 use Rattle.rdlpp_table.proofs.stored.place_in_list.Given as goal
 
 abbrev pub invariant-loop-place : goal.invariant-loop-place

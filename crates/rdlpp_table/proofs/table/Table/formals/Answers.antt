@@ -1,6 +1,6 @@
 use Rattle.std.proofs.Common.{◌≡◌, ◌<◌, ◌∙◌, ℕ, List, ap, drop, get_or, length, subst, sym, arith}
 use Rattle.rdlpp_table.specs.declared.entry.Entry.{Entry}
-use Rattle.rdlpp_table.specs.Marks.{table_marks}
+use Rattle.rdlpp_table.specs.FormalOffsets.{table_offsets}
 use Rattle.rdlpp_table.specs.Store.{formals_read, macros_in, IsStored}
 use Rattle.rdlpp_table.proofs.Indexed.{index_front}
 use Rattle.rdlpp_table.proofs.Sizes.{entry_within, len_of_view, live_read, no_entry}
@@ -27,28 +27,28 @@ pub listed_in-requires-clause-given_up : goal.listed_in-requires-clause-given_up
 listed_in-requires-clause-given_up c =
     let h : c.id.inside.index < length (drop c.self.inside.front.entries c.self.inside.entries.items) = omega (arith, c.requires, len_of_view _ _ _ _ _ c.self.view_is, c.id.view_is) in
     let q = live_read c.live-entries.result.now (drop c.self.inside.front.entries c.self.inside.entries.items) c.id.inside.index (c.live-entries.ensures ∙ ap (drop c.self.inside.front.entries) c.deref.ensures.value) h in
-    let P : List ℕ → Type 0 = λ bs. IsStored c.self.inside.front.bytes c.self.inside.front.marks bs (drop c.self.inside.front.entries c.self.inside.entries.items) (macros_in bs (drop c.self.inside.front.entries c.self.inside.entries.items)) in
-    let marks : c.split_at.result.1.now ≡ table_marks (macros_in c.as_slice.result.now (drop c.self.inside.front.entries c.self.inside.entries.items)) =
+    let P : List ℕ → Type 0 = λ bs. IsStored c.self.inside.front.bytes c.self.inside.front.formal_offsets bs (drop c.self.inside.front.entries c.self.inside.entries.items) (macros_in bs (drop c.self.inside.front.entries c.self.inside.entries.items)) in
+    let formal_offsets : c.split_at.result.1.now ≡ table_offsets (macros_in c.as_slice.result.now (drop c.self.inside.front.entries c.self.inside.entries.items)) =
     c.split_at.ensures.back
     ∙ (ap (drop (length c.live-entries.result.now)) c.deref-2.ensures.value
     ∙ (ap (λ (l : List Entry). drop (length l) c.self.inside.order.items) (c.live-entries.ensures ∙ ap (drop c.self.inside.front.entries) c.deref.ensures.value)
     ∙ (c.self.invariant.marked
-    ∙ ap (λ (bs : List ℕ). table_marks (macros_in bs (drop c.self.inside.front.entries c.self.inside.entries.items))) (sym c.as_slice.ensures.value)))) in
-    let here = entry_listed c.as_slice.result.now c.split_at.result.1.now (drop c.self.inside.front.entries c.self.inside.entries.items) c.id.inside.index (get_or c.live-entries.result.now c.id.inside.index no_entry) (subst P (sym c.as_slice.ensures.value) c.self.invariant.held.stored) marks h q in
+    ∙ ap (λ (bs : List ℕ). table_offsets (macros_in bs (drop c.self.inside.front.entries c.self.inside.entries.items))) (sym c.as_slice.ensures.value)))) in
+    let here = entry_listed c.as_slice.result.now c.split_at.result.1.now (drop c.self.inside.front.entries c.self.inside.entries.items) c.id.inside.index (get_or c.live-entries.result.now c.id.inside.index no_entry) (subst P (sym c.as_slice.ensures.value) c.self.invariant.held.stored) formal_offsets h q in
     here.behind
 
-pub listed_in-requires-clause-marks : goal.listed_in-requires-clause-marks
-listed_in-requires-clause-marks c =
+pub listed_in-requires-clause-formal_offsets : goal.listed_in-requires-clause-formal_offsets
+listed_in-requires-clause-formal_offsets c =
     let h : c.id.inside.index < length (drop c.self.inside.front.entries c.self.inside.entries.items) = omega (arith, c.requires, len_of_view _ _ _ _ _ c.self.view_is, c.id.view_is) in
     let q = live_read c.live-entries.result.now (drop c.self.inside.front.entries c.self.inside.entries.items) c.id.inside.index (c.live-entries.ensures ∙ ap (drop c.self.inside.front.entries) c.deref.ensures.value) h in
-    let P : List ℕ → Type 0 = λ bs. IsStored c.self.inside.front.bytes c.self.inside.front.marks bs (drop c.self.inside.front.entries c.self.inside.entries.items) (macros_in bs (drop c.self.inside.front.entries c.self.inside.entries.items)) in
-    let marks : c.split_at.result.1.now ≡ table_marks (macros_in c.as_slice.result.now (drop c.self.inside.front.entries c.self.inside.entries.items)) =
+    let P : List ℕ → Type 0 = λ bs. IsStored c.self.inside.front.bytes c.self.inside.front.formal_offsets bs (drop c.self.inside.front.entries c.self.inside.entries.items) (macros_in bs (drop c.self.inside.front.entries c.self.inside.entries.items)) in
+    let formal_offsets : c.split_at.result.1.now ≡ table_offsets (macros_in c.as_slice.result.now (drop c.self.inside.front.entries c.self.inside.entries.items)) =
     c.split_at.ensures.back
     ∙ (ap (drop (length c.live-entries.result.now)) c.deref-2.ensures.value
     ∙ (ap (λ (l : List Entry). drop (length l) c.self.inside.order.items) (c.live-entries.ensures ∙ ap (drop c.self.inside.front.entries) c.deref.ensures.value)
     ∙ (c.self.invariant.marked
-    ∙ ap (λ (bs : List ℕ). table_marks (macros_in bs (drop c.self.inside.front.entries c.self.inside.entries.items))) (sym c.as_slice.ensures.value)))) in
-    let here = entry_listed c.as_slice.result.now c.split_at.result.1.now (drop c.self.inside.front.entries c.self.inside.entries.items) c.id.inside.index (get_or c.live-entries.result.now c.id.inside.index no_entry) (subst P (sym c.as_slice.ensures.value) c.self.invariant.held.stored) marks h q in
+    ∙ ap (λ (bs : List ℕ). table_offsets (macros_in bs (drop c.self.inside.front.entries c.self.inside.entries.items))) (sym c.as_slice.ensures.value)))) in
+    let here = entry_listed c.as_slice.result.now c.split_at.result.1.now (drop c.self.inside.front.entries c.self.inside.entries.items) c.id.inside.index (get_or c.live-entries.result.now c.id.inside.index no_entry) (subst P (sym c.as_slice.ensures.value) c.self.invariant.held.stored) formal_offsets h q in
     here.within
 
 pub returns-clause-formals : goal.returns-clause-formals
@@ -62,12 +62,12 @@ pub returns-clause-listed : goal.returns-clause-listed
 returns-clause-listed c =
     let h : c.id.inside.index < length (drop c.self.inside.front.entries c.self.inside.entries.items) = omega (arith, c.requires, len_of_view _ _ _ _ _ c.self.view_is, c.id.view_is) in
     let q = live_read c.live-entries.result.now (drop c.self.inside.front.entries c.self.inside.entries.items) c.id.inside.index (c.live-entries.ensures ∙ ap (drop c.self.inside.front.entries) c.deref.ensures.value) h in
-    let P : List ℕ → Type 0 = λ bs. IsStored c.self.inside.front.bytes c.self.inside.front.marks bs (drop c.self.inside.front.entries c.self.inside.entries.items) (macros_in bs (drop c.self.inside.front.entries c.self.inside.entries.items)) in
-    let marks : c.split_at.result.1.now ≡ table_marks (macros_in c.as_slice.result.now (drop c.self.inside.front.entries c.self.inside.entries.items)) =
+    let P : List ℕ → Type 0 = λ bs. IsStored c.self.inside.front.bytes c.self.inside.front.formal_offsets bs (drop c.self.inside.front.entries c.self.inside.entries.items) (macros_in bs (drop c.self.inside.front.entries c.self.inside.entries.items)) in
+    let formal_offsets : c.split_at.result.1.now ≡ table_offsets (macros_in c.as_slice.result.now (drop c.self.inside.front.entries c.self.inside.entries.items)) =
     c.split_at.ensures.back
     ∙ (ap (drop (length c.live-entries.result.now)) c.deref-2.ensures.value
     ∙ (ap (λ (l : List Entry). drop (length l) c.self.inside.order.items) (c.live-entries.ensures ∙ ap (drop c.self.inside.front.entries) c.deref.ensures.value)
     ∙ (c.self.invariant.marked
-    ∙ ap (λ (bs : List ℕ). table_marks (macros_in bs (drop c.self.inside.front.entries c.self.inside.entries.items))) (sym c.as_slice.ensures.value)))) in
-    let here = entry_listed c.as_slice.result.now c.split_at.result.1.now (drop c.self.inside.front.entries c.self.inside.entries.items) c.id.inside.index (get_or c.live-entries.result.now c.id.inside.index no_entry) (subst P (sym c.as_slice.ensures.value) c.self.invariant.held.stored) marks h q in
-    listed_as _ _ _ _ _ _ c.listed_in.ensures.count c.listed_in.ensures.list c.listed_in.ensures.marks here.listed
+    ∙ ap (λ (bs : List ℕ). table_offsets (macros_in bs (drop c.self.inside.front.entries c.self.inside.entries.items))) (sym c.as_slice.ensures.value)))) in
+    let here = entry_listed c.as_slice.result.now c.split_at.result.1.now (drop c.self.inside.front.entries c.self.inside.entries.items) c.id.inside.index (get_or c.live-entries.result.now c.id.inside.index no_entry) (subst P (sym c.as_slice.ensures.value) c.self.invariant.held.stored) formal_offsets h q in
+    listed_as _ _ _ _ _ _ c.listed_in.ensures.count c.listed_in.ensures.list c.listed_in.ensures.formal_offsets here.listed

@@ -8,9 +8,9 @@ use Rattle.std.proofs.lemmas.Grind.{flat_map-append}
 use Rattle.std.proofs.lemmas.List.{drop_more, get_or_past, take_more}
 use Rattle.std.proofs.lemmas.List.Sums.{prefix_len-le-length, prefix_len_stops, sum_by-append, sum_by-cons, sum_by-take-drop}
 use Rattle.std.proofs.lemmas.Slice.Eq.{bytes_eq-Decides, starts_is}
-use Rattle.rdlpp_table.specs.Marks.{end_in, halves, is_marked, mark_in, marks_of, starts_of}
+use Rattle.rdlpp_table.specs.FormalOffsets.{end_in, halves, has_offsets, offset_in, offsets_of, starts_of}
 use Rattle.rdlpp_table.specs.Shapes.{AreShapes, shape, shapes_of}
-use Rattle.rdlpp_table.specs.Store.{IsListed, StoredFormal, formal_behind, formal_read, formals_read, is_name_byte, is_plain_formal}
+use Rattle.rdlpp_table.specs.Store.{AreStoredFormals, StoredFormal, formal_behind, formal_read, formals_read, is_name_byte, is_plain_formal}
 use Rattle.rdlpp_table.specs.Table.{Formal, default_bytes, formal_bytes, formal_size}
 use Rattle.rdlpp_table.specs.View.{formal_at, formal_named}
 use Rattle.rdlpp_table.proofs.RoundTrip.{count_read, read_formal}
@@ -214,13 +214,13 @@ passed_last bytes rest text count place i h k p t =
 -- Where the formals of a macro begin among their bytes, and what is kept of that.
 
 -- what is kept of formals that were read, by whether anything is
-pub marks_by : (b : Bool) (count : ℕ) (list : List ℕ) → flat_map formal_bytes (formals_read count list) ≡ list → b ≡ is_marked count (length list) → marks_of (formals_read count list) ≡ cond b (halves (starts_of 0 (formals_read count list))) []
-unfolding marks_of
-marks_by b count list h e =
+pub offsets_by : (b : Bool) (count : ℕ) (list : List ℕ) → flat_map formal_bytes (formals_read count list) ≡ list → b ≡ has_offsets count (length list) → offsets_of (formals_read count list) ≡ cond b (halves (starts_of 0 (formals_read count list))) []
+unfolding offsets_of
+offsets_by b count list h e =
     let fs : List Formal = formals_read count list in
     let n : sum_by formal_size fs ≡ length list = sym (length_list_bytes fs) ∙ ap length h in
-    ap (λ (k : ℕ). cond (is_marked k (sum_by formal_size fs)) (halves (starts_of 0 fs)) []) (count_read count list)
-    ∙ (ap (λ (k : ℕ). cond (is_marked count k) (halves (starts_of 0 fs)) []) n
+    ap (λ (k : ℕ). cond (has_offsets k (sum_by formal_size fs)) (halves (starts_of 0 fs)) []) (count_read count list)
+    ∙ (ap (λ (k : ℕ). cond (has_offsets count k) (halves (starts_of 0 fs)) []) n
     ∙ ap (λ (x : Bool). cond x (halves (starts_of 0 fs)) []) (sym e))
 
 -- the halves of numbers behind other numbers
@@ -240,9 +240,9 @@ whole_from (n ∷ ns) (suc i) h =
     omega (arith, ap (λ (k : ℕ). get_or (halves (n ∷ ns)) k 0) low, ap (λ (k : ℕ). get_or (halves (n ∷ ns)) k 0) high, whole_from ns i (omega arith))
 
 -- a number is read back from the halves that are kept
-mark_is : (marks ns : List ℕ) (i : ℕ) → marks ≡ halves ns → i < length ns → mark_in marks i ≡ get_or ns i 0
-unfolding mark_in
-mark_is marks ns i e h = ap (λ (l : List ℕ). get_or l (2 * i) 0 + 65536 * get_or l (2 * i + 1) 0) e ∙ whole_from ns i h
+offset_is : (formal_offsets ns : List ℕ) (i : ℕ) → formal_offsets ≡ halves ns → i < length ns → offset_in formal_offsets i ≡ get_or ns i 0
+unfolding offset_in
+offset_is formal_offsets ns i e h = ap (λ (l : List ℕ). get_or l (2 * i) 0 + 65536 * get_or l (2 * i + 1) 0) e ∙ whole_from ns i h
 
 -- a formal begins behind what those before it take, and behind where the first one begins
 start_from : (at : ℕ) (fs : List Formal) (i : ℕ) → i < length fs → get_or (starts_of at fs) i 0 ≡ at + sum_by formal_size (take i fs)
@@ -286,101 +286,101 @@ size_more fs i h =
     omega (arith, e, sum_by-append formal_size (take i fs) (formal_at fs i ∷ []), sum_by-cons formal_size (formal_at fs i) [])
 
 -- formals, of which where they begin was kept up to a place, and the bytes from there on
-pub record IsMarking (formals : List Formal) (rest before marks : List ℕ) (passed : ℕ) : Type 0 where
+pub record IsMarking (formals : List Formal) (rest before formal_offsets : List ℕ) (passed : ℕ) : Type 0 where
   pub left : rest ≡ flat_map formal_bytes (drop passed formals)
-  pub marks_are : marks ≡ before ++ halves (take passed (starts_of 0 formals))
+  pub offsets_are : formal_offsets ≡ before ++ halves (take passed (starts_of 0 formals))
 
 -- nothing is kept at first
 pub marking_start : (fs : List Formal) (list before : List ℕ) → flat_map formal_bytes fs ≡ list → IsMarking fs list before before 0
 unfolding halves
-marking_start fs list before h = record { left = sym h; marks_are = sym (append-nil before) }
+marking_start fs list before h = record { left = sym h; offsets_are = sym (append-nil before) }
 
 -- how many bytes are behind a place
-rest_size : (fs : List Formal) (rest before marks : List ℕ) (i : ℕ) → IsMarking fs rest before marks i → sum_by formal_size (take i fs) + length rest ≡ sum_by formal_size fs
-rest_size fs rest before marks i m =
+rest_size : (fs : List Formal) (rest before formal_offsets : List ℕ) (i : ℕ) → IsMarking fs rest before formal_offsets i → sum_by formal_size (take i fs) + length rest ≡ sum_by formal_size fs
+rest_size fs rest before formal_offsets i m =
     omega (arith, ap length m.left, length_list_bytes (drop i fs), sum_by-take-drop formal_size fs i)
 
 -- where the formal at a place begins
-pub marking_at : (fs : List Formal) (list rest before marks : List ℕ) (i : ℕ) → flat_map formal_bytes fs ≡ list → IsMarking fs rest before marks i → sum_by formal_size (take i fs) + length rest ≡ length list
-marking_at fs list rest before marks i h m = rest_size fs rest before marks i m ∙ (sym (length_list_bytes fs) ∙ ap length h)
+pub marking_at : (fs : List Formal) (list rest before formal_offsets : List ℕ) (i : ℕ) → flat_map formal_bytes fs ≡ list → IsMarking fs rest before formal_offsets i → sum_by formal_size (take i fs) + length rest ≡ length list
+marking_at fs list rest before formal_offsets i h m = rest_size fs rest before formal_offsets i m ∙ (sym (length_list_bytes fs) ∙ ap length h)
 
 -- one more place is kept
-pub marking_more : (fs : List Formal) (list rest behind before marks more : List ℕ) (i start : ℕ) → flat_map formal_bytes fs ≡ list → list_all is_plain_formal fs ≡ true → i < length fs → IsMarking fs rest before marks i → start ≡ length list - length rest → more ≡ marks ++ halves (start ∷ []) → behind ≡ (formal_read rest).behind → IsMarking fs behind before more (i + 1)
-marking_more fs list rest behind before marks more i start h p k m s e b =
-    let at : start ≡ get_or (starts_of 0 fs) i 0 = omega (arith, marking_at fs list rest before marks i h m, start_at fs i k) in
+pub marking_more : (fs : List Formal) (list rest behind before formal_offsets more : List ℕ) (i start : ℕ) → flat_map formal_bytes fs ≡ list → list_all is_plain_formal fs ≡ true → i < length fs → IsMarking fs rest before formal_offsets i → start ≡ length list - length rest → more ≡ formal_offsets ++ halves (start ∷ []) → behind ≡ (formal_read rest).behind → IsMarking fs behind before more (i + 1)
+marking_more fs list rest behind before formal_offsets more i start h p k m s e b =
+    let at : start ≡ get_or (starts_of 0 fs) i 0 = omega (arith, marking_at fs list rest before formal_offsets i h m, start_at fs i k) in
     let some : i < length (starts_of 0 fs) = omega (arith, length_starts 0 fs) in
     record {
       left = b ∙ (ap (λ (l : List ℕ). (formal_read l).behind) m.left ∙ ap (λ (r : StoredFormal). r.behind) (read_at fs i p k));
-      marks_are =
+      offsets_are =
           e
-          ∙ (ap (λ (l : List ℕ). l ++ halves (start ∷ [])) m.marks_are
+          ∙ (ap (λ (l : List ℕ). l ++ halves (start ∷ [])) m.offsets_are
           ∙ (append_assoc before (halves (take i (starts_of 0 fs))) (halves (start ∷ []))
           ∙ ap (λ (l : List ℕ). before ++ l)
           (sym (halves-append (take i (starts_of 0 fs)) (start ∷ []))
           ∙ ap halves (ap (λ (n : ℕ). take i (starts_of 0 fs) ++ n ∷ []) at ∙ sym (take_more (starts_of 0 fs) i 0 some)))));
     }
 
--- how many marks there are then
-pub marking_count : (fs : List Formal) (rest before marks : List ℕ) (i : ℕ) → i ≤ length fs → IsMarking fs rest before marks i → length marks ≡ length before + 2 * i
-marking_count fs rest before marks i h m =
-    omega (arith, ap length m.marks_are, length-append before (halves (take i (starts_of 0 fs))), length_halves (take i (starts_of 0 fs)), length-take i (starts_of 0 fs), length_starts 0 fs)
+-- how many offsets there are then
+pub marking_count : (fs : List Formal) (rest before formal_offsets : List ℕ) (i : ℕ) → i ≤ length fs → IsMarking fs rest before formal_offsets i → length formal_offsets ≡ length before + 2 * i
+marking_count fs rest before formal_offsets i h m =
+    omega (arith, ap length m.offsets_are, length-append before (halves (take i (starts_of 0 fs))), length_halves (take i (starts_of 0 fs)), length-take i (starts_of 0 fs), length_starts 0 fs)
 
 -- at last each place is kept
-pub marking_end : (fs : List Formal) (rest before marks : List ℕ) (i : ℕ) → length fs ≤ i → IsMarking fs rest before marks i → marks ≡ before ++ halves (starts_of 0 fs)
-marking_end fs rest before marks i h m =
-    m.marks_are ∙ ap (λ (l : List ℕ). before ++ halves l) (take_all i (starts_of 0 fs) (omega (arith, length_starts 0 fs)))
+pub marking_end : (fs : List Formal) (rest before formal_offsets : List ℕ) (i : ℕ) → length fs ≤ i → IsMarking fs rest before formal_offsets i → formal_offsets ≡ before ++ halves (starts_of 0 fs)
+marking_end fs rest before formal_offsets i h m =
+    m.offsets_are ∙ ap (λ (l : List ℕ). before ++ halves l) (take_all i (starts_of 0 fs) (omega (arith, length_starts 0 fs)))
 
 -- bytes are those of formals, and it is kept where each of these begins
-pub record AreMarked (formals : List Formal) (list marks : List ℕ) : Type 0 where
+pub record AreMarked (formals : List Formal) (list formal_offsets : List ℕ) : Type 0 where
   pub whole : flat_map formal_bytes formals ≡ list
   pub plain : list_all is_plain_formal formals ≡ true
-  pub starts : marks ≡ halves (starts_of 0 formals)
+  pub starts : formal_offsets ≡ halves (starts_of 0 formals)
 
--- where marks are kept, they are those of the formals that are read
-pub listed_marks : (count : ℕ) (list marks : List ℕ) → IsListed count list marks → is_marked count (length list) ≡ true → AreMarked (formals_read count list) list marks
-listed_marks count list marks l h =
-    record { whole = l.whole; plain = l.plain; starts = l.marked ∙ marks_by true count list l.whole (sym h) }
+-- where offsets are kept, they are those of the formals that are read
+pub listed_offsets : (count : ℕ) (list formal_offsets : List ℕ) → AreStoredFormals count list formal_offsets → has_offsets count (length list) ≡ true → AreMarked (formals_read count list) list formal_offsets
+listed_offsets count list formal_offsets l h =
+    record { whole = l.whole; plain = l.plain; starts = l.marked ∙ offsets_by true count list l.whole (sym h) }
 
--- there are two marks for each formal
-pub marks_count : (fs : List Formal) (list marks : List ℕ) → AreMarked fs list marks → length marks ≡ 2 * length fs
-marks_count fs list marks a = ap length a.starts ∙ length_start_halves fs
+-- there are two offsets for each formal
+pub offsets_count : (fs : List Formal) (list formal_offsets : List ℕ) → AreMarked fs list formal_offsets → length formal_offsets ≡ 2 * length fs
+offsets_count fs list formal_offsets a = ap length a.starts ∙ length_start_halves fs
 
 -- a mark is where its formal begins
-pub mark_at : (fs : List Formal) (list marks : List ℕ) (i : ℕ) → AreMarked fs list marks → i < length fs → mark_in marks i ≡ sum_by formal_size (take i fs)
-mark_at fs list marks i a h = mark_is marks (starts_of 0 fs) i a.starts (omega (arith, length_starts 0 fs)) ∙ start_at fs i h
+pub offset_at : (fs : List Formal) (list formal_offsets : List ℕ) (i : ℕ) → AreMarked fs list formal_offsets → i < length fs → offset_in formal_offsets i ≡ sum_by formal_size (take i fs)
+offset_at fs list formal_offsets i a h = offset_is formal_offsets (starts_of 0 fs) i a.starts (omega (arith, length_starts 0 fs)) ∙ start_at fs i h
 
 -- and there its bytes are
-pub behind_mark : (fs : List Formal) (list marks : List ℕ) (i : ℕ) → AreMarked fs list marks → i < length fs → drop (mark_in marks i) list ≡ flat_map formal_bytes (drop i fs)
-behind_mark fs list marks i a h =
-    ap (λ (n : ℕ). drop n list) (mark_at fs list marks i a h)
+pub behind_offset : (fs : List Formal) (list formal_offsets : List ℕ) (i : ℕ) → AreMarked fs list formal_offsets → i < length fs → drop (offset_in formal_offsets i) list ≡ flat_map formal_bytes (drop i fs)
+behind_offset fs list formal_offsets i a h =
+    ap (λ (n : ℕ). drop n list) (offset_at fs list formal_offsets i a h)
     ∙ (ap (drop (sum_by formal_size (take i fs))) (sym a.whole) ∙ list_behind fs i)
 
 -- where the formal at a place ends, by the number of formals and of their bytes
-end_by : (count size : ℕ) (marks : List ℕ) (i : ℕ) → (i + 1 < count → end_in count size marks i ≡ mark_in marks (i + 1)) × (count ≤ i + 1 → end_in count size marks i ≡ size)
+end_by : (count size : ℕ) (formal_offsets : List ℕ) (i : ℕ) → (i + 1 < count → end_in count size formal_offsets i ≡ offset_in formal_offsets (i + 1)) × (count ≤ i + 1 → end_in count size formal_offsets i ≡ size)
 unfolding end_in
-end_by count size marks i = (
-  λ h. cond-true _ (mark_in marks (i + 1)) size (lt-ltb (i + 1) count h),
-  λ h. cond-false _ (mark_in marks (i + 1)) size (le-ltb (i + 1) count h),
+end_by count size formal_offsets i = (
+  λ h. cond-true _ (offset_in formal_offsets (i + 1)) size (lt-ltb (i + 1) count h),
+  λ h. cond-false _ (offset_in formal_offsets (i + 1)) size (le-ltb (i + 1) count h),
 )
 
 -- a formal ends where the next one begins, or where the list ends
-pub end_at : (fs : List Formal) (count : ℕ) (list marks : List ℕ) (i : ℕ) → length fs ≡ count → AreMarked fs list marks → i < count → end_in count (length list) marks i ≡ mark_in marks i + formal_size (formal_at fs i)
-end_at fs count list marks i n a h =
-    let here : mark_in marks i + formal_size (formal_at fs i) ≡ sum_by formal_size (take (i + 1) fs) = omega (arith, mark_at fs list marks i a (omega (arith, n, h)), size_more fs i (omega (arith, n, h))) in
-    let end = end_by count (length list) marks i in
+pub end_at : (fs : List Formal) (count : ℕ) (list formal_offsets : List ℕ) (i : ℕ) → length fs ≡ count → AreMarked fs list formal_offsets → i < count → end_in count (length list) formal_offsets i ≡ offset_in formal_offsets i + formal_size (formal_at fs i)
+end_at fs count list formal_offsets i n a h =
+    let here : offset_in formal_offsets i + formal_size (formal_at fs i) ≡ sum_by formal_size (take (i + 1) fs) = omega (arith, offset_at fs list formal_offsets i a (omega (arith, n, h)), size_more fs i (omega (arith, n, h))) in
+    let end = end_by count (length list) formal_offsets i in
     elim (leb_tells count (i + 1)) [
       | inl e ↦
           let all : sum_by formal_size (take (i + 1) fs) ≡ sum_by formal_size fs = ap (sum_by formal_size) (take_all (i + 1) fs (omega (arith, n, e.1))) in
           omega (arith, end.1 e.1, all, here, length_list_bytes fs, ap length a.whole)
-      | inr e ↦ omega (arith, end.0 e.1, here, mark_at fs list marks (i + 1) a (omega (arith, n, e.1)))
+      | inr e ↦ omega (arith, end.0 e.1, here, offset_at fs list formal_offsets (i + 1) a (omega (arith, n, e.1)))
     ]
 
 -- so its bytes are known
-pub bytes_at : (fs : List Formal) (count : ℕ) (list marks : List ℕ) (i : ℕ) → length fs ≡ count → AreMarked fs list marks → i < count → take (end_in count (length list) marks i - mark_in marks i) (drop (mark_in marks i) list) ≡ formal_bytes (formal_at fs i)
-bytes_at fs count list marks i n a h =
+pub bytes_at : (fs : List Formal) (count : ℕ) (list formal_offsets : List ℕ) (i : ℕ) → length fs ≡ count → AreMarked fs list formal_offsets → i < count → take (end_in count (length list) formal_offsets i - offset_in formal_offsets i) (drop (offset_in formal_offsets i) list) ≡ formal_bytes (formal_at fs i)
+bytes_at fs count list formal_offsets i n a h =
     let some : i < length fs = omega (arith, n, h) in
-    let size : length (formal_bytes (formal_at fs i)) ≡ end_in count (length list) marks i - mark_in marks i = omega (arith, end_at fs count list marks i n a h, length_formal_bytes (formal_at fs i)) in
-    ap (take (end_in count (length list) marks i - mark_in marks i)) (behind_mark fs list marks i a some ∙ first_behind fs i some)
+    let size : length (formal_bytes (formal_at fs i)) ≡ end_in count (length list) formal_offsets i - offset_in formal_offsets i = omega (arith, end_at fs count list formal_offsets i n a h, length_formal_bytes (formal_at fs i)) in
+    ap (take (end_in count (length list) formal_offsets i - offset_in formal_offsets i)) (behind_offset fs list formal_offsets i a some ∙ first_behind fs i some)
     ∙ take_at (formal_bytes (formal_at fs i)) (flat_map formal_bytes (drop (i + 1) fs)) _ size
 
 -- and a plain formal is read from its own bytes
@@ -389,63 +389,63 @@ read_alone f h =
     ap (λ (l : List ℕ). (formal_read l).formal) (sym (append-nil (formal_bytes f))) ∙ ap (λ (r : StoredFormal). r.formal) (read_formal f [] h)
 
 -- a mark lies among the bytes
-pub mark_inside : (count : ℕ) (list marks : List ℕ) (i : ℕ) → IsListed count list marks → is_marked count (length list) ≡ true → i < count → mark_in marks i ≤ length list
-mark_inside count list marks i l m h =
+pub offset_inside : (count : ℕ) (list formal_offsets : List ℕ) (i : ℕ) → AreStoredFormals count list formal_offsets → has_offsets count (length list) ≡ true → i < count → offset_in formal_offsets i ≤ length list
+offset_inside count list formal_offsets i l m h =
     let fs : List Formal = formals_read count list in
-    let a : AreMarked fs list marks = listed_marks count list marks l m in
-    omega (arith, mark_at fs list marks i a (omega (arith, h, count_read count list)), sum_by-take-drop formal_size fs i, length_list_bytes fs, ap length l.whole)
+    let a : AreMarked fs list formal_offsets = listed_offsets count list formal_offsets l m in
+    omega (arith, offset_at fs list formal_offsets i a (omega (arith, h, count_read count list)), sum_by-take-drop formal_size fs i, length_list_bytes fs, ap length l.whole)
 
 -- the formal of a name is sought from the first one on
-pub start_listed : (count : ℕ) (list marks name : List ℕ) → IsListed count list marks → IsReached list name (flat_map formal_bytes (drop 0 (formals_read count list))) count 0
-start_listed count list marks name l = subst (λ (x : List ℕ). IsReached list name x count 0) (sym l.whole) (reached_start list name count)
+pub start_listed : (count : ℕ) (list formal_offsets name : List ℕ) → AreStoredFormals count list formal_offsets → IsReached list name (flat_map formal_bytes (drop 0 (formals_read count list))) count 0
+start_listed count list formal_offsets name l = subst (λ (x : List ℕ). IsReached list name x count 0) (sym l.whole) (reached_start list name count)
 
 -- the formal with which the bytes at a mark begin
-pub bytes_from : (count : ℕ) (list marks bytes : List ℕ) (i : ℕ) → IsListed count list marks → is_marked count (length list) ≡ true → i < count → bytes ≡ drop (mark_in marks i) list → bytes ≡ flat_map formal_bytes (drop i (formals_read count list))
-bytes_from count list marks bytes i l m h e =
-    e ∙ behind_mark (formals_read count list) list marks i (listed_marks count list marks l m) (omega (arith, h, count_read count list))
+pub bytes_from : (count : ℕ) (list formal_offsets bytes : List ℕ) (i : ℕ) → AreStoredFormals count list formal_offsets → has_offsets count (length list) ≡ true → i < count → bytes ≡ drop (offset_in formal_offsets i) list → bytes ≡ flat_map formal_bytes (drop i (formals_read count list))
+bytes_from count list formal_offsets bytes i l m h e =
+    e ∙ behind_offset (formals_read count list) list formal_offsets i (listed_offsets count list formal_offsets l m) (omega (arith, h, count_read count list))
 
--- there are two marks for each formal
-pub count_marks : (count : ℕ) (list marks : List ℕ) → IsListed count list marks → is_marked count (length list) ≡ true → length marks ≡ 2 * count
-count_marks count list marks l m =
-    omega (arith, marks_count (formals_read count list) list marks (listed_marks count list marks l m), count_read count list)
+-- there are two offsets for each formal
+pub count_offsets : (count : ℕ) (list formal_offsets : List ℕ) → AreStoredFormals count list formal_offsets → has_offsets count (length list) ≡ true → length formal_offsets ≡ 2 * count
+count_offsets count list formal_offsets l m =
+    omega (arith, offsets_count (formals_read count list) list formal_offsets (listed_offsets count list formal_offsets l m), count_read count list)
 
 -- a formal that was passed isn't the one that is sought
-pub passed_at : (count : ℕ) (list marks name : List ℕ) (i : ℕ) → IsListed count list marks → i < count → IsReached list name (flat_map formal_bytes (drop i (formals_read count list))) count i → bytes_eq (formal_read (flat_map formal_bytes (drop i (formals_read count list)))).formal.name name ≡ false → IsReached list name (flat_map formal_bytes (drop (i + 1) (formals_read count list))) count (i + 1)
-passed_at count list marks name i l h r other =
+pub passed_at : (count : ℕ) (list formal_offsets name : List ℕ) (i : ℕ) → AreStoredFormals count list formal_offsets → i < count → IsReached list name (flat_map formal_bytes (drop i (formals_read count list))) count i → bytes_eq (formal_read (flat_map formal_bytes (drop i (formals_read count list)))).formal.name name ≡ false → IsReached list name (flat_map formal_bytes (drop (i + 1) (formals_read count list))) count (i + 1)
+passed_at count list formal_offsets name i l h r other =
     let fs : List Formal = formals_read count list in
     let rest : List ℕ = flat_map formal_bytes (drop i fs) in
     let behind : flat_map formal_bytes (drop (i + 1) fs) ≡ (formal_read rest).behind = ap (λ (s : StoredFormal). s.behind) (sym (read_at fs i l.plain (omega (arith, count_read count list)))) in
     reached_more list name rest (flat_map formal_bytes (drop (i + 1) fs)) (formal_read rest).formal.name count i h r refl other behind
 
 -- a formal ends behind where it begins
-pub end_ordered : (count : ℕ) (list marks : List ℕ) (i : ℕ) → IsListed count list marks → is_marked count (length list) ≡ true → i < count → mark_in marks i ≤ end_in count (length list) marks i
-end_ordered count list marks i l m h =
-    omega (arith, end_at (formals_read count list) count list marks i (count_read count list) (listed_marks count list marks l m) h)
+pub end_ordered : (count : ℕ) (list formal_offsets : List ℕ) (i : ℕ) → AreStoredFormals count list formal_offsets → has_offsets count (length list) ≡ true → i < count → offset_in formal_offsets i ≤ end_in count (length list) formal_offsets i
+end_ordered count list formal_offsets i l m h =
+    omega (arith, end_at (formals_read count list) count list formal_offsets i (count_read count list) (listed_offsets count list formal_offsets l m) h)
 
 -- and within the bytes
-pub end_inside : (count : ℕ) (list marks : List ℕ) (i : ℕ) → IsListed count list marks → is_marked count (length list) ≡ true → i < count → end_in count (length list) marks i ≤ length list
-end_inside count list marks i l m h =
+pub end_inside : (count : ℕ) (list formal_offsets : List ℕ) (i : ℕ) → AreStoredFormals count list formal_offsets → has_offsets count (length list) ≡ true → i < count → end_in count (length list) formal_offsets i ≤ length list
+end_inside count list formal_offsets i l m h =
     let fs : List Formal = formals_read count list in
-    let a : AreMarked fs list marks = listed_marks count list marks l m in
+    let a : AreMarked fs list formal_offsets = listed_offsets count list formal_offsets l m in
     let some : i < length fs = omega (arith, count_read count list) in
-    omega (arith, end_at fs count list marks i (count_read count list) a h, mark_at fs list marks i a some, size_more fs i some, sum_by-take-drop formal_size fs (i + 1), length_list_bytes fs, ap length l.whole)
+    omega (arith, end_at fs count list formal_offsets i (count_read count list) a h, offset_at fs list formal_offsets i a some, size_more fs i some, sum_by-take-drop formal_size fs (i + 1), length_list_bytes fs, ap length l.whole)
 
--- the bytes between two marks are those of the formal there
-alone_bytes : (count : ℕ) (list marks bytes : List ℕ) (i : ℕ) → IsListed count list marks → is_marked count (length list) ≡ true → i < count → bytes ≡ take (end_in count (length list) marks i - mark_in marks i) (drop (mark_in marks i) list) → bytes ≡ formal_bytes (formal_at (formals_read count list) i)
-alone_bytes count list marks bytes i l m h e =
-    e ∙ bytes_at (formals_read count list) count list marks i (count_read count list) (listed_marks count list marks l m) h
+-- the bytes between two offsets are those of the formal there
+alone_bytes : (count : ℕ) (list formal_offsets bytes : List ℕ) (i : ℕ) → AreStoredFormals count list formal_offsets → has_offsets count (length list) ≡ true → i < count → bytes ≡ take (end_in count (length list) formal_offsets i - offset_in formal_offsets i) (drop (offset_in formal_offsets i) list) → bytes ≡ formal_bytes (formal_at (formals_read count list) i)
+alone_bytes count list formal_offsets bytes i l m h e =
+    e ∙ bytes_at (formals_read count list) count list formal_offsets i (count_read count list) (listed_offsets count list formal_offsets l m) h
 
 -- which is read from them
-pub alone_is : (count : ℕ) (list marks bytes : List ℕ) (i : ℕ) → IsListed count list marks → is_marked count (length list) ≡ true → i < count → bytes ≡ take (end_in count (length list) marks i - mark_in marks i) (drop (mark_in marks i) list) → (formal_read bytes).formal ≡ formal_at (formals_read count list) i
-alone_is count list marks bytes i l m h e =
+pub alone_is : (count : ℕ) (list formal_offsets bytes : List ℕ) (i : ℕ) → AreStoredFormals count list formal_offsets → has_offsets count (length list) ≡ true → i < count → bytes ≡ take (end_in count (length list) formal_offsets i - offset_in formal_offsets i) (drop (offset_in formal_offsets i) list) → (formal_read bytes).formal ≡ formal_at (formals_read count list) i
+alone_is count list formal_offsets bytes i l m h e =
     let fs : List Formal = formals_read count list in
-    ap (λ (x : List ℕ). (formal_read x).formal) (alone_bytes count list marks bytes i l m h e)
+    ap (λ (x : List ℕ). (formal_read x).formal) (alone_bytes count list formal_offsets bytes i l m h e)
     ∙ read_alone (formal_at fs i) (plain_at fs i _ l.plain (omega (arith, count_read count list)))
 
 -- with nothing left of them
-pub alone_whole : (count : ℕ) (list marks bytes : List ℕ) (i : ℕ) → IsListed count list marks → is_marked count (length list) ≡ true → i < count → bytes ≡ take (end_in count (length list) marks i - mark_in marks i) (drop (mark_in marks i) list) → formal_bytes (formal_read bytes).formal ≡ bytes
-alone_whole count list marks bytes i l m h e =
-    ap formal_bytes (alone_is count list marks bytes i l m h e) ∙ sym (alone_bytes count list marks bytes i l m h e)
+pub alone_whole : (count : ℕ) (list formal_offsets bytes : List ℕ) (i : ℕ) → AreStoredFormals count list formal_offsets → has_offsets count (length list) ≡ true → i < count → bytes ≡ take (end_in count (length list) formal_offsets i - offset_in formal_offsets i) (drop (offset_in formal_offsets i) list) → formal_bytes (formal_read bytes).formal ≡ bytes
+alone_whole count list formal_offsets bytes i l m h e =
+    ap formal_bytes (alone_is count list formal_offsets bytes i l m h e) ∙ sym (alone_bytes count list formal_offsets bytes i l m h e)
 
 -- the bytes between two places that were read
 pub sliced : (list : List ℕ) (start end from to : ℕ) → start ≡ from → end ≡ to → take (end - start) (drop start list) ≡ take (to - from) (drop from list)
@@ -517,16 +517,16 @@ unfolding shapes_of formals_read
 told_none rest count place told h = let n : count - place ≡ 0 = omega arith in ap (λ (k : ℕ). shapes_of (formals_read k rest) told) n
 
 -- so is each formal where it begins
-pub told_at : (count place : ℕ) (list marks name : List ℕ) (told : List Bool) → IsListed count list marks → place < count → name ≡ (formal_read (flat_map formal_bytes (drop place (formals_read count list)))).formal.name
+pub told_at : (count place : ℕ) (list formal_offsets name : List ℕ) (told : List Bool) → AreStoredFormals count list formal_offsets → place < count → name ≡ (formal_read (flat_map formal_bytes (drop place (formals_read count list)))).formal.name
     → shapes_of (formals_read (count - place) (flat_map formal_bytes (drop place (formals_read count list)))) told ≡ shapes_of (formals_read (count - (place + 1)) (flat_map formal_bytes (drop (place + 1) (formals_read count list)))) (set told (shape name) true)
-told_at count place list marks name told l h e =
+told_at count place list formal_offsets name told l h e =
     let fs : List Formal = formals_read count list in
     let rest : List ℕ = flat_map formal_bytes (drop place fs) in
     let behind : flat_map formal_bytes (drop (place + 1) fs) ≡ (formal_read rest).behind = ap (λ (s : StoredFormal). s.behind) (sym (read_at fs place l.plain (omega (arith, count_read count list)))) in
     told_more rest count place told name (flat_map formal_bytes (drop (place + 1) fs)) h e behind
 
 -- at first all of them are left
-pub told_start : (count : ℕ) (list marks : List ℕ) (told : List Bool) → IsListed count list marks → shapes_of (formals_read count list) told ≡ shapes_of (formals_read (count - 0) (flat_map formal_bytes (drop 0 (formals_read count list)))) told
-told_start count list marks told l =
+pub told_start : (count : ℕ) (list formal_offsets : List ℕ) (told : List Bool) → AreStoredFormals count list formal_offsets → shapes_of (formals_read count list) told ≡ shapes_of (formals_read (count - 0) (flat_map formal_bytes (drop 0 (formals_read count list)))) told
+told_start count list formal_offsets told l =
     let n : count - 0 ≡ count = omega arith in
     ap (λ (x : List ℕ). shapes_of (formals_read count x) told) (sym l.whole) ∙ ap (λ (k : ℕ). shapes_of (formals_read k (flat_map formal_bytes (drop 0 (formals_read count list)))) told) (sym n)

@@ -16,25 +16,25 @@ halves [] = []
 halves (n ∷ ns) = n % 65536 ∷ n / 65536 ∷ halves ns
 
 -- whether it is kept where so many formals begin, which take so many bytes: where they take eight each, or more
-unfoldable pub is_marked : ℕ → ℕ → Bool
-is_marked count size = nat_le (8 * count) size
+unfoldable pub has_offsets : ℕ → ℕ → Bool
+has_offsets count size = nat_le (8 * count) size
 
 -- what is kept of where formals begin
-unfoldable pub marks_of : List Formal → List ℕ
-marks_of formals = if is_marked (length formals) (sum_by formal_size formals) then halves (starts_of 0 formals) else []
+unfoldable pub offsets_of : List Formal → List ℕ
+offsets_of formals = if has_offsets (length formals) (sum_by formal_size formals) then halves (starts_of 0 formals) else []
 
 -- what is kept of where the formals of a macro begin
-unfoldable pub macro_marks : Macro → List ℕ
-macro_marks m = marks_of (formals_of m)
+unfoldable pub macro_offsets : Macro → List ℕ
+macro_offsets m = offsets_of (formals_of m)
 
 -- what is kept of where the formals of macros begin
-unfoldable pub table_marks : List Macro → List ℕ
-table_marks macros = flat_map macro_marks macros
+unfoldable pub table_offsets : List Macro → List ℕ
+table_offsets macros = flat_map macro_offsets macros
 
 -- the number at a place among those of which the halves are kept
-unfoldable pub mark_in : List ℕ → ℕ → ℕ
-mark_in marks place = slice_index marks (2 * place) + 65536 * slice_index marks (2 * place + 1)
+unfoldable pub offset_in : List ℕ → ℕ → ℕ
+offset_in formal_offsets place = slice_index formal_offsets (2 * place) + 65536 * slice_index formal_offsets (2 * place + 1)
 
 -- where the formal at a place ends, of so many with so many bytes: where the next one begins, or where the last one ends
 unfoldable pub end_in : ℕ → ℕ → List ℕ → ℕ → ℕ
-end_in count size marks place = if nat_lt (place + 1) count then mark_in marks (place + 1) else size
+end_in count size formal_offsets place = if nat_lt (place + 1) count then offset_in formal_offsets (place + 1) else size

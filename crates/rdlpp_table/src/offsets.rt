@@ -1,9 +1,9 @@
 // The formals of a macro in a table's bytes, and where each of them begins, which is kept where they are long.
 ghost use Rattle.std.specs.Prelude.{[], bytes_eq, false, length, not, replicate, slice_index_or, true, vec_capacity, vec_len, ◌*◌, ◌+◌, ◌++◌, ◌<◌, ◌≡◌, ◌≤◌, ◌^◌, ◌∷◌};
 ghost use Rattle.std.specs.List.{flat_map, list_all};
-ghost use Rattle.rdlpp_table.specs.Marks.{end_in, halves, is_marked, mark_in, marks_of};
+ghost use Rattle.rdlpp_table.specs.FormalOffsets.{end_in, halves, has_offsets, offset_in, offsets_of};
 ghost use Rattle.rdlpp_table.specs.Shapes.{shapes_of};
-ghost use Rattle.rdlpp_table.specs.Store.{formal_read, formals_read, is_name_byte, is_plain_formal, IsListed};
+ghost use Rattle.rdlpp_table.specs.Store.{formal_read, formals_read, is_name_byte, is_plain_formal, AreStoredFormals};
 ghost use Rattle.rdlpp_table.specs.Table.{formal_bytes};
 ghost use Rattle.rdlpp_table.specs.View.{formal_at, formal_named};
 
@@ -16,71 +16,71 @@ pub(crate) const LONG_FORMAL: usize = 8;
 
 // So many formals as they lie in a table, and where each of them begins, as two halves, or nothing where they are short.
 #[derive(Clone, Copy, Drop)]
-pub(crate) struct Listed<'a> {
+pub(crate) struct StoredFormals<'a> {
     pub(crate) list: &'a [u8],
     pub(crate) count: usize,
-    pub(crate) marks: &'a [u16],
+    pub(crate) formal_offsets: &'a [u16],
 }
 
 // Whether it is kept where so many formals begin, which take so many bytes.
-#[tactic(auto, unfolding(crate::specs::Marks::is_marked))]
-pub(crate) fn is_marked(count: usize, size: usize) -> bool
-    ensures { result ≡ is_marked count size }
+#[tactic(auto, unfolding(crate::specs::FormalOffsets::has_offsets))]
+pub(crate) fn has_offsets(count: usize, size: usize) -> bool
+    ensures { result ≡ has_offsets count size }
 {
     count <= size / LONG_FORMAL
 }
 
 // Keeps where a formal begins: the low half of that number, and then its high half.
-#[tactic(auto, unfolding(crate::specs::Marks::halves))]
-fn push_mark(marks: &mut Vec<u16>, start: usize)
+#[tactic(auto, unfolding(crate::specs::FormalOffsets::halves))]
+fn push_offset(formal_offsets: &mut Vec<u16>, start: usize)
     requires small { start < 2 ^ 32 }
-    requires room { vec_len marks.old + 2 ≤ vec_capacity marks.old }
-    ensures items { marks.new.items ≡ marks.old.items ++ halves (start ∷ []) }
-    ensures capacity { vec_capacity marks.new ≡ vec_capacity marks.old }
+    requires room { vec_len formal_offsets.old + 2 ≤ vec_capacity formal_offsets.old }
+    ensures items { formal_offsets.new.items ≡ formal_offsets.old.items ++ halves (start ∷ []) }
+    ensures capacity { vec_capacity formal_offsets.new ≡ vec_capacity formal_offsets.old }
 {
-    marks.push_reserved((start % 65_536) as u16);
-    marks.push_reserved((start / 65_536) as u16);
+    formal_offsets.push_reserved((start % 65_536) as u16);
+    formal_offsets.push_reserved((start / 65_536) as u16);
 }
 
 // Keeps where so many formals begin, where they are long.
-pub(crate) fn push_marks(marks: &mut Vec<u16>, list: &[u8], count: usize)
+pub(crate) fn push_offsets(formal_offsets: &mut Vec<u16>, list: &[u8], count: usize)
     requires whole { flat_map formal_bytes (formals_read count list.now) ≡ list.now }
     requires plain { list_all is_plain_formal (formals_read count list.now) ≡ true }
     requires short { length list.now < 2 ^ 32 }
-    requires room { vec_len marks.old + length (marks_of (formals_read count list.now)) ≤ vec_capacity marks.old }
-    ensures items { marks.new.items ≡ marks.old.items ++ marks_of (formals_read count list.now) }
-    ensures capacity { vec_capacity marks.new ≡ vec_capacity marks.old }
+    requires room { vec_len formal_offsets.old + length (offsets_of (formals_read count list.now)) ≤ vec_capacity formal_offsets.old }
+    ensures items { formal_offsets.new.items ≡ formal_offsets.old.items ++ offsets_of (formals_read count list.now) }
+    ensures capacity { vec_capacity formal_offsets.new ≡ vec_capacity formal_offsets.old }
 {
-    if !is_marked(count, list.len()) {
+    if !has_offsets(count, list.len()) {
         return;
     }
     let mut rest = list;
     for _ in 0..count {
-        push_mark(marks, list.len() - rest.len());
+        push_offset(formal_offsets, list.len() - rest.len());
         rest = behind_formal(rest, name_len(rest));
     }
 }
 
 // The place of the formal of a name.
-pub(crate) fn place_of(formals: &Listed, name: &[u8]) -> Option<usize>
-    requires { IsListed formals.now.count formals.now.list.now formals.now.marks.now }
+pub(crate) fn place_of(formals: &StoredFormals, name: &[u8]) -> Option<usize>
+    requires { AreStoredFormals formals.now.count formals.now.list.now formals.now.formal_offsets.now }
     ensures { result ≡ formal_named (formals_read formals.now.count formals.now.list.now) name.now }
 {
-    if is_marked(formals.count, formals.list.len()) {
-        place_by_marks(formals.list, formals.count, formals.marks, name)
+    if has_offsets(formals.count, formals.list.len()) {
+        place_by_offsets(formals.list, formals.count, formals.formal_offsets, name)
     } else {
         place_in_list(formals.list, formals.count, name)
     }
 }
 
 // The default text of the formal at a place.
-pub(crate) fn default_of<'a>(formals: &Listed<'a>, place: usize) -> &'a [u8]
-    requires listed { IsListed formals.now.count formals.now.list.now formals.now.marks.now }
+pub(crate) fn default_of<'a>(formals: &StoredFormals<'a>, place: usize) -> &'a [u8]
+    requires listed { AreStoredFormals formals.now.count formals.now.list.now formals.now.formal_offsets.now }
     requires place { place < formals.now.count }
     ensures { result.now ≡ (formal_at (formals_read formals.now.count formals.now.list.now) place).text }
 {
-    if is_marked(formals.count, formals.list.len()) {
-        default_by_marks(formals.list, formals.count, formals.marks, place)
+    if has_offsets(formals.count, formals.list.len()) {
+        default_by_offsets(formals.list, formals.count, formals.formal_offsets, place)
     } else {
         default_in_list(formals.list, formals.count, place)
     }
@@ -88,14 +88,14 @@ pub(crate) fn default_of<'a>(formals: &Listed<'a>, place: usize) -> &'a [u8]
 
 // Of each shape whether the name of one of the formals has it: a word of another shape is none of them. No default text is read for it
 // where it is kept where each formal begins.
-pub(crate) fn shapes(formals: &Listed) -> [bool; SHAPES]
-    requires { IsListed formals.now.count formals.now.list.now formals.now.marks.now }
+pub(crate) fn shapes(formals: &StoredFormals) -> [bool; SHAPES]
+    requires { AreStoredFormals formals.now.count formals.now.list.now formals.now.formal_offsets.now }
     ensures { result ≡ shapes_of (formals_read formals.now.count formals.now.list.now) (replicate 256 false) }
 {
     let mut told = [false; SHAPES];
-    if is_marked(formals.count, formals.list.len()) {
+    if has_offsets(formals.count, formals.list.len()) {
         for place in 0..formals.count {
-            let name = formal_name(&formals.list[mark_at(formals.marks, place)..]);
+            let name = formal_name(&formals.list[offset_at(formals.formal_offsets, place)..]);
             told[shape(name)] = true;
         }
     } else {
@@ -135,24 +135,24 @@ fn is_named(bytes: &[u8], name: &[u8]) -> bool
 }
 
 // Where the formal at a place begins, from the two halves of that number.
-#[tactic(auto, unfolding(crate::specs::Marks::mark_in))]
-fn mark_at(marks: &[u16], place: usize) -> usize
-    requires { 2 * place + 1 < length marks.now }
-    ensures { result ≡ mark_in marks.now place }
+#[tactic(auto, unfolding(crate::specs::FormalOffsets::offset_in))]
+fn offset_at(formal_offsets: &[u16], place: usize) -> usize
+    requires { 2 * place + 1 < length formal_offsets.now }
+    ensures { result ≡ offset_in formal_offsets.now place }
 {
-    let low = marks[2 * place] as usize;
-    let high = marks[2 * place + 1] as usize;
+    let low = formal_offsets[2 * place] as usize;
+    let high = formal_offsets[2 * place + 1] as usize;
     low + 65_536 * high
 }
 
 // The place of the formal of a name, by where each formal begins.
-fn place_by_marks(list: &[u8], count: usize, marks: &[u16], name: &[u8]) -> Option<usize>
-    requires listed { IsListed count list.now marks.now }
-    requires marked { is_marked count (length list.now) ≡ true }
+fn place_by_offsets(list: &[u8], count: usize, formal_offsets: &[u16], name: &[u8]) -> Option<usize>
+    requires listed { AreStoredFormals count list.now formal_offsets.now }
+    requires marked { has_offsets count (length list.now) ≡ true }
     ensures { result ≡ formal_named (formals_read count list.now) name.now }
 {
     for place in 0..count {
-        if is_named(&list[mark_at(marks, place)..], name) {
+        if is_named(&list[offset_at(formal_offsets, place)..], name) {
             return Some(place);
         }
     }
@@ -173,26 +173,26 @@ fn default_in(bytes: &[u8]) -> &[u8]
 }
 
 // Where the formal at a place ends, of so many with so many bytes: where the next one begins, or where the last one ends.
-#[tactic(auto, unfolding(crate::specs::Marks::end_in))]
-fn end_by_marks(count: usize, size: usize, marks: &[u16], place: usize) -> usize
-    requires whole { length marks.now ≡ 2 * count }
+#[tactic(auto, unfolding(crate::specs::FormalOffsets::end_in))]
+fn end_by_offsets(count: usize, size: usize, formal_offsets: &[u16], place: usize) -> usize
+    requires whole { length formal_offsets.now ≡ 2 * count }
     requires place { place < count }
-    ensures { result ≡ end_in count size marks.now place }
+    ensures { result ≡ end_in count size formal_offsets.now place }
 {
     if place + 1 < count {
-        mark_at(marks, place + 1)
+        offset_at(formal_offsets, place + 1)
     } else {
         size
     }
 }
 
 // The default text of the formal at a place, by where each formal begins.
-fn default_by_marks<'a>(list: &'a [u8], count: usize, marks: &[u16], place: usize) -> &'a [u8]
-    requires listed { IsListed count list.now marks.now }
-    requires marked { is_marked count (length list.now) ≡ true }
+fn default_by_offsets<'a>(list: &'a [u8], count: usize, formal_offsets: &[u16], place: usize) -> &'a [u8]
+    requires listed { AreStoredFormals count list.now formal_offsets.now }
+    requires marked { has_offsets count (length list.now) ≡ true }
     requires place { place < count }
     ensures { result.now ≡ (formal_at (formals_read count list.now) place).text }
 {
-    let start = mark_at(marks, place);
-    default_in(&list[start..end_by_marks(count, list.len(), marks, place)])
+    let start = offset_at(formal_offsets, place);
+    default_in(&list[start..end_by_offsets(count, list.len(), formal_offsets, place)])
 }

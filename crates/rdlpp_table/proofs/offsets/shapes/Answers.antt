@@ -3,21 +3,21 @@ use Rattle.std.proofs.lemmas.List.{take_rest}
 use Rattle.rdlpp_table.specs.Shapes.{shapes_of}
 use Rattle.rdlpp_table.specs.Table.{formal_bytes}
 use Rattle.rdlpp_table.specs.Store.{formal_read, formals_read}
-use Rattle.rdlpp_table.proofs.Marked.{bytes_from, count_marks, mark_inside, told_at, told_more, told_none, told_start}
-use Rattle.rdlpp_table.proofs.marks.shapes.Goals as goal
+use Rattle.rdlpp_table.proofs.FormalOffsets.{bytes_from, count_offsets, offset_inside, told_at, told_more, told_none, told_start}
+use Rattle.rdlpp_table.proofs.offsets.shapes.Goals as goal
 
 pub loop-place-init : goal.loop-place-init
 loop-place-init c = (refl, told_start _ _ _ (replicate 256 false) c.requires)
 
-pub mark_at-requires : goal.mark_at-requires
-mark_at-requires c = omega (arith, count_marks _ _ _ c.requires (sym c.is_marked.ensures ∙ c.if-is_marked.true))
+pub offset_at-requires : goal.offset_at-requires
+offset_at-requires c = omega (arith, count_offsets _ _ _ c.requires (sym c.has_offsets.ensures ∙ c.if-has_offsets.true))
 
 pub slice_bounds-formal_name-count : goal.slice_bounds-formal_name-count
-slice_bounds-formal_name-count c = omega (arith, c.mark_at.ensures, mark_inside _ _ _ c.loop-place.place c.requires (sym c.is_marked.ensures ∙ c.if-is_marked.true) (omega arith))
+slice_bounds-formal_name-count c = omega (arith, c.offset_at.ensures, offset_inside _ _ _ c.loop-place.place c.requires (sym c.has_offsets.ensures ∙ c.if-has_offsets.true) (omega arith))
 
 pub slice_bounds-formal_name-start : goal.slice_bounds-formal_name-start
 slice_bounds-formal_name-start c =
-    let h : c.mark_at.result ≤ length c.args.formals.now.list.now = omega (arith, c.mark_at.ensures, mark_inside _ _ _ c.loop-place.place c.requires (sym c.is_marked.ensures ∙ c.if-is_marked.true) (omega arith)) in
+    let h : c.offset_at.result ≤ length c.args.formals.now.list.now = omega (arith, c.offset_at.ensures, offset_inside _ _ _ c.loop-place.place c.requires (sym c.has_offsets.ensures ∙ c.if-has_offsets.true) (omega arith)) in
     search rules
 
 pub loop-place-preserved : goal.loop-place-preserved
@@ -27,10 +27,10 @@ loop-place-preserved c =
     let list = c.args.formals.now.list.now in
     let told = c.loop-place.told in
     let behind = flat_map formal_bytes (drop (i + 1) (formals_read count list)) in
-    let here = bytes_from _ _ _ _ i c.requires (sym c.is_marked.ensures ∙ c.if-is_marked.true) (omega arith) (take_rest list c.mark_at.result ∙ ap (λ (n : ℕ). drop n list) c.mark_at.ensures) in (
+    let here = bytes_from _ _ _ _ i c.requires (sym c.has_offsets.ensures ∙ c.if-has_offsets.true) (omega arith) (take_rest list c.offset_at.result ∙ ap (λ (n : ℕ). drop n list) c.offset_at.ensures) in (
       length-set told c.shape.result true ∙ c.loop-place.invariant.0,
       c.loop-place.invariant.1
-          ∙ told_at count i list c.args.formals.now.marks.now _ told c.requires (omega arith) (c.formal_name-name.ensures.name ∙ ap (λ (l : List ℕ). (formal_read l).formal.name) here)
+          ∙ told_at count i list c.args.formals.now.formal_offsets.now _ told c.requires (omega arith) (c.formal_name-name.ensures.name ∙ ap (λ (l : List ℕ). (formal_read l).formal.name) here)
           ∙ ap (λ (k : ℕ). shapes_of (formals_read (count - (i + 1)) behind) (set told k true)) (sym c.shape.ensures.value),
     )
 

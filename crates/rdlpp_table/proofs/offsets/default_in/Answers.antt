@@ -1,6 +1,6 @@
 use Rattle.std.proofs.Common.{◌∙◌, ◌≤◌, ◌+◌, ◌-◌, length, sym, rules}
-use Rattle.rdlpp_table.proofs.Marked.{default_between, default_inside, no_default_text}
-use Rattle.rdlpp_table.proofs.marks.default_in.Goals as goal
+use Rattle.rdlpp_table.proofs.FormalOffsets.{default_between, default_inside, no_default_text}
+use Rattle.rdlpp_table.proofs.offsets.default_in.Goals as goal
 
 pub slice_bounds-result-count : goal.slice_bounds-result-count
 slice_bounds-result-count c = default_inside _ _ c.requires c.name_len-len.ensures.value (sym c.byte_at.ensures ∙ c.if-byte_at-eq61.true)

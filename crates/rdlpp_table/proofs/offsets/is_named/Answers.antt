@@ -1,9 +1,9 @@
 use Rattle.std.proofs.Common.{◌≡◌, ◌∙◌, List, ℕ, length, true, sym}
 use Rattle.std.proofs.lemmas.Bool.{false≢true}
 use Rattle.rdlpp_table.specs.Store.{formal_read}
-use Rattle.rdlpp_table.proofs.Marked.{compared, name_ended, name_starts, named_by_size}
-use Rattle.rdlpp_table.proofs.marks.is_named.Goals as goal
-use Rattle.rdlpp_table.proofs.marks.is_named.Goals.{then-ends_name, else-ends_name}
+use Rattle.rdlpp_table.proofs.FormalOffsets.{compared, name_ended, name_starts, named_by_size}
+use Rattle.rdlpp_table.proofs.offsets.is_named.Goals as goal
+use Rattle.rdlpp_table.proofs.offsets.is_named.Goals.{then-ends_name, else-ends_name}
 
 pub returns-then-starts_with : goal.returns-then-starts_with
 returns-then-starts_with c = elim c.if-ends_name.branch [
