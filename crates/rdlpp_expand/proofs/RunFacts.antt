@@ -12,7 +12,7 @@ use Rattle.rdlpp_source.specs.declared.sources.Sources.{Ghosts}
 use Rattle.rdlpp_state.specs.Calls.{SourcesCalled}
 use Rattle.rdlpp_state.specs.Engine.{EngineView, is_open}
 use Rattle.rdlpp_state.specs.Held.{IsBounded, stores_of}
-use Rattle.rdlpp_state.specs.Owed.{nothing_owed}
+use Rattle.rdlpp_state.specs.Pending.{nothing_pending}
 use Rattle.rdlpp_state.specs.Remaining.{kept_uncut, left_of, output_fault, phase_uncut, state_of, text_of, uncut_of}
 use Rattle.rdlpp_state.specs.Steps.{BeforeCall, FailsAt, IsStarted, Itself, Steps, Stood, StopsReading, Tells, has_met, is_call_failed, is_memory_kind, is_read_failed, is_write_failed, lent_len}
 use Rattle.rdlpp_state.specs.declared.phase.Phase.{Phase}
@@ -186,13 +186,13 @@ failed_rest g mid new f s met reads t =
     ∙ (ap (λ (q : ℕ). limited (output_fault reads.at.main) q (outcome (text_of g reads.at))) quota
     ∙ sym (left_but g reads.at (sym same.phase ∙ reads.still))))
 
--- where an output ended that was open, nothing is owed
-end_unowed : {S R : Type 0} (g : Ghosts S R) (mid new : EngineView S R) (p : Phase) → mid.phase ≡ p → is_open p ≡ true → mid.kept ≡ None → Steps g mid new (Ok None) → new.owed ≡ nothing_owed
+-- where an output ended that was open, nothing is pending
+end_drained : {S R : Type 0} (g : Ghosts S R) (mid new : EngineView S R) (p : Phase) → mid.phase ≡ p → is_open p ≡ true → mid.kept ≡ None → Steps g mid new (Ok None) → new.pending ≡ nothing_pending
 unfolding is_open
-end_unowed g mid new Fresh phase open_ free s = cc open_
-end_unowed g mid new Open phase open_ free s = s.halts free phase
-end_unowed g mid new Passed phase open_ free s = absurd (let no : Ok None ≡ Err (output_fault mid.main) = (s.passed free phase).0 in cc)
-end_unowed g mid new Closed phase open_ free s = cc open_
+end_drained g mid new Fresh phase open_ free s = cc open_
+end_drained g mid new Open phase open_ free s = s.halts free phase
+end_drained g mid new Passed phase open_ free s = absurd (let no : Ok None ≡ Err (output_fault mid.main) = (s.passed free phase).0 in cc)
+end_drained g mid new Closed phase open_ free s = cc open_
 
 -- a piece was written whole
 pub goes_on : {S R : Type 0} (g : Ghosts S R) (old mid new : EngineView S R) (xs ys : List ℕ) → (g.tells old.sources → g.tells mid.sources) → Going g old mid xs → Steps g mid new (Ok (Some ys)) → Going g old new (xs ++ ys)
@@ -216,8 +216,8 @@ finishes g old mid new xs ys told w s none =
       kept = (s.ends refl).0;
       closed = (s.ends refl).1;
       tells = λ t. w.tells t ∙ ap (and_then (gives xs)) ((ok_tells g mid new None s (told t)).0) ∙ and_then-gives xs [] ∙ ap (λ (zs : List ℕ). gives (xs ++ zs)) (sym none);
-      unowed = λ open_. (let was : is_open mid.phase ≡ true = elim w.open_ [ inl same ↦ opened_phase mid.phase (ap (λ e. e.phase) same ∙ open_) | inr still ↦ still ] in
-          end_unowed g mid new mid.phase refl was (w.kept ∙ free) s);
+      drained = λ open_. (let was : is_open mid.phase ≡ true = elim w.open_ [ inl same ↦ opened_phase mid.phase (ap (λ e. e.phase) same ∙ open_) | inr still ↦ still ] in
+          end_drained g mid new mid.phase refl was (w.kept ∙ free) s);
       bounded = s.bounded;
       lets_go = λ h. s.lets_go (w.lets_go h);
       stores = λ t h. s.stores (told t) (w.stores t h);
@@ -477,7 +477,7 @@ runs_whole g h old new before between after n w flush =
       again = λ f k. (let bad : ⊥ = cc (k, free) in absurd bad);
       kept = w.ends.kept;
       closed = λ e. w.ends.closed;
-      unowed = λ e. w.ends.unowed;
+      drained = λ e. w.ends.drained;
       limits = w.limits;
       origins = w.origins;
       main = w.main;
@@ -529,7 +529,7 @@ module _ {S R W : Type 0} (g : Ghosts S R) (h : SinkGhosts W) (old new : EngineV
         again = λ k e. (let a = w.ends.again k e in (told ∙ ap Some (sym a.0), a.1, a.2));
         kept = sym is;
         closed = λ e. (let bad : ⊥ = cc (e, told) in absurd bad);
-        unowed = λ e. (let bad : ⊥ = cc (e, told) in absurd bad);
+        drained = λ e. (let bad : ⊥ = cc (e, told) in absurd bad);
         limits = w.limits;
         origins = w.origins;
         main = w.main;
@@ -592,7 +592,7 @@ runs_unwritten {S} {R} g h old mid new before between after n fault ending unwri
       again = λ k e. (let bad : ⊥ = cc (e, free) in absurd bad);
       kept = sym is;
       closed = λ e. (let bad : ⊥ = cc (e, told) in absurd bad);
-      unowed = λ e. (let bad : ⊥ = cc (e, told) in absurd bad);
+      drained = λ e. (let bad : ⊥ = cc (e, told) in absurd bad);
       limits = ap (λ e. e.limits) becomes ∙ w.limits;
       origins = ap (λ e. e.origins) becomes ∙ w.origins;
       main = ap (λ e. e.main) becomes ∙ w.main;

@@ -17,7 +17,7 @@ use Rattle.rdlpp_read.specs.declared.files.File.{File}
 use Rattle.rdlpp_usages.specs.Usages.{ExpansionView, StaysLent}
 use Rattle.rdlpp_state.specs.Engine.{AreIncluded, EngineView, is_open}
 use Rattle.rdlpp_state.specs.Marks.{MarksView, PlaceView, marked_place}
-use Rattle.rdlpp_state.specs.Moves.{IsUnowed}
+use Rattle.rdlpp_state.specs.Moves.{IsDrained}
 use Rattle.rdlpp_state.specs.Pieces.{kept_answer, lent_answer, step_answer}
 use Rattle.rdlpp_state.specs.Positions.{position_of}
 use Rattle.rdlpp_state.specs.Silences.{most_silent}
@@ -26,7 +26,7 @@ use Rattle.rdlpp_state.specs.declared.phase.Phase.TheVariants.{Open}
 use Rattle.rdlpp_state.specs.declared.place.Place.{Place}
 use Rattle.rdlpp_state.proofs.LentPieces.{IsSpent, cut_kept, cut_piece, position_first}
 use Rattle.rdlpp_state.proofs.EngineSteps.{follows}
-use Rattle.rdlpp_expand.specs.Texts.{IsInTexts, LeavesTexts, StaysUnowed, further_parts, place_of}
+use Rattle.rdlpp_expand.specs.Texts.{IsInTexts, LeavesTexts, StaysDrained, further_parts, place_of}
 use Rattle.rdlpp_expand.specs.declared.engine.texts.TextStep.{TextStep}
 use Rattle.rdlpp_expand.specs.declared.engine.texts.TextStep.TheVariants.{Kept, Lent, Silent}
 
@@ -65,17 +65,17 @@ kept-some (Some f) e = (f, refl)
 pub open-texts : {S R : Type 0} (e : EngineView S R) (b : Bool) → (IsTrue b ↔ (e.phase ≡ Open)) → (e.phase ≡ Open → IsInTexts e) → IsTrue b ↔ IsInTexts e
 open-texts e b both leaves = (λ t. leaves (both.0 t), λ t. both.1 t.0.open_)
 
--- other open texts change nothing of what is owed or kept
-pub unowed-texts : {S R : Type 0} (old new : EngineView S R) (x : ExpansionView) (marks : MarksView) → IsUnowed old → new ≡ record old { expansion = x; marks = marks } → IsUnowed new
-unowed-texts old new x marks unowed becomes = rw becomes (record { open_ = unowed.open_; free = unowed.free; owed = unowed.owed })
+-- other open texts change nothing of what is pending or kept
+pub drained-texts : {S R : Type 0} (old new : EngineView S R) (x : ExpansionView) (marks : MarksView) → IsDrained old → new ≡ record old { expansion = x; marks = marks } → IsDrained new
+drained-texts old new x marks drained becomes = rw becomes (record { open_ = drained.open_; free = drained.free; pending = drained.pending })
 
 -- behind bytes that were lent a text is open
-pub lent-texts : {S R : Type 0} (old new : EngineView S R) (x : ExpansionView) (marks : MarksView) (result : CursorStep) (place : TextPlace) → IsUnowed old → result ≡ Lends place
+pub lent-texts : {S R : Type 0} (old new : EngineView S R) (x : ExpansionView) (marks : MarksView) (result : CursorStep) (place : TextPlace) → IsDrained old → result ≡ Lends place
     → StaysLent old.expansion result x → new ≡ record old { expansion = x; marks = marks } → IsInTexts new
 unfolding StaysLent
-lent-texts old new x marks result place unowed is lent becomes =
+lent-texts old new x marks result place drained is lent becomes =
     let open_now : (0 < length x.opens) × (x.arguments ≡ old.expansion.arguments) = subst (λ r. StaysLent old.expansion r x) is lent in
-    (unowed-texts old new x marks unowed becomes, rw becomes open_now.0)
+    (drained-texts old new x marks drained becomes, rw becomes open_now.0)
 
 -- the fault of an engine that keeps one is what it answers
 pub answer-kept : {S R : Type 0} (g : Ghosts S R) (old new : EngineView S R) (f : Told) → new.kept ≡ Some f → Steps g old new (kept_answer new.kept) → Steps g old new (Err f)
@@ -89,7 +89,7 @@ other-steps g old new Silent other w = silent-steps g old new w
 other-steps g old new Kept other w = cut_kept g old new new.kept w
 
 -- what holds behind one step that lends a piece or keeps a fault holds behind the steps up to it
-pub other-leaves : {S R : Type 0} (step : TextStep) (e : EngineView S R) → (step ≡ Silent → ⊥) → StaysUnowed step e → LeavesTexts step e
+pub other-leaves : {S R : Type 0} (step : TextStep) (e : EngineView S R) → (step ≡ Silent → ⊥) → StaysDrained step e → LeavesTexts step e
 other-leaves (Lent place) e other stays = λ _. stays
 other-leaves Silent e other stays = stays
 other-leaves Kept e other stays = stays

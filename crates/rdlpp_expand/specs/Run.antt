@@ -12,7 +12,7 @@ use Rattle.rdlpp_state.specs.Calls.{SourcesCalled}
 use Rattle.rdlpp_state.specs.Engine.{EngineView, is_open}
 use Rattle.rdlpp_state.specs.Held.{IsBounded}
 use Rattle.rdlpp_state.specs.Stored.{HoldsStores, LetsGo}
-use Rattle.rdlpp_state.specs.Owed.{nothing_owed}
+use Rattle.rdlpp_state.specs.Pending.{nothing_pending}
 use Rattle.rdlpp_state.specs.Remaining.{left_of}
 use Rattle.rdlpp_state.specs.Steps.{Steps, FailsAt, IsStarted, Stood, is_call_failed, is_memory_kind, is_read_failed, is_write_failed}
 use Rattle.rdlpp_state.specs.declared.phase.Phase.TheVariants.{Open, Closed}
@@ -112,7 +112,7 @@ pub record Finishes {S R : Type 0} (g : Ghosts S R) (old new : EngineView S R) (
   pub kept : new.kept ≡ None
   pub closed : new.phase ≡ Closed
   pub tells : g.tells old.sources → left_of g old ≡ gives bytes
-  pub unowed : old.phase ≡ Open → new.owed ≡ nothing_owed
+  pub drained : old.phase ≡ Open → new.pending ≡ nothing_pending
   pub bounded : IsBounded new
   pub lets_go : LetsGo old → LetsGo new
   pub stores : g.tells old.sources → HoldsStores g old → HoldsStores g new
@@ -180,7 +180,7 @@ fault_of (Err f) = Some (told f.fault)
 -- and so with memory that was refused, by its own count; it tells the line that was read, or that of the `include` that asked for
 -- the search, under the shown name, and the bytes and then what remains but for that fault are what remained, or what remains before
 -- the usage in whose call a read failed. Where the output
--- ended, nothing is owed. A fault of a write that failed comes
+-- ended, nothing is pending. A fault of a write that failed comes
 -- where the writer's count of failed writes or of failed flushes rose; and always where that of failed writes rose; and
 -- where that of failed flushes rose, the answer is such a fault, or the one that came before the flush; a flush alone is answered as such
 -- a fault only after the whole output. A flush is asked for
@@ -210,7 +210,7 @@ pub record Runs {S R W : Type 0} (g : Ghosts S R) (h : SinkGhosts W) (old new : 
   pub again : (f : Told) → old.kept ≡ Some f → (fault ≡ Some f) × (bytes ≡ []) × (new ≡ old)
   pub kept : new.kept ≡ fault
   pub closed : fault ≡ None → new.phase ≡ Closed
-  pub unowed : fault ≡ None → old.phase ≡ Open → new.owed ≡ nothing_owed
+  pub drained : fault ≡ None → old.phase ≡ Open → new.pending ≡ nothing_pending
   pub limits : new.limits ≡ old.limits
   pub origins : new.origins ≡ old.origins
   pub main : new.main ≡ old.main

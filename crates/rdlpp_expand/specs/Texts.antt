@@ -2,7 +2,7 @@
 -- A definition that names no source is this project's own.
 use Rattle.std.specs.Prelude.{◌≡◌, ℕ, ◌<◌, Bool, true, false, length, is_some, Option, None, Some}
 use Rattle.rdlpp_state.specs.Engine.{EngineView}
-use Rattle.rdlpp_state.specs.Moves.{IsUnowed}
+use Rattle.rdlpp_state.specs.Moves.{IsDrained}
 use Rattle.rdlpp_state.specs.declared.phase.Phase.TheVariants.{Open}
 use Rattle.rdlpp_state.specs.declared.place.Place.{Place}
 use Rattle.rdlpp_state.specs.declared.place.Place.TheVariants as spot
@@ -18,19 +18,19 @@ place_of Kept = Some spot.Kept
 -- an engine whose next step is one over open texts: its main text is open, it keeps no fault and owes nothing, and a text of a
 -- usage is open
 abbrev pub IsInTexts : {S R : Type 0} → EngineView S R → Type 0
-IsInTexts e = IsUnowed e × (0 < length e.expansion.opens)
+IsInTexts e = IsDrained e × (0 < length e.expansion.opens)
 
 -- what holds behind one step: texts stay open behind a piece, and behind nothing that is lent no fault is kept
-abbrev pub StaysUnowed : {S R : Type 0} → TextStep → EngineView S R → Type 0
-StaysUnowed (Lent place) e = IsInTexts e
-StaysUnowed Silent e = IsUnowed e
-StaysUnowed Kept e = is_some e.kept ≡ true
+abbrev pub StaysDrained : {S R : Type 0} → TextStep → EngineView S R → Type 0
+StaysDrained (Lent place) e = IsInTexts e
+StaysDrained Silent e = IsDrained e
+StaysDrained Kept e = is_some e.kept ≡ true
 
 -- what holds behind steps up to the next piece: behind that the next step is one over open texts too, where more may be lent; and
 -- behind nothing that is lent no fault is kept
 abbrev pub LeavesTexts : {S R : Type 0} → TextStep → EngineView S R → Type 0
 LeavesTexts (Lent place) e = e.phase ≡ Open → IsInTexts e
-LeavesTexts Silent e = IsUnowed e
+LeavesTexts Silent e = IsDrained e
 LeavesTexts Kept e = is_some e.kept ≡ true
 
 -- how many parts a step has at most before its last one: none over open texts, where it is one step of theirs

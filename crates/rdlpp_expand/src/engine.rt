@@ -20,9 +20,9 @@ ghost use Rattle.rdlpp_usages.specs.Usages.{IsRoomy};
 ghost use Rattle.rdlpp_state.specs.Conditionals.{unclosed_fault};
 ghost use Rattle.rdlpp_state.specs.Engine.{AreOpenTexts, EngineView, IsSoundEngine};
 ghost use Rattle.rdlpp_state.specs.Held.{HoldsDefinitions, IsBounded, bound_of, held_told};
-ghost use Rattle.rdlpp_state.specs.Moves.{Ends, IsReady, IsUnowed, LooksAtName, ReadsDefine};
+ghost use Rattle.rdlpp_state.specs.Moves.{Ends, IsReady, IsDrained, LooksAtName, ReadsDefine};
 ghost use Rattle.rdlpp_state.specs.OpenConditionals.{inner_below};
-ghost use Rattle.rdlpp_state.specs.Owed.{nothing_owed};
+ghost use Rattle.rdlpp_state.specs.Pending.{nothing_pending};
 ghost use Rattle.rdlpp_state.specs.Pieces.{IsPlaced, Lends, answer_of, bytes_at, held_texts, lent_answer, piece_bytes, step_answer};
 ghost use Rattle.rdlpp_state.specs.Stored.{LetsGo};
 ghost use Rattle.rdlpp_state.specs.Remaining.{output_fault, state_of};
@@ -55,7 +55,7 @@ use rdlpp_read::{Files, Fill, LogicalLine};
 use rdlpp_scan::{Directive, Mode, line_ends_in, reserved};
 use rdlpp_source::Sources;
 use rdlpp_state::{
-    Held, Marks, Owed, OwedPart, OwedPiece, Phase, Piece, Place, copied, copied_fault, fault_kind,
+    Held, Marks, Pending, PendingPart, PendingPiece, Phase, Piece, Place, copied, copied_fault, fault_kind,
     word_of,
 };
 use rdlpp_table::{Limits, Table};
@@ -71,9 +71,9 @@ use words::DEFINE_BYTES;
 /// a call, and of a call in macro text costs 1 more; of skipped text, which is passed faster, each fourth one.
 pub const READ_ALLOWANCE: usize = 65_535;
 
-// No bytes, as of no LF bytes that are owed.
-const NO_BYTES: OwedPiece = OwedPiece {
-    part: OwedPart::LineEnds,
+// No bytes, as of no LF bytes that are pending.
+const NO_BYTES: PendingPiece = PendingPiece {
+    part: PendingPart::LineEnds,
     len: 0,
 };
 
@@ -88,7 +88,7 @@ pub struct Engine<S: Sources> {
     kept: Option<Fault>,
     // the path that was asked for, cut to 1,024 bytes or fewer at a character's boundary
     main: ArrayString<1024>,
-    owed: Owed,
+    pending: Pending,
     // where the piece stands that was lent last
     marks: Marks,
     // how many bytes were taken of a `define` or of skipped text, whose cost isn't counted yet
@@ -117,7 +117,7 @@ impl<S: Sources> Model for Engine<S> {
       quota = e.quota;
       kept = option_map told e.kept;
       main = e.main.bytes;
-      owed = e.owed;
+      pending = e.pending;
       marks = e.marks;
       table = e.table;
       conditions = e.conditions;
@@ -180,7 +180,7 @@ impl<S: Sources> Engine<S> {
 
     // The step of `next`: goes on to the next piece, cut to what the limit on the output leaves, and answers where it stands.
     // The steps on the way that come to no bytes are taken from what is left for them, and so is a call that is read behind the
-    // piece. Where that is too little for a step, the piece is that of no LF bytes that are owed.
+    // piece. Where that is too little for a step, the piece is that of no LF bytes that are pending.
     pub(crate) fn advance(&mut self, left: &mut usize) -> Place
         requires started { IsStarted self.old }
         requires left { left.old ≤ 65535 }
@@ -195,7 +195,7 @@ impl<S: Sources> Engine<S> {
             }
             None => {
                 self.facts();
-                Place::Owed(NO_BYTES)
+                Place::Pending(NO_BYTES)
             }
         }
     }
@@ -204,7 +204,7 @@ impl<S: Sources> Engine<S> {
     // nothing.
     pub(crate) fn advance_outside(&mut self) -> Option<Place>
         requires started { IsStarted self.old }
-        requires outside { IsUnowed self.old → self.old.expansion.opens ≡ [] }
+        requires outside { IsDrained self.old → self.old.expansion.opens ≡ [] }
         ensures place { IfSome result (IsPlaced self.new) }
         ensures steps { Steps S.Sources self.old self.new (step_answer self.new result) }
     {
@@ -234,9 +234,9 @@ impl<S: Sources> Engine<S> {
                     end: place.from + len,
                 })
             }
-            Place::Owed(piece) => {
+            Place::Pending(piece) => {
                 let len = self.spend(piece.len);
-                Place::Owed(piece.cut(len))
+                Place::Pending(piece.cut(len))
             }
             Place::End => Place::End,
             Place::Kept => Place::Kept,
@@ -299,7 +299,7 @@ impl<S: Sources> Engine<S> {
     #[inline(always)]
     fn step_outside(&mut self) -> Option<Place>
         requires started { IsStarted self.old }
-        requires outside { IsUnowed self.old → self.old.expansion.opens ≡ [] }
+        requires outside { IsDrained self.old → self.old.expansion.opens ≡ [] }
         ensures place { IfSome result (IsPlaced self.new) }
         ensures walks { WalksOver S.Sources 1 self.old self.new (step_answer self.new result) }
     {
@@ -318,18 +318,18 @@ impl<S: Sources> Engine<S> {
         }
     }
 
-    // Takes one step over what is owed and the open sources.
+    // Takes one step over what is pending and the open sources.
     #[inline(always)]
     fn step_open(&mut self) -> Option<Place>
         requires open { self.old.phase ≡ Phase.Open }
         requires free { self.old.kept ≡ None }
-        requires outside { IsUnowed self.old → self.old.expansion.opens ≡ [] }
+        requires outside { IsDrained self.old → self.old.expansion.opens ≡ [] }
         ensures place { IfSome result (IsPlaced self.new) }
         ensures walks { IsBounded self.new → WalksOver S.Sources 1 self.old self.new (step_answer self.new result) }
     {
         self.facts();
-        match self.take_owed() {
-            Some(piece) => Some(Place::Owed(piece)),
+        match self.take_pending() {
+            Some(piece) => Some(Place::Pending(piece)),
             None => self.step_sources(),
         }
     }
@@ -349,7 +349,7 @@ impl<S: Sources> Engine<S> {
     }
 
     // Sees to it that bytes of the innermost source are held, and takes one step over them; or ends that source, or refuses what breaks
-    // it. It stands apart, so that a step over what is held or owed has no more of it than the test.
+    // it. It stands apart, so that a step over what is held or pending has no more of it than the test.
     #[inline(never)]
     fn step_filled(&mut self) -> Option<Place>
         requires { IsReady self.old }
@@ -424,7 +424,7 @@ impl<S: Sources> Engine<S> {
         requires nest { 0 < length self.old.files.nest }
         requires inside { len ≤ length (held_of (inner_buffer self.old.files.nest)) }
         requires line { IfSome (logical_len 0 0 (drop 7 (take len (held_of (inner_buffer self.old.files.nest))))) (λ n. n ≡ length (drop 7 (take len (held_of (inner_buffer self.old.files.nest))))) }
-        requires nothing { self.old.owed ≡ nothing_owed }
+        requires nothing { self.old.pending ≡ nothing_pending }
         requires idle { self.old.expansion.opens ≡ [] }
         requires files { AreOpen self.old.files }
         ensures place { IfSome result (IsPlaced self.new) }
@@ -441,7 +441,7 @@ impl<S: Sources> Engine<S> {
                 self.taken = len;
                 self.defined = Some(at);
                 self.consume(len, lines);
-                self.owed.owe_line_ends(lines);
+                self.pending.queue_line_ends(lines);
                 None
             }
         }
@@ -495,7 +495,7 @@ impl<S: Sources> Engine<S> {
     fn end(&mut self) -> Option<Place>
         requires open { self.old.phase ≡ Phase.Open }
         requires some { 0 < length self.old.files.nest }
-        requires nothing { self.old.owed ≡ nothing_owed }
+        requires nothing { self.old.pending ≡ nothing_pending }
         requires idle { self.old.expansion.opens ≡ [] }
         ensures { Ends self.old self.new result }
     {
@@ -518,7 +518,7 @@ impl<S: Sources> Engine<S> {
     fn end_plain(&mut self) -> Option<Place>
         requires open { self.old.phase ≡ Phase.Open }
         requires some { 0 < length self.old.files.nest }
-        requires nothing { self.old.owed ≡ nothing_owed }
+        requires nothing { self.old.pending ≡ nothing_pending }
         requires idle { self.old.expansion.opens ≡ [] }
         requires mode { (inner_buffer self.old.files.nest).mode ≡ Mode.Plain }
         ensures { Ends self.old self.new result }
@@ -534,7 +534,7 @@ impl<S: Sources> Engine<S> {
     fn end_whole(&mut self) -> Option<Place>
         requires open { self.old.phase ≡ Phase.Open }
         requires some { 0 < length self.old.files.nest }
-        requires nothing { self.old.owed ≡ nothing_owed }
+        requires nothing { self.old.pending ≡ nothing_pending }
         requires idle { self.old.expansion.opens ≡ [] }
         requires mode { (inner_buffer self.old.files.nest).mode ≡ Mode.Plain }
         requires ended { length self.old.conditions.open_now ≡ inner_below self.old.files.nest }
@@ -739,8 +739,8 @@ impl<S: Sources> Engine<S> {
         match place {
             Place::Source(start, end) => Piece::Bytes(self.files.file().buffer.part(start, end)),
             Place::Text(place) => Piece::Bytes(self.text(place)),
-            Place::Owed(piece) => Piece::Bytes(
-                self.owed.bytes(piece, self.files.file().name.as_str()),
+            Place::Pending(piece) => Piece::Bytes(
+                self.pending.bytes(piece, self.files.file().name.as_str()),
             ),
             Place::End | Place::Kept => Piece::Done,
         }

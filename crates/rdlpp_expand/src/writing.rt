@@ -5,7 +5,7 @@ ghost use Rattle.rdlpp_source.specs.Counts.{Counts};
 ghost use Rattle.rdlpp_expand.specs.Run.{Flushes, Pulls, Runs, Unflushed, Wrote, count_of, fault_of};
 ghost use Rattle.rdlpp_expand.specs.Texts.{IsInTexts};
 ghost use Rattle.rdlpp_expand.specs.Watching.{Shows};
-ghost use Rattle.rdlpp_state.specs.Moves.{IsUnowed};
+ghost use Rattle.rdlpp_state.specs.Moves.{IsDrained};
 ghost use Rattle.rdlpp_state.specs.Steps.{IsStarted};
 
 use crate::engine::{Engine, OpenSource, TextStep};
@@ -300,7 +300,7 @@ fn pull<S: Sources, W: Sink, V: Watcher>(
     watcher: &mut V,
 ) -> Pulled
     requires started { IsStarted engine.old }
-    requires outside { IsUnowed engine.old → engine.old.expansion.opens ≡ [] }
+    requires outside { IsDrained engine.old → engine.old.expansion.opens ≡ [] }
     ensures pulls { Pulls S.Sources W.Sink engine.old engine.new writer.old writer.new result.len result.ending }
     ensures shows { Shows W.Sink V.Watcher writer.old writer.new watcher.old watcher.new }
 {

@@ -50,7 +50,7 @@ use Rattle.rdlpp_state.specs.Lines.{Renumbers, inner_blanks, renumbered_file}
 use Rattle.rdlpp_state.specs.Marks.{MarksView, ends_line}
 use Rattle.rdlpp_state.specs.Moves.{IsReady, LooksAtName}
 use Rattle.rdlpp_state.specs.OpenConditionals.{AreConditions, inner_below, inner_shown}
-use Rattle.rdlpp_state.specs.Owed.{OwedView, line_ends_owed, nothing_owed, origin_owed, owed_bytes}
+use Rattle.rdlpp_state.specs.Pending.{PendingView, line_ends_pending, nothing_pending, origin_pending, pending_bytes}
 use Rattle.rdlpp_state.specs.Pieces.{lent_answer, step_answer}
 use Rattle.rdlpp_state.specs.Positions.{BehindLine, Unmarked}
 use Rattle.rdlpp_state.specs.Remaining.{file_state, inner_name, nest_left, nest_state, run_rules, state_of}
@@ -61,10 +61,10 @@ use Rattle.rdlpp_state.specs.declared.place.Place.TheVariants.{Kept}
 use Rattle.rdlpp_state.proofs.NestLeft.{Continues, Decides, Faults, IsPlainFront, around, at_live, closes_at, counts_at, moved_live, nest_refused_undef, nest_undef, none_held, opens_at, stray_at, torn_consumed, turns_at}
 use Rattle.rdlpp_state.proofs.IncludeSteps.{nest_macros}
 use Rattle.rdlpp_state.proofs.EngineSteps.{not_called}
-use Rattle.rdlpp_state.proofs.FrontSteps.{Fails, IsRead, held_few, left_by, lends_piece, lends_source, lines_few, owed_lines, read_nothing, refuses}
+use Rattle.rdlpp_state.proofs.FrontSteps.{Fails, IsRead, held_few, left_by, lends_piece, lends_source, lines_few, pending_lines, read_nothing, refuses}
 use Rattle.rdlpp_state.proofs.Stores.{KeepsParts, own_kind, parts_mode, parts_on, parts_shown, parts_slid, parts_used}
 use Rattle.rdlpp_state.proofs.Soundness.{EndsInner, EndsNone, EndsOne, EndsOwn, Meets, MeetsInner, MeetsNone, MeetsOwn, OwnTurn, conditions_count, ends_one, inner_facts, inner_most, meets, own_turn, with_inner-length}
-use Rattle.rdlpp_state.proofs.LentPieces.{owed_few, owed_with_origin}
+use Rattle.rdlpp_state.proofs.LentPieces.{pending_few, pending_with_origin}
 use Rattle.rdlpp_state.proofs.SkippedNests.{IsHeldFront, bare_ends, cut_at, directive_ends, long_at, passes_define, passes_line, passes_part, passes_stretch, passes_word, perl_at, usage_ends}
 use Rattle.rdlpp_state.proofs.WorkFacts.{IsUsed, entered_unused, held_room, used_after, used_bytes}
 
@@ -392,20 +392,20 @@ skipping_by e (Some n) (o ∷ os) ready skips is never =
 pub skipping : {S R : Type 0} (e : EngineView S R) → IsReady e → (e.conditions.skipped ≡ None → ⊥) → IsSkipping e
 skipping e ready never = skipping_by e e.conditions.skipped e.conditions.open_now ready refl refl never
 
--- bytes of the innermost source are used, and their LF bytes are owed
+-- bytes of the innermost source are used, and their LF bytes are pending
 pub passes_text : {S R : Type 0} (g : Ghosts S R) (old new : EngineView S R) (sources : S) (w : List ℕ) (lines : ℕ) (nest : List (File R)) → IsReady old → IsBounded new → lines ≡ line_ends w → lines < 2 ^ 31
     → IsUsed old.files.nest nest → SourcesCalled g false false old.sources sources
-    → new ≡ record old { owed = line_ends_owed lines; files = record old.files { nest = nest }; sources = sources }
+    → new ≡ record old { pending = line_ends_pending lines; files = record old.files { nest = nest }; sources = sources }
     → (g.tells old.sources → left_by g old old.table.macros old.conditions old.files.nest ≡ behind_bytes (line_ends_of w) (left_by g old old.table.macros old.conditions nest))
     → (g.tells old.sources → KeepsParts g.unread old.files.nest nest)
     → Walks g old new (step_answer new None)
 unfolding behind_bytes
 passes_text {S} {R} g old new sources w lines nest ready bounded counted few used call becomes law parts =
-    let owed : line_ends_of w ≡ owed_bytes (inner_name nest) (line_ends_owed lines) =
-    line_ends_of-owed w ∙ (ap (λ n. replicate n 10) (sym counted) ∙ sym (owed_lines (inner_name nest) lines)) in
+    let pending : line_ends_of w ≡ pending_bytes (inner_name nest) (line_ends_pending lines) =
+    line_ends_of-owed w ∙ (ap (λ n. replicate n 10) (sym counted) ∙ sym (pending_lines (inner_name nest) lines)) in
     subst (λ (e : EngineView S R). Walks g old e (Ok (Some []))) (sym becomes)
-    (lends_piece g old ready [] (line_ends_owed lines) old.marks old.table.macros old.conditions nest sources (subst IsBounded becomes bounded) (lines_few lines _ few) used call
-    (λ t. law t ∙ ap (λ (x : List ℕ). behind_bytes x (left_by g old old.table.macros old.conditions nest)) owed) parts (Nowhere refl (InSources ready.idle refl (Unmarked refl))))
+    (lends_piece g old ready [] (line_ends_pending lines) old.marks old.table.macros old.conditions nest sources (subst IsBounded becomes bounded) (lines_few lines _ few) used call
+    (λ t. law t ∙ ap (λ (x : List ℕ). behind_bytes x (left_by g old old.table.macros old.conditions nest)) pending) parts (Nowhere refl (InSources ready.idle refl (Unmarked refl))))
 
 -- what is refused in front is `<%`, or a lone backquote
 pub perl_is : (mode : Mode) (held : List ℕ) (kind : FaultKind) → IsRefused mode held kind → kind ≡ fault.EmbeddedPerl → (token_of mode held).kind ≡ Perl
@@ -443,17 +443,17 @@ opening_conditions e used len ready s positive inside uses c =
     let count : unwrap_or e.conditions.skipped 0 ≡ s.count = ap (λ (k : Option ℕ). unwrap_or k 0) s.skips in
     conditions_count used.limits used.conditions used.files.nest (omega arith) c (c.own s.count skips) (s.count + 1) (omega arith)
 
--- bytes that were used, of which the LF bytes are owed
-pub passes_by : {S R : Type 0} (len lines : ℕ) (old used new : EngineView S R) (owed : OwedView) → old.owed ≡ nothing_owed
-    → used ≡ record old { files = record old.files { nest = with_inner (consumed_file len lines) old.files.nest } } → new ≡ record used { owed = owed }
-    → owed ≡ record used.owed { line_ends = used.owed.line_ends + lines } → new ≡ passes_over len lines old
-unfolding passes_over nothing_owed line_ends_owed
-passes_by {S} {R} len lines old used new owed nothing uses owes adds =
+-- bytes that were used, of which the LF bytes are pending
+pub passes_by : {S R : Type 0} (len lines : ℕ) (old used new : EngineView S R) (pending : PendingView) → old.pending ≡ nothing_pending
+    → used ≡ record old { files = record old.files { nest = with_inner (consumed_file len lines) old.files.nest } } → new ≡ record used { pending = pending }
+    → pending ≡ record used.pending { line_ends = used.pending.line_ends + lines } → new ≡ passes_over len lines old
+unfolding passes_over nothing_pending line_ends_pending
+passes_by {S} {R} len lines old used new pending nothing uses queues adds =
     let nest : List (File R) = with_inner (consumed_file len lines) old.files.nest in
-    let same : used.owed ≡ nothing_owed = ap (λ e. e.owed) uses ∙ nothing in
+    let same : used.pending ≡ nothing_pending = ap (λ e. e.pending) uses ∙ nothing in
     let zero : 0 + lines ≡ lines = omega arith in
-    let exact : owed ≡ line_ends_owed lines = adds ∙ (ap (λ (o : OwedView). record o { line_ends = o.line_ends + lines }) same ∙ ap (λ (n : ℕ). line_ends_owed n) zero) in
-    owes ∙ (ap (λ (o : OwedView). record used { owed = o }) exact ∙ ap (λ (e : EngineView S R). record e { owed = line_ends_owed lines }) uses)
+    let exact : pending ≡ line_ends_pending lines = adds ∙ (ap (λ (o : PendingView). record o { line_ends = o.line_ends + lines }) same ∙ ap (λ (n : ℕ). line_ends_pending n) zero) in
+    queues ∙ (ap (λ (o : PendingView). record used { pending = o }) exact ∙ ap (λ (e : EngineView S R). record e { pending = line_ends_pending lines }) uses)
 
 -- a word that doesn't count lies in what is held, and has no line end
 pub record IsWordWithin (held : List ℕ) (len : ℕ) : Type 0 where
@@ -478,7 +478,7 @@ module _ {S R : Type 0} (g : Ghosts S R) (old new : EngineView S R) (ready : IsR
   abbrev front_held : IsHeldFront old.files.nest
   front_held = held_front old ready some
 
-  -- no more LF bytes are passed than can be owed
+  -- no more LF bytes are passed than can be pending
   few_lines : (len lines : ℕ) → len ≤ length (held_of (inner_buffer old.files.nest)) → lines ≡ line_ends (take len (held_of (inner_buffer old.files.nest))) → lines < 2 ^ 31
   few_lines len lines inside counted =
       let least = line_ends_le (take len (held_of (inner_buffer old.files.nest))) in
@@ -577,11 +577,11 @@ module _ {S R : Type 0} (g : Ghosts S R) (old new : EngineView S R) (ready : IsR
           let least = line_ends_le w in
           let size = length-take-le len (held_of b) inside in
           let after = with_inner (consumed_file len lines) (with_buffer b old.files.nest) in
-          let makes : List (File R) → EngineView S R = λ ns. record old { owed = line_ends_owed lines; files = record old.files { nest = ns }; sources = mid.sources } in
+          let makes : List (File R) → EngineView S R = λ ns. record old { pending = line_ends_pending lines; files = record old.files { nest = ns }; sources = mid.sources } in
           let nest : mid.files.nest ≡ with_buffer b old.files.nest = ap (λ f. f.nest) r.only in
           let exact : new ≡ makes after =
           becomes ∙ (ap (passes_over len lines) r.becomes
-          ∙ (ap (λ (fs : FilesView R). record old { owed = line_ends_owed lines; files = record fs { nest = with_inner (consumed_file len lines) mid.files.nest }; sources = mid.sources }) r.only
+          ∙ (ap (λ (fs : FilesView R). record old { pending = line_ends_pending lines; files = record fs { nest = with_inner (consumed_file len lines) mid.files.nest }; sources = mid.sources }) r.only
           ∙ ap (λ (ns : List (File R)). makes (with_inner (consumed_file len lines) ns)) nest)) in
           passes_text g old new mid.sources w lines after ready bounded counted (omega arith) (used_after old.files.nest b len lines ready.nest holds.extends.unused positive inside) call exact
           (λ t. passes_define old.limits (run_rules g old) g.unread old.table.macros old.conditions s.count s.conditional s.around s.is_open s.skips (g.tells old.sources) t old.files.nest b len lines front_held plain s.below is holds counted)
@@ -696,7 +696,7 @@ take_renumbered {S} {R} g old new given ready live bounded some plain is first h
     let w = take len held in
     let used = with_inner (consumed_file len d.lines) old.files.nest in
     let nest = with_inner (renumbered_file from given.number given.name) used in
-    let owed : OwedView = record { line_ends = d.lines; origin = origin_owed old.origins given.number } in
+    let pending : PendingView = record { line_ends = d.lines; origin = origin_pending old.origins given.number } in
     let marks = ends_line d.lines (state_of old).name (shown_line (state_of old).shift (inner_buffer old.files.nest).line) old.marks in
     let few = held_short old ready.sound ready.files ready.nest in
     let counted = d.counted in
@@ -704,10 +704,10 @@ take_renumbered {S} {R} g old new given ready live bounded some plain is first h
     let size = length-take-le len held inside in
     let lines : d.lines ≤ len = omega arith in
     let name : inner_name nest ≡ given.name.bytes = named_inner from given.number given.name used (some_inner (consumed_file len d.lines) old.files.nest ready.nest) in
-    let bytes : owed_bytes (inner_name nest) owed ≡ line_ends_of w ++ origin_line (run_rules g old) given.name.bytes given.number =
-    ap (λ (n : List ℕ). owed_bytes n owed) name ∙ owed_with_origin (g.catalog old.sources) old.limits old.origins given.name.bytes w d.lines given.number d.counted in
+    let bytes : pending_bytes (inner_name nest) pending ≡ line_ends_of w ++ origin_line (run_rules g old) given.name.bytes given.number =
+    ap (λ (n : List ℕ). pending_bytes n pending) name ∙ pending_with_origin (g.catalog old.sources) old.limits old.origins given.name.bytes w d.lines given.number d.counted in
     subst (λ (e : EngineView S R). Walks g old e (Ok (Some []))) (sym d.becomes)
-    (lends_piece g old ready [] owed marks old.table.macros old.conditions nest old.sources (subst IsBounded d.becomes bounded) (owed_few old.origins d.lines given.number (omega arith))
+    (lends_piece g old ready [] pending marks old.table.macros old.conditions nest old.sources (subst IsBounded d.becomes bounded) (pending_few old.origins d.lines given.number (omega arith))
     (shown_used old.files.nest used (renumbered_file from given.number given.name) (λ f. refl) (used_bytes old.files.nest len d.lines (omega arith) inside))
     (not_called g old.sources)
     (λ t. nest_line old.limits (run_rules g old) g.unread old.table.macros old.conditions live old.files.nest given from d.lines some inner.ends plain is first has (omega arith) d.counted
@@ -727,32 +727,32 @@ module _ {S R : Type 0} (g : Ghosts S R) (e : EngineView S R) (ready : IsReady e
   left_late_line late =
       nest_late_line e.limits (run_rules g e) g.unread e.table.macros e.conditions live e.files.nest some (inner_facts e.files ready.nest ready.files).ends plain is late
 
--- a `line` that was used, and what is owed behind it
-pub renumbers_by : {S R : Type 0} (given : GivenLine) (old used shown new : EngineView S R) (from lines : ℕ) (owed then_owed : OwedView) (name : List ℕ) (line : ℕ)
+-- a `line` that was used, and what is pending behind it
+pub renumbers_by : {S R : Type 0} (given : GivenLine) (old used shown new : EngineView S R) (from lines : ℕ) (pending then_pending : PendingView) (name : List ℕ) (line : ℕ)
     → used ≡ record old { files = record old.files { nest = with_inner (consumed_file (5 + given.stop) lines) old.files.nest } }
     → shown ≡ record used { files = record used.files { nest = with_inner (renumbered_file from given.number given.name) used.files.nest } }
-    → new ≡ record shown { owed = then_owed; marks = ends_line lines name line shown.marks } → owed ≡ record shown.owed { line_ends = shown.owed.line_ends + lines }
-    → then_owed ≡ record owed { origin = origin_owed shown.origins given.number } → old.owed ≡ nothing_owed
+    → new ≡ record shown { pending = then_pending; marks = ends_line lines name line shown.marks } → pending ≡ record shown.pending { line_ends = shown.pending.line_ends + lines }
+    → then_pending ≡ record pending { origin = origin_pending shown.origins given.number } → old.pending ≡ nothing_pending
     → from ≡ (inner_buffer old.files.nest).line + 1 → lines ≡ line_ends (take (5 + given.stop) (held_of (inner_buffer old.files.nest)))
     → name ≡ (state_of old).name → line ≡ shown_line (state_of old).shift (inner_buffer old.files.nest).line → Renumbers given old new
-unfolding nothing_owed
-renumbers_by {S} {R} given old used shown new from lines owed then_owed name line uses shows owes adds asks nothing here counted named lined =
+unfolding nothing_pending
+renumbers_by {S} {R} given old used shown new from lines pending then_pending name line uses shows queues adds asks nothing here counted named lined =
     let nest : ℕ → List (File R) = λ m. with_inner (renumbered_file m given.number given.name) (with_inner (consumed_file (5 + given.stop) lines) old.files.nest) in
     let becomes : shown ≡ record old { files = record old.files { nest = nest from } } =
     shows ∙ ap (λ (e : EngineView S R). record e { files = record e.files { nest = with_inner (renumbered_file from given.number given.name) e.files.nest } }) uses in
-    let none : shown.owed.line_ends ≡ 0 = ap (λ e. e.owed.line_ends) becomes ∙ ap (λ o. o.line_ends) nothing in
-    let added : owed.line_ends ≡ shown.owed.line_ends + lines = ap (λ o. o.line_ends) adds in
-    let count : owed.line_ends ≡ lines = omega arith in
+    let none : shown.pending.line_ends ≡ 0 = ap (λ e. e.pending.line_ends) becomes ∙ ap (λ o. o.line_ends) nothing in
+    let added : pending.line_ends ≡ shown.pending.line_ends + lines = ap (λ o. o.line_ends) adds in
+    let count : pending.line_ends ≡ lines = omega arith in
     let origins : shown.origins ≡ old.origins = ap (λ e. e.origins) becomes in
-    let makes : ℕ → Bool → OwedView = λ n b. record { line_ends = n; origin = origin_owed b given.number } in
-    let exact : then_owed ≡ makes lines old.origins = asks ∙ (ap (λ (n : ℕ). makes n shown.origins) count ∙ ap (makes lines) origins) in
+    let makes : ℕ → Bool → PendingView = λ n b. record { line_ends = n; origin = origin_pending b given.number } in
+    let exact : then_pending ≡ makes lines old.origins = asks ∙ (ap (λ (n : ℕ). makes n shown.origins) count ∙ ap (makes lines) origins) in
     let marked : List ℕ → ℕ → MarksView = λ xs n. ends_line lines xs n old.marks in
-    let ends : OwedView → MarksView → ℕ → EngineView S R = λ o marks m. record old { owed = o; marks = marks; files = record old.files { nest = nest m } } in
+    let ends : PendingView → MarksView → ℕ → EngineView S R = λ o marks m. record old { pending = o; marks = marks; files = record old.files { nest = nest m } } in
     record {
       lines = lines;
       counted = counted;
-      becomes = owes ∙ (ap (λ (e : EngineView S R). record e { owed = then_owed; marks = ends_line lines name line e.marks }) becomes
-          ∙ (ap (λ (o : OwedView). ends o (marked name line) from) exact
+      becomes = queues ∙ (ap (λ (e : EngineView S R). record e { pending = then_pending; marks = ends_line lines name line e.marks }) becomes
+          ∙ (ap (λ (o : PendingView). ends o (marked name line) from) exact
           ∙ (ap (λ (xs : List ℕ). ends (makes lines old.origins) (marked xs line) from) named
           ∙ (ap (λ (n : ℕ). ends (makes lines old.origins) (marked (state_of old).name n) from) lined
           ∙ ap (ends (makes lines old.origins) (marked (state_of old).name (shown_line (state_of old).shift (inner_buffer old.files.nest).line))) here))));

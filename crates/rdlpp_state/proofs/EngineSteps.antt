@@ -20,7 +20,7 @@ use Rattle.rdlpp_state.specs.Standing.{LendNone, LendsNone, LendsWhere, Reaches,
 use Rattle.rdlpp_state.specs.Stored.{AreParts}
 use Rattle.rdlpp_read.specs.declared.files.File.{File}
 use Rattle.rdlpp_state.proofs.Stores.{KeepsStores, keeps_refused, none_called}
-use Rattle.rdlpp_state.specs.Owed.{nothing_owed}
+use Rattle.rdlpp_state.specs.Pending.{nothing_pending}
 use Rattle.rdlpp_state.specs.Pieces.{kept_answer, lent_answer}
 use Rattle.rdlpp_state.specs.Positions.{position_of}
 use Rattle.rdlpp_state.specs.Remaining.{uncut_of, kept_uncut, output_fault, phase_uncut, state_of, text_of, work_left}
@@ -143,7 +143,7 @@ parts_wider a n m few more = omega (arith, few, more)
 -- an engine whose main text is open and that keeps no fault
 module _ {S R : Type 0} (g : Ghosts S R) (old new : EngineView S R) (free : old.kept ≡ None) (open_ : old.phase ≡ Open) (bounded : IsBounded new) where
   -- a piece was lent
-  pub walks_lent : (bytes : List ℕ) → new ≡ record old { owed = new.owed; marks = new.marks; table = new.table; conditions = new.conditions; files = new.files; sources = new.sources; expansion = new.expansion }
+  pub walks_lent : (bytes : List ℕ) → new ≡ record old { pending = new.pending; marks = new.marks; table = new.table; conditions = new.conditions; files = new.files; sources = new.sources; expansion = new.expansion }
       → (new.table.most_bytes ≡ old.table.most_bytes) × (new.table.most_macros ≡ old.table.most_macros)
       → SourcesCalled g false false old.sources new.sources
       → (g.tells old.sources → text_of g old ≡ behind_bytes bytes (text_of g new))
@@ -181,10 +181,10 @@ module _ {S R : Type 0} (g : Ghosts S R) (old new : EngineView S R) (free : old.
         stores = keeps.stores;
       }
 
-  -- what a fault leaves, where nothing is owed
+  -- what a fault leaves, where nothing is pending
   halts_at : (f : Told) → new ≡ record old { kept = Some f; files = new.files; sources = new.sources }
-      → new.files ≡ record old.files { nest = with_buffer (inner_buffer new.files.nest) old.files.nest } → Slides (g.tells old.sources) ⊥ g.unread (inner_buffer old.files.nest) (inner_buffer new.files.nest) → old.owed ≡ nothing_owed → HaltsAt g 0 old new
-  halts_at f becomes only moves unowed =
+      → new.files ≡ record old.files { nest = with_buffer (inner_buffer new.files.nest) old.files.nest } → Slides (g.tells old.sources) ⊥ g.unread (inner_buffer old.files.nest) (inner_buffer new.files.nest) → old.pending ≡ nothing_pending → HaltsAt g 0 old new
+  halts_at f becomes only moves drained =
       let keeps : Option Told → EngineView S R = λ k. record old { kept = k; files = new.files; sources = new.sources } in
       record {
         at = old;
@@ -192,7 +192,7 @@ module _ {S R : Type 0} (g : Ghosts S R) (old new : EngineView S R) (free : old.
         few = no_part _ refl;
         idle = λ h none. h.idle (inl free) none;
         text = λ t. refl;
-        unowed = unowed;
+        drained = drained;
         stopped = AtFront (record {
           becomes = becomes ∙ ap keeps (sym (ap (λ e. e.kept) becomes));
           only = only;
@@ -244,11 +244,11 @@ module _ {S R : Type 0} (g : Ghosts S R) (old new : EngineView S R) (free : old.
   -- a fault at the front of what is held
   pub walks_fault : (f : Told) → IsOwn f.kind → new ≡ record old { kept = Some f; files = new.files; sources = new.sources }
       → new.files ≡ record old.files { nest = with_buffer (inner_buffer new.files.nest) old.files.nest }
-      → Slides (g.tells old.sources) ⊥ g.unread (inner_buffer old.files.nest) (inner_buffer new.files.nest) → old.owed ≡ nothing_owed
+      → Slides (g.tells old.sources) ⊥ g.unread (inner_buffer old.files.nest) (inner_buffer new.files.nest) → old.pending ≡ nothing_pending
       → SourcesCalled g false false old.sources new.sources
       → (g.tells old.sources → text_of g old ≡ leaves (fails f) (state_of new)) → KeepsStores g old new → Walks g old new (Err f)
-  walks_fault f own becomes only moves unowed call text stores =
-      walks_kept f own (same_texts f becomes) (halts_at f becomes only moves unowed) call text stores
+  walks_fault f own becomes only moves drained call text stores =
+      walks_kept f own (same_texts f becomes) (halts_at f becomes only moves drained) call text stores
 
   -- a read or a search failed, wherever that was
   pub walks_ceased : (f : Told) → FailsAt new f → is_call_failed f.kind ≡ true → is_write_failed f.kind ≡ false
@@ -290,34 +290,34 @@ module _ {S R : Type 0} (g : Ghosts S R) (old new : EngineView S R) (free : old.
   pub walks_stopped : (f : Told) → FailsAt new f → is_call_failed f.kind ≡ true → is_write_failed f.kind ≡ false
       → new ≡ record old { kept = Some f; files = new.files; sources = new.sources }
       → new.files ≡ record old.files { nest = with_buffer (inner_buffer new.files.nest) old.files.nest }
-      → Slides (g.tells old.sources) ⊥ g.unread (inner_buffer old.files.nest) (inner_buffer new.files.nest) → old.owed ≡ nothing_owed
+      → Slides (g.tells old.sources) ⊥ g.unread (inner_buffer old.files.nest) (inner_buffer new.files.nest) → old.pending ≡ nothing_pending
       → SourcesCalled g (is_read_failed f.kind) (is_memory_kind f.kind) old.sources new.sources
       → (g.tells old.sources → text_of g old ≡ text_of g new) → KeepsStores g old new → Walks g old new (Err f)
-  walks_stopped f fails met write becomes only moves unowed call text stores =
+  walks_stopped f fails met write becomes only moves drained call text stores =
       let still : new.phase ≡ Open = ap (λ e. e.phase) becomes ∙ open_ in
-      walks_ceased f fails met write (same_texts f becomes) (halts_at f becomes only moves unowed)
+      walks_ceased f fails met write (same_texts f becomes) (halts_at f becomes only moves drained)
       (record { open_ = open_; still = still; at = new; stood = Itself refl; text = text }) call stores
 
   -- a read failed
   pub walks_failed : (f : Told) → IsReading (inner_buffer new.files.nest) → f ≡ fault_at fault.ReadFailed (reading_line_of (inner_buffer new.files.nest)) [] (state_of new)
       → new ≡ record old { kept = Some f; files = new.files; sources = new.sources }
       → new.files ≡ record old.files { nest = with_buffer (inner_buffer new.files.nest) old.files.nest }
-      → Slides (g.tells old.sources) ⊥ g.unread (inner_buffer old.files.nest) (inner_buffer new.files.nest) → old.owed ≡ nothing_owed
+      → Slides (g.tells old.sources) ⊥ g.unread (inner_buffer old.files.nest) (inner_buffer new.files.nest) → old.pending ≡ nothing_pending
       → SourcesCalled g true false old.sources new.sources
       → (g.tells old.sources → text_of g old ≡ text_of g new) → KeepsStores g old new → Walks g old new (Err f)
   unfolding fault_at is_read_failed is_write_failed is_memory_kind is_call_failed
-  walks_failed f reading is becomes only moves unowed call text stores =
+  walks_failed f reading is becomes only moves drained call text stores =
       let read : is_read_failed f.kind ≡ true = ap (λ t. is_read_failed t.kind) is in
       let write : is_write_failed f.kind ≡ false = ap (λ t. is_write_failed t.kind) is in
       let memory : is_memory_kind f.kind ≡ false = ap (λ t. is_memory_kind t.kind) is in
-      walks_stopped f (OnRead reading is) (ap (λ t. is_call_failed t.kind) is) write becomes only moves unowed (rw (read, memory) call) text stores
+      walks_stopped f (OnRead reading is) (ap (λ t. is_call_failed t.kind) is) write becomes only moves drained (rw (read, memory) call) text stores
 
   -- the text has ended
-  pub walks_end : new ≡ record old { phase = Closed; files = new.files; sources = new.sources } → old.owed ≡ nothing_owed → old.expansion.opens ≡ []
+  pub walks_end : new ≡ record old { phase = Closed; files = new.files; sources = new.sources } → old.pending ≡ nothing_pending → old.expansion.opens ≡ []
       → SourcesCalled g false false old.sources new.sources
       → (g.tells old.sources → EndsText new (text_of g old)) → Walks g old new (Ok None)
   unfolding has_met no_len uncut_of kept_uncut phase_uncut
-  walks_end becomes unowed idle call text =
+  walks_end becomes drained idle call text =
       let closed : new.phase ≡ Closed = ap (λ e. e.phase) becomes in
       let none : new.kept ≡ None = ap (λ e. e.kept) becomes ∙ free in
       record {
@@ -337,7 +337,7 @@ module _ {S R : Type 0} (g : Ghosts S R) (old new : EngineView S R) (free : old.
         tells = λ _ t. (left_open g old free open_ ∙ (ap outcome ((text t).text) ∙ outcome-leaves (gives []) (text t).last), rw (none, closed) refl);
         text = λ _ _ _ t. text t;
         reads = λ met. absurd (let no : false ≡ true = rw free at met in cc);
-        halts = λ _ _. ap (λ e. e.owed) becomes ∙ unowed;
+        halts = λ _ _. ap (λ e. e.pending) becomes ∙ drained;
         falls = λ bytes e. absurd (cc);
         lends = λ bytes e. absurd (cc);
         quota = omega (arith, ap (λ e. e.quota) becomes);
@@ -428,7 +428,7 @@ halts_behind g n m (Err f) old mid new first halts = record {
   few = parts_both _ _ _ n m (length-append first.reaches.between halts.reached.between) first.few halts.few;
   idle = λ h none. halts.idle (first.keeps.lets_go h) none;
   text = λ t. first.text t ∙ halts.text (first.call.tells t);
-  unowed = halts.unowed;
+  drained = halts.drained;
   stopped = halts.stopped;
 }
 
@@ -525,7 +525,7 @@ halts_wider : {S R : Type 0} (g : Ghosts S R) (n m : ℕ) (answer : Result (Opti
 halts_wider g n m (Ok (Some bytes)) old new more halts = tt
 halts_wider g n m (Ok None) old new more halts = halts
 halts_wider g n m (Err f) old new more halts =
-    record { at = halts.at; reached = halts.reached; few = parts_wider _ n m halts.few more; idle = halts.idle; text = halts.text; unowed = halts.unowed; stopped = halts.stopped }
+    record { at = halts.at; reached = halts.reached; few = parts_wider _ n m halts.few more; idle = halts.idle; text = halts.text; drained = halts.drained; stopped = halts.stopped }
 
 -- what more parts may be is no more than so many
 pub wider : {S R : Type 0} (g : Ghosts S R) (n m : ℕ) (old new : EngineView S R) (answer : Result (Option (List ℕ)) Told) → n ≤ m

@@ -37,15 +37,15 @@ use Rattle.rdlpp_conditions.specs.Conditions.{ConditionsView}
 use Rattle.rdlpp_state.specs.Calls.{SourcesCalled}
 use Rattle.rdlpp_state.specs.Engine.{EngineView, IsSoundEngine, is_open}
 use Rattle.rdlpp_state.specs.Failures.{MayGoOn}
-use Rattle.rdlpp_state.proofs.Stores.{KeepsParts, KeepsStores, keeps_owed, keeps_sources, keeps_stopped, own_failed, own_stops, parts_mode, parts_on, parts_slid, parts_used, read_stops}
+use Rattle.rdlpp_state.proofs.Stores.{KeepsParts, KeepsStores, keeps_pending, keeps_sources, keeps_stopped, own_failed, own_stops, parts_mode, parts_on, parts_slid, parts_used, read_stops}
 use Rattle.rdlpp_state.specs.Held.{IsBounded}
-use Rattle.rdlpp_state.specs.Standing.{AtOwed, AtSource, InSources, Nowhere, StandsIn}
+use Rattle.rdlpp_state.specs.Standing.{AtPending, AtSource, InSources, Nowhere, StandsIn}
 use Rattle.rdlpp_state.specs.Stored.{AreParts}
 use Rattle.rdlpp_read.proofs.BufferTokens.{slides-same, slides-told}
-use Rattle.rdlpp_state.specs.Moves.{Defines, IsReady, IsUnowed, ReadsDefine, RefusesDefine, define_rest}
-use Rattle.rdlpp_state.specs.Marks.{MarksView, lends_line, lends_owed}
-use Rattle.rdlpp_state.specs.Owed.{OriginView, OwedView, TakesPiece, digits_of, line_ends_owed, nothing_owed, origin_bytes, origin_pieces, owed_bytes, owed_pieces, part_bytes}
-use Rattle.rdlpp_state.specs.declared.owed.OwedPiece.{OwedPiece}
+use Rattle.rdlpp_state.specs.Moves.{Defines, IsReady, IsDrained, ReadsDefine, RefusesDefine, define_rest}
+use Rattle.rdlpp_state.specs.Marks.{MarksView, lends_line, lends_pending}
+use Rattle.rdlpp_state.specs.Pending.{OriginView, PendingView, TakesPiece, digits_of, line_ends_pending, nothing_pending, origin_bytes, origin_pieces, pending_bytes, pending_pieces, part_bytes}
+use Rattle.rdlpp_state.specs.declared.pending.PendingPiece.{PendingPiece}
 use Rattle.rdlpp_state.specs.Pieces.{IsPlaced, lent_answer, step_answer}
 use Rattle.rdlpp_state.specs.Positions.{Unmarked, position_of}
 use Rattle.rdlpp_state.specs.Remaining.{file_state, inner_name, nest_left, nest_state, run_rules, source_rules, state_of, text_of, work_left}
@@ -53,14 +53,14 @@ use Rattle.rdlpp_state.specs.Steps.{IsOwn, IsReading, Walks, is_memory_kind, is_
 use Rattle.rdlpp_state.specs.declared.phase.Phase.{Phase}
 use Rattle.rdlpp_state.specs.declared.phase.Phase.TheVariants.{Open}
 use Rattle.rdlpp_state.specs.declared.place.Place.{Place}
-use Rattle.rdlpp_state.specs.declared.place.Place.TheVariants.{Source, Text, Owed, End, Kept}
+use Rattle.rdlpp_state.specs.declared.place.Place.TheVariants.{Source, Text, Pending, End, Kept}
 use Rattle.rdlpp_usages.specs.Usages.{texts_left}
 use Rattle.rdlpp_state.proofs.Soundness.{inner_facts, text_idle, with_inner-length}
 use Rattle.rdlpp_front.proofs.TextLeft.{define_begins}
-use Rattle.rdlpp_state.proofs.LentPieces.{owed_position, source_position}
+use Rattle.rdlpp_state.proofs.LentPieces.{pending_position, source_position}
 use Rattle.rdlpp_state.proofs.EngineSteps.{IsSilent, kept_at, not_called, one_part, reaches_one, walks_failed, walks_fault, walks_lent}
 use Rattle.rdlpp_state.proofs.NestLeft.{nest_cut_define, nest_defined, nest_filled, nest_long_define, nest_long_line, nest_long_source, nest_refused, nest_refused_define, nest_text, nest_undefined, nest_unfilled, nest_unheld}
-use Rattle.rdlpp_state.proofs.WorkFacts.{IsUsed, entered_unused, held_room, owed_falls, used_after, work_falls, work_same}
+use Rattle.rdlpp_state.proofs.WorkFacts.{IsUsed, entered_unused, held_room, pending_falls, used_after, work_falls, work_same}
 
 -- another buffer for the innermost source changes no state
 pub same_state : {R : Type 0} (b : BufferView R) (limits : Limits) (macros : List Macro) (v : ConditionsView) (nest : List (File R))
@@ -97,31 +97,31 @@ held_part b len used inside =
     let same : b.at + len - b.at ≡ len = omega arith in
     ap (λ k. take k (drop b.at b.window)) same ∙ part_slice b.window b.at len b.accepted within
 
--- nothing that is owed is before nothing
-pub unowed_behind : (name : List ℕ) (owed : OwedView) (p : Passage) → owed ≡ nothing_owed → behind_bytes (owed_bytes name owed) p ≡ p
-unfolding nothing_owed owed_bytes origin_bytes behind_bytes
-unowed_behind name owed p none = rw none refl
+-- nothing that is pending is before nothing
+pub drained_behind : (name : List ℕ) (pending : PendingView) (p : Passage) → pending ≡ nothing_pending → behind_bytes (pending_bytes name pending) p ≡ p
+unfolding nothing_pending pending_bytes origin_bytes behind_bytes
+drained_behind name pending p none = rw none refl
 
--- what remains of the text where nothing is owed
-pub text_unowed : {S R : Type 0} (g : Ghosts S R) (e : EngineView S R) → e.owed ≡ nothing_owed → e.expansion.opens ≡ []
+-- what remains of the text where nothing is pending
+pub text_drained : {S R : Type 0} (g : Ghosts S R) (e : EngineView S R) → e.pending ≡ nothing_pending → e.expansion.opens ≡ []
     → text_of g e ≡ nest_left e.limits (run_rules g e) g.unread e.table.macros e.conditions e.files.nest
-text_unowed g e none idle =
+text_drained g e none idle =
     text_idle g e idle
-    ∙ unowed_behind (inner_name e.files.nest) e.owed (nest_left e.limits (run_rules g e) g.unread e.table.macros e.conditions e.files.nest) none
+    ∙ drained_behind (inner_name e.files.nest) e.pending (nest_left e.limits (run_rules g e) g.unread e.table.macros e.conditions e.files.nest) none
 
--- nothing that is owed can be counted
-pub unowed_few : (owed : OwedView) → owed ≡ nothing_owed → owed_pieces owed < 2 ^ 31
-unfolding nothing_owed owed_pieces origin_pieces
-unowed_few owed none = rw none (omega arith)
+-- nothing that is pending can be counted
+pub drained_few : (pending : PendingView) → pending ≡ nothing_pending → pending_pieces pending < 2 ^ 31
+unfolding nothing_pending pending_pieces origin_pieces
+drained_few pending none = rw none (omega arith)
 
--- LF bytes alone that are owed
-pub owed_lines : (name : List ℕ) (lines : ℕ) → owed_bytes name (line_ends_owed lines) ≡ replicate lines 10
-unfolding line_ends_owed owed_bytes origin_bytes
-owed_lines name lines = append-nil (replicate lines 10)
+-- LF bytes alone that are pending
+pub pending_lines : (name : List ℕ) (lines : ℕ) → pending_bytes name (line_ends_pending lines) ≡ replicate lines 10
+unfolding line_ends_pending pending_bytes origin_bytes
+pending_lines name lines = append-nil (replicate lines 10)
 
 -- each of them is a piece
-pub lines_few : (lines n : ℕ) → lines < n → owed_pieces (line_ends_owed lines) < n
-unfolding line_ends_owed owed_pieces origin_pieces
+pub lines_few : (lines n : ℕ) → lines < n → pending_pieces (line_ends_pending lines) < n
+unfolding line_ends_pending pending_pieces origin_pieces
 lines_few lines n few = omega arith
 
 -- what is left of the open sources of an engine, with other macros, other conditionals and others open
@@ -129,32 +129,32 @@ abbrev pub left_by : {S R : Type 0} → Ghosts S R → EngineView S R → List M
 left_by g e macros v nest = nest_left e.limits (run_rules g e) g.unread macros v nest
 
 -- the work left falls, and a piece is lent
-pub lends_by : {S R : Type 0} (g : Ghosts S R) (old : EngineView S R) (ready : IsReady old) (bytes : List ℕ) (owed : OwedView) (marks : MarksView) (macros : List Macro) (v : ConditionsView) (nest : List (File R)) (sources : S)
-    → let after = record old { owed = owed; marks = marks; table = record old.table { macros = macros }; conditions = v; files = record old.files { nest = nest }; sources = sources } in
+pub lends_by : {S R : Type 0} (g : Ghosts S R) (old : EngineView S R) (ready : IsReady old) (bytes : List ℕ) (pending : PendingView) (marks : MarksView) (macros : List Macro) (v : ConditionsView) (nest : List (File R)) (sources : S)
+    → let after = record old { pending = pending; marks = marks; table = record old.table { macros = macros }; conditions = v; files = record old.files { nest = nest }; sources = sources } in
     IsBounded after → work_left after < work_left old → SourcesCalled g false false old.sources sources
-    → (g.tells old.sources → left_by g old old.table.macros old.conditions old.files.nest ≡ behind_bytes bytes (behind_bytes (owed_bytes (inner_name nest) owed) (left_by g old macros v nest)))
+    → (g.tells old.sources → left_by g old old.table.macros old.conditions old.files.nest ≡ behind_bytes bytes (behind_bytes (pending_bytes (inner_name nest) pending) (left_by g old macros v nest)))
     → (g.tells old.sources → AreParts g.unread (g.catalog old.sources) Unit old.files.nest → AreParts g.unread (g.catalog old.sources) Unit nest)
     → StandsIn g old after bytes (position_of after) → Walks g old after (Ok (Some bytes))
-lends_by g old ready bytes owed marks macros v nest sources bounded falls call law parts from =
-    let after = record old { owed = owed; marks = marks; table = record old.table { macros = macros }; conditions = v; files = record old.files { nest = nest }; sources = sources } in
+lends_by g old ready bytes pending marks macros v nest sources bounded falls call law parts from =
+    let after = record old { pending = pending; marks = marks; table = record old.table { macros = macros }; conditions = v; files = record old.files { nest = nest }; sources = sources } in
     walks_lent g old after ready.free ready.open_ bounded bytes refl (refl, refl) call
-    (λ t. text_unowed g old ready.owed ready.idle
-    ∙ (law t ∙ (ap (λ (c : Catalog). behind_bytes bytes (behind_bytes (owed_bytes (inner_name nest) owed) (nest_left old.limits (source_rules c old.limits old.origins) g.unread macros v nest))) (sym call.catalog)
+    (λ t. text_drained g old ready.pending ready.idle
+    ∙ (law t ∙ (ap (λ (c : Catalog). behind_bytes bytes (behind_bytes (pending_bytes (inner_name nest) pending) (nest_left old.limits (source_rules c old.limits old.origins) g.unread macros v nest))) (sym call.catalog)
     ∙ ap (behind_bytes bytes) (sym (text_idle g after ready.idle)))))
-    falls (keeps_sources g old owed marks macros v nest sources ready.free ready.idle call.catalog parts) from
+    falls (keeps_sources g old pending marks macros v nest sources ready.free ready.idle call.catalog parts) from
 
 -- bytes of the innermost source are used, and a piece is lent
-pub lends_piece : {S R : Type 0} (g : Ghosts S R) (old : EngineView S R) (ready : IsReady old) (bytes : List ℕ) (owed : OwedView) (marks : MarksView) (macros : List Macro) (v : ConditionsView) (nest : List (File R)) (sources : S)
-    → let after = record old { owed = owed; marks = marks; table = record old.table { macros = macros }; conditions = v; files = record old.files { nest = nest }; sources = sources } in
-    IsBounded after → owed_pieces owed < 2 ^ 31 → IsUsed old.files.nest nest → SourcesCalled g false false old.sources sources
-    → (g.tells old.sources → left_by g old old.table.macros old.conditions old.files.nest ≡ behind_bytes bytes (behind_bytes (owed_bytes (inner_name nest) owed) (left_by g old macros v nest)))
+pub lends_piece : {S R : Type 0} (g : Ghosts S R) (old : EngineView S R) (ready : IsReady old) (bytes : List ℕ) (pending : PendingView) (marks : MarksView) (macros : List Macro) (v : ConditionsView) (nest : List (File R)) (sources : S)
+    → let after = record old { pending = pending; marks = marks; table = record old.table { macros = macros }; conditions = v; files = record old.files { nest = nest }; sources = sources } in
+    IsBounded after → pending_pieces pending < 2 ^ 31 → IsUsed old.files.nest nest → SourcesCalled g false false old.sources sources
+    → (g.tells old.sources → left_by g old old.table.macros old.conditions old.files.nest ≡ behind_bytes bytes (behind_bytes (pending_bytes (inner_name nest) pending) (left_by g old macros v nest)))
     → (g.tells old.sources → KeepsParts g.unread old.files.nest nest)
     → StandsIn g old after bytes (position_of after) → Walks g old after (Ok (Some bytes))
-lends_piece g old ready bytes owed marks macros v nest sources bounded few used call law parts from =
-    let after = record old { owed = owed; marks = marks; table = record old.table { macros = macros }; conditions = v; files = record old.files { nest = nest }; sources = sources } in
-    lends_by g old ready bytes owed marks macros v nest sources bounded (work_falls old after refl used ready.idle ready.idle few) call law (λ t. parts t (g.catalog old.sources)) from
+lends_piece g old ready bytes pending marks macros v nest sources bounded few used call law parts from =
+    let after = record old { pending = pending; marks = marks; table = record old.table { macros = macros }; conditions = v; files = record old.files { nest = nest }; sources = sources } in
+    lends_by g old ready bytes pending marks macros v nest sources bounded (work_falls old after refl used ready.idle ready.idle few) call law (λ t. parts t (g.catalog old.sources)) from
 
--- and nothing is owed
+-- and nothing is pending
 pub lends_source : {S R : Type 0} (g : Ghosts S R) (old new : EngineView S R) (ready : IsReady old) (bytes : List ℕ) (marks : MarksView) (macros : List Macro) (v : ConditionsView) (nest : List (File R))
     → new ≡ record old { marks = marks; table = record old.table { macros = macros }; conditions = v; files = record old.files { nest = nest } }
     → IsBounded new → IsUsed old.files.nest nest
@@ -163,8 +163,8 @@ pub lends_source : {S R : Type 0} (g : Ghosts S R) (old new : EngineView S R) (r
     → (let after = record old { marks = marks; table = record old.table { macros = macros }; conditions = v; files = record old.files { nest = nest } } in StandsIn g old after bytes (position_of after)) → Walks g old new (Ok (Some bytes))
 lends_source {S} {R} g old new ready bytes marks macros v nest becomes bounded used law parts from =
     subst (λ (e : EngineView S R). Walks g old e (Ok (Some bytes))) (sym becomes)
-    (lends_piece g old ready bytes old.owed marks macros v nest old.sources (subst IsBounded becomes bounded) (unowed_few old.owed ready.owed) used (not_called g old.sources)
-    (λ t. law ∙ ap (behind_bytes bytes) (sym (unowed_behind (inner_name nest) old.owed (left_by g old macros v nest) ready.owed))) (λ t. parts) from)
+    (lends_piece g old ready bytes old.pending marks macros v nest old.sources (subst IsBounded becomes bounded) (drained_few old.pending ready.pending) used (not_called g old.sources)
+    (λ t. law ∙ ap (behind_bytes bytes) (sym (drained_behind (inner_name nest) old.pending (left_by g old macros v nest) ready.pending))) (λ t. parts) from)
 
 -- what is refused in front isn't a failed read, a failed write or want of memory
 pub refused_kind : (mode : Mode) (held : List ℕ) (kind : FaultKind) → IsRefused mode held kind → IsOwn kind
@@ -255,18 +255,18 @@ keeps_read {S} {R} g old mid new f ready r becomes catalog stops =
     (keeps_stopped g old f b mid.sources ready.free ready.idle ready.nest catalog r.moves (subst (λ (e : EngineView S R). MayGoOn e → ⊥) is stops))
 
 -- the text is the same where what remains of the open sources is
-pub read_text : {S R : Type 0} (g : Ghosts S R) (old mid : EngineView S R) → old.owed ≡ nothing_owed → old.expansion.opens ≡ [] → IsRead g old mid → g.catalog mid.sources ≡ g.catalog old.sources
+pub read_text : {S R : Type 0} (g : Ghosts S R) (old mid : EngineView S R) → old.pending ≡ nothing_pending → old.expansion.opens ≡ [] → IsRead g old mid → g.catalog mid.sources ≡ g.catalog old.sources
     → left_by g old old.table.macros old.conditions old.files.nest ≡ left_by g old old.table.macros old.conditions (with_buffer (inner_buffer mid.files.nest) old.files.nest)
     → text_of g old ≡ text_of g mid
-read_text {S} {R} g old mid unowed idle r catalog law =
+read_text {S} {R} g old mid drained idle r catalog law =
     let limits : mid.limits ≡ old.limits = ap (λ e. e.limits) r.becomes in
     let origins : mid.origins ≡ old.origins = ap (λ e. e.origins) r.becomes in
     let table : mid.table ≡ old.table = ap (λ e. e.table) r.becomes in
-    let owed : mid.owed ≡ old.owed = ap (λ e. e.owed) r.becomes in
+    let pending : mid.pending ≡ old.pending = ap (λ e. e.pending) r.becomes in
     let conditions : mid.conditions ≡ old.conditions = ap (λ e. e.conditions) r.becomes in
     let nest : mid.files.nest ≡ with_buffer (inner_buffer mid.files.nest) old.files.nest = ap (λ f. f.nest) r.only in
-    text_unowed g old unowed idle ∙ (law ∙ (ap (λ (ns : List (File R)). left_by g old old.table.macros old.conditions ns) (sym nest)
-    ∙ (rw (limits, origins, table, conditions, catalog) refl ∙ sym (text_unowed g mid (owed ∙ unowed) (ap (λ e. e.expansion.opens) r.becomes ∙ idle)))))
+    text_drained g old drained idle ∙ (law ∙ (ap (λ (ns : List (File R)). left_by g old old.table.macros old.conditions ns) (sym nest)
+    ∙ (rw (limits, origins, table, conditions, catalog) refl ∙ sym (text_drained g mid (pending ∙ drained) (ap (λ e. e.expansion.opens) r.becomes ∙ idle)))))
 
 -- the fault that is kept is no part of the text
 pub kept_text : {S R : Type 0} (g : Ghosts S R) (mid new : EngineView S R) (f : Told) → new ≡ record mid { kept = Some f } → text_of g new ≡ text_of g mid
@@ -291,8 +291,8 @@ refuses_by {S} {R} g old mid new place tell own ready r bounded is becomes call 
     let sources : new.sources ≡ mid.sources = ap (λ e. e.sources) becomes in
     let P : S → Type 0 = λ s. SourcesCalled g false false old.sources s in
     kept_at g old new place f is (ap (λ e. e.kept) becomes)
-    (walks_fault g old new ready.free ready.open_ bounded f (own (state_of mid)) (keeps_fault old mid new f r becomes) (keeps_files old mid new f r becomes) (keeps_moves old mid new f r becomes) ready.owed (subst P (sym sources) call)
-    (λ t. text_unowed g old ready.owed ready.idle ∙ (law t ∙ (ap (λ (s : State). leaves (fails (tell s)) s) (sym same) ∙ ap (leaves (fails f)) (sym here))))
+    (walks_fault g old new ready.free ready.open_ bounded f (own (state_of mid)) (keeps_fault old mid new f r becomes) (keeps_files old mid new f r becomes) (keeps_moves old mid new f r becomes) ready.pending (subst P (sym sources) call)
+    (λ t. text_drained g old ready.pending ready.idle ∙ (law t ∙ (ap (λ (s : State). leaves (fails (tell s)) s) (sym same) ∙ ap (leaves (fails f)) (sym here))))
     (keeps_read g old mid new f ready r becomes call.catalog (own_stops new f (ap (λ e. e.kept) becomes) (own_failed f.kind (own (state_of mid))))))
 
 -- a fault at a line of the source is kept
@@ -317,8 +317,8 @@ fails_reading {S} {R} g old mid new place ready r reading bounded is becomes cal
     let here : IsReading (inner_buffer new.files.nest) = subst (λ (fs : FilesView R). IsReading (inner_buffer fs.nest)) (sym (ap (λ e. e.files) becomes)) reading in
     kept_at g old new place (told mid) is (ap (λ e. e.kept) becomes)
     (walks_failed g old new ready.free ready.open_ bounded (told mid)
-    here (sym (ap told becomes)) (keeps_fault old mid new (told mid) r becomes) (keeps_files old mid new (told mid) r becomes) (keeps_moves old mid new (told mid) r becomes) ready.owed (subst P (sym sources) call)
-    (λ t. read_text g old mid ready.owed ready.idle r call.catalog (law t) ∙ sym (kept_text g mid new (told mid) becomes))
+    here (sym (ap told becomes)) (keeps_fault old mid new (told mid) r becomes) (keeps_files old mid new (told mid) r becomes) (keeps_moves old mid new (told mid) r becomes) ready.pending (subst P (sym sources) call)
+    (λ t. read_text g old mid ready.pending ready.idle r call.catalog (law t) ∙ sym (kept_text g mid new (told mid) becomes))
     (keeps_read g old mid new (told mid) ready r becomes call.catalog (read_stops new (told mid) (ap (λ e. e.kept) becomes) open_ here)))
 
 -- a `define` begins what is held, of which more came
@@ -362,7 +362,7 @@ take_text {S} {R} g old mid new len lines from to next ready live bounded some t
     (used_after old.files.nest (entered_mode b next) len lines ready.nest (entered_unused b next) within.0 (rw (held_entered b next) within.1))
     (nest_text old.limits (run_rules g old) g.unread old.table.macros old.conditions live old.files.nest len lines next some inner.ends text counted)
     (parts_on g.unread old.files.nest (with_buffer (entered_mode b next) old.files.nest) nest (parts_mode g.unread next old.files.nest) (parts_used g.unread len lines (with_buffer (entered_mode b next) old.files.nest)))
-    (AtSource len lines next ready.owed ready.idle refl (source_position old len lines next ready.free ready.open_) refl))
+    (AtSource len lines next ready.pending ready.idle refl (source_position old len lines next ready.free ready.open_) refl))
 
 -- a `define` whose logical line is held, and what it comes to
 module _ {S R : Type 0} (g : Ghosts S R) (old mid new : EngineView S R) (len : ℕ) (ready : IsReady old) (live : old.conditions.skipped ≡ None) (r : IsRead g old mid) (bounded : IsBounded new)
@@ -384,21 +384,21 @@ module _ {S R : Type 0} (g : Ghosts S R) (old mid new : EngineView S R) (len : �
       let size = length-take len (held_of b) in
       let counted = d.counted in
       let makes : List (File R) → EngineView S R = λ ns.
-      record old { owed = line_ends_owed d.lines; table = record old.table { macros = d.macros }; files = record old.files { nest = ns }; sources = mid.sources } in
+      record old { pending = line_ends_pending d.lines; table = record old.table { macros = d.macros }; files = record old.files { nest = ns }; sources = mid.sources } in
       let becomes : new ≡ makes after =
-      d.becomes ∙ (ap (λ (m : EngineView S R). record m { table = record m.table { macros = d.macros }; files = record m.files { nest = with_inner (consumed_file len d.lines) mid.files.nest }; owed = line_ends_owed d.lines }) r.becomes
-      ∙ (ap (λ (fs : FilesView R). record old { owed = line_ends_owed d.lines; table = record old.table { macros = d.macros }; files = record fs { nest = with_inner (consumed_file len d.lines) mid.files.nest }; sources = mid.sources }) r.only
+      d.becomes ∙ (ap (λ (m : EngineView S R). record m { table = record m.table { macros = d.macros }; files = record m.files { nest = with_inner (consumed_file len d.lines) mid.files.nest }; pending = line_ends_pending d.lines }) r.becomes
+      ∙ (ap (λ (fs : FilesView R). record old { pending = line_ends_pending d.lines; table = record old.table { macros = d.macros }; files = record fs { nest = with_inner (consumed_file len d.lines) mid.files.nest }; sources = mid.sources }) r.only
       ∙ ap (λ (ns : List (File R)). makes (with_inner (consumed_file len d.lines) ns)) nest)) in
       let accepted : define_of old.limits.definition_bytes old.limits.definitions old.table.macros (drop 7 w) ≡ table_define.Accepted d.macros =
       rw (← ready.sound.definition_bytes, ← ready.sound.definitions) (rw table at d.accepted) in
-      let owed : line_ends_of w ≡ owed_bytes (inner_name after) (line_ends_owed d.lines) =
-      line_ends_of-owed w ∙ (ap (λ n. replicate n 10) (sym counted) ∙ sym (owed_lines (inner_name after) d.lines)) in
+      let pending : line_ends_of w ≡ pending_bytes (inner_name after) (line_ends_pending d.lines) =
+      line_ends_of-owed w ∙ (ap (λ n. replicate n 10) (sym counted) ∙ sym (pending_lines (inner_name after) d.lines)) in
       subst (λ (e : EngineView S R). Walks g old e (Ok (Some []))) (sym becomes)
-      (lends_piece g old ready [] (line_ends_owed d.lines) old.marks d.macros old.conditions after mid.sources (subst IsBounded becomes bounded) (lines_few d.lines _ (omega arith))
+      (lends_piece g old ready [] (line_ends_pending d.lines) old.marks d.macros old.conditions after mid.sources (subst IsBounded becomes bounded) (lines_few d.lines _ (omega arith))
       (used_after old.files.nest b len d.lines ready.nest holds.extends.unused (omega arith) inside) call
       (λ t. nest_defined old.limits (run_rules g old) g.unread old.table.macros old.conditions live (g.tells old.sources) t old.files.nest b len d.lines d.macros
       some inner.ends plain define holds (ap with_fault accepted) counted
-      ∙ ap (λ (x : List ℕ). behind_bytes x (left_by g old d.macros old.conditions after)) owed)
+      ∙ ap (λ (x : List ℕ). behind_bytes x (left_by g old d.macros old.conditions after)) pending)
       (λ t. parts_on g.unread old.files.nest (with_buffer b old.files.nest) after (parts_slid (g.tells old.sources) Unit g.unread b old.files.nest ready.nest (slides-told (g.tells old.sources) (g.tells old.sources) Unit (IsExactLine (line.Whole len)) g.unread (inner_buffer old.files.nest) b (λ x. x) (λ _ e. cc) holds.slides) t)
       (parts_used g.unread len d.lines (with_buffer b old.files.nest))) (Nowhere refl (InSources ready.idle refl (Unmarked refl))))
 
@@ -422,7 +422,7 @@ module _ {S R : Type 0} (g : Ghosts S R) (old mid new : EngineView S R) (len : �
   defined_steps (Some Kept) wide inside few reads = refused_steps Kept refl reads
   defined_steps (Some (Source start end)) wide inside few reads = absurd reads
   defined_steps (Some (Text p)) wide inside few reads = absurd reads
-  defined_steps (Some (Owed n)) wide inside few reads = absurd reads
+  defined_steps (Some (Pending n)) wide inside few reads = absurd reads
   defined_steps (Some End) wide inside few reads = absurd reads
 
 -- a `define` leaves no place, or the fault that is kept
@@ -431,7 +431,7 @@ defined_placed len old new None reads = tt
 defined_placed len old new (Some Kept) reads = tt
 defined_placed len old new (Some (Source start end)) reads = absurd reads
 defined_placed len old new (Some (Text p)) reads = absurd reads
-defined_placed len old new (Some (Owed n)) reads = absurd reads
+defined_placed len old new (Some (Pending n)) reads = absurd reads
 defined_placed len old new (Some End) reads = absurd reads
 
 -- bytes in front of bytes
@@ -439,26 +439,26 @@ pub behind_twice : (x y : List ℕ) (p : Passage) → behind_bytes (x ++ y) p �
 unfolding behind_bytes
 behind_twice x y p = ap (λ (xs : List ℕ). record { bytes = xs; fault = p.fault; after = p.after }) (append_assoc x y p.bytes)
 
--- what is owed is lent
-pub take_owed : {S R : Type 0} (g : Ghosts S R) (old new : EngineView S R) (piece : OwedPiece) (owed : OwedView) → old.kept ≡ None → old.phase ≡ Open → IsBounded new
-    → TakesPiece (inner_name old.files.nest) old.owed owed piece → new ≡ record old { owed = owed; marks = lends_owed old.owed (inner_buffer old.files.nest).line old.marks } → Walks g old new (lent_answer new (Owed piece))
+-- what is pending is lent
+pub take_pending : {S R : Type 0} (g : Ghosts S R) (old new : EngineView S R) (piece : PendingPiece) (pending : PendingView) → old.kept ≡ None → old.phase ≡ Open → IsBounded new
+    → TakesPiece (inner_name old.files.nest) old.pending pending piece → new ≡ record old { pending = pending; marks = lends_pending old.pending (inner_buffer old.files.nest).line old.marks } → Walks g old new (lent_answer new (Pending piece))
 unfolding text_of state_of
-take_owed {S} {R} g old new piece owed free open_ bounded takes becomes =
-    let marks = lends_owed old.owed (inner_buffer old.files.nest).line old.marks in
-    let after = record old { owed = owed; marks = marks } in
+take_pending {S} {R} g old new piece pending free open_ bounded takes becomes =
+    let marks = lends_pending old.pending (inner_buffer old.files.nest).line old.marks in
+    let after = record old { pending = pending; marks = marks } in
     let name = inner_name old.files.nest in
-    let bytes = take piece.len (part_bytes piece.part name (digits_of owed.origin)) in
+    let bytes = take piece.len (part_bytes piece.part name (digits_of pending.origin)) in
     let rest = goes_on (texts_left (run_rules g old) (state_of old) old.table.macros old.expansion) (λ after. left_by g old old.table.macros old.conditions old.files.nest) in
-    subst (λ (e : EngineView S R). Walks g old e (lent_answer e (Owed piece))) (sym becomes)
+    subst (λ (e : EngineView S R). Walks g old e (lent_answer e (Pending piece))) (sym becomes)
     (walks_lent g old after free open_ (subst IsBounded becomes bounded) bytes refl (refl, refl) (not_called g old.sources)
-    (λ t. ap (λ (x : List ℕ). behind_bytes x rest) takes.bytes ∙ behind_twice bytes (owed_bytes name owed) rest)
-    (owed_falls old after refl refl refl takes.fewer) (keeps_owed g old owed marks) (AtOwed piece owed takes refl (owed_position old owed piece takes free open_) refl))
+    (λ t. ap (λ (x : List ℕ). behind_bytes x rest) takes.bytes ∙ behind_twice bytes (pending_bytes name pending) rest)
+    (pending_falls old after refl refl refl takes.fewer) (keeps_pending g old pending marks) (AtPending piece pending takes refl (pending_position old pending piece takes free open_) refl))
 
 -- and it is a place
-pub owed_is_placed : {S R : Type 0} (old new : EngineView S R) (piece : OwedPiece) (owed : OwedView) → 0 < length old.files.nest
-    → (marks : MarksView) → TakesPiece (inner_name old.files.nest) old.owed owed piece → new ≡ record old { owed = owed; marks = marks } → IsPlaced new (Owed piece)
-owed_is_placed {S} {R} old new piece owed some marks takes becomes =
-    subst (λ (e : EngineView S R). IsPlaced e (Owed piece)) (sym becomes) (some, takes.inside)
+pub pending_is_placed : {S R : Type 0} (old new : EngineView S R) (piece : PendingPiece) (pending : PendingView) → 0 < length old.files.nest
+    → (marks : MarksView) → TakesPiece (inner_name old.files.nest) old.pending pending piece → new ≡ record old { pending = pending; marks = marks } → IsPlaced new (Pending piece)
+pending_is_placed {S} {R} old new piece pending some marks takes becomes =
+    subst (λ (e : EngineView S R). IsPlaced e (Pending piece)) (sym becomes) (some, takes.inside)
 
 -- what is held stays so
 filled_stores : {S R : Type 0} (g : Ghosts S R) (old mid : EngineView S R) → IsReady old → IsRead g old mid
@@ -469,7 +469,7 @@ filled_stores {S} {R} g old mid ready r fills call =
     let is : mid ≡ record old { files = record old.files { nest = nest }; sources = mid.sources } =
     r.becomes ∙ ap (λ (fs : FilesView R). record old { files = fs; sources = mid.sources }) r.only in
     subst (λ (e : EngineView S R). KeepsStores g old e) (sym is)
-    (keeps_sources g old old.owed old.marks old.table.macros old.conditions nest mid.sources ready.free ready.idle call.catalog
+    (keeps_sources g old old.pending old.marks old.table.macros old.conditions nest mid.sources ready.free ready.idle call.catalog
     (λ t. parts_slid (g.tells old.sources) Unit g.unread b old.files.nest ready.nest (slides-told (g.tells old.sources) (g.tells old.sources) Unit (IsExact fill.Held) g.unread (inner_buffer old.files.nest) b (λ x. x) (λ _ e. cc) fills.slides) t (g.catalog old.sources)))
 
 -- bytes are held that weren't, and nothing else changed
@@ -481,7 +481,7 @@ silent_fill {S} {R} g old mid ready r fills call =
     let origins : mid.origins ≡ old.origins = ap (λ e. e.origins) r.becomes in
     let table : mid.table ≡ old.table = ap (λ e. e.table) r.becomes in
     let conditions : mid.conditions ≡ old.conditions = ap (λ e. e.conditions) r.becomes in
-    let owed : mid.owed ≡ old.owed = ap (λ e. e.owed) r.becomes in
+    let pending : mid.pending ≡ old.pending = ap (λ e. e.pending) r.becomes in
     let nest : mid.files.nest ≡ with_buffer b old.files.nest = ap (λ f. f.nest) r.only in
     record {
       limits = limits;
@@ -495,9 +495,9 @@ silent_fill {S} {R} g old mid ready r fills call =
       open_ = ready.open_;
       stays = ap (λ e. e.phase) r.becomes ∙ ready.open_;
       call = call;
-      text = λ t. read_text g old mid ready.owed ready.idle r call.catalog
+      text = λ t. read_text g old mid ready.pending ready.idle r call.catalog
           (nest_filled old.limits (run_rules g old) g.unread old.table.macros old.conditions (g.tells old.sources) t old.files.nest b fills);
-      work = (let same : work_left mid ≡ work_left old = work_same old mid b limits owed (ap (λ e. e.expansion) r.becomes) nest fills.unused in omega arith);
+      work = (let same : work_left mid ≡ work_left old = work_same old mid b limits pending (ap (λ e. e.expansion) r.becomes) nest fills.unused in omega arith);
       keeps = filled_stores g old mid ready r fills call;
       reaches = reaches_one g old mid (record { after = mid; place = None; stands = Nowhere refl (InSources ready.idle (ap (λ e. e.expansion) r.becomes) (Unmarked (ap (λ e. e.marks) r.becomes))); becomes = refl });
       few = one_part _ refl;
@@ -513,7 +513,7 @@ pub ready_filled : {S R : Type 0} {g : Ghosts S R} (old mid : EngineView S R) �
 ready_filled old mid ready r sound files = record {
   open_ = ap (λ e. e.phase) r.becomes ∙ ready.open_;
   free = ap (λ e. e.kept) r.becomes ∙ ready.free;
-  owed = ap (λ e. e.owed) r.becomes ∙ ready.owed;
+  pending = ap (λ e. e.pending) r.becomes ∙ ready.pending;
   idle = ap (λ e. e.expansion.opens) r.becomes ∙ ready.idle;
   nest = sound.open_ (opened_phase mid.phase (ap (λ e. e.phase) r.becomes ∙ ready.open_));
   sound = sound;
@@ -661,42 +661,42 @@ table_same : (old new : TableView) → new.most_bytes ≡ old.most_bytes → new
 table_same old new bytes count = rw (← bytes, ← count) refl
 
 -- an accepted `define`
-pub defines_by : {S R : Type 0} (len : ℕ) (old now new : EngineView S R) (table : TableView) (owed : OwedView) (lines : ℕ)
+pub defines_by : {S R : Type 0} (len : ℕ) (old now new : EngineView S R) (table : TableView) (pending : PendingView) (lines : ℕ)
     → now ≡ record old { table = table; files = record old.files { nest = with_inner (consumed_file len lines) old.files.nest } }
-    → new ≡ record now { owed = owed } → owed ≡ record now.owed { line_ends = now.owed.line_ends + lines } → old.owed ≡ nothing_owed
+    → new ≡ record now { pending = pending } → pending ≡ record now.pending { line_ends = now.pending.line_ends + lines } → old.pending ≡ nothing_pending
     → (table.most_bytes ≡ old.table.most_bytes) × (table.most_macros ≡ old.table.most_macros)
     → define_of old.table.most_bytes old.table.most_macros old.table.macros (define_rest old len) ≡ table_define.Accepted table.macros
     → lines ≡ line_ends (take len (held_of (inner_buffer old.files.nest))) → Defines len old new
-unfolding nothing_owed line_ends_owed
-defines_by {S} {R} len old now new table owed lines used owes adds nothing limits accepted counted =
+unfolding nothing_pending line_ends_pending
+defines_by {S} {R} len old now new table pending lines used queues adds nothing limits accepted counted =
     let files : FilesView R = record old.files { nest = with_inner (consumed_file len lines) old.files.nest } in
-    let none : now.owed.line_ends ≡ 0 = ap (λ e. e.owed.line_ends) used ∙ ap (λ o. o.line_ends) nothing in
-    let count : now.owed.line_ends + lines ≡ lines = omega arith in
-    let empty : now.owed.origin ≡ None = ap (λ e. e.owed.origin) used ∙ ap (λ o. o.origin) nothing in
-    let owes_of : ℕ → Option OriginView → OwedView = λ n o. record { line_ends = n; origin = o } in
-    let exact : owed ≡ line_ends_owed lines = adds ∙ (ap (λ (n : ℕ). owes_of n now.owed.origin) count ∙ ap (owes_of lines) empty) in
-    let makes : TableView → OwedView → EngineView S R = λ t o. record old { table = t; files = files; owed = o } in
+    let none : now.pending.line_ends ≡ 0 = ap (λ e. e.pending.line_ends) used ∙ ap (λ o. o.line_ends) nothing in
+    let count : now.pending.line_ends + lines ≡ lines = omega arith in
+    let empty : now.pending.origin ≡ None = ap (λ e. e.pending.origin) used ∙ ap (λ o. o.origin) nothing in
+    let queues_of : ℕ → Option OriginView → PendingView = λ n o. record { line_ends = n; origin = o } in
+    let exact : pending ≡ line_ends_pending lines = adds ∙ (ap (λ (n : ℕ). queues_of n now.pending.origin) count ∙ ap (queues_of lines) empty) in
+    let makes : TableView → PendingView → EngineView S R = λ t o. record old { table = t; files = files; pending = o } in
     record {
       macros = table.macros;
       accepted = accepted;
       lines = lines;
       counted = counted;
-      becomes = owes ∙ (ap (λ (e : EngineView S R). record e { owed = owed }) used
-          ∙ (ap (makes table) exact ∙ ap (λ (t : TableView). makes t (line_ends_owed lines)) (table_same old.table table limits.0 limits.1)));
+      becomes = queues ∙ (ap (λ (e : EngineView S R). record e { pending = pending }) used
+          ∙ (ap (makes table) exact ∙ ap (λ (t : TableView). makes t (line_ends_pending lines)) (table_same old.table table limits.0 limits.1)));
     }
 
 -- it goes on in its open sources where no text of a usage is open
-pub ready_idle : {S R : Type 0} (e : EngineView S R) → IsUnowed e → e.expansion.opens ≡ [] → IsSoundEngine e.limits e.phase e.table e.files e.conditions → AreOpen e.files → IsReady e
-ready_idle e unowed idle sound files = record {
-  open_ = unowed.open_;
-  free = unowed.free;
-  owed = unowed.owed;
+pub ready_idle : {S R : Type 0} (e : EngineView S R) → IsDrained e → e.expansion.opens ≡ [] → IsSoundEngine e.limits e.phase e.table e.files e.conditions → AreOpen e.files → IsReady e
+ready_idle e drained idle sound files = record {
+  open_ = drained.open_;
+  free = drained.free;
+  pending = drained.pending;
   idle = idle;
-  nest = sound.open_ (opened_phase e.phase unowed.open_);
+  nest = sound.open_ (opened_phase e.phase drained.open_);
   sound = sound;
   files = files;
 }
 
--- the same engine, with something else owed
-pub owing : {S R : Type 0} (a b : EngineView S R) (owed : OwedView) → a ≡ b → record a { owed = owed } ≡ record b { owed = owed }
-owing {S} {R} a b owed same = ap (λ (e : EngineView S R). record e { owed = owed }) same
+-- the same engine, with something else pending
+pub owing : {S R : Type 0} (a b : EngineView S R) (pending : PendingView) → a ≡ b → record a { pending = pending } ≡ record b { pending = pending }
+owing {S} {R} a b pending same = ap (λ (e : EngineView S R). record e { pending = pending }) same

@@ -43,11 +43,11 @@ use Rattle.rdlpp_state.specs.Calls.{SourcesCalled}
 use Rattle.rdlpp_state.specs.Conditionals.{unclosed_fault}
 use Rattle.rdlpp_state.specs.Engine.{AreIncluded, EngineView}
 use Rattle.rdlpp_state.specs.Held.{IsBounded}
-use Rattle.rdlpp_state.specs.Includes.{BadName, Denies, Full, IsSearch, Refuses, Searches, included_engine, inner_path, is_bad_name, kind_of_source, left_engine, marks_behind, owed_behind}
+use Rattle.rdlpp_state.specs.Includes.{BadName, Denies, Full, IsSearch, Refuses, Searches, included_engine, inner_path, is_bad_name, kind_of_source, left_engine, marks_behind, pending_behind}
 use Rattle.rdlpp_state.specs.Marks.{MarksView, ends_line}
 use Rattle.rdlpp_state.specs.Moves.{Closes, Ends, IsReady, Returns, StopsOpen, StopsUnclosed}
 use Rattle.rdlpp_state.specs.OpenConditionals.{inner_below, outer_open}
-use Rattle.rdlpp_state.specs.Owed.{OwedView, nothing_owed, origin_owed, origin_pieces, owed_bytes, owed_pieces}
+use Rattle.rdlpp_state.specs.Pending.{PendingView, nothing_pending, origin_pending, origin_pieces, pending_bytes, pending_pieces}
 use Rattle.rdlpp_state.specs.Pieces.{IsPlaced, lent_answer, step_answer}
 use Rattle.rdlpp_state.specs.Positions.{BehindSource, Unmarked}
 use Rattle.rdlpp_state.specs.Remaining.{ending_behind, file_state, find_of, inner_name, lookup_of, nest_left, nest_state, run_rules, source_rules, state_of, waiting_around}
@@ -55,12 +55,12 @@ use Rattle.rdlpp_state.specs.Standing.{InSources, Nowhere}
 use Rattle.rdlpp_state.specs.Steps.{IsOwn, OnSearch, Walks, is_call_failed, is_memory_kind, is_read_failed, is_write_failed}
 use Rattle.rdlpp_state.specs.declared.phase.Phase.TheVariants.{Closed}
 use Rattle.rdlpp_state.specs.declared.place.Place.{Place}
-use Rattle.rdlpp_state.specs.declared.place.Place.TheVariants.{End, Kept, Owed, Source as SourcePlace, Text}
+use Rattle.rdlpp_state.specs.declared.place.Place.TheVariants.{End, Kept, Pending, Source as SourcePlace, Text}
 use Rattle.rdlpp_state.proofs.NestLeft.{around, at_live, conditions_live, inner_below-same, live_place, nest_ended, nest_open, none_held, torn_consumed, waiting_same}
 use Rattle.rdlpp_state.proofs.EngineSteps.{kept_at, not_called, walks_end, walks_stopped}
-use Rattle.rdlpp_state.proofs.FrontSteps.{Fails, IsRead, keeps_fault, keeps_files, keeps_moves, kept_text, left_by, lends_by, read_nothing, read_text, refuses, refuses_by, text_unowed}
+use Rattle.rdlpp_state.proofs.FrontSteps.{Fails, IsRead, keeps_fault, keeps_files, keeps_moves, kept_text, left_by, lends_by, read_nothing, read_text, refuses, refuses_by, text_drained}
 use Rattle.rdlpp_state.proofs.Stores.{KeepsStores, keeps_searched, own_kind, parts_around, parts_entered}
-use Rattle.rdlpp_state.proofs.LentPieces.{owed_few, owed_origin, owed_torn}
+use Rattle.rdlpp_state.proofs.LentPieces.{pending_few, pending_origin, pending_torn}
 use Rattle.rdlpp_state.proofs.SkippedNests.{unclosed_at}
 use Rattle.rdlpp_state.proofs.Soundness.{inner_facts, with_inner-length}
 use Rattle.rdlpp_state.proofs.WorkFacts.{entered_falls, left_falls, used_bytes}
@@ -386,8 +386,8 @@ module _ {S R : Type 0} (g : Ghosts S R) (old mid new : EngineView S R) (start s
       let nest : old.files.nest ≡ with_buffer (inner_buffer mid.files.nest) old.files.nest = sym (ap (λ (fs : FilesView R). fs.nest) same_files) ∙ ap (λ (fs : FilesView R). fs.nest) r.only in
       kept_at g old new place (told mid) is (ap (λ e. e.kept) kept)
       (walks_stopped g old new ready.free ready.open_ bounded (told mid) (OnSearch search kind met (sym (ap told kept))) met write
-      (keeps_fault old mid new (told mid) r kept) (keeps_files old mid new (told mid) r kept) (keeps_moves old mid new (told mid) r kept) ready.owed (subst P (sym sources) call)
-      (λ t. read_text g old mid ready.owed ready.idle r call.catalog (ap (λ (ns : List (File R)). left_by g old old.table.macros old.conditions ns) nest) ∙ sym (kept_text g mid new (told mid) kept))
+      (keeps_fault old mid new (told mid) r kept) (keeps_files old mid new (told mid) r kept) (keeps_moves old mid new (told mid) r kept) ready.pending (subst P (sym sources) call)
+      (λ t. read_text g old mid ready.pending ready.idle r call.catalog (ap (λ (ns : List (File R)). left_by g old old.table.macros old.conditions ns) nest) ∙ sym (kept_text g mid new (told mid) kept))
       (subst (λ (e : EngineView S R). KeepsStores g old e) (sym (kept ∙ ap (λ (m : EngineView S R). record m { kept = Some (told mid) }) becomes))
       (keeps_searched g old (told mid) mid.sources ready.free ready.idle call.catalog)))
 
@@ -433,21 +433,21 @@ module _ {S R : Type 0} (g : Ghosts S R) (old mid new : EngineView S R) (start s
       let line = (inner_buffer old.files.nest).line in
       let used = with_inner (consumed_file stop 0) old.files.nest in
       let file = entered_file found old.limits.source_bytes old.files.line_bytes (length old.conditions.open_now) line in
-      let owed : OwedView = record { line_ends = 0; origin = origin_owed old.origins 1 } in
-      let after : EngineView S R = record old { owed = owed; files = record old.files { nest = file ∷ used }; sources = mid.sources } in
+      let pending : PendingView = record { line_ends = 0; origin = origin_pending old.origins 1 } in
+      let after : EngineView S R = record old { pending = pending; files = record old.files { nest = file ∷ used }; sources = mid.sources } in
       let is : new ≡ after = enters ∙ ap (included_engine found stop) becomes in
       subst (λ (e : EngineView S R). Walks g old e (Ok (Some []))) (sym is)
-      (lends_by g old ready [] owed old.marks old.table.macros old.conditions (file ∷ used) mid.sources (subst IsBounded is bounded)
+      (lends_by g old ready [] pending old.marks old.table.macros old.conditions (file ∷ used) mid.sources (subst IsBounded is bounded)
       (entered_falls old after refl ready.idle ready.idle (record {
         inner = file;
         used = used;
         becomes = refl;
         some = used_bytes old.files.nest stop 0 (omega (arith, within.0)) within.1;
         small = omega arith;
-      }) (omega arith) (owed_few old.origins 0 1 (omega arith))) s.call
+      }) (omega arith) (pending_few old.origins 0 1 (omega arith))) s.call
       (λ t. opened_inside old.limits (run_rules g old) g.unread old.table.macros old.conditions live old.files.nest found start stop old.files.line_bytes some inner.ends plain has s.name_good (omega arith)
       (ap lookup_of (s.answers t)) refl ready.sound.line_bytes
-      ∙ ap (λ (x : List ℕ). behind_bytes x (left_by g old old.table.macros old.conditions (file ∷ used))) (sym (owed_origin (g.catalog old.sources) old.limits old.origins found.path.bytes 1)))
+      ∙ ap (λ (x : List ℕ). behind_bytes x (left_by g old old.table.macros old.conditions (file ∷ used))) (sym (pending_origin (g.catalog old.sources) old.limits old.origins found.path.bytes 1)))
       (λ t. parts_entered g.unread (g.catalog old.sources) found stop old.limits.source_bytes old.files.line_bytes (length old.conditions.open_now) line name_of old.files.nest ready.nest (s.answers t)) (Nowhere refl (InSources ready.idle refl (Unmarked refl))))
 
 -- a search that was made
@@ -463,13 +463,13 @@ searches_by {S} {R} g e from given name new answer same path good room answers f
 }
 
 -- a source that was opened behind an `include` that was used
-pub included_by : {S R : Type 0} (found : Found R) (stop : ℕ) (old used new : EngineView S R) (owed : OwedView) (files : FilesView R) (below line : ℕ)
+pub included_by : {S R : Type 0} (found : Found R) (stop : ℕ) (old used new : EngineView S R) (pending : PendingView) (files : FilesView R) (below line : ℕ)
     → used ≡ record old { files = record old.files { nest = with_inner (consumed_file stop 0) old.files.nest } }
     → files ≡ record used.files { nest = entered_file found used.limits.source_bytes used.files.line_bytes below line ∷ used.files.nest }
-    → owed ≡ record used.owed { origin = origin_owed used.origins 1 } → new ≡ record used { owed = owed; files = files }
-    → old.owed ≡ nothing_owed → below ≡ length used.conditions.open_now → line ≡ (inner_buffer old.files.nest).line → new ≡ included_engine found stop old
-unfolding included_engine nothing_owed
-included_by found stop old used new owed files below line uses enters owes is nothing around here = rw (is, owes, enters, around, here, uses, nothing) refl
+    → pending ≡ record used.pending { origin = origin_pending used.origins 1 } → new ≡ record used { pending = pending; files = files }
+    → old.pending ≡ nothing_pending → below ≡ length used.conditions.open_now → line ≡ (inner_buffer old.files.nest).line → new ≡ included_engine found stop old
+unfolding included_engine nothing_pending
+included_by found stop old used new pending files below line uses enters queues is nothing around here = rw (is, queues, enters, around, here, uses, nothing) refl
 
 -- what stands between the quotes of a string
 pub name_taken : (string : List ℕ) (end : ℕ) → end ≡ max (length string) 2 → take (end - 1 - 1) (drop 1 string) ≡ unquoted string
@@ -521,13 +521,13 @@ nest_back limits rules unread macros v live tells t (f ∷ around ∷ outer) new
     ∙ ap (λ (x : List ℕ). behind_bytes ((if torn_after f.torn x then 10 ∷ [] else []) ++ origin_line rules around.name.bytes (shown_line (shift_of around.shift) f.include_line))
     (nest_left limits rules unread macros v (around ∷ outer))) (ended-text tells unread f.buffer new fills t)
 
--- what is owed is that
-owed_ending : {R : Type 0} (c : Catalog) (limits : Limits) (origins : Bool) (nest : List (File R)) → 1 < length nest
-    → owed_bytes (inner_name (drop 1 nest)) (owed_behind origins nest) ≡ ending_of (source_rules c limits origins) nest
-unfolding owed_behind ending_of
-owed_ending c limits origins [] inner = absurd (omega arith)
-owed_ending c limits origins (f ∷ []) inner = absurd (omega arith)
-owed_ending c limits origins (f ∷ around ∷ outer) inner = owed_torn c limits origins around.name.bytes f.torn (shown_line (shift_of around.shift) f.include_line)
+-- what is pending is that
+pending_ending : {R : Type 0} (c : Catalog) (limits : Limits) (origins : Bool) (nest : List (File R)) → 1 < length nest
+    → pending_bytes (inner_name (drop 1 nest)) (pending_behind origins nest) ≡ ending_of (source_rules c limits origins) nest
+unfolding pending_behind ending_of
+pending_ending c limits origins [] inner = absurd (omega arith)
+pending_ending c limits origins (f ∷ []) inner = absurd (omega arith)
+pending_ending c limits origins (f ∷ around ∷ outer) inner = pending_torn c limits origins around.name.bytes f.torn (shown_line (shift_of around.shift) f.include_line)
 
 -- one LF at most
 torn_few : (torn : Bool) → (if torn then 1 else 0) ≤ 1
@@ -535,19 +535,19 @@ torn_few true = omega arith
 torn_few false = omega arith
 
 -- it can be counted
-owed_behind-few : {R : Type 0} (origins : Bool) (nest : List (File R)) → owed_pieces (owed_behind origins nest) < 2 ^ 31
-unfolding owed_behind nothing_owed owed_pieces origin_pieces
-owed_behind-few origins [] = omega arith
-owed_behind-few origins (f ∷ []) = omega arith
-owed_behind-few origins (f ∷ around ∷ outer) =
-    let few = torn_few f.torn in owed_few origins (if f.torn then 1 else 0) (shown_line (shift_of around.shift) f.include_line) (omega arith)
+pending_behind-few : {R : Type 0} (origins : Bool) (nest : List (File R)) → pending_pieces (pending_behind origins nest) < 2 ^ 31
+unfolding pending_behind nothing_pending pending_pieces origin_pieces
+pending_behind-few origins [] = omega arith
+pending_behind-few origins (f ∷ []) = omega arith
+pending_behind-few origins (f ∷ around ∷ outer) =
+    let few = torn_few f.torn in pending_few origins (if f.torn then 1 else 0) (shown_line (shift_of around.shift) f.include_line) (omega arith)
 
--- what is owed and what is left are the same where the innermost source has another buffer
-owed_same : {R : Type 0} (origins : Bool) (b : BufferView R) (nest : List (File R)) → owed_behind origins (with_buffer b nest) ≡ owed_behind origins nest
-unfolding owed_behind
-owed_same origins b [] = refl
-owed_same origins b (f ∷ []) = refl
-owed_same origins b (f ∷ around ∷ outer) = refl
+-- what is pending and what is left are the same where the innermost source has another buffer
+pending_same : {R : Type 0} (origins : Bool) (b : BufferView R) (nest : List (File R)) → pending_behind origins (with_buffer b nest) ≡ pending_behind origins nest
+unfolding pending_behind
+pending_same origins b [] = refl
+pending_same origins b (f ∷ []) = refl
+pending_same origins b (f ∷ around ∷ outer) = refl
 
 marks_same : {R : Type 0} (m : MarksView) (b : BufferView R) (nest : List (File R)) → marks_behind (with_buffer b nest) m ≡ marks_behind nest m
 unfolding marks_behind
@@ -593,10 +593,10 @@ module _ {S R : Type 0} (g : Ghosts S R) (old mid new : EngineView S R) (ready :
       becomes ∙ (ap (λ (m : EngineView S R). record m { phase = Closed; files = files }) r.becomes
       ∙ (ap (λ (fs : FilesView R). closes fs mid.sources) (sym (ap (λ e. e.files) becomes)) ∙ ap (λ (s : S). closes new.files s) (sym sources))) in
       let P : S → Type 0 = λ s. SourcesCalled g false false old.sources s in
-      walks_end g old new ready.free ready.open_ bounded ends ready.owed ready.idle (subst P (sym sources) call)
+      walks_end g old new ready.free ready.open_ bounded ends ready.pending ready.idle (subst P (sym sources) call)
       (λ t. record {
         last = nest_state old.limits old.table.macros old.conditions old.files.nest;
-        text = text_unowed g old ready.owed ready.idle
+        text = text_drained g old ready.pending ready.idle
             ∙ nest_ended old.limits (run_rules g old) g.unread old.table.macros old.conditions (g.tells old.sources) t old.files.nest (inner_buffer mid.files.nest)
             ready.nest one (same_ended c.ended) fills (sym fills.mode ∙ plain);
         macros = nest_macros old.limits old.table.macros old.conditions old.files.nest ∙ ap (λ t. t.macros) (sym table);
@@ -634,28 +634,28 @@ module _ {S R : Type 0} (g : Ghosts S R) (old mid new : EngineView S R) (ready :
       let inner : 1 < length before = (let some = back.inner in let size = same_size in omega arith) in
       let ended = same_ended back.ended in
       let live : old.conditions.skipped ≡ None = conditions_live old.limits old.conditions before ended ready.sound.conditions_of in
-      let owed = owed_behind old.origins before in
+      let pending = pending_behind old.origins before in
       let marks = marks_behind before old.marks in
-      let leaves_as : FilesView R → EngineView S R = λ fs. record old { owed = owed_behind old.origins fs.nest; marks = marks_behind fs.nest old.marks; files = record fs { nest = drop 1 fs.nest }; sources = mid.sources } in
-      let by : OwedView → MarksView → List (File R) → EngineView S R = λ o m ns. record old { owed = o; marks = m; files = record old.files { nest = ns }; sources = mid.sources } in
-      let becomes : new ≡ by owed marks (drop 1 before) =
+      let leaves_as : FilesView R → EngineView S R = λ fs. record old { pending = pending_behind old.origins fs.nest; marks = marks_behind fs.nest old.marks; files = record fs { nest = drop 1 fs.nest }; sources = mid.sources } in
+      let by : PendingView → MarksView → List (File R) → EngineView S R = λ o m ns. record old { pending = o; marks = m; files = record old.files { nest = ns }; sources = mid.sources } in
+      let becomes : new ≡ by pending marks (drop 1 before) =
       back.becomes ∙ (ap left_engine r.becomes ∙ (ap leaves_as r.only
-      ∙ (ap (λ (o : OwedView). by o (marks_behind (with_buffer b before) old.marks) (drop 1 (with_buffer b before))) (owed_same old.origins b before)
-      ∙ (ap (λ (m : MarksView). by owed m (drop 1 (with_buffer b before))) (marks_same old.marks b before) ∙ ap (by owed marks) (drop_same b before))))) in
+      ∙ (ap (λ (o : PendingView). by o (marks_behind (with_buffer b before) old.marks) (drop 1 (with_buffer b before))) (pending_same old.origins b before)
+      ∙ (ap (λ (m : MarksView). by pending m (drop 1 (with_buffer b before))) (marks_same old.marks b before) ∙ ap (by pending marks) (drop_same b before))))) in
       let few = ready.files.few in
       let slots = ready.sound.slots in
       subst (λ (e : EngineView S R). Walks g old e (Ok (Some []))) (sym becomes)
-      (lends_by g old ready [] owed marks old.table.macros old.conditions (drop 1 before) mid.sources (subst IsBounded becomes bounded)
-      (left_falls old (by owed marks (drop 1 before)) refl ready.idle ready.idle refl ready.nest (omega arith) (owed_behind-few old.origins before)) call
+      (lends_by g old ready [] pending marks old.table.macros old.conditions (drop 1 before) mid.sources (subst IsBounded becomes bounded)
+      (left_falls old (by pending marks (drop 1 before)) refl ready.idle ready.idle refl ready.nest (omega arith) (pending_behind-few old.origins before)) call
       (λ t. nest_back old.limits (run_rules g old) g.unread old.table.macros old.conditions live (g.tells old.sources) t before b inner ended fills (sym fills.mode ∙ back.mode)
-      ∙ ap (λ (x : List ℕ). behind_bytes x (left_by g old old.table.macros old.conditions (drop 1 before))) (sym (owed_ending (g.catalog old.sources) old.limits old.origins before inner)))
+      ∙ ap (λ (x : List ℕ). behind_bytes x (left_by g old old.table.macros old.conditions (drop 1 before))) (sym (pending_ending (g.catalog old.sources) old.limits old.origins before inner)))
       (λ t. parts_around g.unread before (g.catalog old.sources)) (Nowhere refl (InSources ready.idle refl (BehindSource refl))))
 
   pub ended_steps : (place : Option Place) → Ends mid new place → Walks g old new (step_answer new place)
   ended_steps None ends = ended_back ends
   ended_steps (Some (SourcePlace start end)) ends = absurd ends
   ended_steps (Some (Text p)) ends = absurd ends
-  ended_steps (Some (Owed n)) ends = absurd ends
+  ended_steps (Some (Pending n)) ends = absurd ends
   ended_steps (Some End) ends = ended_text ends
   ended_steps (Some Kept) (inl ends) = ended_open ends
   ended_steps (Some Kept) (inr ends) = ended_unclosed ends
@@ -665,7 +665,7 @@ pub ended_placed : {S R : Type 0} (mid new : EngineView S R) (place : Option Pla
 ended_placed mid new None ends = tt
 ended_placed mid new (Some (SourcePlace start end)) ends = absurd ends
 ended_placed mid new (Some (Text p)) ends = absurd ends
-ended_placed mid new (Some (Owed n)) ends = absurd ends
+ended_placed mid new (Some (Pending n)) ends = absurd ends
 ended_placed mid new (Some End) ends = tt
 ended_placed mid new (Some Kept) ends = tt
 
@@ -685,11 +685,11 @@ stops_open {S} {R} old new place breach mode line is at_mode tokens own opened b
       kept = becomes ∙ ap keeps opened;
     }))
 
--- what is owed behind the innermost of two sources
+-- what is pending behind the innermost of two sources
 pub behind_two : {R : Type 0} (origins : Bool) (nest rest : List (File R)) (f around : File R) → nest ≡ f ∷ drop 1 nest → drop 1 nest ≡ around ∷ rest
-    → owed_behind origins nest ≡ record { line_ends = if f.torn then 1 else 0; origin = origin_owed origins (shown_line (shift_of around.shift) f.include_line) }
-unfolding owed_behind
-behind_two {R} origins nest rest f around first second = ap (owed_behind origins) (first ∙ ap (λ (ns : List (File R)). f ∷ ns) second)
+    → pending_behind origins nest ≡ record { line_ends = if f.torn then 1 else 0; origin = origin_pending origins (shown_line (shift_of around.shift) f.include_line) }
+unfolding pending_behind
+behind_two {R} origins nest rest f around first second = ap (pending_behind origins) (first ∙ ap (λ (ns : List (File R)). f ∷ ns) second)
 
 -- the numbers of both can be counted
 pub line_few : {R : Type 0} (nest : List (File R)) (f : File R) → nest ≡ f ∷ drop 1 nest → AreIncluded nest → f.include_line < 2 ^ 63
@@ -703,20 +703,20 @@ around_few {R} files rest f around first second slots =
     let both : f ∷ around ∷ rest ≡ files.nest = sym (first ∙ ap (λ (ns : List (File R)). f ∷ ns) second) in
     (All-head P around rest (All-tail P f (around ∷ rest) (All-same P (f ∷ around ∷ rest) files.nest both slots.each))).number
 
--- an LF is owed at most
-pub ends_few : (ends owed : ℕ) (torn : Bool) → ends ≡ (if torn then 1 else 0) → owed ≡ 0 → owed + ends < 2 ^ 64
-ends_few ends owed torn is none = let few = torn_few torn in omega arith
+-- an LF is pending at most
+pub ends_few : (ends pending : ℕ) (torn : Bool) → ends ≡ (if torn then 1 else 0) → pending ≡ 0 → pending + ends < 2 ^ 64
+ends_few ends pending torn is none = let few = torn_few torn in omega arith
 
--- what is owed where an included source was left
-pub owes_behind : {R : Type 0} (origins : Bool) (nest rest : List (File R)) (f around : File R) (old mid new : OwedView) (ends shown : ℕ) → nest ≡ f ∷ drop 1 nest → drop 1 nest ≡ around ∷ rest
-    → old ≡ nothing_owed → ends ≡ (if f.torn then 1 else 0) → shown ≡ shown_line (shift_of around.shift) f.include_line
-    → mid ≡ record old { line_ends = old.line_ends + ends } → new ≡ record mid { origin = origin_owed origins shown } → new ≡ owed_behind origins nest
-unfolding nothing_owed
-owes_behind origins nest rest f around old mid new ends shown first second nothing torn line adds asks =
+-- what is pending where an included source was left
+pub queues_behind : {R : Type 0} (origins : Bool) (nest rest : List (File R)) (f around : File R) (old mid new : PendingView) (ends shown : ℕ) → nest ≡ f ∷ drop 1 nest → drop 1 nest ≡ around ∷ rest
+    → old ≡ nothing_pending → ends ≡ (if f.torn then 1 else 0) → shown ≡ shown_line (shift_of around.shift) f.include_line
+    → mid ≡ record old { line_ends = old.line_ends + ends } → new ≡ record mid { origin = origin_pending origins shown } → new ≡ pending_behind origins nest
+unfolding nothing_pending
+queues_behind origins nest rest f around old mid new ends shown first second nothing torn line adds asks =
     let none : old.line_ends ≡ 0 = ap (λ o. o.line_ends) nothing in
     let count : mid.line_ends ≡ old.line_ends + ends = ap (λ o. o.line_ends) adds in
     let exact : mid.line_ends ≡ (if f.torn then 1 else 0) = omega arith in
-    let makes : ℕ → ℕ → OwedView = λ n m. record { line_ends = n; origin = origin_owed origins m } in
+    let makes : ℕ → ℕ → PendingView = λ n m. record { line_ends = n; origin = origin_pending origins m } in
     asks ∙ (ap (λ (n : ℕ). makes n shown) exact ∙ (ap (makes (if f.torn then 1 else 0)) line ∙ sym (behind_two origins nest rest f around first second)))
 
 -- and its mark

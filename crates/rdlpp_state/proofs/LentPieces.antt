@@ -1,4 +1,4 @@
--- Pieces that are lent: out of what is owed, where they stand, and cut to a limit.
+-- Pieces that are lent: out of what is pending, where they stand, and cut to a limit.
 use Rattle.std.proofs.Common.{◌≡◌, ℕ, ◌+◌, ◌-◌, ◌≤◌, ◌<◌, List, ◌++◌, length, take, replicate, Option, Some, refl, sym, ap, ◌∙◌, append_assoc, arith, ◌^◌, Bool, true, false, [], ◌∷◌, ◌==◌, None, subst, drop, Ok, Err, inl, inr, slice_range, IfNone, IfSome, codes, decimal, if◌then◌else◌, is_some, eqb-true, ne_eqb, length-drop, length-take-le, take-take, take_all}
 use Rattle.std.proofs.lemmas.Bool.{cases_lt}
 use Rattle.std.proofs.lemmas.List.{length-replicate, replicate-append-replicate, take-replicate}
@@ -25,54 +25,54 @@ use Rattle.rdlpp_read.specs.declared.files.File.{File}
 use Rattle.rdlpp_usages.specs.Usages.{ExpansionView}
 use Rattle.rdlpp_state.specs.Engine.{EngineView, is_open}
 use Rattle.rdlpp_state.specs.Held.{IsBounded, stores_of}
-use Rattle.rdlpp_state.specs.Marks.{MarksView, PlaceView, lends_line, lends_line_end, lends_origin, lends_owed, lends_usage, marked_place}
-use Rattle.rdlpp_state.specs.Owed.{OriginView, OwedView, TakesPiece, behind_piece, cut_to, digits_of, first_piece, line_from, nothing_owed, origin_bytes, origin_owed, origin_pieces, owed_bytes, owed_number, owed_pieces, part_bytes, pieces_from}
-use Rattle.rdlpp_state.specs.Pieces.{IsPlaced, held_texts, kept_answer, lent_answer, owed_part}
-use Rattle.rdlpp_state.specs.Positions.{TakesOwed, line_end_place, origin_place, owed_place, place_at, position_of, source_place, usage_place}
+use Rattle.rdlpp_state.specs.Marks.{MarksView, PlaceView, lends_line, lends_line_end, lends_origin, lends_pending, lends_usage, marked_place}
+use Rattle.rdlpp_state.specs.Pending.{OriginView, PendingView, TakesPiece, behind_piece, cut_to, digits_of, first_piece, line_from, nothing_pending, origin_bytes, origin_pending, origin_pieces, pending_bytes, pending_number, pending_pieces, part_bytes, pieces_from}
+use Rattle.rdlpp_state.specs.Pieces.{IsPlaced, held_texts, kept_answer, lent_answer, pending_part}
+use Rattle.rdlpp_state.specs.Positions.{TakesPending, line_end_place, origin_place, pending_place, place_at, position_of, source_place, usage_place}
 use Rattle.rdlpp_state.specs.Remaining.{file_state, inner_name, kept_uncut, left_of, nest_state, output_fault, phase_uncut, source_rules, state_of, text_of, uncut_of, work_left}
 use Rattle.rdlpp_state.specs.Silences.{most_silent}
 use Rattle.rdlpp_state.specs.Standing.{StandsIn}
 use Rattle.rdlpp_state.specs.Steps.{Steps, WalksOver, all_of, has_met, is_call_failed, lent_len, may_follow, no_len}
 use Rattle.rdlpp_state.specs.Stored.{HoldsStores, LetsGo}
-use Rattle.rdlpp_state.specs.declared.owed.OwedPart.{OwedPart}
-use Rattle.rdlpp_state.specs.declared.owed.OwedPart.TheVariants.{Colon, Digits, Label, LineEnds, Name}
-use Rattle.rdlpp_state.specs.declared.owed.OwedPiece.{OwedPiece}
+use Rattle.rdlpp_state.specs.declared.pending.PendingPart.{PendingPart}
+use Rattle.rdlpp_state.specs.declared.pending.PendingPart.TheVariants.{Colon, Digits, Label, LineEnds, Name}
+use Rattle.rdlpp_state.specs.declared.pending.PendingPiece.{PendingPiece}
 use Rattle.rdlpp_state.specs.declared.phase.Phase.{Phase}
 use Rattle.rdlpp_state.specs.declared.phase.Phase.TheVariants.{Closed, Fresh, Open, Passed}
-use Rattle.rdlpp_state.specs.declared.place.Place.TheVariants.{Owed, Source, Text}
+use Rattle.rdlpp_state.specs.declared.place.Place.TheVariants.{Pending, Source, Text}
 use Rattle.rdlpp_state.specs.declared.positions.Lent.TheVariants.{Ending, Line, Origin}
 use Rattle.rdlpp_state.specs.declared.positions.LineStep.TheVariants.{Next}
 use Rattle.rdlpp_state.proofs.EngineSteps.{free_before, ok_not_met}
 use Rattle.rdlpp_state.proofs.Stores.{keeps_phase}
 
--- Pieces taken out of the texts that are owed.
+-- Pieces taken out of the texts that are pending.
 
 -- all of a list, and then another
 whole_behind : (xs ys : List ℕ) → xs ++ ys ≡ take (length xs) xs ++ ys
 whole_behind xs ys = ap (λ (zs : List ℕ). zs ++ ys) (sym (take_all (length xs) xs (omega arith)))
 
 -- LF bytes are taken out
-pub takes_line_ends : (name : List ℕ) (owed : OwedView) (len : ℕ) → 0 < len → len ≤ 16 → len ≤ owed.line_ends
-    → TakesPiece name owed (record { line_ends = owed.line_ends - len; origin = owed.origin }) (record { part = LineEnds; len = len })
-unfolding part_bytes owed_bytes owed_pieces
-takes_line_ends name owed len some few within =
-    let rest = owed.line_ends - len in
-    let split : owed.line_ends ≡ len + rest = omega arith in
-    let joined : replicate {A = ℕ} owed.line_ends 10 ≡ replicate len 10 ++ replicate rest 10 =
+pub takes_line_ends : (name : List ℕ) (pending : PendingView) (len : ℕ) → 0 < len → len ≤ 16 → len ≤ pending.line_ends
+    → TakesPiece name pending (record { line_ends = pending.line_ends - len; origin = pending.origin }) (record { part = LineEnds; len = len })
+unfolding part_bytes pending_bytes pending_pieces
+takes_line_ends name pending len some few within =
+    let rest = pending.line_ends - len in
+    let split : pending.line_ends ≡ len + rest = omega arith in
+    let joined : replicate {A = ℕ} pending.line_ends 10 ≡ replicate len 10 ++ replicate rest 10 =
     ap (λ n. replicate n 10) split ∙ sym (replicate-append-replicate len rest 10) in
     record {
       inside = omega (arith, length-replicate {A = ℕ} 16 10);
-      bytes = ap (λ (x : List ℕ). x ++ origin_bytes name owed.origin) joined
-          ∙ (append_assoc (replicate len 10) (replicate rest 10) (origin_bytes name owed.origin)
-          ∙ ap (λ (x : List ℕ). x ++ (replicate rest 10 ++ origin_bytes name owed.origin)) (sym (take-replicate len 16 10 few)));
+      bytes = ap (λ (x : List ℕ). x ++ origin_bytes name pending.origin) joined
+          ∙ (append_assoc (replicate len 10) (replicate rest 10) (origin_bytes name pending.origin)
+          ∙ ap (λ (x : List ℕ). x ++ (replicate rest 10 ++ origin_bytes name pending.origin)) (sym (take-replicate len 16 10 few)));
       fewer = omega arith;
     }
 
 -- the first piece of an origin line is taken out
-pub takes_origin : (part : OwedPart) (name : List ℕ) (number : ℕ)
+pub takes_origin : (part : PendingPart) (name : List ℕ) (number : ℕ)
     → let origin : OriginView = record { part = part; number = number } in
     TakesPiece name (record { line_ends = 0; origin = Some origin }) (record { line_ends = 0; origin = behind_piece origin }) (first_piece (length name) origin)
-unfolding part_bytes owed_bytes owed_pieces origin_bytes origin_pieces line_from pieces_from behind_piece first_piece digits_of
+unfolding part_bytes pending_bytes pending_pieces origin_bytes origin_pieces line_from pieces_from behind_piece first_piece digits_of
 takes_origin LineEnds name number = record { inside = omega arith; bytes = refl; fewer = omega arith }
 takes_origin Label name number = record { inside = omega arith; bytes = refl; fewer = omega arith }
 takes_origin Name name number = record { inside = omega arith; bytes = whole_behind name _; fewer = omega arith }
@@ -80,57 +80,57 @@ takes_origin Colon name number = record { inside = omega arith; bytes = refl; fe
 takes_origin Digits name number = record { inside = omega arith; bytes = whole_behind (decimal number) _; fewer = omega arith }
 
 -- so it is where nothing stands before it
-pub takes_first : (name : List ℕ) (name_len lines : ℕ) (at behind : Option OriginView) (origin : OriginView) (piece : OwedPiece)
+pub takes_first : (name : List ℕ) (name_len lines : ℕ) (at behind : Option OriginView) (origin : OriginView) (piece : PendingPiece)
     → length name ≡ name_len → lines ≤ 0 → at ≡ Some origin → behind_piece origin ≡ behind → piece ≡ first_piece name_len origin
     → TakesPiece name (record { line_ends = lines; origin = at }) (record { line_ends = lines; origin = behind }) piece
 takes_first name name_len lines at behind origin piece size none is rest first =
     let zero : lines ≡ 0 = omega arith in
     rw (first, ← rest, ← size, zero, is) (takes_origin origin.part name origin.number)
 
--- The origin lines that are owed, as the meaning has them.
+-- The origin lines that are pending, as the meaning has them.
 
 -- a whole origin line
 whole_line : (name digits : List ℕ) → line_from Label name digits ≡ codes "// origin: " ++ name ++ 58 ∷ digits ++ 10 ∷ []
 unfolding line_from
 whole_line name digits = ap (λ (x : List ℕ). codes "// origin: " ++ x) (sym (append_assoc name (58 ∷ digits) (10 ∷ [])))
 
--- the origin line that is owed where it is asked for
-origin_line_owed : (origins : Bool) (rules : Rules) (name : List ℕ) (number : ℕ) → rules.origins ≡ origins → origin_bytes name (origin_owed origins number) ≡ origin_line rules name number
-unfolding origin_bytes origin_owed origin_line
-origin_line_owed true rules name number asked = rw asked (whole_line name (decimal number))
-origin_line_owed false rules name number asked = rw asked refl
+-- the origin line that is pending where it is asked for
+origin_line_pending : (origins : Bool) (rules : Rules) (name : List ℕ) (number : ℕ) → rules.origins ≡ origins → origin_bytes name (origin_pending origins number) ≡ origin_line rules name number
+unfolding origin_bytes origin_pending origin_line
+origin_line_pending true rules name number asked = rw asked (whole_line name (decimal number))
+origin_line_pending false rules name number asked = rw asked refl
 
 -- it has a few pieces
-origin_few : (origins : Bool) (number : ℕ) → origin_pieces (origin_owed origins number) ≤ 5
-unfolding origin_pieces origin_owed pieces_from
+origin_few : (origins : Bool) (number : ℕ) → origin_pieces (origin_pending origins number) ≤ 5
+unfolding origin_pieces origin_pending pieces_from
 origin_few true number = omega arith
 origin_few false number = omega arith
 
--- it alone is owed
-pub owed_origin : (c : Catalog) (limits : Limits) (origins : Bool) (name : List ℕ) (number : ℕ)
-    → owed_bytes name (record { line_ends = 0; origin = origin_owed origins number }) ≡ origin_line (source_rules c limits origins) name number
-unfolding owed_bytes source_rules rules_of
-owed_origin c limits origins name number = origin_line_owed origins (source_rules c limits origins) name number refl
+-- it alone is pending
+pub pending_origin : (c : Catalog) (limits : Limits) (origins : Bool) (name : List ℕ) (number : ℕ)
+    → pending_bytes name (record { line_ends = 0; origin = origin_pending origins number }) ≡ origin_line (source_rules c limits origins) name number
+unfolding pending_bytes source_rules rules_of
+pending_origin c limits origins name number = origin_line_pending origins (source_rules c limits origins) name number refl
 
--- LF bytes that are owed, and an origin line behind them
-pub owed_with_origin : (c : Catalog) (limits : Limits) (origins : Bool) (name w : List ℕ) (lines number : ℕ) → lines ≡ line_ends w
-    → owed_bytes name (record { line_ends = lines; origin = origin_owed origins number }) ≡ line_ends_of w ++ origin_line (source_rules c limits origins) name number
-unfolding owed_bytes source_rules rules_of
-owed_with_origin c limits origins name w lines number counted =
-    ap (λ (x : List ℕ). replicate lines 10 ++ x) (origin_line_owed origins (source_rules c limits origins) name number refl)
+-- LF bytes that are pending, and an origin line behind them
+pub pending_with_origin : (c : Catalog) (limits : Limits) (origins : Bool) (name w : List ℕ) (lines number : ℕ) → lines ≡ line_ends w
+    → pending_bytes name (record { line_ends = lines; origin = origin_pending origins number }) ≡ line_ends_of w ++ origin_line (source_rules c limits origins) name number
+unfolding pending_bytes source_rules rules_of
+pending_with_origin c limits origins name w lines number counted =
+    ap (λ (x : List ℕ). replicate lines 10 ++ x) (origin_line_pending origins (source_rules c limits origins) name number refl)
     ∙ ap (λ (x : List ℕ). x ++ origin_line (source_rules c limits origins) name number) (ap (λ n. replicate n 10) counted ∙ sym (line_ends_of-owed w))
 
--- an LF that is owed where a text ends in mid-line, and an origin line behind it
-pub owed_torn : (c : Catalog) (limits : Limits) (origins : Bool) (name : List ℕ) (torn : Bool) (number : ℕ)
-    → owed_bytes name (record { line_ends = if torn then 1 else 0; origin = origin_owed origins number }) ≡ (if torn then 10 ∷ [] else []) ++ origin_line (source_rules c limits origins) name number
-unfolding owed_bytes source_rules rules_of
-owed_torn c limits origins name true number = ap (λ (x : List ℕ). 10 ∷ x) (origin_line_owed origins (source_rules c limits origins) name number refl)
-owed_torn c limits origins name false number = origin_line_owed origins (source_rules c limits origins) name number refl
+-- an LF that is pending where a text ends in mid-line, and an origin line behind it
+pub pending_torn : (c : Catalog) (limits : Limits) (origins : Bool) (name : List ℕ) (torn : Bool) (number : ℕ)
+    → pending_bytes name (record { line_ends = if torn then 1 else 0; origin = origin_pending origins number }) ≡ (if torn then 10 ∷ [] else []) ++ origin_line (source_rules c limits origins) name number
+unfolding pending_bytes source_rules rules_of
+pending_torn c limits origins name true number = ap (λ (x : List ℕ). 10 ∷ x) (origin_line_pending origins (source_rules c limits origins) name number refl)
+pending_torn c limits origins name false number = origin_line_pending origins (source_rules c limits origins) name number refl
 
 -- they can be counted
-pub owed_few : (origins : Bool) (lines number : ℕ) → lines + 5 < 2 ^ 31 → owed_pieces (record { line_ends = lines; origin = origin_owed origins number }) < 2 ^ 31
-unfolding owed_pieces
-owed_few origins lines number few = let least = origin_few origins number in omega arith
+pub pending_few : (origins : Bool) (lines number : ℕ) → lines + 5 < 2 ^ 31 → pending_pieces (record { line_ends = lines; origin = origin_pending origins number }) < 2 ^ 31
+unfolding pending_pieces
+pending_few origins lines number few = let least = origin_few origins number in omega arith
 
 -- The places of pieces, as the marks have them.
 
@@ -173,7 +173,7 @@ pub usage_position : {S R : Type 0} (old : EngineView S R) (x : ExpansionView) �
 unfolding state_of is_open marked_place lends_usage place_at
 usage_position old x free open_ = position_open _ free (ap is_open open_)
 
--- the first of the LF bytes that are owed is lent
+-- the first of the LF bytes that are pending is lent
 marked_end : (ending : Bool) (m : MarksView) (ends line : ℕ) (s : State) → m.ending ≡ ending
     → marked_place (lends_line_end ends line m) s.name s.shift ≡ Some (if ending then record { name = m.name; line = m.line; step = Next } else place_at Next (line - ends) s)
 unfolding marked_place lends_line_end place_at
@@ -187,26 +187,26 @@ marked_origin None m s some = absurd (omega arith)
 marked_origin (Some origin) m s some = refl
 
 -- one that falls isn't 0
-some_pieces : (owed rest : OwedView) → owed_pieces rest < owed_pieces owed → (owed.line_ends == 0) ≡ true → 0 < origin_pieces owed.origin
-unfolding owed_pieces
-some_pieces owed rest fewer none = let zeroth = eqb-true owed.line_ends 0 none in omega arith
+some_pieces : (pending rest : PendingView) → pending_pieces rest < pending_pieces pending → (pending.line_ends == 0) ≡ true → 0 < origin_pieces pending.origin
+unfolding pending_pieces
+some_pieces pending rest fewer none = let zeroth = eqb-true pending.line_ends 0 none in omega arith
 
--- the first piece of what is owed is lent
-marked_owed : {S R : Type 0} (b : Bool) (e : EngineView S R) (rest : OwedView) → (e.owed.line_ends == 0) ≡ b → owed_pieces rest < owed_pieces e.owed
-    → marked_place (lends_owed e.owed (inner_buffer e.files.nest).line e.marks) (state_of e).name (state_of e).shift ≡ owed_place e
-unfolding lends_owed owed_place line_end_place
-marked_owed true e rest is fewer = rw is (marked_origin e.owed.origin e.marks (state_of e) (some_pieces e.owed rest fewer is))
-marked_owed false e rest is fewer = rw is (marked_end e.marks.ending e.marks e.owed.line_ends (inner_buffer e.files.nest).line (state_of e) refl)
+-- the first piece of what is pending is lent
+marked_pending : {S R : Type 0} (b : Bool) (e : EngineView S R) (rest : PendingView) → (e.pending.line_ends == 0) ≡ b → pending_pieces rest < pending_pieces e.pending
+    → marked_place (lends_pending e.pending (inner_buffer e.files.nest).line e.marks) (state_of e).name (state_of e).shift ≡ pending_place e
+unfolding lends_pending pending_place line_end_place
+marked_pending true e rest is fewer = rw is (marked_origin e.pending.origin e.marks (state_of e) (some_pieces e.pending rest fewer is))
+marked_pending false e rest is fewer = rw is (marked_end e.marks.ending e.marks e.pending.line_ends (inner_buffer e.files.nest).line (state_of e) refl)
 
-pub owed_position : {S R : Type 0} (old : EngineView S R) (rest : OwedView) (piece : OwedPiece) → TakesPiece (inner_name old.files.nest) old.owed rest piece → old.kept ≡ None → old.phase ≡ Open
-    → position_of (record old { owed = rest; marks = lends_owed old.owed (inner_buffer old.files.nest).line old.marks }) ≡ owed_place old
+pub pending_position : {S R : Type 0} (old : EngineView S R) (rest : PendingView) (piece : PendingPiece) → TakesPiece (inner_name old.files.nest) old.pending rest piece → old.kept ≡ None → old.phase ≡ Open
+    → position_of (record old { pending = rest; marks = lends_pending old.pending (inner_buffer old.files.nest).line old.marks }) ≡ pending_place old
 unfolding state_of is_open
-owed_position old rest piece takes free open_ = position_open _ free (ap is_open open_) ∙ marked_owed (old.owed.line_ends == 0) old rest refl takes.fewer
+pending_position old rest piece takes free open_ = position_open _ free (ap is_open open_) ∙ marked_pending (old.pending.line_ends == 0) old rest refl takes.fewer
 
--- nothing is marked where nothing is owed
-pub unowed_marks : (line : ℕ) (m : MarksView) → lends_owed nothing_owed line m ≡ m
-unfolding lends_owed lends_origin nothing_owed
-unowed_marks line m = refl
+-- nothing is marked where nothing is pending
+pub drained_marks : (line : ℕ) (m : MarksView) → lends_pending nothing_pending line m ≡ m
+unfolding lends_pending lends_origin nothing_pending
+drained_marks line m = refl
 
 -- how far an engine is, and what may still be lent, doesn't change the place while its main text is open
 pub position_kept : {S R : Type 0} (mid new : EngineView S R) → new ≡ record mid { phase = new.phase; quota = new.quota } → mid.kept ≡ None → is_open mid.phase ≡ true → is_open new.phase ≡ true
@@ -259,36 +259,36 @@ pub position_first : {S R : Type 0} (e : EngineView S R) (f : File R) (outer : L
 position_first e f outer is none opens =
     position_open e (no_fault e.kept none) opens ∙ (ap (λ (n : List ℕ). marked_place e.marks n (state_of e).shift) (first_name e f outer is) ∙ ap (marked_place e.marks f.name.bytes) (first_shift e f outer is))
 
--- nothing is taken out of what is owed, and nothing is marked
-pub untaken : {S R : Type 0} (result : Option OwedPiece) (inside old : EngineView S R) (m : MarksView) (rest : OwedView) (line : ℕ) → inside ≡ old → m ≡ lends_owed inside.owed line inside.marks
-    → IfNone result ((inside.owed ≡ nothing_owed) × (rest ≡ inside.owed)) → IfNone result ((old.owed ≡ nothing_owed) × (record inside { marks = m; owed = rest } ≡ old))
+-- nothing is taken out of what is pending, and nothing is marked
+pub untaken : {S R : Type 0} (result : Option PendingPiece) (inside old : EngineView S R) (m : MarksView) (rest : PendingView) (line : ℕ) → inside ≡ old → m ≡ lends_pending inside.pending line inside.marks
+    → IfNone result ((inside.pending ≡ nothing_pending) × (rest ≡ inside.pending)) → IfNone result ((old.pending ≡ nothing_pending) × (record inside { marks = m; pending = rest } ≡ old))
 untaken (Some piece) inside old m rest line is marks none = tt
 untaken None inside old m rest line is marks none = (
-  ap (λ e. e.owed) (sym is) ∙ none.0,
-  ap (λ (n : MarksView). record inside { marks = n; owed = rest }) (marks ∙ (ap (λ (o : OwedView). lends_owed o line inside.marks) none.0 ∙ unowed_marks line inside.marks))
-      ∙ (ap (λ (o : OwedView). record inside { owed = o }) none.1 ∙ is),
+  ap (λ e. e.pending) (sym is) ∙ none.0,
+  ap (λ (n : MarksView). record inside { marks = n; pending = rest }) (marks ∙ (ap (λ (o : PendingView). lends_pending o line inside.marks) none.0 ∙ drained_marks line inside.marks))
+      ∙ (ap (λ (o : PendingView). record inside { pending = o }) none.1 ∙ is),
 )
 
 -- the first piece is taken out, and its place is marked
-pub takes_marked : {S R : Type 0} (result : Option OwedPiece) (inside old : EngineView S R) (m : MarksView) (rest : OwedView) (line name_len : ℕ) → inside ≡ old → m ≡ lends_owed inside.owed line inside.marks
+pub takes_marked : {S R : Type 0} (result : Option PendingPiece) (inside old : EngineView S R) (m : MarksView) (rest : PendingView) (line name_len : ℕ) → inside ≡ old → m ≡ lends_pending inside.pending line inside.marks
     → line ≡ (inner_buffer old.files.nest).line → length (inner_name old.files.nest) ≡ name_len
-    → IfSome result (λ piece. (name : List ℕ) → length name ≡ name_len → TakesPiece name inside.owed rest piece) → IfSome result (TakesOwed old (record inside { marks = m; owed = rest }))
+    → IfSome result (λ piece. (name : List ℕ) → length name ≡ name_len → TakesPiece name inside.pending rest piece) → IfSome result (TakesPending old (record inside { marks = m; pending = rest }))
 takes_marked None inside old m rest line name_len is marks here size takes = tt
 takes_marked {S} {R} (Some piece) inside old m rest line name_len is marks here size takes =
     let name = inner_name old.files.nest in
     record {
       rest = rest;
-      takes = subst (λ (o : OwedView). TakesPiece name o rest piece) (ap (λ e. e.owed) is) (takes name size);
-      becomes = ap (λ (n : MarksView). record inside { marks = n; owed = rest }) marks
-          ∙ (ap (λ (e : EngineView S R). record e { owed = rest; marks = lends_owed e.owed line e.marks }) is
-          ∙ ap (λ (n : ℕ). record old { owed = rest; marks = lends_owed old.owed n old.marks }) here);
+      takes = subst (λ (o : PendingView). TakesPiece name o rest piece) (ap (λ e. e.pending) is) (takes name size);
+      becomes = ap (λ (n : MarksView). record inside { marks = n; pending = rest }) marks
+          ∙ (ap (λ (e : EngineView S R). record e { pending = rest; marks = lends_pending e.pending line e.marks }) is
+          ∙ ap (λ (n : ℕ). record old { pending = rest; marks = lends_pending old.pending n old.marks }) here);
     }
 
--- and so is what is owed, or the open texts
-pub owing_marked : {S R : Type 0} (inside e : EngineView S R) (owed : OwedView) (m : MarksView) (change : MarksView → MarksView) → inside ≡ e → m ≡ change inside.marks
-    → record inside { owed = owed; marks = m } ≡ record e { owed = owed; marks = change e.marks }
-owing_marked {S} {R} inside e owed m change is marks =
-    ap (λ (n : MarksView). record inside { owed = owed; marks = n }) marks ∙ ap (λ (x : EngineView S R). record x { owed = owed; marks = change x.marks }) is
+-- and so is what is pending, or the open texts
+pub owing_marked : {S R : Type 0} (inside e : EngineView S R) (pending : PendingView) (m : MarksView) (change : MarksView → MarksView) → inside ≡ e → m ≡ change inside.marks
+    → record inside { pending = pending; marks = m } ≡ record e { pending = pending; marks = change e.marks }
+owing_marked {S} {R} inside e pending m change is marks =
+    ap (λ (n : MarksView). record inside { pending = pending; marks = n }) marks ∙ ap (λ (x : EngineView S R). record x { pending = pending; marks = change x.marks }) is
 
 pub marked_usage : {S R : Type 0} (inside old : EngineView S R) (x : ExpansionView) (m : MarksView) (line : ℕ) → inside ≡ old → m ≡ lends_usage line inside.marks → line ≡ old.expansion.line
     → record inside { expansion = x; marks = m } ≡ record old { expansion = x; marks = lends_usage old.expansion.line old.marks }
@@ -296,32 +296,32 @@ marked_usage {S} {R} inside old x m line is marks here =
     ap (λ (n : MarksView). record inside { expansion = x; marks = n }) marks
     ∙ (ap (λ (e : EngineView S R). record e { expansion = x; marks = lends_usage line e.marks }) is ∙ ap (λ (n : ℕ). record old { expansion = x; marks = lends_usage n old.marks }) here)
 
--- what is marked where a piece of what is owed is lent, by what is owed
-origin_marked : (origin : Option OriginView) (m : MarksView) (n : ℕ) → owed_number origin ≡ Some n → record m { lent = Origin n } ≡ lends_origin origin m
+-- what is marked where a piece of what is pending is lent, by what is pending
+origin_marked : (origin : Option OriginView) (m : MarksView) (n : ℕ) → pending_number origin ≡ Some n → record m { lent = Origin n } ≡ lends_origin origin m
 unfolding lends_origin
 origin_marked None m n is = cc is
 origin_marked (Some origin) m n is = let same : n ≡ origin.number = cc is in ap (λ (k : ℕ). record m { lent = Origin k }) same
 
-origin_unmarked : (origin : Option OriginView) (m : MarksView) → owed_number origin ≡ None → m ≡ lends_origin origin m
+origin_unmarked : (origin : Option OriginView) (m : MarksView) → pending_number origin ≡ None → m ≡ lends_origin origin m
 unfolding lends_origin
 origin_unmarked None m is = refl
 origin_unmarked (Some origin) m is = cc is
 
-pub marks_origin : (owed : OwedView) (line : ℕ) (m : MarksView) (n : ℕ) → owed.line_ends ≡ 0 → owed_number owed.origin ≡ Some n → record m { lent = Origin n } ≡ lends_owed owed line m
-unfolding lends_owed
-marks_origin owed line m n none is = rw none (origin_marked owed.origin m n is)
+pub marks_origin : (pending : PendingView) (line : ℕ) (m : MarksView) (n : ℕ) → pending.line_ends ≡ 0 → pending_number pending.origin ≡ Some n → record m { lent = Origin n } ≡ lends_pending pending line m
+unfolding lends_pending
+marks_origin pending line m n none is = rw none (origin_marked pending.origin m n is)
 
-pub marks_nothing : (owed : OwedView) (line : ℕ) (m : MarksView) → owed.line_ends ≡ 0 → owed_number owed.origin ≡ None → m ≡ lends_owed owed line m
-unfolding lends_owed
-marks_nothing owed line m none is = rw none (origin_unmarked owed.origin m is)
+pub marks_nothing : (pending : PendingView) (line : ℕ) (m : MarksView) → pending.line_ends ≡ 0 → pending_number pending.origin ≡ None → m ≡ lends_pending pending line m
+unfolding lends_pending
+marks_nothing pending line m none is = rw none (origin_unmarked pending.origin m is)
 
-pub marks_ending : (owed : OwedView) (line : ℕ) (m : MarksView) → (owed.line_ends ≡ 0 → ⊥) → m.ending ≡ true → record m { lent = Ending; ending = false } ≡ lends_owed owed line m
-unfolding lends_owed lends_line_end
-marks_ending owed line m some is = rw (ne_eqb owed.line_ends 0 some, is) refl
+pub marks_ending : (pending : PendingView) (line : ℕ) (m : MarksView) → (pending.line_ends ≡ 0 → ⊥) → m.ending ≡ true → record m { lent = Ending; ending = false } ≡ lends_pending pending line m
+unfolding lends_pending lends_line_end
+marks_ending pending line m some is = rw (ne_eqb pending.line_ends 0 some, is) refl
 
-pub marks_line : (owed : OwedView) (line n : ℕ) (m : MarksView) → (owed.line_ends ≡ 0 → ⊥) → m.ending ≡ false → n ≡ line - owed.line_ends → record m { lent = Line n } ≡ lends_owed owed line m
-unfolding lends_owed lends_line_end
-marks_line owed line n m some is here = rw (ne_eqb owed.line_ends 0 some, is, here) refl
+pub marks_line : (pending : PendingView) (line n : ℕ) (m : MarksView) → (pending.line_ends ≡ 0 → ⊥) → m.ending ≡ false → n ≡ line - pending.line_ends → record m { lent = Line n } ≡ lends_pending pending line m
+unfolding lends_pending lends_line_end
+marks_line pending line n m some is here = rw (ne_eqb pending.line_ends 0 some, is, here) refl
 
 -- A step cut to the bytes that may still be lent.
 
@@ -552,14 +552,14 @@ pub record IsPart {S R : Type 0} (mid new : EngineView S R) (n len : ℕ) : Type
   pub inside : len ≤ n
   pub files : new.files ≡ mid.files
   pub table : new.table ≡ mid.table
-  pub owed : new.owed ≡ mid.owed
+  pub pending : new.pending ≡ mid.pending
   pub expansion : new.expansion ≡ mid.expansion
 
 spent_part : {S R : Type 0} (mid new : EngineView S R) (n len : ℕ) → IsSpent mid new n len → IsPart mid new n len
 spent_part mid new n len spent =
     elim (cases_lt mid.quota n) [
-      | inl over ↦ (let p = spent.passes over in record { inside = omega (arith, p.0); files = ap (λ e. e.files) p.1; table = ap (λ e. e.table) p.1; owed = ap (λ e. e.owed) p.1; expansion = ap (λ e. e.expansion) p.1 })
-      | inr under ↦ (let p = spent.fits under in record { inside = omega (arith, p.0); files = ap (λ e. e.files) p.1; table = ap (λ e. e.table) p.1; owed = ap (λ e. e.owed) p.1; expansion = ap (λ e. e.expansion) p.1 })
+      | inl over ↦ (let p = spent.passes over in record { inside = omega (arith, p.0); files = ap (λ e. e.files) p.1; table = ap (λ e. e.table) p.1; pending = ap (λ e. e.pending) p.1; expansion = ap (λ e. e.expansion) p.1 })
+      | inr under ↦ (let p = spent.fits under in record { inside = omega (arith, p.0); files = ap (λ e. e.files) p.1; table = ap (λ e. e.table) p.1; pending = ap (λ e. e.pending) p.1; expansion = ap (λ e. e.expansion) p.1 })
     ]
 
 -- a piece, cut to what may still be lent
@@ -627,31 +627,31 @@ cut_kept g old new None w = cut_end g old new w
 cut_kept g old new (Some f) w = cut_fault g old new f w
 
 -- the part is the same where only what may be lent and how far the engine is changed
-part_same : {S R : Type 0} (mid new : EngineView S R) (piece : OwedPiece) (n len k : ℕ) → IsPart mid new n len → owed_part new (cut_to piece k) ≡ owed_part mid piece
+part_same : {S R : Type 0} (mid new : EngineView S R) (piece : PendingPiece) (n len k : ℕ) → IsPart mid new n len → pending_part new (cut_to piece k) ≡ pending_part mid piece
 unfolding cut_to
 part_same mid new piece n len k part =
-    ap (λ f. part_bytes piece.part (inner_name f.nest) (digits_of new.owed.origin)) part.files
-    ∙ ap (λ o. part_bytes piece.part (inner_name mid.files.nest) (digits_of o.origin)) part.owed
+    ap (λ f. part_bytes piece.part (inner_name f.nest) (digits_of new.pending.origin)) part.files
+    ∙ ap (λ o. part_bytes piece.part (inner_name mid.files.nest) (digits_of o.origin)) part.pending
 
--- a piece that is owed, cut to what may still be lent
-pub cut_owed : {S R : Type 0} (g : Ghosts S R) (old mid new : EngineView S R) (piece : OwedPiece) (len : ℕ) → WalksOver g most_silent old mid (lent_answer mid (Owed piece))
-    → IsPlaced mid (Owed piece) → IsSpent mid new piece.len len → Steps g old new (lent_answer new (Owed (cut_to piece len)))
+-- a piece that is pending, cut to what may still be lent
+pub cut_pending : {S R : Type 0} (g : Ghosts S R) (old mid new : EngineView S R) (piece : PendingPiece) (len : ℕ) → WalksOver g most_silent old mid (lent_answer mid (Pending piece))
+    → IsPlaced mid (Pending piece) → IsSpent mid new piece.len len → Steps g old new (lent_answer new (Pending (cut_to piece len)))
 unfolding cut_to
-cut_owed g old mid new piece len w placed spent =
+cut_pending g old mid new piece len w placed spent =
     let part = spent_part mid new piece.len len spent in
-    let xs = owed_part mid piece in
-    told_bytes g old new (take len (take piece.len xs)) (take len (owed_part new (cut_to piece len)))
+    let xs = pending_part mid piece in
+    told_bytes g old new (take len (take piece.len xs)) (take len (pending_part new (cut_to piece len)))
     (ap (take len) (part_same mid new piece piece.len len len part) ∙ sym (take-take len piece.len xs part.inside))
     (cut_piece g old mid new (take piece.len xs) piece.len len w (length-take-le piece.len xs placed.1) spent)
 
 -- such a piece is a place
-pub owed_placed : {S R : Type 0} (mid new : EngineView S R) (piece : OwedPiece) (len : ℕ) → IsPlaced mid (Owed piece) → IsSpent mid new piece.len len → IsPlaced new (Owed (cut_to piece len))
+pub pending_placed : {S R : Type 0} (mid new : EngineView S R) (piece : PendingPiece) (len : ℕ) → IsPlaced mid (Pending piece) → IsSpent mid new piece.len len → IsPlaced new (Pending (cut_to piece len))
 unfolding cut_to
-owed_placed mid new piece len placed spent =
+pending_placed mid new piece len placed spent =
     let part = spent_part mid new piece.len len spent in
     let inside = part.inside in
     let most = placed.1 in
-    let size : length (owed_part new (cut_to piece len)) ≡ length (owed_part mid piece) = ap length (part_same mid new piece piece.len len len part) in
+    let size : length (pending_part new (cut_to piece len)) ≡ length (pending_part mid piece) = ap length (part_same mid new piece piece.len len len part) in
     let open_ : length new.files.nest ≡ length mid.files.nest = ap (λ f. length f.nest) part.files in
     let some = placed.0 in
     (omega arith, omega arith)

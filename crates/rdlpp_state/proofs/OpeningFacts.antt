@@ -43,14 +43,14 @@ use Rattle.rdlpp_state.specs.Held.{HoldsDefinitions, IsBounded, bound_of, held_b
 use Rattle.rdlpp_state.specs.Includes.{kind_of_source}
 use Rattle.rdlpp_state.specs.OpenConditionals.{AreBelow}
 use Rattle.rdlpp_state.specs.Opening.{Starts, fresh_engine, is_device_fault, is_memory_fault, is_opening_kind, looked_up_output, opened_engine, searches_of, unopened_engine}
-use Rattle.rdlpp_state.specs.Owed.{origin_owed, owed_bytes}
+use Rattle.rdlpp_state.specs.Pending.{origin_pending, pending_bytes}
 use Rattle.rdlpp_state.specs.Remaining.{file_state, inner_name, kept_uncut, left_of, lookup_of, nest_left, nest_state, output_fault, phase_uncut, run_rules, source_rules, uncut_of, waiting_around}
 use Rattle.rdlpp_state.specs.Steps.{is_memory_kind, is_read_failed}
 use Rattle.rdlpp_state.specs.Stored.{AreParts, HoldsNoText, HoldsStores, LetsGo}
 use Rattle.rdlpp_state.specs.declared.phase.Phase.TheVariants.{Closed}
 use Rattle.rdlpp_state.proofs.NestLeft.{no_place}
 use Rattle.rdlpp_state.proofs.Soundness.{text_idle}
-use Rattle.rdlpp_state.proofs.LentPieces.{owed_origin}
+use Rattle.rdlpp_state.proofs.LentPieces.{pending_origin}
 use Rattle.rdlpp_state.proofs.Stores.{none_called, parts_opened}
 
 -- The bytes that are held are within their bound.
@@ -270,7 +270,7 @@ pub name_cut_at : (bytes : List ℕ) (r : ℕ) → r ≤ 1024 → IsCharBoundary
 unfolding name_cut
 name_cut_at bytes r below at nearest = cut_at_boundary bytes 1024 r below at nearest
 
--- where no source waits, what remains of the text is what is owed and what remains of its only source
+-- where no source waits, what remains of the text is what is pending and what remains of its only source
 alone : (rules : Rules) (x : List ℕ) (ts : List SourceToken) (s : State) → outcome (behind_bytes x (all_resumed rules [] (Live []) true ts s)) ≡ and_then (gives x) (remains rules (Live []) true ts s)
 unfolding remains
 alone rules x ts s =
@@ -281,7 +281,7 @@ alone rules x ts s =
 left_idle : {S R : Type 0} (g : Ghosts S R) (e : EngineView S R) (s : S) (path : List ℕ) (found : Found R) → e.expansion.opens ≡ []
     → let o = opened_engine (record e { sources = s }) path found in
     left_of g o ≡ limited (output_fault (name_cut path)) e.limits.output_bytes
-    (outcome (behind_bytes (owed_bytes (inner_name o.files.nest) o.owed) (nest_left o.limits (run_rules g o) g.unread o.table.macros o.conditions o.files.nest)))
+    (outcome (behind_bytes (pending_bytes (inner_name o.files.nest) o.pending) (nest_left o.limits (run_rules g o) g.unread o.table.macros o.conditions o.files.nest)))
 unfolding left_of uncut_of kept_uncut phase_uncut opened_engine
 left_idle g e s path found idle =
     ap (λ (p : Passage). limited (output_fault (name_cut path)) e.limits.output_bytes (outcome p)) (text_idle g (opened_engine (record e { sources = s }) path found) idle)
@@ -301,11 +301,11 @@ left_opened g e s path found most none unopened idle catalog =
     let starts : ℕ → State = λ n. record (start_state e.table.macros e.limits.includes e.limits.conditions found.path.bytes) { sources_left = n } in
     let count : e.limits.conditions - length {A = Progress} [] ≡ e.limits.conditions = omega arith in
     let all : e.limits.includes - 0 ≡ e.limits.includes = omega arith in
-    let x = owed_bytes found.path.bytes (record { line_ends = 0; origin = origin_owed e.origins 1 }) in
+    let x = pending_bytes found.path.bytes (record { line_ends = 0; origin = origin_pending e.origins 1 }) in
     let cuts : List ℕ → ℕ → Outcome = λ y n. limited (output_fault (name_cut path)) e.limits.output_bytes (and_then (gives y) (remains rules (Live []) true ts (starts n))) in
     left_idle g e s path found idle
     ∙ rw (none, most, catalog, no_place 0 e.conditions unopened, unopened, count) (ap (limited (output_fault (name_cut path)) e.limits.output_bytes) (alone rules x ts (starts (e.limits.includes - 0)))
-    ∙ (ap (cuts x) all ∙ ap (λ (y : List ℕ). cuts y e.limits.includes) (owed_origin (g.catalog e.sources) e.limits e.origins found.path.bytes 1)))
+    ∙ (ap (cuts x) all ∙ ap (λ (y : List ℕ). cuts y e.limits.includes) (pending_origin (g.catalog e.sources) e.limits e.origins found.path.bytes 1)))
 
 -- what remains where no main text was opened
 left_unopened : {S R : Type 0} (g : Ghosts S R) (e : EngineView S R) (s : S) (kind : FaultKind) (path : List ℕ)

@@ -31,7 +31,7 @@ use Rattle.rdlpp_state.specs.Conditionals.{unclosed_fault}
 use Rattle.rdlpp_state.specs.Engine.{AreIncluded, AreOpenTexts, EngineView, IsSoundEngine, IsWholeEngine, is_open}
 use Rattle.rdlpp_state.specs.Moves.{Ends}
 use Rattle.rdlpp_state.specs.OpenConditionals.{AreBelow, AreConditions, inner_below}
-use Rattle.rdlpp_state.specs.Owed.{owed_bytes}
+use Rattle.rdlpp_state.specs.Pending.{pending_bytes}
 use Rattle.rdlpp_state.specs.Remaining.{file_state, inner_name, nest_left, nest_state, run_rules, state_of, text_of}
 use Rattle.rdlpp_state.specs.declared.phase.Phase.{Phase}
 use Rattle.rdlpp_state.specs.declared.phase.Phase.TheVariants.{Closed, Fresh, Open, Passed}
@@ -53,10 +53,10 @@ none_sound texts opens none = rw none (record { are_open = tt; are_inside = tt; 
 
 -- what remains of the text where no text of a usage is open
 pub text_idle : {S R : Type 0} (g : Ghosts S R) (e : EngineView S R) → e.expansion.opens ≡ []
-    → text_of g e ≡ behind_bytes (owed_bytes (inner_name e.files.nest) e.owed) (nest_left e.limits (run_rules g e) g.unread e.table.macros e.conditions e.files.nest)
+    → text_of g e ≡ behind_bytes (pending_bytes (inner_name e.files.nest) e.pending) (nest_left e.limits (run_rules g e) g.unread e.table.macros e.conditions e.files.nest)
 unfolding text_of
 text_idle g e idle =
-    ap (behind_bytes (owed_bytes (inner_name e.files.nest) e.owed))
+    ap (behind_bytes (pending_bytes (inner_name e.files.nest) e.pending))
     (silent_texts (run_rules g e) (state_of e) e.table.macros e.expansion (nest_left e.limits (run_rules g e) g.unread e.table.macros e.conditions e.files.nest) idle)
 
 -- What always holds of an engine, as its open sources change.

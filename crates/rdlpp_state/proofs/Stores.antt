@@ -30,7 +30,7 @@ use Rattle.rdlpp_state.specs.Failures.{MayGoOn, begins_include, is_call_failed, 
 use Rattle.rdlpp_state.specs.Includes.{inner_path}
 use Rattle.rdlpp_state.specs.Lines.{renumbered_file}
 use Rattle.rdlpp_state.specs.Marks.{MarksView}
-use Rattle.rdlpp_state.specs.Owed.{OwedView}
+use Rattle.rdlpp_state.specs.Pending.{PendingView}
 use Rattle.rdlpp_state.specs.Steps.{IsOwn, IsReading}
 use Rattle.rdlpp_state.specs.Stored.{AreParts, BeginsCall, HoldsCall, HoldsStores, IsBegunIn, IsCallOf, IsPartOf, LetsGo, called_formals}
 use Rattle.rdlpp_state.specs.declared.phase.Phase.{Phase}
@@ -344,10 +344,10 @@ free_parts : {S R : Type 0} (g : Ghosts S R) (e : EngineView S R) → e.kept ≡
 free_parts g e free h = parts_told g.unread (g.catalog e.sources) (MayGoOn e) Unit e.files.nest (λ _. inl free) h.parts
 
 -- where the sources changed, no fault is kept, and no text of a usage is open
-pub keeps_sources : {S R : Type 0} (g : Ghosts S R) (old : EngineView S R) (owed : OwedView) (marks : MarksView) (macros : List Macro) (v : ConditionsView) (nest : List (File R)) (sources : S) → old.kept ≡ None → old.expansion.opens ≡ []
+pub keeps_sources : {S R : Type 0} (g : Ghosts S R) (old : EngineView S R) (pending : PendingView) (marks : MarksView) (macros : List Macro) (v : ConditionsView) (nest : List (File R)) (sources : S) → old.kept ≡ None → old.expansion.opens ≡ []
     → g.catalog sources ≡ g.catalog old.sources → (g.tells old.sources → AreParts g.unread (g.catalog old.sources) Unit old.files.nest → AreParts g.unread (g.catalog old.sources) Unit nest)
-    → KeepsStores g old (record old { owed = owed; marks = marks; table = record old.table { macros = macros }; conditions = v; files = record old.files { nest = nest }; sources = sources })
-keeps_sources g old owed marks macros v nest sources free idle catalog parts =
+    → KeepsStores g old (record old { pending = pending; marks = marks; table = record old.table { macros = macros }; conditions = v; files = record old.files { nest = nest }; sources = sources })
+keeps_sources g old pending marks macros v nest sources free idle catalog parts =
     let none = none_called macros old.expansion.opens idle in
     let nothing : LetsGo old → old.expansion.arguments ≡ [] = λ h. h.idle (inl free) (none_called old.table.macros old.expansion.opens idle) in
     record {
@@ -362,9 +362,9 @@ keeps_sources g old owed marks macros v nest sources free idle catalog parts =
     }
 
 -- where nothing of it changed
-pub keeps_owed : {S R : Type 0} (g : Ghosts S R) (old : EngineView S R) (owed : OwedView) (marks : MarksView) → KeepsStores g old (record old { owed = owed; marks = marks })
+pub keeps_pending : {S R : Type 0} (g : Ghosts S R) (old : EngineView S R) (pending : PendingView) (marks : MarksView) → KeepsStores g old (record old { pending = pending; marks = marks })
 unfolding is_failed_search is_failed_start
-keeps_owed g old owed marks = record {
+keeps_pending g old pending marks = record {
   lets_go = λ h. record { idle = h.idle };
   stores = λ t h. record { lets_go = record { idle = h.lets_go.idle }; parts = h.parts; call = h.call; begun = h.begun };
 }

@@ -40,9 +40,9 @@ use Rattle.rdlpp_state.specs.Engine.{AreOpenTexts, EngineView, IsSoundEngine}
 use Rattle.rdlpp_state.specs.Failures.{MayGoOn}
 use Rattle.rdlpp_state.specs.Held.{IsBounded}
 use Rattle.rdlpp_state.specs.Marks.{lends_usage}
-use Rattle.rdlpp_state.specs.Moves.{IsReady, IsUnowed}
+use Rattle.rdlpp_state.specs.Moves.{IsReady, IsDrained}
 use Rattle.rdlpp_state.specs.OpenConditionals.{outer_open}
-use Rattle.rdlpp_state.specs.Owed.{nothing_owed, owed_bytes, owed_pieces}
+use Rattle.rdlpp_state.specs.Pending.{nothing_pending, pending_bytes, pending_pieces}
 use Rattle.rdlpp_state.specs.Pieces.{held_texts, lent_answer}
 use Rattle.rdlpp_state.specs.Remaining.{file_state, inner_name, nest_left, nest_state, run_rules, source_rules, state_of, text_of, work_left}
 use Rattle.rdlpp_state.specs.Standing.{AtCursor, InTexts, Nowhere, OpensText, OpensUsage, Turns}
@@ -52,7 +52,7 @@ use Rattle.rdlpp_state.specs.declared.place.Place.TheVariants.{Kept, Text}
 use Rattle.rdlpp_state.proofs.WorkFacts.{IsUsed, cursors_fall, held_room, idle_digits, work_opens}
 use Rattle.rdlpp_state.proofs.IncludeSteps.{nest_macros}
 use Rattle.rdlpp_state.proofs.EngineSteps.{called, kept_at, no_part, not_called, reaches_same, walks_ceased, walks_fault, walks_kept, walks_lent}
-use Rattle.rdlpp_state.proofs.FrontSteps.{IsRead, behind_twice, keeps_fault, keeps_files, keeps_moves, left_by, read_nothing, told_kind, unowed_behind, unowed_few}
+use Rattle.rdlpp_state.proofs.FrontSteps.{IsRead, behind_twice, keeps_fault, keeps_files, keeps_moves, left_by, read_nothing, told_kind, drained_behind, drained_few}
 use Rattle.rdlpp_state.proofs.Stores.{KeepsStores, keeps_broken, keeps_opened, keeps_refused, keeps_texts, own_by, own_failed, own_stops, parts_moved, read_stops}
 use Rattle.rdlpp_state.proofs.Soundness.{silent_texts}
 use Rattle.rdlpp_state.proofs.NestLeft.{around, at_live, waiting_same}
@@ -117,7 +117,7 @@ pub record HoldsTexts {S R : Type 0} (e : EngineView S R) (x : ExpansionView) : 
   pub room : IsRoomy e.expansion
   pub now_room : IsRoomy x
 
-module _ {S R : Type 0} (g : Ghosts S R) (old : EngineView S R) (x : ExpansionView) (unowed : IsUnowed old) (holds : HoldsTexts old x) where
+module _ {S R : Type 0} (g : Ghosts S R) (old : EngineView S R) (x : ExpansionView) (drained : IsDrained old) (holds : HoldsTexts old x) where
   -- what remains of the text
   text_goes : (bytes : List ℕ) → StaysOpen old.expansion x
       → open_left (run_rules g old) (state_of old) old.expansion.line old.expansion.depth (held_texts old) old.expansion.opens
@@ -127,9 +127,9 @@ module _ {S R : Type 0} (g : Ghosts S R) (old : EngineView S R) (x : ExpansionVi
   text_goes bytes stays goes =
       let name = inner_name old.files.nest in
       let p = left_by g old old.table.macros old.conditions old.files.nest in
-      unowed_behind name old.owed (goes_on (texts_left (run_rules g old) (state_of old) old.table.macros old.expansion) (λ after. p)) unowed.owed
+      drained_behind name old.pending (goes_on (texts_left (run_rules g old) (state_of old) old.table.macros old.expansion) (λ after. p)) drained.pending
       ∙ (texts_go (run_rules g old) (state_of old) old.table.macros old.expansion x bytes p goes stays
-      ∙ ap (behind_bytes bytes) (sym (unowed_behind name old.owed (goes_on (texts_left (run_rules g old) (state_of old) old.table.macros x) (λ after. p)) unowed.owed)))
+      ∙ ap (behind_bytes bytes) (sym (drained_behind name old.pending (goes_on (texts_left (run_rules g old) (state_of old) old.table.macros x) (λ after. p)) drained.pending)))
 
   -- the work left falls
   work_texts : StaysOpen old.expansion x → AreSound (texts_of old.table.macros x.arguments) x.opens → AreFalling (cursor_digits old.expansion.opens) (cursor_digits x.opens)
@@ -149,10 +149,10 @@ module _ {S R : Type 0} (g : Ghosts S R) (old : EngineView S R) (x : ExpansionVi
       let bytes = holds.sound.in_range.definition_bytes.1 in
       let size = holds.sound.size in
       let bytes_is = holds.sound.definition_bytes in
-      cursors_fall old.limits.includes old.limits.depth (owed_pieces old.owed) (owed_pieces old.owed) (source_digits old.files.nest) (cursor_digits old.expansion.opens) (cursor_digits x.opens) falls
+      cursors_fall old.limits.includes old.limits.depth (pending_pieces old.pending) (pending_pieces old.pending) (source_digits old.files.nest) (cursor_digits old.expansion.opens) (cursor_digits x.opens) falls
       (omega arith) (omega arith)
       (digits-short 16777216 (2 ^ 31) (texts_of old.table.macros x.arguments) x.opens (record { definitions = omega arith; arguments = omega arith }) sound.are_inside (omega arith))
-      (unowed_few old.owed unowed.owed)
+      (drained_few old.pending drained.pending)
 
   -- bytes of a text are lent
   pub texts_lend : (place : TextPlace) → (let after = record old { expansion = x; marks = lends_usage old.expansion.line old.marks } in IsBounded after) → TakesUsageStep old.table.macros old.expansion (Lends place) x
@@ -163,25 +163,25 @@ module _ {S R : Type 0} (g : Ghosts S R) (old : EngineView S R) (x : ExpansionVi
       let marks = lends_usage old.expansion.line old.marks in
       let after = record old { expansion = x; marks = marks } in
       subst (λ (xs : List ℕ). Walks g old after (Ok (Some xs))) (ap (λ (a : List ℕ). place_bytes (texts_of old.table.macros a) place) (sym t.lends.1))
-      (walks_lent g old after unowed.free unowed.open_ bounded (place_bytes (held_texts old) place) refl (refl, refl) (not_called g old.sources)
-      (λ _. text_goes (place_bytes (held_texts old) place) t.stays goes) (work_texts t.stays t.sound t.digits) (keeps_texts g old x marks unowed.free t.stays t.outer t.lets_go)
-      (AtCursor place unowed.owed t.stands refl t.turns (usage_position old x unowed.free unowed.open_) refl))
+      (walks_lent g old after drained.free drained.open_ bounded (place_bytes (held_texts old) place) refl (refl, refl) (not_called g old.sources)
+      (λ _. text_goes (place_bytes (held_texts old) place) t.stays goes) (work_texts t.stays t.sound t.digits) (keeps_texts g old x marks drained.free t.stays t.outer t.lets_go)
+      (AtCursor place drained.pending t.stands refl t.turns (usage_position old x drained.free drained.open_) refl))
 
   -- a text was opened or closed
   pub texts_turn : IsBounded (record old { expansion = x }) → TakesUsageStep old.table.macros old.expansion Silent x → Walks g old (record old { expansion = x }) (Ok (Some []))
   unfolding IsStep StepsTo IsFalling state_of
   texts_turn bounded t =
-      walks_lent g old (record old { expansion = x }) unowed.free unowed.open_ bounded [] refl (refl, refl) (not_called g old.sources)
+      walks_lent g old (record old { expansion = x }) drained.free drained.open_ bounded [] refl (refl, refl) (not_called g old.sources)
       (λ _. text_goes [] t.stays (t.step (run_rules g old) (state_of old) (nest_macros old.limits old.table.macros old.conditions old.files.nest)
       ∙ sym (and_then-gives_nil (open_left (run_rules g old) (state_of old) old.expansion.line old.expansion.depth (held_texts old) x.opens)))) (work_texts t.stays t.sound t.digits)
-      (keeps_texts g old x old.marks unowed.free t.stays t.outer t.lets_go) (Nowhere refl (InTexts unowed.owed refl t.step t.turns t.sound))
+      (keeps_texts g old x old.marks drained.free t.stays t.outer t.lets_go) (Nowhere refl (InTexts drained.pending refl t.step t.turns t.sound))
 
 -- the open texts end with a fault, and nothing else changes
-pub texts_refuse : {S R : Type 0} (g : Ghosts S R) (old mid new : EngineView S R) (place : Place) (fault : CursorFault) → IsUnowed old → IsBounded new → mid ≡ old → place ≡ Kept
+pub texts_refuse : {S R : Type 0} (g : Ghosts S R) (old mid new : EngineView S R) (place : Place) (fault : CursorFault) → IsDrained old → IsBounded new → mid ≡ old → place ≡ Kept
     → new ≡ record mid { kept = Some (fault_at fault.kind mid.expansion.line (place_bytes (held_texts mid) fault.word) (state_of mid)) } → is_text_fault fault.kind ≡ true
     → IsStep old.expansion.line old.expansion.depth (held_texts old) old.expansion.opens (RefusedStep fault) mid.expansion.opens → Walks g old new (lent_answer new place)
 unfolding IsStep StepsTo state_of text_of
-texts_refuse {S} {R} g old mid new place fault unowed bounded same is kept own step =
+texts_refuse {S} {R} g old mid new place fault drained bounded same is kept own step =
     let word = place_bytes (held_texts old) fault.word in
     let f : Told = fault_at fault.kind old.expansion.line word (state_of old) in
     let becomes : new ≡ record old { kept = Some f } =
@@ -191,9 +191,9 @@ texts_refuse {S} {R} g old mid new place fault unowed bounded same is kept own s
     let here : state_of old ≡ state_of new = sym (ap (λ (e : EngineView S R). nest_state e.limits e.table.macros e.conditions e.files.nest) becomes) in
     let p = left_by g old old.table.macros old.conditions old.files.nest in
     kept_at g old new place f is (ap (λ e. e.kept) becomes)
-    (walks_fault g old new unowed.free unowed.open_ bounded f (told_kind fault.kind old.expansion.line word (state_of old) (text_kind fault.kind own))
-    (keeps_fault old old new f r becomes) (keeps_files old old new f r becomes) (keeps_moves old old new f r becomes) unowed.owed (subst P (sym (ap (λ e. e.sources) becomes)) (not_called g old.sources))
-    (λ t. unowed_behind (inner_name old.files.nest) old.owed (goes_on (texts_left (run_rules g old) (state_of old) old.table.macros old.expansion) (λ after. p)) unowed.owed
+    (walks_fault g old new drained.free drained.open_ bounded f (told_kind fault.kind old.expansion.line word (state_of old) (text_kind fault.kind own))
+    (keeps_fault old old new f r becomes) (keeps_files old old new f r becomes) (keeps_moves old old new f r becomes) drained.pending (subst P (sym (ap (λ e. e.sources) becomes)) (not_called g old.sources))
+    (λ t. drained_behind (inner_name old.files.nest) old.pending (goes_on (texts_left (run_rules g old) (state_of old) old.table.macros old.expansion) (λ after. p)) drained.pending
     ∙ (texts_fail (run_rules g old) (state_of old) old.table.macros old.expansion f p
     (step (run_rules g old) (state_of old) (nest_macros old.limits old.table.macros old.conditions old.files.nest))
     ∙ ap (leaves (fails f)) here))
@@ -207,18 +207,18 @@ pub some_open : (opens : List Open) → (length opens == 0) ≡ false → 0 < le
 some_open [] e = cc e
 some_open (x ∷ below) e = omega arith
 
-module _ {S R : Type 0} (g : Ghosts S R) (old : EngineView S R) (x : ExpansionView) (result : CursorStep) (unowed : IsUnowed old) (takes : TakesUsageStep old.table.macros old.expansion result x) where
+module _ {S R : Type 0} (g : Ghosts S R) (old : EngineView S R) (x : ExpansionView) (result : CursorStep) (drained : IsDrained old) (takes : TakesUsageStep old.table.macros old.expansion result x) where
   -- a step that lends bytes
   pub lend_step : (new : EngineView S R) (place : TextPlace) → HoldsTexts old x → result ≡ Lends place → new ≡ record old { expansion = x; marks = lends_usage old.expansion.line old.marks } → IsBounded new → Walks g old new (lent_answer new (Text place))
   lend_step new place holds is becomes bounded =
       subst (λ (e : EngineView S R). Walks g old e (lent_answer e (Text place))) (sym becomes)
-      (texts_lend g old x unowed holds place (subst (λ (e : EngineView S R). IsBounded e) becomes bounded) (subst (λ (r : CursorStep). TakesUsageStep old.table.macros old.expansion r x) is takes))
+      (texts_lend g old x drained holds place (subst (λ (e : EngineView S R). IsBounded e) becomes bounded) (subst (λ (r : CursorStep). TakesUsageStep old.table.macros old.expansion r x) is takes))
 
   -- one that lends none
   pub turn_step : (new : EngineView S R) → HoldsTexts old x → result ≡ Silent → new ≡ record old { expansion = x } → IsBounded new → Walks g old new (Ok (Some []))
   turn_step new holds is becomes bounded =
       subst (λ (e : EngineView S R). Walks g old e (Ok (Some []))) (sym becomes)
-      (texts_turn g old x unowed holds (subst (λ (e : EngineView S R). IsBounded e) becomes bounded) (subst (λ (r : CursorStep). TakesUsageStep old.table.macros old.expansion r x) is takes))
+      (texts_turn g old x drained holds (subst (λ (e : EngineView S R). IsBounded e) becomes bounded) (subst (λ (r : CursorStep). TakesUsageStep old.table.macros old.expansion r x) is takes))
 
   -- one that is refused
   pub refuse_step : (mid new : EngineView S R) (place : Place) (fault : CursorFault) → result ≡ RefusedStep fault → mid ≡ record old { expansion = x } → IsBounded new → place ≡ Kept
@@ -228,7 +228,7 @@ module _ {S R : Type 0} (g : Ghosts S R) (old : EngineView S R) (x : ExpansionVi
       let t : TakesUsageStep old.table.macros old.expansion (RefusedStep fault) x = subst (λ (r : CursorStep). TakesUsageStep old.table.macros old.expansion r x) is takes in
       let stays : x ≡ old.expansion = t.refused in
       let same : mid ≡ old = becomes ∙ ap (λ (y : ExpansionView). record old { expansion = y }) stays in
-      texts_refuse g old mid new place fault unowed bounded same at kept own
+      texts_refuse g old mid new place fault drained bounded same at kept own
       (subst (λ (os : List Open). IsStep old.expansion.line old.expansion.depth (held_texts old) old.expansion.opens (RefusedStep fault) os) (sym (ap (λ (e : EngineView S R). e.expansion.opens) becomes)) t.step)
 
 -- a place that is lent lies in its text, and so does the word of a fault
@@ -350,16 +350,16 @@ used_state limits macros v b used (f ∷ outer) = refl
 
 -- what remains of the text of an engine, by the same rules in the open texts and in the sources
 abbrev pub text_by : {S R : Type 0} → Rules → Ghosts S R → EngineView S R → Passage
-text_by rules g e = behind_bytes (owed_bytes (inner_name e.files.nest) e.owed)
+text_by rules g e = behind_bytes (pending_bytes (inner_name e.files.nest) e.pending)
     (goes_on (texts_left rules (state_of e) e.table.macros e.expansion)
     (λ after. nest_left e.limits rules g.unread e.table.macros e.conditions e.files.nest))
 
-module _ {S R : Type 0} (g : Ghosts S R) (rules : Rules) (e : EngineView S R) (unowed : e.owed ≡ nothing_owed) (idle : e.expansion.opens ≡ []) (live : e.conditions.skipped ≡ None) (some : 0 < length e.files.nest) where
-  -- it is what remains of the open sources, where nothing is owed and no text is open
+module _ {S R : Type 0} (g : Ghosts S R) (rules : Rules) (e : EngineView S R) (drained : e.pending ≡ nothing_pending) (idle : e.expansion.opens ≡ []) (live : e.conditions.skipped ≡ None) (some : 0 < length e.files.nest) where
+  -- it is what remains of the open sources, where nothing is pending and no text is open
   text_sources : text_by rules g e ≡ nest_left e.limits rules g.unread e.table.macros e.conditions e.files.nest
   text_sources =
       let p = nest_left e.limits rules g.unread e.table.macros e.conditions e.files.nest in
-      unowed_behind (inner_name e.files.nest) e.owed (goes_on (texts_left rules (state_of e) e.table.macros e.expansion) (λ after. p)) unowed
+      drained_behind (inner_name e.files.nest) e.pending (goes_on (texts_left rules (state_of e) e.table.macros e.expansion) (λ after. p)) drained
       ∙ silent_texts rules (state_of e) e.table.macros e.expansion p idle
 
   -- before a usage that is opened it is that of the engine with the texts open and the source behind the usage
@@ -375,7 +375,7 @@ module _ {S R : Type 0} (g : Ghosts S R) (rules : Rules) (e : EngineView S R) (u
       text_sources
       ∙ (opened_nest e.limits rules g.unread e.table.macros e.conditions live e.files.nest new used x line name some uses text means
       ∙ (ap (λ (t : State). goes_on (texts_left rules t e.table.macros x) (λ after. p)) (sym here)
-      ∙ sym (unowed_behind (inner_name new) e.owed (goes_on (texts_left rules (nest_state e.limits e.table.macros e.conditions new) e.table.macros x) (λ after. p)) unowed)))
+      ∙ sym (drained_behind (inner_name new) e.pending (goes_on (texts_left rules (nest_state e.limits e.table.macros e.conditions new) e.table.macros x) (λ after. p)) drained)))
 
   -- before one that is refused it is the fault
   pub refused_text : (new : List (File R)) (x : ExpansionView) (kind : FaultKind) (line : ℕ) (name : List ℕ)
@@ -474,7 +474,7 @@ module _ {S R : Type 0} (g : Ghosts S R) (old : EngineView S R) (ready : IsReady
       work_opens old opened_engine_at refl (used_nest old.files.nest nest uses.used ready.nest uses.inner uses.some uses.unused)
       (omega arith) (omega arith)
       (digits-short 16777216 (2 ^ 31) (texts_of old.table.macros x.arguments) x.opens (record { definitions = omega arith; arguments = omega arith }) sound.are_inside (omega arith))
-      (unowed_few old.owed ready.owed)
+      (drained_few old.pending ready.pending)
 
   -- its texts are open: nothing is lent yet
   pub usage_opens : (line : ℕ) (name : List ℕ) → IsBounded opened_engine_at → SourcesCalled g false false old.sources s → work_left opened_engine_at < work_left old
@@ -485,7 +485,7 @@ module _ {S R : Type 0} (g : Ghosts S R) (old : EngineView S R) (ready : IsReady
       let catalog : source_rules (g.catalog s) old.limits old.origins ≡ run_rules g old = ap (λ (c : Catalog). source_rules c old.limits old.origins) call.catalog in
       walks_lent g old opened_engine_at ready.free ready.open_ bounded [] refl (refl, refl) call
       (λ t. by_run g old
-      ∙ (opened_text g (run_rules g old) old ready.owed ready.idle live ready.nest nest uses.used x s line name uses.inner (text t) (means t)
+      ∙ (opened_text g (run_rules g old) old ready.pending ready.idle live ready.nest nest uses.used x s line name uses.inner (text t) (means t)
       ∙ (ap (λ (r : Rules). text_by r g opened_engine_at) (sym catalog)
       ∙ sym (by_run g opened_engine_at))))
       falls keeps (Nowhere refl turn)
@@ -508,7 +508,7 @@ module _ {S R : Type 0} (g : Ghosts S R) (old : EngineView S R) (ready : IsReady
         keeps_broken g old f nest s opening x.arguments uses.used len (IsExactOpening opening) macro.formals ready.free ready.idle ready.nest catalog uses.inner uses.moves inside mode unopened kept stops
 
     halts_in : (f : Told) → HaltsAt g 0 old (stopped_engine f)
-    halts_in f = record { at = old; reached = reaches_same g old; few = no_part _ refl; idle = λ h none. h.idle (inl ready.free) none; text = λ t. refl; unowed = ready.owed; stopped = InCall (stops_in f) }
+    halts_in f = record { at = old; reached = reaches_same g old; few = no_part _ refl; idle = λ h none. h.idle (inl ready.free) none; text = λ t. refl; drained = ready.pending; stopped = InCall (stops_in f) }
 
     -- and stands in the same state
     same_here : (f : Told) → state_of (stopped_engine f) ≡ state_of old
@@ -529,14 +529,14 @@ module _ {S R : Type 0} (g : Ghosts S R) (old : EngineView S R) (ready : IsReady
         → SourcesCalled g false false old.sources s → (g.tells old.sources → TellsAt (Refused kind) line name) → Walks g old (stopped_engine f) (Err f)
     usage_refuses kind line name own bounded call means =
         usage_faults (fault_at kind line name (state_of old)) (told_kind kind line name (state_of old) (usage_kind kind own)) bounded call
-        (λ t. refused_text g (run_rules g old) old ready.owed ready.idle live ready.nest nest x kind line name (means t))
+        (λ t. refused_text g (run_rules g old) old ready.pending ready.idle live ready.nest nest x kind line name (means t))
 
     -- its call is broken, at a line of its own about no word
     pub usage_breaks : (kind : FaultKind) (own line : ℕ) (name : List ℕ) → is_usage_fault kind ≡ true → let f = fault_at kind own [] (state_of old) in IsBounded (stopped_engine f)
         → SourcesCalled g false false old.sources s → (g.tells old.sources → TellsAt (Broken kind own) line name) → Walks g old (stopped_engine f) (Err f)
     usage_breaks kind own line name is bounded call means =
         usage_faults (fault_at kind own [] (state_of old)) (told_kind kind own [] (state_of old) (usage_kind kind is)) bounded call
-        (λ t. broken_text g (run_rules g old) old ready.owed ready.idle live ready.nest nest x kind own line name (means t))
+        (λ t. broken_text g (run_rules g old) old ready.pending ready.idle live ready.nest nest x kind own line name (means t))
 
     -- a read failed in its call
     pub usage_fails : held_of (inner_buffer nest) ≡ [] → let f = fault_at fault.ReadFailed (reading_line_of (inner_buffer nest)) [] (state_of old) in IsBounded (stopped_engine f)

@@ -10,7 +10,7 @@ use Rattle.rdlpp_read.specs.Buffer.{BufferView, closed_buffer, entered_mode, hel
 use Rattle.rdlpp_read.specs.Files.{consumed_file, inner_buffer, source_digits, with_buffer, with_inner}
 use Rattle.rdlpp_read.specs.declared.files.File.{File}
 use Rattle.rdlpp_state.specs.Engine.{EngineView}
-use Rattle.rdlpp_state.specs.Owed.{owed_pieces}
+use Rattle.rdlpp_state.specs.Pending.{pending_pieces}
 use Rattle.rdlpp_state.specs.Remaining.{work_left}
 use Rattle.rdlpp_state.specs.Work.{number_of, padded, work_of}
 
@@ -72,11 +72,11 @@ pub behind_within : (n owing : ℕ) (ds : List ℕ) → AreDigits ds → owing <
 behind_within n owing ds all few = number_within (padded n ds ++ owing ∷ []) (digits_append (padded n ds) (owing ∷ []) (digits_padded n ds all) (few, tt))
 
 -- as many digits stand behind each
-pub behind_size : (n owed owing : ℕ) (old new : List ℕ) → length old ≤ n → length new ≤ n → length (padded n new ++ owing ∷ []) ≡ length (padded n old ++ owed ∷ [])
-behind_size n owed owing old new fits room =
-    length-append (padded n new) (owing ∷ []) ∙ (ap (λ (k : ℕ). k + 1) (padded_size n new room ∙ sym (padded_size n old fits)) ∙ sym (length-append (padded n old) (owed ∷ [])))
+pub behind_size : (n pending owing : ℕ) (old new : List ℕ) → length old ≤ n → length new ≤ n → length (padded n new ++ owing ∷ []) ≡ length (padded n old ++ pending ∷ [])
+behind_size n pending owing old new fits room =
+    length-append (padded n new) (owing ∷ []) ∙ (ap (λ (k : ℕ). k + 1) (padded_size n new room ∙ sym (padded_size n old fits)) ∙ sym (length-append (padded n old) (pending ∷ [])))
 
--- The work left falls where fewer bytes aren't used, and where fewer pieces are owed.
+-- The work left falls where fewer bytes aren't used, and where fewer pieces are pending.
 
 -- a power of 2 isn't 0
 pub power_some : (n : ℕ) → 0 < (2 ^ 31) ^ n
@@ -102,28 +102,28 @@ unfolding source_digits
 inner_digit {R} f outer = reverse-append ((unused_of f.buffer + 1) ∷ []) (map (λ (g : File R). unused_of g.buffer + 1) outer)
 
 -- the work left of open sources with the last digit apart
-work_by : (includes depth owed d : ℕ) (before cursors : List ℕ) → work_of includes depth (before ++ d ∷ []) cursors owed
-    ≡ number_of (before ++ d ∷ (replicate (includes + 1 - length (before ++ d ∷ [])) 0 ++ (padded depth cursors ++ owed ∷ [])))
+work_by : (includes depth pending d : ℕ) (before cursors : List ℕ) → work_of includes depth (before ++ d ∷ []) cursors pending
+    ≡ number_of (before ++ d ∷ (replicate (includes + 1 - length (before ++ d ∷ [])) 0 ++ (padded depth cursors ++ pending ∷ [])))
 unfolding work_of padded
-work_by includes depth owed d before cursors =
-    let low = (cursors ++ replicate (depth - length cursors) 0) ++ owed ∷ [] in
+work_by includes depth pending d before cursors =
+    let low = (cursors ++ replicate (depth - length cursors) 0) ++ pending ∷ [] in
     ap number_of (append_assoc (before ++ d ∷ []) (replicate (includes + 1 - length (before ++ d ∷ [])) 0) low
     ∙ append_assoc before (d ∷ []) (replicate (includes + 1 - length (before ++ d ∷ [])) 0 ++ low))
 
 -- the last digit is smaller, whatever texts are open behind it
-work_less : (includes depth owed owing a b : ℕ) (before old new : List ℕ) → a < b → length old ≤ depth → length new ≤ depth → AreDigits new → owing < 2 ^ 31
-    → work_of includes depth (before ++ a ∷ []) new owing < work_of includes depth (before ++ b ∷ []) old owed
-work_less includes depth owed owing a b before old new less fits room all few =
+work_less : (includes depth pending owing a b : ℕ) (before old new : List ℕ) → a < b → length old ≤ depth → length new ≤ depth → AreDigits new → owing < 2 ^ 31
+    → work_of includes depth (before ++ a ∷ []) new owing < work_of includes depth (before ++ b ∷ []) old pending
+work_less includes depth pending owing a b before old new less fits room all few =
     let n = includes + 1 - length (before ++ b ∷ []) in
     let places : length (before ++ a ∷ []) ≡ length (before ++ b ∷ []) = length-append before (a ∷ []) ∙ sym (length-append before (b ∷ [])) in
     let low : List ℕ → ℕ → List ℕ = λ cs k. replicate n 0 ++ (padded depth cs ++ k ∷ []) in
-    let long : length (low new owing) ≡ length (low old owed) =
+    let long : length (low new owing) ≡ length (low old pending) =
     length-append (replicate n 0) (padded depth new ++ owing ∷ [])
-    ∙ (ap (λ k. length {A = ℕ} (replicate n 0) + k) (behind_size depth owed owing old new fits room)
-    ∙ sym (length-append (replicate n 0) (padded depth old ++ owed ∷ []))) in
+    ∙ (ap (λ k. length {A = ℕ} (replicate n 0) + k) (behind_size depth pending owing old new fits room)
+    ∙ sym (length-append (replicate n 0) (padded depth old ++ pending ∷ []))) in
     let within = number_within (low new owing) (digits_append (replicate n 0) (padded depth new ++ owing ∷ []) (digits_zeros n) (digits_append (padded depth new) (owing ∷ []) (digits_padded depth new all) (few, tt))) in
-    rw (work_by includes depth owing a before new, work_by includes depth owed b before old, places)
-    (digits_fall before a b (low new owing) (low old owed) long less within)
+    rw (work_by includes depth owing a before new, work_by includes depth pending b before old, places)
+    (digits_fall before a b (low new owing) (low old pending) long less within)
 
 -- fewer bytes of the innermost source aren't used, and those around it stay
 pub record IsUsed {R : Type 0} (old new : List (File R)) : Type 0 where
@@ -131,25 +131,25 @@ pub record IsUsed {R : Type 0} (old new : List (File R)) : Type 0 where
   pub outer : drop 1 new ≡ drop 1 old
   pub size : length new ≡ length old
 
-used_falls : {R : Type 0} (includes depth owed owing : ℕ) (cursors others : List ℕ) (old new : List (File R)) → IsUsed old new → length cursors ≤ depth → length others ≤ depth → AreDigits others → owing < 2 ^ 31
-    → work_of includes depth (source_digits new) others owing < work_of includes depth (source_digits old) cursors owed
+used_falls : {R : Type 0} (includes depth pending owing : ℕ) (cursors others : List ℕ) (old new : List (File R)) → IsUsed old new → length cursors ≤ depth → length others ≤ depth → AreDigits others → owing < 2 ^ 31
+    → work_of includes depth (source_digits new) others owing < work_of includes depth (source_digits old) cursors pending
 unfolding closed_buffer unused_of
-used_falls includes depth owed owing cursors others [] [] used fits room all few = let less = used.fewer in absurd (omega arith)
-used_falls includes depth owed owing cursors others [] (g ∷ inner) used fits room all few = let same = used.size in absurd (omega arith)
-used_falls includes depth owed owing cursors others (f ∷ outer) [] used fits room all few = let same = used.size in absurd (omega arith)
-used_falls includes depth owed owing cursors others (f ∷ outer) (g ∷ inner) used fits room all few =
+used_falls includes depth pending owing cursors others [] [] used fits room all few = let less = used.fewer in absurd (omega arith)
+used_falls includes depth pending owing cursors others [] (g ∷ inner) used fits room all few = let same = used.size in absurd (omega arith)
+used_falls includes depth pending owing cursors others (f ∷ outer) [] used fits room all few = let same = used.size in absurd (omega arith)
+used_falls includes depth pending owing cursors others (f ∷ outer) (g ∷ inner) used fits room all few =
     let same : inner ≡ outer = used.outer in
     let fewer : unused_of g.buffer < unused_of f.buffer = used.fewer in
     rw (inner_digit f outer, inner_digit g inner, same)
-    (work_less includes depth owed owing (unused_of g.buffer + 1) (unused_of f.buffer + 1) (source_digits outer) cursors others (omega arith) fits room all few)
+    (work_less includes depth pending owing (unused_of g.buffer + 1) (unused_of f.buffer + 1) (source_digits outer) cursors others (omega arith) fits room all few)
 
 -- the work left falls where fewer bytes aren't used, whatever texts are open then
 pub work_opens : {S R : Type 0} (old new : EngineView S R) → new.limits ≡ old.limits → IsUsed old.files.nest new.files.nest
     → length (cursor_digits old.expansion.opens) ≤ old.limits.depth → length (cursor_digits new.expansion.opens) ≤ old.limits.depth → AreDigits (cursor_digits new.expansion.opens)
-    → owed_pieces new.owed < 2 ^ 31 → work_left new < work_left old
+    → pending_pieces new.pending < 2 ^ 31 → work_left new < work_left old
 unfolding work_left
 work_opens old new limits used fits room all few =
-    rw limits (used_falls old.limits.includes old.limits.depth (owed_pieces old.owed) (owed_pieces new.owed) (cursor_digits old.expansion.opens) (cursor_digits new.expansion.opens)
+    rw limits (used_falls old.limits.includes old.limits.depth (pending_pieces old.pending) (pending_pieces new.pending) (cursor_digits old.expansion.opens) (cursor_digits new.expansion.opens)
     old.files.nest new.files.nest used fits room all few)
 
 -- no text that is open has a digit
@@ -159,20 +159,20 @@ idle_digits opens idle = rw idle refl
 
 -- the work left falls where fewer bytes aren't used, and no text is open
 pub work_falls : {S R : Type 0} (old new : EngineView S R) → new.limits ≡ old.limits → IsUsed old.files.nest new.files.nest → old.expansion.opens ≡ [] → new.expansion.opens ≡ []
-    → owed_pieces new.owed < 2 ^ 31 → work_left new < work_left old
+    → pending_pieces new.pending < 2 ^ 31 → work_left new < work_left old
 work_falls old new limits used before idle few =
     work_opens old new limits used (rw (idle_digits old.expansion.opens before) (omega arith)) (rw (idle_digits new.expansion.opens idle) (omega arith)) (rw (idle_digits new.expansion.opens idle) tt) few
 
--- the work left falls where fewer pieces are owed
-pub owed_falls : {S R : Type 0} (old new : EngineView S R) → new.limits ≡ old.limits → new.files ≡ old.files → new.expansion ≡ old.expansion → owed_pieces new.owed < owed_pieces old.owed
+-- the work left falls where fewer pieces are pending
+pub pending_falls : {S R : Type 0} (old new : EngineView S R) → new.limits ≡ old.limits → new.files ≡ old.files → new.expansion ≡ old.expansion → pending_pieces new.pending < pending_pieces old.pending
     → work_left new < work_left old
 unfolding work_left work_of number_of
-owed_falls old new limits files texts less =
+pending_falls old new limits files texts less =
     let sources = padded (old.limits.includes + 1) (source_digits old.files.nest) in
     let cursors = padded old.limits.depth (cursor_digits old.expansion.opens) in
     let apart : (n : ℕ) → sources ++ (cursors ++ n ∷ []) ≡ (sources ++ cursors) ++ n ∷ [] = λ n. sym (append_assoc sources cursors (n ∷ [])) in
-    rw (limits, files, texts, apart (owed_pieces new.owed), apart (owed_pieces old.owed))
-    (digits_fall (sources ++ cursors) (owed_pieces new.owed) (owed_pieces old.owed) [] [] refl less (omega arith))
+    rw (limits, files, texts, apart (pending_pieces new.pending), apart (pending_pieces old.pending))
+    (digits_fall (sources ++ cursors) (pending_pieces new.pending) (pending_pieces old.pending) [] [] refl less (omega arith))
 
 -- no more is held than the places say
 pub held_room : {R : Type 0} (b : BufferView R) → length (held_of b) ≤ b.accepted - b.at
@@ -208,10 +208,10 @@ same_digits {R} (f ∷ outer) b same =
     inner_digit (record f { buffer = b }) outer ∙ (ap (λ (n : ℕ). source_digits outer ++ (n + 1) ∷ []) same ∙ sym (inner_digit f outer))
 
 -- the work left is the same where as many bytes aren't used
-pub work_same : {S R : Type 0} (old new : EngineView S R) (b : BufferView R) → new.limits ≡ old.limits → new.owed ≡ old.owed → new.expansion ≡ old.expansion → new.files.nest ≡ with_buffer b old.files.nest
+pub work_same : {S R : Type 0} (old new : EngineView S R) (b : BufferView R) → new.limits ≡ old.limits → new.pending ≡ old.pending → new.expansion ≡ old.expansion → new.files.nest ≡ with_buffer b old.files.nest
     → unused_of b ≡ unused_of (inner_buffer old.files.nest) → work_left new ≡ work_left old
 unfolding work_left
-work_same old new b limits owed texts nest same = rw (limits, owed, texts, nest, same_digits old.files.nest b same) refl
+work_same old new b limits pending texts nest same = rw (limits, pending, texts, nest, same_digits old.files.nest b same) refl
 
 -- as many digits as sources
 digits-length : {R : Type 0} (nest : List (File R)) → length (source_digits nest) ≡ length nest
@@ -230,48 +230,48 @@ zero_place n before room =
     ∙ ap (λ k. before ++ replicate k 0) (sym fewer)
 
 -- the work left falls where the innermost source is left
-dropped_falls : {R : Type 0} (includes depth owed owing : ℕ) (nest : List (File R)) → 0 < length nest → length nest ≤ includes + 1 → owing < 2 ^ 31
-    → work_of includes depth (source_digits (drop 1 nest)) [] owing < work_of includes depth (source_digits nest) [] owed
+dropped_falls : {R : Type 0} (includes depth pending owing : ℕ) (nest : List (File R)) → 0 < length nest → length nest ≤ includes + 1 → owing < 2 ^ 31
+    → work_of includes depth (source_digits (drop 1 nest)) [] owing < work_of includes depth (source_digits nest) [] pending
 unfolding work_of
-dropped_falls includes depth owed owing [] some few least = absurd (omega arith)
-dropped_falls includes depth owed owing (f ∷ outer) some few least =
+dropped_falls includes depth pending owing [] some few least = absurd (omega arith)
+dropped_falls includes depth pending owing (f ∷ outer) some few least =
     let before = source_digits outer in
     let size : length before ≡ length outer = digits-length outer in
     let same : padded (includes + 1) (before ++ 0 ∷ []) ≡ padded (includes + 1) before = zero_place (includes + 1) before (omega arith) in
     rw (inner_digit f outer, ← same)
-    (work_less includes depth owed owing 0 (unused_of f.buffer + 1) before [] [] (omega arith) (omega arith) (omega arith) tt least)
+    (work_less includes depth pending owing 0 (unused_of f.buffer + 1) before [] [] (omega arith) (omega arith) (omega arith) tt least)
 
 pub left_falls : {S R : Type 0} (old new : EngineView S R) → new.limits ≡ old.limits → old.expansion.opens ≡ [] → new.expansion.opens ≡ [] → new.files.nest ≡ drop 1 old.files.nest
-    → 0 < length old.files.nest → length old.files.nest ≤ old.limits.includes + 1 → owed_pieces new.owed < 2 ^ 31 → work_left new < work_left old
+    → 0 < length old.files.nest → length old.files.nest ≤ old.limits.includes + 1 → pending_pieces new.pending < 2 ^ 31 → work_left new < work_left old
 unfolding work_left
 left_falls old new limits before idle nest some few least =
-    rw (limits, nest, idle_digits old.expansion.opens before, idle_digits new.expansion.opens idle) (dropped_falls old.limits.includes old.limits.depth (owed_pieces old.owed) (owed_pieces new.owed) old.files.nest some few least)
+    rw (limits, nest, idle_digits old.expansion.opens before, idle_digits new.expansion.opens idle) (dropped_falls old.limits.includes old.limits.depth (pending_pieces old.pending) (pending_pieces new.pending) old.files.nest some few least)
 
 -- the work left of two open sources and those around them
-work_by_two : (includes depth owed a e : ℕ) (before : List ℕ) → work_of includes depth ((before ++ a ∷ []) ++ e ∷ []) [] owed
-    ≡ number_of (before ++ a ∷ e ∷ (replicate (includes + 1 - length ((before ++ a ∷ []) ++ e ∷ [])) 0 ++ (padded depth [] ++ owed ∷ [])))
-work_by_two includes depth owed a e before =
-    let low = replicate (includes + 1 - length ((before ++ a ∷ []) ++ e ∷ [])) 0 ++ (padded depth [] ++ owed ∷ []) in
-    work_by includes depth owed e (before ++ a ∷ []) [] ∙ ap number_of (append_assoc before (a ∷ []) (e ∷ low))
+work_by_two : (includes depth pending a e : ℕ) (before : List ℕ) → work_of includes depth ((before ++ a ∷ []) ++ e ∷ []) [] pending
+    ≡ number_of (before ++ a ∷ e ∷ (replicate (includes + 1 - length ((before ++ a ∷ []) ++ e ∷ [])) 0 ++ (padded depth [] ++ pending ∷ [])))
+work_by_two includes depth pending a e before =
+    let low = replicate (includes + 1 - length ((before ++ a ∷ []) ++ e ∷ [])) 0 ++ (padded depth [] ++ pending ∷ []) in
+    work_by includes depth pending e (before ++ a ∷ []) [] ∙ ap number_of (append_assoc before (a ∷ []) (e ∷ low))
 
 -- the work left falls where bytes of a source are used, and another is opened inside of it
-work_inside : (includes depth owed owing a b e : ℕ) (before : List ℕ) → a < b → length before < includes → e < 2 ^ 31 → owing < 2 ^ 31
-    → work_of includes depth ((before ++ a ∷ []) ++ e ∷ []) [] owing < work_of includes depth (before ++ b ∷ []) [] owed
-work_inside includes depth owed owing a b e before less room small few =
+work_inside : (includes depth pending owing a b e : ℕ) (before : List ℕ) → a < b → length before < includes → e < 2 ^ 31 → owing < 2 ^ 31
+    → work_of includes depth ((before ++ a ∷ []) ++ e ∷ []) [] owing < work_of includes depth (before ++ b ∷ []) [] pending
+work_inside includes depth pending owing a b e before less room small few =
     let n = includes + 1 - length ((before ++ a ∷ []) ++ e ∷ []) in
     let two : length ((before ++ a ∷ []) ++ e ∷ []) ≡ length before + 2 =
     length-append (before ++ a ∷ []) (e ∷ []) ∙ (ap (λ k. k + 1) (length-append before (a ∷ [])) ∙ omega arith) in
     let one : length (before ++ b ∷ []) ≡ length before + 1 = length-append before (b ∷ []) in
     let places : includes + 1 - length (before ++ b ∷ []) ≡ suc n = omega arith in
     let low : ℕ → List ℕ = λ k. replicate n 0 ++ (padded depth [] ++ k ∷ []) in
-    let long : length (low owing) ≡ length (low owed) =
+    let long : length (low owing) ≡ length (low pending) =
     length-append (replicate n 0) (padded depth [] ++ owing ∷ [])
-    ∙ (ap (λ k. length {A = ℕ} (replicate n 0) + k) (behind_size depth owed owing [] [] (omega arith) (omega arith))
-    ∙ sym (length-append (replicate n 0) (padded depth [] ++ owed ∷ []))) in
+    ∙ (ap (λ k. length {A = ℕ} (replicate n 0) + k) (behind_size depth pending owing [] [] (omega arith) (omega arith))
+    ∙ sym (length-append (replicate n 0) (padded depth [] ++ pending ∷ []))) in
     let within = number_within (e ∷ low owing)
     (small, digits_append (replicate n 0) (padded depth [] ++ owing ∷ []) (digits_zeros n) (digits_append (padded depth []) (owing ∷ []) (digits_padded depth [] tt) (few, tt))) in
-    rw (work_by_two includes depth owing a e before, work_by includes depth owed b before [], places)
-    (digits_fall before a b (e ∷ low owing) (0 ∷ low owed) (ap suc long) less within)
+    rw (work_by_two includes depth owing a e before, work_by includes depth pending b before [], places)
+    (digits_fall before a b (e ∷ low owing) (0 ∷ low pending) (ap suc long) less within)
 
 -- the digits of open sources, where bytes of the innermost are used and another is opened
 pub record IsEntered {R : Type 0} (old new : List (File R)) : Type 0 where
@@ -281,57 +281,57 @@ pub record IsEntered {R : Type 0} (old new : List (File R)) : Type 0 where
   pub some : IsUsed old used
   pub small : unused_of inner.buffer + 1 < 2 ^ 31
 
-entered_digits : {R : Type 0} (includes depth owed owing : ℕ) (old used : List (File R)) (inner : File R) → IsUsed old used → length old ≤ includes → unused_of inner.buffer + 1 < 2 ^ 31 → owing < 2 ^ 31
-    → work_of includes depth (source_digits (inner ∷ used)) [] owing < work_of includes depth (source_digits old) [] owed
+entered_digits : {R : Type 0} (includes depth pending owing : ℕ) (old used : List (File R)) (inner : File R) → IsUsed old used → length old ≤ includes → unused_of inner.buffer + 1 < 2 ^ 31 → owing < 2 ^ 31
+    → work_of includes depth (source_digits (inner ∷ used)) [] owing < work_of includes depth (source_digits old) [] pending
 unfolding closed_buffer unused_of
-entered_digits includes depth owed owing [] [] inner used room small few = let less = used.fewer in absurd (omega arith)
-entered_digits includes depth owed owing [] (g ∷ rest) inner used room small few = let same = used.size in absurd (omega arith)
-entered_digits includes depth owed owing (f ∷ outer) [] inner used room small few = let same = used.size in absurd (omega arith)
-entered_digits includes depth owed owing (f ∷ outer) (g ∷ rest) inner used room small few =
+entered_digits includes depth pending owing [] [] inner used room small few = let less = used.fewer in absurd (omega arith)
+entered_digits includes depth pending owing [] (g ∷ rest) inner used room small few = let same = used.size in absurd (omega arith)
+entered_digits includes depth pending owing (f ∷ outer) [] inner used room small few = let same = used.size in absurd (omega arith)
+entered_digits includes depth pending owing (f ∷ outer) (g ∷ rest) inner used room small few =
     let same : rest ≡ outer = used.outer in
     let fewer : unused_of g.buffer < unused_of f.buffer = used.fewer in
     let size : length (source_digits outer) ≡ length outer = digits-length outer in
     rw (inner_digit inner (g ∷ rest), inner_digit f outer, inner_digit g rest, same)
-    (work_inside includes depth owed owing (unused_of g.buffer + 1) (unused_of f.buffer + 1) (unused_of inner.buffer + 1) (source_digits outer) (omega arith) (omega arith) small few)
+    (work_inside includes depth pending owing (unused_of g.buffer + 1) (unused_of f.buffer + 1) (unused_of inner.buffer + 1) (source_digits outer) (omega arith) (omega arith) small few)
 
 pub entered_falls : {S R : Type 0} (old new : EngineView S R) → new.limits ≡ old.limits → old.expansion.opens ≡ [] → new.expansion.opens ≡ [] → IsEntered old.files.nest new.files.nest → length old.files.nest ≤ old.limits.includes
-    → owed_pieces new.owed < 2 ^ 31 → work_left new < work_left old
+    → pending_pieces new.pending < 2 ^ 31 → work_left new < work_left old
 unfolding work_left
 entered_falls old new limits before idle entered room few =
-    rw (limits, entered.becomes, idle_digits old.expansion.opens before, idle_digits new.expansion.opens idle) (entered_digits old.limits.includes old.limits.depth (owed_pieces old.owed) (owed_pieces new.owed) old.files.nest entered.used entered.inner entered.some room entered.small few)
+    rw (limits, entered.becomes, idle_digits old.expansion.opens before, idle_digits new.expansion.opens idle) (entered_digits old.limits.includes old.limits.depth (pending_pieces old.pending) (pending_pieces new.pending) old.files.nest entered.used entered.inner entered.some room entered.small few)
 
 -- The work left falls where the digits of the open texts fall.
 
 -- a digit falls behind the same ones, whatever stands behind it
-one_falls : (head : List ℕ) (n owed owing a b : ℕ) (old new : List ℕ) → length old ≤ n → length new ≤ n → AreDigits new → owing < 2 ^ 31 → a < b
-    → number_of (head ++ ((a ∷ padded n new) ++ owing ∷ [])) < number_of (head ++ ((b ∷ padded n old) ++ owed ∷ []))
-one_falls head n owed owing a b old new fits room all few less =
-    digits_fall head a b (padded n new ++ owing ∷ []) (padded n old ++ owed ∷ []) (behind_size n owed owing old new fits room) less (behind_within n owing new all few)
+one_falls : (head : List ℕ) (n pending owing a b : ℕ) (old new : List ℕ) → length old ≤ n → length new ≤ n → AreDigits new → owing < 2 ^ 31 → a < b
+    → number_of (head ++ ((a ∷ padded n new) ++ owing ∷ [])) < number_of (head ++ ((b ∷ padded n old) ++ pending ∷ []))
+one_falls head n pending owing a b old new fits room all few less =
+    digits_fall head a b (padded n new ++ owing ∷ []) (padded n old ++ pending ∷ []) (behind_size n pending owing old new fits room) less (behind_within n owing new all few)
 
--- digits that fall make a smaller number, behind any others and before any count of what is owed
-pub number_falls : (head : List ℕ) (depth owed owing : ℕ) (old new : List ℕ) → AreFalling old new → length old ≤ depth → length new ≤ depth → AreDigits new → owing < 2 ^ 31
-    → number_of (head ++ (padded depth new ++ owing ∷ [])) < number_of (head ++ (padded depth old ++ owed ∷ []))
+-- digits that fall make a smaller number, behind any others and before any count of what is pending
+pub number_falls : (head : List ℕ) (depth pending owing : ℕ) (old new : List ℕ) → AreFalling old new → length old ≤ depth → length new ≤ depth → AreDigits new → owing < 2 ^ 31
+    → number_of (head ++ (padded depth new ++ owing ∷ [])) < number_of (head ++ (padded depth old ++ pending ∷ []))
 unfolding AreFalling
-number_falls head depth owed owing [] new falls fits room all few = absurd falls
-number_falls head zero owed owing (d ∷ old) new falls fits room all few = absurd (omega (arith, fits))
-number_falls head (suc n) owed owing (d ∷ old) [] falls fits room all few =
+number_falls head depth pending owing [] new falls fits room all few = absurd falls
+number_falls head zero pending owing (d ∷ old) new falls fits room all few = absurd (omega (arith, fits))
+number_falls head (suc n) pending owing (d ∷ old) [] falls fits room all few =
     rw (padded_none n, padded_first n d old)
-    (one_falls head n owed owing 0 d old [] (omega (arith, fits)) (omega arith) tt few falls)
-number_falls head (suc n) owed owing (d ∷ old) (e ∷ new) falls fits room all few =
+    (one_falls head n pending owing 0 d old [] (omega (arith, fits)) (omega arith) tt few falls)
+number_falls head (suc n) pending owing (d ∷ old) (e ∷ new) falls fits room all few =
     rw (padded_first n e new, padded_first n d old) (elim falls [
-      | inl less ↦ one_falls head n owed owing e d old new (omega (arith, fits)) (omega (arith, room)) all.1 few less
-      | inr same ↦ next same.0 (number_falls (head ++ d ∷ []) n owed owing old new same.1 (omega (arith, fits)) (omega (arith, room)) all.1 few)
+      | inl less ↦ one_falls head n pending owing e d old new (omega (arith, fits)) (omega (arith, room)) all.1 few less
+      | inr same ↦ next same.0 (number_falls (head ++ d ∷ []) n pending owing old new same.1 (omega (arith, fits)) (omega (arith, room)) all.1 few)
     ])
   where
-    next : e ≡ d → number_of ((head ++ d ∷ []) ++ (padded n new ++ owing ∷ [])) < number_of ((head ++ d ∷ []) ++ (padded n old ++ owed ∷ []))
-        → number_of (head ++ ((e ∷ padded n new) ++ owing ∷ [])) < number_of (head ++ ((d ∷ padded n old) ++ owed ∷ []))
+    next : e ≡ d → number_of ((head ++ d ∷ []) ++ (padded n new ++ owing ∷ [])) < number_of ((head ++ d ∷ []) ++ (padded n old ++ pending ∷ []))
+        → number_of (head ++ ((e ∷ padded n new) ++ owing ∷ [])) < number_of (head ++ ((d ∷ padded n old) ++ pending ∷ []))
     next same less =
-        subst (λ (k : ℕ). number_of (head ++ ((k ∷ padded n new) ++ owing ∷ [])) < number_of (head ++ ((d ∷ padded n old) ++ owed ∷ []))) (sym same)
-        (subst (λ (ds : List ℕ). number_of ds < number_of (head ++ ((d ∷ padded n old) ++ owed ∷ []))) (append_assoc head (d ∷ []) (padded n new ++ owing ∷ []))
-        (subst (λ (ds : List ℕ). number_of ((head ++ d ∷ []) ++ (padded n new ++ owing ∷ [])) < number_of ds) (append_assoc head (d ∷ []) (padded n old ++ owed ∷ [])) less))
+        subst (λ (k : ℕ). number_of (head ++ ((k ∷ padded n new) ++ owing ∷ [])) < number_of (head ++ ((d ∷ padded n old) ++ pending ∷ []))) (sym same)
+        (subst (λ (ds : List ℕ). number_of ds < number_of (head ++ ((d ∷ padded n old) ++ pending ∷ []))) (append_assoc head (d ∷ []) (padded n new ++ owing ∷ []))
+        (subst (λ (ds : List ℕ). number_of ((head ++ d ∷ []) ++ (padded n new ++ owing ∷ [])) < number_of ds) (append_assoc head (d ∷ []) (padded n old ++ pending ∷ [])) less))
 
 -- the work left falls where the digits of the open texts fall
-pub cursors_fall : (includes depth owed owing : ℕ) (sources old new : List ℕ) → AreFalling old new → length old ≤ depth → length new ≤ depth → AreDigits new → owing < 2 ^ 31
-    → work_of includes depth sources new owing < work_of includes depth sources old owed
+pub cursors_fall : (includes depth pending owing : ℕ) (sources old new : List ℕ) → AreFalling old new → length old ≤ depth → length new ≤ depth → AreDigits new → owing < 2 ^ 31
+    → work_of includes depth sources new owing < work_of includes depth sources old pending
 unfolding work_of
-cursors_fall includes depth owed owing sources old new falls fits room all few = number_falls (padded (includes + 1) sources) depth owed owing old new falls fits room all few
+cursors_fall includes depth pending owing sources old new falls fits room all few = number_falls (padded (includes + 1) sources) depth pending owing old new falls fits room all few

@@ -17,7 +17,7 @@ use Rattle.rdlpp_front.specs.SourceItems.{IsDirective, IsNamed, IsUsage, word_of
 use Rattle.rdlpp_front.specs.declared.item.Argument.{Argument}
 use Rattle.rdlpp_state.specs.Engine.{EngineView}
 use Rattle.rdlpp_state.specs.OpenConditionals.{inner_shown}
-use Rattle.rdlpp_state.specs.Owed.{line_ends_owed}
+use Rattle.rdlpp_state.specs.Pending.{line_ends_pending}
 use Rattle.rdlpp_state.specs.Remaining.{state_of}
 use Rattle.rdlpp_state.specs.declared.place.Place.{Place}
 use Rattle.rdlpp_state.specs.declared.place.Place.TheVariants.{Kept}
@@ -45,9 +45,9 @@ IsGivenBranch Elsif held a = IsNamed Elsif held a
 IsGivenBranch Else held a = (a ≡ None) × IsDirective Else held
 IsGivenBranch d held a = ⊥
 
--- an engine of whose innermost source so many bytes are passed, whose LF bytes are owed (this project's profile)
+-- an engine of whose innermost source so many bytes are passed, whose LF bytes are pending (this project's profile)
 unfoldable pub passes_over : {S R : Type 0} → ℕ → ℕ → EngineView S R → EngineView S R
-passes_over len lines e = record e { owed = line_ends_owed lines; files = record e.files { nest = with_inner (consumed_file len lines) e.files.nest } }
+passes_over len lines e = record e { pending = line_ends_pending lines; files = record e.files { nest = with_inner (consumed_file len lines) e.files.nest } }
 
 -- the fault of a conditional that is open where its source ends, at the line that it showed (this project's profile)
 abbrev pub unclosed_fault : ℕ → State → Told

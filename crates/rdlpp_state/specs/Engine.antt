@@ -14,7 +14,7 @@ use Rattle.rdlpp_texts.specs.Steps.{AreSound}
 use Rattle.rdlpp_usages.specs.Usages.{ExpansionView}
 use Rattle.rdlpp_state.specs.OpenConditionals.{AreConditions}
 use Rattle.rdlpp_state.specs.Marks.{MarksView}
-use Rattle.rdlpp_state.specs.Owed.{OwedView}
+use Rattle.rdlpp_state.specs.Pending.{PendingView}
 use Rattle.rdlpp_state.specs.declared.phase.Phase.{Phase}
 use Rattle.rdlpp_state.specs.declared.phase.Phase.TheVariants.{Fresh, Open, Passed, Closed}
 
@@ -27,7 +27,7 @@ pub record EngineView (S R : Type 0) : Type 0 where
   pub quota : ℕ
   pub kept : Option Told
   pub main : List ℕ
-  pub owed : OwedView
+  pub pending : PendingView
   pub marks : MarksView
   pub table : TableView
   pub conditions : ConditionsView

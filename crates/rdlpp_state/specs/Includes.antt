@@ -18,7 +18,7 @@ use Rattle.rdlpp_front.specs.SourceItems.{HasString, include_name}
 use Rattle.rdlpp_state.specs.Calls.{SourcesCalled}
 use Rattle.rdlpp_state.specs.Engine.{EngineView}
 use Rattle.rdlpp_state.specs.Marks.{MarksView, ends_line}
-use Rattle.rdlpp_state.specs.Owed.{OwedView, nothing_owed, origin_owed}
+use Rattle.rdlpp_state.specs.Pending.{PendingView, nothing_pending, origin_pending}
 
 -- the kind of fault that a source's refusal is told as (this project's profile)
 unfoldable pub kind_of_source : SourceFault → FaultKind
@@ -66,27 +66,27 @@ Sought g e name new (Ok found) = Searches g e name new (Ok found)
 Sought g e name new (Err kind) = Denies g e name new kind
 
 -- an engine whose `include` has found a source: the directive, which has so many bytes, is used, and the source is open inside of the
--- others, before which its origin line is owed, where asked for (this project's profile)
+-- others, before which its origin line is pending, where asked for (this project's profile)
 unfoldable pub included_engine : {S R : Type 0} → Found R → ℕ → EngineView S R → EngineView S R
 included_engine found stop e = record e {
-  owed = record { line_ends = 0; origin = origin_owed e.origins 1 };
+  pending = record { line_ends = 0; origin = origin_pending e.origins 1 };
   files = record e.files {
     nest = entered_file found e.limits.source_bytes e.files.line_bytes (length e.conditions.open_now) (inner_buffer e.files.nest).line
         ∷ with_inner (consumed_file stop 0) e.files.nest;
   };
 }
 
--- what is owed where an included source has ended: an LF where its text ends in mid-line, and the origin line of its `include`, where
+-- what is pending where an included source has ended: an LF where its text ends in mid-line, and the origin line of its `include`, where
 -- asked for (this project's profile)
-unfoldable pub owed_behind : {R : Type 0} → Bool → List (File R) → OwedView
-owed_behind origins [] = nothing_owed
-owed_behind origins (f ∷ []) = nothing_owed
-owed_behind origins (f ∷ around ∷ outer) = record {
+unfoldable pub pending_behind : {R : Type 0} → Bool → List (File R) → PendingView
+pending_behind origins [] = nothing_pending
+pending_behind origins (f ∷ []) = nothing_pending
+pending_behind origins (f ∷ around ∷ outer) = record {
   line_ends = if f.torn then 1 else 0;
-  origin = origin_owed origins (shown_line (shift_of around.shift) f.include_line);
+  origin = origin_pending origins (shown_line (shift_of around.shift) f.include_line);
 }
 
--- the marks of an engine that has left an included source: the LF that is owed shows the place of the `include` (this project's profile)
+-- the marks of an engine that has left an included source: the LF that is pending shows the place of the `include` (this project's profile)
 unfoldable pub marks_behind : {R : Type 0} → List (File R) → MarksView → MarksView
 marks_behind [] m = m
 marks_behind (f ∷ []) m = m
@@ -94,4 +94,4 @@ marks_behind (f ∷ around ∷ outer) m = ends_line (if f.torn then 1 else 0) ar
 
 -- an engine that has left an included source
 unfoldable pub left_engine : {S R : Type 0} → EngineView S R → EngineView S R
-left_engine e = record e { owed = owed_behind e.origins e.files.nest; marks = marks_behind e.files.nest e.marks; files = record e.files { nest = drop 1 e.files.nest } }
+left_engine e = record e { pending = pending_behind e.origins e.files.nest; marks = marks_behind e.files.nest e.marks; files = record e.files { nest = drop 1 e.files.nest } }

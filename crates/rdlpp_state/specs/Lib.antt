@@ -1,6 +1,6 @@
 pub mod Calls
 pub mod Work
-pub mod Owed
+pub mod Pending
 pub mod Marks
 pub mod OpenConditionals
 pub mod Engine

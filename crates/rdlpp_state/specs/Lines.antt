@@ -10,7 +10,7 @@ use Rattle.rdlpp_read.specs.declared.arguments.line.GivenLine.{GivenLine}
 use Rattle.rdlpp_read.specs.declared.files.File.{File}
 use Rattle.rdlpp_state.specs.Engine.{EngineView}
 use Rattle.rdlpp_state.specs.Marks.{ends_line}
-use Rattle.rdlpp_state.specs.Owed.{origin_owed}
+use Rattle.rdlpp_state.specs.Pending.{origin_pending}
 use Rattle.rdlpp_state.specs.Remaining.{state_of}
 
 -- a source that shows another name, and from a physical line on other numbers (IEEE 1364-2001, `line`)
@@ -22,13 +22,13 @@ abbrev pub inner_blanks : {R : Type 0} → List (File R) → Bool
 inner_blanks [] = true
 inner_blanks (f ∷ outer) = f.blanks
 
--- a `line` that was accepted: its line is used, and its LF byte, which shows the name and the line from before, and the origin line are owed
+-- a `line` that was accepted: its line is used, and its LF byte, which shows the name and the line from before, and the origin line are pending
 -- (this project's profile)
 pub record Renumbers {S R : Type 0} (given : GivenLine) (old new : EngineView S R) : Type 0 where
   pub lines : ℕ
   pub counted : lines ≡ line_ends (take (5 + given.stop) (held_of (inner_buffer old.files.nest)))
   pub becomes : new ≡ record old {
-    owed = record { line_ends = lines; origin = origin_owed old.origins given.number };
+    pending = record { line_ends = lines; origin = origin_pending old.origins given.number };
     marks = ends_line lines (state_of old).name (shown_line (state_of old).shift (inner_buffer old.files.nest).line) old.marks;
     files = record old.files {
       nest = with_inner (renumbered_file ((inner_buffer old.files.nest).line + 1) given.number given.name)

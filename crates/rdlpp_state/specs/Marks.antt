@@ -2,7 +2,7 @@
 -- A definition that names no source is this project's own.
 use Rattle.std.specs.Prelude.{ℕ, ◌-◌, ◌^◌, ◌<◌, ◌==◌, Bool, false, not, List, [], Option, None, Some, if◌then◌else◌, ⊤}
 use Rattle.rdlpp_meaning.specs.State.{Shift, shown_line}
-use Rattle.rdlpp_state.specs.Owed.{OriginView, OwedView}
+use Rattle.rdlpp_state.specs.Pending.{OriginView, PendingView}
 use Rattle.rdlpp_state.specs.declared.positions.Lent.{Lent}
 use Rattle.rdlpp_state.specs.declared.positions.Lent.TheVariants.{Nothing, Line, Usage, Ending, Origin}
 use Rattle.rdlpp_state.specs.declared.positions.LineStep.{LineStep}
@@ -20,7 +20,7 @@ abbrev pub told_position : Option Position → Option PlaceView
 told_position None = None
 told_position (Some p) = Some (record { name = p.name.now; line = p.line; step = p.step })
 
--- where the piece begins that was lent last; whether the LF that is owed stands behind a `line` or behind an included source; and the name
+-- where the piece begins that was lent last; whether the LF that is pending stands behind a `line` or behind an included source; and the name
 -- and the line that such an LF shows
 pub record MarksView : Type 0 where
   pub lent : Lent
@@ -48,21 +48,21 @@ lends_line line m = record m { lent = Line line }
 unfoldable pub lends_usage : ℕ → MarksView → MarksView
 lends_usage line m = record m { lent = Usage line }
 
--- the first of the LF bytes that are owed is lent, where the innermost source stands on a physical line behind them
+-- the first of the LF bytes that are pending is lent, where the innermost source stands on a physical line behind them
 unfoldable pub lends_line_end : ℕ → ℕ → MarksView → MarksView
 lends_line_end line_ends line m =
     if m.ending then record m { lent = Ending; ending = false } else record m { lent = Line (line - line_ends) }
 
--- a piece of an origin line is lent, if one is owed
+-- a piece of an origin line is lent, if one is pending
 unfoldable pub lends_origin : Option OriginView → MarksView → MarksView
 lends_origin None m = m
 lends_origin (Some origin) m = record m { lent = Origin origin.number }
 
--- the first piece of what is owed is lent
-unfoldable pub lends_owed : OwedView → ℕ → MarksView → MarksView
-lends_owed owed line m = if owed.line_ends == 0 then lends_origin owed.origin m else lends_line_end owed.line_ends line m
+-- the first piece of what is pending is lent
+unfoldable pub lends_pending : PendingView → ℕ → MarksView → MarksView
+lends_pending pending line m = if pending.line_ends == 0 then lends_origin pending.origin m else lends_line_end pending.line_ends line m
 
--- so many LF bytes are owed behind a `line` or behind an included source, which show a name and a line
+-- so many LF bytes are pending behind a `line` or behind an included source, which show a name and a line
 unfoldable pub ends_line : ℕ → List ℕ → ℕ → MarksView → MarksView
 ends_line line_ends name line m = record m { ending = not (line_ends == 0); name = name; line = line }
 

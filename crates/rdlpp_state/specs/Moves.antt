@@ -20,24 +20,24 @@ use Rattle.rdlpp_state.specs.Engine.{EngineView, IsSoundEngine}
 use Rattle.rdlpp_state.specs.Conditionals.{unclosed_fault}
 use Rattle.rdlpp_state.specs.Includes.{left_engine}
 use Rattle.rdlpp_state.specs.OpenConditionals.{inner_below}
-use Rattle.rdlpp_state.specs.Owed.{line_ends_owed, nothing_owed}
+use Rattle.rdlpp_state.specs.Pending.{line_ends_pending, nothing_pending}
 use Rattle.rdlpp_state.specs.Remaining.{state_of}
 use Rattle.rdlpp_state.specs.Steps.{IsOwn}
 use Rattle.rdlpp_state.specs.declared.place.Place.{Place}
-use Rattle.rdlpp_state.specs.declared.place.Place.TheVariants.{Source, Text, Owed, End, Kept}
+use Rattle.rdlpp_state.specs.declared.place.Place.TheVariants.{Source, Text, Pending, End, Kept}
 use Rattle.rdlpp_state.specs.declared.phase.Phase.TheVariants.{Open, Closed}
 
 -- an engine whose main text is open, that keeps no fault and owes nothing
-pub record IsUnowed {S R : Type 0} (e : EngineView S R) : Type 0 where
+pub record IsDrained {S R : Type 0} (e : EngineView S R) : Type 0 where
   pub open_ : e.phase ≡ Open
   pub free : e.kept ≡ None
-  pub owed : e.owed ≡ nothing_owed
+  pub pending : e.pending ≡ nothing_pending
 
--- an engine that goes on in its open sources: no fault is kept, nothing is owed, and no text of a usage is open
+-- an engine that goes on in its open sources: no fault is kept, nothing is pending, and no text of a usage is open
 pub record IsReady {S R : Type 0} (e : EngineView S R) : Type 0 where
   pub open_ : e.phase ≡ Open
   pub free : e.kept ≡ None
-  pub owed : e.owed ≡ nothing_owed
+  pub pending : e.pending ≡ nothing_pending
   pub idle : e.expansion.opens ≡ []
   pub nest : 0 < length e.files.nest
   pub sound : IsSoundEngine e.limits e.phase e.table e.files e.conditions
@@ -80,7 +80,7 @@ abbrev pub Ends : {S R : Type 0} → EngineView S R → EngineView S R → Optio
 Ends old new None = Returns old new
 Ends old new (Some (Source start end)) = ⊥
 Ends old new (Some (Text place)) = ⊥
-Ends old new (Some (Owed len)) = ⊥
+Ends old new (Some (Pending len)) = ⊥
 Ends old new (Some End) = Closes old new
 Ends old new (Some Kept) = StopsOpen old new ⊎ StopsUnclosed old new
 
@@ -88,7 +88,7 @@ Ends old new (Some Kept) = StopsOpen old new ⊎ StopsUnclosed old new
 abbrev pub define_rest : {S R : Type 0} → EngineView S R → ℕ → List ℕ
 define_rest e len = drop 7 (take len (held_of (inner_buffer e.files.nest)))
 
--- a `define` that was accepted: its line is used, and its LF bytes are owed
+-- a `define` that was accepted: its line is used, and its LF bytes are pending
 pub record Defines {S R : Type 0} (len : ℕ) (old new : EngineView S R) : Type 0 where
   pub macros : List Macro
   pub accepted : define_of old.table.most_bytes old.table.most_macros old.table.macros (define_rest old len) ≡ Accepted macros
@@ -97,7 +97,7 @@ pub record Defines {S R : Type 0} (len : ℕ) (old new : EngineView S R) : Type 
   pub becomes : new ≡ record old {
     table = record old.table { macros = macros };
     files = record old.files { nest = with_inner (consumed_file len lines) old.files.nest };
-    owed = line_ends_owed lines;
+    pending = line_ends_pending lines;
   }
 
 -- a `define` that was refused, whose fault is kept
@@ -113,7 +113,7 @@ ReadsDefine len old new None = Defines len old new
 ReadsDefine len old new (Some Kept) = RefusesDefine len old new
 ReadsDefine len old new (Some (Source start end)) = ⊥
 ReadsDefine len old new (Some (Text place)) = ⊥
-ReadsDefine len old new (Some (Owed n)) = ⊥
+ReadsDefine len old new (Some (Pending n)) = ⊥
 ReadsDefine len old new (Some End) = ⊥
 
 -- the fault of the name that a directive is given is kept

@@ -15,7 +15,7 @@ use Rattle.rdlpp_meaning.specs.Output.{name_cut, opening_fault}
 use Rattle.rdlpp_state.specs.Engine.{EngineView}
 use Rattle.rdlpp_state.specs.Marks.{no_marks}
 use Rattle.rdlpp_read.specs.Files.{entered_file}
-use Rattle.rdlpp_state.specs.Owed.{nothing_owed, origin_owed}
+use Rattle.rdlpp_state.specs.Pending.{nothing_pending, origin_pending}
 use Rattle.rdlpp_state.specs.Held.{IsBounded}
 use Rattle.rdlpp_state.specs.Stored.{HoldsStores, LetsGo}
 use Rattle.rdlpp_state.specs.Remaining.{find_of, left_of, lookup_of}
@@ -34,7 +34,7 @@ fresh_engine limits sources origins = record {
   quota = limits.output_bytes;
   kept = None;
   main = [];
-  owed = nothing_owed;
+  pending = nothing_pending;
   marks = no_marks;
   table = record { macros = []; most_bytes = limits.definition_bytes; most_macros = limits.definitions };
   conditions = record { open_now = []; skipped = None; limit = limits.conditions };
@@ -49,14 +49,14 @@ Makes limits sources origins (Ok engine) = (limit_fault limits ≡ None) × (eng
 Makes limits sources origins (Err (BadLimits fault)) = limit_fault limits ≡ Some fault
 Makes limits sources origins (Err NoMemory) = limit_fault limits ≡ None
 
--- an engine whose main text was found for a path, before which its origin line is owed, where asked for
+-- an engine whose main text was found for a path, before which its origin line is pending, where asked for
 unfoldable pub opened_engine : {S R : Type 0} → EngineView S R → List ℕ → Found R → EngineView S R
 opened_engine e path found = record e {
   phase = Open;
   quota = e.limits.output_bytes;
   kept = None;
   main = name_cut path;
-  owed = record { line_ends = 0; origin = origin_owed e.origins 1 };
+  pending = record { line_ends = 0; origin = origin_pending e.origins 1 };
   files = record e.files { nest = entered_file found e.limits.source_bytes e.files.line_bytes 0 0 ∷ e.files.nest };
 }
 

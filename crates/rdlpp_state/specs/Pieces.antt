@@ -8,35 +8,35 @@ use Rattle.rdlpp_read.specs.Files.{inner_buffer}
 use Rattle.rdlpp_meaning.specs.Opens.{Texts}
 use Rattle.rdlpp_texts.specs.Places.{IsPlaced as IsTextPlaced, place_bytes, texts_of}
 use Rattle.rdlpp_state.specs.Engine.{EngineView}
-use Rattle.rdlpp_state.specs.Owed.{digits_of, part_bytes}
+use Rattle.rdlpp_state.specs.Pending.{digits_of, part_bytes}
 use Rattle.rdlpp_state.specs.Remaining.{inner_name}
-use Rattle.rdlpp_state.specs.declared.owed.OwedPiece.{OwedPiece}
+use Rattle.rdlpp_state.specs.declared.pending.PendingPiece.{PendingPiece}
 use Rattle.rdlpp_state.specs.declared.place.Place.{Place}
-use Rattle.rdlpp_state.specs.declared.place.Place.TheVariants.{Source, Text, Owed, End, Kept}
+use Rattle.rdlpp_state.specs.declared.place.Place.TheVariants.{Source, Text, Pending, End, Kept}
 use Rattle.rdlpp_state.specs.declared.place.Piece.{Piece}
 use Rattle.rdlpp_state.specs.declared.place.Piece.TheVariants.{Bytes, Done}
 
--- the bytes of the part of which a piece that is owed is the beginning, under the name that is shown
-abbrev pub owed_part : {S R : Type 0} → EngineView S R → OwedPiece → List ℕ
-owed_part e piece = part_bytes piece.part (inner_name e.files.nest) (digits_of e.owed.origin)
+-- the bytes of the part of which a piece that is pending is the beginning, under the name that is shown
+abbrev pub pending_part : {S R : Type 0} → EngineView S R → PendingPiece → List ℕ
+pending_part e piece = part_bytes piece.part (inner_name e.files.nest) (digits_of e.pending.origin)
 
 -- the texts in which the open texts of a usage lie: the live macros, and what is kept of the call
 abbrev pub held_texts : {S R : Type 0} → EngineView S R → Texts
 held_texts e = texts_of e.table.macros e.expansion.arguments
 
--- a place lies in the held stores, or in what is owed
+-- a place lies in the held stores, or in what is pending
 abbrev pub IsPlaced : {S R : Type 0} → EngineView S R → Place → Type 0
 IsPlaced e (Source start end) = (0 < length e.files.nest) × (start ≤ end) × (end ≤ length (inner_buffer e.files.nest).window)
 IsPlaced e (Text place) = IsTextPlaced (held_texts e) place
-IsPlaced e (Owed piece) = (0 < length e.files.nest) × (piece.len ≤ length (owed_part e piece))
+IsPlaced e (Pending piece) = (0 < length e.files.nest) × (piece.len ≤ length (pending_part e piece))
 IsPlaced e End = ⊤
 IsPlaced e Kept = ⊤
 
--- the bytes at a place: a part of the innermost source's buffer, or of an open text, or what is owed; none at the end
+-- the bytes at a place: a part of the innermost source's buffer, or of an open text, or what is pending; none at the end
 abbrev pub bytes_at : {S R : Type 0} → EngineView S R → Place → Option (List ℕ)
 bytes_at e (Source start end) = Some (slice_range (inner_buffer e.files.nest).window start end)
 bytes_at e (Text place) = Some (place_bytes (held_texts e) place)
-bytes_at e (Owed piece) = Some (take piece.len (owed_part e piece))
+bytes_at e (Pending piece) = Some (take piece.len (pending_part e piece))
 bytes_at e End = None
 bytes_at e Kept = None
 
@@ -59,7 +59,7 @@ kept_answer None = Ok None
 abbrev pub lent_answer : {S R : Type 0} → EngineView S R → Place → Result (Option (List ℕ)) Told
 lent_answer e (Source start end) = Ok (bytes_at e (Source start end))
 lent_answer e (Text place) = Ok (bytes_at e (Text place))
-lent_answer e (Owed piece) = Ok (bytes_at e (Owed piece))
+lent_answer e (Pending piece) = Ok (bytes_at e (Pending piece))
 lent_answer e End = Ok None
 lent_answer e Kept = kept_answer e.kept
 

@@ -22,7 +22,7 @@ use Rattle.rdlpp_texts.specs.Digits.{cursor_digits}
 use Rattle.rdlpp_usages.specs.Usages.{texts_left}
 use Rattle.rdlpp_state.specs.Engine.{EngineView}
 use Rattle.rdlpp_state.specs.OpenConditionals.{outer_open}
-use Rattle.rdlpp_state.specs.Owed.{owed_bytes, owed_pieces}
+use Rattle.rdlpp_state.specs.Pending.{pending_bytes, pending_pieces}
 use Rattle.rdlpp_state.specs.Work.{work_of}
 use Rattle.rdlpp_state.specs.declared.phase.Phase.{Phase}
 use Rattle.rdlpp_state.specs.declared.phase.Phase.TheVariants.{Fresh, Open, Passed, Closed}
@@ -95,9 +95,10 @@ inner_name (f ∷ outer) = f.name.bytes
 abbrev pub run_rules : {S R : Type 0} → Ghosts S R → EngineView S R → Rules
 run_rules g e = source_rules (g.catalog e.sources) e.limits e.origins
 
--- what remains of the text: the bytes that are owed, then what remains of the open texts of a usage, and then what remains of the open sources (this project's profile)
+-- what remains of the text: the bytes that are pending, then what remains of the open texts of a usage, and then what remains of
+-- the open sources (this project's profile)
 unfoldable pub text_of : {S R : Type 0} → Ghosts S R → EngineView S R → Passage
-text_of g e = behind_bytes (owed_bytes (inner_name e.files.nest) e.owed)
+text_of g e = behind_bytes (pending_bytes (inner_name e.files.nest) e.pending)
     (goes_on (texts_left (run_rules g e) (state_of e) e.table.macros e.expansion)
     (λ after. nest_left e.limits (run_rules g e) g.unread e.table.macros e.conditions e.files.nest))
 
@@ -128,4 +129,4 @@ left_of g e = limited (output_fault e.main) e.quota (uncut_of g e)
 
 -- the work left of an engine (this project's profile)
 unfoldable pub work_left : {S R : Type 0} → EngineView S R → ℕ
-work_left e = work_of e.limits.includes e.limits.depth (source_digits e.files.nest) (cursor_digits e.expansion.opens) (owed_pieces e.owed)
+work_left e = work_of e.limits.includes e.limits.depth (source_digits e.files.nest) (cursor_digits e.expansion.opens) (pending_pieces e.pending)

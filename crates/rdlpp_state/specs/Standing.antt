@@ -23,13 +23,13 @@ use Rattle.rdlpp_usages.specs.Usages.{IsOpenAlone, IsOwnLine, IsRoomy, IsRun, Is
 use Rattle.rdlpp_usages.specs.declared.expansion.Opening.{Opening}
 use Rattle.rdlpp_usages.specs.declared.expansion.Opening.TheVariants.{Opened}
 use Rattle.rdlpp_state.specs.Engine.{EngineView}
-use Rattle.rdlpp_state.specs.Owed.{OwedView, TakesPiece, digits_of, nothing_owed, part_bytes}
-use Rattle.rdlpp_state.specs.Marks.{PlaceView, lends_line, lends_owed, lends_usage}
+use Rattle.rdlpp_state.specs.Pending.{PendingView, TakesPiece, digits_of, nothing_pending, part_bytes}
+use Rattle.rdlpp_state.specs.Marks.{PlaceView, lends_line, lends_pending, lends_usage}
 use Rattle.rdlpp_state.specs.Pieces.{held_texts}
-use Rattle.rdlpp_state.specs.Positions.{MarksPlace, owed_place, position_of, source_place, usage_place}
+use Rattle.rdlpp_state.specs.Positions.{MarksPlace, pending_place, position_of, source_place, usage_place}
 use Rattle.rdlpp_state.specs.Remaining.{inner_name, text_of}
 use Rattle.rdlpp_state.specs.Stored.{called_formals}
-use Rattle.rdlpp_state.specs.declared.owed.OwedPiece.{OwedPiece}
+use Rattle.rdlpp_state.specs.declared.pending.PendingPiece.{PendingPiece}
 
 -- the opening of a usage of so many bytes: what it says of it, in each run; of the engine the sources, those that are open and the open texts alone changed
 pub record OpensUsage {S R : Type 0} (g : Ghosts S R) (len : ℕ) (old new : EngineView S R) (opening : Opening) : Type 0 where
@@ -57,29 +57,32 @@ pub record OpensUsage {S R : Type 0} (g : Ghosts S R) (len : ℕ) (old new : Eng
   pub means : (rules : Rules) (s : State) (ws : List Waiting) (os : List Progress) → IsRun rules s old.table.macros old.expansion.depth old.expansion.most → g.tells old.sources
       → TellsUsage rules s g.unread ws os old.table.macros (inner_buffer old.files.nest).line (usage_name (held_of (inner_buffer old.files.nest)) len) opening new.expansion old.files.nest new.files.nest
 
--- what a step does that lends no bytes: it goes on over the open sources, while no text of a usage is open, and marks the place of an LF that is owed; it opens the
--- usage in front of what is held; or it opens or closes a text of a usage, as expansion has it: it opens what the name at the front stands for, or closes
--- texts of which nothing is left; and each open text lies in a live body or in what is kept of the call
+-- what a step does that lends no bytes: it goes on over the open sources, while no text of a usage is open, and marks the place of
+-- an LF that is pending; it opens the usage in front of what is held; or it opens or closes a text of a usage, as expansion has it:
+-- it opens what the name at the front stands for, or closes texts of which nothing is left; and each open text lies in a live body
+-- or in what is kept of the call
 pub data Turns {S R : Type 0} (g : Ghosts S R) (at after : EngineView S R) : Type 0 where
   InSources : at.expansion.opens ≡ [] → after.expansion ≡ at.expansion → MarksPlace at after → Turns g at after
   OpensText : (len : ℕ) → OpensUsage g len at after Opened → Turns g at after
-  InTexts : at.owed ≡ nothing_owed → after ≡ record at { expansion = after.expansion }
+  InTexts : at.pending ≡ nothing_pending → after ≡ record at { expansion = after.expansion }
       → IsStep at.expansion.line at.expansion.depth (held_texts at) at.expansion.opens Silent after.expansion.opens
       → TurnsOver (held_texts at) at.expansion.opens Silent after.expansion.opens
       → AreSound (held_texts after) after.expansion.opens → Turns g at after
 
--- where a piece stands that an engine lends, its place, and what becomes of that: the bytes at which the innermost cursor stands, where nothing is owed and a text of
--- a usage is open, behind which what stands there is opened, or texts are closed of which nothing is left, and the open texts alone change; those at which the innermost source's buffer stands, where none is open, and it goes on after them; the
--- first of what is owed, an LF, a fixed text, the shown name or digits, which is owed no more; or no bytes. But for no bytes the engine marks where it lent
+-- where a piece stands that an engine lends, its place, and what becomes of that: the bytes at which the innermost cursor stands,
+-- where nothing is pending and a text of a usage is open, behind which what stands there is opened, or texts are closed of which
+-- nothing is left, and the open texts alone change; those at which the innermost source's buffer stands, where none is open, and it
+-- goes on after them; the first of what is pending, an LF, a fixed text, the shown name or digits, which is pending no more; or no
+-- bytes. But for no bytes the engine marks where it lent
 pub data StandsIn {S R : Type 0} (g : Ghosts S R) (at after : EngineView S R) (piece : List ℕ) (place : Option PlaceView) : Type 0 where
-  AtCursor : (text : TextPlace) → at.owed ≡ nothing_owed → IsFrontPlace at.expansion.opens text → piece ≡ place_bytes (held_texts at) text
+  AtCursor : (text : TextPlace) → at.pending ≡ nothing_pending → IsFrontPlace at.expansion.opens text → piece ≡ place_bytes (held_texts at) text
       → TurnsOver (held_texts at) at.expansion.opens (Lends text) after.expansion.opens
       → place ≡ Some (usage_place at) → after ≡ record at { expansion = after.expansion; marks = lends_usage at.expansion.line at.marks } → StandsIn g at after piece place
-  AtSource : (len lines : ℕ) (next : Mode) → at.owed ≡ nothing_owed → at.expansion.opens ≡ [] → piece ≡ take len (held_of (inner_buffer at.files.nest))
+  AtSource : (len lines : ℕ) (next : Mode) → at.pending ≡ nothing_pending → at.expansion.opens ≡ [] → piece ≡ take len (held_of (inner_buffer at.files.nest))
       → place ≡ Some (source_place at)
       → after ≡ record at { files = record at.files { nest = with_inner (consumed_file len lines) (with_buffer (entered_mode (inner_buffer at.files.nest) next) at.files.nest) }; marks = lends_line (inner_buffer at.files.nest).line at.marks } → StandsIn g at after piece place
-  AtOwed : (lent : OwedPiece) (rest : OwedView) → TakesPiece (inner_name at.files.nest) at.owed rest lent
-      → piece ≡ take lent.len (part_bytes lent.part (inner_name at.files.nest) (digits_of rest.origin)) → place ≡ owed_place at → after ≡ record at { owed = rest; marks = lends_owed at.owed (inner_buffer at.files.nest).line at.marks } → StandsIn g at after piece place
+  AtPending : (lent : PendingPiece) (rest : PendingView) → TakesPiece (inner_name at.files.nest) at.pending rest lent
+      → piece ≡ take lent.len (part_bytes lent.part (inner_name at.files.nest) (digits_of rest.origin)) → place ≡ pending_place at → after ≡ record at { pending = rest; marks = lends_pending at.pending (inner_buffer at.files.nest).line at.marks } → StandsIn g at after piece place
   Nowhere : piece ≡ [] → Turns g at after → StandsIn g at after piece place
 
 -- a step that lends no bytes, but for how far the engine is and how many bytes may be lent

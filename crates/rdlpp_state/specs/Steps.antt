@@ -19,7 +19,7 @@ use Rattle.rdlpp_state.specs.Engine.{EngineView, is_open}
 unfoldable pub use Rattle.rdlpp_state.specs.Failures.{is_call_failed, is_memory_kind, is_read_failed, is_write_failed, may_follow}
 use Rattle.rdlpp_state.specs.Held.{IsBounded}
 use Rattle.rdlpp_state.specs.Includes.{IsSearch}
-use Rattle.rdlpp_state.specs.Owed.{nothing_owed}
+use Rattle.rdlpp_state.specs.Pending.{nothing_pending}
 use Rattle.rdlpp_state.specs.Silences.{most_silent}
 use Rattle.rdlpp_state.specs.Standing.{LendsWhere, Reaches}
 use Rattle.rdlpp_state.specs.Stored.{HoldsStores, LetsGo, called_formals}
@@ -130,20 +130,20 @@ pub data Halted {S R : Type 0} (g : Ghosts S R) (at new : EngineView S R) : Type
   InCall : StopsInCall g at new → Halted g at new
 
 -- a fault in an open text: it came to an engine that was reached by steps that lend none, of which there are no more than so many, of
--- which the same text remained, and that owed nothing; that engine kept nothing where no call in the source was open
+-- which the same text remained, and that pending nothing; that engine kept nothing where no call in the source was open
 pub record HaltsAt {S R : Type 0} (g : Ghosts S R) (silent : ℕ) (old new : EngineView S R) : Type 0 where
   pub at : EngineView S R
   pub reached : Reaches g old at
   pub few : length reached.between ≤ silent
   pub idle : LetsGo old → called_formals at.table.macros at.expansion.opens ≡ None → at.expansion.arguments ≡ []
   pub text : g.tells old.sources → text_of g old ≡ text_of g at
-  pub unowed : at.owed ≡ nothing_owed
+  pub drained : at.pending ≡ nothing_pending
   pub stopped : Halted g at new
 
--- what an answer leaves of an open text: where it ended, nothing is owed; where a fault came, nothing else changed
+-- what an answer leaves of an open text: where it ended, nothing is pending; where a fault came, nothing else changed
 abbrev pub Halts : {S R : Type 0} → Ghosts S R → ℕ → Result (Option (List ℕ)) Told → EngineView S R → EngineView S R → Type 0
 Halts g silent (Ok (Some bytes)) old new = ⊤
-Halts g silent (Ok None) old new = new.owed ≡ nothing_owed
+Halts g silent (Ok None) old new = new.pending ≡ nothing_pending
 Halts g silent (Err f) old new = HaltsAt g silent old new
 
 -- an engine that was started
@@ -153,7 +153,7 @@ IsStarted e = e.phase ≡ Fresh → ⊥
 -- a step: a kept fault is answered again and changes nothing, and so is the end; a fault is kept, one of a write that failed
 -- comes only so, and bytes leave none kept; the main text's name; the counts of failures; the output that remained is what was lent
 -- and then the output that remains; so it is with the text and the state behind it; where a read or a search failed, the same text remains; what
--- is owed and what changed at the end and at a fault; the work left falls; bytes come of an open text alone; what may still be lent;
+-- is pending and what changed at the end and at a fault; the work left falls; bytes come of an open text alone; what may still be lent;
 -- the room of the table; the bound holds; before a piece so many parts of it at most lent none
 pub record StepsOver {S R : Type 0} (g : Ghosts S R) (silent : ℕ) (left : EngineView S R → Outcome) (spent : Result (Option (List ℕ)) Told → ℕ)
     (most : ℕ → List ℕ → List ℕ) (goes_on : Phase → Bool) (old new : EngineView S R) (answer : Result (Option (List ℕ)) Told) : Type 0 where

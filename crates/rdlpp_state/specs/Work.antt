@@ -12,7 +12,7 @@ unfoldable pub padded : ℕ → List ℕ → List ℕ
 padded n digits = digits ++ replicate (n - length digits) 0
 
 -- the work left, from a place for each open source, outermost first: its bytes that aren't used, and one; a place for each
--- open cursor: its bytes left, and one; and the count of the pieces that are owed (this project's profile)
+-- open cursor: its bytes left, and one; and the count of the pieces that are pending (this project's profile)
 unfoldable pub work_of : ℕ → ℕ → List ℕ → List ℕ → ℕ → ℕ
-work_of includes depth sources cursors owed =
-    number_of (padded (includes + 1) sources ++ (padded depth cursors ++ owed ∷ []))
+work_of includes depth sources cursors pending =
+    number_of (padded (includes + 1) sources ++ (padded depth cursors ++ pending ∷ []))

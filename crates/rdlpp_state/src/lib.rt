@@ -4,7 +4,7 @@
 mod held;
 mod kinds;
 mod new_fault;
-mod owed;
+mod pending;
 mod phase;
 mod place;
 mod positions;
@@ -13,7 +13,7 @@ mod texts;
 pub use held::Held;
 pub use kinds::fault_kind;
 pub use new_fault::NewFault;
-pub use owed::{Owed, OwedPart, OwedPiece};
+pub use pending::{Pending, PendingPart, PendingPiece};
 pub use phase::Phase;
 pub use place::{Piece, Place};
 pub use positions::{LineStep, Marks, Position};

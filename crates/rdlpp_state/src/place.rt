@@ -1,6 +1,6 @@
 // Pieces of the output, and where they stand.
 
-use crate::owed::OwedPiece;
+use crate::pending::PendingPiece;
 use rdlpp_texts::TextPlace;
 
 /// A piece of the output, lent by the engine.
@@ -19,8 +19,8 @@ pub enum Place {
     Source(usize, usize),
     /// In a text that is open in a usage.
     Text(TextPlace),
-    /// In the texts that are owed.
-    Owed(OwedPiece),
+    /// In the texts that are pending.
+    Pending(PendingPiece),
     /// At the end.
     End,
     /// In the fault that is kept.

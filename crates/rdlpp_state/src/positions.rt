@@ -1,9 +1,9 @@
 // Where pieces of the output stand in the sources.
 ghost use Rattle.std.specs.Prelude.{◌≡◌, ◌<◌, ◌^◌};
 ghost use Rattle.rdlpp_read.specs.Files.{shift_of};
-ghost use Rattle.rdlpp_state.specs.Marks.{ends_line, lends_line, lends_owed, lends_usage, marked_place, no_marks, told_position};
+ghost use Rattle.rdlpp_state.specs.Marks.{ends_line, lends_line, lends_pending, lends_usage, marked_place, no_marks, told_position};
 
-use crate::owed::Owed;
+use crate::pending::Pending;
 use arrayvec::ArrayString;
 use rdlpp_read::Shift;
 use std::marker::Model;
@@ -43,12 +43,12 @@ enum Lent {
     Origin(u64),
 }
 
-/// Where the piece stands that was lent last, and the LF that is owed behind a `line` or behind an
+/// Where the piece stands that was lent last, and the LF that is pending behind a `line` or behind an
 /// included source.
 #[derive(Drop)]
 pub struct Marks {
     lent: Lent,
-    // whether the LF that is owed stands behind a `line` or behind an included source
+    // whether the LF that is pending stands behind a `line` or behind an included source
     ending: bool,
     // the name and the line that such an LF shows
     name: ArrayString<1024>,
@@ -98,16 +98,16 @@ impl Marks {
         self.lent = Lent::Usage(line);
     }
 
-    /// The first piece of what is owed is lent, where the innermost source stands on a physical line;
-    /// nothing changes where nothing is owed.
-    #[tactic(auto, unfolding(crate::specs::Marks::lends_owed))]
-    pub fn lend_owed(&mut self, owed: &Owed, line: u64)
+    /// The first piece of what is pending is lent, where the innermost source stands on a physical line;
+    /// nothing changes where nothing is pending.
+    #[tactic(auto, unfolding(crate::specs::Marks::lends_pending))]
+    pub fn lend_pending(&mut self, pending: &Pending, line: u64)
         requires { line < 2 ^ 63 }
-        ensures { self.new ≡ lends_owed owed.now line self.old }
+        ensures { self.new ≡ lends_pending pending.now line self.old }
     {
-        let line_ends = owed.line_ends();
+        let line_ends = pending.line_ends();
         if line_ends == 0 {
-            if let Some(number) = owed.origin_number() {
+            if let Some(number) = pending.origin_number() {
                 self.lent = Lent::Origin(number);
             }
             return;
@@ -120,7 +120,7 @@ impl Marks {
         self.lent = Lent::Line(line.saturating_sub(line_ends as u64));
     }
 
-    /// So many LF bytes are owed behind a `line` or behind an included source, at most one, which show a
+    /// So many LF bytes are pending behind a `line` or behind an included source, at most one, which show a
     /// name and a line.
     #[tactic(auto, unfolding(crate::specs::Marks::ends_line))]
     pub fn end_line(&mut self, line_ends: usize, name: ArrayString<1024>, line: u64)

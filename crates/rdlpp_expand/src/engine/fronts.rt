@@ -5,7 +5,7 @@ ghost use Rattle.rdlpp_read.specs.Buffer.{held_of};
 ghost use Rattle.rdlpp_read.specs.Files.{inner_buffer};
 ghost use Rattle.rdlpp_front.specs.SourceItems.{IsText};
 ghost use Rattle.rdlpp_state.specs.Held.{IsBounded};
-ghost use Rattle.rdlpp_state.specs.Moves.{IsReady, IsUnowed};
+ghost use Rattle.rdlpp_state.specs.Moves.{IsReady, IsDrained};
 ghost use Rattle.rdlpp_state.specs.Pieces.{IsPlaced, lent_answer, step_answer};
 ghost use Rattle.rdlpp_state.specs.Steps.{IsStarted, Walks, WalksOver};
 

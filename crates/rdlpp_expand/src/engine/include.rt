@@ -8,7 +8,7 @@ ghost use Rattle.rdlpp_state.specs.Held.{IsBounded};
 ghost use Rattle.rdlpp_state.specs.Includes.{Sought, included_engine, is_bad_name, left_engine};
 ghost use Rattle.rdlpp_state.specs.Moves.{IsReady};
 ghost use Rattle.rdlpp_state.specs.OpenConditionals.{inner_below};
-ghost use Rattle.rdlpp_state.specs.Owed.{nothing_owed};
+ghost use Rattle.rdlpp_state.specs.Pending.{nothing_pending};
 ghost use Rattle.rdlpp_state.specs.Pieces.{IsPlaced, step_answer};
 ghost use Rattle.rdlpp_state.specs.Steps.{Walks};
 
@@ -87,7 +87,7 @@ impl<S: Sources> Engine<S> {
         requires open { self.old.phase ≡ Phase.Open }
         requires inside { stop ≤ length (held_of (inner_buffer self.old.files.nest)) }
         requires room { length self.old.files.nest < self.old.files.slots }
-        requires nothing { self.old.owed ≡ nothing_owed }
+        requires nothing { self.old.pending ≡ nothing_pending }
         ensures { self.new ≡ included_engine found stop self.old }
     {
         self.files.facts();
@@ -96,7 +96,7 @@ impl<S: Sources> Engine<S> {
         let source_bytes = self.limits.source_bytes;
         let below = self.conditions.len();
         self.files.enter(found, source_bytes, below, line);
-        self.owed.owe_origin(self.origins, 1);
+        self.pending.queue_origin(self.origins, 1);
     }
 
     // Leaves an included source, which has ended, and owes what is written behind it.
@@ -105,7 +105,7 @@ impl<S: Sources> Engine<S> {
         requires open { self.old.phase ≡ Phase.Open }
         requires inner { 1 < length self.old.files.nest }
         requires ended { length self.old.conditions.open_now ≡ inner_below self.old.files.nest }
-        requires nothing { self.old.owed ≡ nothing_owed }
+        requires nothing { self.old.pending ≡ nothing_pending }
         ensures { self.new ≡ left_engine self.old }
     {
         self.files.facts();
@@ -117,8 +117,8 @@ impl<S: Sources> Engine<S> {
         let shown = around.shift.shown_line(line);
         let name = around.name;
         self.marks.end_line(line_ends, name, shown);
-        self.owed.owe_line_ends(line_ends);
-        self.owed.owe_origin(self.origins, shown);
+        self.pending.queue_line_ends(line_ends);
+        self.pending.queue_origin(self.origins, shown);
     }
 }
 

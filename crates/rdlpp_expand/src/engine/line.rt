@@ -8,7 +8,7 @@ ghost use Rattle.rdlpp_front.specs.SourceItems.{IsDirective};
 ghost use Rattle.rdlpp_state.specs.Held.{IsBounded};
 ghost use Rattle.rdlpp_state.specs.Lines.{Renumbers, renumbered_file};
 ghost use Rattle.rdlpp_state.specs.Moves.{IsReady};
-ghost use Rattle.rdlpp_state.specs.Owed.{nothing_owed};
+ghost use Rattle.rdlpp_state.specs.Pending.{nothing_pending};
 ghost use Rattle.rdlpp_state.specs.Pieces.{IsPlaced, step_answer};
 ghost use Rattle.rdlpp_state.specs.Steps.{Walks};
 
@@ -52,7 +52,7 @@ impl<S: Sources> Engine<S> {
         requires inside { 5 + given.stop ≤ length (held_of (inner_buffer self.old.files.nest)) }
         requires few { 5 + given.stop < 2 ^ 63 }
         requires number { given.number < 2 ^ 32 }
-        requires nothing { self.old.owed ≡ nothing_owed }
+        requires nothing { self.old.pending ≡ nothing_pending }
         ensures { Renumbers given self.old self.new }
     {
         let len = LINE_BYTES + given.stop;
@@ -62,8 +62,8 @@ impl<S: Sources> Engine<S> {
         let place = self.shown_place();
         self.consume(len, lines);
         self.show(from, given.number, given.name);
-        self.owed.owe_line_ends(lines);
-        self.owed.owe_origin(self.origins, given.number);
+        self.pending.queue_line_ends(lines);
+        self.pending.queue_origin(self.origins, given.number);
         self.marks.end_line(lines, place.name, place.line);
     }
 

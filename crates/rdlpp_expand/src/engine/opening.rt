@@ -13,7 +13,7 @@ use rdlpp_conditions::Conditions;
 use rdlpp_meaning::{Fault, FaultKind};
 use rdlpp_read::Files;
 use rdlpp_source::{Found, SourceFault, Sources};
-use rdlpp_state::{Marks, NewFault, Owed, Phase, copied_fault};
+use rdlpp_state::{Marks, NewFault, Pending, Phase, copied_fault};
 use rdlpp_table::{DefineFault, Limits, Table};
 use rdlpp_usages::Expansion;
 use std::alloc::Global;
@@ -65,7 +65,7 @@ impl<S: Sources> Engine<S> {
             quota: limits.output_bytes,
             kept: None,
             main: ArrayString::new(),
-            owed: Owed::nothing(),
+            pending: Pending::nothing(),
             marks: Marks::new(),
             taken: 0,
             defined: None,
@@ -124,7 +124,7 @@ impl<S: Sources> Engine<S> {
     }
 
     // Opens the main text that was found.
-    #[tactic(auto, unfolding(rdlpp_state::specs::Opening::opened_engine, rdlpp_state::specs::Owed::nothing_owed))]
+    #[tactic(auto, unfolding(rdlpp_state::specs::Opening::opened_engine, rdlpp_state::specs::Pending::nothing_pending))]
     fn open_main(&mut self, path: &str, found: Found<S::Reader>)
         requires { self.old.phase ≡ Phase.Fresh }
         ensures { self.new ≡ opened_engine self.old path.now found }
@@ -133,8 +133,8 @@ impl<S: Sources> Engine<S> {
         self.quota = self.limits.output_bytes;
         self.kept = None;
         self.main = cut_name(path);
-        self.owed = Owed::nothing();
-        self.owed.owe_origin(self.origins, 1);
+        self.pending = Pending::nothing();
+        self.pending.queue_origin(self.origins, 1);
         let source_bytes = self.limits.source_bytes;
         self.files.enter(found, source_bytes, 0, 0);
     }

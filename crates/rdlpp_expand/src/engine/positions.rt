@@ -4,14 +4,14 @@ ghost use Rattle.rdlpp_meaning.specs.State.{shown_line};
 ghost use Rattle.rdlpp_read.specs.Files.{inner_buffer};
 ghost use Rattle.rdlpp_state.specs.Engine.{is_open};
 ghost use Rattle.rdlpp_state.specs.Marks.{told_position};
-ghost use Rattle.rdlpp_state.specs.Owed.{nothing_owed};
-ghost use Rattle.rdlpp_state.specs.Positions.{TakesOwed, position_of};
+ghost use Rattle.rdlpp_state.specs.Pending.{nothing_pending};
+ghost use Rattle.rdlpp_state.specs.Positions.{TakesPending, position_of};
 ghost use Rattle.rdlpp_state.specs.Remaining.{state_of};
 
 use super::Engine;
 use arrayvec::ArrayString;
 use rdlpp_source::Sources;
-use rdlpp_state::{OwedPiece, Phase, Position};
+use rdlpp_state::{PendingPiece, Phase, Position};
 
 // A name and a line that a source shows.
 #[derive(Drop)]
@@ -44,17 +44,17 @@ impl<S: Sources> Engine<S> {
         self.marks.position(file.name.as_str(), &file.shift)
     }
 
-    // Takes out the first piece of what is owed, and marks its place.
-    pub(super) fn take_owed(&mut self) -> Option<OwedPiece>
+    // Takes out the first piece of what is pending, and marks its place.
+    pub(super) fn take_pending(&mut self) -> Option<PendingPiece>
         requires { 0 < length self.old.files.nest }
-        ensures nothing { IfNone result ((self.old.owed ≡ nothing_owed) × (self.new ≡ self.old)) }
-        ensures piece { IfSome result (TakesOwed self.old self.new) }
+        ensures nothing { IfNone result ((self.old.pending ≡ nothing_pending) × (self.new ≡ self.old)) }
+        ensures piece { IfSome result (TakesPending self.old self.new) }
     {
         self.facts();
         let file = self.files.file();
         let name_len = file.name.len();
-        self.marks.lend_owed(&self.owed, file.buffer.line());
-        self.owed.take(name_len)
+        self.marks.lend_pending(&self.pending, file.buffer.line());
+        self.pending.take(name_len)
     }
 
     // The place that a fault at the next byte of the innermost source would name.

@@ -7,7 +7,7 @@ ghost use Rattle.rdlpp_front.specs.SourceItems.{IsDirective, IsRefused, IsText, 
 ghost use Rattle.rdlpp_state.specs.Conditionals.{IsSkippedWord, opening_word, passes_over};
 ghost use Rattle.rdlpp_state.specs.Held.{IsBounded};
 ghost use Rattle.rdlpp_state.specs.Moves.{IsReady};
-ghost use Rattle.rdlpp_state.specs.Owed.{nothing_owed};
+ghost use Rattle.rdlpp_state.specs.Pending.{nothing_pending};
 ghost use Rattle.rdlpp_state.specs.Pieces.{IsPlaced, step_answer};
 ghost use Rattle.rdlpp_state.specs.Steps.{Walks};
 
@@ -176,12 +176,12 @@ impl<S: Sources> Engine<S> {
         requires nest { 0 < length self.old.files.nest }
         requires inside { len ≤ length (held_of (inner_buffer self.old.files.nest)) }
         requires lines { lines ≤ len }
-        requires nothing { self.old.owed ≡ nothing_owed }
+        requires nothing { self.old.pending ≡ nothing_pending }
         ensures { self.new ≡ passes_over len lines self.old }
     {
         self.taken = len / 4;
         self.consume(len, lines);
-        self.owed.owe_line_ends(lines);
+        self.pending.queue_line_ends(lines);
     }
 }
 

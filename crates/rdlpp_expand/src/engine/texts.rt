@@ -2,10 +2,10 @@
 ghost use Rattle.std.specs.Prelude.{◌≡◌, ◌↔◌, ◌<◌, IfSome, IsTrue, length};
 ghost use Rattle.rdlpp_texts.specs.Places.{IsPlaced as IsTextPlaced, place_bytes};
 ghost use Rattle.rdlpp_state.specs.Held.{IsBounded};
-ghost use Rattle.rdlpp_state.specs.Moves.{IsUnowed};
+ghost use Rattle.rdlpp_state.specs.Moves.{IsDrained};
 ghost use Rattle.rdlpp_state.specs.Pieces.{IsPlaced, held_texts, step_answer};
 ghost use Rattle.rdlpp_state.specs.Steps.{Steps, Walks, WalksOver};
-ghost use Rattle.rdlpp_expand.specs.Texts.{IsInTexts, LeavesTexts, StaysUnowed, place_of};
+ghost use Rattle.rdlpp_expand.specs.Texts.{IsInTexts, LeavesTexts, StaysDrained, place_of};
 
 use crate::engine::Engine;
 use rdlpp_source::Sources;
@@ -46,7 +46,7 @@ impl<S: Sources> Engine<S> {
     {
         self.kept.is_none()
             && self.phase == Phase::Open
-            && self.owed.is_nothing()
+            && self.pending.is_nothing()
             && !self.expansion.is_empty()
     }
 
@@ -108,7 +108,7 @@ impl<S: Sources> Engine<S> {
         requires { IsInTexts self.old }
         ensures place { IfSome (place_of result) (IsPlaced self.new) }
         ensures walks { IsBounded self.new → Walks S.Sources self.old self.new (step_answer self.new (place_of result)) }
-        ensures stays { StaysUnowed result self.new }
+        ensures stays { StaysDrained result self.new }
     {
         self.facts();
         let step = self.expansion.step(&self.table);

@@ -2,7 +2,7 @@ use Rattle.std.proofs.Common.{ap, subst}
 use Rattle.rdlpp_state.specs.Pieces.{lent_answer, IsPlaced}
 use Rattle.rdlpp_state.specs.Steps.{WalksOver}
 use Rattle.rdlpp_state.specs.Silences.{most_silent}
-use Rattle.rdlpp_state.proofs.LentPieces.{cut_end, cut_kept, cut_owed, cut_source, cut_text, owed_placed, text_cut_placed}
+use Rattle.rdlpp_state.proofs.LentPieces.{cut_end, cut_kept, cut_pending, cut_source, cut_text, pending_placed, text_cut_placed}
 use Rattle.rdlpp_expand.proofs.engine.Engine.cut.Goals as goal
 
 pub returns-in-Source-clause-steps : goal.returns-in-Source-clause-steps
@@ -23,14 +23,14 @@ returns-in-Text-clause-place g c =
 pub spend-len-requires-in-Text : goal.spend-len-requires-in-Text
 spend-len-requires-in-Text g c = c.requires.open _ (ap (lent_answer c.args.self.now) c.in-Text.is)
 
-pub returns-in-Owed-clause-steps : goal.returns-in-Owed-clause-steps
-returns-in-Owed-clause-steps g c before w =
-    rw c.cut.ensures (cut_owed g.S.Sources before c.args.self.now c.spend-len-in-Owed.new.self c.in-Owed.piece c.spend-len-in-Owed.result
-    (subst (λ p. WalksOver g.S.Sources most_silent before c.args.self.now (lent_answer c.args.self.now p)) c.in-Owed.is w) (subst (λ p. IsPlaced c.args.self.now p) c.in-Owed.is c.requires.placed) (record { fits = c.spend-len-in-Owed.ensures.fits; passes = c.spend-len-in-Owed.ensures.passes }))
+pub returns-in-Pending-clause-steps : goal.returns-in-Pending-clause-steps
+returns-in-Pending-clause-steps g c before w =
+    rw c.cut.ensures (cut_pending g.S.Sources before c.args.self.now c.spend-len-in-Pending.new.self c.in-Pending.piece c.spend-len-in-Pending.result
+    (subst (λ p. WalksOver g.S.Sources most_silent before c.args.self.now (lent_answer c.args.self.now p)) c.in-Pending.is w) (subst (λ p. IsPlaced c.args.self.now p) c.in-Pending.is c.requires.placed) (record { fits = c.spend-len-in-Pending.ensures.fits; passes = c.spend-len-in-Pending.ensures.passes }))
 
-pub returns-in-Owed-clause-place : goal.returns-in-Owed-clause-place
-returns-in-Owed-clause-place g c =
-    rw c.cut.ensures (owed_placed c.args.self.now c.spend-len-in-Owed.new.self c.in-Owed.piece c.spend-len-in-Owed.result (subst (λ p. IsPlaced c.args.self.now p) c.in-Owed.is c.requires.placed) (record { fits = c.spend-len-in-Owed.ensures.fits; passes = c.spend-len-in-Owed.ensures.passes }))
+pub returns-in-Pending-clause-place : goal.returns-in-Pending-clause-place
+returns-in-Pending-clause-place g c =
+    rw c.cut.ensures (pending_placed c.args.self.now c.spend-len-in-Pending.new.self c.in-Pending.piece c.spend-len-in-Pending.result (subst (λ p. IsPlaced c.args.self.now p) c.in-Pending.is c.requires.placed) (record { fits = c.spend-len-in-Pending.ensures.fits; passes = c.spend-len-in-Pending.ensures.passes }))
 
 pub returns-in-End-clause-steps : goal.returns-in-End-clause-steps
 returns-in-End-clause-steps g c before w = cut_end g.S.Sources before c.args.self.now (subst (λ p. WalksOver g.S.Sources most_silent before c.args.self.now (lent_answer c.args.self.now p)) c.in-End.is w)
@@ -41,5 +41,5 @@ returns-in-Kept-clause-steps g c before w = cut_kept g.S.Sources before c.args.s
 pub spend-len-requires : goal.spend-len-requires
 spend-len-requires g c = c.requires.open _ (ap (lent_answer c.args.self.now) c.in-Source.is)
 
-pub spend-len-requires-in-Owed : goal.spend-len-requires-in-Owed
-spend-len-requires-in-Owed g c = c.requires.open _ (ap (lent_answer c.args.self.now) c.in-Owed.is)
+pub spend-len-requires-in-Pending : goal.spend-len-requires-in-Pending
+spend-len-requires-in-Pending g c = c.requires.open _ (ap (lent_answer c.args.self.now) c.in-Pending.is)

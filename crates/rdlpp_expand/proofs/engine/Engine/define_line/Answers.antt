@@ -15,7 +15,7 @@ read_define-requires g c =
       nest = c.facts.ensures.sound.open_ (opened_phase _ (ap (λ e. e.phase) e.becomes ∙ c.requires.ready.open_));
       inside = has.0;
       line = define_rest_whole _ _ _ e.holds.extends.more (inner_buffer c.hold_line.new.self.files.nest) c.in-Whole.len c.requires.some c.requires.define e.holds.extends.held has.1;
-      nothing = ap (λ e. e.owed) e.becomes ∙ c.requires.ready.owed;
+      nothing = ap (λ e. e.pending) e.becomes ∙ c.requires.ready.pending;
       idle = ap (λ e. e.expansion.opens) e.becomes ∙ c.requires.ready.idle;
       files = c.facts.ensures.files;
     }

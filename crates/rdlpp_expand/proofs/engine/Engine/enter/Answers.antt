@@ -19,5 +19,5 @@ pub returns : goal.returns
 returns g c =
     let e = c.args.self.now in
     let line : c.line-line.result ≡ (inner_buffer e.files.nest).line = c.line-line.ensures ∙ ap (λ b. b.line) (c.file.ensures.buffer ∙ ap (λ e. inner_buffer e.files.nest) c.self.view_is) in
-    included_by c.args.found c.args.stop e c.consume.new.self _ c.owe_origin.new.self c.enter.new.self c.len-below.result c.line-line.result c.consume.ensures.used
-    (rw (← c.self-2.view_is) c.enter.ensures) (rw (← c.self-2.view_is) c.owe_origin.ensures) (rw (← c.self-2.view_is) refl) c.requires.nothing (rw (← c.self-2.view_is) c.len-below.ensures.value) line
+    included_by c.args.found c.args.stop e c.consume.new.self _ c.queue_origin.new.self c.enter.new.self c.len-below.result c.line-line.result c.consume.ensures.used
+    (rw (← c.self-2.view_is) c.enter.ensures) (rw (← c.self-2.view_is) c.queue_origin.ensures) (rw (← c.self-2.view_is) refl) c.requires.nothing (rw (← c.self-2.view_is) c.len-below.ensures.value) line

@@ -1,7 +1,7 @@
 use Rattle.std.proofs.Common.{◌≡◌, refl, sym, ap, ◌∙◌, arith, if◌then◌else◌}
-use Rattle.rdlpp_state.specs.Includes.{left_engine, marks_behind, owed_behind}
-use Rattle.rdlpp_state.specs.Owed.{nothing_owed}
-use Rattle.rdlpp_state.proofs.IncludeSteps.{around_few, ends_few, line_few, marks_two, owes_behind}
+use Rattle.rdlpp_state.specs.Includes.{left_engine, marks_behind, pending_behind}
+use Rattle.rdlpp_state.specs.Pending.{nothing_pending}
+use Rattle.rdlpp_state.proofs.IncludeSteps.{around_few, ends_few, line_few, marks_two, queues_behind}
 use Rattle.rdlpp_state.proofs.Soundness.{whole_left}
 use Rattle.rdlpp_expand.proofs.engine.Engine.leave.Goals as goal
 use Rattle.rdlpp_expand.proofs.engine.Engine.leave.Goals.{then-file, else-file}
@@ -12,10 +12,10 @@ shown_line-shown-requires g c =
     let line = line_few c.self.inside.files.nest c.file-file.result.now c.file-file.ensures.inner c.self.invariant.sources.lines in
     omega arith
 
-pub owe_line_ends-requires : goal.owe_line_ends-requires
-unfolding nothing_owed
-owe_line_ends-requires g c =
-    let none : c.self.inside.owed.line_ends ≡ 0 = ap (λ e. e.owed.line_ends) c.self.view_is ∙ ap (λ o. o.line_ends) c.requires.nothing in
+pub queue_line_ends-requires : goal.queue_line_ends-requires
+unfolding nothing_pending
+queue_line_ends-requires g c =
+    let none : c.self.inside.pending.line_ends ≡ 0 = ap (λ e. e.pending.line_ends) c.self.view_is ∙ ap (λ o. o.line_ends) c.requires.nothing in
     let ends : c.if-file.line_ends ≡ (if c.file-file.result.now.torn then 1 else 0) = elim c.if-file.branch [
       | then-file w ↦ w.line_ends-is ∙ rw w.if-file.true refl
       | else-file w ↦ w.line_ends-is ∙ rw w.if-file.false refl
@@ -33,11 +33,11 @@ returns g c =
       | then-file w ↦ w.line_ends-is ∙ rw w.if-file.true refl
       | else-file w ↦ w.line_ends-is ∙ rw w.if-file.false refl
     ] in
-    let owes : c.owe_origin.new.self ≡ owed_behind c.self.inside.origins c.self.inside.files.nest =
-    owes_behind c.self.inside.origins c.self.inside.files.nest _ c.file-file.result.now c.file-around.result.now c.self.inside.owed c.owe_line_ends.new.self c.owe_origin.new.self c.if-file.line_ends c.shown_line-shown.result
-    c.file-file.ensures.inner (sym (ap (λ f. f.nest) c.leave.ensures) ∙ c.file-around.ensures.inner) (ap (λ e. e.owed) c.self.view_is ∙ c.requires.nothing) ends c.shown_line-shown.ensures
-    c.owe_line_ends.ensures c.owe_origin.ensures in
+    let queues : c.queue_origin.new.self ≡ pending_behind c.self.inside.origins c.self.inside.files.nest =
+    queues_behind c.self.inside.origins c.self.inside.files.nest _ c.file-file.result.now c.file-around.result.now c.self.inside.pending c.queue_line_ends.new.self c.queue_origin.new.self c.if-file.line_ends c.shown_line-shown.result
+    c.file-file.ensures.inner (sym (ap (λ f. f.nest) c.leave.ensures) ∙ c.file-around.ensures.inner) (ap (λ e. e.pending) c.self.view_is ∙ c.requires.nothing) ends c.shown_line-shown.ensures
+    c.queue_line_ends.ensures c.queue_origin.ensures in
     let marks : c.end_line.new.self ≡ marks_behind c.self.inside.files.nest c.self.inside.marks =
     c.end_line.ensures ∙ marks_two c.self.inside.files.nest _ c.file-file.result.now c.file-around.result.now c.self.inside.marks c.if-file.line_ends c.shown_line-shown.result c.file-around.result.now.name.bytes
     c.file-file.ensures.inner (sym (ap (λ f. f.nest) c.leave.ensures) ∙ c.file-around.ensures.inner) ends c.shown_line-shown.ensures refl in
-    rw (← c.self.view_is, c.leave.ensures, owes, marks) refl
+    rw (← c.self.view_is, c.leave.ensures, queues, marks) refl

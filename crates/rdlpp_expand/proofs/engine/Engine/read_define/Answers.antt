@@ -5,7 +5,7 @@ use Rattle.rdlpp_read.specs.Buffer.{held_of}
 use Rattle.rdlpp_read.specs.Files.{inner_buffer}
 use Rattle.rdlpp_read.proofs.Growing.{line_ends_le}
 use Rattle.rdlpp_state.specs.Moves.{define_rest}
-use Rattle.rdlpp_state.specs.Owed.{OwedView, nothing_owed}
+use Rattle.rdlpp_state.specs.Pending.{PendingView, nothing_pending}
 use Rattle.rdlpp_state.proofs.FrontSteps.{behind_word, defined_same, defines_by, owing, reads_refused}
 use Rattle.rdlpp_expand.proofs.engine.Engine.read_define.Goals as goal
 
@@ -17,11 +17,11 @@ consume-requires-clause-lines g c =
     let count = c.line_ends_in-lines.ensures in
     omega arith
 
-pub owe_line_ends-requires : goal.owe_line_ends-requires
-unfolding nothing_owed
-owe_line_ends-requires g c =
-    let none : c.self-in-Ok.inside.owed.line_ends ≡ 0 =
-    ap (λ e. e.owed.line_ends) c.self-in-Ok.view_is ∙ (ap (λ e. e.owed.line_ends) c.consume.ensures.used ∙ (ap (λ e. e.owed.line_ends) c.self.view_is ∙ ap (λ o. o.line_ends) c.requires.nothing)) in
+pub queue_line_ends-requires : goal.queue_line_ends-requires
+unfolding nothing_pending
+queue_line_ends-requires g c =
+    let none : c.self-in-Ok.inside.pending.line_ends ≡ 0 =
+    ap (λ e. e.pending.line_ends) c.self-in-Ok.view_is ∙ (ap (λ e. e.pending.line_ends) c.consume.ensures.used ∙ (ap (λ e. e.pending.line_ends) c.self.view_is ∙ ap (λ o. o.line_ends) c.requires.nothing)) in
     let few = c.line_ends_in-lines.type_inv in
     omega arith
 
@@ -53,8 +53,8 @@ returns-in-Ok-clause-reads g c =
     let accepted : define_of e.table.most_bytes e.table.most_macros e.table.macros (define_rest e c.args.len) ≡ Accepted c.read_define.new.self.macros =
     rw (← c.self.view_is) (defined_same _ _ _ _ _ _ c.in-Ok.ensures.outcome (rest ∙ ap (λ h. drop 7 (take c.args.len h)) inside)) in
     let counted : c.line_ends_in-lines.result ≡ line_ends (take c.args.len (held_of (inner_buffer e.files.nest))) = c.line_ends_in-lines.ensures ∙ ap (λ h. line_ends (take c.args.len h)) held in
-    let grows : OwedView → OwedView = λ o. record o { line_ends = o.line_ends + c.line_ends_in-lines.result } in
-    defines_by c.args.len e c.consume.new.self _ c.read_define.new.self c.owe_line_ends.new.self c.line_ends_in-lines.result
-    (rw (← c.self.view_is) c.consume.ensures.used) (owing _ c.consume.new.self c.owe_line_ends.new.self c.self-in-Ok.view_is)
-    (c.owe_line_ends.ensures ∙ ap grows (ap (λ e. e.owed) c.self-in-Ok.view_is))
+    let grows : PendingView → PendingView = λ o. record o { line_ends = o.line_ends + c.line_ends_in-lines.result } in
+    defines_by c.args.len e c.consume.new.self _ c.read_define.new.self c.queue_line_ends.new.self c.line_ends_in-lines.result
+    (rw (← c.self.view_is) c.consume.ensures.used) (owing _ c.consume.new.self c.queue_line_ends.new.self c.self-in-Ok.view_is)
+    (c.queue_line_ends.ensures ∙ ap grows (ap (λ e. e.pending) c.self-in-Ok.view_is))
     c.requires.nothing (rw (← c.self.view_is) c.in-Ok.ensures.limits) accepted counted

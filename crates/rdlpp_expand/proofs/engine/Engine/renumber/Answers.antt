@@ -3,7 +3,7 @@ use Rattle.rdlpp_scan.specs.SourceTokens.{line_ends}
 use Rattle.rdlpp_read.specs.Buffer.{held_of}
 use Rattle.rdlpp_read.specs.Files.{inner_buffer}
 use Rattle.rdlpp_read.proofs.Growing.{line_ends_le}
-use Rattle.rdlpp_state.specs.Owed.{OwedView, nothing_owed, origin_owed}
+use Rattle.rdlpp_state.specs.Pending.{PendingView, nothing_pending, origin_pending}
 use Rattle.rdlpp_state.specs.Marks.{ends_line}
 use Rattle.rdlpp_state.proofs.LentPieces.{owing_marked}
 use Rattle.rdlpp_state.proofs.DirectiveSteps.{renumbers_by}
@@ -18,11 +18,11 @@ consume-requires-clause-lines g c =
     let count = c.line_ends_in-lines.ensures in
     omega arith
 
-pub owe_line_ends-requires : goal.owe_line_ends-requires
-unfolding nothing_owed
-owe_line_ends-requires g c =
-    let none : c.self-2.inside.owed.line_ends ≡ 0 =
-    ap (λ e. e.owed.line_ends) c.self-2.view_is ∙ (ap (λ e. e.owed.line_ends) c.show.ensures ∙ (ap (λ e. e.owed.line_ends) c.consume.ensures.used
+pub queue_line_ends-requires : goal.queue_line_ends-requires
+unfolding nothing_pending
+queue_line_ends-requires g c =
+    let none : c.self-2.inside.pending.line_ends ≡ 0 =
+    ap (λ e. e.pending.line_ends) c.self-2.view_is ∙ (ap (λ e. e.pending.line_ends) c.show.ensures ∙ (ap (λ e. e.pending.line_ends) c.consume.ensures.used
     ∙ ap (λ o. o.line_ends) c.requires.nothing)) in
     let few = c.line_ends_in-lines.type_inv in
     omega arith
@@ -35,10 +35,10 @@ returns g c =
     let held : c.held.result.now ≡ held_of (inner_buffer e.files.nest) = c.held.ensures.value ∙ ap held_of buffer in
     let counted : c.line_ends_in-lines.result ≡ line_ends (take len (held_of (inner_buffer e.files.nest))) = c.line_ends_in-lines.ensures ∙ ap (λ h. line_ends (take len h)) held in
     let here : c.line-from.result + 1 ≡ (inner_buffer e.files.nest).line + 1 = ap (λ n. n + 1) (c.line-from.ensures ∙ ap (λ b. b.line) buffer) in
-    let grows : OwedView → OwedView = λ o. record o { line_ends = o.line_ends + c.line_ends_in-lines.result } in
-    renumbers_by c.args.given e c.consume.new.self c.show.new.self _ (c.line-from.result + 1) c.line_ends_in-lines.result c.owe_line_ends.new.self c.owe_origin.new.self c.shown_place-place.result.name.bytes c.shown_place-place.result.line
+    let grows : PendingView → PendingView = λ o. record o { line_ends = o.line_ends + c.line_ends_in-lines.result } in
+    renumbers_by c.args.given e c.consume.new.self c.show.new.self _ (c.line-from.result + 1) c.line_ends_in-lines.result c.queue_line_ends.new.self c.queue_origin.new.self c.shown_place-place.result.name.bytes c.shown_place-place.result.line
     c.consume.ensures.used c.show.ensures
-    (owing_marked _ c.show.new.self c.owe_origin.new.self c.end_line.new.self (ends_line c.line_ends_in-lines.result c.shown_place-place.result.name.bytes c.shown_place-place.result.line) c.self-2.view_is c.end_line.ensures)
-    (c.owe_line_ends.ensures ∙ ap grows (ap (λ e. e.owed) c.self-2.view_is))
-    (c.owe_origin.ensures ∙ ap (λ b. record c.owe_line_ends.new.self { origin = origin_owed b c.args.given.number }) (ap (λ e. e.origins) c.self-2.view_is))
+    (owing_marked _ c.show.new.self c.queue_origin.new.self c.end_line.new.self (ends_line c.line_ends_in-lines.result c.shown_place-place.result.name.bytes c.shown_place-place.result.line) c.self-2.view_is c.end_line.ensures)
+    (c.queue_line_ends.ensures ∙ ap grows (ap (λ e. e.pending) c.self-2.view_is))
+    (c.queue_origin.ensures ∙ ap (λ b. record c.queue_line_ends.new.self { origin = origin_pending b c.args.given.number }) (ap (λ e. e.origins) c.self-2.view_is))
     c.requires.nothing here counted c.shown_place-place.ensures.name c.shown_place-place.ensures.line

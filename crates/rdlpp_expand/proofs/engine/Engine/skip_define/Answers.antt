@@ -33,7 +33,7 @@ pass-requires-clause-lines g c =
     omega arith
 
 pub pass-requires-clause-nothing : goal.pass-requires-clause-nothing
-pass-requires-clause-nothing g c = ap (λ e. e.owed) c.in-Whole.ensures.becomes ∙ c.requires.ready.owed
+pass-requires-clause-nothing g c = ap (λ e. e.pending) c.in-Whole.ensures.becomes ∙ c.requires.ready.pending
 
 pub returns-in-Whole-clause-walks : goal.returns-in-Whole-clause-walks
 returns-in-Whole-clause-walks g c = λ bounded.

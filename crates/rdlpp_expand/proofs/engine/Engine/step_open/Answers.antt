@@ -1,26 +1,26 @@
 use Rattle.std.proofs.Common.{◌≡◌, arith}
-use Rattle.rdlpp_state.specs.Moves.{IsUnowed}
-use Rattle.rdlpp_state.specs.Owed.{nothing_owed}
+use Rattle.rdlpp_state.specs.Moves.{IsDrained}
+use Rattle.rdlpp_state.specs.Pending.{nothing_pending}
 use Rattle.rdlpp_state.proofs.EngineSteps.{wider}
-use Rattle.rdlpp_state.proofs.FrontSteps.{opened_phase, owed_is_placed, ready_idle, take_owed}
+use Rattle.rdlpp_state.proofs.FrontSteps.{opened_phase, pending_is_placed, ready_idle, take_pending}
 use Rattle.rdlpp_expand.proofs.engine.Engine.step_open.Goals as goal
 
-pub take_owed-requires : goal.take_owed-requires
-take_owed-requires g c = c.facts.ensures.sound.open_ (opened_phase c.args.self.now.phase c.requires.open)
+pub take_pending-requires : goal.take_pending-requires
+take_pending-requires g c = c.facts.ensures.sound.open_ (opened_phase c.args.self.now.phase c.requires.open)
 
 pub returns-in-Some-clause-walks : goal.returns-in-Some-clause-walks
 returns-in-Some-clause-walks g c = λ bounded.
     let t = c.in-Some.ensures.piece in
-    wider g.S.Sources 0 1 _ _ _ (omega arith) (take_owed g.S.Sources c.args.self.now _ c.in-Some.piece t.rest c.requires.free c.requires.open bounded t.takes t.becomes)
+    wider g.S.Sources 0 1 _ _ _ (omega arith) (take_pending g.S.Sources c.args.self.now _ c.in-Some.piece t.rest c.requires.free c.requires.open bounded t.takes t.becomes)
 
 pub returns-in-Some-clause-place : goal.returns-in-Some-clause-place
 returns-in-Some-clause-place g c =
     let t = c.in-Some.ensures.piece in
-    owed_is_placed c.args.self.now _ c.in-Some.piece t.rest (c.facts.ensures.sound.open_ (opened_phase c.args.self.now.phase c.requires.open)) _ t.takes t.becomes
+    pending_is_placed c.args.self.now _ c.in-Some.piece t.rest (c.facts.ensures.sound.open_ (opened_phase c.args.self.now.phase c.requires.open)) _ t.takes t.becomes
 
 pub step_sources-requires : goal.step_sources-requires
 step_sources-requires g c =
-    let owed : c.args.self.now.owed ≡ nothing_owed = c.in-None.ensures.nothing.0 in
+    let pending : c.args.self.now.pending ≡ nothing_pending = c.in-None.ensures.nothing.0 in
     let same = c.in-None.ensures.nothing.1 in
-    let unowed : IsUnowed c.args.self.now = record { open_ = c.requires.open; free = c.requires.free; owed = owed } in
-    rw same (ready_idle c.args.self.now unowed (c.requires.outside unowed) c.facts.ensures.sound c.facts.ensures.files)
+    let drained : IsDrained c.args.self.now = record { open_ = c.requires.open; free = c.requires.free; pending = pending } in
+    rw same (ready_idle c.args.self.now drained (c.requires.outside drained) c.facts.ensures.sound c.facts.ensures.files)

@@ -1,7 +1,7 @@
 use Rattle.std.proofs.Common.{ap, refl, subst, ◌∙◌, arith, is_some}
 use Rattle.rdlpp_usages.specs.Usages.{StaysLent, StaysOpen, TakesUsageStep}
 use Rattle.rdlpp_state.specs.declared.place.Place.TheVariants as place
-use Rattle.rdlpp_expand.proofs.TextFacts.{lent-texts, unowed-texts}
+use Rattle.rdlpp_expand.proofs.TextFacts.{lent-texts, drained-texts}
 use Rattle.rdlpp_state.proofs.LentPieces.{marked_usage}
 use Rattle.rdlpp_state.proofs.UsageSteps.{HoldsTexts, fault_text, lend_step, opening, placed_lent, placed_word, refuse_step, turn_step}
 use Rattle.rdlpp_expand.proofs.engine.Engine.step_text.Goals as goal
@@ -41,7 +41,7 @@ returns-in-Lends-clause-stays g c =
 
 pub returns-in-Silent-clause-stays : goal.returns-in-Silent-clause-stays
 returns-in-Silent-clause-stays g c =
-    (unowed-texts c.args.self.now _ c.step-step.new.self c.args.self.now.marks c.requires.0 (opening _ c.args.self.now c.step-step.new.self c.self.view_is))
+    (drained-texts c.args.self.now _ c.step-step.new.self c.args.self.now.marks c.requires.0 (opening _ c.args.self.now c.step-step.new.self c.self.view_is))
 
 pub returns-in-Refused-clause-stays : goal.returns-in-Refused-clause-stays
 returns-in-Refused-clause-stays g c = ap (λ e. is_some e.kept) c.refuse_text-kept.ensures.kept
