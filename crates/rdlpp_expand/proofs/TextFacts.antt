@@ -23,7 +23,7 @@ use Rattle.rdlpp_state.specs.Positions.{position_of}
 use Rattle.rdlpp_state.specs.Silences.{most_silent}
 use Rattle.rdlpp_state.specs.Steps.{Steps, WalksOver}
 use Rattle.rdlpp_state.specs.declared.phase.Phase.TheVariants.{Open}
-use Rattle.rdlpp_state.specs.declared.place.Place.{Place}
+use Rattle.rdlpp_state.specs.declared.place.PieceLocation.{PieceLocation}
 use Rattle.rdlpp_state.proofs.LentPieces.{IsSpent, cut_kept, cut_piece, position_first}
 use Rattle.rdlpp_state.proofs.EngineSteps.{follows}
 use Rattle.rdlpp_expand.specs.Texts.{IsInTexts, LeavesTexts, StaysDrained, further_parts, place_of}
@@ -38,7 +38,7 @@ some_in [] e = absurd (true≢false e)
 some_in (x ∷ xs) e = omega arith
 
 -- where bytes are lent, the main text is open
-pub open-lent : {S R : Type 0} (g : Ghosts S R) (n : ℕ) (old new : EngineView S R) (place : Place) (lent : List ℕ) → WalksOver g n old new (lent_answer new place)
+pub open-lent : {S R : Type 0} (g : Ghosts S R) (n : ℕ) (old new : EngineView S R) (place : PieceLocation) (lent : List ℕ) → WalksOver g n old new (lent_answer new place)
     → lent_answer new place ≡ Ok (Some lent) → new.phase ≡ Open
 open-lent g n old new place lent w e = follows new.phase (w.lends lent e).1
 

@@ -8,7 +8,7 @@ use Rattle.rdlpp_state.specs.Engine.{EngineView}
 use Rattle.rdlpp_state.specs.Pieces.{IsPlaced, bytes_at}
 use Rattle.rdlpp_state.specs.Remaining.{left_of, work_left}
 use Rattle.rdlpp_state.specs.Steps.{Steps, IsStarted, is_call_failed, is_memory_kind, is_read_failed}
-use Rattle.rdlpp_state.specs.declared.place.Place.{Place}
+use Rattle.rdlpp_state.specs.declared.place.PieceLocation.{PieceLocation}
 use Rattle.rdlpp_expand.specs.Run.{Begins, Finishes, Going, Stops, StopsAt, is_fresh}
 use Rattle.rdlpp_expand.specs.declared.reading.ReadEnd.{ReadEnd}
 use Rattle.rdlpp_expand.specs.declared.reading.ReadEnd.TheVariants.{Finished, Stopped}
@@ -19,11 +19,11 @@ bytes_or None = []
 bytes_or (Some bytes) = bytes
 
 -- what is left of the piece at a place, of which so many bytes were given
-abbrev pub rest_at : {S R : Type 0} → EngineView S R → Place → ℕ → List ℕ
+abbrev pub rest_at : {S R : Type 0} → EngineView S R → PieceLocation → ℕ → List ℕ
 rest_at e place given = drop given (bytes_or (bytes_at e place))
 
 -- an engine that was started, and a piece of it of which so many bytes were given
-pub record IsHeldAt {S R : Type 0} (e : EngineView S R) (place : Place) (given : ℕ) : Type 0 where
+pub record IsHeldAt {S R : Type 0} (e : EngineView S R) (place : PieceLocation) (given : ℕ) : Type 0 where
   pub placed : IsPlaced e place
   pub started : IsStarted e
   pub inside : given ≤ length (bytes_or (bytes_at e place))

@@ -4,13 +4,13 @@ use Rattle.std.specs.Prelude.{◌≡◌, ℕ, ◌<◌, Bool, true, false, length
 use Rattle.rdlpp_state.specs.Engine.{EngineView}
 use Rattle.rdlpp_state.specs.Moves.{IsDrained}
 use Rattle.rdlpp_state.specs.declared.phase.Phase.TheVariants.{Open}
-use Rattle.rdlpp_state.specs.declared.place.Place.{Place}
-use Rattle.rdlpp_state.specs.declared.place.Place.TheVariants as spot
+use Rattle.rdlpp_state.specs.declared.place.PieceLocation.{PieceLocation}
+use Rattle.rdlpp_state.specs.declared.place.PieceLocation.TheVariants as spot
 use Rattle.rdlpp_expand.specs.declared.engine.texts.TextStep.{TextStep}
 use Rattle.rdlpp_expand.specs.declared.engine.texts.TextStep.TheVariants.{Lent, Silent, Kept}
 
 -- where such a step's piece stands, or the fault that is kept; none where nothing is lent
-abbrev pub place_of : TextStep → Option Place
+abbrev pub place_of : TextStep → Option PieceLocation
 place_of (Lent place) = Some (spot.Text place)
 place_of Silent = None
 place_of Kept = Some spot.Kept

@@ -55,7 +55,7 @@ use rdlpp_read::{Files, Fill, LogicalLine};
 use rdlpp_scan::{Directive, Mode, line_ends_in, reserved};
 use rdlpp_source::Sources;
 use rdlpp_state::{
-    Held, Marks, Pending, PendingPart, PendingPiece, Phase, Piece, Place, copied, copied_fault, fault_kind,
+    Held, Marks, Pending, PendingPart, PendingPiece, Phase, Piece, PieceLocation, copied, copied_fault, fault_kind,
     word_of,
 };
 use rdlpp_table::{Limits, Table};
@@ -181,7 +181,7 @@ impl<S: Sources> Engine<S> {
     // The step of `next`: goes on to the next piece, cut to what the limit on the output leaves, and answers where it stands.
     // The steps on the way that come to no bytes are taken from what is left for them, and so is a call that is read behind the
     // piece. Where that is too little for a step, the piece is that of no LF bytes that are pending.
-    pub(crate) fn advance(&mut self, left: &mut usize) -> Place
+    pub(crate) fn advance(&mut self, left: &mut usize) -> PieceLocation
         requires started { IsStarted self.old }
         requires left { left.old ≤ 65535 }
         ensures place { IsPlaced self.new result }
@@ -195,14 +195,14 @@ impl<S: Sources> Engine<S> {
             }
             None => {
                 self.facts();
-                Place::Pending(NO_BYTES)
+                PieceLocation::Pending(NO_BYTES)
             }
         }
     }
 
     // The step of `run` that is none over the open texts of a usage, cut to what the limit on the output leaves; it may lend
     // nothing.
-    pub(crate) fn advance_outside(&mut self) -> Option<Place>
+    pub(crate) fn advance_outside(&mut self) -> Option<PieceLocation>
         requires started { IsStarted self.old }
         requires outside { IsDrained self.old → self.old.expansion.opens ≡ [] }
         ensures place { IfSome result (IsPlaced self.new) }
@@ -215,31 +215,31 @@ impl<S: Sources> Engine<S> {
     }
 
     // Cuts a piece, to which a walk has led, to what the limit on the output leaves.
-    fn cut(&mut self, place: Place) -> Place
+    fn cut(&mut self, place: PieceLocation) -> PieceLocation
         requires placed { IsPlaced self.old place }
         requires open { (lent : List ℕ) → lent_answer self.old place ≡ Ok (Some lent) → self.old.phase ≡ Phase.Open }
         ensures place { IsPlaced self.new result }
         ensures steps { (before : EngineView S S.Reader) → WalksOver S.Sources most_silent before self.old (lent_answer self.old place) → Steps S.Sources before self.new (lent_answer self.new result) }
     {
         match place {
-            Place::Source(start, end) => {
+            PieceLocation::Source(start, end) => {
                 let len = self.spend(end - start);
-                Place::Source(start, start + len)
+                PieceLocation::Source(start, start + len)
             }
-            Place::Text(place) => {
+            PieceLocation::Text(place) => {
                 let len = self.spend(place.end - place.from);
-                Place::Text(TextPlace {
+                PieceLocation::Text(TextPlace {
                     source: place.source,
                     from: place.from,
                     end: place.from + len,
                 })
             }
-            Place::Pending(piece) => {
+            PieceLocation::Pending(piece) => {
                 let len = self.spend(piece.len);
-                Place::Pending(piece.cut(len))
+                PieceLocation::Pending(piece.cut(len))
             }
-            Place::End => Place::End,
-            Place::Kept => Place::Kept,
+            PieceLocation::End => PieceLocation::End,
+            PieceLocation::Kept => PieceLocation::Kept,
         }
     }
 
@@ -261,7 +261,7 @@ impl<S: Sources> Engine<S> {
 
     // Goes on to the next piece, however many bytes may still be lent, and answers where it stands; none where too little is left
     // for the steps that come to no bytes.
-    fn walk(&mut self, left: &mut usize) -> Option<Place>
+    fn walk(&mut self, left: &mut usize) -> Option<PieceLocation>
         requires { IsStarted self.old }
         ensures place { IfSome result (IsPlaced self.new) }
         ensures left { left.new ≤ left.old }
@@ -281,7 +281,7 @@ impl<S: Sources> Engine<S> {
     }
 
     // Takes one step, over open texts or not, which may lend nothing.
-    fn step(&mut self, in_texts: bool) -> Option<Place>
+    fn step(&mut self, in_texts: bool) -> Option<PieceLocation>
         requires started { IsStarted self.old }
         requires texts { IsTrue in_texts ↔ IsInTexts self.old }
         ensures place { IfSome result (IsPlaced self.new) }
@@ -297,7 +297,7 @@ impl<S: Sources> Engine<S> {
 
     // Takes one step that is none over the open texts of a usage.
     #[inline(always)]
-    fn step_outside(&mut self) -> Option<Place>
+    fn step_outside(&mut self) -> Option<PieceLocation>
         requires started { IsStarted self.old }
         requires outside { IsDrained self.old → self.old.expansion.opens ≡ [] }
         ensures place { IfSome result (IsPlaced self.new) }
@@ -305,7 +305,7 @@ impl<S: Sources> Engine<S> {
     {
         self.facts();
         if self.kept.is_some() {
-            return Some(Place::Kept);
+            return Some(PieceLocation::Kept);
         }
         match self.phase {
             Phase::Open => {
@@ -314,13 +314,13 @@ impl<S: Sources> Engine<S> {
                 place
             }
             Phase::Passed => Some(self.refuse_output()),
-            _ => Some(Place::End),
+            _ => Some(PieceLocation::End),
         }
     }
 
     // Takes one step over what is pending and the open sources.
     #[inline(always)]
-    fn step_open(&mut self) -> Option<Place>
+    fn step_open(&mut self) -> Option<PieceLocation>
         requires open { self.old.phase ≡ Phase.Open }
         requires free { self.old.kept ≡ None }
         requires outside { IsDrained self.old → self.old.expansion.opens ≡ [] }
@@ -329,14 +329,14 @@ impl<S: Sources> Engine<S> {
     {
         self.facts();
         match self.take_pending() {
-            Some(piece) => Some(Place::Pending(piece)),
+            Some(piece) => Some(PieceLocation::Pending(piece)),
             None => self.step_sources(),
         }
     }
 
     // Takes one step over the open sources: what is held, as most steps do.
     #[inline(always)]
-    fn step_sources(&mut self) -> Option<Place>
+    fn step_sources(&mut self) -> Option<PieceLocation>
         requires { IsReady self.old }
         ensures place { IfSome result (IsPlaced self.new) }
         ensures walks { IsBounded self.new → WalksOver S.Sources 1 self.old self.new (step_answer self.new result) }
@@ -351,7 +351,7 @@ impl<S: Sources> Engine<S> {
     // Sees to it that bytes of the innermost source are held, and takes one step over them; or ends that source, or refuses what breaks
     // it. It stands apart, so that a step over what is held or pending has no more of it than the test.
     #[inline(never)]
-    fn step_filled(&mut self) -> Option<Place>
+    fn step_filled(&mut self) -> Option<PieceLocation>
         requires { IsReady self.old }
         ensures place { IfSome result (IsPlaced self.new) }
         ensures walks { IsBounded self.new → WalksOver S.Sources 1 self.old self.new (step_answer self.new result) }
@@ -369,7 +369,7 @@ impl<S: Sources> Engine<S> {
     }
 
     // Takes what the held bytes begin with, which is no text that is copied.
-    fn take_front(&mut self) -> Option<Place>
+    fn take_front(&mut self) -> Option<PieceLocation>
         requires ready { IsReady self.old }
         requires live { self.old.conditions.skipped ≡ None }
         requires some { 0 < length (held_of (inner_buffer self.old.files.nest)) }
@@ -396,7 +396,7 @@ impl<S: Sources> Engine<S> {
 
     // Takes in the logical line of the `define` with which the held bytes begin, and reads it.
     #[inline(never)]
-    fn define_line(&mut self) -> Option<Place>
+    fn define_line(&mut self) -> Option<PieceLocation>
         requires ready { IsReady self.old }
         requires live { self.old.conditions.skipped ≡ None }
         requires some { 0 < length (held_of (inner_buffer self.old.files.nest)) }
@@ -420,7 +420,7 @@ impl<S: Sources> Engine<S> {
     }
 
     // Reads the `define` whose logical line has `len` bytes, and owes the LF bytes of that line.
-    fn read_define(&mut self, len: usize) -> Option<Place>
+    fn read_define(&mut self, len: usize) -> Option<PieceLocation>
         requires nest { 0 < length self.old.files.nest }
         requires inside { len ≤ length (held_of (inner_buffer self.old.files.nest)) }
         requires line { IfSome (logical_len 0 0 (drop 7 (take len (held_of (inner_buffer self.old.files.nest))))) (λ n. n ≡ length (drop 7 (take len (held_of (inner_buffer self.old.files.nest))))) }
@@ -449,7 +449,7 @@ impl<S: Sources> Engine<S> {
 
     // Takes out the macro of an `undef`, which is given a name or none, and lends nothing.
     #[inline(never)]
-    fn undefine(&mut self, argument: Option<Argument>) -> Option<Place>
+    fn undefine(&mut self, argument: Option<Argument>) -> Option<PieceLocation>
         requires ready { IsReady self.old }
         requires live { self.old.conditions.skipped ≡ None }
         requires some { 0 < length (held_of (inner_buffer self.old.files.nest)) }
@@ -472,7 +472,7 @@ impl<S: Sources> Engine<S> {
 
     // The name that a directive is given; or the place of its fault, which is kept: none stands there, or it is
     // reserved.
-    fn named(&mut self, argument: Option<Argument>) -> Result<Argument, Place>
+    fn named(&mut self, argument: Option<Argument>) -> Result<Argument, PieceLocation>
         requires nest { 0 < length self.old.files.nest }
         requires given { (word : Directive) × IsNamed word (held_of (inner_buffer self.old.files.nest)) argument }
         ensures { LooksAtName argument self.old self.new result }
@@ -492,7 +492,7 @@ impl<S: Sources> Engine<S> {
 
     // Ends the innermost source, which has no more bytes; a string, a comment or a conditional that is open
     // is a fault.
-    fn end(&mut self) -> Option<Place>
+    fn end(&mut self) -> Option<PieceLocation>
         requires open { self.old.phase ≡ Phase.Open }
         requires some { 0 < length self.old.files.nest }
         requires nothing { self.old.pending ≡ nothing_pending }
@@ -515,7 +515,7 @@ impl<S: Sources> Engine<S> {
 
     // Ends the innermost source, in which no string and no comment is open; a conditional that is open is a
     // fault.
-    fn end_plain(&mut self) -> Option<Place>
+    fn end_plain(&mut self) -> Option<PieceLocation>
         requires open { self.old.phase ≡ Phase.Open }
         requires some { 0 < length self.old.files.nest }
         requires nothing { self.old.pending ≡ nothing_pending }
@@ -531,7 +531,7 @@ impl<S: Sources> Engine<S> {
     }
 
     // Ends the innermost source, in which nothing is open: closes the main text, or leaves an included source.
-    fn end_whole(&mut self) -> Option<Place>
+    fn end_whole(&mut self) -> Option<PieceLocation>
         requires open { self.old.phase ≡ Phase.Open }
         requires some { 0 < length self.old.files.nest }
         requires nothing { self.old.pending ≡ nothing_pending }
@@ -545,7 +545,7 @@ impl<S: Sources> Engine<S> {
             return None;
         }
         self.close();
-        Some(Place::End)
+        Some(PieceLocation::End)
     }
 
     // Closes the main text, which has ended.
@@ -602,9 +602,9 @@ impl<S: Sources> Engine<S> {
     }
 
     // Keeps a fault at the line of the next byte.
-    fn refuse(&mut self, kind: FaultKind, word: ArrayString<128>) -> Place
+    fn refuse(&mut self, kind: FaultKind, word: ArrayString<128>) -> PieceLocation
         requires { 0 < length self.old.files.nest }
-        ensures place { result ≡ Place.Kept }
+        ensures place { result ≡ PieceLocation.Kept }
         ensures kept { self.new ≡ record self.old { kept = Some (fault_at kind (inner_buffer self.old.files.nest).line word.bytes (state_of self.old)) } }
     {
         let line = self.files.file().buffer.line();
@@ -613,12 +613,12 @@ impl<S: Sources> Engine<S> {
     }
 
     // Keeps a fault of the open texts of a usage, at the line of the usage in the source.
-    fn refuse_text(&mut self, fault: CursorFault) -> Place
+    fn refuse_text(&mut self, fault: CursorFault) -> PieceLocation
         requires nest { 0 < length self.old.files.nest }
         requires line { self.old.expansion.line < 2 ^ 63 }
         requires placed { IsTextPlaced (held_texts self.old) fault.word }
         requires word { IsWordBytes (place_bytes (held_texts self.old) fault.word) }
-        ensures place { result ≡ Place.Kept }
+        ensures place { result ≡ PieceLocation.Kept }
         ensures kept { self.new ≡ record self.old { kept = Some (fault_at fault.kind self.old.expansion.line (place_bytes (held_texts self.old) fault.word) (state_of self.old)) } }
     {
         let word = word_of(self.text(fault.word));
@@ -627,9 +627,9 @@ impl<S: Sources> Engine<S> {
     }
 
     // Keeps that a read failed, at the line that is read.
-    fn refuse_read(&mut self) -> Place
+    fn refuse_read(&mut self) -> PieceLocation
         requires { 0 < length self.old.files.nest }
-        ensures place { result ≡ Place.Kept }
+        ensures place { result ≡ PieceLocation.Kept }
         ensures kept { self.new ≡ record self.old { kept = Some (fault_at FaultKind.ReadFailed (reading_line_of (inner_buffer self.old.files.nest)) [] (state_of self.old)) } }
     {
         let line = self.files.file().buffer.reading_line();
@@ -638,10 +638,10 @@ impl<S: Sources> Engine<S> {
     }
 
     // Keeps a fault at a physical line of the innermost source.
-    fn refuse_at(&mut self, kind: FaultKind, line: u64, word: ArrayString<128>) -> Place
+    fn refuse_at(&mut self, kind: FaultKind, line: u64, word: ArrayString<128>) -> PieceLocation
         requires open { 0 < length self.old.files.nest }
         requires line { line < 2 ^ 63 }
-        ensures place { result ≡ Place.Kept }
+        ensures place { result ≡ PieceLocation.Kept }
         ensures kept { self.new ≡ record self.old { kept = Some (fault_at kind line word.bytes (state_of self.old)) } }
     {
         self.files.facts();
@@ -653,13 +653,13 @@ impl<S: Sources> Engine<S> {
             line: file.shift.shown_line(line),
             word,
         });
-        Place::Kept
+        PieceLocation::Kept
     }
 
     // Keeps that a conditional is open where its source ends, at the line that the conditional showed.
-    fn refuse_unclosed(&mut self, line: u64) -> Place
+    fn refuse_unclosed(&mut self, line: u64) -> PieceLocation
         requires { 0 < length self.old.files.nest }
-        ensures place { result ≡ Place.Kept }
+        ensures place { result ≡ PieceLocation.Kept }
         ensures kept { self.new ≡ record self.old { kept = Some (unclosed_fault line (state_of self.old)) } }
     {
         self.kept = Some(Fault {
@@ -668,14 +668,14 @@ impl<S: Sources> Engine<S> {
             line,
             word: ArrayString::new(),
         });
-        Place::Kept
+        PieceLocation::Kept
     }
 
     // Keeps that more bytes are due than the output may have, which is told at line 0 under the main
     // text's name.
     #[tactic(auto, unfolding(rdlpp_meaning::specs::Outcome::told, rdlpp_state::specs::Remaining::output_fault))]
-    fn refuse_output(&mut self) -> Place
-        ensures place { result ≡ Place.Kept }
+    fn refuse_output(&mut self) -> PieceLocation
+        ensures place { result ≡ PieceLocation.Kept }
         ensures kept { self.new ≡ record self.old { kept = Some (output_fault self.old.main) } }
     {
         self.kept = Some(Fault {
@@ -684,7 +684,7 @@ impl<S: Sources> Engine<S> {
             line: 0,
             word: ArrayString::new(),
         });
-        Place::Kept
+        PieceLocation::Kept
     }
 
     // Keeps that a write failed, which is told at line 0 under the main text's name.
@@ -721,28 +721,28 @@ impl<S: Sources> Engine<S> {
     }
 
     // Lends the piece at a place, or the fault that is kept.
-    pub(crate) fn answer(&self, place: Place) -> Result<Piece<'_>, &Fault>
+    pub(crate) fn answer(&self, place: PieceLocation) -> Result<Piece<'_>, &Fault>
         requires { IsPlaced self.now place }
         ensures { answer_of result ≡ lent_answer self.now place }
     {
         match (place, &self.kept) {
-            (Place::Kept, Some(fault)) => Err(fault),
+            (PieceLocation::Kept, Some(fault)) => Err(fault),
             _ => Ok(self.lend(place)),
         }
     }
 
     // Lends the piece at a place.
-    fn lend(&self, place: Place) -> Piece<'_>
+    fn lend(&self, place: PieceLocation) -> Piece<'_>
         requires { IsPlaced self.now place }
         ensures { piece_bytes result ≡ bytes_at self.now place }
     {
         match place {
-            Place::Source(start, end) => Piece::Bytes(self.files.file().buffer.part(start, end)),
-            Place::Text(place) => Piece::Bytes(self.text(place)),
-            Place::Pending(piece) => Piece::Bytes(
+            PieceLocation::Source(start, end) => Piece::Bytes(self.files.file().buffer.part(start, end)),
+            PieceLocation::Text(place) => Piece::Bytes(self.text(place)),
+            PieceLocation::Pending(piece) => Piece::Bytes(
                 self.pending.bytes(piece, self.files.file().name.as_str()),
             ),
-            Place::End | Place::Kept => Piece::Done,
+            PieceLocation::End | PieceLocation::Kept => Piece::Done,
         }
     }
 

@@ -11,7 +11,7 @@ ghost use Rattle.rdlpp_expand.specs.Reading.{Fills, FillsPart, GivesPiece, Leave
 use crate::engine::{Engine, READ_ALLOWANCE};
 use rdlpp_meaning::Fault;
 use rdlpp_source::Sources;
-use rdlpp_state::{Held, Piece, Place};
+use rdlpp_state::{Held, Piece, PieceLocation};
 use std::marker::Model;
 
 /// How an output ended.
@@ -38,7 +38,7 @@ pub struct ReadPart {
 pub struct Reading<S: Sources> {
     engine: Engine<S>,
     // where the piece stands that was lent last
-    place: Place,
+    place: PieceLocation,
     // how many bytes of it were given
     given: usize,
 }
@@ -61,7 +61,7 @@ impl<S: Sources> Reading<S> {
     {
         Reading {
             engine,
-            place: Place::End,
+            place: PieceLocation::End,
             given: 0,
         }
     }
@@ -113,7 +113,7 @@ impl<S: Sources> Reading<S> {
         ensures rest { self.new.rest ≡ (if is_failed_start self.old.engine then [] else self.old.rest) }
     {
         if self.engine.keeps_failed_start() {
-            self.place = Place::End;
+            self.place = PieceLocation::End;
             self.given = 0;
         }
         self.engine.start_again(path)

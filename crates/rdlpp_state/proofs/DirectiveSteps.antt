@@ -56,8 +56,8 @@ use Rattle.rdlpp_state.specs.Positions.{BehindLine, Unmarked}
 use Rattle.rdlpp_state.specs.Remaining.{file_state, inner_name, nest_left, nest_state, run_rules, state_of}
 use Rattle.rdlpp_state.specs.Standing.{InSources, Nowhere}
 use Rattle.rdlpp_state.specs.Steps.{IsOwn, Walks}
-use Rattle.rdlpp_state.specs.declared.place.Place.{Place}
-use Rattle.rdlpp_state.specs.declared.place.Place.TheVariants.{Kept}
+use Rattle.rdlpp_state.specs.declared.place.PieceLocation.{PieceLocation}
+use Rattle.rdlpp_state.specs.declared.place.PieceLocation.TheVariants.{Kept}
 use Rattle.rdlpp_state.proofs.NestLeft.{Continues, Decides, Faults, IsPlainFront, around, at_live, closes_at, counts_at, moved_live, nest_refused_undef, nest_undef, none_held, opens_at, stray_at, torn_consumed, turns_at}
 use Rattle.rdlpp_state.proofs.IncludeSteps.{nest_macros}
 use Rattle.rdlpp_state.proofs.EngineSteps.{not_called}
@@ -140,7 +140,7 @@ opened_by x holds len line old new v opens becomes shown =
     (refl, becomes ∙ ap (λ (w : ConditionsView). goes_past w len old) (opens.becomes ∙ ap (λ (n : ℕ). opened_with n holds old.conditions) shown))
 
 -- too many are open
-pub unopened_by : {S R A : Type 0} (kind : FaultKind) (holds : Bool) (len line : ℕ) (old new : EngineView S R) (v : ConditionsView) (place : Place) → Opens {A = A} (Err kind) line holds old.conditions v
+pub unopened_by : {S R A : Type 0} (kind : FaultKind) (holds : Bool) (len line : ℕ) (old new : EngineView S R) (v : ConditionsView) (place : PieceLocation) → Opens {A = A} (Err kind) line holds old.conditions v
     → place ≡ Kept → new ≡ record (record old { conditions = v }) { kept = Some (fault_at kind (inner_buffer old.files.nest).line [] (state_of (record old { conditions = v }))) }
     → OpensOne holds len old new (Some place)
 unopened_by {S} {R} kind holds len line old new v place opens is becomes =
@@ -201,27 +201,27 @@ module _ {S R : Type 0} (g : Ghosts S R) (old new : EngineView S R) (ready : IsR
   here = nest_state old.limits old.table.macros old.conditions old.files.nest
 
   -- a fault at this line is kept
-  faults : (place : Place) (kind : FaultKind) (word : List ℕ) → place ≡ Kept → new ≡ record old { kept = Some (fault_at kind (inner_buffer old.files.nest).line word (state_of old)) } → IsOwn kind
+  faults : (place : PieceLocation) (kind : FaultKind) (word : List ℕ) → place ≡ Kept → new ≡ record old { kept = Some (fault_at kind (inner_buffer old.files.nest).line word (state_of old)) } → IsOwn kind
       → FaultsHere kind word → Walks g old new (lent_answer new place)
   unfolding state_of
   faults place kind word is becomes own law =
       refuses g old old new place kind (inner_buffer old.files.nest).line word ready (read_nothing old) bounded is becomes own (not_called g old.sources) (λ t. law)
 
   -- a test is done
-  does_by : (x : Test) (next : Bool → ConditionsView) (len : ℕ) (result : Option Place) → (0 < len) × (len ≤ length held) → IsOwnTest x
+  does_by : (x : Test) (next : Bool → ConditionsView) (len : ℕ) (result : Option PieceLocation) → (0 < len) × (len ≤ length held) → IsOwnTest x
       → DecidesHere x next len → DoesByTest x next len old new result → Walks g old new (step_answer new result)
-  does_by (Stopped kind word) next len result within own law does = subst (λ (r : Option Place). Walks g old new (step_answer new r)) (sym does.0) (faults Kept kind word refl does.1 own law)
+  does_by (Stopped kind word) next len result within own law does = subst (λ (r : Option PieceLocation). Walks g old new (step_answer new r)) (sym does.0) (faults Kept kind word refl does.1 own law)
   does_by (Holds t) next len result within own law does =
-      subst (λ (r : Option Place). Walks g old new (step_answer new r)) (sym does.0) (goes_on g old new (next t) len ready bounded within.0 within.1 does.1 law)
+      subst (λ (r : Option PieceLocation). Walks g old new (step_answer new r)) (sym does.0) (goes_on g old new (next t) len ready bounded within.0 within.1 does.1 law)
 
   -- the name that a directive is given is refused
-  unnamed : (a : Option Argument) (place : Place) → LooksAtName a old new (Err place)
+  unnamed : (a : Option Argument) (place : PieceLocation) → LooksAtName a old new (Err place)
       → ((kind : FaultKind) (word : List ℕ) → name_of a ≡ Faulty kind word → FaultsHere kind word) → Walks g old new (lent_answer new place)
   unnamed a place looks law = let r = looks.1 in faults place r.kind r.word looks.0 r.becomes r.own (law r.kind r.word r.faulty)
 
   module _ (live : old.conditions.skipped ≡ None) where
     -- an `undef` whose name is refused
-    pub undef_unnamed : (a : Option Argument) (place : Place) → IsNamed Undef held a → LooksAtName a old new (Err place) → Walks g old new (lent_answer new place)
+    pub undef_unnamed : (a : Option Argument) (place : PieceLocation) → IsNamed Undef held a → LooksAtName a old new (Err place) → Walks g old new (lent_answer new place)
     undef_unnamed a place named looks =
         unnamed a place looks
         (nest_refused_undef old.limits (run_rules g old) g.unread old.table.macros old.conditions live old.files.nest _ _ some front.ends plain (named_begins Undef held a undef_wants named))
@@ -253,13 +253,13 @@ module _ {S R : Type 0} (g : Ghosts S R) (old new : EngineView S R) (ready : IsR
           opens_at old.limits (run_rules g old) g.unread old.table.macros old.conditions old.files.nest (opening_word defined) _ _ front opening_begins live (opening_opens defined)
           (inner_most old.limits old.conditions old.files.nest ready.sound.conditions_of)
 
-      pub opening_unnamed : (place : Place) → LooksAtName a old new (Err place) → Walks g old new (lent_answer new place)
+      pub opening_unnamed : (place : PieceLocation) → LooksAtName a old new (Err place) → Walks g old new (lent_answer new place)
       unfolding opening_within name_test
       opening_unnamed place looks =
           unnamed a place looks (λ kind word faulty.
           subst (λ (n : Checked). DecidesHere (opening_by n) (λ t. opened_with (inner_shown old.files.nest) t old.conditions) (given_len (opening_word defined) a)) faulty opening_decides)
 
-      pub opening_named : (name : List ℕ) (result : Option Place) → name_of a ≡ Fine name
+      pub opening_named : (name : List ℕ) (result : Option PieceLocation) → name_of a ≡ Fine name
           → OpensOne (test_of defined (is_some (macro_named old.table.macros name))) (given_len (opening_word defined) a) old new result → Walks g old new (step_answer new result)
       unfolding conditions_left
       opening_named name result fine opens =
@@ -273,7 +273,7 @@ module _ {S R : Type 0} (g : Ghosts S R) (old new : EngineView S R) (ready : IsR
           (subst (λ (x : Test). DecidesHere x (λ t. opened_with (inner_shown old.files.nest) t old.conditions) (given_len (opening_word defined) a)) test opening_decides) opens
 
   -- a branch, or an end, that is refused
-  refused_by : (place : Place) (kind own : FaultKind) → place ≡ Kept → kind ≡ own → IsOwn own → new ≡ record old { kept = Some (fault_at kind (inner_buffer old.files.nest).line [] (state_of old)) }
+  refused_by : (place : PieceLocation) (kind own : FaultKind) → place ≡ Kept → kind ≡ own → IsOwn own → new ≡ record old { kept = Some (fault_at kind (inner_buffer old.files.nest).line [] (state_of old)) }
       → FaultsHere own [] → Walks g old new (lent_answer new place)
   refused_by place kind own is same owns becomes law =
       faults place own [] is (becomes ∙ ap (λ (k : FaultKind). record old { kept = Some (fault_at k (inner_buffer old.files.nest).line [] (state_of old)) }) same) owns law
@@ -305,7 +305,7 @@ module _ {S R : Type 0} (g : Ghosts S R) (old new : EngineView S R) (ready : IsR
         (given_branches d held a given) turns
 
     -- it is refused
-    pub refused_steps : (place : Place) (kind : FaultKind) → Meets d (Refused kind) (inner_below old.files.nest) old.conditions → place ≡ Kept
+    pub refused_steps : (place : PieceLocation) (kind : FaultKind) → Meets d (Refused kind) (inner_below old.files.nest) old.conditions → place ≡ Kept
         → new ≡ record old { kept = Some (fault_at kind (inner_buffer old.files.nest).line [] (state_of old)) } → Walks g old new (lent_answer new place)
     refused_steps place kind (MeetsNone alone same) is becomes =
         refused_by place kind fault.StrayBranch is (cc) (own_kind _ refl) becomes
@@ -321,7 +321,7 @@ module _ {S R : Type 0} (g : Ghosts S R) (old new : EngineView S R) (ready : IsR
 
     -- its name decides
     module _ (own : OwnTurn d Named (inner_below old.files.nest) old.conditions) where
-      pub turn_unnamed : (place : Place) → LooksAtName a old new (Err place) → Walks g old new (lent_answer new place)
+      pub turn_unnamed : (place : PieceLocation) → LooksAtName a old new (Err place) → Walks g old new (lent_answer new place)
       unfolding name_test
       turn_unnamed place looks =
           unnamed a place looks (λ kind word faulty.
@@ -339,7 +339,7 @@ module _ {S R : Type 0} (g : Ghosts S R) (old new : EngineView S R) (ready : IsR
           (turn_decides Named own (λ n s. name_test true n s) own.turns.1)) (refl, becomes)
 
   -- an `endif` that is stray
-  pub end_refused : (A : Type 0) (place : Place) (kind : FaultKind) (v : ConditionsView) → EndsOne {A = A} (Err kind) old.conditions v (inner_below old.files.nest) → IsDirective Endif held → place ≡ Kept
+  pub end_refused : (A : Type 0) (place : PieceLocation) (kind : FaultKind) (v : ConditionsView) → EndsOne {A = A} (Err kind) old.conditions v (inner_below old.files.nest) → IsDirective Endif held → place ≡ Kept
       → new ≡ record (record old { conditions = v }) { kept = Some (fault_at kind (inner_buffer old.files.nest).line [] (state_of (record old { conditions = v }))) } → Walks g old new (lent_answer new place)
   end_refused A place kind v (EndsNone alone same stays) is kept becomes =
       let keeps : ConditionsView → EngineView S R = λ w. record (record old { conditions = w }) { kept = Some (fault_at kind (inner_buffer old.files.nest).line [] (state_of (record old { conditions = w }))) } in

@@ -52,8 +52,8 @@ use Rattle.rdlpp_state.specs.Remaining.{file_state, inner_name, nest_left, nest_
 use Rattle.rdlpp_state.specs.Steps.{IsOwn, IsReading, Walks, is_memory_kind, is_read_failed, is_write_failed}
 use Rattle.rdlpp_state.specs.declared.phase.Phase.{Phase}
 use Rattle.rdlpp_state.specs.declared.phase.Phase.TheVariants.{Open}
-use Rattle.rdlpp_state.specs.declared.place.Place.{Place}
-use Rattle.rdlpp_state.specs.declared.place.Place.TheVariants.{Source, Text, Pending, End, Kept}
+use Rattle.rdlpp_state.specs.declared.place.PieceLocation.{PieceLocation}
+use Rattle.rdlpp_state.specs.declared.place.PieceLocation.TheVariants.{Source, Text, Pending, End, Kept}
 use Rattle.rdlpp_usages.specs.Usages.{texts_left}
 use Rattle.rdlpp_state.proofs.Soundness.{inner_facts, text_idle, with_inner-length}
 use Rattle.rdlpp_front.proofs.TextLeft.{define_begins}
@@ -279,7 +279,7 @@ unfolding fault_at
 told_kind kind line word s own = own
 
 -- a fault of the text is kept, as it is told in the state that the text goes on from
-pub refuses_by : {S R : Type 0} (g : Ghosts S R) (old mid new : EngineView S R) (place : Place) (tell : State → Told) → ((s : State) → IsOwn (tell s).kind) → IsReady old → IsRead g old mid → IsBounded new
+pub refuses_by : {S R : Type 0} (g : Ghosts S R) (old mid new : EngineView S R) (place : PieceLocation) (tell : State → Told) → ((s : State) → IsOwn (tell s).kind) → IsReady old → IsRead g old mid → IsBounded new
     → place ≡ Kept → new ≡ record mid { kept = Some (tell (state_of mid)) } → SourcesCalled g false false old.sources mid.sources
     → (g.tells old.sources → left_by g old old.table.macros old.conditions old.files.nest ≡ leaves (fails (tell (state_of old))) (state_of old))
     → Walks g old new (lent_answer new place)
@@ -296,7 +296,7 @@ refuses_by {S} {R} g old mid new place tell own ready r bounded is becomes call 
     (keeps_read g old mid new f ready r becomes call.catalog (own_stops new f (ap (λ e. e.kept) becomes) (own_failed f.kind (own (state_of mid))))))
 
 -- a fault at a line of the source is kept
-pub refuses : {S R : Type 0} (g : Ghosts S R) (old mid new : EngineView S R) (place : Place) (kind : FaultKind) (line : ℕ) (word : List ℕ) → IsReady old → IsRead g old mid → IsBounded new
+pub refuses : {S R : Type 0} (g : Ghosts S R) (old mid new : EngineView S R) (place : PieceLocation) (kind : FaultKind) (line : ℕ) (word : List ℕ) → IsReady old → IsRead g old mid → IsBounded new
     → place ≡ Kept → new ≡ record mid { kept = Some (fault_at kind line word (state_of mid)) } → IsOwn kind → SourcesCalled g false false old.sources mid.sources
     → (g.tells old.sources → left_by g old old.table.macros old.conditions old.files.nest ≡ leaves (fails (fault_at kind line word (state_of old))) (state_of old))
     → Walks g old new (lent_answer new place)
@@ -304,7 +304,7 @@ refuses g old mid new place kind line word ready r bounded is becomes own call l
     refuses_by g old mid new place (λ s. fault_at kind line word s) (λ s. told_kind kind line word s own) ready r bounded is becomes call law
 
 -- a failed read is kept
-pub fails_reading : {S R : Type 0} (g : Ghosts S R) (old mid new : EngineView S R) (place : Place) → IsReady old → IsRead g old mid → IsReading (inner_buffer mid.files.nest) → IsBounded new
+pub fails_reading : {S R : Type 0} (g : Ghosts S R) (old mid new : EngineView S R) (place : PieceLocation) → IsReady old → IsRead g old mid → IsReading (inner_buffer mid.files.nest) → IsBounded new
     → place ≡ Kept → new ≡ record mid { kept = Some (fault_at fault.ReadFailed (reading_line_of (inner_buffer mid.files.nest)) [] (state_of mid)) } → SourcesCalled g true false old.sources mid.sources
     → (g.tells old.sources → left_by g old old.table.macros old.conditions old.files.nest ≡ left_by g old old.table.macros old.conditions (with_buffer (inner_buffer mid.files.nest) old.files.nest))
     → Walks g old new (lent_answer new place)
@@ -403,7 +403,7 @@ module _ {S R : Type 0} (g : Ghosts S R) (old mid new : EngineView S R) (len : �
       (parts_used g.unread len d.lines (with_buffer b old.files.nest))) (Nowhere refl (InSources ready.idle refl (Unmarked refl))))
 
   -- it is refused
-  refused_steps : (place : Place) → place ≡ Kept → RefusesDefine len mid new → Walks g old new (lent_answer new place)
+  refused_steps : (place : PieceLocation) → place ≡ Kept → RefusesDefine len mid new → Walks g old new (lent_answer new place)
   unfolding source_rules rules_of with_fault state_of
   refused_steps place is d =
       let inner = inner_facts old.files ready.nest ready.files in
@@ -417,7 +417,7 @@ module _ {S R : Type 0} (g : Ghosts S R) (old mid new : EngineView S R) (len : �
       some inner.ends plain define holds (ap with_fault refused)
       ∙ rw here refl)
 
-  pub defined_steps : (result : Option Place) → 7 ≤ len → len ≤ length (held_of (inner_buffer mid.files.nest)) → length (held_of (inner_buffer mid.files.nest)) < 2 ^ 31 → ReadsDefine len mid new result → Walks g old new (step_answer new result)
+  pub defined_steps : (result : Option PieceLocation) → 7 ≤ len → len ≤ length (held_of (inner_buffer mid.files.nest)) → length (held_of (inner_buffer mid.files.nest)) < 2 ^ 31 → ReadsDefine len mid new result → Walks g old new (step_answer new result)
   defined_steps None wide inside few reads = accepted_steps wide inside few reads
   defined_steps (Some Kept) wide inside few reads = refused_steps Kept refl reads
   defined_steps (Some (Source start end)) wide inside few reads = absurd reads
@@ -426,7 +426,7 @@ module _ {S R : Type 0} (g : Ghosts S R) (old mid new : EngineView S R) (len : �
   defined_steps (Some End) wide inside few reads = absurd reads
 
 -- a `define` leaves no place, or the fault that is kept
-pub defined_placed : {S R : Type 0} (len : ℕ) (old new : EngineView S R) (result : Option Place) → ReadsDefine len old new result → IfSome result (IsPlaced new)
+pub defined_placed : {S R : Type 0} (len : ℕ) (old new : EngineView S R) (result : Option PieceLocation) → ReadsDefine len old new result → IfSome result (IsPlaced new)
 defined_placed len old new None reads = tt
 defined_placed len old new (Some Kept) reads = tt
 defined_placed len old new (Some (Source start end)) reads = absurd reads
@@ -653,8 +653,8 @@ pub defined_same : (b n : ℕ) (macros : List Macro) (r1 r2 : List ℕ) (o : tab
 defined_same b n macros r1 r2 o e r = rw (← r) (sym e)
 
 -- a refused `define`, at a place
-pub reads_refused : {S R : Type 0} (len : ℕ) (old new : EngineView S R) (place : Place) → place ≡ Kept → RefusesDefine len old new → ReadsDefine len old new (Some place)
-reads_refused {S} {R} len old new place is refuses = subst (λ (p : Place). ReadsDefine len old new (Some p)) (sym is) refuses
+pub reads_refused : {S R : Type 0} (len : ℕ) (old new : EngineView S R) (place : PieceLocation) → place ≡ Kept → RefusesDefine len old new → ReadsDefine len old new (Some place)
+reads_refused {S} {R} len old new place is refuses = subst (λ (p : PieceLocation). ReadsDefine len old new (Some p)) (sym is) refuses
 
 -- a table of which only the macros changed
 table_same : (old new : TableView) → new.most_bytes ≡ old.most_bytes → new.most_macros ≡ old.most_macros → new ≡ record old { macros = new.macros }

@@ -54,8 +54,8 @@ use Rattle.rdlpp_state.specs.Remaining.{ending_behind, file_state, find_of, inne
 use Rattle.rdlpp_state.specs.Standing.{InSources, Nowhere}
 use Rattle.rdlpp_state.specs.Steps.{IsOwn, OnSearch, Walks, is_call_failed, is_memory_kind, is_read_failed, is_write_failed}
 use Rattle.rdlpp_state.specs.declared.phase.Phase.TheVariants.{Closed}
-use Rattle.rdlpp_state.specs.declared.place.Place.{Place}
-use Rattle.rdlpp_state.specs.declared.place.Place.TheVariants.{End, Kept, Pending, Source as SourcePlace, Text}
+use Rattle.rdlpp_state.specs.declared.place.PieceLocation.{PieceLocation}
+use Rattle.rdlpp_state.specs.declared.place.PieceLocation.TheVariants.{End, Kept, Pending, Source as SourcePlace, Text}
 use Rattle.rdlpp_state.proofs.NestLeft.{around, at_live, conditions_live, inner_below-same, live_place, nest_ended, nest_open, none_held, torn_consumed, waiting_same}
 use Rattle.rdlpp_state.proofs.EngineSteps.{kept_at, not_called, walks_end, walks_stopped}
 use Rattle.rdlpp_state.proofs.FrontSteps.{Fails, IsRead, keeps_fault, keeps_files, keeps_moves, kept_text, left_by, lends_by, read_nothing, read_text, refuses, refuses_by, text_drained}
@@ -359,14 +359,14 @@ module _ {S R : Type 0} (g : Ghosts S R) (old mid new : EngineView S R) (start s
   KeepsKind kind = new ≡ record mid { kept = Some (fault_at kind (inner_buffer mid.files.nest).line [] (state_of mid)) }
 
   -- the text has a fault
-  refuse_steps : (place : Place) → place ≡ Kept → (kind : FaultKind) → IsOwn kind → SourcesCalled g false false old.sources mid.sources → KeepsKind kind
+  refuse_steps : (place : PieceLocation) → place ≡ Kept → (kind : FaultKind) → IsOwn kind → SourcesCalled g false false old.sources mid.sources → KeepsKind kind
       → (g.tells old.sources → Fails g old kind (inner_buffer old.files.nest).line []) → Walks g old new (lent_answer new place)
   refuse_steps place is kind own call kept law =
       let keeps : FilesView R → EngineView S R = λ fs. record mid { kept = Some (fault_at kind (inner_buffer fs.nest).line [] (state_of mid)) } in
       refuses g old mid new place kind (inner_buffer old.files.nest).line [] ready (read_sources g old mid becomes) bounded is (kept ∙ ap keeps same_files) own call law
 
   -- the search failed
-  stopped_steps : (place : Place) → place ≡ Kept → (kind : FaultKind) → is_call_failed kind ≡ true → is_write_failed kind ≡ false → SourcesCalled g (is_read_failed kind) (is_memory_kind kind) old.sources mid.sources
+  stopped_steps : (place : PieceLocation) → place ≡ Kept → (kind : FaultKind) → is_call_failed kind ≡ true → is_write_failed kind ≡ false → SourcesCalled g (is_read_failed kind) (is_memory_kind kind) old.sources mid.sources
       → KeepsKind kind → is_bad_name name_of ≡ false → length old.files.nest < old.files.slots → Walks g old new (lent_answer new place)
   unfolding fault_at state_of
   stopped_steps place is kind met write call kept good room =
@@ -392,7 +392,7 @@ module _ {S R : Type 0} (g : Ghosts S R) (old mid new : EngineView S R) (start s
       (keeps_searched g old (told mid) mid.sources ready.free ready.idle call.catalog)))
 
   -- what is found is what the rules find
-  finds_as : (fault : SourceFault) → Searches g old name_of mid.sources (Err fault) → (place : Place) → place ≡ Kept → KeepsKind (kind_of_source fault) → Walks g old new (lent_answer new place)
+  finds_as : (fault : SourceFault) → Searches g old name_of mid.sources (Err fault) → (place : PieceLocation) → place ≡ Kept → KeepsKind (kind_of_source fault) → Walks g old new (lent_answer new place)
   unfolding kind_of_source is_call_failed is_read_failed is_write_failed is_memory_kind source_rules rules_of find_of lookup_of state_of
   finds_as source.Absent s place is kept =
       let room = s.room in
@@ -410,7 +410,7 @@ module _ {S R : Type 0} (g : Ghosts S R) (old mid new : EngineView S R) (start s
   finds_as source.NoMemory s place is kept = stopped_steps place is SourceMemory refl refl s.call kept s.name_good s.room
 
   -- nothing is opened
-  pub denied_steps : (place : Place) (kind : FaultKind) → place ≡ Kept → Denies g old name_of mid.sources kind → KeepsKind kind → Walks g old new (lent_answer new place)
+  pub denied_steps : (place : PieceLocation) (kind : FaultKind) → place ≡ Kept → Denies g old name_of mid.sources kind → KeepsKind kind → Walks g old new (lent_answer new place)
   unfolding state_of
   denied_steps place kind is (BadName bad named same) kept =
       refuse_steps place is IncludeName (own_kind _ refl) (subst (λ (s : S). SourcesCalled g false false old.sources s) (sym same) (not_called g old.sources)) (subst KeepsKind named kept)
@@ -651,7 +651,7 @@ module _ {S R : Type 0} (g : Ghosts S R) (old mid new : EngineView S R) (ready :
       ∙ ap (λ (x : List ℕ). behind_bytes x (left_by g old old.table.macros old.conditions (drop 1 before))) (sym (pending_ending (g.catalog old.sources) old.limits old.origins before inner)))
       (λ t. parts_around g.unread before (g.catalog old.sources)) (Nowhere refl (InSources ready.idle refl (BehindSource refl))))
 
-  pub ended_steps : (place : Option Place) → Ends mid new place → Walks g old new (step_answer new place)
+  pub ended_steps : (place : Option PieceLocation) → Ends mid new place → Walks g old new (step_answer new place)
   ended_steps None ends = ended_back ends
   ended_steps (Some (SourcePlace start end)) ends = absurd ends
   ended_steps (Some (Text p)) ends = absurd ends
@@ -661,7 +661,7 @@ module _ {S R : Type 0} (g : Ghosts S R) (old mid new : EngineView S R) (ready :
   ended_steps (Some Kept) (inr ends) = ended_unclosed ends
 
 -- the end is a place, or none
-pub ended_placed : {S R : Type 0} (mid new : EngineView S R) (place : Option Place) → Ends mid new place → IfSome place (IsPlaced new)
+pub ended_placed : {S R : Type 0} (mid new : EngineView S R) (place : Option PieceLocation) → Ends mid new place → IfSome place (IsPlaced new)
 ended_placed mid new None ends = tt
 ended_placed mid new (Some (SourcePlace start end)) ends = absurd ends
 ended_placed mid new (Some (Text p)) ends = absurd ends
@@ -670,7 +670,7 @@ ended_placed mid new (Some End) ends = tt
 ended_placed mid new (Some Kept) ends = tt
 
 -- a text that ended in a mode in which its end is a fault, at a place
-pub stops_open : {S R : Type 0} (old new : EngineView S R) (place : Place) (breach : Breach) (mode : Mode) (line : ℕ) →
+pub stops_open : {S R : Type 0} (old new : EngineView S R) (place : PieceLocation) (breach : Breach) (mode : Mode) (line : ℕ) →
     place ≡ Kept → (inner_buffer old.files.nest).mode ≡ mode
     → ended_tokens mode (inner_buffer old.files.nest).open_token_line ≡ only_broken breach (inner_buffer old.files.nest).open_token_line
     → IsOwn (breach_kind breach) → line ≡ (inner_buffer old.files.nest).open_token_line →
@@ -678,7 +678,7 @@ pub stops_open : {S R : Type 0} (old new : EngineView S R) (place : Place) (brea
 stops_open {S} {R} old new place breach mode line is at_mode tokens own opened becomes =
     let b = inner_buffer old.files.nest in
     let keeps : ℕ → EngineView S R = λ n. record old { kept = Some (fault_at (breach_kind breach) n [] (state_of old)) } in
-    subst (λ (p : Place). Ends old new (Some p)) (sym is) (inl (record {
+    subst (λ (p : PieceLocation). Ends old new (Some p)) (sym is) (inl (record {
       breach = breach;
       tokens = ap (λ (m : Mode). ended_tokens m b.open_token_line) at_mode ∙ tokens;
       own = own;

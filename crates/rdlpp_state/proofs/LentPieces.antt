@@ -39,7 +39,7 @@ use Rattle.rdlpp_state.specs.declared.pending.PendingPart.TheVariants.{Colon, Di
 use Rattle.rdlpp_state.specs.declared.pending.PendingPiece.{PendingPiece}
 use Rattle.rdlpp_state.specs.declared.phase.Phase.{Phase}
 use Rattle.rdlpp_state.specs.declared.phase.Phase.TheVariants.{Closed, Fresh, Open, Passed}
-use Rattle.rdlpp_state.specs.declared.place.Place.TheVariants.{Pending, Source, Text}
+use Rattle.rdlpp_state.specs.declared.place.PieceLocation.TheVariants.{Pending, Source, Text}
 use Rattle.rdlpp_state.specs.declared.positions.Lent.TheVariants.{Ending, Line, Origin}
 use Rattle.rdlpp_state.specs.declared.positions.LineStep.TheVariants.{Next}
 use Rattle.rdlpp_state.proofs.EngineSteps.{free_before, ok_not_met}

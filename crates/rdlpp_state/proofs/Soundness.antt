@@ -35,8 +35,8 @@ use Rattle.rdlpp_state.specs.Pending.{pending_bytes}
 use Rattle.rdlpp_state.specs.Remaining.{file_state, inner_name, nest_left, nest_state, run_rules, state_of, text_of}
 use Rattle.rdlpp_state.specs.declared.phase.Phase.{Phase}
 use Rattle.rdlpp_state.specs.declared.phase.Phase.TheVariants.{Closed, Fresh, Open, Passed}
-use Rattle.rdlpp_state.specs.declared.place.Place.{Place as EnginePlace}
-use Rattle.rdlpp_state.specs.declared.place.Place.TheVariants.{Kept}
+use Rattle.rdlpp_state.specs.declared.place.PieceLocation.{PieceLocation as EnginePlace}
+use Rattle.rdlpp_state.specs.declared.place.PieceLocation.TheVariants.{Kept}
 use Rattle.rdlpp_state.proofs.NestLeft.{Deep, Inside, Outside, Standing, conditions_closed, conditions_inner, conditions_left, conditions_live, conditions_none, conditions_opened, place_inside, place_outside, place_skipped, standing}
 
 -- Where no text of a usage is open, the text goes on in the open sources.

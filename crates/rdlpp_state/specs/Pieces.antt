@@ -11,8 +11,8 @@ use Rattle.rdlpp_state.specs.Engine.{EngineView}
 use Rattle.rdlpp_state.specs.Pending.{digits_of, part_bytes}
 use Rattle.rdlpp_state.specs.Remaining.{inner_name}
 use Rattle.rdlpp_state.specs.declared.pending.PendingPiece.{PendingPiece}
-use Rattle.rdlpp_state.specs.declared.place.Place.{Place}
-use Rattle.rdlpp_state.specs.declared.place.Place.TheVariants.{Source, Text, Pending, End, Kept}
+use Rattle.rdlpp_state.specs.declared.place.PieceLocation.{PieceLocation}
+use Rattle.rdlpp_state.specs.declared.place.PieceLocation.TheVariants.{Source, Text, Pending, End, Kept}
 use Rattle.rdlpp_state.specs.declared.place.Piece.{Piece}
 use Rattle.rdlpp_state.specs.declared.place.Piece.TheVariants.{Bytes, Done}
 
@@ -25,7 +25,7 @@ abbrev pub held_texts : {S R : Type 0} → EngineView S R → Texts
 held_texts e = texts_of e.table.macros e.expansion.arguments
 
 -- a place lies in the held stores, or in what is pending
-abbrev pub IsPlaced : {S R : Type 0} → EngineView S R → Place → Type 0
+abbrev pub IsPlaced : {S R : Type 0} → EngineView S R → PieceLocation → Type 0
 IsPlaced e (Source start end) = (0 < length e.files.nest) × (start ≤ end) × (end ≤ length (inner_buffer e.files.nest).window)
 IsPlaced e (Text place) = IsTextPlaced (held_texts e) place
 IsPlaced e (Pending piece) = (0 < length e.files.nest) × (piece.len ≤ length (pending_part e piece))
@@ -33,7 +33,7 @@ IsPlaced e End = ⊤
 IsPlaced e Kept = ⊤
 
 -- the bytes at a place: a part of the innermost source's buffer, or of an open text, or what is pending; none at the end
-abbrev pub bytes_at : {S R : Type 0} → EngineView S R → Place → Option (List ℕ)
+abbrev pub bytes_at : {S R : Type 0} → EngineView S R → PieceLocation → Option (List ℕ)
 bytes_at e (Source start end) = Some (slice_range (inner_buffer e.files.nest).window start end)
 bytes_at e (Text place) = Some (place_bytes (held_texts e) place)
 bytes_at e (Pending piece) = Some (take piece.len (pending_part e piece))
@@ -56,7 +56,7 @@ kept_answer (Some f) = Err f
 kept_answer None = Ok None
 
 -- what is answered at a place
-abbrev pub lent_answer : {S R : Type 0} → EngineView S R → Place → Result (Option (List ℕ)) Told
+abbrev pub lent_answer : {S R : Type 0} → EngineView S R → PieceLocation → Result (Option (List ℕ)) Told
 lent_answer e (Source start end) = Ok (bytes_at e (Source start end))
 lent_answer e (Text place) = Ok (bytes_at e (Text place))
 lent_answer e (Pending piece) = Ok (bytes_at e (Pending piece))
@@ -67,11 +67,11 @@ lent_answer e Kept = kept_answer e.kept
 -- an origin line: a fixed text, the shown name, or decimal digits
 -- (source: this project's profile)
 pub record Lends {S R : Type 0} (e : EngineView S R) (answer : Result (Option (List ℕ)) Told) : Type 0 where
-  pub place : Place
+  pub place : PieceLocation
   pub placed : IsPlaced e place
   pub lent : answer ≡ lent_answer e place
 
 -- what is answered by a step: what stands at a place, or no bytes, where nothing is lent
-abbrev pub step_answer : {S R : Type 0} → EngineView S R → Option Place → Result (Option (List ℕ)) Told
+abbrev pub step_answer : {S R : Type 0} → EngineView S R → Option PieceLocation → Result (Option (List ℕ)) Told
 step_answer e None = Ok (Some [])
 step_answer e (Some place) = lent_answer e place

@@ -14,7 +14,7 @@ pub enum Piece<'a> {
 
 /// Where a piece stands in the held stores.
 #[derive(Clone, Copy)]
-pub enum Place {
+pub enum PieceLocation {
     /// From a place up to another in the buffer of the innermost source.
     Source(usize, usize),
     /// In a text that is open in a usage.

@@ -21,7 +21,7 @@ use rdlpp_front::Argument;
 use rdlpp_meaning::FaultKind;
 use rdlpp_scan::{Directive, Mode};
 use rdlpp_source::Sources;
-use rdlpp_state::Place;
+use rdlpp_state::PieceLocation;
 
 impl<S: Sources> Engine<S> {
     // Opens a conditional in live text, whose first directive wants the name that it is given defined or
@@ -30,7 +30,7 @@ impl<S: Sources> Engine<S> {
         &mut self,
         defined: bool,
         argument: Option<Argument>,
-    ) -> Option<Place>
+    ) -> Option<PieceLocation>
         requires ready { IsReady self.old }
         requires live { self.old.conditions.skipped ≡ None }
         requires some { 0 < length (held_of (inner_buffer self.old.files.nest)) }
@@ -50,7 +50,7 @@ impl<S: Sources> Engine<S> {
     }
 
     // Opens a conditional in live text whose test holds or doesn't, and uses its directive of `len` bytes.
-    fn open_tested(&mut self, holds: bool, len: usize) -> Option<Place>
+    fn open_tested(&mut self, holds: bool, len: usize) -> Option<PieceLocation>
         requires ready { IsReady self.old }
         requires live { self.old.conditions.skipped ≡ None }
         requires inside { len ≤ length (held_of (inner_buffer self.old.files.nest)) }
@@ -74,7 +74,7 @@ impl<S: Sources> Engine<S> {
         &mut self,
         word: Directive,
         argument: Option<Argument>,
-    ) -> Option<Place>
+    ) -> Option<PieceLocation>
         requires ready { IsReady self.old }
         requires some { 0 < length (held_of (inner_buffer self.old.files.nest)) }
         requires mode { (inner_buffer self.old.files.nest).mode ≡ Mode.Plain }
@@ -98,7 +98,7 @@ impl<S: Sources> Engine<S> {
     }
 
     // Takes a branch of the innermost conditional, whose name decides.
-    fn turn_named(&mut self, word: Directive, argument: Option<Argument>) -> Option<Place>
+    fn turn_named(&mut self, word: Directive, argument: Option<Argument>) -> Option<PieceLocation>
         requires ready { IsReady self.old }
         requires some { 0 < length (held_of (inner_buffer self.old.files.nest)) }
         requires mode { (inner_buffer self.old.files.nest).mode ≡ Mode.Plain }
@@ -131,7 +131,7 @@ impl<S: Sources> Engine<S> {
     }
 
     // Takes an `endif`, in live text or behind text that is skipped, and lends nothing; or refuses it.
-    pub(super) fn take_endif(&mut self) -> Option<Place>
+    pub(super) fn take_endif(&mut self) -> Option<PieceLocation>
         requires ready { IsReady self.old }
         requires some { 0 < length (held_of (inner_buffer self.old.files.nest)) }
         requires mode { (inner_buffer self.old.files.nest).mode ≡ Mode.Plain }

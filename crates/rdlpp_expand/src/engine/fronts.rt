@@ -12,13 +12,13 @@ ghost use Rattle.rdlpp_state.specs.Steps.{IsStarted, Walks, WalksOver};
 use crate::engine::Engine;
 use rdlpp_front::{Copied, copied_text};
 use rdlpp_source::Sources;
-use rdlpp_state::{Phase, Place};
+use rdlpp_state::{Phase, PieceLocation};
 
 impl<S: Sources> Engine<S> {
     // Takes what the held bytes begin with, or passes skipped text. Text that is copied, which is most of a source, is found and its
     // line ends are counted in one pass.
     #[inline(always)]
-    pub(super) fn take_held(&mut self) -> Option<Place>
+    pub(super) fn take_held(&mut self) -> Option<PieceLocation>
         requires ready { IsReady self.old }
         requires some { 0 < length (held_of (inner_buffer self.old.files.nest)) }
         ensures place { IfSome result (IsPlaced self.new) }
@@ -36,7 +36,7 @@ impl<S: Sources> Engine<S> {
 
     // Lends text that is copied, whose line ends are counted.
     #[inline(always)]
-    fn lend_copied(&mut self, copied: Copied) -> Place
+    fn lend_copied(&mut self, copied: Copied) -> PieceLocation
         requires ready { IsReady self.old }
         requires live { self.old.conditions.skipped ≡ None }
         requires some { 0 < length (held_of (inner_buffer self.old.files.nest)) }
@@ -50,6 +50,6 @@ impl<S: Sources> Engine<S> {
         self.enter_mode(next);
         let start = self.consume(len, lines);
         self.marks.lend_line(line);
-        Place::Source(start, start + len)
+        PieceLocation::Source(start, start + len)
     }
 }

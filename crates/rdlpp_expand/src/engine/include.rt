@@ -19,12 +19,12 @@ use rdlpp_front::Argument;
 use rdlpp_meaning::FaultKind;
 use rdlpp_scan::Mode;
 use rdlpp_source::{Found, Sources};
-use rdlpp_state::{Phase, Place};
+use rdlpp_state::{Phase, PieceLocation};
 
 impl<S: Sources> Engine<S> {
     // Takes an `include`, which is given a string or none, and lends nothing.
     #[inline(never)]
-    pub(super) fn take_include(&mut self, argument: Option<Argument>) -> Option<Place>
+    pub(super) fn take_include(&mut self, argument: Option<Argument>) -> Option<PieceLocation>
         requires ready { IsReady self.old }
         requires live { self.old.conditions.skipped ≡ None }
         requires some { 0 < length (held_of (inner_buffer self.old.files.nest)) }
@@ -40,7 +40,7 @@ impl<S: Sources> Engine<S> {
     }
 
     // Takes an `include` whose string stands from a place up to another: opens the source that is found.
-    fn include(&mut self, start: usize, stop: usize) -> Option<Place>
+    fn include(&mut self, start: usize, stop: usize) -> Option<PieceLocation>
         requires ready { IsReady self.old }
         requires live { self.old.conditions.skipped ≡ None }
         requires some { 0 < length (held_of (inner_buffer self.old.files.nest)) }

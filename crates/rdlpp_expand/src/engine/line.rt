@@ -19,12 +19,12 @@ use rdlpp_meaning::FaultKind;
 use rdlpp_read::{GivenLine, given_line};
 use rdlpp_scan::{Mode, line_ends_in};
 use rdlpp_source::Sources;
-use rdlpp_state::Place;
+use rdlpp_state::PieceLocation;
 
 impl<S: Sources> Engine<S> {
     // Takes the `line` with which the held bytes begin, and lends nothing; or refuses it.
     #[inline(never)]
-    pub(super) fn take_line(&mut self) -> Option<Place>
+    pub(super) fn take_line(&mut self) -> Option<PieceLocation>
         requires ready { IsReady self.old }
         requires live { self.old.conditions.skipped ≡ None }
         requires some { 0 < length (held_of (inner_buffer self.old.files.nest)) }

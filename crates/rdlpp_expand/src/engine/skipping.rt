@@ -20,11 +20,11 @@ use rdlpp_meaning::FaultKind;
 use rdlpp_read::LogicalLine;
 use rdlpp_scan::{Directive, Mode, line_ends_in, line_len};
 use rdlpp_source::Sources;
-use rdlpp_state::Place;
+use rdlpp_state::PieceLocation;
 
 impl<S: Sources> Engine<S> {
     // Passes skipped text: a stretch of it in which nothing counts, or what counts in front.
-    pub(super) fn skip_front(&mut self) -> Option<Place>
+    pub(super) fn skip_front(&mut self) -> Option<PieceLocation>
         requires ready { IsReady self.old }
         requires skipped { self.old.conditions.skipped ≢ None }
         requires some { 0 < length (held_of (inner_buffer self.old.files.nest)) }
@@ -43,7 +43,7 @@ impl<S: Sources> Engine<S> {
 
     // Passes what stands in front of skipped text: a word that counts there, or a string or a comment that
     // stays open.
-    fn skip_counted(&mut self) -> Option<Place>
+    fn skip_counted(&mut self) -> Option<PieceLocation>
         requires ready { IsReady self.old }
         requires skipped { self.old.conditions.skipped ≢ None }
         requires some { 0 < length (held_of (inner_buffer self.old.files.nest)) }
@@ -68,7 +68,7 @@ impl<S: Sources> Engine<S> {
     }
 
     // Passes `len` bytes of a text that is skipped, behind which it stands in a mode.
-    fn skip_part(&mut self, len: usize, next: Mode) -> Option<Place>
+    fn skip_part(&mut self, len: usize, next: Mode) -> Option<PieceLocation>
         requires ready { IsReady self.old }
         requires skipped { self.old.conditions.skipped ≢ None }
         requires some { 0 < length (held_of (inner_buffer self.old.files.nest)) }
@@ -83,7 +83,7 @@ impl<S: Sources> Engine<S> {
     }
 
     // Refuses `<%` in skipped text; or passes a lone backquote, which doesn't count there.
-    fn skip_refused(&mut self, kind: FaultKind) -> Option<Place>
+    fn skip_refused(&mut self, kind: FaultKind) -> Option<PieceLocation>
         requires ready { IsReady self.old }
         requires skipped { self.old.conditions.skipped ≢ None }
         requires some { 0 < length (held_of (inner_buffer self.old.files.nest)) }
@@ -98,7 +98,7 @@ impl<S: Sources> Engine<S> {
     }
 
     // Passes a word of `len` bytes that doesn't count in skipped text.
-    fn skip_word(&mut self, len: usize) -> Option<Place>
+    fn skip_word(&mut self, len: usize) -> Option<PieceLocation>
         requires ready { IsReady self.old }
         requires skipped { self.old.conditions.skipped ≢ None }
         requires some { 0 < length (held_of (inner_buffer self.old.files.nest)) }
@@ -112,7 +112,7 @@ impl<S: Sources> Engine<S> {
     }
 
     // Counts a conditional that opens in skipped text, whose first directive wants its name defined or not.
-    fn skip_opening(&mut self, defined: bool) -> Option<Place>
+    fn skip_opening(&mut self, defined: bool) -> Option<PieceLocation>
         requires ready { IsReady self.old }
         requires skipped { self.old.conditions.skipped ≢ None }
         requires some { 0 < length (held_of (inner_buffer self.old.files.nest)) }
@@ -128,7 +128,7 @@ impl<S: Sources> Engine<S> {
 
     // Passes the logical line of a `define` in skipped text.
     #[inline(never)]
-    fn skip_define(&mut self) -> Option<Place>
+    fn skip_define(&mut self) -> Option<PieceLocation>
         requires ready { IsReady self.old }
         requires skipped { self.old.conditions.skipped ≢ None }
         requires some { 0 < length (held_of (inner_buffer self.old.files.nest)) }
@@ -154,7 +154,7 @@ impl<S: Sources> Engine<S> {
     }
 
     // Passes the line of a `line` in skipped text.
-    fn skip_line(&mut self) -> Option<Place>
+    fn skip_line(&mut self) -> Option<PieceLocation>
         requires ready { IsReady self.old }
         requires skipped { self.old.conditions.skipped ≢ None }
         requires some { 0 < length (held_of (inner_buffer self.old.files.nest)) }

@@ -9,7 +9,7 @@ ghost use Rattle.rdlpp_expand.specs.Texts.{IsInTexts, LeavesTexts, StaysDrained,
 
 use crate::engine::Engine;
 use rdlpp_source::Sources;
-use rdlpp_state::{Phase, Place};
+use rdlpp_state::{Phase, PieceLocation};
 use rdlpp_texts::{CursorStep, TextPlace, text_at};
 
 // How many steps of a run that come to no bytes are taken in a row, before one more: 256 in all.
@@ -28,13 +28,13 @@ pub(crate) enum TextStep {
 
 impl TextStep {
     // Where it stands, as of other steps.
-    pub(super) fn place(self) -> Option<Place>
+    pub(super) fn place(self) -> Option<PieceLocation>
         ensures { result ≡ place_of self }
     {
         match self {
-            TextStep::Lent(place) => Some(Place::Text(place)),
+            TextStep::Lent(place) => Some(PieceLocation::Text(place)),
             TextStep::Silent => None,
-            TextStep::Kept => Some(Place::Kept),
+            TextStep::Kept => Some(PieceLocation::Kept),
         }
     }
 }

@@ -16,13 +16,13 @@ use arrayvec::ArrayString;
 use rdlpp_meaning::FaultKind;
 use rdlpp_scan::Mode;
 use rdlpp_source::Sources;
-use rdlpp_state::{Place, word_of};
+use rdlpp_state::{PieceLocation, word_of};
 use rdlpp_table::MacroId;
 use rdlpp_usages::Opening;
 
 impl<S: Sources> Engine<S> {
     // Expands the usage of `len` bytes with which the held bytes begin.
-    pub(super) fn expand(&mut self, len: usize) -> Option<Place>
+    pub(super) fn expand(&mut self, len: usize) -> Option<PieceLocation>
         requires ready { IsReady self.old }
         requires live { self.old.conditions.skipped ≡ None }
         requires some { 0 < length (held_of (inner_buffer self.old.files.nest)) }
@@ -42,7 +42,7 @@ impl<S: Sources> Engine<S> {
     }
 
     // Opens a usage of a macro, and lends nothing yet.
-    fn open_usage(&mut self, len: usize, id: MacroId) -> Option<Place>
+    fn open_usage(&mut self, len: usize, id: MacroId) -> Option<PieceLocation>
         requires ready { IsReady self.old }
         requires live { self.old.conditions.skipped ≡ None }
         requires some { 0 < length (held_of (inner_buffer self.old.files.nest)) }

@@ -1,7 +1,7 @@
 use Rattle.std.proofs.Common.{refl, arith}
 use Rattle.rdlpp_state.specs.Silences.{most_silent}
 use Rattle.rdlpp_state.proofs.EngineSteps.{wider}
-use Rattle.rdlpp_state.specs.declared.place.Place.TheVariants.{Text}
+use Rattle.rdlpp_state.specs.declared.place.PieceLocation.TheVariants.{Text}
 use Rattle.rdlpp_state.proofs.LentPieces.{cut_text, text_cut_placed}
 use Rattle.rdlpp_expand.proofs.TextFacts.{open-lent, other-steps}
 use Rattle.rdlpp_expand.proofs.engine.Engine.advance_text.Goals as goal

@@ -1,6 +1,6 @@
 use Rattle.std.proofs.Common.{ap, refl, subst, ◌∙◌, arith, is_some}
 use Rattle.rdlpp_usages.specs.Usages.{StaysLent, StaysOpen, TakesUsageStep}
-use Rattle.rdlpp_state.specs.declared.place.Place.TheVariants as place
+use Rattle.rdlpp_state.specs.declared.place.PieceLocation.TheVariants as place
 use Rattle.rdlpp_expand.proofs.TextFacts.{lent-texts, drained-texts}
 use Rattle.rdlpp_state.proofs.LentPieces.{marked_usage}
 use Rattle.rdlpp_state.proofs.UsageSteps.{HoldsTexts, fault_text, lend_step, opening, placed_lent, placed_word, refuse_step, turn_step}
