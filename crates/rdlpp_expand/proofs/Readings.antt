@@ -311,10 +311,10 @@ turns_as g old new rest a b t e = subst (λ (x : Option ReadEnd). Turns g old ne
 -- Searches that failed, and are made again.
 
 -- where an `include` asks for a search, its word begins what is held
-searched_front : {S R : Type 0} (e : EngineView S R) → IsSearch e → begins_include (held_of (inner_buffer e.files.nest)) ≡ true
+searched_front : {S R : Type 0} (e : EngineView S R) → IsSearch e → begins_include (held_of (inner_buffer e.files.include_stack)) ≡ true
 unfolding begins_include
 searched_front e s =
-    let held : List ℕ = held_of (inner_buffer e.files.nest) in
+    let held : List ℕ = held_of (inner_buffer e.files.include_stack) in
     let len : ℕ = (token_of Plain held).len in
     (starts_is unsigned_Decides held (codes "`include") (starts_with nat_eq held (codes "`include")) refl).1 (drop len held)
     (sym (take-append-drop len held) ∙ ap (λ (l : List ℕ). l ++ drop len held) s.has.word.word)
@@ -333,14 +333,14 @@ first_holds false b c h = absurd (false≢true h)
 search_again : {S R : Type 0} (e : EngineView S R) (f : Told) → e.kept ≡ Some f → is_call_failed f.kind ≡ true → e.phase ≡ Open → IsSearch e → is_failed_search e ≡ true
 unfolding is_failed_search is_failed_call may_follow
 search_again e f kept failed open_ search =
-    all_hold (is_failed_call e.kept) (may_follow e.phase) (begins_include (held_of (inner_buffer e.files.nest)))
+    all_hold (is_failed_call e.kept) (may_follow e.phase) (begins_include (held_of (inner_buffer e.files.include_stack)))
     (ap is_failed_call kept ∙ failed) (ap may_follow open_) (searched_front e search)
 
 -- where a search failed, the engine that stopped is the one whose text remains
-stood_itself : {S R : Type 0} (g : Ghosts S R) (at new : EngineView S R) → begins_include (held_of (inner_buffer new.files.nest)) ≡ true → Stood g at new → at ≡ new
+stood_itself : {S R : Type 0} (g : Ghosts S R) (at new : EngineView S R) → begins_include (held_of (inner_buffer new.files.include_stack)) ≡ true → Stood g at new → at ≡ new
 unfolding begins_include
 stood_itself g at new begins (Itself same) = same
-stood_itself g at new begins (BeforeCall c none) = absurd (false≢true (sym (read_front (inner_buffer new.files.nest) (inl none)) ∙ begins))
+stood_itself g at new begins (BeforeCall c none) = absurd (false≢true (sym (read_front (inner_buffer new.files.include_stack) (inl none)) ∙ begins))
 
 -- the fault that is kept is no part of the text
 kept_text : {S R : Type 0} (g : Ghosts S R) (e : EngineView S R) → text_of g e ≡ text_of g (record e { kept = None })
@@ -352,7 +352,7 @@ searched_rest : {S R : Type 0} (g : Ghosts S R) (before old : EngineView S R) (f
     → g.tells before.sources → (text_of g before ≡ text_of g (record old { kept = None })) × (left_of g before ≡ left_of g (record old { kept = None }))
 unfolding is_failed_search is_failed_call is_call_failed is_read_failed has_met
 searched_rest {S} {R} g before old f failed free s t =
-    let both = first_holds (is_failed_call old.kept) (may_follow old.phase) (begins_include (held_of (inner_buffer old.files.nest))) failed in
+    let both = first_holds (is_failed_call old.kept) (may_follow old.phase) (begins_include (held_of (inner_buffer old.files.include_stack))) failed in
     let keeps : old.kept ≡ Some f = s.keeps in
     let kind : is_call_failed f.kind ≡ true = sym (ap is_failed_call keeps) ∙ both.0 in
     let met : has_stopped before.kept (Err f) ≡ true = ap (λ (k : Option Told). has_stopped k (Err f)) free ∙ kind in
@@ -369,7 +369,7 @@ forgets_lets_go old on h = record { idle = λ _. h.idle on }
 forgets_stores : {S R : Type 0} (g : Ghosts S R) (old : EngineView S R) → MayGoOn old → HoldsStores g old → HoldsStores g (record old { kept = None })
 forgets_stores g old on h = record {
   lets_go = forgets_lets_go old on h.lets_go;
-  parts = parts_told g.unread (g.catalog old.sources) (MayGoOn old) _ old.files.nest (λ _. on) h.parts;
+  parts = parts_told g.unread (g.catalog old.sources) (MayGoOn old) _ old.files.include_stack (λ _. on) h.parts;
   call = h.call;
   begun = h.begun;
 }
@@ -413,7 +413,7 @@ unfolding is_failed_call
 failed_none k e = sym (ap is_failed_call e)
 
 -- where no source is open, no byte is held
-pub none_held : {R : Type 0} (nest : List (File R)) → length nest ≡ 0 → [] ≡ held_of (inner_buffer nest)
+pub none_held : {R : Type 0} (include_stack : List (File R)) → length include_stack ≡ 0 → [] ≡ held_of (inner_buffer include_stack)
 unfolding held_of closed_buffer
 none_held [] e = refl
 none_held (f ∷ outer) e = cc e

@@ -119,11 +119,11 @@ told-some None = refl
 told-some (Some f) = refl
 
 -- what the innermost source shows is the place of the engine
-pub position-by : {S R : Type 0} (inside e : EngineView S R) (f : File R) (outer : List (File R)) (name : List ℕ) (place : Option PlaceView) → inside ≡ e → inside.files.nest ≡ f ∷ outer
+pub position-by : {S R : Type 0} (inside e : EngineView S R) (f : File R) (outer : List (File R)) (name : List ℕ) (place : Option PlaceView) → inside ≡ e → inside.files.include_stack ≡ f ∷ outer
     → is_some e.kept ≡ false → is_open e.phase ≡ true → place ≡ marked_place inside.marks name (shift_of f.shift) → name ≡ f.name.bytes → place ≡ position_of e
-position-by {S} {R} inside e f outer name place is nest none opens told named =
+position-by {S} {R} inside e f outer name place is include_stack none opens told named =
     told ∙ (ap (λ (n : List ℕ). marked_place inside.marks n (shift_of f.shift)) named ∙ (ap (λ (x : EngineView S R). marked_place x.marks f.name.bytes (shift_of f.shift)) is
-    ∙ sym (position_first e f outer (ap (λ (x : EngineView S R). x.files.nest) (sym is) ∙ nest) none opens)))
+    ∙ sym (position_first e f outer (ap (λ (x : EngineView S R). x.files.include_stack) (sym is) ∙ include_stack) none opens)))
 
 -- The name of the macro that a usage names is that of the usage.
 
@@ -147,13 +147,13 @@ used_name told table name own id same is named =
 -- What holds of each open source.
 
 -- the numbers that its lines show are small
-pub slot_number : {R : Type 0} (line_bytes : ℕ) (nest : List (File R)) (place : ℕ) (f : File R) → All (IsSlot line_bytes) nest → slice_get nest place ≡ Some f → f.shift.number < 2 ^ 32
+pub slot_number : {R : Type 0} (line_bytes : ℕ) (include_stack : List (File R)) (place : ℕ) (f : File R) → All (IsSlot line_bytes) include_stack → slice_get include_stack place ≡ Some f → f.shift.number < 2 ^ 32
 slot_number line_bytes [] place f all e = absurd (none-some f e)
 slot_number line_bytes (g ∷ outer) zero f all e = subst (λ (h : File _). h.shift.number < 2 ^ 32) (same_Some g f e) (All-head (IsSlot line_bytes) g outer all).number
 slot_number line_bytes (g ∷ outer) (suc k) f all e = slot_number line_bytes outer k f (All-tail (IsSlot line_bytes) g outer all) e
 
 -- the line of its `include` can be counted
-pub included_line : {R : Type 0} (nest : List (File R)) (place : ℕ) (f : File R) → AreIncluded nest → slice_get nest place ≡ Some f → f.include_line < 2 ^ 63
+pub included_line : {R : Type 0} (include_stack : List (File R)) (place : ℕ) (f : File R) → AreIncluded include_stack → slice_get include_stack place ≡ Some f → f.include_line < 2 ^ 63
 included_line [] place f all e = absurd (none-some f e)
 included_line (g ∷ outer) zero f all e = subst (λ (h : File _). h.include_line < 2 ^ 63) (same_Some g f e) all.0
 included_line (g ∷ outer) (suc k) f all e = included_line outer k f all.1 e

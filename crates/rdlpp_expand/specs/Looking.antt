@@ -7,10 +7,10 @@ use Rattle.rdlpp_read.specs.declared.files.File.{File}
 
 -- what an open source shows that includes others, at a place counted from the innermost one, which has the place 0: its name, and
 -- the number that the line of its `include` shows (this project's profile)
-pub record Includes {R : Type 0} (nest : List (File R)) (place : ℕ) (name : List ℕ) (line : ℕ) : Type 0 where
+pub record Includes {R : Type 0} (include_stack : List (File R)) (place : ℕ) (name : List ℕ) (line : ℕ) : Type 0 where
   pub inner : File R
   pub outer : File R
-  pub inside : slice_get nest (place - 1) ≡ Some inner
-  pub around : slice_get nest place ≡ Some outer
+  pub inside : slice_get include_stack (place - 1) ≡ Some inner
+  pub around : slice_get include_stack place ≡ Some outer
   pub name_is : name ≡ outer.name.bytes
   pub line_is : line ≡ shown_line (shift_of outer.shift) inner.include_line

@@ -372,8 +372,8 @@ impl<S: Sources> Engine<S> {
     fn take_front(&mut self) -> Option<PieceLocation>
         requires ready { IsReady self.old }
         requires live { self.old.conditions.skipped ≡ None }
-        requires some { 0 < length (held_of (inner_buffer self.old.files.nest)) }
-        requires none { (len : ℕ) → (next : Mode) → IsText (inner_buffer self.old.files.nest).mode (held_of (inner_buffer self.old.files.nest)) len next → ⊥ }
+        requires some { 0 < length (held_of (inner_buffer self.old.files.include_stack)) }
+        requires none { (len : ℕ) → (next : Mode) → IsText (inner_buffer self.old.files.include_stack).mode (held_of (inner_buffer self.old.files.include_stack)) len next → ⊥ }
         ensures place { IfSome result (IsPlaced self.new) }
         ensures walks { IsBounded self.new → Walks S.Sources self.old self.new (step_answer self.new result) }
     {
@@ -399,9 +399,9 @@ impl<S: Sources> Engine<S> {
     fn define_line(&mut self) -> Option<PieceLocation>
         requires ready { IsReady self.old }
         requires live { self.old.conditions.skipped ≡ None }
-        requires some { 0 < length (held_of (inner_buffer self.old.files.nest)) }
-        requires mode { (inner_buffer self.old.files.nest).mode ≡ Mode.Plain }
-        requires define { IsDirective Define (held_of (inner_buffer self.old.files.nest)) }
+        requires some { 0 < length (held_of (inner_buffer self.old.files.include_stack)) }
+        requires mode { (inner_buffer self.old.files.include_stack).mode ≡ Mode.Plain }
+        requires define { IsDirective Define (held_of (inner_buffer self.old.files.include_stack)) }
         ensures place { IfSome result (IsPlaced self.new) }
         ensures walks { IsBounded self.new → Walks S.Sources self.old self.new (step_answer self.new result) }
     {
@@ -421,9 +421,9 @@ impl<S: Sources> Engine<S> {
 
     // Reads the `define` whose logical line has `len` bytes, and owes the LF bytes of that line.
     fn read_define(&mut self, len: usize) -> Option<PieceLocation>
-        requires nest { 0 < length self.old.files.nest }
-        requires inside { len ≤ length (held_of (inner_buffer self.old.files.nest)) }
-        requires line { IfSome (logical_len 0 0 (drop 7 (take len (held_of (inner_buffer self.old.files.nest))))) (λ n. n ≡ length (drop 7 (take len (held_of (inner_buffer self.old.files.nest))))) }
+        requires include_stack { 0 < length self.old.files.include_stack }
+        requires inside { len ≤ length (held_of (inner_buffer self.old.files.include_stack)) }
+        requires line { IfSome (logical_len 0 0 (drop 7 (take len (held_of (inner_buffer self.old.files.include_stack))))) (λ n. n ≡ length (drop 7 (take len (held_of (inner_buffer self.old.files.include_stack))))) }
         requires nothing { self.old.pending ≡ nothing_pending }
         requires idle { self.old.expansion.opens ≡ [] }
         requires files { AreOpen self.old.files }
@@ -452,9 +452,9 @@ impl<S: Sources> Engine<S> {
     fn undefine(&mut self, argument: Option<Argument>) -> Option<PieceLocation>
         requires ready { IsReady self.old }
         requires live { self.old.conditions.skipped ≡ None }
-        requires some { 0 < length (held_of (inner_buffer self.old.files.nest)) }
-        requires mode { (inner_buffer self.old.files.nest).mode ≡ Mode.Plain }
-        requires undef { IsNamed Undef (held_of (inner_buffer self.old.files.nest)) argument }
+        requires some { 0 < length (held_of (inner_buffer self.old.files.include_stack)) }
+        requires mode { (inner_buffer self.old.files.include_stack).mode ≡ Mode.Plain }
+        requires undef { IsNamed Undef (held_of (inner_buffer self.old.files.include_stack)) argument }
         ensures place { IfSome result (IsPlaced self.new) }
         ensures walks { IsBounded self.new → Walks S.Sources self.old self.new (step_answer self.new result) }
     {
@@ -473,8 +473,8 @@ impl<S: Sources> Engine<S> {
     // The name that a directive is given; or the place of its fault, which is kept: none stands there, or it is
     // reserved.
     fn named(&mut self, argument: Option<Argument>) -> Result<Argument, PieceLocation>
-        requires nest { 0 < length self.old.files.nest }
-        requires given { (word : Directive) × IsNamed word (held_of (inner_buffer self.old.files.nest)) argument }
+        requires include_stack { 0 < length self.old.files.include_stack }
+        requires given { (word : Directive) × IsNamed word (held_of (inner_buffer self.old.files.include_stack)) argument }
         ensures { LooksAtName argument self.old self.new result }
     {
         match argument {
@@ -494,7 +494,7 @@ impl<S: Sources> Engine<S> {
     // is a fault.
     fn end(&mut self) -> Option<PieceLocation>
         requires open { self.old.phase ≡ Phase.Open }
-        requires some { 0 < length self.old.files.nest }
+        requires some { 0 < length self.old.files.include_stack }
         requires nothing { self.old.pending ≡ nothing_pending }
         requires idle { self.old.expansion.opens ≡ [] }
         ensures { Ends self.old self.new result }
@@ -517,10 +517,10 @@ impl<S: Sources> Engine<S> {
     // fault.
     fn end_plain(&mut self) -> Option<PieceLocation>
         requires open { self.old.phase ≡ Phase.Open }
-        requires some { 0 < length self.old.files.nest }
+        requires some { 0 < length self.old.files.include_stack }
         requires nothing { self.old.pending ≡ nothing_pending }
         requires idle { self.old.expansion.opens ≡ [] }
-        requires mode { (inner_buffer self.old.files.nest).mode ≡ Mode.Plain }
+        requires mode { (inner_buffer self.old.files.include_stack).mode ≡ Mode.Plain }
         ensures { Ends self.old self.new result }
     {
         let below = self.files.file().conditions_below;
@@ -533,11 +533,11 @@ impl<S: Sources> Engine<S> {
     // Ends the innermost source, in which nothing is open: closes the main text, or leaves an included source.
     fn end_whole(&mut self) -> Option<PieceLocation>
         requires open { self.old.phase ≡ Phase.Open }
-        requires some { 0 < length self.old.files.nest }
+        requires some { 0 < length self.old.files.include_stack }
         requires nothing { self.old.pending ≡ nothing_pending }
         requires idle { self.old.expansion.opens ≡ [] }
-        requires mode { (inner_buffer self.old.files.nest).mode ≡ Mode.Plain }
-        requires ended { length self.old.conditions.open_now ≡ inner_below self.old.files.nest }
+        requires mode { (inner_buffer self.old.files.include_stack).mode ≡ Mode.Plain }
+        requires ended { length self.old.conditions.open_now ≡ inner_below self.old.files.include_stack }
         ensures { Ends self.old self.new result }
     {
         if self.files.len() > 1 {
@@ -550,11 +550,11 @@ impl<S: Sources> Engine<S> {
 
     // Closes the main text, which has ended.
     fn close(&mut self)
-        requires some { 0 < length self.old.files.nest }
-        requires alone { length self.old.files.nest ≤ 1 }
+        requires some { 0 < length self.old.files.include_stack }
+        requires alone { length self.old.files.include_stack ≤ 1 }
         requires idle { self.old.expansion.opens ≡ [] }
-        requires ended { length self.old.conditions.open_now ≡ inner_below self.old.files.nest }
-        ensures { self.new ≡ record self.old { phase = Phase.Closed; files = record self.old.files { nest = [] } } }
+        requires ended { length self.old.conditions.open_now ≡ inner_below self.old.files.include_stack }
+        ensures { self.new ≡ record self.old { phase = Phase.Closed; files = record self.old.files { include_stack = [] } } }
     {
         self.phase = Phase::Closed;
         self.files.leave();
@@ -562,10 +562,10 @@ impl<S: Sources> Engine<S> {
 
     // Sees to it that bytes of the innermost source are held, or tells why there are none.
     fn fill(&mut self) -> Fill
-        requires { 0 < length self.old.files.nest }
+        requires { 0 < length self.old.files.include_stack }
         ensures becomes { self.new ≡ record self.old { files = self.new.files; sources = self.new.sources } }
-        ensures only { self.new.files ≡ record self.old.files { nest = with_buffer (inner_buffer self.new.files.nest) self.old.files.nest } }
-        ensures fills { Fills (S.tells self.old.sources) S.unread result (inner_buffer self.old.files.nest) (inner_buffer self.new.files.nest) }
+        ensures only { self.new.files ≡ record self.old.files { include_stack = with_buffer (inner_buffer self.new.files.include_stack) self.old.files.include_stack } }
+        ensures fills { Fills (S.tells self.old.sources) S.unread result (inner_buffer self.old.files.include_stack) (inner_buffer self.new.files.include_stack) }
         ensures call { SourcesRead S.Sources (is_failed result) self.old.sources self.new.sources }
     {
         self.files.fill(&mut self.sources)
@@ -573,10 +573,10 @@ impl<S: Sources> Engine<S> {
 
     // Takes in the logical line at the front of what is held of the innermost source.
     fn hold_line(&mut self) -> LogicalLine
-        requires { 0 < length self.old.files.nest }
+        requires { 0 < length self.old.files.include_stack }
         ensures becomes { self.new ≡ record self.old { files = self.new.files; sources = self.new.sources } }
-        ensures only { self.new.files ≡ record self.old.files { nest = with_buffer (inner_buffer self.new.files.nest) self.old.files.nest } }
-        ensures holds { HoldsLine (S.tells self.old.sources) S.unread result (inner_buffer self.old.files.nest) (inner_buffer self.new.files.nest) }
+        ensures only { self.new.files ≡ record self.old.files { include_stack = with_buffer (inner_buffer self.new.files.include_stack) self.old.files.include_stack } }
+        ensures holds { HoldsLine (S.tells self.old.sources) S.unread result (inner_buffer self.old.files.include_stack) (inner_buffer self.new.files.include_stack) }
         ensures call { SourcesRead S.Sources (is_failed_line result) self.old.sources self.new.sources }
     {
         self.files.hold_line(&mut self.sources)
@@ -584,28 +584,28 @@ impl<S: Sources> Engine<S> {
 
     // Uses `len` held bytes, which have `lines` line ends, and answers where they begin.
     fn consume(&mut self, len: usize, lines: usize) -> usize
-        requires some { 0 < length self.old.files.nest }
-        requires inside { len ≤ length (held_of (inner_buffer self.old.files.nest)) }
+        requires some { 0 < length self.old.files.include_stack }
+        requires inside { len ≤ length (held_of (inner_buffer self.old.files.include_stack)) }
         requires lines { lines ≤ len }
-        ensures start { result ≡ (inner_buffer self.old.files.nest).at }
-        ensures used { self.new ≡ record self.old { files = record self.old.files { nest = with_inner (consumed_file len lines) self.old.files.nest } } }
+        ensures start { result ≡ (inner_buffer self.old.files.include_stack).at }
+        ensures used { self.new ≡ record self.old { files = record self.old.files { include_stack = with_inner (consumed_file len lines) self.old.files.include_stack } } }
     {
         self.files.consume(len, lines)
     }
 
     // Changes whether the next byte stands in a string or in a comment.
     fn enter_mode(&mut self, next: Mode)
-        requires { 0 < length self.old.files.nest }
-        ensures { self.new ≡ record self.old { files = record self.old.files { nest = with_buffer (entered_mode (inner_buffer self.old.files.nest) next) self.old.files.nest } } }
+        requires { 0 < length self.old.files.include_stack }
+        ensures { self.new ≡ record self.old { files = record self.old.files { include_stack = with_buffer (entered_mode (inner_buffer self.old.files.include_stack) next) self.old.files.include_stack } } }
     {
         self.files.enter_mode(next);
     }
 
     // Keeps a fault at the line of the next byte.
     fn refuse(&mut self, kind: FaultKind, word: ArrayString<128>) -> PieceLocation
-        requires { 0 < length self.old.files.nest }
+        requires { 0 < length self.old.files.include_stack }
         ensures place { result ≡ PieceLocation.Kept }
-        ensures kept { self.new ≡ record self.old { kept = Some (fault_at kind (inner_buffer self.old.files.nest).line word.bytes (state_of self.old)) } }
+        ensures kept { self.new ≡ record self.old { kept = Some (fault_at kind (inner_buffer self.old.files.include_stack).line word.bytes (state_of self.old)) } }
     {
         let line = self.files.file().buffer.line();
         self.files.facts();
@@ -614,7 +614,7 @@ impl<S: Sources> Engine<S> {
 
     // Keeps a fault of the open texts of a usage, at the line of the usage in the source.
     fn refuse_text(&mut self, fault: CursorFault) -> PieceLocation
-        requires nest { 0 < length self.old.files.nest }
+        requires include_stack { 0 < length self.old.files.include_stack }
         requires line { self.old.expansion.line < 2 ^ 63 }
         requires placed { IsTextPlaced (held_texts self.old) fault.word }
         requires word { IsWordBytes (place_bytes (held_texts self.old) fault.word) }
@@ -628,9 +628,9 @@ impl<S: Sources> Engine<S> {
 
     // Keeps that a read failed, at the line that is read.
     fn refuse_read(&mut self) -> PieceLocation
-        requires { 0 < length self.old.files.nest }
+        requires { 0 < length self.old.files.include_stack }
         ensures place { result ≡ PieceLocation.Kept }
-        ensures kept { self.new ≡ record self.old { kept = Some (fault_at FaultKind.ReadFailed (reading_line_of (inner_buffer self.old.files.nest)) [] (state_of self.old)) } }
+        ensures kept { self.new ≡ record self.old { kept = Some (fault_at FaultKind.ReadFailed (reading_line_of (inner_buffer self.old.files.include_stack)) [] (state_of self.old)) } }
     {
         let line = self.files.file().buffer.reading_line();
         self.files.facts();
@@ -639,7 +639,7 @@ impl<S: Sources> Engine<S> {
 
     // Keeps a fault at a physical line of the innermost source.
     fn refuse_at(&mut self, kind: FaultKind, line: u64, word: ArrayString<128>) -> PieceLocation
-        requires open { 0 < length self.old.files.nest }
+        requires open { 0 < length self.old.files.include_stack }
         requires line { line < 2 ^ 63 }
         ensures place { result ≡ PieceLocation.Kept }
         ensures kept { self.new ≡ record self.old { kept = Some (fault_at kind line word.bytes (state_of self.old)) } }
@@ -658,7 +658,7 @@ impl<S: Sources> Engine<S> {
 
     // Keeps that a conditional is open where its source ends, at the line that the conditional showed.
     fn refuse_unclosed(&mut self, line: u64) -> PieceLocation
-        requires { 0 < length self.old.files.nest }
+        requires { 0 < length self.old.files.include_stack }
         ensures place { result ≡ PieceLocation.Kept }
         ensures kept { self.new ≡ record self.old { kept = Some (unclosed_fault line (state_of self.old)) } }
     {

@@ -411,9 +411,9 @@ tokens_entered unread b n l next =
     ap (λ (held : List ℕ). remaining_tokens b.line_bytes next (opening b.mode b.open_token_line b.line) (b.line + l) held b.bytes_left (rest_of unread b))
     (sym (held_used (entered_mode b next) n l ∙ ap (drop n) (held_entered b next)))
 
--- What remains of a nest of open sources in live text, with the state behind it, for each kind of token in front of the innermost.
+-- What remains of an include stack of open sources in live text, with the state behind it, for each kind of token in front of the innermost.
 
--- bytes and then a fault of the innermost source end the nest
+-- bytes and then a fault of the innermost source end the include stack
 pub all_resumed_behind_fails : (rules : Rules) (ws : List Waiting) (place : Place) (first : Bool) (ts : List SourceToken) (s t : State) (x : List ℕ) (f : Told)
     → resumed rules place first ts s ≡ behind_bytes x (leaves (fails f) t)
     → all_resumed rules ws place first ts s ≡ behind_bytes x (leaves (fails f) t)
@@ -424,7 +424,7 @@ all_resumed_behind_fails rules ws place first ts s t x f e =
     ∙ behind_bytes-goes_on x (leaves (fails f) t) next
     ∙ ap (λ (p : Passage). behind_bytes x p) (fails-goes_on f t next)
 
--- a refusal in the innermost source ends the nest with its fault
+-- a refusal in the innermost source ends the include stack with its fault
 pub all_resumed_refused : (rules : Rules) (ws : List Waiting) (place : Place) (first : Bool) (ts : List SourceToken) (s : State) (kind : FaultKind) (word : List ℕ) (c : Command)
     → resumed rules place first ts s ≡ refusal kind word c s
     → all_resumed rules ws place first ts s ≡ leaves (fails (fault_at kind c.line word s)) s

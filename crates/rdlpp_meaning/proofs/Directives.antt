@@ -9,7 +9,7 @@ use Rattle.rdlpp_scan.specs.declared.token.Directive.TheVariants.{Define, Else, 
 use Rattle.rdlpp_scan.specs.declared.token.Kind.TheVariants.{Blank, Name, Str}
 use Rattle.rdlpp_table.specs.Table.{without}
 use Rattle.rdlpp_meaning.specs.Expansion.{bytes_of}
-use Rattle.rdlpp_meaning.specs.Meaning.{Checked, Faulty, Fine, Holds, Nest, Passage, Progress, Renumbered, Stopped, Test, added_end, at_start_of, back_in, begun, behind_bytes, by_test, defines, goes_on, in_conditional, includes, includes_found, includes_given, includes_named, leaves, macro_name, mean, nest_of, opening, origin_line, refusal, renumbered, renumbers, single, text_meaning, turn, turned, undefines, unquoted}
+use Rattle.rdlpp_meaning.specs.Meaning.{Checked, Faulty, Fine, Holds, IncludedMeaning, Passage, Progress, Renumbered, Stopped, Test, added_end, at_start_of, back_in, begun, behind_bytes, by_test, defines, goes_on, in_conditional, includes, includes_found, includes_given, includes_named, leaves, macro_name, mean, included_meaning_of, opening, origin_line, refusal, renumbered, renumbers, single, text_meaning, turn, turned, undefines, unquoted}
 use Rattle.rdlpp_meaning.specs.Opened.{Waiting, all_resumed, ending_of, unwound, waiting}
 use Rattle.rdlpp_meaning.specs.Outcome.{Outcome, Told, fails, gives}
 use Rattle.rdlpp_meaning.specs.Parts.{Argument, Branching, Closing, Command, Opening, Piece, Single, argument_of, behind_blanks, behind_directive, command_in_front, command_of, directive_of, line_ends_of, name_in_front, no_argument, one_argument, only_blanks, parts_of, past_blanks, piece_of, pieces, string_in_front}
@@ -126,11 +126,11 @@ pieces_directive d first t ts e =
 pub directive_piece : (rules : Rules) (place : Place) (d : Directive) (first : Bool) (t : SourceToken) (ts : List SourceToken) (s : State) (p : Piece)
     → directive_of t ≡ Some d → piece_of (command_in_front d first t ts) ≡ p
     → resumed rules place first (t ∷ ts) s
-    ≡ resume rules (nest_of rules s.sources_left) place (p ∷ pieces (only_blanks first (command_in_front d first t ts).text) 0 (behind_directive d ts)) s
+    ≡ resume rules (included_meaning_of rules s.sources_left) place (p ∷ pieces (only_blanks first (command_in_front d first t ts).text) 0 (behind_directive d ts)) s
 unfolding resumed
 directive_piece rules place d first t ts s p e is =
     let rest = pieces (only_blanks first (command_in_front d first t ts).text) 0 (behind_directive d ts) in
-    ap (λ (ps : List Piece). resume rules (nest_of rules s.sources_left) place ps s) (pieces_directive d first t ts e ∙ ap (λ (x : Piece). x ∷ rest) is)
+    ap (λ (ps : List Piece). resume rules (included_meaning_of rules s.sources_left) place ps s) (pieces_directive d first t ts e ∙ ap (λ (x : Piece). x ∷ rest) is)
 
 -- a passage without a fault keeps how many more sources may be opened
 Keeps : State → Passage → Type 0
@@ -188,7 +188,7 @@ found_keeps rules within LongPath c s = refusal_keeps PathTooLong [] c s
 found_keeps rules within (Source path text) c s = includes_keeps rules within path text c s
 
 -- an `include` of a string keeps it, by whether more sources may be opened
-named_keeps : (rules : Rules) (nest : Nest) (name : List ℕ) (c : Command) (s : State) → Keeps s (includes_named rules nest name c s)
+named_keeps : (rules : Rules) (included_meaning : IncludedMeaning) (name : List ℕ) (c : Command) (s : State) → Keeps s (includes_named rules included_meaning name c s)
 unfolding includes_named
 named_keeps rules None name c s =
     choice_keeps (length name == 0 || not (is_utf8 name)) s _ _ (refusal_keeps IncludeName [] c s) (refusal_keeps TooManyIncludes [] c s)
@@ -207,24 +207,24 @@ renumbers_keeps rules (Some r) c s = choice_keeps c.first s _ _ moved (refusal_k
     moved e = refl
 
 -- an `include` keeps it, by whether a string stands there
-given_keeps : (rules : Rules) (nest : Nest) (given : Option (List ℕ)) (c : Command) (s : State) → Keeps s (includes_given rules nest given c s)
+given_keeps : (rules : Rules) (included_meaning : IncludedMeaning) (given : Option (List ℕ)) (c : Command) (s : State) → Keeps s (includes_given rules included_meaning given c s)
 unfolding includes_given
-given_keeps rules nest None c s = refusal_keeps IncludeName [] c s
-given_keeps rules nest (Some string) c s = named_keeps rules nest (unquoted string) c s
+given_keeps rules included_meaning None c s = refusal_keeps IncludeName [] c s
+given_keeps rules included_meaning (Some string) c s = named_keeps rules included_meaning (unquoted string) c s
 
 -- a directive by itself keeps it, by its word
-single_keeps_by : (rules : Rules) (nest : Nest) (word : Directive) (given : Option (List ℕ)) (text : List ℕ) (line : ℕ) (first : Bool) (s : State)
-    → Keeps s (single rules nest (record { word = word; given = given; text = text; line = line; first = first }) s)
+single_keeps_by : (rules : Rules) (included_meaning : IncludedMeaning) (word : Directive) (given : Option (List ℕ)) (text : List ℕ) (line : ℕ) (first : Bool) (s : State)
+    → Keeps s (single rules included_meaning (record { word = word; given = given; text = text; line = line; first = first }) s)
 unfolding single
-single_keeps_by rules nest Define given text line first s = defines_keeps (rules.define s.macros (drop 7 text)) _ s
-single_keeps_by rules nest Undef given text line first s = undefines_keeps _ _ s
-single_keeps_by rules nest Include given text line first s = given_keeps rules nest given _ s
-single_keeps_by rules nest Line given text line first s = renumbers_keeps rules (renumbered (drop 5 text)) _ s
-single_keeps_by rules nest d given text line first s = leaves_keeps (gives []) s
+single_keeps_by rules included_meaning Define given text line first s = defines_keeps (rules.define s.macros (drop 7 text)) _ s
+single_keeps_by rules included_meaning Undef given text line first s = undefines_keeps _ _ s
+single_keeps_by rules included_meaning Include given text line first s = given_keeps rules included_meaning given _ s
+single_keeps_by rules included_meaning Line given text line first s = renumbers_keeps rules (renumbered (drop 5 text)) _ s
+single_keeps_by rules included_meaning d given text line first s = leaves_keeps (gives []) s
 
 -- a directive by itself keeps how many more sources may be opened, where it has no fault
-single_keeps : (rules : Rules) (nest : Nest) (c : Command) (s : State) → Keeps s (single rules nest c s)
-single_keeps rules nest c s = single_keeps_by rules nest c.word c.given c.text c.line c.first s
+single_keeps : (rules : Rules) (included_meaning : IncludedMeaning) (c : Command) (s : State) → Keeps s (single rules included_meaning c s)
+single_keeps rules included_meaning c s = single_keeps_by rules included_meaning c.word c.given c.text c.line c.first s
 
 -- what goes on from a passage's own state alone counts, by the passage's fault
 on_after_by : (x : List ℕ) (f : Option Told) (s : State) (g h : State → Passage) → (f ≡ None → g s ≡ h s)
@@ -249,16 +249,16 @@ by_test-same (Holds false) c s live skipped live' skipped' e f = f
 pub live_single : (rules : Rules) (os : List Progress) (d : Directive) (first : Bool) (t : SourceToken) (ts : List SourceToken) (s : State)
     → directive_of t ≡ Some d → piece_of (command_in_front d first t ts) ≡ Single (command_in_front d first t ts)
     → resumed rules (Live os) first (t ∷ ts) s
-    ≡ goes_on (single rules (nest_of rules s.sources_left) (command_in_front d first t ts) s)
+    ≡ goes_on (single rules (included_meaning_of rules s.sources_left) (command_in_front d first t ts) s)
     (λ after. behind rules (Live os) d first t ts after)
 unfolding resume resumed Keeps
 live_single rules os d first t ts s e p =
     let c = command_in_front d first t ts in
     let rest = pieces (only_blanks first c.text) 0 (behind_directive d ts) in
-    let nest = nest_of rules s.sources_left in
+    let included_meaning = included_meaning_of rules s.sources_left in
     directive_piece rules (Live os) d first t ts s (Single c) e p
-    ∙ on_after (single rules nest c s) (λ after. resume rules nest (Live os) rest after) (λ after. behind rules (Live os) d first t ts after)
-    (λ f. ap (λ (n : ℕ). resume rules (nest_of rules n) (Live os) rest (single rules nest c s).after) (sym (single_keeps rules nest c s f)))
+    ∙ on_after (single rules included_meaning c s) (λ after. resume rules included_meaning (Live os) rest after) (λ after. behind rules (Live os) d first t ts after)
+    (λ f. ap (λ (n : ℕ). resume rules (included_meaning_of rules n) (Live os) rest (single rules included_meaning c s).after) (sym (single_keeps rules included_meaning c s f)))
 
 -- in live text, a directive that opens a conditional
 pub live_opening : (rules : Rules) (os : List Progress) (d : Directive) (first : Bool) (t : SourceToken) (ts : List SourceToken) (s : State)
@@ -496,36 +496,36 @@ all_resumed_move rules ws place new first then_first ts us s t e =
 -- an `include` with a string that names a source, where one more may be opened, by what the search finds
 include_searched : (rules : Rules) (name : List ℕ) (c : Command) (s : State) (n : ℕ) (found : Lookup)
     → (length name == 0 || not (is_utf8 name)) ≡ false → s.sources_left ≡ suc n → rules.find s.path name ≡ found
-    → includes_named rules (nest_of rules s.sources_left) name c s
-    ≡ includes_found rules (λ u text. mean rules (nest_of rules n) (parts_of (rules.tokens text)) u) found c s
-unfolding includes_named nest_of
+    → includes_named rules (included_meaning_of rules s.sources_left) name c s
+    ≡ includes_found rules (λ u text. mean rules (included_meaning_of rules n) (parts_of (rules.tokens text)) u) found c s
+unfolding includes_named included_meaning_of
 include_searched rules name c s n found e left f =
-    let within : State → List ℕ → Passage = λ u text. mean rules (nest_of rules n) (parts_of (rules.tokens text)) u in
-    ap (λ (k : ℕ). includes_named rules (nest_of rules k) name c s) left
+    let within : State → List ℕ → Passage = λ u text. mean rules (included_meaning_of rules n) (parts_of (rules.tokens text)) u in
+    ap (λ (k : ℕ). includes_named rules (included_meaning_of rules k) name c s) left
     ∙ ap (λ (b : Bool). if b then refusal IncludeName [] c s else includes_found rules within (rules.find s.path name) c s) e
     ∙ ap (λ (x : Lookup). includes_found rules within x c s) f
 
 -- what an included text means in an `include` is what remains at its start
 included_resumed : (rules : Rules) (path text : List ℕ) (s : State) (n : ℕ) → s.sources_left ≡ suc n
-    → mean rules (nest_of rules n) (parts_of (rules.tokens text)) (at_start_of path s)
+    → mean rules (included_meaning_of rules n) (parts_of (rules.tokens text)) (at_start_of path s)
     ≡ resumed rules (Live []) true (rules.tokens text) (at_start_of path s)
 unfolding text_meaning at_start_of
 included_resumed rules path text s n left =
     let e : n ≡ s.sources_left - 1 = omega arith in
-    ap (λ (k : ℕ). mean rules (nest_of rules k) (parts_of (rules.tokens text)) (at_start_of path s)) e
+    ap (λ (k : ℕ). mean rules (included_meaning_of rules k) (parts_of (rules.tokens text)) (at_start_of path s)) e
     ∙ resumed_start rules (at_start_of path s) text
 
 -- an `include` in front of what remains, by what it is given
 include_in_front : (rules : Rules) (os : List Progress) (first : Bool) (t : SourceToken) (ts : List SourceToken) (s : State) (given : Option (List ℕ))
     → directive_of t ≡ Some Include → (argument_of Include ts).given ≡ given
     → resumed rules (Live os) first (t ∷ ts) s
-    ≡ goes_on (includes_given rules (nest_of rules s.sources_left) given (command_in_front Include first t ts) s)
+    ≡ goes_on (includes_given rules (included_meaning_of rules s.sources_left) given (command_in_front Include first t ts) s)
     (λ after. behind rules (Live os) Include first t ts after)
 unfolding single command_of piece_of
 include_in_front rules os first t ts s given d e =
     let c = command_in_front Include first t ts in
     live_single rules os Include first t ts s d refl
-    ∙ ap (λ (g : Option (List ℕ)). goes_on (includes_given rules (nest_of rules s.sources_left) g c s)
+    ∙ ap (λ (g : Option (List ℕ)). goes_on (includes_given rules (included_meaning_of rules s.sources_left) g c s)
     (λ after. behind rules (Live os) Include first t ts after)) e
 
 -- an `include` without a string on its line is refused
@@ -540,7 +540,7 @@ include_nameless rules os first t ts s d e =
 -- an `include` that comes to a refusal
 include_refused : (rules : Rules) (os : List Progress) (first : Bool) (t : SourceToken) (ts : List SourceToken) (s : State) (string : List ℕ) (kind : FaultKind)
     → directive_of t ≡ Some Include → (argument_of Include ts).given ≡ Some string
-    → includes_named rules (nest_of rules s.sources_left) (unquoted string) (command_in_front Include first t ts) s
+    → includes_named rules (included_meaning_of rules s.sources_left) (unquoted string) (command_in_front Include first t ts) s
     ≡ refusal kind [] (command_in_front Include first t ts) s
     → resumed rules (Live os) first (t ∷ ts) s ≡ refusal kind [] (command_in_front Include first t ts) s
 unfolding includes_given
@@ -564,11 +564,11 @@ pub include_too_deep : (rules : Rules) (os : List Progress) (first : Bool) (t : 
     → directive_of t ≡ Some Include → (argument_of Include ts).given ≡ Some string
     → (length (unquoted string) == 0 || not (is_utf8 (unquoted string))) ≡ false → s.sources_left ≡ 0
     → resumed rules (Live os) first (t ∷ ts) s ≡ refusal TooManyIncludes [] (command_in_front Include first t ts) s
-unfolding includes_named nest_of
+unfolding includes_named included_meaning_of
 include_too_deep rules os first t ts s string d e b left =
     let c = command_in_front Include first t ts in
     include_refused rules os first t ts s string TooManyIncludes d e
-    (ap (λ (k : ℕ). includes_named rules (nest_of rules k) (unquoted string) c s) left
+    (ap (λ (k : ℕ). includes_named rules (included_meaning_of rules k) (unquoted string) c s) left
     ∙ ap (λ (x : Bool). if x then refusal IncludeName [] c s else refusal TooManyIncludes [] c s) b)
 
 -- an `include` whose search finds nothing is refused

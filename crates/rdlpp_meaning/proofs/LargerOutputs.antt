@@ -10,7 +10,7 @@ use Rattle.rdlpp_meaning.specs.declared.fault.FaultKind.TheVariants.{BranchAfter
 use Rattle.rdlpp_meaning.specs.Outcome.{Told, Outcome, gives, fails, and_then}
 use Rattle.rdlpp_meaning.specs.State.{Defined, Accepted, Refused, Lookup, NoSource, LongPath, Source, Rules, State, fault_at, shown_line, breach_kind}
 use Rattle.rdlpp_meaning.specs.Parts.{Command, line_ends_of, Piece, Run, Single, Opening, Branching, Closing, pieces, parts_of}
-use Rattle.rdlpp_meaning.specs.Meaning.{Passage, leaves, behind_bytes, goes_on, refusal, Nest, skipped_run, Checked, Fine, Faulty, macro_name, defines, undefines, origin_line, at_start_of, back_in, added_end, includes, includes_found, unquoted, includes_named, includes_given, Renumbered, renumbered, renumbers, single, Progress, Test, Stopped, Holds, by_test, is_defined, name_test, wants_defined, opening_within, opening, in_conditional, past_conditional, is_else, turn, outcome, skipped_command, begun, turned, unclosed, mean, nest_of, text_meaning}
+use Rattle.rdlpp_meaning.specs.Meaning.{Passage, leaves, behind_bytes, goes_on, refusal, IncludedMeaning, skipped_run, Checked, Fine, Faulty, macro_name, defines, undefines, origin_line, at_start_of, back_in, added_end, includes, includes_found, unquoted, includes_named, includes_given, Renumbered, renumbered, renumbers, single, Progress, Test, Stopped, Holds, by_test, is_defined, name_test, wants_defined, opening_within, opening, in_conditional, past_conditional, is_else, turn, outcome, skipped_command, begun, turned, unclosed, mean, included_meaning_of, text_meaning}
 use Rattle.rdlpp_meaning.specs.LimitLaws.{is_limit, NamesNoLimit, IsLarger}
 use Rattle.rdlpp_meaning.proofs.LargerRuns.{Agrees, IsFault, TornAgrees, run-agrees, run-torn, skip-agrees, skip-torn, sources-torn}
 use Rattle.rdlpp_scan.specs.Front.{Breach}
@@ -119,10 +119,10 @@ choice-passage more true p q p' q' h k = h
 choice-passage more false p q p' q' h k = k
 
 -- included texts agree, where fewer sources may be opened
-unfoldable pub NestAgrees : ℕ → Nest → Nest → Type 0
-NestAgrees more None nest' = Unit
-NestAgrees more (Some within) None = ⊥
-NestAgrees more (Some within) (Some within') =
+unfoldable pub IncludedAgrees : ℕ → IncludedMeaning → IncludedMeaning → Type 0
+IncludedAgrees more None included_meaning' = Unit
+IncludedAgrees more (Some within) None = ⊥
+IncludedAgrees more (Some within) (Some within') =
     (sources : ℕ) (s : State) (text : List ℕ) → PassageAgrees more (within s text) (within' (roomier sources more s) text)
 
 -- what a `define` does agrees for all macros and texts
@@ -255,19 +255,19 @@ unfolding fault_at
 named-limit b line s limit n = true≢false (sym limit ∙ n)
 
 -- a run that is torn at its first token, from each place
-first-torn : (rules : Rules) (nest : Nest) (more : ℕ) (place : Place) (b : Breach) (bytes : List ℕ) (line : ℕ) (s : State) (q : Passage)
+first-torn : (rules : Rules) (included_meaning : IncludedMeaning) (more : ℕ) (place : Place) (b : Breach) (bytes : List ℕ) (line : ℕ) (s : State) (q : Passage)
     → is_limit (breach_kind b) ≡ true
-    → PassageAgrees more (resume rules nest place (Run (record { sort = Broken b; bytes = bytes; line = line } ∷ []) ∷ []) s) q
+    → PassageAgrees more (resume rules included_meaning place (Run (record { sort = Broken b; bytes = bytes; line = line } ∷ []) ∷ []) s) q
 unfolding resume IsFault
-first-torn rules nest more (Live os) b bytes line s q limit =
+first-torn rules included_meaning more (Live os) b bytes line s q limit =
     let t : SourceToken = record { sort = Broken b; bytes = bytes; line = line } in
     let o = run_outcome rules s (t ∷ []) in
-    limited-by more o.bytes o.fault (Some (fault_at (breach_kind b) line [] s)) s (λ after. resume rules nest (Live os) [] after) q
+    limited-by more o.bytes o.fault (Some (fault_at (breach_kind b) line [] s)) s (λ after. resume rules included_meaning (Live os) [] after) q
     (tear-fault rules s b bytes line) tt (named-limit b line s limit)
-first-torn rules nest more (Skipped n o os) b bytes line s q limit =
+first-torn rules included_meaning more (Skipped n o os) b bytes line s q limit =
     let t : SourceToken = record { sort = Broken b; bytes = bytes; line = line } in
     let out = skipped_run s (t ∷ []) in
-    limited-by more out.bytes out.fault (Some (fault_at (breach_kind b) line [] s)) s (λ after. resume rules nest (Skipped n o os) [] after) q
+    limited-by more out.bytes out.fault (Some (fault_at (breach_kind b) line [] s)) s (λ after. resume rules included_meaning (Skipped n o os) [] after) q
     (tear-skips s b bytes line) tt (named-limit b line s limit)
 
 -- the bytes and the fault of passages that agree
@@ -313,16 +313,16 @@ module _ (rules : Rules) (depth most : ℕ) (define : List Macro → List ℕ �
       (lifted-agrees sources more (refusal BadLine [] c s))
 
   -- where what is included agrees
-  module _ (nest nest' : Nest) (h : NestAgrees more nest nest') where
+  module _ (included_meaning included_meaning' : IncludedMeaning) (h : IncludedAgrees more included_meaning included_meaning') where
     -- an `include` of a name, by what may be opened
-    nested-agrees : (sources : ℕ) (nest nest' : Nest) (name : List ℕ) (c : Command) (s : State) → NestAgrees more nest nest'
+    nested-agrees : (sources : ℕ) (included_meaning included_meaning' : IncludedMeaning) (name : List ℕ) (c : Command) (s : State) → IncludedAgrees more included_meaning included_meaning'
         → PassageAgrees more
-        (elim nest [ None ↦ refusal TooManyIncludes [] c s | Some within ↦ includes_found rules within (rules.find s.path name) c s ])
-        (elim nest' [
+        (elim included_meaning [ None ↦ refusal TooManyIncludes [] c s | Some within ↦ includes_found rules within (rules.find s.path name) c s ])
+        (elim included_meaning' [
           | None ↦ refusal TooManyIncludes [] c (roomier sources more s)
           | Some within ↦ includes_found larger within (rules.find s.path name) c (roomier sources more s)
         ])
-    unfolding NestAgrees is_limit
+    unfolding IncludedAgrees is_limit
     nested-agrees sources None None name c s h = limit-passage more TooManyIncludes [] c s _ refl
     nested-agrees sources None (Some within') name c s h = limit-passage more TooManyIncludes [] c s _ refl
     nested-agrees sources (Some within) None name c s h = absurd h
@@ -330,18 +330,18 @@ module _ (rules : Rules) (depth most : ℕ) (define : List Macro → List ℕ �
 
     -- an `include` of what it is given
     given-agrees : (sources : ℕ) (given : Option (List ℕ)) (c : Command) (s : State)
-        → PassageAgrees more (includes_given rules nest given c s) (includes_given larger nest' given c (roomier sources more s))
+        → PassageAgrees more (includes_given rules included_meaning given c s) (includes_given larger included_meaning' given c (roomier sources more s))
     unfolding includes_given includes_named
     given-agrees sources None c s = refusal-agrees sources more IncludeName [] c s
     given-agrees sources (Some string) c s =
         let name = unquoted string in
         choice-passage more (length name == 0 || not (is_utf8 name)) _ _ _ _ (refusal-agrees sources more IncludeName [] c s)
-        (nested-agrees sources nest nest' name c s h)
+        (nested-agrees sources included_meaning included_meaning' name c s h)
 
     -- a directive by itself, by its word
     word-agrees : (sources : ℕ) (word : Directive) (given : Option (List ℕ)) (text : List ℕ) (line : ℕ) (first : Bool) (s : State)
         → let c : Command = record { word = word; given = given; text = text; line = line; first = first } in
-        PassageAgrees more (single rules nest c s) (single larger nest' c (roomier sources more s))
+        PassageAgrees more (single rules included_meaning c s) (single larger included_meaning' c (roomier sources more s))
     unfolding single AllDefined leaves gives
     word-agrees sources Define given text line first s =
         define-agrees sources more (record { word = Define; given = given; text = text; line = line; first = first }) s _ _ (w.defines s.macros (drop 7 text))
@@ -355,37 +355,37 @@ module _ (rules : Rules) (depth most : ℕ) (define : List Macro → List ℕ �
     word-agrees sources word given text line first s = lifted-agrees sources more (leaves (gives []) s)
 
     -- a directive by itself
-    single-agrees : (sources : ℕ) (c : Command) (s : State) → PassageAgrees more (single rules nest c s) (single larger nest' c (roomier sources more s))
+    single-agrees : (sources : ℕ) (c : Command) (s : State) → PassageAgrees more (single rules included_meaning c s) (single larger included_meaning' c (roomier sources more s))
     single-agrees sources c s = word-agrees sources c.word c.given c.text c.line c.first s
 
     -- what resumes agrees from each place and state
     unfoldable Resumes : List Piece → List Piece → Type 0
-    Resumes ps qs = (place : Place) (sources : ℕ) (s : State) → PassageAgrees more (resume rules nest place ps s) (resume larger nest' place qs (roomier sources more s))
+    Resumes ps qs = (place : Place) (sources : ℕ) (s : State) → PassageAgrees more (resume rules included_meaning place ps s) (resume larger included_meaning' place qs (roomier sources more s))
 
     -- what resumes behind a conditional that is opened
     conditional-agrees : (ps qs : List Piece) (place : Place) (sources : ℕ) (s : State) (m : ℕ) → Resumes ps qs → s.conditions_left ≡ suc m
-        → PassageAgrees more (resume rules nest place ps (in_conditional s)) (resume larger nest' place qs (in_conditional (roomier sources more s)))
+        → PassageAgrees more (resume rules included_meaning place ps (in_conditional s)) (resume larger included_meaning' place qs (in_conditional (roomier sources more s)))
     unfolding Resumes
     conditional-agrees ps qs place sources s m r e =
-        subst (λ (t : State). PassageAgrees more (resume rules nest place ps (in_conditional s)) (resume larger nest' place qs t))
+        subst (λ (t : State). PassageAgrees more (resume rules included_meaning place ps (in_conditional s)) (resume larger included_meaning' place qs t))
         (sym (in-room sources more s m e)) (r place sources (in_conditional s))
 
     -- what resumes behind the end of a conditional
     end-agrees : (ps qs : List Piece) (place : Place) (sources : ℕ) (s : State) → Resumes ps qs
-        → PassageAgrees more (resume rules nest place ps (past_conditional s)) (resume larger nest' place qs (past_conditional (roomier sources more s)))
+        → PassageAgrees more (resume rules included_meaning place ps (past_conditional s)) (resume larger included_meaning' place qs (past_conditional (roomier sources more s)))
     unfolding Resumes
     end-agrees ps qs place sources s r =
-        subst (λ (t : State). PassageAgrees more (resume rules nest place ps (past_conditional s)) (resume larger nest' place qs t))
+        subst (λ (t : State). PassageAgrees more (resume rules included_meaning place ps (past_conditional s)) (resume larger included_meaning' place qs t))
         (sym (past-room sources more s)) (r place sources (past_conditional s))
 
     -- what resumes behind a passage
     behind-agrees : (ps qs : List Piece) (place : Place) (p q : Passage) → Resumes ps qs → PassageAgrees more p q
-        → PassageAgrees more (goes_on p (λ after. resume rules nest place ps after)) (goes_on q (λ after. resume larger nest' place qs after))
+        → PassageAgrees more (goes_on p (λ after. resume rules included_meaning place ps after)) (goes_on q (λ after. resume larger included_meaning' place qs after))
     unfolding Resumes
     behind-agrees ps qs place p q r h = on-agrees more p q _ _ h (λ sources t. r place sources t)
 
     -- at the end of a file
-    ends-agree : (place : Place) (sources : ℕ) (s : State) → PassageAgrees more (resume rules nest place [] s) (resume larger nest' place [] (roomier sources more s))
+    ends-agree : (place : Place) (sources : ℕ) (s : State) → PassageAgrees more (resume rules included_meaning place [] s) (resume larger included_meaning' place [] (roomier sources more s))
     unfolding resume unclosed leaves gives fails
     ends-agree (Live []) sources s = lifted-agrees sources more (leaves (gives []) s)
     ends-agree (Live (o ∷ os)) sources s = lifted-agrees sources more (unclosed o s)
@@ -393,7 +393,7 @@ module _ (rules : Rules) (depth most : ℕ) (define : List Macro → List ℕ �
 
     -- a directive that opens a conditional in live text
     opened-agrees : (c : Command) (ps qs : List Piece) → Resumes ps qs → (os : List Progress) (sources : ℕ) (s : State)
-        → PassageAgrees more (resume rules nest (Live os) (Opening c ∷ ps) s) (resume larger nest' (Live os) (Opening c ∷ qs) (roomier sources more s))
+        → PassageAgrees more (resume rules included_meaning (Live os) (Opening c ∷ ps) s) (resume larger included_meaning' (Live os) (Opening c ∷ qs) (roomier sources more s))
     unfolding resume begun
     opened-agrees c ps qs r os sources s =
         opening-agrees sources more c s _ _ _ _
@@ -401,14 +401,14 @@ module _ (rules : Rules) (depth most : ℕ) (define : List Macro → List ℕ �
 
     -- a branch of an open conditional
     branched-agrees : (c : Command) (ps qs : List Piece) → Resumes ps qs → (o : Progress) (os : List Progress) (sources : ℕ) (s : State)
-        → PassageAgrees more (resume rules nest (Live (o ∷ os)) (Branching c ∷ ps) s) (resume larger nest' (Live (o ∷ os)) (Branching c ∷ qs) (roomier sources more s))
+        → PassageAgrees more (resume rules included_meaning (Live (o ∷ os)) (Branching c ∷ ps) s) (resume larger included_meaning' (Live (o ∷ os)) (Branching c ∷ qs) (roomier sources more s))
     unfolding resume Resumes
     branched-agrees c ps qs r o os sources s =
         turn-agrees sources more o c s _ _ _ _ (r (Live (turned o c true ∷ os)) sources s) (r (Skipped 0 (turned o c false) os) sources s)
 
     -- a piece in front
     piece-agrees : (p : Piece) (ps qs : List Piece) → Resumes ps qs → (place : Place) (sources : ℕ) (s : State)
-        → PassageAgrees more (resume rules nest place (p ∷ ps) s) (resume larger nest' place (p ∷ qs) (roomier sources more s))
+        → PassageAgrees more (resume rules included_meaning place (p ∷ ps) s) (resume larger included_meaning' place (p ∷ qs) (roomier sources more s))
     unfolding resume skipped_command
     piece-agrees (Run ts) ps qs r (Live os) sources s =
         behind-agrees ps qs (Live os) _ _ r (leaves-agrees sources more s _ _ (run-agrees rules larger s sources more w.bytes ts w.depths))
@@ -432,8 +432,8 @@ module _ (rules : Rules) (depth most : ℕ) (define : List Macro → List ℕ �
     later-torn : (xs : List SourceToken) (b : Breach) (bytes : List ℕ) (line : ℕ) (us : List SourceToken) (qs : List Piece)
         → is_limit (breach_kind b) ≡ true → TornBy token_role (token_role (record { sort = Broken b; bytes = bytes; line = line })) us
         → (place : Place) (sources : ℕ) (s : State)
-        → PassageAgrees more (resume rules nest place (Run (xs ++ record { sort = Broken b; bytes = bytes; line = line } ∷ []) ∷ []) s)
-        (resume larger nest' place (Run (xs ++ us) ∷ qs) (roomier sources more s))
+        → PassageAgrees more (resume rules included_meaning place (Run (xs ++ record { sort = Broken b; bytes = bytes; line = line } ∷ []) ∷ []) s)
+        (resume larger included_meaning' place (Run (xs ++ us) ∷ qs) (roomier sources more s))
     unfolding resume
     later-torn xs b bytes line us qs limit torn (Live os) sources s =
         faulty-agrees sources more _ _ s _ _ (run-torn rules larger s sources more w.bytes xs b bytes line us w.depths limit torn)
@@ -444,13 +444,13 @@ module _ (rules : Rules) (depth most : ℕ) (define : List Macro → List ℕ �
     torn-by : (xs : List SourceToken) (b : Breach) (bytes : List ℕ) (line : ℕ) (us : List SourceToken) (qs : List Piece) → run_front qs ≡ xs ++ us
         → is_limit (breach_kind b) ≡ true → TornBy token_role (token_role (record { sort = Broken b; bytes = bytes; line = line })) us
         → (place : Place) (sources : ℕ) (s : State)
-        → PassageAgrees more (resume rules nest place (Run (xs ++ record { sort = Broken b; bytes = bytes; line = line } ∷ []) ∷ []) s)
-        (resume larger nest' place qs (roomier sources more s))
+        → PassageAgrees more (resume rules included_meaning place (Run (xs ++ record { sort = Broken b; bytes = bytes; line = line } ∷ []) ∷ []) s)
+        (resume larger included_meaning' place qs (roomier sources more s))
     unfolding run_front
-    torn-by [] b bytes line us qs e limit torn place sources s = first-torn rules nest more place b bytes line s _ limit
+    torn-by [] b bytes line us qs e limit torn place sources s = first-torn rules included_meaning more place b bytes line s _ limit
     torn-by (x ∷ xs) b bytes line us (Run vs ∷ qs) e limit torn place sources s =
-        subst (λ (ts : List SourceToken). PassageAgrees more (resume rules nest place (Run (x ∷ (xs ++ record { sort = Broken b; bytes = bytes; line = line } ∷ [])) ∷ []) s)
-        (resume larger nest' place (Run ts ∷ qs) (roomier sources more s))) (sym e)
+        subst (λ (ts : List SourceToken). PassageAgrees more (resume rules included_meaning place (Run (x ∷ (xs ++ record { sort = Broken b; bytes = bytes; line = line } ∷ [])) ∷ []) s)
+        (resume larger included_meaning' place (Run ts ∷ qs) (roomier sources more s))) (sym e)
         (later-torn (x ∷ xs) b bytes line us qs limit torn place sources s)
     torn-by (x ∷ xs) b bytes line us [] e limit torn place sources s = absurd (nothing-more x (xs ++ us) e)
     torn-by (x ∷ xs) b bytes line us (Single c ∷ qs) e limit torn place sources s = absurd (nothing-more x (xs ++ us) e)
@@ -463,38 +463,38 @@ module _ (rules : Rules) (depth most : ℕ) (define : List Macro → List ℕ �
     unfolding Resumes
     run-ends p ps qs e = λ place sources s.
         let t : SourceToken = record { sort = Broken e.breach; bytes = e.bytes; line = e.line } in
-        let last = resume larger nest' place qs (roomier sources more s) in
-        subst (λ (x : Piece). PassageAgrees more (resume rules nest place (x ∷ ps) s) last) (sym e.piece)
-        (subst (λ (xs : List Piece). PassageAgrees more (resume rules nest place (Run (e.before ++ t ∷ []) ∷ xs) s) last) (sym e.last)
+        let last = resume larger included_meaning' place qs (roomier sources more s) in
+        subst (λ (x : Piece). PassageAgrees more (resume rules included_meaning place (x ∷ ps) s) last) (sym e.piece)
+        (subst (λ (xs : List Piece). PassageAgrees more (resume rules included_meaning place (Run (e.before ++ t ∷ []) ∷ xs) s) last) (sym e.last)
         (torn-by e.before e.breach e.bytes e.line e.behind qs e.front e.limit e.torn place sources s))
 
     -- what resumes agrees
     resume-agrees : (ps qs : List Piece) → PiecesTorn ps qs → Resumes ps qs
     unfolding Resumes PiecesTorn
     resume-agrees [] qs r = λ place sources s.
-        subst (λ (xs : List Piece). PassageAgrees more (resume rules nest place [] s) (resume larger nest' place xs (roomier sources more s))) (sym r) (ends-agree place sources s)
+        subst (λ (xs : List Piece). PassageAgrees more (resume rules included_meaning place [] s) (resume larger included_meaning' place xs (roomier sources more s))) (sym r) (ends-agree place sources s)
     resume-agrees (p ∷ ps) qs (inl e) = run-ends p ps qs e
     resume-agrees (p ∷ ps) qs (inr (rest, e, r)) = λ place sources s.
-        subst (λ (xs : List Piece). PassageAgrees more (resume rules nest place (p ∷ ps) s) (resume larger nest' place xs (roomier sources more s))) (sym e)
+        subst (λ (xs : List Piece). PassageAgrees more (resume rules included_meaning place (p ∷ ps) s) (resume larger included_meaning' place xs (roomier sources more s))) (sym e)
         (piece-agrees p ps rest (resume-agrees ps rest r) place sources s)
 
     -- what a text means agrees
     mean-agrees : (sources : ℕ) (s : State) (text : List ℕ)
-        → PassageAgrees more (mean rules nest (parts_of (rules.tokens text)) s) (mean larger nest' (parts_of (tokens text)) (roomier sources more s))
+        → PassageAgrees more (mean rules included_meaning (parts_of (rules.tokens text)) s) (mean larger included_meaning' (parts_of (tokens text)) (roomier sources more s))
     unfolding Resumes FirstUnbroken
     mean-agrees sources s text =
         let ts = rules.tokens text in
         let us = tokens text in
-        subst (λ (p : Passage). PassageAgrees more p (mean larger nest' (parts_of us) (roomier sources more s))) (sym (mean_resumes rules nest ts s))
-        (subst (λ (q : Passage). PassageAgrees more (resume rules nest (Live []) (pieces true 0 ts) s) q) (sym (mean_resumes larger nest' us (roomier sources more s)))
+        subst (λ (p : Passage). PassageAgrees more p (mean larger included_meaning' (parts_of us) (roomier sources more s))) (sym (mean_resumes rules included_meaning ts s))
+        (subst (λ (q : Passage). PassageAgrees more (resume rules included_meaning (Live []) (pieces true 0 ts) s) q) (sym (mean_resumes larger included_meaning' us (roomier sources more s)))
         (resume-agrees (pieces true 0 ts) (pieces true 0 us) (pieces-torn true ts us (w.texts text) true 0 tt) (Live []) sources s))
 
   -- included texts agree where more sources may be opened
-  nest-agrees : (n m : ℕ) → n ≤ m → NestAgrees more (nest_of rules n) (nest_of larger m)
-  unfolding nest_of NestAgrees
-  nest-agrees zero m h = tt
-  nest-agrees (suc n) zero h = absurd (omega (arith, h))
-  nest-agrees (suc n) (suc m) h = mean-agrees (nest_of rules n) (nest_of larger m) (nest-agrees n m (omega (arith, h)))
+  included_meaning-agrees : (n m : ℕ) → n ≤ m → IncludedAgrees more (included_meaning_of rules n) (included_meaning_of larger m)
+  unfolding included_meaning_of IncludedAgrees
+  included_meaning-agrees zero m h = tt
+  included_meaning-agrees (suc n) zero h = absurd (omega (arith, h))
+  included_meaning-agrees (suc n) (suc m) h = mean-agrees (included_meaning_of rules n) (included_meaning_of larger m) (included_meaning-agrees n m (omega (arith, h)))
 
   -- outputs agree, from states that differ in the room that they have
   output-agrees : (macros : List Macro) (sources room conditions : ℕ) (path : List ℕ) (found : Lookup) → sources ≤ room
@@ -506,7 +506,7 @@ module _ (rules : Rules) (depth most : ℕ) (define : List Macro → List ℕ �
   output-agrees macros sources room conditions path (Source found text) h n =
       outcome-agrees more _ _
       (bytes-agree more (origin_line rules found 1) _ _
-      (mean-agrees (nest_of rules sources) (nest_of larger room) (nest-agrees sources room h) room (start_state macros sources conditions found) text)) n
+      (mean-agrees (included_meaning_of rules sources) (included_meaning_of larger room) (included_meaning-agrees sources room h) room (start_state macros sources conditions found) text)) n
 
 -- a choice of what a `define` comes to, where a first fault is of a limit
 limited-agrees : (kind : FaultKind) (word : List ℕ) (small large : Bool) (u v : Defined) → is_limit kind ≡ true

@@ -17,7 +17,7 @@ use Rattle.rdlpp_meaning.specs.Actuals.{Halt, Role, item_reads, token_role}
 use Rattle.rdlpp_meaning.specs.CallScan.{Before, Inside, Refused as RefusedCall, Scanned, CallState, call_of, call_of_scan, fault_at_end, room_behind, scan, scanned, source_role, call_state_behind, turn, turn_before, turn_inside}
 use Rattle.rdlpp_meaning.specs.Expansion.{Opens, Refuses, Usage, bytes_of, expand, is_copied, name_of, run_outcome, usage_of, usage_token, walk}
 use Rattle.rdlpp_meaning.specs.Items.{Item, Written}
-use Rattle.rdlpp_meaning.specs.Meaning.{Nest, Passage, Progress, behind_bytes, defines, goes_on, leaves, nest_of, refusal, single}
+use Rattle.rdlpp_meaning.specs.Meaning.{IncludedMeaning, Passage, Progress, behind_bytes, defines, goes_on, leaves, included_meaning_of, refusal, single}
 use Rattle.rdlpp_meaning.specs.Outcome.{Outcome, Told, and_then, fails, gives}
 use Rattle.rdlpp_meaning.specs.Parts.{Branching, Closing, Command, Opening, Piece, Run, Single, argument_of, command_of, directive_named, directive_of, joined, line_ends_of, no_argument, only_blanks, piece_of, pieces}
 use Rattle.rdlpp_meaning.specs.Resumed.{Live, leading, resume, resumed, trailing}
@@ -72,30 +72,30 @@ unfolding run_outcome walk
 run_nil rules s = expand_walk rules s rules.depth None [] []
 
 -- a run by itself of a token that writes an outcome
-alone : (rules : Rules) (nest : Nest) (os : List Progress) (t : SourceToken) (o : Outcome) (ps : List Piece) (s : State)
+alone : (rules : Rules) (included_meaning : IncludedMeaning) (os : List Progress) (t : SourceToken) (o : Outcome) (ps : List Piece) (s : State)
     → Writes rules s t o
-    → resume rules nest (Live os) (Run (t ∷ []) ∷ ps) s ≡ goes_on (leaves o s) (λ after. resume rules nest (Live os) ps after)
+    → resume rules included_meaning (Live os) (Run (t ∷ []) ∷ ps) s ≡ goes_on (leaves o s) (λ after. resume rules included_meaning (Live os) ps after)
 unfolding resume Writes
-alone rules nest os t o ps s w =
-    ap (λ (x : Outcome). goes_on (leaves x s) (λ after. resume rules nest (Live os) ps after))
+alone rules included_meaning os t o ps s w =
+    ap (λ (x : Outcome). goes_on (leaves x s) (λ after. resume rules included_meaning (Live os) ps after))
     (w [] ∙ ap (λ (x : Outcome). and_then o x) (run_nil rules s) ∙ and_then-nil o)
 
 -- a token that writes an outcome in front of pieces
-pub resume_joined : (rules : Rules) (nest : Nest) (os : List Progress) (t : SourceToken) (o : Outcome) (ps : List Piece) (s : State)
+pub resume_joined : (rules : Rules) (included_meaning : IncludedMeaning) (os : List Progress) (t : SourceToken) (o : Outcome) (ps : List Piece) (s : State)
     → Writes rules s t o
-    → resume rules nest (Live os) (joined t ps) s ≡ goes_on (leaves o s) (λ after. resume rules nest (Live os) ps after)
+    → resume rules included_meaning (Live os) (joined t ps) s ≡ goes_on (leaves o s) (λ after. resume rules included_meaning (Live os) ps after)
 unfolding resume joined Writes
-resume_joined rules nest os t o [] s w = alone rules nest os t o [] s w
-resume_joined rules nest os t o (Run us ∷ ps) s w =
-    ap (λ (x : Outcome). goes_on (leaves x s) (λ after. resume rules nest (Live os) ps after)) (w us)
-    ∙ leaves-and_then o (run_outcome rules s us) s (λ after. resume rules nest (Live os) ps after)
+resume_joined rules included_meaning os t o [] s w = alone rules included_meaning os t o [] s w
+resume_joined rules included_meaning os t o (Run us ∷ ps) s w =
+    ap (λ (x : Outcome). goes_on (leaves x s) (λ after. resume rules included_meaning (Live os) ps after)) (w us)
+    ∙ leaves-and_then o (run_outcome rules s us) s (λ after. resume rules included_meaning (Live os) ps after)
     ∙ on_leaves o s
-    (λ after. goes_on (leaves (run_outcome rules s us) after) (λ last. resume rules nest (Live os) ps last))
-    (λ after. resume rules nest (Live os) (Run us ∷ ps) after) refl
-resume_joined rules nest os t o (Single c ∷ ps) s w = alone rules nest os t o (Single c ∷ ps) s w
-resume_joined rules nest os t o (Opening c ∷ ps) s w = alone rules nest os t o (Opening c ∷ ps) s w
-resume_joined rules nest os t o (Branching c ∷ ps) s w = alone rules nest os t o (Branching c ∷ ps) s w
-resume_joined rules nest os t o (Closing c ∷ ps) s w = alone rules nest os t o (Closing c ∷ ps) s w
+    (λ after. goes_on (leaves (run_outcome rules s us) after) (λ last. resume rules included_meaning (Live os) ps last))
+    (λ after. resume rules included_meaning (Live os) (Run us ∷ ps) after) refl
+resume_joined rules included_meaning os t o (Single c ∷ ps) s w = alone rules included_meaning os t o (Single c ∷ ps) s w
+resume_joined rules included_meaning os t o (Opening c ∷ ps) s w = alone rules included_meaning os t o (Opening c ∷ ps) s w
+resume_joined rules included_meaning os t o (Branching c ∷ ps) s w = alone rules included_meaning os t o (Branching c ∷ ps) s w
+resume_joined rules included_meaning os t o (Closing c ∷ ps) s w = alone rules included_meaning os t o (Closing c ∷ ps) s w
 
 -- a token that begins no directive is joined to the pieces behind it
 pub pieces_text : (first : Bool) (t : SourceToken) (ts : List SourceToken) → directive_of t ≡ None
@@ -111,10 +111,10 @@ pub resumed_token : (rules : Rules) (os : List Progress) (first : Bool) (t : Sou
 unfolding resumed
 resumed_token rules os first t ts s o e w =
     let rest = pieces (only_blanks first t.bytes) 0 ts in
-    ap (λ (ps : List Piece). resume rules (nest_of rules s.sources_left) (Live os) ps s) (pieces_text first t ts e)
-    ∙ resume_joined rules (nest_of rules s.sources_left) os t o rest s w
+    ap (λ (ps : List Piece). resume rules (included_meaning_of rules s.sources_left) (Live os) ps s) (pieces_text first t ts e)
+    ∙ resume_joined rules (included_meaning_of rules s.sources_left) os t o rest s w
     ∙ on_leaves o s
-    (λ after. resume rules (nest_of rules s.sources_left) (Live os) rest after)
+    (λ after. resume rules (included_meaning_of rules s.sources_left) (Live os) rest after)
     (λ after. resumed rules (Live os) (only_blanks first t.bytes) ts after) refl
 
 -- Laws of usages: of a name that isn't defined, and of a macro without a list.
@@ -328,14 +328,14 @@ has_run [] = λ first. refl
 has_run (t ∷ ts) = has_run_by t ts (directive_of t) refl (has_run ts)
 
 -- a run in front of pieces resumes as its expansion, and then they do
-resume_run : (rules : Rules) (nest : Nest) (os : List Progress) (run : List SourceToken) (ps : List Piece) (s : State)
-    → resume rules nest (Live os) (run_before run ps) s
-    ≡ goes_on (leaves (run_outcome rules s run) s) (λ after. resume rules nest (Live os) ps after)
+resume_run : (rules : Rules) (included_meaning : IncludedMeaning) (os : List Progress) (run : List SourceToken) (ps : List Piece) (s : State)
+    → resume rules included_meaning (Live os) (run_before run ps) s
+    ≡ goes_on (leaves (run_outcome rules s run) s) (λ after. resume rules included_meaning (Live os) ps after)
 unfolding run_before resume
-resume_run rules nest os [] ps s =
-    sym (ap (λ (x : Outcome). goes_on (leaves x s) (λ after. resume rules nest (Live os) ps after)) (run_nil rules s)
-    ∙ goes_on-nil s (λ after. resume rules nest (Live os) ps after))
-resume_run rules nest os (t ∷ run) ps s = refl
+resume_run rules included_meaning os [] ps s =
+    sym (ap (λ (x : Outcome). goes_on (leaves x s) (λ after. resume rules included_meaning (Live os) ps after)) (run_nil rules s)
+    ∙ goes_on-nil s (λ after. resume rules included_meaning (Live os) ps after))
+resume_run rules included_meaning os (t ∷ run) ps s = refl
 
 -- in live text, a run comes to its expansion, and then what remains behind it
 pub resumed_run : (rules : Rules) (os : List Progress) (first : Bool) (ts : List SourceToken) (s : State)
@@ -344,11 +344,11 @@ pub resumed_run : (rules : Rules) (os : List Progress) (first : Bool) (ts : List
     (λ after. resumed rules (Live os) (only_blanks first (bytes_of (leading ts))) (trailing ts) after)
 unfolding resumed HasRun
 resumed_run rules os first ts s =
-    let nest = nest_of rules s.sources_left in
+    let included_meaning = included_meaning_of rules s.sources_left in
     let ps = pieces (only_blanks first (bytes_of (leading ts))) 0 (trailing ts) in
-    ap (λ (qs : List Piece). resume rules nest (Live os) qs s) (has_run ts first)
-    ∙ resume_run rules nest os (leading ts) ps s
-    ∙ on_leaves (run_outcome rules s (leading ts)) s (λ after. resume rules nest (Live os) ps after)
+    ap (λ (qs : List Piece). resume rules included_meaning (Live os) qs s) (has_run ts first)
+    ∙ resume_run rules included_meaning os (leading ts) ps s
+    ∙ on_leaves (run_outcome rules s (leading ts)) s (λ after. resume rules included_meaning (Live os) ps after)
     (λ after. resumed rules (Live os) (only_blanks first (bytes_of (leading ts))) (trailing ts) after) refl
 
 -- how the tokens of a run lie in front of the others
@@ -462,7 +462,7 @@ pub call_of_source : (size : SourceToken → ℕ) (room : ℕ) (ts : List Source
 call_of_source size room ts = ap (call_of_scan token_role 0) (scan_leading size ts Before room)
 
 -- Laws of live text, in any open conditionals: what remains of a source where a token stands in front that begins no directive,
--- or a `define`. Nothing is lost of the state, so they hold in a nest of open sources too (`NestMoves`).
+-- or a `define`. Nothing is lost of the state, so they hold in a nest of open sources too (`IncludedMoves`).
 
 -- a token that writes bytes, and then what remains behind it
 pub resumed_writes : (rules : Rules) (os : List Progress) (first : Bool) (t : SourceToken) (ts : List SourceToken) (s : State) (x : List ℕ)
@@ -568,11 +568,11 @@ resumed_define : (rules : Rules) (os : List Progress) (first : Bool) (bytes : Li
     → rules.define s.macros (drop 7 bytes) ≡ d
     → resumed rules (Live os) first (record { sort = Definition; bytes = bytes; line = line } ∷ more) s
     ≡ goes_on (defines d (define_command first bytes line) s)
-    (λ after. resume rules (nest_of rules s.sources_left) (Live os) (pieces (only_blanks first bytes) 0 more) after)
+    (λ after. resume rules (included_meaning_of rules s.sources_left) (Live os) (pieces (only_blanks first bytes) 0 more) after)
 unfolding resumed resume single
 resumed_define rules os first bytes line more s d e =
-    let next : State → Passage = λ after. resume rules (nest_of rules s.sources_left) (Live os) (pieces (only_blanks first bytes) 0 more) after in
-    ap (λ (ps : List Piece). resume rules (nest_of rules s.sources_left) (Live os) ps s) (define_piece first bytes line more)
+    let next : State → Passage = λ after. resume rules (included_meaning_of rules s.sources_left) (Live os) (pieces (only_blanks first bytes) 0 more) after in
+    ap (λ (ps : List Piece). resume rules (included_meaning_of rules s.sources_left) (Live os) ps s) (define_piece first bytes line more)
     ∙ ap (λ (x : Defined). goes_on (defines x (define_command first bytes line) s) next) e
 
 -- a `define` that is accepted gives its LF bytes, and then what remains behind it with its macros
@@ -584,7 +584,7 @@ unfolding defines resumed
 resumed_defined rules os first bytes line more s macros e =
     resumed_define rules os first bytes line more s (Accepted macros) e
     ∙ goes_on-gives (line_ends_of bytes) (record s { macros = macros })
-    (λ after. resume rules (nest_of rules s.sources_left) (Live os) (pieces (only_blanks first bytes) 0 more) after)
+    (λ after. resume rules (included_meaning_of rules s.sources_left) (Live os) (pieces (only_blanks first bytes) 0 more) after)
 
 -- a `define` that is refused ends its source
 pub resumed_refused : (rules : Rules) (os : List Progress) (first : Bool) (bytes : List ℕ) (line : ℕ) (more : List SourceToken) (s : State) (kind : FaultKind) (word : List ℕ)
@@ -595,4 +595,4 @@ unfolding defines refusal
 resumed_refused rules os first bytes line more s kind word e =
     resumed_define rules os first bytes line more s (Refused kind word) e
     ∙ fails-goes_on (fault_at kind line word s) s
-    (λ after. resume rules (nest_of rules s.sources_left) (Live os) (pieces (only_blanks first bytes) 0 more) after)
+    (λ after. resume rules (included_meaning_of rules s.sources_left) (Live os) (pieces (only_blanks first bytes) 0 more) after)

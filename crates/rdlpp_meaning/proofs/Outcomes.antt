@@ -11,7 +11,7 @@ use Rattle.rdlpp_scan.specs.declared.token.Kind.{Kind}
 use Rattle.rdlpp_scan.specs.declared.token.Kind.TheVariants.{Back, BareBackquote, BlockComment, LineComment, Perl, Str}
 use Rattle.rdlpp_table.specs.Table.{Macro}
 use Rattle.rdlpp_meaning.specs.Expansion.{is_copied}
-use Rattle.rdlpp_meaning.specs.Meaning.{Holds, Nest, Passage, Progress, Stopped, Test, begun, behind_bytes, by_test, goes_on, in_conditional, leaves, mean, mean_branches, mean_part, nest_of, opening, origin_line, outcome, past_conditional, refusal, skip, skip_branches, skip_part, skipped_command, text_meaning, turn, turned, unclosed}
+use Rattle.rdlpp_meaning.specs.Meaning.{Holds, IncludedMeaning, Passage, Progress, Stopped, Test, begun, behind_bytes, by_test, goes_on, in_conditional, leaves, mean, mean_branches, mean_part, included_meaning_of, opening, origin_line, outcome, past_conditional, refusal, skip, skip_branches, skip_part, skipped_command, text_meaning, turn, turned, unclosed}
 use Rattle.rdlpp_meaning.specs.Outcome.{Outcome, Told, and_then, fails, gives}
 use Rattle.rdlpp_meaning.specs.Output.{opening_fault, output, start_state}
 use Rattle.rdlpp_meaning.specs.OutputLimit.{limited}
@@ -247,25 +247,25 @@ pub goes_on-same : (p : Passage) (g h : State → Passage) → ((t : State) → 
 goes_on-same p g h e = goes_on_by p.bytes p.fault p.after g h e
 
 -- what remains in live text behind a level, in these open conditionals
-unfoldable pub rest_live : Rules → Nest → List Progress → Level → State → Passage
-rest_live rules nest [] l s = mean rules nest (level_parts l) s
-rest_live rules nest (o ∷ os) l s =
-    goes_on (mean rules nest (front_parts l) s) (λ a.
-    goes_on (mean_branches rules nest (further_branches l) o a) (λ b. rest_live rules nest os (behind_end l) b))
+unfoldable pub rest_live : Rules → IncludedMeaning → List Progress → Level → State → Passage
+rest_live rules included_meaning [] l s = mean rules included_meaning (level_parts l) s
+rest_live rules included_meaning (o ∷ os) l s =
+    goes_on (mean rules included_meaning (front_parts l) s) (λ a.
+    goes_on (mean_branches rules included_meaning (further_branches l) o a) (λ b. rest_live rules included_meaning os (behind_end l) b))
 
 -- what remains in skipped text behind a level
-unfoldable pub rest_skipped : Rules → Nest → ℕ → Progress → List Progress → Level → State → Passage
-rest_skipped rules nest zero o os l s =
+unfoldable pub rest_skipped : Rules → IncludedMeaning → ℕ → Progress → List Progress → Level → State → Passage
+rest_skipped rules included_meaning zero o os l s =
     goes_on (leaves (skip s (front_parts l)) s) (λ a.
-    goes_on (mean_branches rules nest (further_branches l) o a) (λ b. rest_live rules nest os (behind_end l) b))
-rest_skipped rules nest (suc n) o os l s =
+    goes_on (mean_branches rules included_meaning (further_branches l) o a) (λ b. rest_live rules included_meaning os (behind_end l) b))
+rest_skipped rules included_meaning (suc n) o os l s =
     goes_on (leaves (skip s (front_parts l)) s) (λ a.
-    goes_on (leaves (skip_branches a (further_branches l)) a) (λ b. rest_skipped rules nest n o os (behind_end l) b))
+    goes_on (leaves (skip_branches a (further_branches l)) a) (λ b. rest_skipped rules included_meaning n o os (behind_end l) b))
 
 -- what remains behind a level, from a place
-unfoldable pub rest : Rules → Nest → Place → Level → State → Passage
-rest rules nest (Live os) l s = rest_live rules nest os l s
-rest rules nest (Skipped n o os) l s = rest_skipped rules nest n o os l s
+unfoldable pub rest : Rules → IncludedMeaning → Place → Level → State → Passage
+rest rules included_meaning (Live os) l s = rest_live rules included_meaning os l s
+rest rules included_meaning (Skipped n o os) l s = rest_skipped rules included_meaning n o os l s
 
 -- a part in front of a level puts it in front of the parts at its front
 front-in_front : (p : Part) (l : Level) → front_parts (in_front p l) ≡ More p (front_parts l)
@@ -296,46 +296,46 @@ parts-in_front p (Upto ps c l) = refl
 parts-in_front p (Ended ps c l) = refl
 
 -- live text: a part in front of a level means itself and then what remains
-live_in_front : (rules : Rules) (nest : Nest) (os : List Progress) (p : Part) (l : Level) (s : State)
-    → rest_live rules nest os (in_front p l) s ≡ goes_on (mean_part rules nest p s) (λ a. rest_live rules nest os l a)
+live_in_front : (rules : Rules) (included_meaning : IncludedMeaning) (os : List Progress) (p : Part) (l : Level) (s : State)
+    → rest_live rules included_meaning os (in_front p l) s ≡ goes_on (mean_part rules included_meaning p s) (λ a. rest_live rules included_meaning os l a)
 unfolding rest_live mean
-live_in_front rules nest [] p l s = ap (λ (ps : Parts). mean rules nest ps s) (parts-in_front p l)
-live_in_front rules nest (o ∷ os) p l s =
+live_in_front rules included_meaning [] p l s = ap (λ (ps : Parts). mean rules included_meaning ps s) (parts-in_front p l)
+live_in_front rules included_meaning (o ∷ os) p l s =
     rw (front-in_front p l, branches-in_front p l, behind-in_front p l)
-    (goes_on-assoc (mean_part rules nest p s) (λ a. mean rules nest (front_parts l) a) (λ a.
-    goes_on (mean_branches rules nest (further_branches l) o a) (λ b. rest_live rules nest os (behind_end l) b)))
+    (goes_on-assoc (mean_part rules included_meaning p s) (λ a. mean rules included_meaning (front_parts l) a) (λ a.
+    goes_on (mean_branches rules included_meaning (further_branches l) o a) (λ b. rest_live rules included_meaning os (behind_end l) b)))
 
 -- skipped text: a part in front of a level is skipped, and then what remains
-skipped_in_front : (rules : Rules) (nest : Nest) (n : ℕ) (o : Progress) (os : List Progress) (p : Part) (l : Level) (s : State)
-    → rest_skipped rules nest n o os (in_front p l) s ≡ goes_on (leaves (skip_part s p) s) (λ a. rest_skipped rules nest n o os l a)
+skipped_in_front : (rules : Rules) (included_meaning : IncludedMeaning) (n : ℕ) (o : Progress) (os : List Progress) (p : Part) (l : Level) (s : State)
+    → rest_skipped rules included_meaning n o os (in_front p l) s ≡ goes_on (leaves (skip_part s p) s) (λ a. rest_skipped rules included_meaning n o os l a)
 unfolding rest_skipped skip
-skipped_in_front rules nest zero o os p l s =
+skipped_in_front rules included_meaning zero o os p l s =
     rw (front-in_front p l, branches-in_front p l, behind-in_front p l)
     (leaves-and_then (skip_part s p) (skip s (front_parts l)) s (λ a.
-    goes_on (mean_branches rules nest (further_branches l) o a) (λ b. rest_live rules nest os (behind_end l) b))
+    goes_on (mean_branches rules included_meaning (further_branches l) o a) (λ b. rest_live rules included_meaning os (behind_end l) b))
     ∙ on_leaves (skip_part s p) s
     (λ t. goes_on (leaves (skip s (front_parts l)) t) (λ a.
-    goes_on (mean_branches rules nest (further_branches l) o a) (λ b. rest_live rules nest os (behind_end l) b)))
-    (λ t. rest_skipped rules nest zero o os l t) refl)
-skipped_in_front rules nest (suc n) o os p l s =
+    goes_on (mean_branches rules included_meaning (further_branches l) o a) (λ b. rest_live rules included_meaning os (behind_end l) b)))
+    (λ t. rest_skipped rules included_meaning zero o os l t) refl)
+skipped_in_front rules included_meaning (suc n) o os p l s =
     rw (front-in_front p l, branches-in_front p l, behind-in_front p l)
     (leaves-and_then (skip_part s p) (skip s (front_parts l)) s (λ a.
-    goes_on (leaves (skip_branches a (further_branches l)) a) (λ b. rest_skipped rules nest n o os (behind_end l) b))
+    goes_on (leaves (skip_branches a (further_branches l)) a) (λ b. rest_skipped rules included_meaning n o os (behind_end l) b))
     ∙ on_leaves (skip_part s p) s
     (λ t. goes_on (leaves (skip s (front_parts l)) t) (λ a.
-    goes_on (leaves (skip_branches a (further_branches l)) a) (λ b. rest_skipped rules nest n o os (behind_end l) b)))
-    (λ t. rest_skipped rules nest (suc n) o os l t) refl)
+    goes_on (leaves (skip_branches a (further_branches l)) a) (λ b. rest_skipped rules included_meaning n o os (behind_end l) b)))
+    (λ t. rest_skipped rules included_meaning (suc n) o os l t) refl)
 
 -- where nothing is left, an open conditional isn't closed
-skipped_nothing : (rules : Rules) (nest : Nest) (n : ℕ) (o : Progress) (os : List Progress) (s : State)
-    → rest_skipped rules nest n o os (Last Nothing) s ≡ unclosed o s
+skipped_nothing : (rules : Rules) (included_meaning : IncludedMeaning) (n : ℕ) (o : Progress) (os : List Progress) (s : State)
+    → rest_skipped rules included_meaning n o os (Last Nothing) s ≡ unclosed o s
 unfolding rest_skipped front_parts further_branches behind_end skip skip_branches mean_branches goes_on leaves behind_bytes gives unclosed fails
-skipped_nothing rules nest zero o os s = refl
-skipped_nothing rules nest (suc n) o os s = skipped_nothing rules nest n o os s
+skipped_nothing rules included_meaning zero o os s = refl
+skipped_nothing rules included_meaning (suc n) o os s = skipped_nothing rules included_meaning n o os s
 
 -- what resumes as the rest from each place and state
-Resumes : Rules → Nest → List Piece → Type 0
-Resumes rules nest ps = (place : Place) (s : State) → resume rules nest place ps s ≡ rest rules nest place (level_of ps) s
+Resumes : Rules → IncludedMeaning → List Piece → Type 0
+Resumes rules included_meaning ps = (place : Place) (s : State) → resume rules included_meaning place ps s ≡ rest rules included_meaning place (level_of ps) s
 
 -- what goes on behind either side of a test goes on behind the test
 by_test-goes_on : (t : Test) (c : Command) (s : State) (live skipped live' skipped' next : State → Passage)
@@ -347,145 +347,145 @@ by_test-goes_on (Holds true) c s live skipped live' skipped' next e f = e
 by_test-goes_on (Holds false) c s live skipped live' skipped' next e f = f
 
 -- a conditional that is opened in live text resumes as its meaning and then the rest
-opening_rest : (rules : Rules) (nest : Nest) (os : List Progress) (c : Command) (ps : List Piece) (s : State)
-    → Resumes rules nest ps
-    → resume rules nest (Live os) (Opening c ∷ ps) s
-    ≡ goes_on (mean_part rules nest (Conditional c (front_parts (level_of ps)) (further_branches (level_of ps))) s)
-    (λ a. rest_live rules nest os (behind_end (level_of ps)) a)
+opening_rest : (rules : Rules) (included_meaning : IncludedMeaning) (os : List Progress) (c : Command) (ps : List Piece) (s : State)
+    → Resumes rules included_meaning ps
+    → resume rules included_meaning (Live os) (Opening c ∷ ps) s
+    ≡ goes_on (mean_part rules included_meaning (Conditional c (front_parts (level_of ps)) (further_branches (level_of ps))) s)
+    (λ a. rest_live rules included_meaning os (behind_end (level_of ps)) a)
 unfolding resume mean_part Resumes rest rest_live rest_skipped
-opening_rest rules nest os c ps s r =
+opening_rest rules included_meaning os c ps s r =
     let fp = front_parts (level_of ps) in
     let fb = further_branches (level_of ps) in
-    let next : State → Passage = λ a. rest_live rules nest os (behind_end (level_of ps)) a in
+    let next : State → Passage = λ a. rest_live rules included_meaning os (behind_end (level_of ps)) a in
     by_test-goes_on (opening c s) c s
-    (λ t. resume rules nest (Live (begun c t true ∷ os)) ps (in_conditional t))
-    (λ t. resume rules nest (Skipped 0 (begun c t false) os) ps (in_conditional t))
-    (λ t. goes_on (mean rules nest fp (in_conditional t)) (λ a. mean_branches rules nest fb (begun c t true) a))
-    (λ t. goes_on (leaves (skip (in_conditional t) fp) (in_conditional t)) (λ a. mean_branches rules nest fb (begun c t false) a))
+    (λ t. resume rules included_meaning (Live (begun c t true ∷ os)) ps (in_conditional t))
+    (λ t. resume rules included_meaning (Skipped 0 (begun c t false) os) ps (in_conditional t))
+    (λ t. goes_on (mean rules included_meaning fp (in_conditional t)) (λ a. mean_branches rules included_meaning fb (begun c t true) a))
+    (λ t. goes_on (leaves (skip (in_conditional t) fp) (in_conditional t)) (λ a. mean_branches rules included_meaning fb (begun c t false) a))
     next
     (r (Live (begun c s true ∷ os)) (in_conditional s)
-    ∙ sym (goes_on-assoc (mean rules nest fp (in_conditional s)) (λ a. mean_branches rules nest fb (begun c s true) a) next))
+    ∙ sym (goes_on-assoc (mean rules included_meaning fp (in_conditional s)) (λ a. mean_branches rules included_meaning fb (begun c s true) a) next))
     (r (Skipped 0 (begun c s false) os) (in_conditional s)
-    ∙ sym (goes_on-assoc (leaves (skip (in_conditional s) fp) (in_conditional s)) (λ a. mean_branches rules nest fb (begun c s false) a) next))
+    ∙ sym (goes_on-assoc (leaves (skip (in_conditional s) fp) (in_conditional s)) (λ a. mean_branches rules included_meaning fb (begun c s false) a) next))
 
 -- a branch resumes as its meaning and then the rest
-turn_rest : (rules : Rules) (nest : Nest) (o : Progress) (os : List Progress) (c : Command) (ps : List Piece) (s : State)
-    → Resumes rules nest ps
+turn_rest : (rules : Rules) (included_meaning : IncludedMeaning) (o : Progress) (os : List Progress) (c : Command) (ps : List Piece) (s : State)
+    → Resumes rules included_meaning ps
     → by_test (turn o c s) c s
-    (λ t. resume rules nest (Live (turned o c true ∷ os)) ps t)
-    (λ t. resume rules nest (Skipped 0 (turned o c false) os) ps t)
-    ≡ goes_on (mean_branches rules nest (Branch c (front_parts (level_of ps)) (further_branches (level_of ps))) o s)
-    (λ a. rest_live rules nest os (behind_end (level_of ps)) a)
+    (λ t. resume rules included_meaning (Live (turned o c true ∷ os)) ps t)
+    (λ t. resume rules included_meaning (Skipped 0 (turned o c false) os) ps t)
+    ≡ goes_on (mean_branches rules included_meaning (Branch c (front_parts (level_of ps)) (further_branches (level_of ps))) o s)
+    (λ a. rest_live rules included_meaning os (behind_end (level_of ps)) a)
 unfolding mean_branches Resumes rest rest_live rest_skipped
-turn_rest rules nest o os c ps s r =
+turn_rest rules included_meaning o os c ps s r =
     let fp = front_parts (level_of ps) in
     let fb = further_branches (level_of ps) in
-    let next : State → Passage = λ a. rest_live rules nest os (behind_end (level_of ps)) a in
+    let next : State → Passage = λ a. rest_live rules included_meaning os (behind_end (level_of ps)) a in
     by_test-goes_on (turn o c s) c s
-    (λ t. resume rules nest (Live (turned o c true ∷ os)) ps t)
-    (λ t. resume rules nest (Skipped 0 (turned o c false) os) ps t)
-    (λ t. goes_on (mean rules nest fp t) (λ a. mean_branches rules nest fb (turned o c true) a))
-    (λ t. goes_on (leaves (skip t fp) t) (λ a. mean_branches rules nest fb (turned o c false) a))
+    (λ t. resume rules included_meaning (Live (turned o c true ∷ os)) ps t)
+    (λ t. resume rules included_meaning (Skipped 0 (turned o c false) os) ps t)
+    (λ t. goes_on (mean rules included_meaning fp t) (λ a. mean_branches rules included_meaning fb (turned o c true) a))
+    (λ t. goes_on (leaves (skip t fp) t) (λ a. mean_branches rules included_meaning fb (turned o c false) a))
     next
     (r (Live (turned o c true ∷ os)) s
-    ∙ sym (goes_on-assoc (mean rules nest fp s) (λ a. mean_branches rules nest fb (turned o c true) a) next))
+    ∙ sym (goes_on-assoc (mean rules included_meaning fp s) (λ a. mean_branches rules included_meaning fb (turned o c true) a) next))
     (r (Skipped 0 (turned o c false) os) s
-    ∙ sym (goes_on-assoc (leaves (skip s fp) s) (λ a. mean_branches rules nest fb (turned o c false) a) next))
+    ∙ sym (goes_on-assoc (leaves (skip s fp) s) (λ a. mean_branches rules included_meaning fb (turned o c false) a) next))
 
 -- skipped branches in front of what remains in skipped text
-skipped_deeper : (rules : Rules) (nest : Nest) (n : ℕ) (o : Progress) (os : List Progress) (c : Command) (l : Level) (s : State)
-    → goes_on (leaves (skipped_command c) s) (λ a. rest_skipped rules nest (suc n) o os l a)
+skipped_deeper : (rules : Rules) (included_meaning : IncludedMeaning) (n : ℕ) (o : Progress) (os : List Progress) (c : Command) (l : Level) (s : State)
+    → goes_on (leaves (skipped_command c) s) (λ a. rest_skipped rules included_meaning (suc n) o os l a)
     ≡ goes_on (leaves (and_then (skipped_command c) (and_then (skip s (front_parts l)) (skip_branches s (further_branches l)))) s)
-    (λ a. rest_skipped rules nest n o os (behind_end l) a)
+    (λ a. rest_skipped rules included_meaning n o os (behind_end l) a)
 unfolding rest_skipped
-skipped_deeper rules nest n o os c l s =
-    let next : State → Passage = λ a. rest_skipped rules nest n o os (behind_end l) a in
+skipped_deeper rules included_meaning n o os c l s =
+    let next : State → Passage = λ a. rest_skipped rules included_meaning n o os (behind_end l) a in
     let fp = skip s (front_parts l) in
     let fb = skip_branches s (further_branches l) in
-    on_leaves (skipped_command c) s (λ a. rest_skipped rules nest (suc n) o os l a)
+    on_leaves (skipped_command c) s (λ a. rest_skipped rules included_meaning (suc n) o os l a)
     (λ a. goes_on (leaves (and_then fp fb) a) next)
     (on_leaves fp s (λ a. goes_on (leaves (skip_branches a (further_branches l)) a) next) (λ a. goes_on (leaves fb a) next) refl
     ∙ sym (leaves-and_then fp fb s next))
     ∙ sym (leaves-and_then (skipped_command c) (and_then fp fb) s next)
 
 -- a passage of a part in live text, and what resumes behind it
-live_step : (rules : Rules) (nest : Nest) (os : List Progress) (p : Part) (ps : List Piece) (s : State) → Resumes rules nest ps
-    → goes_on (mean_part rules nest p s) (λ a. resume rules nest (Live os) ps a)
-    ≡ rest_live rules nest os (in_front p (level_of ps)) s
+live_step : (rules : Rules) (included_meaning : IncludedMeaning) (os : List Progress) (p : Part) (ps : List Piece) (s : State) → Resumes rules included_meaning ps
+    → goes_on (mean_part rules included_meaning p s) (λ a. resume rules included_meaning (Live os) ps a)
+    ≡ rest_live rules included_meaning os (in_front p (level_of ps)) s
 unfolding Resumes rest
-live_step rules nest os p ps s r =
-    goes_on-same (mean_part rules nest p s) (λ a. resume rules nest (Live os) ps a)
-    (λ a. rest_live rules nest os (level_of ps) a) (λ a. r (Live os) a)
-    ∙ sym (live_in_front rules nest os p (level_of ps) s)
+live_step rules included_meaning os p ps s r =
+    goes_on-same (mean_part rules included_meaning p s) (λ a. resume rules included_meaning (Live os) ps a)
+    (λ a. rest_live rules included_meaning os (level_of ps) a) (λ a. r (Live os) a)
+    ∙ sym (live_in_front rules included_meaning os p (level_of ps) s)
 
 -- a skipped part, and what resumes behind it
-skipped_step : (rules : Rules) (nest : Nest) (n : ℕ) (o : Progress) (os : List Progress) (p : Part) (ps : List Piece) (s : State) → Resumes rules nest ps
-    → goes_on (leaves (skip_part s p) s) (λ a. resume rules nest (Skipped n o os) ps a)
-    ≡ rest_skipped rules nest n o os (in_front p (level_of ps)) s
+skipped_step : (rules : Rules) (included_meaning : IncludedMeaning) (n : ℕ) (o : Progress) (os : List Progress) (p : Part) (ps : List Piece) (s : State) → Resumes rules included_meaning ps
+    → goes_on (leaves (skip_part s p) s) (λ a. resume rules included_meaning (Skipped n o os) ps a)
+    ≡ rest_skipped rules included_meaning n o os (in_front p (level_of ps)) s
 unfolding Resumes rest
-skipped_step rules nest n o os p ps s r =
-    goes_on-same (leaves (skip_part s p) s) (λ a. resume rules nest (Skipped n o os) ps a)
-    (λ a. rest_skipped rules nest n o os (level_of ps) a) (λ a. r (Skipped n o os) a)
-    ∙ sym (skipped_in_front rules nest n o os p (level_of ps) s)
+skipped_step rules included_meaning n o os p ps s r =
+    goes_on-same (leaves (skip_part s p) s) (λ a. resume rules included_meaning (Skipped n o os) ps a)
+    (λ a. rest_skipped rules included_meaning n o os (level_of ps) a) (λ a. r (Skipped n o os) a)
+    ∙ sym (skipped_in_front rules included_meaning n o os p (level_of ps) s)
 
 -- what resumes one conditional further in skipped text
-skipped_in : (rules : Rules) (nest : Nest) (n : ℕ) (o : Progress) (os : List Progress) (c : Command) (ps : List Piece) (s : State) → Resumes rules nest ps
-    → goes_on (leaves (skipped_command c) s) (λ a. resume rules nest (Skipped (suc n) o os) ps a)
+skipped_in : (rules : Rules) (included_meaning : IncludedMeaning) (n : ℕ) (o : Progress) (os : List Progress) (c : Command) (ps : List Piece) (s : State) → Resumes rules included_meaning ps
+    → goes_on (leaves (skipped_command c) s) (λ a. resume rules included_meaning (Skipped (suc n) o os) ps a)
     ≡ goes_on (leaves (and_then (skipped_command c) (and_then (skip s (front_parts (level_of ps))) (skip_branches s (further_branches (level_of ps))))) s)
-    (λ a. rest_skipped rules nest n o os (behind_end (level_of ps)) a)
+    (λ a. rest_skipped rules included_meaning n o os (behind_end (level_of ps)) a)
 unfolding Resumes rest
-skipped_in rules nest n o os c ps s r =
-    goes_on-same (leaves (skipped_command c) s) (λ a. resume rules nest (Skipped (suc n) o os) ps a)
-    (λ a. rest_skipped rules nest (suc n) o os (level_of ps) a) (λ a. r (Skipped (suc n) o os) a)
-    ∙ skipped_deeper rules nest n o os c (level_of ps) s
+skipped_in rules included_meaning n o os c ps s r =
+    goes_on-same (leaves (skipped_command c) s) (λ a. resume rules included_meaning (Skipped (suc n) o os) ps a)
+    (λ a. rest_skipped rules included_meaning (suc n) o os (level_of ps) a) (λ a. r (Skipped (suc n) o os) a)
+    ∙ skipped_deeper rules included_meaning n o os c (level_of ps) s
 
 -- resuming is the rest that is read off the tree
-pub resume_rest : (rules : Rules) (nest : Nest) (ps : List Piece) (place : Place) (s : State)
-    → resume rules nest place ps s ≡ rest rules nest place (level_of ps) s
+pub resume_rest : (rules : Rules) (included_meaning : IncludedMeaning) (ps : List Piece) (place : Place) (s : State)
+    → resume rules included_meaning place ps s ≡ rest rules included_meaning place (level_of ps) s
 unfolding resume rest rest_live rest_skipped level_of opened_before level_parts appended front_parts further_branches behind_end mean mean_part mean_branches skip skip_part skip_branches goes_on leaves behind_bytes gives fails refusal unclosed Resumes
-resume_rest rules nest [] (Live []) s = refl
-resume_rest rules nest [] (Live (o ∷ os)) s = refl
-resume_rest rules nest [] (Skipped n o os) s = sym (skipped_nothing rules nest n o os s)
-resume_rest rules nest (Run ts ∷ ps) (Live os) s =
-    live_step rules nest os (Text ts) ps s (λ place a. resume_rest rules nest ps place a)
-resume_rest rules nest (Run ts ∷ ps) (Skipped n o os) s =
-    skipped_step rules nest n o os (Text ts) ps s (λ place a. resume_rest rules nest ps place a)
-resume_rest rules nest (Single c ∷ ps) (Live os) s =
-    live_step rules nest os (Alone c) ps s (λ place a. resume_rest rules nest ps place a)
-resume_rest rules nest (Single c ∷ ps) (Skipped n o os) s =
-    skipped_step rules nest n o os (Alone c) ps s (λ place a. resume_rest rules nest ps place a)
-resume_rest rules nest (Opening c ∷ ps) (Live os) s =
-    opening_rest rules nest os c ps s (λ place a. resume_rest rules nest ps place a)
-    ∙ sym (live_in_front rules nest os (Conditional c (front_parts (level_of ps)) (further_branches (level_of ps))) (behind_end (level_of ps)) s)
-resume_rest rules nest (Opening c ∷ ps) (Skipped n o os) s =
-    skipped_in rules nest n o os c ps s (λ place a. resume_rest rules nest ps place a)
-    ∙ sym (skipped_in_front rules nest n o os (Conditional c (front_parts (level_of ps)) (further_branches (level_of ps))) (behind_end (level_of ps)) s)
-resume_rest rules nest (Branching c ∷ ps) (Live []) s = refl
-resume_rest rules nest (Branching c ∷ ps) (Live (o ∷ os)) s =
-    turn_rest rules nest o os c ps s (λ place a. resume_rest rules nest ps place a)
-resume_rest rules nest (Branching c ∷ ps) (Skipped zero o os) s =
-    turn_rest rules nest o os c ps s (λ place a. resume_rest rules nest ps place a)
-resume_rest rules nest (Branching c ∷ ps) (Skipped (suc n) o os) s =
-    skipped_in rules nest n o os c ps s (λ place a. resume_rest rules nest ps place a)
-resume_rest rules nest (Closing c ∷ ps) (Live []) s = refl
-resume_rest rules nest (Closing c ∷ ps) (Live (o ∷ os)) s = resume_rest rules nest ps (Live os) (past_conditional s)
-resume_rest rules nest (Closing c ∷ ps) (Skipped zero o os) s = resume_rest rules nest ps (Live os) (past_conditional s)
-resume_rest rules nest (Closing c ∷ ps) (Skipped (suc n) o os) s =
-    goes_on-same (leaves (skipped_command c) s) (λ a. resume rules nest (Skipped n o os) ps a)
-    (λ a. rest_skipped rules nest n o os (level_of ps) a) (λ a. resume_rest rules nest ps (Skipped n o os) a)
+resume_rest rules included_meaning [] (Live []) s = refl
+resume_rest rules included_meaning [] (Live (o ∷ os)) s = refl
+resume_rest rules included_meaning [] (Skipped n o os) s = sym (skipped_nothing rules included_meaning n o os s)
+resume_rest rules included_meaning (Run ts ∷ ps) (Live os) s =
+    live_step rules included_meaning os (Text ts) ps s (λ place a. resume_rest rules included_meaning ps place a)
+resume_rest rules included_meaning (Run ts ∷ ps) (Skipped n o os) s =
+    skipped_step rules included_meaning n o os (Text ts) ps s (λ place a. resume_rest rules included_meaning ps place a)
+resume_rest rules included_meaning (Single c ∷ ps) (Live os) s =
+    live_step rules included_meaning os (Alone c) ps s (λ place a. resume_rest rules included_meaning ps place a)
+resume_rest rules included_meaning (Single c ∷ ps) (Skipped n o os) s =
+    skipped_step rules included_meaning n o os (Alone c) ps s (λ place a. resume_rest rules included_meaning ps place a)
+resume_rest rules included_meaning (Opening c ∷ ps) (Live os) s =
+    opening_rest rules included_meaning os c ps s (λ place a. resume_rest rules included_meaning ps place a)
+    ∙ sym (live_in_front rules included_meaning os (Conditional c (front_parts (level_of ps)) (further_branches (level_of ps))) (behind_end (level_of ps)) s)
+resume_rest rules included_meaning (Opening c ∷ ps) (Skipped n o os) s =
+    skipped_in rules included_meaning n o os c ps s (λ place a. resume_rest rules included_meaning ps place a)
+    ∙ sym (skipped_in_front rules included_meaning n o os (Conditional c (front_parts (level_of ps)) (further_branches (level_of ps))) (behind_end (level_of ps)) s)
+resume_rest rules included_meaning (Branching c ∷ ps) (Live []) s = refl
+resume_rest rules included_meaning (Branching c ∷ ps) (Live (o ∷ os)) s =
+    turn_rest rules included_meaning o os c ps s (λ place a. resume_rest rules included_meaning ps place a)
+resume_rest rules included_meaning (Branching c ∷ ps) (Skipped zero o os) s =
+    turn_rest rules included_meaning o os c ps s (λ place a. resume_rest rules included_meaning ps place a)
+resume_rest rules included_meaning (Branching c ∷ ps) (Skipped (suc n) o os) s =
+    skipped_in rules included_meaning n o os c ps s (λ place a. resume_rest rules included_meaning ps place a)
+resume_rest rules included_meaning (Closing c ∷ ps) (Live []) s = refl
+resume_rest rules included_meaning (Closing c ∷ ps) (Live (o ∷ os)) s = resume_rest rules included_meaning ps (Live os) (past_conditional s)
+resume_rest rules included_meaning (Closing c ∷ ps) (Skipped zero o os) s = resume_rest rules included_meaning ps (Live os) (past_conditional s)
+resume_rest rules included_meaning (Closing c ∷ ps) (Skipped (suc n) o os) s =
+    goes_on-same (leaves (skipped_command c) s) (λ a. resume rules included_meaning (Skipped n o os) ps a)
+    (λ a. rest_skipped rules included_meaning n o os (level_of ps) a) (λ a. resume_rest rules included_meaning ps (Skipped n o os) a)
 
 -- at the start of a text, what remains of it is what it means
 pub resumed_start : (rules : Rules) (s : State) (text : List ℕ)
     → text_meaning rules s text ≡ resumed rules (Live []) true (rules.tokens text) s
 unfolding text_meaning parts_of resumed rest rest_live
 resumed_start rules s text =
-    sym (resume_rest rules (nest_of rules s.sources_left) (pieces true 0 (rules.tokens text)) (Live []) s)
+    sym (resume_rest rules (included_meaning_of rules s.sources_left) (pieces true 0 (rules.tokens text)) (Live []) s)
 
 -- what the parts of tokens mean is what resumes at their start
-pub mean_resumes : (rules : Rules) (nest : Nest) (tokens : List SourceToken) (s : State)
-    → mean rules nest (parts_of tokens) s ≡ resume rules nest (Live []) (pieces true 0 tokens) s
+pub mean_resumes : (rules : Rules) (included_meaning : IncludedMeaning) (tokens : List SourceToken) (s : State)
+    → mean rules included_meaning (parts_of tokens) s ≡ resume rules included_meaning (Live []) (pieces true 0 tokens) s
 unfolding parts_of rest rest_live
-mean_resumes rules nest tokens s = sym (resume_rest rules nest (pieces true 0 tokens) (Live []) s)
+mean_resumes rules included_meaning tokens s = sym (resume_rest rules included_meaning (pieces true 0 tokens) (Live []) s)
 
 -- Laws of the output: it is what remains at the start of the main text.
 

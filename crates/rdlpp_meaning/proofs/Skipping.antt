@@ -14,7 +14,7 @@ use Rattle.rdlpp_scan.specs.declared.token.Kind.{Kind}
 use Rattle.rdlpp_scan.specs.declared.token.Kind.TheVariants.{Back, BareBackquote}
 use Rattle.rdlpp_scan.proofs.Seams.{line_end-ten}
 use Rattle.rdlpp_meaning.specs.Expansion.{bytes_of, is_copied, usage_token}
-use Rattle.rdlpp_meaning.specs.Meaning.{Nest, Passage, Progress, SkipsAs, behind_bytes, goes_on, leaves, nest_of, skipped_command, skipped_run, unclosed}
+use Rattle.rdlpp_meaning.specs.Meaning.{IncludedMeaning, Passage, Progress, SkipsAs, behind_bytes, goes_on, leaves, included_meaning_of, skipped_command, skipped_run, unclosed}
 use Rattle.rdlpp_meaning.specs.Outcome.{Outcome, and_then, fails, gives}
 use Rattle.rdlpp_meaning.specs.Parts.{Branching, Closing, Opening, Piece, Run, Single, argument_of, behind_directive, command_in_front, command_of, directive_named, directive_of, joined, line_ends_of, no_argument, one_argument, only_blanks, piece_of, pieces}
 use Rattle.rdlpp_meaning.specs.Resumed.{Live, Skipped, behind, resume, resumed, skips}
@@ -26,29 +26,29 @@ use Rattle.rdlpp_meaning.proofs.LiveText.{line_ends_of-append, only_blanks-appen
 -- Laws of skipped text, and of where a file ends.
 
 -- a skipped run by itself of one token
-skipped_alone : (rules : Rules) (nest : Nest) (n : ℕ) (p : Progress) (os : List Progress) (t : SourceToken) (o : Outcome) (ps : List Piece) (s : State)
+skipped_alone : (rules : Rules) (included_meaning : IncludedMeaning) (n : ℕ) (p : Progress) (os : List Progress) (t : SourceToken) (o : Outcome) (ps : List Piece) (s : State)
     → SkipsAs s t o
-    → resume rules nest (Skipped n p os) (Run (t ∷ []) ∷ ps) s ≡ goes_on (leaves o s) (λ after. resume rules nest (Skipped n p os) ps after)
+    → resume rules included_meaning (Skipped n p os) (Run (t ∷ []) ∷ ps) s ≡ goes_on (leaves o s) (λ after. resume rules included_meaning (Skipped n p os) ps after)
 unfolding resume SkipsAs skipped_run
-skipped_alone rules nest n p os t o ps s w =
-    ap (λ (x : Outcome). goes_on (leaves x s) (λ after. resume rules nest (Skipped n p os) ps after)) (w [] ∙ and_then-nil o)
+skipped_alone rules included_meaning n p os t o ps s w =
+    ap (λ (x : Outcome). goes_on (leaves x s) (λ after. resume rules included_meaning (Skipped n p os) ps after)) (w [] ∙ and_then-nil o)
 
 -- a token that is skipped in front of pieces
-skipped_joined : (rules : Rules) (nest : Nest) (n : ℕ) (p : Progress) (os : List Progress) (t : SourceToken) (o : Outcome) (ps : List Piece) (s : State)
+skipped_joined : (rules : Rules) (included_meaning : IncludedMeaning) (n : ℕ) (p : Progress) (os : List Progress) (t : SourceToken) (o : Outcome) (ps : List Piece) (s : State)
     → SkipsAs s t o
-    → resume rules nest (Skipped n p os) (joined t ps) s ≡ goes_on (leaves o s) (λ after. resume rules nest (Skipped n p os) ps after)
+    → resume rules included_meaning (Skipped n p os) (joined t ps) s ≡ goes_on (leaves o s) (λ after. resume rules included_meaning (Skipped n p os) ps after)
 unfolding resume joined SkipsAs
-skipped_joined rules nest n p os t o [] s w = skipped_alone rules nest n p os t o [] s w
-skipped_joined rules nest n p os t o (Run us ∷ ps) s w =
-    ap (λ (x : Outcome). goes_on (leaves x s) (λ after. resume rules nest (Skipped n p os) ps after)) (w us)
-    ∙ leaves-and_then o (skipped_run s us) s (λ after. resume rules nest (Skipped n p os) ps after)
+skipped_joined rules included_meaning n p os t o [] s w = skipped_alone rules included_meaning n p os t o [] s w
+skipped_joined rules included_meaning n p os t o (Run us ∷ ps) s w =
+    ap (λ (x : Outcome). goes_on (leaves x s) (λ after. resume rules included_meaning (Skipped n p os) ps after)) (w us)
+    ∙ leaves-and_then o (skipped_run s us) s (λ after. resume rules included_meaning (Skipped n p os) ps after)
     ∙ on_leaves o s
-    (λ after. goes_on (leaves (skipped_run s us) after) (λ last. resume rules nest (Skipped n p os) ps last))
-    (λ after. resume rules nest (Skipped n p os) (Run us ∷ ps) after) refl
-skipped_joined rules nest n p os t o (Single c ∷ ps) s w = skipped_alone rules nest n p os t o (Single c ∷ ps) s w
-skipped_joined rules nest n p os t o (Opening c ∷ ps) s w = skipped_alone rules nest n p os t o (Opening c ∷ ps) s w
-skipped_joined rules nest n p os t o (Branching c ∷ ps) s w = skipped_alone rules nest n p os t o (Branching c ∷ ps) s w
-skipped_joined rules nest n p os t o (Closing c ∷ ps) s w = skipped_alone rules nest n p os t o (Closing c ∷ ps) s w
+    (λ after. goes_on (leaves (skipped_run s us) after) (λ last. resume rules included_meaning (Skipped n p os) ps last))
+    (λ after. resume rules included_meaning (Skipped n p os) (Run us ∷ ps) after) refl
+skipped_joined rules included_meaning n p os t o (Single c ∷ ps) s w = skipped_alone rules included_meaning n p os t o (Single c ∷ ps) s w
+skipped_joined rules included_meaning n p os t o (Opening c ∷ ps) s w = skipped_alone rules included_meaning n p os t o (Opening c ∷ ps) s w
+skipped_joined rules included_meaning n p os t o (Branching c ∷ ps) s w = skipped_alone rules included_meaning n p os t o (Branching c ∷ ps) s w
+skipped_joined rules included_meaning n p os t o (Closing c ∷ ps) s w = skipped_alone rules included_meaning n p os t o (Closing c ∷ ps) s w
 
 -- a token that is skipped, and then what remains behind it
 pub skipped_token : (rules : Rules) (n : ℕ) (p : Progress) (os : List Progress) (first : Bool) (t : SourceToken) (ts : List SourceToken) (s : State) (o : Outcome)
@@ -58,10 +58,10 @@ pub skipped_token : (rules : Rules) (n : ℕ) (p : Progress) (os : List Progress
 unfolding resumed
 skipped_token rules n p os first t ts s o e w =
     let rest = pieces (only_blanks first t.bytes) 0 ts in
-    let nest = nest_of rules s.sources_left in
-    ap (λ (ps : List Piece). resume rules nest (Skipped n p os) ps s) (pieces_text first t ts e)
-    ∙ skipped_joined rules nest n p os t o rest s w
-    ∙ on_leaves o s (λ after. resume rules nest (Skipped n p os) rest after)
+    let included_meaning = included_meaning_of rules s.sources_left in
+    ap (λ (ps : List Piece). resume rules included_meaning (Skipped n p os) ps s) (pieces_text first t ts e)
+    ∙ skipped_joined rules included_meaning n p os t o rest s w
+    ∙ on_leaves o s (λ after. resume rules included_meaning (Skipped n p os) rest after)
     (λ after. resumed rules (Skipped n p os) (only_blanks first t.bytes) ts after) refl
 
 -- a token that isn't broken is skipped to its LF bytes
@@ -344,8 +344,8 @@ skips_token rules n p os d first t ts s =
 -- a directive in skipped text that is a piece which is skipped, and leaves so many conditionals open inside
 skipped_piece : (rules : Rules) (n m : ℕ) (p : Progress) (os : List Progress) (d : Directive) (first : Bool) (t : SourceToken) (ts : List SourceToken) (s : State) (x : Piece)
     → directive_of t ≡ Some d → piece_of (command_in_front d first t ts) ≡ x
-    → ((ps : List Piece) → resume rules (nest_of rules s.sources_left) (Skipped n p os) (x ∷ ps) s
-    ≡ goes_on (leaves (skipped_command (command_in_front d first t ts)) s) (λ after. resume rules (nest_of rules s.sources_left) (Skipped m p os) ps after))
+    → ((ps : List Piece) → resume rules (included_meaning_of rules s.sources_left) (Skipped n p os) (x ∷ ps) s
+    ≡ goes_on (leaves (skipped_command (command_in_front d first t ts)) s) (λ after. resume rules (included_meaning_of rules s.sources_left) (Skipped m p os) ps after))
     → resumed rules (Skipped n p os) first (t ∷ ts) s
     ≡ behind_bytes (line_ends_of t.bytes) (resumed rules (Skipped m p os) (only_blanks first t.bytes) ts s)
 unfolding resumed
@@ -354,7 +354,7 @@ skipped_piece rules n m p os d first t ts s x e is skips_it =
     let rest = pieces (only_blanks first c.text) 0 (behind_directive d ts) in
     directive_piece rules (Skipped n p os) d first t ts s x e is
     ∙ skips_it rest
-    ∙ on_leaves (skipped_command c) s (λ after. resume rules (nest_of rules s.sources_left) (Skipped m p os) rest after)
+    ∙ on_leaves (skipped_command c) s (λ after. resume rules (included_meaning_of rules s.sources_left) (Skipped m p os) rest after)
     (λ after. behind rules (Skipped m p os) d first t ts after) refl
     ∙ skips_token rules m p os d first t ts s
 

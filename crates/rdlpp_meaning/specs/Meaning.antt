@@ -43,8 +43,8 @@ unfoldable pub refusal : FaultKind → List ℕ → Command → State → Passag
 refusal kind word c s = leaves (fails (fault_at kind c.line word s)) s
 
 -- what an included text means from the state at its beginning; none where no more sources may be opened
-abbrev pub Nest : Type 0
-Nest = Option (State → List ℕ → Passage)
+abbrev pub IncludedMeaning : Type 0
+IncludedMeaning = Option (State → List ℕ → Passage)
 
 -- the LF bytes of skipped tokens, up to the fault of a broken one (source: this project's profile)
 unfoldable pub skipped_run : State → List SourceToken → Outcome
@@ -139,18 +139,18 @@ unfoldable pub unquoted : List ℕ → List ℕ
 unquoted bytes = take (length bytes - 2) (drop 1 bytes)
 
 -- an `include` of a string (source: IEEE 1364-2001, `include`)
-unfoldable pub includes_named : Rules → Nest → List ℕ → Command → State → Passage
-includes_named rules nest name c s =
+unfoldable pub includes_named : Rules → IncludedMeaning → List ℕ → Command → State → Passage
+includes_named rules included_meaning name c s =
     if length name == 0 || not (is_utf8 name) then refusal IncludeName [] c s
-    else elim nest [
+    else elim included_meaning [
       | None ↦ refusal TooManyIncludes [] c s
       | Some within ↦ includes_found rules within (rules.find s.path name) c s
     ]
 
 -- an `include` by the string that it is given, if it is given one (source: IEEE 1364-2001, `include`)
-unfoldable pub includes_given : Rules → Nest → Option (List ℕ) → Command → State → Passage
-includes_given rules nest None c s = refusal IncludeName [] c s
-includes_given rules nest (Some string) c s = includes_named rules nest (unquoted string) c s
+unfoldable pub includes_given : Rules → IncludedMeaning → Option (List ℕ) → Command → State → Passage
+includes_given rules included_meaning None c s = refusal IncludeName [] c s
+includes_given rules included_meaning (Some string) c s = includes_named rules included_meaning (unquoted string) c s
 
 -- where a string ends that begins behind its quote: the place of its closing quote, if it has one; the flag says that a
 -- backslash takes the first byte along (source: IEEE 1364-2001, strings)
@@ -210,11 +210,11 @@ renumbers rules (Some r) c s =
     else refusal BadLine [] c s
 
 -- a directive by itself (source: IEEE 1364-2001, compiler directives)
-unfoldable pub single : Rules → Nest → Command → State → Passage
-single rules nest c s = elim c.word [
+unfoldable pub single : Rules → IncludedMeaning → Command → State → Passage
+single rules included_meaning c s = elim c.word [
   | Define ↦ defines (rules.define s.macros (drop 7 c.text)) c s
   | Undef ↦ undefines (macro_name c) c s
-  | Include ↦ includes_given rules nest c.given c s
+  | Include ↦ includes_given rules included_meaning c.given c s
   | Line ↦ renumbers rules (renumbered (drop 5 c.text)) c s
   | _ ↦ leaves (gives []) s
 ]
@@ -294,32 +294,32 @@ unclosed o s = leaves (fails (record { kind = OpenConditional; name = s.name; li
 
 -- what parts write, the state behind them, and the fault that ends them (source: IEEE 1364-2001, compiler directives)
 unfoldable mutual
-  pub mean : Rules → Nest → Parts → State → Passage
-  mean rules nest Nothing s = leaves (gives []) s
-  mean rules nest (More p ps) s = goes_on (mean_part rules nest p s) (λ after. mean rules nest ps after)
+  pub mean : Rules → IncludedMeaning → Parts → State → Passage
+  mean rules included_meaning Nothing s = leaves (gives []) s
+  mean rules included_meaning (More p ps) s = goes_on (mean_part rules included_meaning p s) (λ after. mean rules included_meaning ps after)
 
   -- what a part comes to
-  pub mean_part : Rules → Nest → Part → State → Passage
-  mean_part rules nest (Text ts) s = leaves (run_outcome rules s ts) s
-  mean_part rules nest (Alone c) s = single rules nest c s
-  mean_part rules nest (Stray c) s = refusal StrayBranch [] c s
-  mean_part rules nest (Conditional c ps bs) s = by_test (opening c s) c s
-      (λ t. goes_on (mean rules nest ps (in_conditional t)) (λ after. mean_branches rules nest bs (begun c t true) after))
-      (λ t. goes_on (leaves (skip (in_conditional t) ps) (in_conditional t)) (λ after. mean_branches rules nest bs (begun c t false) after))
+  pub mean_part : Rules → IncludedMeaning → Part → State → Passage
+  mean_part rules included_meaning (Text ts) s = leaves (run_outcome rules s ts) s
+  mean_part rules included_meaning (Alone c) s = single rules included_meaning c s
+  mean_part rules included_meaning (Stray c) s = refusal StrayBranch [] c s
+  mean_part rules included_meaning (Conditional c ps bs) s = by_test (opening c s) c s
+      (λ t. goes_on (mean rules included_meaning ps (in_conditional t)) (λ after. mean_branches rules included_meaning bs (begun c t true) after))
+      (λ t. goes_on (leaves (skip (in_conditional t) ps) (in_conditional t)) (λ after. mean_branches rules included_meaning bs (begun c t false) after))
 
   -- what the further branches of an open conditional come to
-  pub mean_branches : Rules → Nest → Branches → Progress → State → Passage
-  mean_branches rules nest Unclosed o s = unclosed o s
-  mean_branches rules nest (Closed c) o s = leaves (gives []) (past_conditional s)
-  mean_branches rules nest (Branch c ps bs) o s = by_test (turn o c s) c s
-      (λ t. goes_on (mean rules nest ps t) (λ after. mean_branches rules nest bs (turned o c true) after))
-      (λ t. goes_on (leaves (skip t ps) t) (λ after. mean_branches rules nest bs (turned o c false) after))
+  pub mean_branches : Rules → IncludedMeaning → Branches → Progress → State → Passage
+  mean_branches rules included_meaning Unclosed o s = unclosed o s
+  mean_branches rules included_meaning (Closed c) o s = leaves (gives []) (past_conditional s)
+  mean_branches rules included_meaning (Branch c ps bs) o s = by_test (turn o c s) c s
+      (λ t. goes_on (mean rules included_meaning ps t) (λ after. mean_branches rules included_meaning bs (turned o c true) after))
+      (λ t. goes_on (leaves (skip t ps) t) (λ after. mean_branches rules included_meaning bs (turned o c false) after))
 
 -- what an included text means, where so many sources may be opened in it (source: this project's profile)
-unfoldable pub nest_of : Rules → ℕ → Nest
-nest_of rules zero = None
-nest_of rules (suc n) = Some (λ s text. mean rules (nest_of rules n) (parts_of (rules.tokens text)) s)
+unfoldable pub included_meaning_of : Rules → ℕ → IncludedMeaning
+included_meaning_of rules zero = None
+included_meaning_of rules (suc n) = Some (λ s text. mean rules (included_meaning_of rules n) (parts_of (rules.tokens text)) s)
 
 -- what a text means (source: this project's profile)
 unfoldable pub text_meaning : Rules → State → List ℕ → Passage
-text_meaning rules s text = mean rules (nest_of rules s.sources_left) (parts_of (rules.tokens text)) s
+text_meaning rules s text = mean rules (included_meaning_of rules s.sources_left) (parts_of (rules.tokens text)) s

@@ -13,7 +13,7 @@ use Rattle.rdlpp_scan.specs.declared.token.Mode.TheVariants.{InBlock, InStr, Pla
 use Rattle.rdlpp_scan.proofs.SourceLaws.{IsWholeLines-drop, front-line_long, front-none, front-source_long}
 use Rattle.rdlpp_scan.proofs.RemainingLaws.{remaining-accept}
 use Rattle.rdlpp_read.specs.Buffer.{BufferView, EndsHeld, Gains, MovesOver, Slides, ahead_of, closed_buffer, entered_mode, held_of, rest_of, text_left, tokens_left, unread_of, unused_of}
-use Rattle.rdlpp_read.specs.Files.{AreOpen, AreSlots, FilesView, IsClosed, IsSlot, held_bytes, held_windows, source_digits, torn_after}
+use Rattle.rdlpp_read.specs.Files.{AreOpen, AreSlots, FilesView, IsClosed, IsSlot, held_bytes, held_windows, source_digits, ends_mid_line_after}
 use Rattle.rdlpp_read.specs.Filling.{Fills, Grows, GrowsBy, HasBytes, IsExact, Lengthens, Stays, TellsTokens, ended_tokens, only_broken}
 use Rattle.rdlpp_read.specs.declared.buffer.filling.Fill.{Fill}
 use Rattle.rdlpp_read.specs.declared.buffer.filling.Fill.TheVariants.{End, Failed, Held, LineLong, SourceLong}
@@ -438,22 +438,22 @@ pub slot-inner : {R : Type 0} (size first : ℕ) (slots : List (File R)) (f : Fi
 slot-inner size first slots f s some is = subst (IsSlot size) (sym is) (All-get_or (IsSlot size) slots first f (some-open first slots some) s.each)
 
 -- the open slots with one more
-pub entered-nest : {R : Type 0} (first : ℕ) (slots : List (File R)) (f : File R) → 0 < first → first ≤ length slots → drop (first - 1) (set slots (first - 1) f) ≡ f ∷ drop first slots
-entered-nest first slots f some inside =
+pub entered-include_stack : {R : Type 0} (first : ℕ) (slots : List (File R)) (f : File R) → 0 < first → first ≤ length slots → drop (first - 1) (set slots (first - 1) f) ≡ f ∷ drop first slots
+entered-include_stack first slots f some inside =
     let more : first - 1 < length slots = omega arith in
     let back : first - 1 + 1 ≡ first = omega arith in
     drop-set slots (first - 1) f more ∙ ap (λ k. f ∷ drop k slots) back
 
 -- the last byte says whether bytes end in LF
-pub torn-last : (torn : Bool) (bytes : List ℕ) (last : ℕ) → 0 < length bytes → last ≡ get_or bytes (length bytes - 1) 0 → torn_after torn bytes ≡ not (is_line_end last)
-unfolding torn_after
-torn-last torn [] last some is = absurd (omega arith)
-torn-last torn (b ∷ []) last some is = ap (λ x. not (is_line_end x)) (sym is)
-torn-last torn (b ∷ x ∷ bs) last some is =
+pub ends_mid_line-last : (ends_mid_line : Bool) (bytes : List ℕ) (last : ℕ) → 0 < length bytes → last ≡ get_or bytes (length bytes - 1) 0 → ends_mid_line_after ends_mid_line bytes ≡ not (is_line_end last)
+unfolding ends_mid_line_after
+ends_mid_line-last ends_mid_line [] last some is = absurd (omega arith)
+ends_mid_line-last ends_mid_line (b ∷ []) last some is = ap (λ x. not (is_line_end x)) (sym is)
+ends_mid_line-last ends_mid_line (b ∷ x ∷ bs) last some is =
     let n = length bs in
     let here : suc (suc n) - 1 ≡ suc n = omega arith in
     let back : n ≡ suc n - 1 = omega arith in
-    torn-last (not (is_line_end b)) (x ∷ bs) last (omega arith) (is ∙ (ap (λ k. get_or (b ∷ x ∷ bs) k 0) here ∙ ap (λ k. get_or (x ∷ bs) k 0) back))
+    ends_mid_line-last (not (is_line_end b)) (x ∷ bs) last (omega arith) (is ∙ (ap (λ k. get_or (b ∷ x ∷ bs) k 0) here ∙ ap (λ k. get_or (x ∷ bs) k 0) back))
 
 -- one of the slots
 pub slot-at : {R : Type 0} (size at : ℕ) (slots : List (File R)) (f : File R) → All (IsSlot size) slots → at < length slots → f ≡ get_or slots at f → IsSlot size f
@@ -499,14 +499,14 @@ held-within {R} size (f ∷ fs) each =
     omega (arith, add-one)
 
 -- and so of the open ones
-pub held-bound : {R : Type 0} (files : FilesView R) → AreOpen files → held_bytes files.nest ≤ files.slots * files.line_bytes
+pub held-bound : {R : Type 0} (files : FilesView R) → AreOpen files → held_bytes files.include_stack ≤ files.slots * files.line_bytes
 held-bound files open_ =
-    let few : length files.nest * files.line_bytes ≤ files.slots * files.line_bytes = mul-le-mul_right files.line_bytes open_.few in
-    let within = held-within files.line_bytes files.nest open_.each in
+    let few : length files.include_stack * files.line_bytes ≤ files.slots * files.line_bytes = mul-le-mul_right files.line_bytes open_.few in
+    let within = held-within files.line_bytes files.include_stack open_.each in
     omega arith
 
 -- a part of what is held
-pub held-part : {R : Type 0} (files : FilesView R) (items : List (File R)) (i : ℕ) (f : File R) → items ≡ files.nest → AreOpen files → i < length items → f ≡ get_or items i f → held_bytes (take i items) + length f.buffer.window ≤ files.slots * files.line_bytes
+pub held-part : {R : Type 0} (files : FilesView R) (items : List (File R)) (i : ℕ) (f : File R) → items ≡ files.include_stack → AreOpen files → i < length items → f ≡ get_or items i f → held_bytes (take i items) + length f.buffer.window ≤ files.slots * files.line_bytes
 held-part {R} files items i f same open_ more is =
     let size : File R → ℕ = λ g. length g.buffer.window in
     let part : held_bytes (take i items) + size (get_or items i f) ≤ held_bytes items = sum_by_more_le size items i f more in
@@ -515,7 +515,7 @@ held-part {R} files items i f same open_ more is =
     omega arith
 
 -- what an open source may still give, and one more, is a digit
-digits-below : {R : Type 0} (size : ℕ) (nest : List (File R)) → All (IsSlot size) nest → All (λ (d : ℕ). d < 2 ^ 31) (source_digits nest)
+digits-below : {R : Type 0} (size : ℕ) (include_stack : List (File R)) → All (IsSlot size) include_stack → All (λ (d : ℕ). d < 2 ^ 31) (source_digits include_stack)
 unfolding source_digits unused_of
 digits-below size [] each = All-nil (λ (d : ℕ). d < 2 ^ 31)
 digits-below {R} size (f ∷ outer) each =
@@ -530,7 +530,7 @@ digits-below {R} size (f ∷ outer) each =
     (All-append P (source_digits outer) (digit f ∷ []) rest (All-cons P (digit f) [] here (All-nil P)))
 
 -- the open ones of the slots
-pub slots-open : {R : Type 0} (size first : ℕ) (slots : List (File R)) → (n : ℕ) → n ≡ length slots → AreSlots size first slots → AreOpen (record { nest = drop first slots; slots = n; line_bytes = size })
+pub slots-open : {R : Type 0} (size first : ℕ) (slots : List (File R)) → (n : ℕ) → n ≡ length slots → AreSlots size first slots → AreOpen (record { include_stack = drop first slots; slots = n; line_bytes = size })
 slots-open size first slots n all s = record {
   few = omega (arith, length-drop first slots);
   each = All-drop (IsSlot size) first slots s.each;
@@ -538,7 +538,7 @@ slots-open size first slots n all s = record {
 }
 
 -- all that is held, by the parts of it, the outermost first
-pub held_windows-len : {R : Type 0} (nest : List (File R)) → sum_by length (held_windows nest) ≡ held_bytes nest
+pub held_windows-len : {R : Type 0} (include_stack : List (File R)) → sum_by length (held_windows include_stack) ≡ held_bytes include_stack
 unfolding held_windows
 held_windows-len [] = refl
 held_windows-len {R} (f ∷ fs) =
@@ -551,13 +551,13 @@ held_windows-len {R} (f ∷ fs) =
     ap (sum_by length) cut ∙ parts ∙ omega arith
 
 -- behind bytes and then bytes
-pub torn_after-append : (torn : Bool) (x y : List ℕ) → torn_after torn (x ++ y) ≡ torn_after (torn_after torn x) y
-unfolding torn_after
-torn_after-append torn [] y = refl
-torn_after-append torn (b ∷ x) y = torn_after-append (not (is_line_end b)) x y
+pub ends_mid_line_after-append : (ends_mid_line : Bool) (x y : List ℕ) → ends_mid_line_after ends_mid_line (x ++ y) ≡ ends_mid_line_after (ends_mid_line_after ends_mid_line x) y
+unfolding ends_mid_line_after
+ends_mid_line_after-append ends_mid_line [] y = refl
+ends_mid_line_after-append ends_mid_line (b ∷ x) y = ends_mid_line_after-append (not (is_line_end b)) x y
 
 -- no byte changes nothing
-pub torn-none : (torn : Bool) (bytes : List ℕ) → length bytes ≡ 0 → torn ≡ torn_after torn bytes
-unfolding torn_after
-torn-none torn [] none = refl
-torn-none torn (b ∷ bs) none = absurd (omega arith)
+pub ends_mid_line-none : (ends_mid_line : Bool) (bytes : List ℕ) → length bytes ≡ 0 → ends_mid_line ≡ ends_mid_line_after ends_mid_line bytes
+unfolding ends_mid_line_after
+ends_mid_line-none ends_mid_line [] none = refl
+ends_mid_line-none ends_mid_line (b ∷ bs) none = absurd (omega arith)

@@ -11,7 +11,7 @@ use Rattle.rdlpp_read.specs.Buffer.{BufferView, EndsHeld, IsBuffer, closed_buffe
 
 -- the open sources, the innermost first; how many may be open, and the most bytes of a line
 pub record FilesView (R : Type 0) : Type 0 where
-  pub nest : List (File R)
+  pub include_stack : List (File R)
   pub slots : ℕ
   pub line_bytes : ℕ
 
@@ -34,14 +34,14 @@ pub record AreSlots {R : Type 0} (line_bytes first : ℕ) (slots : List (File R)
 
 -- what the open sources may still give, each and one more, the outermost first (this project's profile)
 unfoldable pub source_digits : {R : Type 0} → List (File R) → List ℕ
-source_digits nest = reverse (map (λ f. unused_of f.buffer + 1) nest)
+source_digits include_stack = reverse (map (λ f. unused_of f.buffer + 1) include_stack)
 
 -- what holds of the open sources: each of what they may still give, and one more, is a digit in base 2,147,483,648 (this project's
 -- profile)
 pub record AreOpen {R : Type 0} (files : FilesView R) : Type 0 where
-  pub few : length files.nest ≤ files.slots
-  pub each : All (IsSlot files.line_bytes) files.nest
-  pub digits : All (λ (d : ℕ). d < 2 ^ 31) (source_digits files.nest)
+  pub few : length files.include_stack ≤ files.slots
+  pub each : All (IsSlot files.line_bytes) files.include_stack
+  pub digits : All (λ (d : ℕ). d < 2 ^ 31) (source_digits files.include_stack)
 
 -- a source that was opened: nothing of it is read, and it shows its path and its own lines (this project's profile)
 abbrev pub entered_file : {R : Type 0} → Found R → ℕ → ℕ → ℕ → ℕ → File R
@@ -53,7 +53,7 @@ entered_file found source_bytes line_bytes conditions_below include_line = recor
   blanks = true;
   conditions_below = conditions_below;
   include_line = include_line;
-  torn = false;
+  ends_mid_line = false;
 }
 
 -- the numbers that lines show, as the meaning has them (IEEE 1364-2001, `line`)
@@ -72,25 +72,25 @@ with_inner change (f ∷ outer) = change f ∷ outer
 
 -- the sources with another buffer for the innermost
 abbrev pub with_buffer : {R : Type 0} → BufferView R → List (File R) → List (File R)
-with_buffer buffer nest = with_inner (λ f. record f { buffer = buffer }) nest
+with_buffer buffer include_stack = with_inner (λ f. record f { buffer = buffer }) include_stack
 
 -- whether the last byte isn't LF, behind bytes, where it was or wasn't before them
-unfoldable pub torn_after : Bool → List ℕ → Bool
-torn_after torn [] = torn
-torn_after torn (b ∷ bs) = torn_after (not (is_line_end b)) bs
+unfoldable pub ends_mid_line_after : Bool → List ℕ → Bool
+ends_mid_line_after ends_mid_line [] = ends_mid_line
+ends_mid_line_after ends_mid_line (b ∷ bs) = ends_mid_line_after (not (is_line_end b)) bs
 
 -- a source of which the first held bytes are used, with so many line ends
 abbrev pub consumed_file : {R : Type 0} → ℕ → ℕ → File R → File R
 consumed_file len lines f = record f {
   buffer = record f.buffer { at = f.buffer.at + len; line = f.buffer.line + lines };
   blanks = only_blanks f.blanks (take len (held_of f.buffer));
-  torn = torn_after f.torn (take len (held_of f.buffer));
+  ends_mid_line = ends_mid_line_after f.ends_mid_line (take len (held_of f.buffer));
 }
 
 -- what is held of the open sources, the outermost first (this project's profile)
 unfoldable pub held_windows : {R : Type 0} → List (File R) → List (List ℕ)
-held_windows nest = reverse (map (λ f. f.buffer.window) nest)
+held_windows include_stack = reverse (map (λ f. f.buffer.window) include_stack)
 
 -- how many bytes of the texts of the open sources are held
 abbrev pub held_bytes : {R : Type 0} → List (File R) → ℕ
-held_bytes nest = sum_by (λ f. length f.buffer.window) nest
+held_bytes include_stack = sum_by (λ f. length f.buffer.window) include_stack

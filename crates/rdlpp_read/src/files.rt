@@ -12,7 +12,7 @@ ghost use Rattle.rdlpp_read.specs.Files.{
   held_bytes,
   inner_buffer,
   shift_of,
-  torn_after,
+  ends_mid_line_after,
   with_buffer,
   with_inner,
 };
@@ -53,7 +53,7 @@ pub struct File<R> {
     /// The physical line of the `include` in the source around it, or 0.
     pub include_line: u64,
     /// Whether the last byte that was used isn't LF, and there was one.
-    pub torn: bool,
+    pub ends_mid_line: bool,
 }
 
 /// The open sources, the innermost first, in slots that are made once, each with its buffer.
@@ -85,7 +85,7 @@ impl<R> Model for Files<R> {
     ghost Value = { FilesView R };
 
     ghost view = { λ f. record {
-      nest = drop f.first f.slots.items;
+      include_stack = drop f.first f.slots.items;
       slots = vec_len f.slots;
       line_bytes = f.line_bytes;
     } };
@@ -107,7 +107,7 @@ impl<R: Drop> File<R> {
             blanks: true,
             conditions_below: 0,
             include_line: 0,
-            torn: false,
+            ends_mid_line: false,
         }
     }
 
@@ -122,17 +122,17 @@ impl<R: Drop> File<R> {
         let used = &self.buffer.held()[..len];
         self.blanks = only_blanks(self.blanks, used);
         let used = &self.buffer.held()[..len];
-        self.torn = is_torn(self.torn, used);
+        self.ends_mid_line = goes_mid_line(self.ends_mid_line, used);
         self.buffer.consume(len, lines)
     }
 }
 
 // Whether the last byte of bytes isn't LF, where `torn` says so of what stands before them.
-fn is_torn(torn: bool, bytes: &[u8]) -> bool
-    ensures { result ≡ torn_after torn bytes.now }
+fn goes_mid_line(ends_mid_line: bool, bytes: &[u8]) -> bool
+    ensures { result ≡ ends_mid_line_after ends_mid_line bytes.now }
 {
     if bytes.is_empty() {
-        torn
+        ends_mid_line
     } else {
         bytes[bytes.len() - 1] != b'\n'
     }
@@ -146,7 +146,7 @@ impl<R: Drop> Files<R> {
     ///
     /// `AllocError` where a growth was refused.
     pub fn new(alloc: Global, slots: usize, line_bytes: usize) -> Result<Self, AllocError>
-        ensures { IfOk result (λ files. files ≡ record { nest = []; slots = slots; line_bytes = line_bytes }) }
+        ensures { IfOk result (λ files. files ≡ record { include_stack = []; slots = slots; line_bytes = line_bytes }) }
     {
         let mut list = Vec::with_capacity(alloc, slots)?;
         for _slot in 0..slots {
@@ -161,24 +161,24 @@ impl<R: Drop> Files<R> {
 
     /// How many sources are open.
     pub fn len(&self) -> usize
-        ensures { result ≡ length self.now.nest }
+        ensures { result ≡ length self.now.include_stack }
     {
         self.slots.len() - self.first
     }
 
     /// Whether no more source can be opened.
     pub fn is_full(&self) -> bool
-        ensures full { result ≡ (length self.now.nest == self.now.slots) }
-        ensures room { result ≡ false → length self.now.nest < self.now.slots }
+        ensures full { result ≡ (length self.now.include_stack == self.now.slots) }
+        ensures room { result ≡ false → length self.now.include_stack < self.now.slots }
     {
         self.first == 0
     }
 
     /// The innermost source.
     pub fn file(&self) -> &File<R>
-        requires { 0 < length self.now.nest }
-        ensures inner { self.now.nest ≡ result.now ∷ drop 1 self.now.nest }
-        ensures buffer { result.now.buffer ≡ inner_buffer self.now.nest }
+        requires { 0 < length self.now.include_stack }
+        ensures inner { self.now.include_stack ≡ result.now ∷ drop 1 self.now.include_stack }
+        ensures buffer { result.now.buffer ≡ inner_buffer self.now.include_stack }
         ensures ends { EndsHeld result.now.buffer }
     {
         &self.slots[self.first]
@@ -186,8 +186,8 @@ impl<R: Drop> Files<R> {
 
     /// The open source at a place, counted from the innermost one.
     pub fn at(&self, place: usize) -> &File<R>
-        requires { place < length self.now.nest }
-        ensures { slice_get self.now.nest place ≡ Some result.now }
+        requires { place < length self.now.include_stack }
+        ensures { slice_get self.now.include_stack place ≡ Some result.now }
     {
         &self.slots[self.first + place]
     }
@@ -201,9 +201,9 @@ impl<R: Drop> Files<R> {
         conditions_below: usize,
         include_line: u64,
     )
-        requires room { length self.old.nest < self.old.slots }
+        requires room { length self.old.include_stack < self.old.slots }
         requires bytes { source_bytes + 2 < 2 ^ 31 }
-        ensures { self.new ≡ record self.old { nest = entered_file found source_bytes self.old.line_bytes conditions_below include_line ∷ self.old.nest } }
+        ensures { self.new ≡ record self.old { include_stack = entered_file found source_bytes self.old.line_bytes conditions_below include_line ∷ self.old.include_stack } }
     {
         let at = self.first - 1;
         let file = &mut self.slots[at];
@@ -215,14 +215,14 @@ impl<R: Drop> Files<R> {
         file.blanks = true;
         file.conditions_below = conditions_below;
         file.include_line = include_line;
-        file.torn = false;
+        file.ends_mid_line = false;
         self.first = at;
     }
 
     /// Leaves the innermost source, whose reader is dropped; the one around it goes on as it was.
     pub fn leave(&mut self)
-        requires { 0 < length self.old.nest }
-        ensures { self.new ≡ record self.old { nest = drop 1 self.old.nest } }
+        requires { 0 < length self.old.include_stack }
+        ensures { self.new ≡ record self.old { include_stack = drop 1 self.old.include_stack } }
     {
         let at = self.first;
         let buffer = &mut self.slots[at].buffer;
@@ -233,9 +233,9 @@ impl<R: Drop> Files<R> {
 
     /// Fills the buffer of the innermost source, as `fill_buffer` does.
     pub fn fill<S: Sources<Reader = R>>(&mut self, sources: &mut S) -> Fill
-        requires { 0 < length self.old.nest }
-        ensures only { self.new ≡ record self.old { nest = with_buffer (inner_buffer self.new.nest) self.old.nest } }
-        ensures fills { Fills (S.tells sources.old) S.unread result (inner_buffer self.old.nest) (inner_buffer self.new.nest) }
+        requires { 0 < length self.old.include_stack }
+        ensures only { self.new ≡ record self.old { include_stack = with_buffer (inner_buffer self.new.include_stack) self.old.include_stack } }
+        ensures fills { Fills (S.tells sources.old) S.unread result (inner_buffer self.old.include_stack) (inner_buffer self.new.include_stack) }
         ensures call { SourcesRead S.Sources (is_failed result) sources.old sources.new }
     {
         let at = self.first;
@@ -248,9 +248,9 @@ impl<R: Drop> Files<R> {
     /// Takes in the logical line at the front of what is held of the innermost source, as
     /// `hold_logical_line` does.
     pub fn hold_line<S: Sources<Reader = R>>(&mut self, sources: &mut S) -> LogicalLine
-        requires { 0 < length self.old.nest }
-        ensures only { self.new ≡ record self.old { nest = with_buffer (inner_buffer self.new.nest) self.old.nest } }
-        ensures holds { HoldsLine (S.tells sources.old) S.unread result (inner_buffer self.old.nest) (inner_buffer self.new.nest) }
+        requires { 0 < length self.old.include_stack }
+        ensures only { self.new ≡ record self.old { include_stack = with_buffer (inner_buffer self.new.include_stack) self.old.include_stack } }
+        ensures holds { HoldsLine (S.tells sources.old) S.unread result (inner_buffer self.old.include_stack) (inner_buffer self.new.include_stack) }
         ensures call { SourcesRead S.Sources (is_failed_line result) sources.old sources.new }
     {
         let at = self.first;
@@ -263,11 +263,11 @@ impl<R: Drop> Files<R> {
     /// Uses `len` held bytes of the innermost source, which have `lines` line ends, and answers where in
     /// what is held they begin.
     pub fn consume(&mut self, len: usize, lines: usize) -> usize
-        requires some { 0 < length self.old.nest }
-        requires inside { len ≤ length (held_of (inner_buffer self.old.nest)) }
+        requires some { 0 < length self.old.include_stack }
+        requires inside { len ≤ length (held_of (inner_buffer self.old.include_stack)) }
         requires lines { lines ≤ len }
-        ensures start { result ≡ (inner_buffer self.old.nest).at }
-        ensures used { self.new ≡ record self.old { nest = with_inner (consumed_file len lines) self.old.nest } }
+        ensures start { result ≡ (inner_buffer self.old.include_stack).at }
+        ensures used { self.new ≡ record self.old { include_stack = with_inner (consumed_file len lines) self.old.include_stack } }
     {
         let at = self.first;
         let file = &mut self.slots[at];
@@ -279,8 +279,8 @@ impl<R: Drop> Files<R> {
     /// Changes whether the next byte of the innermost source stands in a string or in a comment, at a
     /// token on its line.
     pub fn enter_mode(&mut self, next: Mode)
-        requires { 0 < length self.old.nest }
-        ensures { self.new ≡ record self.old { nest = with_buffer (entered_mode (inner_buffer self.old.nest) next) self.old.nest } }
+        requires { 0 < length self.old.include_stack }
+        ensures { self.new ≡ record self.old { include_stack = with_buffer (entered_mode (inner_buffer self.old.include_stack) next) self.old.include_stack } }
     {
         let at = self.first;
         let buffer = &mut self.slots[at].buffer;
@@ -291,9 +291,9 @@ impl<R: Drop> Files<R> {
     /// Gives the innermost source another name to show, and from a physical line on other numbers
     /// (IEEE 1364-2001, `line`).
     pub fn renumber(&mut self, from: u64, number: u64, name: ArrayString<1024>)
-        requires some { 0 < length self.old.nest }
+        requires some { 0 < length self.old.include_stack }
         requires number { number < 2 ^ 32 }
-        ensures { self.new ≡ record self.old { nest = with_inner (λ f. record f { name = name; shift = record { from = from; number = number } }) self.old.nest } }
+        ensures { self.new ≡ record self.old { include_stack = with_inner (λ f. record f { name = name; shift = record { from = from; number = number } }) self.old.include_stack } }
     {
         let at = self.first;
         let file = &mut self.slots[at];
@@ -304,7 +304,7 @@ impl<R: Drop> Files<R> {
     /// How many bytes of the texts of the open sources are held.
     pub fn held_len(&self) -> usize
         requires { self.now.slots * self.now.line_bytes < 2 ^ 64 }
-        ensures { result ≡ held_bytes self.now.nest }
+        ensures { result ≡ held_bytes self.now.include_stack }
     {
         let mut len = 0;
         for file in &self.slots[self.first..] {

@@ -183,7 +183,7 @@ module _ {S R : Type 0} (g : Ghosts S R) (old new : EngineView S R) (free : old.
 
   -- what a fault leaves, where nothing is pending
   halts_at : (f : Told) → new ≡ record old { kept = Some f; files = new.files; sources = new.sources }
-      → new.files ≡ record old.files { nest = with_buffer (inner_buffer new.files.nest) old.files.nest } → Slides (g.tells old.sources) ⊥ g.unread (inner_buffer old.files.nest) (inner_buffer new.files.nest) → old.pending ≡ nothing_pending → HaltsAt g 0 old new
+      → new.files ≡ record old.files { include_stack = with_buffer (inner_buffer new.files.include_stack) old.files.include_stack } → Slides (g.tells old.sources) ⊥ g.unread (inner_buffer old.files.include_stack) (inner_buffer new.files.include_stack) → old.pending ≡ nothing_pending → HaltsAt g 0 old new
   halts_at f becomes only moves drained =
       let keeps : Option Told → EngineView S R = λ k. record old { kept = k; files = new.files; sources = new.sources } in
       record {
@@ -243,8 +243,8 @@ module _ {S R : Type 0} (g : Ghosts S R) (old new : EngineView S R) (free : old.
 
   -- a fault at the front of what is held
   pub walks_fault : (f : Told) → IsOwn f.kind → new ≡ record old { kept = Some f; files = new.files; sources = new.sources }
-      → new.files ≡ record old.files { nest = with_buffer (inner_buffer new.files.nest) old.files.nest }
-      → Slides (g.tells old.sources) ⊥ g.unread (inner_buffer old.files.nest) (inner_buffer new.files.nest) → old.pending ≡ nothing_pending
+      → new.files ≡ record old.files { include_stack = with_buffer (inner_buffer new.files.include_stack) old.files.include_stack }
+      → Slides (g.tells old.sources) ⊥ g.unread (inner_buffer old.files.include_stack) (inner_buffer new.files.include_stack) → old.pending ≡ nothing_pending
       → SourcesCalled g false false old.sources new.sources
       → (g.tells old.sources → text_of g old ≡ leaves (fails f) (state_of new)) → KeepsStores g old new → Walks g old new (Err f)
   walks_fault f own becomes only moves drained call text stores =
@@ -289,8 +289,8 @@ module _ {S R : Type 0} (g : Ghosts S R) (old new : EngineView S R) (free : old.
   -- at the front of what is held
   pub walks_stopped : (f : Told) → FailsAt new f → is_call_failed f.kind ≡ true → is_write_failed f.kind ≡ false
       → new ≡ record old { kept = Some f; files = new.files; sources = new.sources }
-      → new.files ≡ record old.files { nest = with_buffer (inner_buffer new.files.nest) old.files.nest }
-      → Slides (g.tells old.sources) ⊥ g.unread (inner_buffer old.files.nest) (inner_buffer new.files.nest) → old.pending ≡ nothing_pending
+      → new.files ≡ record old.files { include_stack = with_buffer (inner_buffer new.files.include_stack) old.files.include_stack }
+      → Slides (g.tells old.sources) ⊥ g.unread (inner_buffer old.files.include_stack) (inner_buffer new.files.include_stack) → old.pending ≡ nothing_pending
       → SourcesCalled g (is_read_failed f.kind) (is_memory_kind f.kind) old.sources new.sources
       → (g.tells old.sources → text_of g old ≡ text_of g new) → KeepsStores g old new → Walks g old new (Err f)
   walks_stopped f fails met write becomes only moves drained call text stores =
@@ -299,10 +299,10 @@ module _ {S R : Type 0} (g : Ghosts S R) (old new : EngineView S R) (free : old.
       (record { open_ = open_; still = still; at = new; stood = Itself refl; text = text }) call stores
 
   -- a read failed
-  pub walks_failed : (f : Told) → IsReading (inner_buffer new.files.nest) → f ≡ fault_at fault.ReadFailed (reading_line_of (inner_buffer new.files.nest)) [] (state_of new)
+  pub walks_failed : (f : Told) → IsReading (inner_buffer new.files.include_stack) → f ≡ fault_at fault.ReadFailed (reading_line_of (inner_buffer new.files.include_stack)) [] (state_of new)
       → new ≡ record old { kept = Some f; files = new.files; sources = new.sources }
-      → new.files ≡ record old.files { nest = with_buffer (inner_buffer new.files.nest) old.files.nest }
-      → Slides (g.tells old.sources) ⊥ g.unread (inner_buffer old.files.nest) (inner_buffer new.files.nest) → old.pending ≡ nothing_pending
+      → new.files ≡ record old.files { include_stack = with_buffer (inner_buffer new.files.include_stack) old.files.include_stack }
+      → Slides (g.tells old.sources) ⊥ g.unread (inner_buffer old.files.include_stack) (inner_buffer new.files.include_stack) → old.pending ≡ nothing_pending
       → SourcesCalled g true false old.sources new.sources
       → (g.tells old.sources → text_of g old ≡ text_of g new) → KeepsStores g old new → Walks g old new (Err f)
   unfolding fault_at is_read_failed is_write_failed is_memory_kind is_call_failed

@@ -48,7 +48,7 @@ use Rattle.rdlpp_state.specs.Pending.{OriginView, PendingView, TakesPiece, digit
 use Rattle.rdlpp_state.specs.declared.pending.PendingPiece.{PendingPiece}
 use Rattle.rdlpp_state.specs.Pieces.{IsPlaced, lent_answer, step_answer}
 use Rattle.rdlpp_state.specs.Positions.{Unmarked, position_of}
-use Rattle.rdlpp_state.specs.Remaining.{file_state, inner_name, nest_left, nest_state, run_rules, source_rules, state_of, text_of, work_left}
+use Rattle.rdlpp_state.specs.Remaining.{file_state, inner_name, include_stack_left, include_stack_state, run_rules, source_rules, state_of, text_of, work_left}
 use Rattle.rdlpp_state.specs.Steps.{IsOwn, IsReading, Walks, is_memory_kind, is_read_failed, is_write_failed}
 use Rattle.rdlpp_state.specs.declared.phase.Phase.{Phase}
 use Rattle.rdlpp_state.specs.declared.phase.Phase.TheVariants.{Open}
@@ -59,24 +59,24 @@ use Rattle.rdlpp_state.proofs.Soundness.{inner_facts, text_idle, with_inner-leng
 use Rattle.rdlpp_front.proofs.TextLeft.{define_begins}
 use Rattle.rdlpp_state.proofs.LentPieces.{pending_position, source_position}
 use Rattle.rdlpp_state.proofs.EngineSteps.{IsSilent, kept_at, not_called, one_part, reaches_one, walks_failed, walks_fault, walks_lent}
-use Rattle.rdlpp_state.proofs.NestLeft.{nest_cut_define, nest_defined, nest_filled, nest_long_define, nest_long_line, nest_long_source, nest_refused, nest_refused_define, nest_text, nest_undefined, nest_unfilled, nest_unheld}
+use Rattle.rdlpp_state.proofs.IncludeStackLeft.{include_stack_cut_define, include_stack_defined, include_stack_filled, include_stack_long_define, include_stack_long_line, include_stack_long_source, include_stack_refused, include_stack_refused_define, include_stack_text, include_stack_undefined, include_stack_unfilled, include_stack_unheld}
 use Rattle.rdlpp_state.proofs.WorkFacts.{IsUsed, entered_unused, held_room, pending_falls, used_after, work_falls, work_same}
 
 -- another buffer for the innermost source changes no state
-pub same_state : {R : Type 0} (b : BufferView R) (limits : Limits) (macros : List Macro) (v : ConditionsView) (nest : List (File R))
-    → nest_state limits macros v (with_buffer b nest) ≡ nest_state limits macros v nest
-unfolding nest_state file_state
+pub same_state : {R : Type 0} (b : BufferView R) (limits : Limits) (macros : List Macro) (v : ConditionsView) (include_stack : List (File R))
+    → include_stack_state limits macros v (with_buffer b include_stack) ≡ include_stack_state limits macros v include_stack
+unfolding include_stack_state file_state
 same_state b limits macros v [] = refl
 same_state b limits macros v (f ∷ outer) = refl
 
 -- the innermost source with its own buffer
-pub same_nest : {R : Type 0} (nest : List (File R)) → nest ≡ with_buffer (inner_buffer nest) nest
-same_nest [] = refl
-same_nest (f ∷ outer) = refl
+pub same_include_stack : {R : Type 0} (include_stack : List (File R)) → include_stack ≡ with_buffer (inner_buffer include_stack) include_stack
+same_include_stack [] = refl
+same_include_stack (f ∷ outer) = refl
 
 -- the window stays where bytes are used and a mode is entered
-same_window : {R : Type 0} (nest : List (File R)) (len lines : ℕ) (next : Mode)
-    → (inner_buffer (with_inner (consumed_file len lines) (with_buffer (entered_mode (inner_buffer nest) next) nest))).window ≡ (inner_buffer nest).window
+same_window : {R : Type 0} (include_stack : List (File R)) (len lines : ℕ) (next : Mode)
+    → (inner_buffer (with_inner (consumed_file len lines) (with_buffer (entered_mode (inner_buffer include_stack) next) include_stack))).window ≡ (inner_buffer include_stack).window
 unfolding entered_mode
 same_window [] len lines next = refl
 same_window (f ∷ outer) len lines next = refl
@@ -104,10 +104,10 @@ drained_behind name pending p none = rw none refl
 
 -- what remains of the text where nothing is pending
 pub text_drained : {S R : Type 0} (g : Ghosts S R) (e : EngineView S R) → e.pending ≡ nothing_pending → e.expansion.opens ≡ []
-    → text_of g e ≡ nest_left e.limits (run_rules g e) g.unread e.table.macros e.conditions e.files.nest
+    → text_of g e ≡ include_stack_left e.limits (run_rules g e) g.unread e.table.macros e.conditions e.files.include_stack
 text_drained g e none idle =
     text_idle g e idle
-    ∙ drained_behind (inner_name e.files.nest) e.pending (nest_left e.limits (run_rules g e) g.unread e.table.macros e.conditions e.files.nest) none
+    ∙ drained_behind (inner_name e.files.include_stack) e.pending (include_stack_left e.limits (run_rules g e) g.unread e.table.macros e.conditions e.files.include_stack) none
 
 -- nothing that is pending can be counted
 pub drained_few : (pending : PendingView) → pending ≡ nothing_pending → pending_pieces pending < 2 ^ 31
@@ -126,45 +126,45 @@ lines_few lines n few = omega arith
 
 -- what is left of the open sources of an engine, with other macros, other conditionals and others open
 abbrev pub left_by : {S R : Type 0} → Ghosts S R → EngineView S R → List Macro → ConditionsView → List (File R) → Passage
-left_by g e macros v nest = nest_left e.limits (run_rules g e) g.unread macros v nest
+left_by g e macros v include_stack = include_stack_left e.limits (run_rules g e) g.unread macros v include_stack
 
 -- the work left falls, and a piece is lent
-pub lends_by : {S R : Type 0} (g : Ghosts S R) (old : EngineView S R) (ready : IsReady old) (bytes : List ℕ) (pending : PendingView) (marks : MarksView) (macros : List Macro) (v : ConditionsView) (nest : List (File R)) (sources : S)
-    → let after = record old { pending = pending; marks = marks; table = record old.table { macros = macros }; conditions = v; files = record old.files { nest = nest }; sources = sources } in
+pub lends_by : {S R : Type 0} (g : Ghosts S R) (old : EngineView S R) (ready : IsReady old) (bytes : List ℕ) (pending : PendingView) (marks : MarksView) (macros : List Macro) (v : ConditionsView) (include_stack : List (File R)) (sources : S)
+    → let after = record old { pending = pending; marks = marks; table = record old.table { macros = macros }; conditions = v; files = record old.files { include_stack = include_stack }; sources = sources } in
     IsBounded after → work_left after < work_left old → SourcesCalled g false false old.sources sources
-    → (g.tells old.sources → left_by g old old.table.macros old.conditions old.files.nest ≡ behind_bytes bytes (behind_bytes (pending_bytes (inner_name nest) pending) (left_by g old macros v nest)))
-    → (g.tells old.sources → AreParts g.unread (g.catalog old.sources) Unit old.files.nest → AreParts g.unread (g.catalog old.sources) Unit nest)
+    → (g.tells old.sources → left_by g old old.table.macros old.conditions old.files.include_stack ≡ behind_bytes bytes (behind_bytes (pending_bytes (inner_name include_stack) pending) (left_by g old macros v include_stack)))
+    → (g.tells old.sources → AreParts g.unread (g.catalog old.sources) Unit old.files.include_stack → AreParts g.unread (g.catalog old.sources) Unit include_stack)
     → StandsIn g old after bytes (position_of after) → Walks g old after (Ok (Some bytes))
-lends_by g old ready bytes pending marks macros v nest sources bounded falls call law parts from =
-    let after = record old { pending = pending; marks = marks; table = record old.table { macros = macros }; conditions = v; files = record old.files { nest = nest }; sources = sources } in
+lends_by g old ready bytes pending marks macros v include_stack sources bounded falls call law parts from =
+    let after = record old { pending = pending; marks = marks; table = record old.table { macros = macros }; conditions = v; files = record old.files { include_stack = include_stack }; sources = sources } in
     walks_lent g old after ready.free ready.open_ bounded bytes refl (refl, refl) call
     (λ t. text_drained g old ready.pending ready.idle
-    ∙ (law t ∙ (ap (λ (c : Catalog). behind_bytes bytes (behind_bytes (pending_bytes (inner_name nest) pending) (nest_left old.limits (source_rules c old.limits old.origins) g.unread macros v nest))) (sym call.catalog)
+    ∙ (law t ∙ (ap (λ (c : Catalog). behind_bytes bytes (behind_bytes (pending_bytes (inner_name include_stack) pending) (include_stack_left old.limits (source_rules c old.limits old.origins) g.unread macros v include_stack))) (sym call.catalog)
     ∙ ap (behind_bytes bytes) (sym (text_idle g after ready.idle)))))
-    falls (keeps_sources g old pending marks macros v nest sources ready.free ready.idle call.catalog parts) from
+    falls (keeps_sources g old pending marks macros v include_stack sources ready.free ready.idle call.catalog parts) from
 
 -- bytes of the innermost source are used, and a piece is lent
-pub lends_piece : {S R : Type 0} (g : Ghosts S R) (old : EngineView S R) (ready : IsReady old) (bytes : List ℕ) (pending : PendingView) (marks : MarksView) (macros : List Macro) (v : ConditionsView) (nest : List (File R)) (sources : S)
-    → let after = record old { pending = pending; marks = marks; table = record old.table { macros = macros }; conditions = v; files = record old.files { nest = nest }; sources = sources } in
-    IsBounded after → pending_pieces pending < 2 ^ 31 → IsUsed old.files.nest nest → SourcesCalled g false false old.sources sources
-    → (g.tells old.sources → left_by g old old.table.macros old.conditions old.files.nest ≡ behind_bytes bytes (behind_bytes (pending_bytes (inner_name nest) pending) (left_by g old macros v nest)))
-    → (g.tells old.sources → KeepsParts g.unread old.files.nest nest)
+pub lends_piece : {S R : Type 0} (g : Ghosts S R) (old : EngineView S R) (ready : IsReady old) (bytes : List ℕ) (pending : PendingView) (marks : MarksView) (macros : List Macro) (v : ConditionsView) (include_stack : List (File R)) (sources : S)
+    → let after = record old { pending = pending; marks = marks; table = record old.table { macros = macros }; conditions = v; files = record old.files { include_stack = include_stack }; sources = sources } in
+    IsBounded after → pending_pieces pending < 2 ^ 31 → IsUsed old.files.include_stack include_stack → SourcesCalled g false false old.sources sources
+    → (g.tells old.sources → left_by g old old.table.macros old.conditions old.files.include_stack ≡ behind_bytes bytes (behind_bytes (pending_bytes (inner_name include_stack) pending) (left_by g old macros v include_stack)))
+    → (g.tells old.sources → KeepsParts g.unread old.files.include_stack include_stack)
     → StandsIn g old after bytes (position_of after) → Walks g old after (Ok (Some bytes))
-lends_piece g old ready bytes pending marks macros v nest sources bounded few used call law parts from =
-    let after = record old { pending = pending; marks = marks; table = record old.table { macros = macros }; conditions = v; files = record old.files { nest = nest }; sources = sources } in
-    lends_by g old ready bytes pending marks macros v nest sources bounded (work_falls old after refl used ready.idle ready.idle few) call law (λ t. parts t (g.catalog old.sources)) from
+lends_piece g old ready bytes pending marks macros v include_stack sources bounded few used call law parts from =
+    let after = record old { pending = pending; marks = marks; table = record old.table { macros = macros }; conditions = v; files = record old.files { include_stack = include_stack }; sources = sources } in
+    lends_by g old ready bytes pending marks macros v include_stack sources bounded (work_falls old after refl used ready.idle ready.idle few) call law (λ t. parts t (g.catalog old.sources)) from
 
 -- and nothing is pending
-pub lends_source : {S R : Type 0} (g : Ghosts S R) (old new : EngineView S R) (ready : IsReady old) (bytes : List ℕ) (marks : MarksView) (macros : List Macro) (v : ConditionsView) (nest : List (File R))
-    → new ≡ record old { marks = marks; table = record old.table { macros = macros }; conditions = v; files = record old.files { nest = nest } }
-    → IsBounded new → IsUsed old.files.nest nest
-    → left_by g old old.table.macros old.conditions old.files.nest ≡ behind_bytes bytes (left_by g old macros v nest)
-    → KeepsParts g.unread old.files.nest nest
-    → (let after = record old { marks = marks; table = record old.table { macros = macros }; conditions = v; files = record old.files { nest = nest } } in StandsIn g old after bytes (position_of after)) → Walks g old new (Ok (Some bytes))
-lends_source {S} {R} g old new ready bytes marks macros v nest becomes bounded used law parts from =
+pub lends_source : {S R : Type 0} (g : Ghosts S R) (old new : EngineView S R) (ready : IsReady old) (bytes : List ℕ) (marks : MarksView) (macros : List Macro) (v : ConditionsView) (include_stack : List (File R))
+    → new ≡ record old { marks = marks; table = record old.table { macros = macros }; conditions = v; files = record old.files { include_stack = include_stack } }
+    → IsBounded new → IsUsed old.files.include_stack include_stack
+    → left_by g old old.table.macros old.conditions old.files.include_stack ≡ behind_bytes bytes (left_by g old macros v include_stack)
+    → KeepsParts g.unread old.files.include_stack include_stack
+    → (let after = record old { marks = marks; table = record old.table { macros = macros }; conditions = v; files = record old.files { include_stack = include_stack } } in StandsIn g old after bytes (position_of after)) → Walks g old new (Ok (Some bytes))
+lends_source {S} {R} g old new ready bytes marks macros v include_stack becomes bounded used law parts from =
     subst (λ (e : EngineView S R). Walks g old e (Ok (Some bytes))) (sym becomes)
-    (lends_piece g old ready bytes old.pending marks macros v nest old.sources (subst IsBounded becomes bounded) (drained_few old.pending ready.pending) used (not_called g old.sources)
-    (λ t. law ∙ ap (behind_bytes bytes) (sym (drained_behind (inner_name nest) old.pending (left_by g old macros v nest) ready.pending))) (λ t. parts) from)
+    (lends_piece g old ready bytes old.pending marks macros v include_stack old.sources (subst IsBounded becomes bounded) (drained_few old.pending ready.pending) used (not_called g old.sources)
+    (λ t. law ∙ ap (behind_bytes bytes) (sym (drained_behind (inner_name include_stack) old.pending (left_by g old macros v include_stack) ready.pending))) (λ t. parts) from)
 
 -- what is refused in front isn't a failed read, a failed write or want of memory
 pub refused_kind : (mode : Mode) (held : List ℕ) (kind : FaultKind) → IsRefused mode held kind → IsOwn kind
@@ -203,8 +203,8 @@ kept_cut {S} {R} old new kind line word name s becomes cut =
 -- only the innermost buffer and the sources changed
 pub record IsRead {S R : Type 0} (g : Ghosts S R) (old mid : EngineView S R) : Type 0 where
   pub becomes : mid ≡ record old { files = mid.files; sources = mid.sources }
-  pub only : mid.files ≡ record old.files { nest = with_buffer (inner_buffer mid.files.nest) old.files.nest }
-  pub moves : Slides (g.tells old.sources) ⊥ g.unread (inner_buffer old.files.nest) (inner_buffer mid.files.nest)
+  pub only : mid.files ≡ record old.files { include_stack = with_buffer (inner_buffer mid.files.include_stack) old.files.include_stack }
+  pub moves : Slides (g.tells old.sources) ⊥ g.unread (inner_buffer old.files.include_stack) (inner_buffer mid.files.include_stack)
 
 -- a window that moved on over its text, wherever bytes were lost
 pub slid : {R : Type 0} (tells exact : Type 0) (unread : R → List ℕ) (old new : BufferView R) → Slides tells exact unread old new → Slides tells ⊥ unread old new
@@ -217,9 +217,9 @@ read_state {S} {R} old mid r =
     let limits : mid.limits ≡ old.limits = ap (λ e. e.limits) r.becomes in
     let table : mid.table ≡ old.table = ap (λ e. e.table) r.becomes in
     let conditions : mid.conditions ≡ old.conditions = ap (λ e. e.conditions) r.becomes in
-    let nest : mid.files.nest ≡ with_buffer (inner_buffer mid.files.nest) old.files.nest = ap (λ f. f.nest) r.only in
-    ap (λ (ns : List (File R)). nest_state mid.limits mid.table.macros mid.conditions ns) nest
-    ∙ (same_state (inner_buffer mid.files.nest) mid.limits mid.table.macros mid.conditions old.files.nest
+    let include_stack : mid.files.include_stack ≡ with_buffer (inner_buffer mid.files.include_stack) old.files.include_stack = ap (λ f. f.include_stack) r.only in
+    ap (λ (ns : List (File R)). include_stack_state mid.limits mid.table.macros mid.conditions ns) include_stack
+    ∙ (same_state (inner_buffer mid.files.include_stack) mid.limits mid.table.macros mid.conditions old.files.include_stack
     ∙ rw (limits, table, conditions) refl)
 
 -- what keeping a fault makes of an engine
@@ -234,29 +234,29 @@ keeps_fault {S} {R} old mid new f r becomes =
 
 -- and the innermost buffer alone
 pub keeps_files : {S R : Type 0} {g : Ghosts S R} (old mid new : EngineView S R) (f : Told) → IsRead g old mid → new ≡ record mid { kept = Some f }
-    → new.files ≡ record old.files { nest = with_buffer (inner_buffer new.files.nest) old.files.nest }
+    → new.files ≡ record old.files { include_stack = with_buffer (inner_buffer new.files.include_stack) old.files.include_stack }
 keeps_files {S} {R} old mid new f r becomes =
-    subst (λ (fs : FilesView R). fs ≡ record old.files { nest = with_buffer (inner_buffer fs.nest) old.files.nest }) (sym (ap (λ e. e.files) becomes)) r.only
+    subst (λ (fs : FilesView R). fs ≡ record old.files { include_stack = with_buffer (inner_buffer fs.include_stack) old.files.include_stack }) (sym (ap (λ e. e.files) becomes)) r.only
 
 -- whose window moved on
 pub keeps_moves : {S R : Type 0} {g : Ghosts S R} (old mid new : EngineView S R) (f : Told) → IsRead g old mid → new ≡ record mid { kept = Some f }
-    → Slides (g.tells old.sources) ⊥ g.unread (inner_buffer old.files.nest) (inner_buffer new.files.nest)
+    → Slides (g.tells old.sources) ⊥ g.unread (inner_buffer old.files.include_stack) (inner_buffer new.files.include_stack)
 keeps_moves {S} {R} {g} old mid new f r becomes =
-    subst (λ (fs : FilesView R). Slides (g.tells old.sources) ⊥ g.unread (inner_buffer old.files.nest) (inner_buffer fs.nest)) (sym (ap (λ e. e.files) becomes)) r.moves
+    subst (λ (fs : FilesView R). Slides (g.tells old.sources) ⊥ g.unread (inner_buffer old.files.include_stack) (inner_buffer fs.include_stack)) (sym (ap (λ e. e.files) becomes)) r.moves
 
 -- and what is held stays
 pub keeps_read : {S R : Type 0} (g : Ghosts S R) (old mid new : EngineView S R) (f : Told) → IsReady old → IsRead g old mid → new ≡ record mid { kept = Some f } → g.catalog mid.sources ≡ g.catalog old.sources → (MayGoOn new → ⊥)
     → KeepsStores g old new
 keeps_read {S} {R} g old mid new f ready r becomes catalog stops =
-    let b = inner_buffer mid.files.nest in
-    let is : new ≡ record old { kept = Some f; files = record old.files { nest = with_buffer b old.files.nest }; sources = mid.sources } =
+    let b = inner_buffer mid.files.include_stack in
+    let is : new ≡ record old { kept = Some f; files = record old.files { include_stack = with_buffer b old.files.include_stack }; sources = mid.sources } =
     becomes ∙ (ap (λ (m : EngineView S R). record m { kept = Some f }) r.becomes ∙ ap (λ (fs : FilesView R). record old { kept = Some f; files = fs; sources = mid.sources }) r.only) in
     subst (λ (e : EngineView S R). KeepsStores g old e) (sym is)
-    (keeps_stopped g old f b mid.sources ready.free ready.idle ready.nest catalog r.moves (subst (λ (e : EngineView S R). MayGoOn e → ⊥) is stops))
+    (keeps_stopped g old f b mid.sources ready.free ready.idle ready.include_stack catalog r.moves (subst (λ (e : EngineView S R). MayGoOn e → ⊥) is stops))
 
 -- the text is the same where what remains of the open sources is
 pub read_text : {S R : Type 0} (g : Ghosts S R) (old mid : EngineView S R) → old.pending ≡ nothing_pending → old.expansion.opens ≡ [] → IsRead g old mid → g.catalog mid.sources ≡ g.catalog old.sources
-    → left_by g old old.table.macros old.conditions old.files.nest ≡ left_by g old old.table.macros old.conditions (with_buffer (inner_buffer mid.files.nest) old.files.nest)
+    → left_by g old old.table.macros old.conditions old.files.include_stack ≡ left_by g old old.table.macros old.conditions (with_buffer (inner_buffer mid.files.include_stack) old.files.include_stack)
     → text_of g old ≡ text_of g mid
 read_text {S} {R} g old mid drained idle r catalog law =
     let limits : mid.limits ≡ old.limits = ap (λ e. e.limits) r.becomes in
@@ -264,8 +264,8 @@ read_text {S} {R} g old mid drained idle r catalog law =
     let table : mid.table ≡ old.table = ap (λ e. e.table) r.becomes in
     let pending : mid.pending ≡ old.pending = ap (λ e. e.pending) r.becomes in
     let conditions : mid.conditions ≡ old.conditions = ap (λ e. e.conditions) r.becomes in
-    let nest : mid.files.nest ≡ with_buffer (inner_buffer mid.files.nest) old.files.nest = ap (λ f. f.nest) r.only in
-    text_drained g old drained idle ∙ (law ∙ (ap (λ (ns : List (File R)). left_by g old old.table.macros old.conditions ns) (sym nest)
+    let include_stack : mid.files.include_stack ≡ with_buffer (inner_buffer mid.files.include_stack) old.files.include_stack = ap (λ f. f.include_stack) r.only in
+    text_drained g old drained idle ∙ (law ∙ (ap (λ (ns : List (File R)). left_by g old old.table.macros old.conditions ns) (sym include_stack)
     ∙ (rw (limits, origins, table, conditions, catalog) refl ∙ sym (text_drained g mid (pending ∙ drained) (ap (λ e. e.expansion.opens) r.becomes ∙ idle)))))
 
 -- the fault that is kept is no part of the text
@@ -281,13 +281,13 @@ told_kind kind line word s own = own
 -- a fault of the text is kept, as it is told in the state that the text goes on from
 pub refuses_by : {S R : Type 0} (g : Ghosts S R) (old mid new : EngineView S R) (place : PieceLocation) (tell : State → Told) → ((s : State) → IsOwn (tell s).kind) → IsReady old → IsRead g old mid → IsBounded new
     → place ≡ Kept → new ≡ record mid { kept = Some (tell (state_of mid)) } → SourcesCalled g false false old.sources mid.sources
-    → (g.tells old.sources → left_by g old old.table.macros old.conditions old.files.nest ≡ leaves (fails (tell (state_of old))) (state_of old))
+    → (g.tells old.sources → left_by g old old.table.macros old.conditions old.files.include_stack ≡ leaves (fails (tell (state_of old))) (state_of old))
     → Walks g old new (lent_answer new place)
 unfolding state_of
 refuses_by {S} {R} g old mid new place tell own ready r bounded is becomes call law =
     let f = tell (state_of mid) in
     let same : state_of mid ≡ state_of old = read_state old mid r in
-    let here : state_of new ≡ state_of mid = ap (λ (e : EngineView S R). nest_state e.limits e.table.macros e.conditions e.files.nest) becomes in
+    let here : state_of new ≡ state_of mid = ap (λ (e : EngineView S R). include_stack_state e.limits e.table.macros e.conditions e.files.include_stack) becomes in
     let sources : new.sources ≡ mid.sources = ap (λ e. e.sources) becomes in
     let P : S → Type 0 = λ s. SourcesCalled g false false old.sources s in
     kept_at g old new place f is (ap (λ e. e.kept) becomes)
@@ -298,23 +298,23 @@ refuses_by {S} {R} g old mid new place tell own ready r bounded is becomes call 
 -- a fault at a line of the source is kept
 pub refuses : {S R : Type 0} (g : Ghosts S R) (old mid new : EngineView S R) (place : PieceLocation) (kind : FaultKind) (line : ℕ) (word : List ℕ) → IsReady old → IsRead g old mid → IsBounded new
     → place ≡ Kept → new ≡ record mid { kept = Some (fault_at kind line word (state_of mid)) } → IsOwn kind → SourcesCalled g false false old.sources mid.sources
-    → (g.tells old.sources → left_by g old old.table.macros old.conditions old.files.nest ≡ leaves (fails (fault_at kind line word (state_of old))) (state_of old))
+    → (g.tells old.sources → left_by g old old.table.macros old.conditions old.files.include_stack ≡ leaves (fails (fault_at kind line word (state_of old))) (state_of old))
     → Walks g old new (lent_answer new place)
 refuses g old mid new place kind line word ready r bounded is becomes own call law =
     refuses_by g old mid new place (λ s. fault_at kind line word s) (λ s. told_kind kind line word s own) ready r bounded is becomes call law
 
 -- a failed read is kept
-pub fails_reading : {S R : Type 0} (g : Ghosts S R) (old mid new : EngineView S R) (place : PieceLocation) → IsReady old → IsRead g old mid → IsReading (inner_buffer mid.files.nest) → IsBounded new
-    → place ≡ Kept → new ≡ record mid { kept = Some (fault_at fault.ReadFailed (reading_line_of (inner_buffer mid.files.nest)) [] (state_of mid)) } → SourcesCalled g true false old.sources mid.sources
-    → (g.tells old.sources → left_by g old old.table.macros old.conditions old.files.nest ≡ left_by g old old.table.macros old.conditions (with_buffer (inner_buffer mid.files.nest) old.files.nest))
+pub fails_reading : {S R : Type 0} (g : Ghosts S R) (old mid new : EngineView S R) (place : PieceLocation) → IsReady old → IsRead g old mid → IsReading (inner_buffer mid.files.include_stack) → IsBounded new
+    → place ≡ Kept → new ≡ record mid { kept = Some (fault_at fault.ReadFailed (reading_line_of (inner_buffer mid.files.include_stack)) [] (state_of mid)) } → SourcesCalled g true false old.sources mid.sources
+    → (g.tells old.sources → left_by g old old.table.macros old.conditions old.files.include_stack ≡ left_by g old old.table.macros old.conditions (with_buffer (inner_buffer mid.files.include_stack) old.files.include_stack))
     → Walks g old new (lent_answer new place)
 unfolding state_of
 fails_reading {S} {R} g old mid new place ready r reading bounded is becomes call law =
-    let told : EngineView S R → Told = λ e. fault_at fault.ReadFailed (reading_line_of (inner_buffer e.files.nest)) [] (nest_state e.limits e.table.macros e.conditions e.files.nest) in
+    let told : EngineView S R → Told = λ e. fault_at fault.ReadFailed (reading_line_of (inner_buffer e.files.include_stack)) [] (include_stack_state e.limits e.table.macros e.conditions e.files.include_stack) in
     let sources : new.sources ≡ mid.sources = ap (λ e. e.sources) becomes in
     let P : S → Type 0 = λ s. SourcesCalled g true false old.sources s in
     let open_ : new.phase ≡ Open = ap (λ e. e.phase) becomes ∙ (ap (λ e. e.phase) r.becomes ∙ ready.open_) in
-    let here : IsReading (inner_buffer new.files.nest) = subst (λ (fs : FilesView R). IsReading (inner_buffer fs.nest)) (sym (ap (λ e. e.files) becomes)) reading in
+    let here : IsReading (inner_buffer new.files.include_stack) = subst (λ (fs : FilesView R). IsReading (inner_buffer fs.include_stack)) (sym (ap (λ e. e.files) becomes)) reading in
     kept_at g old new place (told mid) is (ap (λ e. e.kept) becomes)
     (walks_failed g old new ready.free ready.open_ bounded (told mid)
     here (sym (ap told becomes)) (keeps_fault old mid new (told mid) r becomes) (keeps_files old mid new (told mid) r becomes) (keeps_moves old mid new (told mid) r becomes) ready.pending (subst P (sym sources) call)
@@ -332,92 +332,92 @@ reading_define old new more some is held =
 -- nothing changed
 pub read_nothing : {S R : Type 0} {g : Ghosts S R} (e : EngineView S R) → IsRead g e e
 read_nothing {S} {R} {g} e =
-    let b = inner_buffer e.files.nest in
+    let b = inner_buffer e.files.include_stack in
     record {
       becomes = refl;
-      only = ap (λ ns. record e.files { nest = ns }) (same_nest e.files.nest);
+      only = ap (λ ns. record e.files { include_stack = ns }) (same_include_stack e.files.include_stack);
       moves = slides-same (g.tells e.sources) ⊥ g.unread b;
     }
 
 -- text that is copied is lent
 pub take_text : {S R : Type 0} (g : Ghosts S R) (old mid new : EngineView S R) (len lines from to : ℕ) (next : Mode) → IsReady old → old.conditions.skipped ≡ None → IsBounded new
-    → 0 < length (held_of (inner_buffer old.files.nest)) → IsText (inner_buffer old.files.nest).mode (held_of (inner_buffer old.files.nest)) len next
-    → lines ≡ line_ends (take len (held_of (inner_buffer old.files.nest)))
-    → mid ≡ record old { files = record old.files { nest = with_buffer (entered_mode (inner_buffer old.files.nest) next) old.files.nest } }
-    → new ≡ record mid { files = record mid.files { nest = with_inner (consumed_file len lines) mid.files.nest }; marks = lends_line (inner_buffer old.files.nest).line mid.marks }
-    → from ≡ (inner_buffer old.files.nest).at → to ≡ from + len → Walks g old new (lent_answer new (Source from to))
+    → 0 < length (held_of (inner_buffer old.files.include_stack)) → IsText (inner_buffer old.files.include_stack).mode (held_of (inner_buffer old.files.include_stack)) len next
+    → lines ≡ line_ends (take len (held_of (inner_buffer old.files.include_stack)))
+    → mid ≡ record old { files = record old.files { include_stack = with_buffer (entered_mode (inner_buffer old.files.include_stack) next) old.files.include_stack } }
+    → new ≡ record mid { files = record mid.files { include_stack = with_inner (consumed_file len lines) mid.files.include_stack }; marks = lends_line (inner_buffer old.files.include_stack).line mid.marks }
+    → from ≡ (inner_buffer old.files.include_stack).at → to ≡ from + len → Walks g old new (lent_answer new (Source from to))
 take_text {S} {R} g old mid new len lines from to next ready live bounded some text counted enters uses begins stops =
-    let inner = inner_facts old.files ready.nest ready.files in
-    let b = inner_buffer old.files.nest in
+    let inner = inner_facts old.files ready.include_stack ready.files in
+    let b = inner_buffer old.files.include_stack in
     let within = text_inside b.mode (held_of b) len next some text in
-    let nest = with_inner (consumed_file len lines) (with_buffer (entered_mode b next) old.files.nest) in
+    let include_stack = with_inner (consumed_file len lines) (with_buffer (entered_mode b next) old.files.include_stack) in
     let marks = lends_line b.line old.marks in
-    let becomes : new ≡ record old { files = record old.files { nest = nest }; marks = marks } =
-    uses ∙ ap (λ (m : EngineView S R). record m { files = record m.files { nest = with_inner (consumed_file len lines) m.files.nest }; marks = lends_line b.line m.marks }) enters in
-    let window : (inner_buffer new.files.nest).window ≡ b.window = ap (λ (e : EngineView S R). (inner_buffer e.files.nest).window) becomes ∙ same_window old.files.nest len lines next in
-    let part : slice_range (inner_buffer new.files.nest).window from to ≡ take len (held_of b) =
+    let becomes : new ≡ record old { files = record old.files { include_stack = include_stack }; marks = marks } =
+    uses ∙ ap (λ (m : EngineView S R). record m { files = record m.files { include_stack = with_inner (consumed_file len lines) m.files.include_stack }; marks = lends_line b.line m.marks }) enters in
+    let window : (inner_buffer new.files.include_stack).window ≡ b.window = ap (λ (e : EngineView S R). (inner_buffer e.files.include_stack).window) becomes ∙ same_window old.files.include_stack len lines next in
+    let part : slice_range (inner_buffer new.files.include_stack).window from to ≡ take len (held_of b) =
     rw (window, begins, stops) (rw begins (held_part b len inner.buffer.used within.1)) in
     subst (λ (xs : List ℕ). Walks g old new (Ok (Some xs))) (sym part)
-    (lends_source g old new ready (take len (held_of b)) marks old.table.macros old.conditions nest becomes bounded
-    (used_after old.files.nest (entered_mode b next) len lines ready.nest (entered_unused b next) within.0 (rw (held_entered b next) within.1))
-    (nest_text old.limits (run_rules g old) g.unread old.table.macros old.conditions live old.files.nest len lines next some inner.ends text counted)
-    (parts_on g.unread old.files.nest (with_buffer (entered_mode b next) old.files.nest) nest (parts_mode g.unread next old.files.nest) (parts_used g.unread len lines (with_buffer (entered_mode b next) old.files.nest)))
+    (lends_source g old new ready (take len (held_of b)) marks old.table.macros old.conditions include_stack becomes bounded
+    (used_after old.files.include_stack (entered_mode b next) len lines ready.include_stack (entered_unused b next) within.0 (rw (held_entered b next) within.1))
+    (include_stack_text old.limits (run_rules g old) g.unread old.table.macros old.conditions live old.files.include_stack len lines next some inner.ends text counted)
+    (parts_on g.unread old.files.include_stack (with_buffer (entered_mode b next) old.files.include_stack) include_stack (parts_mode g.unread next old.files.include_stack) (parts_used g.unread len lines (with_buffer (entered_mode b next) old.files.include_stack)))
     (AtSource len lines next ready.pending ready.idle refl (source_position old len lines next ready.free ready.open_) refl))
 
 -- a `define` whose logical line is held, and what it comes to
 module _ {S R : Type 0} (g : Ghosts S R) (old mid new : EngineView S R) (len : ℕ) (ready : IsReady old) (live : old.conditions.skipped ≡ None) (r : IsRead g old mid) (bounded : IsBounded new)
-    (some : 0 < length (held_of (inner_buffer old.files.nest))) (plain : (inner_buffer old.files.nest).mode ≡ Plain) (define : IsDirective Define (held_of (inner_buffer old.files.nest)))
-    (holds : HoldsLine (g.tells old.sources) g.unread (line.Whole len) (inner_buffer old.files.nest) (inner_buffer mid.files.nest))
+    (some : 0 < length (held_of (inner_buffer old.files.include_stack))) (plain : (inner_buffer old.files.include_stack).mode ≡ Plain) (define : IsDirective Define (held_of (inner_buffer old.files.include_stack)))
+    (holds : HoldsLine (g.tells old.sources) g.unread (line.Whole len) (inner_buffer old.files.include_stack) (inner_buffer mid.files.include_stack))
     (call : SourcesCalled g false false old.sources mid.sources) where
   -- it is accepted
-  accepted_steps : 7 ≤ len → len ≤ length (held_of (inner_buffer mid.files.nest)) → length (held_of (inner_buffer mid.files.nest)) < 2 ^ 31 → Defines len mid new → Walks g old new (step_answer new None)
+  accepted_steps : 7 ≤ len → len ≤ length (held_of (inner_buffer mid.files.include_stack)) → length (held_of (inner_buffer mid.files.include_stack)) < 2 ^ 31 → Defines len mid new → Walks g old new (step_answer new None)
   unfolding source_rules rules_of with_fault behind_bytes
   accepted_steps wide inside few d =
-      let inner = inner_facts old.files ready.nest ready.files in
-      let b = inner_buffer mid.files.nest in
+      let inner = inner_facts old.files ready.include_stack ready.files in
+      let b = inner_buffer mid.files.include_stack in
       let w = take len (held_of b) in
       let limits : mid.limits ≡ old.limits = ap (λ e. e.limits) r.becomes in
       let table : mid.table ≡ old.table = ap (λ e. e.table) r.becomes in
-      let nest : mid.files.nest ≡ with_buffer b old.files.nest = ap (λ f. f.nest) r.only in
-      let after = with_inner (consumed_file len d.lines) (with_buffer b old.files.nest) in
+      let include_stack : mid.files.include_stack ≡ with_buffer b old.files.include_stack = ap (λ f. f.include_stack) r.only in
+      let after = with_inner (consumed_file len d.lines) (with_buffer b old.files.include_stack) in
       let least = line_ends_le w in
       let size = length-take len (held_of b) in
       let counted = d.counted in
       let makes : List (File R) → EngineView S R = λ ns.
-      record old { pending = line_ends_pending d.lines; table = record old.table { macros = d.macros }; files = record old.files { nest = ns }; sources = mid.sources } in
+      record old { pending = line_ends_pending d.lines; table = record old.table { macros = d.macros }; files = record old.files { include_stack = ns }; sources = mid.sources } in
       let becomes : new ≡ makes after =
-      d.becomes ∙ (ap (λ (m : EngineView S R). record m { table = record m.table { macros = d.macros }; files = record m.files { nest = with_inner (consumed_file len d.lines) mid.files.nest }; pending = line_ends_pending d.lines }) r.becomes
-      ∙ (ap (λ (fs : FilesView R). record old { pending = line_ends_pending d.lines; table = record old.table { macros = d.macros }; files = record fs { nest = with_inner (consumed_file len d.lines) mid.files.nest }; sources = mid.sources }) r.only
-      ∙ ap (λ (ns : List (File R)). makes (with_inner (consumed_file len d.lines) ns)) nest)) in
+      d.becomes ∙ (ap (λ (m : EngineView S R). record m { table = record m.table { macros = d.macros }; files = record m.files { include_stack = with_inner (consumed_file len d.lines) mid.files.include_stack }; pending = line_ends_pending d.lines }) r.becomes
+      ∙ (ap (λ (fs : FilesView R). record old { pending = line_ends_pending d.lines; table = record old.table { macros = d.macros }; files = record fs { include_stack = with_inner (consumed_file len d.lines) mid.files.include_stack }; sources = mid.sources }) r.only
+      ∙ ap (λ (ns : List (File R)). makes (with_inner (consumed_file len d.lines) ns)) include_stack)) in
       let accepted : define_of old.limits.definition_bytes old.limits.definitions old.table.macros (drop 7 w) ≡ table_define.Accepted d.macros =
       rw (← ready.sound.definition_bytes, ← ready.sound.definitions) (rw table at d.accepted) in
       let pending : line_ends_of w ≡ pending_bytes (inner_name after) (line_ends_pending d.lines) =
       line_ends_of-owed w ∙ (ap (λ n. replicate n 10) (sym counted) ∙ sym (pending_lines (inner_name after) d.lines)) in
       subst (λ (e : EngineView S R). Walks g old e (Ok (Some []))) (sym becomes)
       (lends_piece g old ready [] (line_ends_pending d.lines) old.marks d.macros old.conditions after mid.sources (subst IsBounded becomes bounded) (lines_few d.lines _ (omega arith))
-      (used_after old.files.nest b len d.lines ready.nest holds.extends.unused (omega arith) inside) call
-      (λ t. nest_defined old.limits (run_rules g old) g.unread old.table.macros old.conditions live (g.tells old.sources) t old.files.nest b len d.lines d.macros
+      (used_after old.files.include_stack b len d.lines ready.include_stack holds.extends.unused (omega arith) inside) call
+      (λ t. include_stack_defined old.limits (run_rules g old) g.unread old.table.macros old.conditions live (g.tells old.sources) t old.files.include_stack b len d.lines d.macros
       some inner.ends plain define holds (ap with_fault accepted) counted
       ∙ ap (λ (x : List ℕ). behind_bytes x (left_by g old d.macros old.conditions after)) pending)
-      (λ t. parts_on g.unread old.files.nest (with_buffer b old.files.nest) after (parts_slid (g.tells old.sources) Unit g.unread b old.files.nest ready.nest (slides-told (g.tells old.sources) (g.tells old.sources) Unit (IsExactLine (line.Whole len)) g.unread (inner_buffer old.files.nest) b (λ x. x) (λ _ e. cc) holds.slides) t)
-      (parts_used g.unread len d.lines (with_buffer b old.files.nest))) (Nowhere refl (InSources ready.idle refl (Unmarked refl))))
+      (λ t. parts_on g.unread old.files.include_stack (with_buffer b old.files.include_stack) after (parts_slid (g.tells old.sources) Unit g.unread b old.files.include_stack ready.include_stack (slides-told (g.tells old.sources) (g.tells old.sources) Unit (IsExactLine (line.Whole len)) g.unread (inner_buffer old.files.include_stack) b (λ x. x) (λ _ e. cc) holds.slides) t)
+      (parts_used g.unread len d.lines (with_buffer b old.files.include_stack))) (Nowhere refl (InSources ready.idle refl (Unmarked refl))))
 
   -- it is refused
   refused_steps : (place : PieceLocation) → place ≡ Kept → RefusesDefine len mid new → Walks g old new (lent_answer new place)
   unfolding source_rules rules_of with_fault state_of
   refused_steps place is d =
-      let inner = inner_facts old.files ready.nest ready.files in
-      let b = inner_buffer mid.files.nest in
+      let inner = inner_facts old.files ready.include_stack ready.files in
+      let b = inner_buffer mid.files.include_stack in
       let table : mid.table ≡ old.table = ap (λ e. e.table) r.becomes in
-      let here : b.line ≡ (inner_buffer old.files.nest).line = holds.extends.line in
+      let here : b.line ≡ (inner_buffer old.files.include_stack).line = holds.extends.line in
       let refused : define_of old.limits.definition_bytes old.limits.definitions old.table.macros (drop 7 (take len (held_of b))) ≡ table_define.Refused d.kind d.word =
       rw (← ready.sound.definition_bytes, ← ready.sound.definitions) (rw table at d.refused) in
       refuses g old mid new place (define_fault d.kind) b.line d.word ready r bounded is d.becomes (define_kind d.kind) call
-      (λ t. nest_refused_define old.limits (run_rules g old) g.unread old.table.macros old.conditions live (g.tells old.sources) t old.files.nest b len (define_fault d.kind) d.word
+      (λ t. include_stack_refused_define old.limits (run_rules g old) g.unread old.table.macros old.conditions live (g.tells old.sources) t old.files.include_stack b len (define_fault d.kind) d.word
       some inner.ends plain define holds (ap with_fault refused)
       ∙ rw here refl)
 
-  pub defined_steps : (result : Option PieceLocation) → 7 ≤ len → len ≤ length (held_of (inner_buffer mid.files.nest)) → length (held_of (inner_buffer mid.files.nest)) < 2 ^ 31 → ReadsDefine len mid new result → Walks g old new (step_answer new result)
+  pub defined_steps : (result : Option PieceLocation) → 7 ≤ len → len ≤ length (held_of (inner_buffer mid.files.include_stack)) → length (held_of (inner_buffer mid.files.include_stack)) < 2 ^ 31 → ReadsDefine len mid new result → Walks g old new (step_answer new result)
   defined_steps None wide inside few reads = accepted_steps wide inside few reads
   defined_steps (Some Kept) wide inside few reads = refused_steps Kept refl reads
   defined_steps (Some (Source start end)) wide inside few reads = absurd reads
@@ -441,48 +441,48 @@ behind_twice x y p = ap (λ (xs : List ℕ). record { bytes = xs; fault = p.faul
 
 -- what is pending is lent
 pub take_pending : {S R : Type 0} (g : Ghosts S R) (old new : EngineView S R) (piece : PendingPiece) (pending : PendingView) → old.kept ≡ None → old.phase ≡ Open → IsBounded new
-    → TakesPiece (inner_name old.files.nest) old.pending pending piece → new ≡ record old { pending = pending; marks = lends_pending old.pending (inner_buffer old.files.nest).line old.marks } → Walks g old new (lent_answer new (Pending piece))
+    → TakesPiece (inner_name old.files.include_stack) old.pending pending piece → new ≡ record old { pending = pending; marks = lends_pending old.pending (inner_buffer old.files.include_stack).line old.marks } → Walks g old new (lent_answer new (Pending piece))
 unfolding text_of state_of
 take_pending {S} {R} g old new piece pending free open_ bounded takes becomes =
-    let marks = lends_pending old.pending (inner_buffer old.files.nest).line old.marks in
+    let marks = lends_pending old.pending (inner_buffer old.files.include_stack).line old.marks in
     let after = record old { pending = pending; marks = marks } in
-    let name = inner_name old.files.nest in
+    let name = inner_name old.files.include_stack in
     let bytes = take piece.len (part_bytes piece.part name (digits_of pending.origin)) in
-    let rest = goes_on (texts_left (run_rules g old) (state_of old) old.table.macros old.expansion) (λ after. left_by g old old.table.macros old.conditions old.files.nest) in
+    let rest = goes_on (texts_left (run_rules g old) (state_of old) old.table.macros old.expansion) (λ after. left_by g old old.table.macros old.conditions old.files.include_stack) in
     subst (λ (e : EngineView S R). Walks g old e (lent_answer e (Pending piece))) (sym becomes)
     (walks_lent g old after free open_ (subst IsBounded becomes bounded) bytes refl (refl, refl) (not_called g old.sources)
     (λ t. ap (λ (x : List ℕ). behind_bytes x rest) takes.bytes ∙ behind_twice bytes (pending_bytes name pending) rest)
     (pending_falls old after refl refl refl takes.fewer) (keeps_pending g old pending marks) (AtPending piece pending takes refl (pending_position old pending piece takes free open_) refl))
 
 -- and it is a place
-pub pending_is_placed : {S R : Type 0} (old new : EngineView S R) (piece : PendingPiece) (pending : PendingView) → 0 < length old.files.nest
-    → (marks : MarksView) → TakesPiece (inner_name old.files.nest) old.pending pending piece → new ≡ record old { pending = pending; marks = marks } → IsPlaced new (Pending piece)
+pub pending_is_placed : {S R : Type 0} (old new : EngineView S R) (piece : PendingPiece) (pending : PendingView) → 0 < length old.files.include_stack
+    → (marks : MarksView) → TakesPiece (inner_name old.files.include_stack) old.pending pending piece → new ≡ record old { pending = pending; marks = marks } → IsPlaced new (Pending piece)
 pending_is_placed {S} {R} old new piece pending some marks takes becomes =
     subst (λ (e : EngineView S R). IsPlaced e (Pending piece)) (sym becomes) (some, takes.inside)
 
 -- what is held stays so
 filled_stores : {S R : Type 0} (g : Ghosts S R) (old mid : EngineView S R) → IsReady old → IsRead g old mid
-    → Fills (g.tells old.sources) g.unread fill.Held (inner_buffer old.files.nest) (inner_buffer mid.files.nest) → SourcesCalled g false false old.sources mid.sources → KeepsStores g old mid
+    → Fills (g.tells old.sources) g.unread fill.Held (inner_buffer old.files.include_stack) (inner_buffer mid.files.include_stack) → SourcesCalled g false false old.sources mid.sources → KeepsStores g old mid
 filled_stores {S} {R} g old mid ready r fills call =
-    let b = inner_buffer mid.files.nest in
-    let nest = with_buffer b old.files.nest in
-    let is : mid ≡ record old { files = record old.files { nest = nest }; sources = mid.sources } =
+    let b = inner_buffer mid.files.include_stack in
+    let include_stack = with_buffer b old.files.include_stack in
+    let is : mid ≡ record old { files = record old.files { include_stack = include_stack }; sources = mid.sources } =
     r.becomes ∙ ap (λ (fs : FilesView R). record old { files = fs; sources = mid.sources }) r.only in
     subst (λ (e : EngineView S R). KeepsStores g old e) (sym is)
-    (keeps_sources g old old.pending old.marks old.table.macros old.conditions nest mid.sources ready.free ready.idle call.catalog
-    (λ t. parts_slid (g.tells old.sources) Unit g.unread b old.files.nest ready.nest (slides-told (g.tells old.sources) (g.tells old.sources) Unit (IsExact fill.Held) g.unread (inner_buffer old.files.nest) b (λ x. x) (λ _ e. cc) fills.slides) t (g.catalog old.sources)))
+    (keeps_sources g old old.pending old.marks old.table.macros old.conditions include_stack mid.sources ready.free ready.idle call.catalog
+    (λ t. parts_slid (g.tells old.sources) Unit g.unread b old.files.include_stack ready.include_stack (slides-told (g.tells old.sources) (g.tells old.sources) Unit (IsExact fill.Held) g.unread (inner_buffer old.files.include_stack) b (λ x. x) (λ _ e. cc) fills.slides) t (g.catalog old.sources)))
 
 -- bytes are held that weren't, and nothing else changed
 pub silent_fill : {S R : Type 0} (g : Ghosts S R) (old mid : EngineView S R) → IsReady old → IsRead g old mid
-    → Fills (g.tells old.sources) g.unread fill.Held (inner_buffer old.files.nest) (inner_buffer mid.files.nest) → SourcesCalled g false false old.sources mid.sources → IsSilent g 1 old mid
+    → Fills (g.tells old.sources) g.unread fill.Held (inner_buffer old.files.include_stack) (inner_buffer mid.files.include_stack) → SourcesCalled g false false old.sources mid.sources → IsSilent g 1 old mid
 silent_fill {S} {R} g old mid ready r fills call =
-    let b = inner_buffer mid.files.nest in
+    let b = inner_buffer mid.files.include_stack in
     let limits : mid.limits ≡ old.limits = ap (λ e. e.limits) r.becomes in
     let origins : mid.origins ≡ old.origins = ap (λ e. e.origins) r.becomes in
     let table : mid.table ≡ old.table = ap (λ e. e.table) r.becomes in
     let conditions : mid.conditions ≡ old.conditions = ap (λ e. e.conditions) r.becomes in
     let pending : mid.pending ≡ old.pending = ap (λ e. e.pending) r.becomes in
-    let nest : mid.files.nest ≡ with_buffer b old.files.nest = ap (λ f. f.nest) r.only in
+    let include_stack : mid.files.include_stack ≡ with_buffer b old.files.include_stack = ap (λ f. f.include_stack) r.only in
     record {
       limits = limits;
       origins = origins;
@@ -496,8 +496,8 @@ silent_fill {S} {R} g old mid ready r fills call =
       stays = ap (λ e. e.phase) r.becomes ∙ ready.open_;
       call = call;
       text = λ t. read_text g old mid ready.pending ready.idle r call.catalog
-          (nest_filled old.limits (run_rules g old) g.unread old.table.macros old.conditions (g.tells old.sources) t old.files.nest b fills);
-      work = (let same : work_left mid ≡ work_left old = work_same old mid b limits pending (ap (λ e. e.expansion) r.becomes) nest fills.unused in omega arith);
+          (include_stack_filled old.limits (run_rules g old) g.unread old.table.macros old.conditions (g.tells old.sources) t old.files.include_stack b fills);
+      work = (let same : work_left mid ≡ work_left old = work_same old mid b limits pending (ap (λ e. e.expansion) r.becomes) include_stack fills.unused in omega arith);
       keeps = filled_stores g old mid ready r fills call;
       reaches = reaches_one g old mid (record { after = mid; place = None; stands = Nowhere refl (InSources ready.idle (ap (λ e. e.expansion) r.becomes) (Unmarked (ap (λ e. e.marks) r.becomes))); becomes = refl });
       few = one_part _ refl;
@@ -515,7 +515,7 @@ ready_filled old mid ready r sound files = record {
   free = ap (λ e. e.kept) r.becomes ∙ ready.free;
   pending = ap (λ e. e.pending) r.becomes ∙ ready.pending;
   idle = ap (λ e. e.expansion.opens) r.becomes ∙ ready.idle;
-  nest = sound.open_ (opened_phase mid.phase (ap (λ e. e.phase) r.becomes ∙ ready.open_));
+  include_stack = sound.open_ (opened_phase mid.phase (ap (λ e. e.phase) r.becomes ∙ ready.open_));
   sound = sound;
   files = files;
 }
@@ -523,69 +523,69 @@ ready_filled old mid ready r sound files = record {
 -- what remains of an engine that goes on, where what it begins with ends the output
 module _ {S R : Type 0} (g : Ghosts S R) (e : EngineView S R) where
   abbrev pub Fails : FaultKind → ℕ → List ℕ → Type 0
-  Fails kind line word = left_by g e e.table.macros e.conditions e.files.nest ≡ leaves (fails (fault_at kind line word (state_of e))) (state_of e)
+  Fails kind line word = left_by g e e.table.macros e.conditions e.files.include_stack ≡ leaves (fails (fault_at kind line word (state_of e))) (state_of e)
 
   -- a usage of what isn't defined
-  pub left_undefined : (len : ℕ) → IsReady e → e.conditions.skipped ≡ None → 0 < length (held_of (inner_buffer e.files.nest)) → (inner_buffer e.files.nest).mode ≡ Plain → IsUsage (held_of (inner_buffer e.files.nest)) len
-      → macro_named e.table.macros (usage_name (held_of (inner_buffer e.files.nest)) len) ≡ None → Fails fault.UndefinedMacro (inner_buffer e.files.nest).line (usage_name (held_of (inner_buffer e.files.nest)) len)
+  pub left_undefined : (len : ℕ) → IsReady e → e.conditions.skipped ≡ None → 0 < length (held_of (inner_buffer e.files.include_stack)) → (inner_buffer e.files.include_stack).mode ≡ Plain → IsUsage (held_of (inner_buffer e.files.include_stack)) len
+      → macro_named e.table.macros (usage_name (held_of (inner_buffer e.files.include_stack)) len) ≡ None → Fails fault.UndefinedMacro (inner_buffer e.files.include_stack).line (usage_name (held_of (inner_buffer e.files.include_stack)) len)
   unfolding state_of
   left_undefined len ready live some plain usage none =
-      nest_undefined e.limits (run_rules g e) g.unread e.table.macros e.conditions live e.files.nest len some (inner_facts e.files ready.nest ready.files).ends plain usage none
+      include_stack_undefined e.limits (run_rules g e) g.unread e.table.macros e.conditions live e.files.include_stack len some (inner_facts e.files ready.include_stack ready.files).ends plain usage none
 
   -- what is refused
-  pub left_refused : (kind : FaultKind) → IsReady e → e.conditions.skipped ≡ None → 0 < length (held_of (inner_buffer e.files.nest)) → IsRefused (inner_buffer e.files.nest).mode (held_of (inner_buffer e.files.nest)) kind → Fails kind (inner_buffer e.files.nest).line []
+  pub left_refused : (kind : FaultKind) → IsReady e → e.conditions.skipped ≡ None → 0 < length (held_of (inner_buffer e.files.include_stack)) → IsRefused (inner_buffer e.files.include_stack).mode (held_of (inner_buffer e.files.include_stack)) kind → Fails kind (inner_buffer e.files.include_stack).line []
   unfolding state_of
   left_refused kind ready live some refused =
-      nest_refused e.limits (run_rules g e) g.unread e.table.macros e.conditions live e.files.nest kind some (inner_facts e.files ready.nest ready.files).ends refused
+      include_stack_refused e.limits (run_rules g e) g.unread e.table.macros e.conditions live e.files.include_stack kind some (inner_facts e.files ready.include_stack ready.files).ends refused
 
 -- what remains where a line breaks the source
 module _ {S R : Type 0} (g : Ghosts S R) (old mid : EngineView S R) (ready : IsReady old) (t : g.tells old.sources) where
-  pub left_long_line : Fills (g.tells old.sources) g.unread fill.LineLong (inner_buffer old.files.nest) (inner_buffer mid.files.nest)
-      → left_by g old old.table.macros old.conditions old.files.nest ≡ leaves (fails (fault_at fault.LineTooLong (inner_buffer mid.files.nest).line [] (state_of old))) (state_of old)
+  pub left_long_line : Fills (g.tells old.sources) g.unread fill.LineLong (inner_buffer old.files.include_stack) (inner_buffer mid.files.include_stack)
+      → left_by g old old.table.macros old.conditions old.files.include_stack ≡ leaves (fails (fault_at fault.LineTooLong (inner_buffer mid.files.include_stack).line [] (state_of old))) (state_of old)
   unfolding state_of
   left_long_line fills =
-      nest_long_line old.limits (run_rules g old) g.unread old.table.macros old.conditions (g.tells old.sources) t old.files.nest (inner_buffer mid.files.nest) ready.nest fills
+      include_stack_long_line old.limits (run_rules g old) g.unread old.table.macros old.conditions (g.tells old.sources) t old.files.include_stack (inner_buffer mid.files.include_stack) ready.include_stack fills
       ∙ rw fills.line refl
 
-  pub left_long_source : Fills (g.tells old.sources) g.unread fill.SourceLong (inner_buffer old.files.nest) (inner_buffer mid.files.nest)
-      → left_by g old old.table.macros old.conditions old.files.nest ≡ leaves (fails (fault_at fault.SourceTooLong (inner_buffer mid.files.nest).line [] (state_of old))) (state_of old)
+  pub left_long_source : Fills (g.tells old.sources) g.unread fill.SourceLong (inner_buffer old.files.include_stack) (inner_buffer mid.files.include_stack)
+      → left_by g old old.table.macros old.conditions old.files.include_stack ≡ leaves (fails (fault_at fault.SourceTooLong (inner_buffer mid.files.include_stack).line [] (state_of old))) (state_of old)
   unfolding state_of
   left_long_source fills =
-      nest_long_source old.limits (run_rules g old) g.unread old.table.macros old.conditions (g.tells old.sources) t old.files.nest (inner_buffer mid.files.nest) ready.nest fills
+      include_stack_long_source old.limits (run_rules g old) g.unread old.table.macros old.conditions (g.tells old.sources) t old.files.include_stack (inner_buffer mid.files.include_stack) ready.include_stack fills
       ∙ rw fills.line refl
 
   -- where a read fails the same remains
-  pub left_unfilled : Fills (g.tells old.sources) g.unread fill.Failed (inner_buffer old.files.nest) (inner_buffer mid.files.nest)
-      → left_by g old old.table.macros old.conditions old.files.nest ≡ left_by g old old.table.macros old.conditions (with_buffer (inner_buffer mid.files.nest) old.files.nest)
-  left_unfilled fills = nest_unfilled old.limits (run_rules g old) g.unread old.table.macros old.conditions (g.tells old.sources) t old.files.nest (inner_buffer mid.files.nest) fills
+  pub left_unfilled : Fills (g.tells old.sources) g.unread fill.Failed (inner_buffer old.files.include_stack) (inner_buffer mid.files.include_stack)
+      → left_by g old old.table.macros old.conditions old.files.include_stack ≡ left_by g old old.table.macros old.conditions (with_buffer (inner_buffer mid.files.include_stack) old.files.include_stack)
+  left_unfilled fills = include_stack_unfilled old.limits (run_rules g old) g.unread old.table.macros old.conditions (g.tells old.sources) t old.files.include_stack (inner_buffer mid.files.include_stack) fills
 
-  pub left_unheld : HoldsLine (g.tells old.sources) g.unread line.Failed (inner_buffer old.files.nest) (inner_buffer mid.files.nest)
-      → left_by g old old.table.macros old.conditions old.files.nest ≡ left_by g old old.table.macros old.conditions (with_buffer (inner_buffer mid.files.nest) old.files.nest)
-  left_unheld holds = nest_unheld old.limits (run_rules g old) g.unread old.table.macros old.conditions (g.tells old.sources) t old.files.nest (inner_buffer mid.files.nest) holds
+  pub left_unheld : HoldsLine (g.tells old.sources) g.unread line.Failed (inner_buffer old.files.include_stack) (inner_buffer mid.files.include_stack)
+      → left_by g old old.table.macros old.conditions old.files.include_stack ≡ left_by g old old.table.macros old.conditions (with_buffer (inner_buffer mid.files.include_stack) old.files.include_stack)
+  left_unheld holds = include_stack_unheld old.limits (run_rules g old) g.unread old.table.macros old.conditions (g.tells old.sources) t old.files.include_stack (inner_buffer mid.files.include_stack) holds
 
   -- or the logical line of a `define` does
-  module _ (live : old.conditions.skipped ≡ None) (some : 0 < length (held_of (inner_buffer old.files.nest))) (plain : (inner_buffer old.files.nest).mode ≡ Plain) (define : IsDirective Define (held_of (inner_buffer old.files.nest))) where
-    pub left_long_define : HoldsLine (g.tells old.sources) g.unread line.TooLong (inner_buffer old.files.nest) (inner_buffer mid.files.nest)
-        → left_by g old old.table.macros old.conditions old.files.nest ≡ leaves (fails (fault_at fault.LineTooLong (inner_buffer mid.files.nest).line [] (state_of old))) (state_of old)
+  module _ (live : old.conditions.skipped ≡ None) (some : 0 < length (held_of (inner_buffer old.files.include_stack))) (plain : (inner_buffer old.files.include_stack).mode ≡ Plain) (define : IsDirective Define (held_of (inner_buffer old.files.include_stack))) where
+    pub left_long_define : HoldsLine (g.tells old.sources) g.unread line.TooLong (inner_buffer old.files.include_stack) (inner_buffer mid.files.include_stack)
+        → left_by g old old.table.macros old.conditions old.files.include_stack ≡ leaves (fails (fault_at fault.LineTooLong (inner_buffer mid.files.include_stack).line [] (state_of old))) (state_of old)
     unfolding state_of
     left_long_define holds =
-        nest_long_define old.limits (run_rules g old) g.unread old.table.macros old.conditions live (g.tells old.sources) t old.files.nest (inner_buffer mid.files.nest)
-        some (inner_facts old.files ready.nest ready.files).ends plain define holds
+        include_stack_long_define old.limits (run_rules g old) g.unread old.table.macros old.conditions live (g.tells old.sources) t old.files.include_stack (inner_buffer mid.files.include_stack)
+        some (inner_facts old.files ready.include_stack ready.files).ends plain define holds
         ∙ rw holds.extends.line refl
 
-    pub left_cut_define : HoldsLine (g.tells old.sources) g.unread line.SourceLong (inner_buffer old.files.nest) (inner_buffer mid.files.nest)
-        → left_by g old old.table.macros old.conditions old.files.nest ≡ leaves (fails (fault_at fault.SourceTooLong (inner_buffer mid.files.nest).line [] (state_of old))) (state_of old)
+    pub left_cut_define : HoldsLine (g.tells old.sources) g.unread line.SourceLong (inner_buffer old.files.include_stack) (inner_buffer mid.files.include_stack)
+        → left_by g old old.table.macros old.conditions old.files.include_stack ≡ leaves (fails (fault_at fault.SourceTooLong (inner_buffer mid.files.include_stack).line [] (state_of old))) (state_of old)
     unfolding state_of
     left_cut_define holds =
-        nest_cut_define old.limits (run_rules g old) g.unread old.table.macros old.conditions live (g.tells old.sources) t old.files.nest (inner_buffer mid.files.nest)
-        some (inner_facts old.files ready.nest ready.files).ends plain define holds
+        include_stack_cut_define old.limits (run_rules g old) g.unread old.table.macros old.conditions live (g.tells old.sources) t old.files.include_stack (inner_buffer mid.files.include_stack)
+        some (inner_facts old.files ready.include_stack ready.files).ends plain define holds
         ∙ rw holds.extends.line refl
 
 -- no more is held than a line may have
-pub held_few : {S R : Type 0} (e : EngineView S R) → IsSoundEngine e.limits e.phase e.table e.files e.conditions → AreOpen e.files → 0 < length e.files.nest → length (held_of (inner_buffer e.files.nest)) < 2 ^ 31
+pub held_few : {S R : Type 0} (e : EngineView S R) → IsSoundEngine e.limits e.phase e.table e.files e.conditions → AreOpen e.files → 0 < length e.files.include_stack → length (held_of (inner_buffer e.files.include_stack)) < 2 ^ 31
 held_few e sound files some =
     let inner = inner_facts e.files some files in
-    let room = held_room (inner_buffer e.files.nest) in
+    let room = held_room (inner_buffer e.files.include_stack) in
     let lines = inner.buffer.lines in
     let within = inner.buffer.within in
     let size = inner.size in
@@ -594,25 +594,25 @@ held_few e sound files some =
     omega arith
 
 -- what stands where a mode is entered
-pub entered_at : {R : Type 0} (nest : List (File R)) (next : Mode) → (inner_buffer (with_buffer (entered_mode (inner_buffer nest) next) nest)).at ≡ (inner_buffer nest).at
+pub entered_at : {R : Type 0} (include_stack : List (File R)) (next : Mode) → (inner_buffer (with_buffer (entered_mode (inner_buffer include_stack) next) include_stack)).at ≡ (inner_buffer include_stack).at
 unfolding entered_mode
 entered_at [] next = refl
 entered_at (f ∷ outer) next = refl
 
-pub entered_holds : {R : Type 0} (nest : List (File R)) (next : Mode) → held_of (inner_buffer (with_buffer (entered_mode (inner_buffer nest) next) nest)) ≡ held_of (inner_buffer nest)
+pub entered_holds : {R : Type 0} (include_stack : List (File R)) (next : Mode) → held_of (inner_buffer (with_buffer (entered_mode (inner_buffer include_stack) next) include_stack)) ≡ held_of (inner_buffer include_stack)
 unfolding entered_mode held_of
 entered_holds [] next = refl
 entered_holds (f ∷ outer) next = refl
 
 -- the places of held bytes can be counted, and lie in the window
 pub record IsRoom {S R : Type 0} (e : EngineView S R) (len start : ℕ) : Type 0 where
-  pub inside : start + len ≤ length (inner_buffer e.files.nest).window
+  pub inside : start + len ≤ length (inner_buffer e.files.include_stack).window
   pub few : start + len < 2 ^ 64
 
-pub room_of : {S R : Type 0} (e : EngineView S R) (len start : ℕ) → IsReady e → len ≤ length (held_of (inner_buffer e.files.nest)) → start ≡ (inner_buffer e.files.nest).at → IsRoom e len start
+pub room_of : {S R : Type 0} (e : EngineView S R) (len start : ℕ) → IsReady e → len ≤ length (held_of (inner_buffer e.files.include_stack)) → start ≡ (inner_buffer e.files.include_stack).at → IsRoom e len start
 room_of e len start ready inside is =
-    let inner = inner_facts e.files ready.nest ready.files in
-    let room = held_room (inner_buffer e.files.nest) in
+    let inner = inner_facts e.files ready.include_stack ready.files in
+    let room = held_room (inner_buffer e.files.include_stack) in
     let used = inner.buffer.used in
     let lines = inner.buffer.lines in
     let within = inner.buffer.within in
@@ -623,15 +623,15 @@ room_of e len start ready inside is =
 
 -- the text that is lent lies in the window
 pub text_placed : {S R : Type 0} (old mid new : EngineView S R) (len lines start : ℕ) (next : Mode) → IsReady old → IsRoom old len start
-    → mid ≡ record old { files = record old.files { nest = with_buffer (entered_mode (inner_buffer old.files.nest) next) old.files.nest } }
-    → (marks : MarksView) → new ≡ record mid { files = record mid.files { nest = with_inner (consumed_file len lines) mid.files.nest }; marks = marks }
+    → mid ≡ record old { files = record old.files { include_stack = with_buffer (entered_mode (inner_buffer old.files.include_stack) next) old.files.include_stack } }
+    → (marks : MarksView) → new ≡ record mid { files = record mid.files { include_stack = with_inner (consumed_file len lines) mid.files.include_stack }; marks = marks }
     → IsPlaced new (Source start (start + len))
 text_placed {S} {R} old mid new len lines start next ready room enters marks uses =
-    let nest : new.files.nest ≡ with_inner (consumed_file len lines) (with_buffer (entered_mode (inner_buffer old.files.nest) next) old.files.nest) =
-    ap (λ e. e.files.nest) uses ∙ ap (λ (m : EngineView S R). with_inner (consumed_file len lines) m.files.nest) enters in
-    let window = ap (λ ns. length (inner_buffer ns).window) nest ∙ ap length (same_window old.files.nest len lines next) in
-    let size = ap length nest ∙ (with_inner-length (consumed_file len lines) (with_buffer (entered_mode (inner_buffer old.files.nest) next) old.files.nest) ∙ with_inner-length (λ f. record f { buffer = entered_mode (inner_buffer old.files.nest) next }) old.files.nest) in
-    let some = ready.nest in
+    let include_stack : new.files.include_stack ≡ with_inner (consumed_file len lines) (with_buffer (entered_mode (inner_buffer old.files.include_stack) next) old.files.include_stack) =
+    ap (λ e. e.files.include_stack) uses ∙ ap (λ (m : EngineView S R). with_inner (consumed_file len lines) m.files.include_stack) enters in
+    let window = ap (λ ns. length (inner_buffer ns).window) include_stack ∙ ap length (same_window old.files.include_stack len lines next) in
+    let size = ap length include_stack ∙ (with_inner-length (consumed_file len lines) (with_buffer (entered_mode (inner_buffer old.files.include_stack) next) old.files.include_stack) ∙ with_inner-length (λ f. record f { buffer = entered_mode (inner_buffer old.files.include_stack) next }) old.files.include_stack) in
+    let some = ready.include_stack in
     let inside = room.inside in
     (omega arith, omega arith, omega arith)
 
@@ -662,14 +662,14 @@ table_same old new bytes count = rw (← bytes, ← count) refl
 
 -- an accepted `define`
 pub defines_by : {S R : Type 0} (len : ℕ) (old now new : EngineView S R) (table : TableView) (pending : PendingView) (lines : ℕ)
-    → now ≡ record old { table = table; files = record old.files { nest = with_inner (consumed_file len lines) old.files.nest } }
+    → now ≡ record old { table = table; files = record old.files { include_stack = with_inner (consumed_file len lines) old.files.include_stack } }
     → new ≡ record now { pending = pending } → pending ≡ record now.pending { line_ends = now.pending.line_ends + lines } → old.pending ≡ nothing_pending
     → (table.most_bytes ≡ old.table.most_bytes) × (table.most_macros ≡ old.table.most_macros)
     → define_of old.table.most_bytes old.table.most_macros old.table.macros (define_rest old len) ≡ table_define.Accepted table.macros
-    → lines ≡ line_ends (take len (held_of (inner_buffer old.files.nest))) → Defines len old new
+    → lines ≡ line_ends (take len (held_of (inner_buffer old.files.include_stack))) → Defines len old new
 unfolding nothing_pending line_ends_pending
 defines_by {S} {R} len old now new table pending lines used queues adds nothing limits accepted counted =
-    let files : FilesView R = record old.files { nest = with_inner (consumed_file len lines) old.files.nest } in
+    let files : FilesView R = record old.files { include_stack = with_inner (consumed_file len lines) old.files.include_stack } in
     let none : now.pending.line_ends ≡ 0 = ap (λ e. e.pending.line_ends) used ∙ ap (λ o. o.line_ends) nothing in
     let count : now.pending.line_ends + lines ≡ lines = omega arith in
     let empty : now.pending.origin ≡ None = ap (λ e. e.pending.origin) used ∙ ap (λ o. o.origin) nothing in
@@ -692,7 +692,7 @@ ready_idle e drained idle sound files = record {
   free = drained.free;
   pending = drained.pending;
   idle = idle;
-  nest = sound.open_ (opened_phase e.phase drained.open_);
+  include_stack = sound.open_ (opened_phase e.phase drained.open_);
   sound = sound;
   files = files;
 }

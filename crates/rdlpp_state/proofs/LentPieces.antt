@@ -29,7 +29,7 @@ use Rattle.rdlpp_state.specs.Marks.{MarksView, PlaceView, lends_line, lends_line
 use Rattle.rdlpp_state.specs.Pending.{OriginView, PendingView, TakesPiece, behind_piece, cut_to, digits_of, first_piece, line_from, nothing_pending, origin_bytes, origin_pending, origin_pieces, pending_bytes, pending_number, pending_pieces, part_bytes, pieces_from}
 use Rattle.rdlpp_state.specs.Pieces.{IsPlaced, held_texts, kept_answer, lent_answer, pending_part}
 use Rattle.rdlpp_state.specs.Positions.{TakesPending, line_end_place, origin_place, pending_place, place_at, position_of, source_place, usage_place}
-use Rattle.rdlpp_state.specs.Remaining.{file_state, inner_name, kept_uncut, left_of, nest_state, output_fault, phase_uncut, source_rules, state_of, text_of, uncut_of, work_left}
+use Rattle.rdlpp_state.specs.Remaining.{file_state, inner_name, kept_uncut, left_of, include_stack_state, output_fault, phase_uncut, source_rules, state_of, text_of, uncut_of, work_left}
 use Rattle.rdlpp_state.specs.Silences.{most_silent}
 use Rattle.rdlpp_state.specs.Standing.{StandsIn}
 use Rattle.rdlpp_state.specs.Steps.{Steps, WalksOver, all_of, has_met, is_call_failed, lent_len, may_follow, no_len}
@@ -121,11 +121,11 @@ pending_with_origin c limits origins name w lines number counted =
     ∙ ap (λ (x : List ℕ). x ++ origin_line (source_rules c limits origins) name number) (ap (λ n. replicate n 10) counted ∙ sym (line_ends_of-owed w))
 
 -- an LF that is pending where a text ends in mid-line, and an origin line behind it
-pub pending_torn : (c : Catalog) (limits : Limits) (origins : Bool) (name : List ℕ) (torn : Bool) (number : ℕ)
-    → pending_bytes name (record { line_ends = if torn then 1 else 0; origin = origin_pending origins number }) ≡ (if torn then 10 ∷ [] else []) ++ origin_line (source_rules c limits origins) name number
+pub pending_ends_mid_line : (c : Catalog) (limits : Limits) (origins : Bool) (name : List ℕ) (ends_mid_line : Bool) (number : ℕ)
+    → pending_bytes name (record { line_ends = if ends_mid_line then 1 else 0; origin = origin_pending origins number }) ≡ (if ends_mid_line then 10 ∷ [] else []) ++ origin_line (source_rules c limits origins) name number
 unfolding pending_bytes source_rules rules_of
-pending_torn c limits origins name true number = ap (λ (x : List ℕ). 10 ∷ x) (origin_line_pending origins (source_rules c limits origins) name number refl)
-pending_torn c limits origins name false number = origin_line_pending origins (source_rules c limits origins) name number refl
+pending_ends_mid_line c limits origins name true number = ap (λ (x : List ℕ). 10 ∷ x) (origin_line_pending origins (source_rules c limits origins) name number refl)
+pending_ends_mid_line c limits origins name false number = origin_line_pending origins (source_rules c limits origins) name number refl
 
 -- they can be counted
 pub pending_few : (origins : Bool) (lines number : ℕ) → lines + 5 < 2 ^ 31 → pending_pieces (record { line_ends = lines; origin = origin_pending origins number }) < 2 ^ 31
@@ -140,15 +140,15 @@ unfolding position_of
 position_open e free opens = rw (free, opens) refl
 
 -- the innermost source shows the same name and numbers where bytes of it are used
-used_name : {R : Type 0} (limits : Limits) (macros : List Macro) (v : ConditionsView) (nest : List (File R)) (len lines : ℕ) (next : Mode)
-    → (nest_state limits macros v (with_inner (consumed_file len lines) (with_buffer (entered_mode (inner_buffer nest) next) nest))).name ≡ (nest_state limits macros v nest).name
-unfolding nest_state file_state
+used_name : {R : Type 0} (limits : Limits) (macros : List Macro) (v : ConditionsView) (include_stack : List (File R)) (len lines : ℕ) (next : Mode)
+    → (include_stack_state limits macros v (with_inner (consumed_file len lines) (with_buffer (entered_mode (inner_buffer include_stack) next) include_stack))).name ≡ (include_stack_state limits macros v include_stack).name
+unfolding include_stack_state file_state
 used_name limits macros v [] len lines next = refl
 used_name limits macros v (f ∷ outer) len lines next = refl
 
-used_shift : {R : Type 0} (limits : Limits) (macros : List Macro) (v : ConditionsView) (nest : List (File R)) (len lines : ℕ) (next : Mode)
-    → (nest_state limits macros v (with_inner (consumed_file len lines) (with_buffer (entered_mode (inner_buffer nest) next) nest))).shift ≡ (nest_state limits macros v nest).shift
-unfolding nest_state file_state
+used_shift : {R : Type 0} (limits : Limits) (macros : List Macro) (v : ConditionsView) (include_stack : List (File R)) (len lines : ℕ) (next : Mode)
+    → (include_stack_state limits macros v (with_inner (consumed_file len lines) (with_buffer (entered_mode (inner_buffer include_stack) next) include_stack))).shift ≡ (include_stack_state limits macros v include_stack).shift
+unfolding include_stack_state file_state
 used_shift limits macros v [] len lines next = refl
 used_shift limits macros v (f ∷ outer) len lines next = refl
 
@@ -159,13 +159,13 @@ marked_line m line name shift s named shifted = rw (named, shifted) refl
 
 -- text of the innermost source is lent
 pub source_position : {S R : Type 0} (old : EngineView S R) (len lines : ℕ) (next : Mode) → old.kept ≡ None → old.phase ≡ Open
-    → position_of (record old { files = record old.files { nest = with_inner (consumed_file len lines) (with_buffer (entered_mode (inner_buffer old.files.nest) next) old.files.nest) }; marks = lends_line (inner_buffer old.files.nest).line old.marks })
+    → position_of (record old { files = record old.files { include_stack = with_inner (consumed_file len lines) (with_buffer (entered_mode (inner_buffer old.files.include_stack) next) old.files.include_stack) }; marks = lends_line (inner_buffer old.files.include_stack).line old.marks })
     ≡ Some (source_place old)
 unfolding state_of is_open
 source_position old len lines next free open_ =
     position_open _ free (ap is_open open_)
-    ∙ marked_line old.marks (inner_buffer old.files.nest).line _ _ (state_of old)
-    (used_name old.limits old.table.macros old.conditions old.files.nest len lines next) (used_shift old.limits old.table.macros old.conditions old.files.nest len lines next)
+    ∙ marked_line old.marks (inner_buffer old.files.include_stack).line _ _ (state_of old)
+    (used_name old.limits old.table.macros old.conditions old.files.include_stack len lines next) (used_shift old.limits old.table.macros old.conditions old.files.include_stack len lines next)
 
 -- text of a usage is lent
 pub usage_position : {S R : Type 0} (old : EngineView S R) (x : ExpansionView) → old.kept ≡ None → old.phase ≡ Open
@@ -193,13 +193,13 @@ some_pieces pending rest fewer none = let zeroth = eqb-true pending.line_ends 0 
 
 -- the first piece of what is pending is lent
 marked_pending : {S R : Type 0} (b : Bool) (e : EngineView S R) (rest : PendingView) → (e.pending.line_ends == 0) ≡ b → pending_pieces rest < pending_pieces e.pending
-    → marked_place (lends_pending e.pending (inner_buffer e.files.nest).line e.marks) (state_of e).name (state_of e).shift ≡ pending_place e
+    → marked_place (lends_pending e.pending (inner_buffer e.files.include_stack).line e.marks) (state_of e).name (state_of e).shift ≡ pending_place e
 unfolding lends_pending pending_place line_end_place
 marked_pending true e rest is fewer = rw is (marked_origin e.pending.origin e.marks (state_of e) (some_pieces e.pending rest fewer is))
-marked_pending false e rest is fewer = rw is (marked_end e.marks.ending e.marks e.pending.line_ends (inner_buffer e.files.nest).line (state_of e) refl)
+marked_pending false e rest is fewer = rw is (marked_end e.marks.ending e.marks e.pending.line_ends (inner_buffer e.files.include_stack).line (state_of e) refl)
 
-pub pending_position : {S R : Type 0} (old : EngineView S R) (rest : PendingView) (piece : PendingPiece) → TakesPiece (inner_name old.files.nest) old.pending rest piece → old.kept ≡ None → old.phase ≡ Open
-    → position_of (record old { pending = rest; marks = lends_pending old.pending (inner_buffer old.files.nest).line old.marks }) ≡ pending_place old
+pub pending_position : {S R : Type 0} (old : EngineView S R) (rest : PendingView) (piece : PendingPiece) → TakesPiece (inner_name old.files.include_stack) old.pending rest piece → old.kept ≡ None → old.phase ≡ Open
+    → position_of (record old { pending = rest; marks = lends_pending old.pending (inner_buffer old.files.include_stack).line old.marks }) ≡ pending_place old
 unfolding state_of is_open
 pending_position old rest piece takes free open_ = position_open _ free (ap is_open open_) ∙ marked_pending (old.pending.line_ends == 0) old rest refl takes.fewer
 
@@ -246,15 +246,15 @@ pub nowhere_closed : {S R : Type 0} (e : EngineView S R) → is_open e.phase ≡
 nowhere_closed e closed = nowhere_free e e.kept refl closed
 
 -- what the innermost source shows
-pub first_name : {S R : Type 0} (e : EngineView S R) (f : File R) (outer : List (File R)) → e.files.nest ≡ f ∷ outer → (state_of e).name ≡ f.name.bytes
-unfolding state_of nest_state file_state
-first_name {S} {R} e f outer is = ap (λ (ns : List (File R)). (nest_state e.limits e.table.macros e.conditions ns).name) is
+pub first_name : {S R : Type 0} (e : EngineView S R) (f : File R) (outer : List (File R)) → e.files.include_stack ≡ f ∷ outer → (state_of e).name ≡ f.name.bytes
+unfolding state_of include_stack_state file_state
+first_name {S} {R} e f outer is = ap (λ (ns : List (File R)). (include_stack_state e.limits e.table.macros e.conditions ns).name) is
 
-pub first_shift : {S R : Type 0} (e : EngineView S R) (f : File R) (outer : List (File R)) → e.files.nest ≡ f ∷ outer → (state_of e).shift ≡ shift_of f.shift
-unfolding state_of nest_state file_state
-first_shift {S} {R} e f outer is = ap (λ (ns : List (File R)). (nest_state e.limits e.table.macros e.conditions ns).shift) is
+pub first_shift : {S R : Type 0} (e : EngineView S R) (f : File R) (outer : List (File R)) → e.files.include_stack ≡ f ∷ outer → (state_of e).shift ≡ shift_of f.shift
+unfolding state_of include_stack_state file_state
+first_shift {S} {R} e f outer is = ap (λ (ns : List (File R)). (include_stack_state e.limits e.table.macros e.conditions ns).shift) is
 
-pub position_first : {S R : Type 0} (e : EngineView S R) (f : File R) (outer : List (File R)) → e.files.nest ≡ f ∷ outer → is_some e.kept ≡ false → is_open e.phase ≡ true
+pub position_first : {S R : Type 0} (e : EngineView S R) (f : File R) (outer : List (File R)) → e.files.include_stack ≡ f ∷ outer → is_some e.kept ≡ false → is_open e.phase ≡ true
     → position_of e ≡ marked_place e.marks f.name.bytes (shift_of f.shift)
 position_first e f outer is none opens =
     position_open e (no_fault e.kept none) opens ∙ (ap (λ (n : List ℕ). marked_place e.marks n (state_of e).shift) (first_name e f outer is) ∙ ap (marked_place e.marks f.name.bytes) (first_shift e f outer is))
@@ -271,11 +271,11 @@ untaken None inside old m rest line is marks none = (
 
 -- the first piece is taken out, and its place is marked
 pub takes_marked : {S R : Type 0} (result : Option PendingPiece) (inside old : EngineView S R) (m : MarksView) (rest : PendingView) (line name_len : ℕ) → inside ≡ old → m ≡ lends_pending inside.pending line inside.marks
-    → line ≡ (inner_buffer old.files.nest).line → length (inner_name old.files.nest) ≡ name_len
+    → line ≡ (inner_buffer old.files.include_stack).line → length (inner_name old.files.include_stack) ≡ name_len
     → IfSome result (λ piece. (name : List ℕ) → length name ≡ name_len → TakesPiece name inside.pending rest piece) → IfSome result (TakesPending old (record inside { marks = m; pending = rest }))
 takes_marked None inside old m rest line name_len is marks here size takes = tt
 takes_marked {S} {R} (Some piece) inside old m rest line name_len is marks here size takes =
-    let name = inner_name old.files.nest in
+    let name = inner_name old.files.include_stack in
     record {
       rest = rest;
       takes = subst (λ (o : PendingView). TakesPiece name o rest piece) (ap (λ e. e.pending) is) (takes name size);
@@ -587,10 +587,10 @@ pub cut_source : {S R : Type 0} (g : Ghosts S R) (old mid new : EngineView S R) 
     → IsPlaced mid (Source from to) → IsSpent mid new (to - from) len → Steps g old new (lent_answer new (Source from (from + len)))
 cut_source {S} {R} g old mid new from to len w placed spent =
     let part = spent_part mid new (to - from) len spent in
-    let xs = slice_range (inner_buffer mid.files.nest).window from to in
-    told_bytes g old new (take len xs) (slice_range (inner_buffer new.files.nest).window from (from + len))
-    (ap (λ f. slice_range (inner_buffer f.nest).window from (from + len)) part.files ∙ part_cut (inner_buffer mid.files.nest).window from to len part.inside)
-    (cut_piece g old mid new xs (to - from) len w (part_len (inner_buffer mid.files.nest).window from to placed.1 placed.2) spent)
+    let xs = slice_range (inner_buffer mid.files.include_stack).window from to in
+    told_bytes g old new (take len xs) (slice_range (inner_buffer new.files.include_stack).window from (from + len))
+    (ap (λ f. slice_range (inner_buffer f.include_stack).window from (from + len)) part.files ∙ part_cut (inner_buffer mid.files.include_stack).window from to len part.inside)
+    (cut_piece g old mid new xs (to - from) len w (part_len (inner_buffer mid.files.include_stack).window from to placed.1 placed.2) spent)
 
 -- the beginning of a place of an open text
 abbrev pub cut_place : TextPlace → ℕ → TextPlace
@@ -630,8 +630,8 @@ cut_kept g old new (Some f) w = cut_fault g old new f w
 part_same : {S R : Type 0} (mid new : EngineView S R) (piece : PendingPiece) (n len k : ℕ) → IsPart mid new n len → pending_part new (cut_to piece k) ≡ pending_part mid piece
 unfolding cut_to
 part_same mid new piece n len k part =
-    ap (λ f. part_bytes piece.part (inner_name f.nest) (digits_of new.pending.origin)) part.files
-    ∙ ap (λ o. part_bytes piece.part (inner_name mid.files.nest) (digits_of o.origin)) part.pending
+    ap (λ f. part_bytes piece.part (inner_name f.include_stack) (digits_of new.pending.origin)) part.files
+    ∙ ap (λ o. part_bytes piece.part (inner_name mid.files.include_stack) (digits_of o.origin)) part.pending
 
 -- a piece that is pending, cut to what may still be lent
 pub cut_pending : {S R : Type 0} (g : Ghosts S R) (old mid new : EngineView S R) (piece : PendingPiece) (len : ℕ) → WalksOver g most_silent old mid (lent_answer mid (Pending piece))
@@ -652,6 +652,6 @@ pending_placed mid new piece len placed spent =
     let inside = part.inside in
     let most = placed.1 in
     let size : length (pending_part new (cut_to piece len)) ≡ length (pending_part mid piece) = ap length (part_same mid new piece piece.len len len part) in
-    let open_ : length new.files.nest ≡ length mid.files.nest = ap (λ f. length f.nest) part.files in
+    let open_ : length new.files.include_stack ≡ length mid.files.include_stack = ap (λ f. length f.include_stack) part.files in
     let some = placed.0 in
     (omega arith, omega arith)

@@ -1,8 +1,8 @@
 pub mod LentPieces
 pub mod OpeningFacts
 pub mod Soundness
-pub mod NestLeft
-pub mod SkippedNests
+pub mod IncludeStackLeft
+pub mod SkippedStacks
 pub mod WorkFacts
 pub mod Stores
 pub mod EngineSteps

@@ -44,11 +44,11 @@ use Rattle.rdlpp_state.specs.Includes.{kind_of_source}
 use Rattle.rdlpp_state.specs.OpenConditionals.{AreBelow}
 use Rattle.rdlpp_state.specs.Opening.{Starts, fresh_engine, is_device_fault, is_memory_fault, is_opening_kind, looked_up_output, opened_engine, searches_of, unopened_engine}
 use Rattle.rdlpp_state.specs.Pending.{origin_pending, pending_bytes}
-use Rattle.rdlpp_state.specs.Remaining.{file_state, inner_name, kept_uncut, left_of, lookup_of, nest_left, nest_state, output_fault, phase_uncut, run_rules, source_rules, uncut_of, waiting_around}
+use Rattle.rdlpp_state.specs.Remaining.{file_state, inner_name, kept_uncut, left_of, lookup_of, include_stack_left, include_stack_state, output_fault, phase_uncut, run_rules, source_rules, uncut_of, waiting_around}
 use Rattle.rdlpp_state.specs.Steps.{is_memory_kind, is_read_failed}
 use Rattle.rdlpp_state.specs.Stored.{AreParts, HoldsNoText, HoldsStores, LetsGo}
 use Rattle.rdlpp_state.specs.declared.phase.Phase.TheVariants.{Closed}
-use Rattle.rdlpp_state.proofs.NestLeft.{no_place}
+use Rattle.rdlpp_state.proofs.IncludeStackLeft.{no_place}
 use Rattle.rdlpp_state.proofs.Soundness.{text_idle}
 use Rattle.rdlpp_state.proofs.LentPieces.{pending_origin}
 use Rattle.rdlpp_state.proofs.Stores.{none_called, parts_opened}
@@ -56,7 +56,7 @@ use Rattle.rdlpp_state.proofs.Stores.{none_called, parts_opened}
 -- The bytes that are held are within their bound.
 
 -- no open source holds more bytes than a line may have
-windows_within : {R : Type 0} (size : ℕ) (nest : List (File R)) → All (IsSlot size) nest → All (λ (w : List ℕ). length w ≤ size) (held_windows nest)
+windows_within : {R : Type 0} (size : ℕ) (include_stack : List (File R)) → All (IsSlot size) include_stack → All (λ (w : List ℕ). length w ≤ size) (held_windows include_stack)
 unfolding held_windows
 windows_within size [] each = All-nil (λ (w : List ℕ). length w ≤ size)
 windows_within {R} size (f ∷ fs) each =
@@ -75,7 +75,7 @@ pub is_bounded : {S R : Type 0} (e : EngineView S R) → IsSoundEngine e.limits 
     → AreOpenTexts e.limits e.phase e.table.macros e.expansion → IsRoomy e.expansion → IsBounded e
 unfolding stores_of held_bytes bound_of
 is_bounded e sound files texts room =
-    let windows = held_windows-len e.files.nest in
+    let windows = held_windows-len e.files.include_stack in
     let most = held-bound e.files files in
     let slots : e.files.slots * e.files.line_bytes ≡ (e.limits.includes + 1) * e.limits.line_bytes =
     ap (λ (n : ℕ). n * e.files.line_bytes) sound.slots ∙ ap (λ (n : ℕ). (e.limits.includes + 1) * n) sound.line_bytes in
@@ -92,7 +92,7 @@ is_bounded e sound files texts room =
     let slots_are = sound.slots in
     record {
       bytes = omega (arith, length_table_bytes e.table.macros);
-      windows = subst (λ (n : ℕ). All (λ (w : List ℕ). length w ≤ n) (held_windows e.files.nest)) sound.line_bytes (windows_within e.files.line_bytes e.files.nest files.each);
+      windows = subst (λ (n : ℕ). All (λ (w : List ℕ). length w ≤ n) (held_windows e.files.include_stack)) sound.line_bytes (windows_within e.files.line_bytes e.files.include_stack files.each);
       cursors = omega (arith, few_texts, depth);
       bindings = omega (arith, few_bound, depth);
       conditions = omega (arith, few_open, limit);
@@ -113,16 +113,16 @@ pub closed_holds : {S R : Type 0} (e : EngineView S R) → IsSoundEngine e.limit
 unfolding held_told stores_of held_windows bound_by is_open
 closed_holds {S} {R} e sound texts closed free lets_go =
     let shut = ap is_open closed in
-    let nest = sound.closed shut in
+    let include_stack = sound.closed shut in
     let opens = texts.closed shut in
-    let below : AreBelow {R = R} (length e.conditions.open_now) [] = subst (λ ns. AreBelow (length e.conditions.open_now) ns) nest sound.conditions_of.below in
+    let below : AreBelow {R = R} (length e.conditions.open_now) [] = subst (λ ns. AreBelow (length e.conditions.open_now) ns) include_stack sound.conditions_of.below in
     record {
       arguments = ap length (lets_go.idle (inl free) (none_called e.table.macros e.expansion.opens opens));
-      buffers = ap (λ ns. sum_by length (reverse (map (λ f. f.buffer.window) ns))) nest;
+      buffers = ap (λ ns. sum_by length (reverse (map (λ f. f.buffer.window) ns))) include_stack;
       cursors = ap length opens;
       bindings = ap bound_by opens;
       conditions = below;
-      sources = ap length nest;
+      sources = ap length include_stack;
     }
 
 -- What an engine holds of texts before its main text is opened: nothing.
@@ -135,7 +135,7 @@ new_holds limits sources origins = record { sources = refl; opens = refl; argume
 -- and with one in which a macro was defined
 pub define_holds : {S R : Type 0} (old new : EngineView S R) → new ≡ record old { table = record old.table { macros = new.table.macros } } → HoldsNoText old → HoldsNoText new
 define_holds old new only h = record {
-  sources = ap (λ e. e.files.nest) only ∙ h.sources;
+  sources = ap (λ e. e.files.include_stack) only ∙ h.sources;
   opens = ap (λ e. e.expansion.opens) only ∙ h.opens;
   arguments = ap (λ e. e.expansion.arguments) only ∙ h.arguments;
 }
@@ -281,20 +281,20 @@ alone rules x ts s =
 left_idle : {S R : Type 0} (g : Ghosts S R) (e : EngineView S R) (s : S) (path : List ℕ) (found : Found R) → e.expansion.opens ≡ []
     → let o = opened_engine (record e { sources = s }) path found in
     left_of g o ≡ limited (output_fault (name_cut path)) e.limits.output_bytes
-    (outcome (behind_bytes (pending_bytes (inner_name o.files.nest) o.pending) (nest_left o.limits (run_rules g o) g.unread o.table.macros o.conditions o.files.nest)))
+    (outcome (behind_bytes (pending_bytes (inner_name o.files.include_stack) o.pending) (include_stack_left o.limits (run_rules g o) g.unread o.table.macros o.conditions o.files.include_stack)))
 unfolding left_of uncut_of kept_uncut phase_uncut opened_engine
 left_idle g e s path found idle =
     ap (λ (p : Passage). limited (output_fault (name_cut path)) e.limits.output_bytes (outcome p)) (text_idle g (opened_engine (record e { sources = s }) path found) idle)
 
 -- what remains of a main text that was opened
 left_opened : {S R : Type 0} (g : Ghosts S R) (e : EngineView S R) (s : S) (path : List ℕ) (found : Found R)
-    → e.files.line_bytes ≡ e.limits.line_bytes → e.files.nest ≡ [] → e.conditions.open_now ≡ [] → e.expansion.opens ≡ [] → g.catalog s ≡ g.catalog e.sources
+    → e.files.line_bytes ≡ e.limits.line_bytes → e.files.include_stack ≡ [] → e.conditions.open_now ≡ [] → e.expansion.opens ≡ [] → g.catalog s ≡ g.catalog e.sources
     → left_of g (opened_engine (record e { sources = s }) path found)
     ≡ limited (output_fault (name_cut path)) e.limits.output_bytes
     (and_then (gives (origin_line (run_rules g e) found.path.bytes 1))
     (remains (run_rules g e) (Live []) true ((run_rules g e).tokens (g.unread found.reader))
     (start_state e.table.macros e.limits.includes e.limits.conditions found.path.bytes)))
-unfolding nest_left waiting_around nest_state file_state source_left opened_engine opened_buffer tokens_left held_of rest_of ahead_of unread_of whole_tokens source_rules rules_of start_state no_shift
+unfolding include_stack_left waiting_around include_stack_state file_state source_left opened_engine opened_buffer tokens_left held_of rest_of ahead_of unread_of whole_tokens source_rules rules_of start_state no_shift
 left_opened g e s path found most none unopened idle catalog =
     let rules = run_rules g e in
     let ts = whole_tokens e.limits.line_bytes e.limits.source_bytes (g.unread found.reader) in
@@ -337,7 +337,7 @@ looked_up-fails g e path lookup f is =
 -- a start that finds its main text
 pub starts_open : {S R : Type 0} (g : Ghosts S R) (e : EngineView S R) (s : S) (found : Found R) (path : List ℕ)
     → e.files.line_bytes ≡ e.limits.line_bytes
-    → e.files.nest ≡ []
+    → e.files.include_stack ≡ []
     → e.conditions.open_now ≡ []
     → e.expansion.opens ≡ []
     → IsBounded (opened_engine (record e { sources = s }) path found)
@@ -382,7 +382,7 @@ starts_open {S} {R} g e s found path most none unopened idle bounded answer fail
 -- a start that is refused
 starts_refused : {S R : Type 0} (g : Ghosts S R) (e : EngineView S R) (s : S) (kind : FaultKind) (path : List ℕ)
     → is_opening_kind kind ≡ true
-    → e.files.nest ≡ []
+    → e.files.include_stack ≡ []
     → e.expansion.opens ≡ []
     → IsBounded e
     → Counts (is_read_failed kind) (g.failures e.sources) (g.failures s)
@@ -426,7 +426,7 @@ starts_refused {S} {R} g e s kind path own none idle bounded failures refusals t
 
 -- a start that the sources refuse
 pub starts_not_found : {S R : Type 0} (g : Ghosts S R) (e : EngineView S R) (s : S) (fault : SourceFault) (path : List ℕ)
-    → e.files.nest ≡ []
+    → e.files.include_stack ≡ []
     → e.expansion.opens ≡ []
     → IsBounded e
     → (g.tells e.sources → Finds {R = R} g.unread ((g.catalog e.sources).top path) (Err fault))

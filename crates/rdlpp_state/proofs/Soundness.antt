@@ -32,12 +32,12 @@ use Rattle.rdlpp_state.specs.Engine.{AreIncluded, AreOpenTexts, EngineView, IsSo
 use Rattle.rdlpp_state.specs.Moves.{Ends}
 use Rattle.rdlpp_state.specs.OpenConditionals.{AreBelow, AreConditions, inner_below}
 use Rattle.rdlpp_state.specs.Pending.{pending_bytes}
-use Rattle.rdlpp_state.specs.Remaining.{file_state, inner_name, nest_left, nest_state, run_rules, state_of, text_of}
+use Rattle.rdlpp_state.specs.Remaining.{file_state, inner_name, include_stack_left, include_stack_state, run_rules, state_of, text_of}
 use Rattle.rdlpp_state.specs.declared.phase.Phase.{Phase}
 use Rattle.rdlpp_state.specs.declared.phase.Phase.TheVariants.{Closed, Fresh, Open, Passed}
 use Rattle.rdlpp_state.specs.declared.place.PieceLocation.{PieceLocation as EnginePlace}
 use Rattle.rdlpp_state.specs.declared.place.PieceLocation.TheVariants.{Kept}
-use Rattle.rdlpp_state.proofs.NestLeft.{Deep, Inside, Outside, Standing, conditions_closed, conditions_inner, conditions_left, conditions_live, conditions_none, conditions_opened, place_inside, place_outside, place_skipped, standing}
+use Rattle.rdlpp_state.proofs.IncludeStackLeft.{Deep, Inside, Outside, Standing, conditions_closed, conditions_inner, conditions_left, conditions_live, conditions_none, conditions_opened, place_inside, place_outside, place_skipped, standing}
 
 -- Where no text of a usage is open, the text goes on in the open sources.
 
@@ -53,16 +53,16 @@ none_sound texts opens none = rw none (record { are_open = tt; are_inside = tt; 
 
 -- what remains of the text where no text of a usage is open
 pub text_idle : {S R : Type 0} (g : Ghosts S R) (e : EngineView S R) → e.expansion.opens ≡ []
-    → text_of g e ≡ behind_bytes (pending_bytes (inner_name e.files.nest) e.pending) (nest_left e.limits (run_rules g e) g.unread e.table.macros e.conditions e.files.nest)
+    → text_of g e ≡ behind_bytes (pending_bytes (inner_name e.files.include_stack) e.pending) (include_stack_left e.limits (run_rules g e) g.unread e.table.macros e.conditions e.files.include_stack)
 unfolding text_of
 text_idle g e idle =
-    ap (behind_bytes (pending_bytes (inner_name e.files.nest) e.pending))
-    (silent_texts (run_rules g e) (state_of e) e.table.macros e.expansion (nest_left e.limits (run_rules g e) g.unread e.table.macros e.conditions e.files.nest) idle)
+    ap (behind_bytes (pending_bytes (inner_name e.files.include_stack) e.pending))
+    (silent_texts (run_rules g e) (state_of e) e.table.macros e.expansion (include_stack_left e.limits (run_rules g e) g.unread e.table.macros e.conditions e.files.include_stack) idle)
 
 -- What always holds of an engine, as its open sources change.
 
 -- as many sources are open where the innermost changes
-pub with_inner-length : {R : Type 0} (change : File R → File R) (nest : List (File R)) → length (with_inner change nest) ≡ length nest
+pub with_inner-length : {R : Type 0} (change : File R → File R) (include_stack : List (File R)) → length (with_inner change include_stack) ≡ length include_stack
 with_inner-length change [] = refl
 with_inner-length change (f ∷ outer) = refl
 
@@ -71,16 +71,16 @@ abbrev pub surroundings : {R : Type 0} → File R → ℕ × ℕ
 surroundings f = (f.conditions_below, f.include_line)
 
 -- the lines of the includes are the same where the innermost source changes
-lines_inner : {R : Type 0} (change : File R → File R) (nest : List (File R)) → ((f : File R) → (change f).include_line ≡ f.include_line) → AreIncluded nest → AreIncluded (with_inner change nest)
+lines_inner : {R : Type 0} (change : File R → File R) (include_stack : List (File R)) → ((f : File R) → (change f).include_line ≡ f.include_line) → AreIncluded include_stack → AreIncluded (with_inner change include_stack)
 lines_inner change [] same lines = tt
 lines_inner change (f ∷ outer) same lines = rw (same f) lines
 
 -- an engine of whose open sources the innermost changes
 pub sound_inner : {R : Type 0} (limits : Limits) (phase : Phase) (table : TableView) (files new : FilesView R) (v : ConditionsView) (change : File R → File R)
-    → IsSoundEngine limits phase table files v → new ≡ record files { nest = with_inner change files.nest } → ((f : File R) → surroundings (change f) ≡ surroundings f)
-    → unused_of (inner_buffer (with_inner change files.nest)) ≤ unused_of (inner_buffer files.nest) → IsSoundEngine limits phase table new v
+    → IsSoundEngine limits phase table files v → new ≡ record files { include_stack = with_inner change files.include_stack } → ((f : File R) → surroundings (change f) ≡ surroundings f)
+    → unused_of (inner_buffer (with_inner change files.include_stack)) ≤ unused_of (inner_buffer files.include_stack) → IsSoundEngine limits phase table new v
 sound_inner {R} limits phase table files new v change s becomes same less =
-    let size = with_inner-length change files.nest in
+    let size = with_inner-length change files.include_stack in
     let below : (f : File R) → (change f).conditions_below ≡ f.conditions_below = λ f. ap (λ (p : ℕ × ℕ). p.0) (same f) in
     rw becomes (record {
       in_range = s.in_range;
@@ -89,41 +89,41 @@ sound_inner {R} limits phase table files new v change s becomes same less =
       size = s.size;
       slots = s.slots;
       line_bytes = s.line_bytes;
-      lines = lines_inner change files.nest (λ f. ap (λ (p : ℕ × ℕ). p.1) (same f)) s.lines;
-      conditions_of = conditions_inner limits v change files.nest below less s.conditions_of;
+      lines = lines_inner change files.include_stack (λ f. ap (λ (p : ℕ × ℕ). p.1) (same f)) s.lines;
+      conditions_of = conditions_inner limits v change files.include_stack below less s.conditions_of;
       open_ = λ o. (let some = s.open_ o in omega arith);
-      closed = λ c. nil_from_length (with_inner change files.nest) (size ∙ ap length (s.closed c));
+      closed = λ c. nil_from_length (with_inner change files.include_stack) (size ∙ ap length (s.closed c));
     })
 
 -- no more bytes of the innermost source aren't used where bytes of it are used
-pub used_less : {R : Type 0} (len lines : ℕ) (nest : List (File R)) → unused_of (inner_buffer (with_inner (consumed_file len lines) nest)) ≤ unused_of (inner_buffer nest)
+pub used_less : {R : Type 0} (len lines : ℕ) (include_stack : List (File R)) → unused_of (inner_buffer (with_inner (consumed_file len lines) include_stack)) ≤ unused_of (inner_buffer include_stack)
 unfolding unused_of
 used_less len lines [] = omega arith
 used_less len lines (f ∷ outer) = omega arith
 
 -- nor where it has another buffer with no more of them
-pub buffer_less : {R : Type 0} (b : BufferView R) (nest : List (File R)) → unused_of b ≤ unused_of (inner_buffer nest) → unused_of (inner_buffer (with_buffer b nest)) ≤ unused_of (inner_buffer nest)
+pub buffer_less : {R : Type 0} (b : BufferView R) (include_stack : List (File R)) → unused_of b ≤ unused_of (inner_buffer include_stack) → unused_of (inner_buffer (with_buffer b include_stack)) ≤ unused_of (inner_buffer include_stack)
 buffer_less b [] less = omega arith
 buffer_less b (f ∷ outer) less = less
 
 -- nor where its buffer stays
-pub shown_less : {R : Type 0} (change : File R → File R) (nest : List (File R)) → ((f : File R) → (change f).buffer ≡ f.buffer)
-    → unused_of (inner_buffer (with_inner change nest)) ≤ unused_of (inner_buffer nest)
+pub shown_less : {R : Type 0} (change : File R → File R) (include_stack : List (File R)) → ((f : File R) → (change f).buffer ≡ f.buffer)
+    → unused_of (inner_buffer (with_inner change include_stack)) ≤ unused_of (inner_buffer include_stack)
 shown_less change [] same = omega arith
 shown_less change (f ∷ outer) same = rw (same f) (omega arith)
 
 -- what is left where one source was open
-pub left_alone : {R : Type 0} (nest : List (File R)) → length nest ≤ 1 → drop 1 nest ≡ []
+pub left_alone : {R : Type 0} (include_stack : List (File R)) → length include_stack ≤ 1 → drop 1 include_stack ≡ []
 left_alone [] few = refl
 left_alone (f ∷ []) few = refl
 left_alone (f ∷ g ∷ outer) few = absurd (omega arith)
 
 -- an engine whose main text was closed
 pub sound_closed : {R : Type 0} (limits : Limits) (phase : Phase) (table : TableView) (files new : FilesView R) (v : ConditionsView)
-    → IsSoundEngine limits phase table files v → 0 < length files.nest → length files.nest ≤ 1 → length v.open_now ≡ inner_below files.nest → new ≡ record files { nest = drop 1 files.nest } → IsSoundEngine limits Closed table new v
+    → IsSoundEngine limits phase table files v → 0 < length files.include_stack → length files.include_stack ≤ 1 → length v.open_now ≡ inner_below files.include_stack → new ≡ record files { include_stack = drop 1 files.include_stack } → IsSoundEngine limits Closed table new v
 unfolding is_open
 sound_closed limits phase table files new v s some alone ended becomes =
-    let none = left_alone files.nest alone in
+    let none = left_alone files.include_stack alone in
     rw (becomes, none) (record {
       in_range = s.in_range;
       definition_bytes = s.definition_bytes;
@@ -132,49 +132,49 @@ sound_closed limits phase table files new v s some alone ended becomes =
       slots = s.slots;
       line_bytes = s.line_bytes;
       lines = tt;
-      conditions_of = conditions_closed limits v files.nest some alone ended s.conditions_of;
+      conditions_of = conditions_closed limits v files.include_stack some alone ended s.conditions_of;
       open_ = λ o. cc;
       closed = λ c. refl;
     })
 
 -- no source and no conditional is open before the start
-pub fresh_nest : {R : Type 0} (limits : Limits) (phase : Phase) (table : TableView) (files : FilesView R) (v : ConditionsView) → IsSoundEngine limits phase table files v → phase ≡ Fresh → files.nest ≡ []
+pub fresh_include_stack : {R : Type 0} (limits : Limits) (phase : Phase) (table : TableView) (files : FilesView R) (v : ConditionsView) → IsSoundEngine limits phase table files v → phase ≡ Fresh → files.include_stack ≡ []
 unfolding is_open
-fresh_nest limits phase table files v s fresh = s.closed (ap is_open fresh)
+fresh_include_stack limits phase table files v s fresh = s.closed (ap is_open fresh)
 
 pub fresh_open : {R : Type 0} (limits : Limits) (phase : Phase) (table : TableView) (files : FilesView R) (v : ConditionsView) → IsSoundEngine limits phase table files v → phase ≡ Fresh → v.open_now ≡ []
-fresh_open limits phase table files v s fresh = conditions_none limits v files.nest (fresh_nest limits phase table files v s fresh) s.conditions_of
+fresh_open limits phase table files v s fresh = conditions_none limits v files.include_stack (fresh_include_stack limits phase table files v s fresh) s.conditions_of
 
 -- what holds of the innermost source
 pub record IsInner {R : Type 0} (files : FilesView R) : Type 0 where
-  pub buffer : IsBuffer (inner_buffer files.nest)
-  pub ends : EndsHeld (inner_buffer files.nest)
-  pub size : (inner_buffer files.nest).line_bytes ≡ files.line_bytes
+  pub buffer : IsBuffer (inner_buffer files.include_stack)
+  pub ends : EndsHeld (inner_buffer files.include_stack)
+  pub size : (inner_buffer files.include_stack).line_bytes ≡ files.line_bytes
 
-inner_of : {R : Type 0} (nest : List (File R)) (slots line_bytes : ℕ) → 0 < length nest → AreOpen (record { nest = nest; slots = slots; line_bytes = line_bytes })
-    → IsInner (record { nest = nest; slots = slots; line_bytes = line_bytes })
+inner_of : {R : Type 0} (include_stack : List (File R)) (slots line_bytes : ℕ) → 0 < length include_stack → AreOpen (record { include_stack = include_stack; slots = slots; line_bytes = line_bytes })
+    → IsInner (record { include_stack = include_stack; slots = slots; line_bytes = line_bytes })
 inner_of [] slots line_bytes some open_ = absurd (omega arith)
 inner_of (f ∷ outer) slots line_bytes some open_ =
     let slot : IsSlot line_bytes f = All-head (IsSlot line_bytes) f outer open_.each in
     record { buffer = slot.buffer; ends = slot.ends; size = slot.size }
 
-pub inner_facts : {R : Type 0} (files : FilesView R) → 0 < length files.nest → AreOpen files → IsInner files
-inner_facts files some open_ = inner_of files.nest files.slots files.line_bytes some open_
+pub inner_facts : {R : Type 0} (files : FilesView R) → 0 < length files.include_stack → AreOpen files → IsInner files
+inner_facts files some open_ = inner_of files.include_stack files.slots files.line_bytes some open_
 
 -- its shown numbers can be counted
-pub inner_number : {R : Type 0} (files : FilesView R) (f : File R) (outer : List (File R)) → files.nest ≡ f ∷ outer → AreOpen files → f.shift.number < 2 ^ 32
-inner_number files f outer is open_ = (All-head (IsSlot files.line_bytes) f outer (All-same (IsSlot files.line_bytes) (f ∷ outer) files.nest (sym is) open_.each)).number
+pub inner_number : {R : Type 0} (files : FilesView R) (f : File R) (outer : List (File R)) → files.include_stack ≡ f ∷ outer → AreOpen files → f.shift.number < 2 ^ 32
+inner_number files f outer is open_ = (All-head (IsSlot files.line_bytes) f outer (All-same (IsSlot files.line_bytes) (f ∷ outer) files.include_stack (sym is) open_.each)).number
 
 -- a fault of the innermost source, under its name and its shown line
-pub told_first : {R : Type 0} (limits : Limits) (macros : List Macro) (v : ConditionsView) (nest : List (File R)) (f : File R) (outer : List (File R)) (kind : FaultKind) (line : ℕ) (word : List ℕ)
-    → nest ≡ f ∷ outer → length word ≤ 128
-    → fault_at kind line word (nest_state limits macros v nest) ≡ record { kind = kind; name = f.name.bytes; line = shown_line (shift_of f.shift) line; word = word }
-unfolding fault_at nest_state file_state
-told_first limits macros v nest f outer kind line word is short = rw (is, take_all 128 word short) refl
+pub told_first : {R : Type 0} (limits : Limits) (macros : List Macro) (v : ConditionsView) (include_stack : List (File R)) (f : File R) (outer : List (File R)) (kind : FaultKind) (line : ℕ) (word : List ℕ)
+    → include_stack ≡ f ∷ outer → length word ≤ 128
+    → fault_at kind line word (include_stack_state limits macros v include_stack) ≡ record { kind = kind; name = f.name.bytes; line = shown_line (shift_of f.shift) line; word = word }
+unfolding fault_at include_stack_state file_state
+told_first limits macros v include_stack f outer kind line word is short = rw (is, take_all 128 word short) refl
 
 -- an engine whose main text was opened
 pub sound_opened : {R : Type 0} (limits : Limits) (phase : Phase) (table : TableView) (files new : FilesView R) (v : ConditionsView) (f : File R)
-    → IsSoundEngine limits phase table files v → files.nest ≡ [] → new ≡ record files { nest = f ∷ files.nest } → f.conditions_below ≡ 0 → f.include_line ≡ 0 → unused_of f.buffer < 2 ^ 31 → IsSoundEngine limits Open table new v
+    → IsSoundEngine limits phase table files v → files.include_stack ≡ [] → new ≡ record files { include_stack = f ∷ files.include_stack } → f.conditions_below ≡ 0 → f.include_line ≡ 0 → unused_of f.buffer < 2 ^ 31 → IsSoundEngine limits Open table new v
 unfolding is_open
 sound_opened {R} limits phase table files new v f s none becomes below first few =
     let alone : AreConditions limits v [] = subst (λ (ns : List (File R)). AreConditions limits v ns) none s.conditions_of in
@@ -205,7 +205,7 @@ sound_unopened limits phase table files v s fresh = record {
   lines = s.lines;
   conditions_of = s.conditions_of;
   open_ = λ o. cc;
-  closed = λ c. fresh_nest limits phase table files v s fresh;
+  closed = λ c. fresh_include_stack limits phase table files v s fresh;
 }
 
 -- an engine whose output has passed its limit
@@ -231,8 +231,8 @@ unfolding unused_of
 unused_few line_bytes f slot = let counts = slot.buffer.counts in omega arith
 
 -- the conditionals, where the innermost source is left
-conditions_dropped : {R : Type 0} (limits : Limits) (v : ConditionsView) (line_bytes : ℕ) (nest : List (File R)) → 1 < length nest → All (IsSlot line_bytes) nest
-    → length v.open_now ≡ inner_below nest → AreConditions limits v nest → AreConditions limits v (drop 1 nest)
+conditions_dropped : {R : Type 0} (limits : Limits) (v : ConditionsView) (line_bytes : ℕ) (include_stack : List (File R)) → 1 < length include_stack → All (IsSlot line_bytes) include_stack
+    → length v.open_now ≡ inner_below include_stack → AreConditions limits v include_stack → AreConditions limits v (drop 1 include_stack)
 conditions_dropped limits v line_bytes [] some each ended s = absurd (omega arith)
 conditions_dropped limits v line_bytes (f ∷ []) some each ended s = absurd (omega arith)
 conditions_dropped {R} limits v line_bytes (f ∷ g ∷ outer) some each ended s =
@@ -240,17 +240,17 @@ conditions_dropped {R} limits v line_bytes (f ∷ g ∷ outer) some each ended s
     conditions_left limits v f (g ∷ outer) ended (unused_few line_bytes g slot) s
 
 -- and the lines of the includes
-lines_dropped : {R : Type 0} (nest : List (File R)) → AreIncluded nest → AreIncluded (drop 1 nest)
+lines_dropped : {R : Type 0} (include_stack : List (File R)) → AreIncluded include_stack → AreIncluded (drop 1 include_stack)
 lines_dropped [] lines = tt
 lines_dropped (f ∷ outer) lines = lines.1
 
 -- an engine that has left an included source
 pub sound_left : {R : Type 0} (limits : Limits) (phase : Phase) (table : TableView) (files new : FilesView R) (v : ConditionsView)
-    → IsSoundEngine limits phase table files v → AreOpen files → 1 < length files.nest → length v.open_now ≡ inner_below files.nest → phase ≡ Open
-    → new ≡ record files { nest = drop 1 files.nest } → IsSoundEngine limits phase table new v
+    → IsSoundEngine limits phase table files v → AreOpen files → 1 < length files.include_stack → length v.open_now ≡ inner_below files.include_stack → phase ≡ Open
+    → new ≡ record files { include_stack = drop 1 files.include_stack } → IsSoundEngine limits phase table new v
 unfolding is_open
 sound_left {R} limits phase table files new v s slots some ended was becomes =
-    let rest = length-drop 1 files.nest in
+    let rest = length-drop 1 files.include_stack in
     rw becomes (record {
       in_range = s.in_range;
       definition_bytes = s.definition_bytes;
@@ -258,15 +258,15 @@ sound_left {R} limits phase table files new v s slots some ended was becomes =
       size = s.size;
       slots = s.slots;
       line_bytes = s.line_bytes;
-      lines = lines_dropped files.nest s.lines;
-      conditions_of = conditions_dropped limits v files.line_bytes files.nest some slots.each ended s.conditions_of;
+      lines = lines_dropped files.include_stack s.lines;
+      conditions_of = conditions_dropped limits v files.line_bytes files.include_stack some slots.each ended s.conditions_of;
       open_ = λ o. omega arith;
       closed = λ c. absurd (let no : true ≡ false = sym (ap is_open was) ∙ c in cc);
     })
 
 -- an engine that has opened a source inside of the others
 pub sound_entered : {R : Type 0} (limits : Limits) (phase : Phase) (table : TableView) (files new : FilesView R) (v : ConditionsView) (f : File R)
-    → IsSoundEngine limits phase table files v → phase ≡ Open → v.skipped ≡ None → new ≡ record files { nest = f ∷ files.nest }
+    → IsSoundEngine limits phase table files v → phase ≡ Open → v.skipped ≡ None → new ≡ record files { include_stack = f ∷ files.include_stack }
     → f.conditions_below ≡ length v.open_now → f.include_line < 2 ^ 63 → unused_of f.buffer < 2 ^ 31 → IsSoundEngine limits phase table new v
 unfolding is_open
 sound_entered {R} limits phase table files new v f s was live becomes below line few =
@@ -278,7 +278,7 @@ sound_entered {R} limits phase table files new v f s was live becomes below line
       slots = s.slots;
       line_bytes = s.line_bytes;
       lines = (line, s.lines);
-      conditions_of = conditions_opened limits v f files.nest live (omega arith) (rw below s.conditions_of.below) few s.conditions_of;
+      conditions_of = conditions_opened limits v f files.include_stack live (omega arith) (rw below s.conditions_of.below) few s.conditions_of;
       open_ = λ o. omega arith;
       closed = λ c. absurd (let no : true ≡ false = sym (ap is_open was) ∙ c in cc);
     })
@@ -296,16 +296,16 @@ texts_idle limits phase macros now x t idle =
 
 module _ {R : Type 0} (limits : Limits) (phase : Phase) (table : TableView) (files : FilesView R) (v : ConditionsView) (x : ExpansionView) (w : IsWholeEngine limits phase table files v x) where
   -- the innermost source changes
-  pub whole_inner : (new : FilesView R) (change : File R → File R) → new ≡ record files { nest = with_inner change files.nest } → ((f : File R) → surroundings (change f) ≡ surroundings f)
-      → unused_of (inner_buffer (with_inner change files.nest)) ≤ unused_of (inner_buffer files.nest) → IsWholeEngine limits phase table new v x
+  pub whole_inner : (new : FilesView R) (change : File R → File R) → new ≡ record files { include_stack = with_inner change files.include_stack } → ((f : File R) → surroundings (change f) ≡ surroundings f)
+      → unused_of (inner_buffer (with_inner change files.include_stack)) ≤ unused_of (inner_buffer files.include_stack) → IsWholeEngine limits phase table new v x
   whole_inner new change becomes below less = record { sources = sound_inner limits phase table files new v change w.sources becomes below less; texts = w.texts }
 
   -- the main text is closed
-  pub whole_closed : (new : FilesView R) → 0 < length files.nest → length files.nest ≤ 1 → length v.open_now ≡ inner_below files.nest → new ≡ record files { nest = drop 1 files.nest } → x.opens ≡ [] → IsWholeEngine limits Closed table new v x
+  pub whole_closed : (new : FilesView R) → 0 < length files.include_stack → length files.include_stack ≤ 1 → length v.open_now ≡ inner_below files.include_stack → new ≡ record files { include_stack = drop 1 files.include_stack } → x.opens ≡ [] → IsWholeEngine limits Closed table new v x
   whole_closed new some alone ended becomes idle = record { sources = sound_closed limits phase table files new v w.sources some alone ended becomes; texts = texts_phase limits phase Closed table.macros x w.texts (λ c. idle) }
 
   -- the main text is opened
-  pub whole_opened : (new : FilesView R) (f : File R) → files.nest ≡ [] → new ≡ record files { nest = f ∷ files.nest } → f.conditions_below ≡ 0 → f.include_line ≡ 0 → unused_of f.buffer < 2 ^ 31
+  pub whole_opened : (new : FilesView R) (f : File R) → files.include_stack ≡ [] → new ≡ record files { include_stack = f ∷ files.include_stack } → f.conditions_below ≡ 0 → f.include_line ≡ 0 → unused_of f.buffer < 2 ^ 31
       → IsWholeEngine limits Open table new v x
   unfolding is_open
   whole_opened new f none becomes below first few =
@@ -323,13 +323,13 @@ module _ {R : Type 0} (limits : Limits) (phase : Phase) (table : TableView) (fil
   whole_passed was = record { sources = sound_passed limits phase table files v w.sources was; texts = texts_phase limits phase Passed table.macros x w.texts (λ c. cc) }
 
   -- an included source is left
-  pub whole_left : (new : FilesView R) → AreOpen files → 1 < length files.nest → length v.open_now ≡ inner_below files.nest → phase ≡ Open → new ≡ record files { nest = drop 1 files.nest }
+  pub whole_left : (new : FilesView R) → AreOpen files → 1 < length files.include_stack → length v.open_now ≡ inner_below files.include_stack → phase ≡ Open → new ≡ record files { include_stack = drop 1 files.include_stack }
       → IsWholeEngine limits phase table new v x
   whole_left new slots some ended was becomes =
       record { sources = sound_left limits phase table files new v w.sources slots some ended was becomes; texts = w.texts }
 
   -- a source is opened inside of the others
-  pub whole_entered : (new : FilesView R) (f : File R) → phase ≡ Open → v.skipped ≡ None → new ≡ record files { nest = f ∷ files.nest }
+  pub whole_entered : (new : FilesView R) (f : File R) → phase ≡ Open → v.skipped ≡ None → new ≡ record files { include_stack = f ∷ files.include_stack }
       → f.conditions_below ≡ length v.open_now → f.include_line < 2 ^ 63 → unused_of f.buffer < 2 ^ 31 → IsWholeEngine limits phase table new v x
   whole_entered new f was live becomes below line few =
       record { sources = sound_entered limits phase table files new v f w.sources was live becomes below line few; texts = w.texts }
@@ -354,8 +354,8 @@ module _ {R : Type 0} (limits : Limits) (phase : Phase) (table : TableView) (fil
   }
 
   -- a usage is opened, or bytes of the innermost source are used for one that isn't
-  pub whole_usage : (new : FilesView R) (now : ExpansionView) (change : File R → File R) → phase ≡ Open → new ≡ record files { nest = with_inner change files.nest } → ((f : File R) → surroundings (change f) ≡ surroundings f)
-      → unused_of (inner_buffer (with_inner change files.nest)) ≤ unused_of (inner_buffer files.nest)
+  pub whole_usage : (new : FilesView R) (now : ExpansionView) (change : File R → File R) → phase ≡ Open → new ≡ record files { include_stack = with_inner change files.include_stack } → ((f : File R) → surroundings (change f) ≡ surroundings f)
+      → unused_of (inner_buffer (with_inner change files.include_stack)) ≤ unused_of (inner_buffer files.include_stack)
       → now.depth ≡ x.depth → now.most ≡ x.most → AreSound (texts_of table.macros now.arguments) now.opens → now.line < 2 ^ 63 → IsWholeEngine limits phase table new v now
   unfolding is_open
   whole_usage new now change was becomes below less depth most sound line = record {
@@ -377,22 +377,22 @@ fresh_texts limits phase macros x t fresh = t.closed (ap is_open fresh)
 -- What always holds of an engine, as conditionals open, branch and close; and what a branch and an end of them meet.
 
 -- no more are open around the innermost source than are open
-pub inner_most : {R : Type 0} (limits : Limits) (v : ConditionsView) (nest : List (File R)) → AreConditions limits v nest → inner_below nest ≤ length v.open_now
+pub inner_most : {R : Type 0} (limits : Limits) (v : ConditionsView) (include_stack : List (File R)) → AreConditions limits v include_stack → inner_below include_stack ≤ length v.open_now
 inner_most limits v [] s = omega arith
 inner_most limits v (f ∷ outer) s = s.below.0
 
 -- so many stay open around the innermost source
-below_by : {R : Type 0} (most less : ℕ) (nest : List (File R)) → 0 < length nest → inner_below nest ≤ less → AreBelow most nest → AreBelow less nest
+below_by : {R : Type 0} (most less : ℕ) (include_stack : List (File R)) → 0 < length include_stack → inner_below include_stack ≤ less → AreBelow most include_stack → AreBelow less include_stack
 below_by most less [] some within below = absurd (omega arith)
 below_by most less (f ∷ outer) some within below = (within, below.1)
 
 -- other conditionals are open in the innermost source
-pub conditions_by : {R : Type 0} (limits : Limits) (v w : ConditionsView) (nest : List (File R)) → 0 < length nest → AreConditions limits v nest → w.limit ≡ v.limit → length w.open_now ≤ v.limit
-    → inner_below nest ≤ length w.open_now → ((n : ℕ) → w.skipped ≡ Some n → inner_below nest < length w.open_now) → unwrap_or w.skipped 0 + unused_of (inner_buffer nest) < 2 ^ 31 → AreConditions limits w nest
-conditions_by limits v w nest some s limit few within own counted = record {
+pub conditions_by : {R : Type 0} (limits : Limits) (v w : ConditionsView) (include_stack : List (File R)) → 0 < length include_stack → AreConditions limits v include_stack → w.limit ≡ v.limit → length w.open_now ≤ v.limit
+    → inner_below include_stack ≤ length w.open_now → ((n : ℕ) → w.skipped ≡ Some n → inner_below include_stack < length w.open_now) → unwrap_or w.skipped 0 + unused_of (inner_buffer include_stack) < 2 ^ 31 → AreConditions limits w include_stack
+conditions_by limits v w include_stack some s limit few within own counted = record {
   limit = limit ∙ s.limit;
   few = omega arith;
-  below = below_by (length v.open_now) (length w.open_now) nest some within s.below;
+  below = below_by (length v.open_now) (length w.open_now) include_stack some within s.below;
   own = own;
   counted = counted;
 }
@@ -414,48 +414,48 @@ fewer_len : (os : List Progress) → length (drop 1 os) ≡ length os - 1
 fewer_len [] = refl
 fewer_len (o ∷ os) = omega arith
 
-module _ {R : Type 0} (limits : Limits) (v : ConditionsView) (nest : List (File R)) (some : 0 < length nest) (s : AreConditions limits v nest) where
+module _ {R : Type 0} (limits : Limits) (v : ConditionsView) (include_stack : List (File R)) (some : 0 < length include_stack) (s : AreConditions limits v include_stack) where
   -- one more is opened
-  pub conditions_one : (line : ℕ) (holds : Bool) → length v.open_now < v.limit → AreConditions limits (opened_with line holds v) nest
+  pub conditions_one : (line : ℕ) (holds : Bool) → length v.open_now < v.limit → AreConditions limits (opened_with line holds v) include_stack
   conditions_one line holds room =
-      let most = inner_most limits v nest s in
+      let most = inner_most limits v include_stack s in
       let none = skipped_none holds in
       let few = s.counted in
-      conditions_by limits v (opened_with line holds v) nest some s refl (omega arith) (omega arith) (λ n e. omega arith) (omega arith)
+      conditions_by limits v (opened_with line holds v) include_stack some s refl (omega arith) (omega arith) (λ n e. omega arith) (omega arith)
 
-  module _ (own : inner_below nest < length v.open_now) where
+  module _ (own : inner_below include_stack < length v.open_now) where
     -- a branch of the innermost
-    pub conditions_turned : (word : Directive) (holds : Bool) → AreConditions limits (turned_with word holds v) nest
+    pub conditions_turned : (word : Directive) (holds : Bool) → AreConditions limits (turned_with word holds v) include_stack
     conditions_turned word holds =
         let same = turned_len word holds v.open_now in
         let none = skipped_none holds in
         let few = s.counted in
         let most = s.few in
-        conditions_by limits v (turned_with word holds v) nest some s refl (omega arith) (omega arith) (λ n e. omega arith) (omega arith)
+        conditions_by limits v (turned_with word holds v) include_stack some s refl (omega arith) (omega arith) (λ n e. omega arith) (omega arith)
 
     -- its end
-    pub conditions_fewer : AreConditions limits (closed_one v) nest
+    pub conditions_fewer : AreConditions limits (closed_one v) include_stack
     conditions_fewer =
         let fewer = fewer_len v.open_now in
         let few = s.counted in
         let most = s.few in
-        conditions_by limits v (closed_one v) nest some s refl (omega arith) (omega arith) (λ n e. absurd (cc)) (omega arith)
+        conditions_by limits v (closed_one v) include_stack some s refl (omega arith) (omega arith) (λ n e. absurd (cc)) (omega arith)
 
     -- another count of those that opened in skipped text
-    pub conditions_count : (n : ℕ) → n + unused_of (inner_buffer nest) < 2 ^ 31 → AreConditions limits (with_count n v) nest
+    pub conditions_count : (n : ℕ) → n + unused_of (inner_buffer include_stack) < 2 ^ 31 → AreConditions limits (with_count n v) include_stack
     conditions_count n counted =
         let most = s.few in
-        conditions_by limits v (with_count n v) nest some s refl (omega arith) (omega arith) (λ m e. own) counted
+        conditions_by limits v (with_count n v) include_stack some s refl (omega arith) (omega arith) (λ m e. own) counted
 
 -- the name that the innermost source shows is the state's
-pub named_state : {R : Type 0} (limits : Limits) (macros : List Macro) (v : ConditionsView) (nest : List (File R)) (f : File R) (outer : List (File R)) → nest ≡ f ∷ outer
-    → (nest_state limits macros v nest).name ≡ f.name.bytes
-unfolding nest_state file_state
-named_state limits macros v nest f outer is = rw is refl
+pub named_state : {R : Type 0} (limits : Limits) (macros : List Macro) (v : ConditionsView) (include_stack : List (File R)) (f : File R) (outer : List (File R)) → include_stack ≡ f ∷ outer
+    → (include_stack_state limits macros v include_stack).name ≡ f.name.bytes
+unfolding include_stack_state file_state
+named_state limits macros v include_stack f outer is = rw is refl
 
 -- other conditionals in an engine
 pub sound_with : {R : Type 0} (limits : Limits) (phase : Phase) (table : TableView) (files : FilesView R) (v w : ConditionsView) → IsSoundEngine limits phase table files v
-    → AreConditions limits w files.nest → IsSoundEngine limits phase table files w
+    → AreConditions limits w files.include_stack → IsSoundEngine limits phase table files w
 sound_with limits phase table files v w s c = record {
   in_range = s.in_range;
   definition_bytes = s.definition_bytes;
@@ -470,7 +470,7 @@ sound_with limits phase table files v w s c = record {
 }
 
 pub whole_with : {R : Type 0} (limits : Limits) (phase : Phase) (table : TableView) (files : FilesView R) (v w : ConditionsView) (x : ExpansionView) → IsWholeEngine limits phase table files v x
-    → AreConditions limits w files.nest → IsWholeEngine limits phase table files w x
+    → AreConditions limits w files.include_stack → IsWholeEngine limits phase table files w x
 whole_with limits phase table files v w x s c = record { sources = sound_with limits phase table files v w s.sources c; texts = s.texts }
 
 -- the innermost conditional is the innermost source's own, and what is told of a branch of it is its test
@@ -546,25 +546,25 @@ ends_by {A} result old new below (Deep n o os is some skips) h =
 pub ends_one : {A : Type 0} (result : Result A FaultKind) (old new : ConditionsView) (below : ℕ) → below ≤ length old.open_now → Closes (place_of below old) result old new → EndsOne result old new below
 ends_one result old new below most h = ends_by result old new below (standing below old most) h
 
-conditions_ended : {R A : Type 0} (limits : Limits) (v : ConditionsView) (nest : List (File R)) → 0 < length nest → AreConditions limits v nest → (result : Result A FaultKind) (w : ConditionsView)
-    → EndsOne result v w (inner_below nest) → AreConditions limits w nest
-conditions_ended limits v nest some s result w (EndsNone alone wrong stays) = rw stays s
-conditions_ended limits v nest some s result w (EndsOwn live o os is_open below skips done moves) =
+conditions_ended : {R A : Type 0} (limits : Limits) (v : ConditionsView) (include_stack : List (File R)) → 0 < length include_stack → AreConditions limits v include_stack → (result : Result A FaultKind) (w : ConditionsView)
+    → EndsOne result v w (inner_below include_stack) → AreConditions limits w include_stack
+conditions_ended limits v include_stack some s result w (EndsNone alone wrong stays) = rw stays s
+conditions_ended limits v include_stack some s result w (EndsOwn live o os is_open below skips done moves) =
     let size : length v.open_now ≡ suc (length os) = ap length is_open in
-    rw moves (conditions_fewer limits v nest some s (omega arith))
-conditions_ended limits v nest some s result w (EndsInner n o os is_open below skips done moves) =
+    rw moves (conditions_fewer limits v include_stack some s (omega arith))
+conditions_ended limits v include_stack some s result w (EndsInner n o os is_open below skips done moves) =
     let size : length v.open_now ≡ suc (length os) = ap length is_open in
     let few = s.counted in
     let count : unwrap_or v.skipped 0 ≡ suc n = ap (λ (k : Option ℕ). unwrap_or k 0) skips in
-    rw moves (conditions_count limits v nest some s (omega arith) n (omega arith))
+    rw moves (conditions_count limits v include_stack some s (omega arith) n (omega arith))
 
 -- what always holds behind an `endif`
-pub conditions_end : {R A : Type 0} (limits : Limits) (v : ConditionsView) (nest : List (File R)) → 0 < length nest → AreConditions limits v nest → (result : Result A FaultKind) (w : ConditionsView) (below : ℕ)
-    → below ≡ inner_below nest → Closes (place_of below v) result v w → AreConditions limits w nest
-conditions_end {R} {A} limits v nest some s result w below same h =
-    let most = inner_most limits v nest s in
-    conditions_ended limits v nest some s result w
-    (ends_one result v w (inner_below nest) most (subst (λ (n : ℕ). Closes {A = A} (place_of n v) result v w) same h))
+pub conditions_end : {R A : Type 0} (limits : Limits) (v : ConditionsView) (include_stack : List (File R)) → 0 < length include_stack → AreConditions limits v include_stack → (result : Result A FaultKind) (w : ConditionsView) (below : ℕ)
+    → below ≡ inner_below include_stack → Closes (place_of below v) result v w → AreConditions limits w include_stack
+conditions_end {R} {A} limits v include_stack some s result w below same h =
+    let most = inner_most limits v include_stack s in
+    conditions_ended limits v include_stack some s result w
+    (ends_one result v w (inner_below include_stack) most (subst (λ (n : ℕ). Closes {A = A} (place_of n v) result v w) same h))
 
 -- what the end of a source leaves open
 pub data LeavesOpen (line : Option ℕ) (below : ℕ) (v : ConditionsView) : Type 0 where
@@ -599,10 +599,10 @@ one_opens x v holds e = one_within (v.limit - length v.open_now) v holds refl e
 -- What the end of a source leaves open among its conditionals.
 
 -- what the end of the innermost source leaves open
-pub leaves_here : {S R : Type 0} (line : Option ℕ) (e : EngineView S R) → inner_below e.files.nest ≤ length e.conditions.open_now → (below : ℕ) → below ≡ inner_below e.files.nest
-    → IsUnclosed (place_of below e.conditions) line → LeavesOpen line (inner_below e.files.nest) e.conditions
+pub leaves_here : {S R : Type 0} (line : Option ℕ) (e : EngineView S R) → inner_below e.files.include_stack ≤ length e.conditions.open_now → (below : ℕ) → below ≡ inner_below e.files.include_stack
+    → IsUnclosed (place_of below e.conditions) line → LeavesOpen line (inner_below e.files.include_stack) e.conditions
 leaves_here line e most below same h =
-    leaves_open line (inner_below e.files.nest) e.conditions most (subst (λ (n : ℕ). IsUnclosed (place_of n e.conditions) line) same h)
+    leaves_open line (inner_below e.files.include_stack) e.conditions most (subst (λ (n : ℕ). IsUnclosed (place_of n e.conditions) line) same h)
 
 -- none
 pub ended_alone : (below : ℕ) (v : ConditionsView) → LeavesOpen None below v → length v.open_now ≡ below
@@ -610,7 +610,7 @@ ended_alone below v (LeavesNone alone same) = alone
 ended_alone below v (LeavesOne o os is_open most wrong) = absurd (cc)
 
 -- or one, whose fault is kept
-pub stops_unclosed : {S R : Type 0} (old new : EngineView S R) (place : EnginePlace) (line : ℕ) → (inner_buffer old.files.nest).mode ≡ Plain → LeavesOpen (Some line) (inner_below old.files.nest) old.conditions
+pub stops_unclosed : {S R : Type 0} (old new : EngineView S R) (place : EnginePlace) (line : ℕ) → (inner_buffer old.files.include_stack).mode ≡ Plain → LeavesOpen (Some line) (inner_below old.files.include_stack) old.conditions
     → place ≡ Kept → new ≡ record old { kept = Some (unclosed_fault line (state_of old)) } → Ends old new (Some place)
 stops_unclosed old new place line plain (LeavesNone alone wrong) is becomes = absurd (cc)
 stops_unclosed {S} {R} old new place line plain (LeavesOne o os is_open most same) is becomes =

@@ -19,7 +19,7 @@ use Rattle.rdlpp_source.specs.declared.sources.Sources.{Ghosts}
 use Rattle.rdlpp_texts.specs.Opened.{StaysOutermost, usage_id}
 use Rattle.rdlpp_conditions.specs.Conditions.{ConditionsView}
 use Rattle.rdlpp_read.specs.Buffer.{BufferView, Gains, MovesOver, Slides, ahead_of, entered_mode, held_of, opened_buffer, rest_of, text_left, unread_of}
-use Rattle.rdlpp_read.specs.Files.{consumed_file, entered_file, inner_buffer, torn_after, with_buffer, with_inner}
+use Rattle.rdlpp_read.specs.Files.{consumed_file, entered_file, inner_buffer, ends_mid_line_after, with_buffer, with_inner}
 use Rattle.rdlpp_read.specs.declared.files.File.{File}
 use Rattle.rdlpp_usages.specs.CallReads.{ReadsUpTo, with_used}
 use Rattle.rdlpp_usages.specs.Usages.{ExpansionView, KeepsCall, KeepsOpening, KeepsUsage, StaysOpen, is_opened}
@@ -84,13 +84,13 @@ own_stops e f kept own =
     stops_by e f kept (and_left (is_failed_call e.kept) _ none) (and_left (is_failed_call e.kept) _ none)
 
 -- no read is made again
-pub read_never : {S R : Type 0} (e : EngineView S R) → IsReading (inner_buffer e.files.nest) → is_failed_search e ≡ false
+pub read_never : {S R : Type 0} (e : EngineView S R) → IsReading (inner_buffer e.files.include_stack) → is_failed_search e ≡ false
 unfolding is_failed_search
 read_never e reading =
-    and_right (is_failed_call e.kept) _ (and_right (may_follow e.phase) (begins_include (held_of (inner_buffer e.files.nest))) (read_front (inner_buffer e.files.nest) reading))
+    and_right (is_failed_call e.kept) _ (and_right (may_follow e.phase) (begins_include (held_of (inner_buffer e.files.include_stack))) (read_front (inner_buffer e.files.include_stack) reading))
 
 -- and after one that failed
-pub read_stops : {S R : Type 0} (e : EngineView S R) (f : Told) → e.kept ≡ Some f → e.phase ≡ OpenPhase → IsReading (inner_buffer e.files.nest) → MayGoOn e → ⊥
+pub read_stops : {S R : Type 0} (e : EngineView S R) (f : Told) → e.kept ≡ Some f → e.phase ≡ OpenPhase → IsReading (inner_buffer e.files.include_stack) → MayGoOn e → ⊥
 unfolding is_failed_start is_over
 read_stops e f kept open_ reading = stops_by e f kept (read_never e reading) (and_right (is_failed_call e.kept) (is_over e.phase) (ap is_over open_))
 
@@ -118,7 +118,7 @@ part_moves unread catalog own exact path old new outer dropped gained window gai
     }
 
 -- parts of which less is asked
-pub parts_told : {R : Type 0} (unread : R → List ℕ) (catalog : Catalog) (own exact : Type 0) (nest : List (File R)) → (exact → own) → AreParts unread catalog own nest → AreParts unread catalog exact nest
+pub parts_told : {R : Type 0} (unread : R → List ℕ) (catalog : Catalog) (own exact : Type 0) (include_stack : List (File R)) → (exact → own) → AreParts unread catalog own include_stack → AreParts unread catalog exact include_stack
 parts_told unread catalog own exact [] t parts = tt
 parts_told unread catalog own exact (f ∷ outer) t parts = (
   record { text = parts.0.text; told = parts.0.told; front = parts.0.front; rest = parts.0.rest; whole = parts.0.whole; same = λ e. parts.0.same (t e) },
@@ -134,14 +134,14 @@ abbrev pub KeepsParts : {R : Type 0} → (R → List ℕ) → List (File R) → 
 KeepsParts unread old new = MovesParts unread Unit old new
 
 -- where held bytes of the innermost are used
-pub parts_used : {R : Type 0} (unread : R → List ℕ) (len lines : ℕ) (nest : List (File R)) → KeepsParts unread nest (with_inner (consumed_file len lines) nest)
+pub parts_used : {R : Type 0} (unread : R → List ℕ) (len lines : ℕ) (include_stack : List (File R)) → KeepsParts unread include_stack (with_inner (consumed_file len lines) include_stack)
 parts_used unread len lines [] = λ catalog parts. parts
 parts_used unread len lines (f ∷ outer) = λ catalog parts.
     (record { text = parts.0.text; told = parts.0.told; front = parts.0.front; rest = parts.0.rest; whole = parts.0.whole; same = parts.0.same }, parts.1)
 
 -- where the window of the innermost slid
-pub parts_slid : {R : Type 0} (tells exact : Type 0) (unread : R → List ℕ) (b : BufferView R) (nest : List (File R)) → 0 < length nest → Slides tells exact unread (inner_buffer nest) b → tells
-    → MovesParts unread exact nest (with_buffer b nest)
+pub parts_slid : {R : Type 0} (tells exact : Type 0) (unread : R → List ℕ) (b : BufferView R) (include_stack : List (File R)) → 0 < length include_stack → Slides tells exact unread (inner_buffer include_stack) b → tells
+    → MovesParts unread exact include_stack (with_buffer b include_stack)
 parts_slid tells exact unread b [] some slides t = λ catalog parts. tt
 parts_slid tells exact unread b (f ∷ outer) some slides t = λ catalog parts. (
   part_moves unread catalog Unit exact f.path.bytes f.buffer b outer slides.dropped slides.gained slides.window (slides.text t) tt parts.0,
@@ -153,7 +153,7 @@ pub parts_on : {R : Type 0} (unread : R → List ℕ) (old mid new : List (File 
 parts_on unread old mid new first then_ = λ catalog parts. then_ catalog (first catalog parts)
 
 -- where the buffer has the same window and the same reader
-pub parts_same : {R : Type 0} (unread : R → List ℕ) (b : BufferView R) (nest : List (File R)) → b.window ≡ (inner_buffer nest).window → b.reader ≡ (inner_buffer nest).reader → KeepsParts unread nest (with_buffer b nest)
+pub parts_same : {R : Type 0} (unread : R → List ℕ) (b : BufferView R) (include_stack : List (File R)) → b.window ≡ (inner_buffer include_stack).window → b.reader ≡ (inner_buffer include_stack).reader → KeepsParts unread include_stack (with_buffer b include_stack)
 parts_same unread b [] window reader = λ catalog parts. parts
 parts_same unread b (f ∷ outer) window reader = λ catalog parts. (
   record {
@@ -168,18 +168,18 @@ parts_same unread b (f ∷ outer) window reader = λ catalog parts. (
 )
 
 -- where another mode is entered
-pub parts_mode : {R : Type 0} (unread : R → List ℕ) (next : Mode) (nest : List (File R)) → KeepsParts unread nest (with_buffer (entered_mode (inner_buffer nest) next) nest)
+pub parts_mode : {R : Type 0} (unread : R → List ℕ) (next : Mode) (include_stack : List (File R)) → KeepsParts unread include_stack (with_buffer (entered_mode (inner_buffer include_stack) next) include_stack)
 unfolding entered_mode
-parts_mode unread next nest = parts_same unread (entered_mode (inner_buffer nest) next) nest refl refl
+parts_mode unread next include_stack = parts_same unread (entered_mode (inner_buffer include_stack) next) include_stack refl refl
 
 -- where the innermost shows another name and other numbers
-pub parts_shown : {R : Type 0} (unread : R → List ℕ) (from number : ℕ) (name : ArrayString 1024) (nest : List (File R)) → KeepsParts unread nest (with_inner (renumbered_file from number name) nest)
+pub parts_shown : {R : Type 0} (unread : R → List ℕ) (from number : ℕ) (name : ArrayString 1024) (include_stack : List (File R)) → KeepsParts unread include_stack (with_inner (renumbered_file from number name) include_stack)
 parts_shown unread from number name [] = λ catalog parts. parts
 parts_shown unread from number name (f ∷ outer) = λ catalog parts.
     (record { text = parts.0.text; told = parts.0.told; front = parts.0.front; rest = parts.0.rest; whole = parts.0.whole; same = parts.0.same }, parts.1)
 
 -- the sources around the innermost
-pub parts_around : {R : Type 0} (unread : R → List ℕ) (nest : List (File R)) → KeepsParts unread nest (drop 1 nest)
+pub parts_around : {R : Type 0} (unread : R → List ℕ) (include_stack : List (File R)) → KeepsParts unread include_stack (drop 1 include_stack)
 parts_around unread [] = λ catalog parts. parts
 parts_around unread (f ∷ outer) = λ catalog parts. parts.1
 
@@ -189,7 +189,7 @@ pub parts_moved : {R : Type 0} (tells exact : Type 0) (unread : R → List ℕ) 
 parts_moved tells exact unread used [] new some inner moves t = λ catalog parts. absurd (omega (arith, some))
 parts_moved {R} tells exact unread used (f ∷ outer) new some inner moves t = λ catalog parts.
     let b = inner_buffer new in
-    let changed : File R = record f { buffer = b; blanks = only_blanks f.blanks used; torn = torn_after f.torn used } in
+    let changed : File R = record f { buffer = b; blanks = only_blanks f.blanks used; ends_mid_line = ends_mid_line_after f.ends_mid_line used } in
     let now : AreParts unread catalog exact (changed ∷ outer) = (
       part_moves unread catalog Unit exact f.path.bytes f.buffer b outer moves.dropped moves.gained moves.window (moves.text t) tt parts.0,
       parts_told unread catalog Unit exact outer (λ _. tt) parts.1,
@@ -197,9 +197,9 @@ parts_moved {R} tells exact unread used (f ∷ outer) new some inner moves t = �
     subst (λ (ns : List (File R)). AreParts unread catalog exact ns) (sym inner) now
 
 -- an included source that was found
-pub parts_entered : {R : Type 0} (unread : R → List ℕ) (catalog : Catalog) (found : Found R) (stop source_bytes line_bytes below line : ℕ) (name : List ℕ) (nest : List (File R)) → 0 < length nest
-    → catalog.find (inner_path nest) name ≡ Present found.path.bytes (unread found.reader) → AreParts unread catalog Unit nest
-    → AreParts unread catalog Unit (entered_file found source_bytes line_bytes below line ∷ with_inner (consumed_file stop 0) nest)
+pub parts_entered : {R : Type 0} (unread : R → List ℕ) (catalog : Catalog) (found : Found R) (stop source_bytes line_bytes below line : ℕ) (name : List ℕ) (include_stack : List (File R)) → 0 < length include_stack
+    → catalog.find (inner_path include_stack) name ≡ Present found.path.bytes (unread found.reader) → AreParts unread catalog Unit include_stack
+    → AreParts unread catalog Unit (entered_file found source_bytes line_bytes below line ∷ with_inner (consumed_file stop 0) include_stack)
 unfolding unread_of opened_buffer
 parts_entered unread catalog found stop source_bytes line_bytes below line name [] some finds parts = absurd (omega (arith, some))
 parts_entered unread catalog found stop source_bytes line_bytes below line name (f ∷ outer) some finds parts =
@@ -289,27 +289,27 @@ call_begun unread catalog most tells arguments path mid now outer used plain p t
     }
 
 -- so it is among the open sources
-pub holds_call : {R : Type 0} (unread : R → List ℕ) (catalog : Catalog) (most len : ℕ) (tells : Type 0) (arguments used : List ℕ) (nest new : List (File R)) → 0 < length nest
-    → (inner_buffer (with_inner (consumed_file len 0) nest)).at ≤ (inner_buffer nest).accepted → new ≡ with_used (inner_buffer new) used nest → AreParts unread catalog Unit nest
-    → KeepsOpening tells unread most Opened arguments (inner_buffer (with_inner (consumed_file len 0) nest)) (inner_buffer new) → tells → HoldsCall unread catalog most arguments new
+pub holds_call : {R : Type 0} (unread : R → List ℕ) (catalog : Catalog) (most len : ℕ) (tells : Type 0) (arguments used : List ℕ) (include_stack new : List (File R)) → 0 < length include_stack
+    → (inner_buffer (with_inner (consumed_file len 0) include_stack)).at ≤ (inner_buffer include_stack).accepted → new ≡ with_used (inner_buffer new) used include_stack → AreParts unread catalog Unit include_stack
+    → KeepsOpening tells unread most Opened arguments (inner_buffer (with_inner (consumed_file len 0) include_stack)) (inner_buffer new) → tells → HoldsCall unread catalog most arguments new
 holds_call unread catalog most len tells arguments used [] new some inside inner parts keeps t = absurd (omega (arith, some))
 holds_call {R} unread catalog most len tells arguments used (f ∷ outer) new some inside inner parts keeps t =
     let b = inner_buffer new in
     let mid = consumed_file len 0 f in
-    let changed : File R = record f { buffer = b; blanks = only_blanks f.blanks used; torn = torn_after f.torn used } in
+    let changed : File R = record f { buffer = b; blanks = only_blanks f.blanks used; ends_mid_line = ends_mid_line_after f.ends_mid_line used } in
     let own : IsPartOf unread catalog Unit f.path.bytes mid.buffer outer = (parts_used unread len 0 (f ∷ outer) catalog parts).0 in
     subst (λ (ns : List (File R)). HoldsCall unread catalog most arguments ns) (sym inner)
     (call_kept unread catalog most arguments f.path.bytes mid.buffer b outer inside own (keeps t))
 
 -- and where a fault came in it
-begins_call : {R : Type 0} (unread : R → List ℕ) (catalog : Catalog) (most len : ℕ) (tells : Type 0) (arguments used : List ℕ) (nest new : List (File R)) → 0 < length nest
-    → (inner_buffer (with_inner (consumed_file len 0) nest)).at ≤ (inner_buffer nest).accepted → (inner_buffer nest).mode ≡ Plain → new ≡ with_used (inner_buffer new) used nest → AreParts unread catalog Unit nest
-    → tells → ReadsUpTo tells unread Before most arguments (inner_buffer (with_inner (consumed_file len 0) nest)) (inner_buffer new) → BeginsCall unread catalog most arguments new
+begins_call : {R : Type 0} (unread : R → List ℕ) (catalog : Catalog) (most len : ℕ) (tells : Type 0) (arguments used : List ℕ) (include_stack new : List (File R)) → 0 < length include_stack
+    → (inner_buffer (with_inner (consumed_file len 0) include_stack)).at ≤ (inner_buffer include_stack).accepted → (inner_buffer include_stack).mode ≡ Plain → new ≡ with_used (inner_buffer new) used include_stack → AreParts unread catalog Unit include_stack
+    → tells → ReadsUpTo tells unread Before most arguments (inner_buffer (with_inner (consumed_file len 0) include_stack)) (inner_buffer new) → BeginsCall unread catalog most arguments new
 begins_call unread catalog most len tells arguments used [] new some inside plain inner parts t reads = absurd (omega (arith, some))
 begins_call {R} unread catalog most len tells arguments used (f ∷ outer) new some inside plain inner parts t reads =
     let b = inner_buffer new in
     let mid = consumed_file len 0 f in
-    let changed : File R = record f { buffer = b; blanks = only_blanks f.blanks used; torn = torn_after f.torn used } in
+    let changed : File R = record f { buffer = b; blanks = only_blanks f.blanks used; ends_mid_line = ends_mid_line_after f.ends_mid_line used } in
     let own : IsPartOf unread catalog Unit f.path.bytes mid.buffer outer = (parts_used unread len 0 (f ∷ outer) catalog parts).0 in
     subst (λ (ns : List (File R)). BeginsCall unread catalog most arguments ns) (sym inner)
     (call_begun unread catalog most tells arguments f.path.bytes mid.buffer b outer inside plain own t reads)
@@ -340,22 +340,22 @@ pub record KeepsStores {S R : Type 0} (g : Ghosts S R) (old new : EngineView S R
   pub stores : g.tells old.sources → HoldsStores g old → HoldsStores g new
 
 -- the parts of an engine's texts, of which no byte was lost
-free_parts : {S R : Type 0} (g : Ghosts S R) (e : EngineView S R) → e.kept ≡ None → HoldsStores g e → AreParts g.unread (g.catalog e.sources) Unit e.files.nest
-free_parts g e free h = parts_told g.unread (g.catalog e.sources) (MayGoOn e) Unit e.files.nest (λ _. inl free) h.parts
+free_parts : {S R : Type 0} (g : Ghosts S R) (e : EngineView S R) → e.kept ≡ None → HoldsStores g e → AreParts g.unread (g.catalog e.sources) Unit e.files.include_stack
+free_parts g e free h = parts_told g.unread (g.catalog e.sources) (MayGoOn e) Unit e.files.include_stack (λ _. inl free) h.parts
 
 -- where the sources changed, no fault is kept, and no text of a usage is open
-pub keeps_sources : {S R : Type 0} (g : Ghosts S R) (old : EngineView S R) (pending : PendingView) (marks : MarksView) (macros : List Macro) (v : ConditionsView) (nest : List (File R)) (sources : S) → old.kept ≡ None → old.expansion.opens ≡ []
-    → g.catalog sources ≡ g.catalog old.sources → (g.tells old.sources → AreParts g.unread (g.catalog old.sources) Unit old.files.nest → AreParts g.unread (g.catalog old.sources) Unit nest)
-    → KeepsStores g old (record old { pending = pending; marks = marks; table = record old.table { macros = macros }; conditions = v; files = record old.files { nest = nest }; sources = sources })
-keeps_sources g old pending marks macros v nest sources free idle catalog parts =
+pub keeps_sources : {S R : Type 0} (g : Ghosts S R) (old : EngineView S R) (pending : PendingView) (marks : MarksView) (macros : List Macro) (v : ConditionsView) (include_stack : List (File R)) (sources : S) → old.kept ≡ None → old.expansion.opens ≡ []
+    → g.catalog sources ≡ g.catalog old.sources → (g.tells old.sources → AreParts g.unread (g.catalog old.sources) Unit old.files.include_stack → AreParts g.unread (g.catalog old.sources) Unit include_stack)
+    → KeepsStores g old (record old { pending = pending; marks = marks; table = record old.table { macros = macros }; conditions = v; files = record old.files { include_stack = include_stack }; sources = sources })
+keeps_sources g old pending marks macros v include_stack sources free idle catalog parts =
     let none = none_called macros old.expansion.opens idle in
     let nothing : LetsGo old → old.expansion.arguments ≡ [] = λ h. h.idle (inl free) (none_called old.table.macros old.expansion.opens idle) in
     record {
       lets_go = λ h. record { idle = λ _ _. nothing h };
       stores = λ t h. record {
         lets_go = record { idle = λ _ _. nothing h.lets_go };
-        parts = parts_told g.unread (g.catalog sources) Unit _ nest (λ _. tt)
-            (subst (λ (c : Catalog). AreParts g.unread c Unit nest) (sym catalog) (parts t (free_parts g old free h)));
+        parts = parts_told g.unread (g.catalog sources) Unit _ include_stack (λ _. tt)
+            (subst (λ (c : Catalog). AreParts g.unread c Unit include_stack) (sym catalog) (parts t (free_parts g old free h)));
         call = λ fs called. absurd (let no : None ≡ Some fs = sym none ∙ called in cc);
         begun = λ _. inl (nothing h.lets_go);
       };
@@ -375,7 +375,7 @@ keeps_phase g old phase quota free = record {
   lets_go = λ h. record { idle = λ _. h.idle (inl free) };
   stores = λ t h. record {
     lets_go = record { idle = λ _. h.lets_go.idle (inl free) };
-    parts = parts_told g.unread (g.catalog old.sources) (MayGoOn old) _ old.files.nest (λ _. inl free) h.parts;
+    parts = parts_told g.unread (g.catalog old.sources) (MayGoOn old) _ old.files.include_stack (λ _. inl free) h.parts;
     call = h.call;
     begun = h.begun;
   };
@@ -390,7 +390,7 @@ keeps_refused {S} {R} g old f own =
       lets_go = λ h. stopped_lets_go new stops;
       stores = λ t h. record {
         lets_go = stopped_lets_go new stops;
-        parts = parts_told g.unread (g.catalog old.sources) (MayGoOn old) (MayGoOn new) old.files.nest (λ on. absurd (stops on)) h.parts;
+        parts = parts_told g.unread (g.catalog old.sources) (MayGoOn old) (MayGoOn new) old.files.include_stack (λ on. absurd (stops on)) h.parts;
         call = h.call;
         begun = h.begun;
       };
@@ -405,8 +405,8 @@ keeps_searched g old f sources free idle catalog =
       lets_go = λ h. record { idle = λ _ _. h.idle (inl free) none };
       stores = λ t h. record {
         lets_go = record { idle = λ _ _. h.lets_go.idle (inl free) none };
-        parts = parts_told g.unread (g.catalog sources) Unit _ old.files.nest (λ _. tt)
-            (subst (λ (c : Catalog). AreParts g.unread c Unit old.files.nest) (sym catalog) (free_parts g old free h));
+        parts = parts_told g.unread (g.catalog sources) Unit _ old.files.include_stack (λ _. tt)
+            (subst (λ (c : Catalog). AreParts g.unread c Unit old.files.include_stack) (sym catalog) (free_parts g old free h));
         call = λ fs called. absurd (let no : None ≡ Some fs = sym none ∙ called in cc);
         begun = λ _. inl (h.lets_go.idle (inl free) none);
       };
@@ -414,49 +414,49 @@ keeps_searched g old f sources free idle catalog =
 
 -- where a fault is kept that came at the front of what is held, and after which the engine can't go on: the innermost window moved on, and
 -- bytes may be lost after it
-pub keeps_stopped : {S R : Type 0} (g : Ghosts S R) (old : EngineView S R) (f : Told) (b : BufferView R) (sources : S) → old.kept ≡ None → old.expansion.opens ≡ [] → 0 < length old.files.nest
-    → g.catalog sources ≡ g.catalog old.sources → Slides (g.tells old.sources) ⊥ g.unread (inner_buffer old.files.nest) b
-    → (MayGoOn (record old { kept = Some f; files = record old.files { nest = with_buffer b old.files.nest }; sources = sources }) → ⊥)
-    → KeepsStores g old (record old { kept = Some f; files = record old.files { nest = with_buffer b old.files.nest }; sources = sources })
+pub keeps_stopped : {S R : Type 0} (g : Ghosts S R) (old : EngineView S R) (f : Told) (b : BufferView R) (sources : S) → old.kept ≡ None → old.expansion.opens ≡ [] → 0 < length old.files.include_stack
+    → g.catalog sources ≡ g.catalog old.sources → Slides (g.tells old.sources) ⊥ g.unread (inner_buffer old.files.include_stack) b
+    → (MayGoOn (record old { kept = Some f; files = record old.files { include_stack = with_buffer b old.files.include_stack }; sources = sources }) → ⊥)
+    → KeepsStores g old (record old { kept = Some f; files = record old.files { include_stack = with_buffer b old.files.include_stack }; sources = sources })
 keeps_stopped {S} {R} g old f b sources free idle some catalog slides stops =
-    let new : EngineView S R = record old { kept = Some f; files = record old.files { nest = with_buffer b old.files.nest }; sources = sources } in
+    let new : EngineView S R = record old { kept = Some f; files = record old.files { include_stack = with_buffer b old.files.include_stack }; sources = sources } in
     let none = none_called old.table.macros old.expansion.opens idle in
     record {
       lets_go = λ h. stopped_lets_go new stops;
       stores = λ t h. record {
         lets_go = stopped_lets_go new stops;
-        parts = parts_told g.unread (g.catalog sources) ⊥ (MayGoOn new) (with_buffer b old.files.nest) stops
-            (subst (λ (c : Catalog). AreParts g.unread c ⊥ (with_buffer b old.files.nest)) (sym catalog)
-            (parts_slid (g.tells old.sources) ⊥ g.unread b old.files.nest some slides t (g.catalog old.sources) (free_parts g old free h)));
+        parts = parts_told g.unread (g.catalog sources) ⊥ (MayGoOn new) (with_buffer b old.files.include_stack) stops
+            (subst (λ (c : Catalog). AreParts g.unread c ⊥ (with_buffer b old.files.include_stack)) (sym catalog)
+            (parts_slid (g.tells old.sources) ⊥ g.unread b old.files.include_stack some slides t (g.catalog old.sources) (free_parts g old free h)));
         call = λ fs called. absurd (let no : None ≡ Some fs = sym none ∙ called in cc);
         begun = λ _. inl (h.lets_go.idle (inl free) none);
       };
     }
 
 -- where a fault is kept that came in the call of a usage, and after which the engine can't go on
-pub keeps_broken : {S R : Type 0} (g : Ghosts S R) (old : EngineView S R) (f : Told) (nest : List (File R)) (s : S) (opening : Opening) (arguments used : List ℕ) (len : ℕ) (exact : Type 0) (formals : Option (List Formal))
-    → old.kept ≡ None → old.expansion.opens ≡ [] → 0 < length old.files.nest → g.catalog s ≡ g.catalog old.sources → nest ≡ with_used (inner_buffer nest) used old.files.nest
-    → MovesOver (g.tells old.sources) exact g.unread used (inner_buffer old.files.nest) (inner_buffer nest)
-    → (inner_buffer (with_inner (consumed_file len 0) old.files.nest)).at ≤ (inner_buffer old.files.nest).accepted → (inner_buffer old.files.nest).mode ≡ Plain → is_opened opening ≡ false
-    → KeepsUsage formals (g.tells old.sources) g.unread old.expansion.most opening arguments (inner_buffer (with_inner (consumed_file len 0) old.files.nest)) (inner_buffer nest)
-    → (MayGoOn (record old { kept = Some f; files = record old.files { nest = nest }; sources = s; expansion = record old.expansion { arguments = arguments } }) → ⊥)
-    → KeepsStores g old (record old { kept = Some f; files = record old.files { nest = nest }; sources = s; expansion = record old.expansion { arguments = arguments } })
-keeps_broken {S} {R} g old f nest s opening arguments used len exact formals free idle some catalog inner moves inside plain unopened keeps stops =
-    let new : EngineView S R = record old { kept = Some f; files = record old.files { nest = nest }; sources = s; expansion = record old.expansion { arguments = arguments } } in
+pub keeps_broken : {S R : Type 0} (g : Ghosts S R) (old : EngineView S R) (f : Told) (include_stack : List (File R)) (s : S) (opening : Opening) (arguments used : List ℕ) (len : ℕ) (exact : Type 0) (formals : Option (List Formal))
+    → old.kept ≡ None → old.expansion.opens ≡ [] → 0 < length old.files.include_stack → g.catalog s ≡ g.catalog old.sources → include_stack ≡ with_used (inner_buffer include_stack) used old.files.include_stack
+    → MovesOver (g.tells old.sources) exact g.unread used (inner_buffer old.files.include_stack) (inner_buffer include_stack)
+    → (inner_buffer (with_inner (consumed_file len 0) old.files.include_stack)).at ≤ (inner_buffer old.files.include_stack).accepted → (inner_buffer old.files.include_stack).mode ≡ Plain → is_opened opening ≡ false
+    → KeepsUsage formals (g.tells old.sources) g.unread old.expansion.most opening arguments (inner_buffer (with_inner (consumed_file len 0) old.files.include_stack)) (inner_buffer include_stack)
+    → (MayGoOn (record old { kept = Some f; files = record old.files { include_stack = include_stack }; sources = s; expansion = record old.expansion { arguments = arguments } }) → ⊥)
+    → KeepsStores g old (record old { kept = Some f; files = record old.files { include_stack = include_stack }; sources = s; expansion = record old.expansion { arguments = arguments } })
+keeps_broken {S} {R} g old f include_stack s opening arguments used len exact formals free idle some catalog inner moves inside plain unopened keeps stops =
+    let new : EngineView S R = record old { kept = Some f; files = record old.files { include_stack = include_stack }; sources = s; expansion = record old.expansion { arguments = arguments } } in
     let none = none_called old.table.macros old.expansion.opens idle in
     record {
       lets_go = λ h. stopped_lets_go new stops;
       stores = λ t h. record {
         lets_go = stopped_lets_go new stops;
-        parts = parts_told g.unread (g.catalog s) exact (MayGoOn new) nest (λ on. absurd (stops on))
-            (subst (λ (c : Catalog). AreParts g.unread c exact nest) (sym catalog)
-            (parts_moved (g.tells old.sources) exact g.unread used old.files.nest nest some inner moves t (g.catalog old.sources) (free_parts g old free h)));
+        parts = parts_told g.unread (g.catalog s) exact (MayGoOn new) include_stack (λ on. absurd (stops on))
+            (subst (λ (c : Catalog). AreParts g.unread c exact include_stack) (sym catalog)
+            (parts_moved (g.tells old.sources) exact g.unread used old.files.include_stack include_stack some inner moves t (g.catalog old.sources) (free_parts g old free h)));
         call = λ fs called. absurd (let no : None ≡ Some fs = sym none ∙ called in cc);
         begun = λ _. elim (usage_begun formals (g.tells old.sources) g.unread old.expansion.most opening arguments _ _ unopened keeps) [
           | inl nothing ↦ inl nothing
           | inr reads ↦
-              inr (subst (λ (c : Catalog). BeginsCall g.unread c old.expansion.most arguments nest) (sym catalog)
-              (begins_call g.unread (g.catalog old.sources) old.expansion.most len (g.tells old.sources) arguments used old.files.nest nest some inside plain inner (free_parts g old free h) t reads))
+              inr (subst (λ (c : Catalog). BeginsCall g.unread c old.expansion.most arguments include_stack) (sym catalog)
+              (begins_call g.unread (g.catalog old.sources) old.expansion.most len (g.tells old.sources) arguments used old.files.include_stack include_stack some inside plain inner (free_parts g old free h) t reads))
         ];
       };
     }
@@ -468,14 +468,14 @@ keeps_texts g old x marks free stays outer lets_go = record {
   lets_go = λ h. record { idle = λ _ none. by h none x.opens refl };
   stores = λ t h. record {
     lets_go = record { idle = λ _ none. by h.lets_go none x.opens refl };
-    parts = parts_told g.unread (g.catalog old.sources) (MayGoOn old) _ old.files.nest (λ _. inl free) h.parts;
+    parts = parts_told g.unread (g.catalog old.sources) (MayGoOn old) _ old.files.include_stack (λ _. inl free) h.parts;
     call = λ fs called.
         let some = called_some old.table.macros x.opens fs called in
         let own = sym (same_called old.table.macros old.expansion.opens x.opens outer some) ∙ called in
         elim stays.arguments [
           | inl same ↦
-              subst (λ (n : ℕ). HoldsCall g.unread (g.catalog old.sources) n x.arguments old.files.nest) (sym stays.most)
-              (subst (λ (a : List ℕ). HoldsCall g.unread (g.catalog old.sources) old.expansion.most a old.files.nest) (sym same) (h.call fs own))
+              subst (λ (n : ℕ). HoldsCall g.unread (g.catalog old.sources) n x.arguments old.files.include_stack) (sym stays.most)
+              (subst (λ (a : List ℕ). HoldsCall g.unread (g.catalog old.sources) old.expansion.most a old.files.include_stack) (sym same) (h.call fs own))
           | inr none ↦ (let zeroth = ap length none.0 in absurd (omega (arith, zeroth, some)))
         ];
     begun = λ none. inl (by h.lets_go none x.opens refl);
@@ -490,24 +490,24 @@ keeps_texts g old x marks free stays outer lets_go = record {
         elim stays.arguments [ inl same ↦ same ∙ h.idle (inl free) own | inr gone ↦ gone.1 ]
 
 -- where a usage is opened
-pub keeps_opened : {S R : Type 0} (g : Ghosts S R) (old : EngineView S R) (nest : List (File R)) (s : S) (x : ExpansionView) (used : List ℕ) (len : ℕ) (formals : Option (List Formal)) → old.kept ≡ None → 0 < length old.files.nest
-    → g.catalog s ≡ g.catalog old.sources → nest ≡ with_used (inner_buffer nest) used old.files.nest → (g.tells old.sources → KeepsParts g.unread old.files.nest nest)
-    → (inner_buffer (with_inner (consumed_file len 0) old.files.nest)).at ≤ (inner_buffer old.files.nest).accepted → called_formals old.table.macros x.opens ≡ formals → x.most ≡ old.expansion.most
-    → KeepsUsage formals (g.tells old.sources) g.unread old.expansion.most Opened x.arguments (inner_buffer (with_inner (consumed_file len 0) old.files.nest)) (inner_buffer nest)
-    → KeepsStores g old (record old { files = record old.files { nest = nest }; sources = s; expansion = x })
-keeps_opened g old nest s x used len formals free some catalog inner parts inside called most keeps =
+pub keeps_opened : {S R : Type 0} (g : Ghosts S R) (old : EngineView S R) (include_stack : List (File R)) (s : S) (x : ExpansionView) (used : List ℕ) (len : ℕ) (formals : Option (List Formal)) → old.kept ≡ None → 0 < length old.files.include_stack
+    → g.catalog s ≡ g.catalog old.sources → include_stack ≡ with_used (inner_buffer include_stack) used old.files.include_stack → (g.tells old.sources → KeepsParts g.unread old.files.include_stack include_stack)
+    → (inner_buffer (with_inner (consumed_file len 0) old.files.include_stack)).at ≤ (inner_buffer old.files.include_stack).accepted → called_formals old.table.macros x.opens ≡ formals → x.most ≡ old.expansion.most
+    → KeepsUsage formals (g.tells old.sources) g.unread old.expansion.most Opened x.arguments (inner_buffer (with_inner (consumed_file len 0) old.files.include_stack)) (inner_buffer include_stack)
+    → KeepsStores g old (record old { files = record old.files { include_stack = include_stack }; sources = s; expansion = x })
+keeps_opened g old include_stack s x used len formals free some catalog inner parts inside called most keeps =
     let nothing : called_formals old.table.macros x.opens ≡ None → x.arguments ≡ [] =
     λ none. usage_none formals (g.tells old.sources) g.unread old.expansion.most x.arguments _ _ keeps (sym called ∙ none) in
     record {
       lets_go = λ h. record { idle = λ _ none. nothing none };
       stores = λ t h. record {
         lets_go = record { idle = λ _ none. nothing none };
-        parts = parts_told g.unread (g.catalog s) Unit _ nest (λ _. tt)
-            (subst (λ (c : Catalog). AreParts g.unread c Unit nest) (sym catalog) (parts t (g.catalog old.sources) (free_parts g old free h)));
+        parts = parts_told g.unread (g.catalog s) Unit _ include_stack (λ _. tt)
+            (subst (λ (c : Catalog). AreParts g.unread c Unit include_stack) (sym catalog) (parts t (g.catalog old.sources) (free_parts g old free h)));
         call = λ fs own.
-            subst (λ (n : ℕ). HoldsCall g.unread (g.catalog s) n x.arguments nest) (sym most)
-            (subst (λ (c : Catalog). HoldsCall g.unread c old.expansion.most x.arguments nest) (sym catalog)
-            (holds_call g.unread (g.catalog old.sources) old.expansion.most len (g.tells old.sources) x.arguments used old.files.nest nest some inside inner (free_parts g old free h)
+            subst (λ (n : ℕ). HoldsCall g.unread (g.catalog s) n x.arguments include_stack) (sym most)
+            (subst (λ (c : Catalog). HoldsCall g.unread c old.expansion.most x.arguments include_stack) (sym catalog)
+            (holds_call g.unread (g.catalog old.sources) old.expansion.most len (g.tells old.sources) x.arguments used old.files.include_stack include_stack some inside inner (free_parts g old free h)
             (usage_some formals fs (g.tells old.sources) g.unread old.expansion.most x.arguments _ _ keeps (sym called ∙ own)) t));
         begun = λ none. inl (nothing none);
       };

@@ -27,9 +27,9 @@ use Rattle.rdlpp_texts.specs.declared.step.CursorStep.TheVariants.{Lends, Refuse
 use Rattle.rdlpp_texts.proofs.Falling.{digits-count, digits-short}
 use Rattle.rdlpp_conditions.specs.Conditions.{ConditionsView, own_conditions}
 use Rattle.rdlpp_read.specs.Buffer.{BufferView, closed_buffer, held_of, reading_line_of, text_left, unused_of}
-use Rattle.rdlpp_read.specs.Files.{FilesView, consumed_file, inner_buffer, source_digits, torn_after, with_inner}
+use Rattle.rdlpp_read.specs.Files.{FilesView, consumed_file, inner_buffer, source_digits, ends_mid_line_after, with_inner}
 use Rattle.rdlpp_read.specs.declared.files.File.{File}
-use Rattle.rdlpp_read.proofs.BufferTokens.{moves-told, torn_after-append}
+use Rattle.rdlpp_read.proofs.BufferTokens.{moves-told, ends_mid_line_after-append}
 use Rattle.rdlpp_front.specs.SourceItems.{IsUsage, usage_name}
 use Rattle.rdlpp_front.proofs.Insides.{usage_inside}
 use Rattle.rdlpp_usages.specs.Usages.{ExpansionView, IsExactOpening, IsRoomy, IsRun, KeepsUsage, StaysAt, StaysLent, StaysOpen, TakesUsageStep, TellsUsage, UsesSource, inner_left, is_opened, is_usage_fault, texts_left}
@@ -44,18 +44,18 @@ use Rattle.rdlpp_state.specs.Moves.{IsReady, IsDrained}
 use Rattle.rdlpp_state.specs.OpenConditionals.{outer_open}
 use Rattle.rdlpp_state.specs.Pending.{nothing_pending, pending_bytes, pending_pieces}
 use Rattle.rdlpp_state.specs.Pieces.{held_texts, lent_answer}
-use Rattle.rdlpp_state.specs.Remaining.{file_state, inner_name, nest_left, nest_state, run_rules, source_rules, state_of, text_of, work_left}
+use Rattle.rdlpp_state.specs.Remaining.{file_state, inner_name, include_stack_left, include_stack_state, run_rules, source_rules, state_of, text_of, work_left}
 use Rattle.rdlpp_state.specs.Standing.{AtCursor, InTexts, Nowhere, OpensText, OpensUsage, Turns}
 use Rattle.rdlpp_state.specs.Steps.{BeforeCall, HaltsAt, InCall, IsOwn, OnRead, StopsInCall, Walks, is_call_failed, is_memory_kind, is_read_failed, is_write_failed}
 use Rattle.rdlpp_state.specs.declared.place.PieceLocation.{PieceLocation}
 use Rattle.rdlpp_state.specs.declared.place.PieceLocation.TheVariants.{Kept, Text}
 use Rattle.rdlpp_state.proofs.WorkFacts.{IsUsed, cursors_fall, held_room, idle_digits, work_opens}
-use Rattle.rdlpp_state.proofs.IncludeSteps.{nest_macros}
+use Rattle.rdlpp_state.proofs.IncludeSteps.{include_stack_macros}
 use Rattle.rdlpp_state.proofs.EngineSteps.{called, kept_at, no_part, not_called, reaches_same, walks_ceased, walks_fault, walks_kept, walks_lent}
 use Rattle.rdlpp_state.proofs.FrontSteps.{IsRead, behind_twice, keeps_fault, keeps_files, keeps_moves, left_by, read_nothing, told_kind, drained_behind, drained_few}
 use Rattle.rdlpp_state.proofs.Stores.{KeepsStores, keeps_broken, keeps_opened, keeps_refused, keeps_texts, own_by, own_failed, own_stops, parts_moved, read_stops}
 use Rattle.rdlpp_state.proofs.Soundness.{silent_texts}
-use Rattle.rdlpp_state.proofs.NestLeft.{around, at_live, waiting_same}
+use Rattle.rdlpp_state.proofs.IncludeStackLeft.{around, at_live, waiting_same}
 use Rattle.rdlpp_state.proofs.LentPieces.{usage_position}
 
 -- The steps of the open texts of a usage, as steps of the engine.
@@ -125,8 +125,8 @@ module _ {S R : Type 0} (g : Ghosts S R) (old : EngineView S R) (x : ExpansionVi
       → text_of g old ≡ behind_bytes bytes (text_of g (record old { expansion = x }))
   unfolding text_of state_of
   text_goes bytes stays goes =
-      let name = inner_name old.files.nest in
-      let p = left_by g old old.table.macros old.conditions old.files.nest in
+      let name = inner_name old.files.include_stack in
+      let p = left_by g old old.table.macros old.conditions old.files.include_stack in
       drained_behind name old.pending (goes_on (texts_left (run_rules g old) (state_of old) old.table.macros old.expansion) (λ after. p)) drained.pending
       ∙ (texts_go (run_rules g old) (state_of old) old.table.macros old.expansion x bytes p goes stays
       ∙ ap (behind_bytes bytes) (sym (drained_behind name old.pending (goes_on (texts_left (run_rules g old) (state_of old) old.table.macros x) (λ after. p)) drained.pending)))
@@ -149,7 +149,7 @@ module _ {S R : Type 0} (g : Ghosts S R) (old : EngineView S R) (x : ExpansionVi
       let bytes = holds.sound.in_range.definition_bytes.1 in
       let size = holds.sound.size in
       let bytes_is = holds.sound.definition_bytes in
-      cursors_fall old.limits.includes old.limits.depth (pending_pieces old.pending) (pending_pieces old.pending) (source_digits old.files.nest) (cursor_digits old.expansion.opens) (cursor_digits x.opens) falls
+      cursors_fall old.limits.includes old.limits.depth (pending_pieces old.pending) (pending_pieces old.pending) (source_digits old.files.include_stack) (cursor_digits old.expansion.opens) (cursor_digits x.opens) falls
       (omega arith) (omega arith)
       (digits-short 16777216 (2 ^ 31) (texts_of old.table.macros x.arguments) x.opens (record { definitions = omega arith; arguments = omega arith }) sound.are_inside (omega arith))
       (drained_few old.pending drained.pending)
@@ -159,7 +159,7 @@ module _ {S R : Type 0} (g : Ghosts S R) (old : EngineView S R) (x : ExpansionVi
       → (let after = record old { expansion = x; marks = lends_usage old.expansion.line old.marks } in Walks g old after (lent_answer after (Text place)))
   unfolding IsStep StepsTo IsFalling StaysLent state_of lends_usage text_of work_left
   texts_lend place bounded t =
-      let goes = t.step (run_rules g old) (state_of old) (nest_macros old.limits old.table.macros old.conditions old.files.nest) in
+      let goes = t.step (run_rules g old) (state_of old) (include_stack_macros old.limits old.table.macros old.conditions old.files.include_stack) in
       let marks = lends_usage old.expansion.line old.marks in
       let after = record old { expansion = x; marks = marks } in
       subst (λ (xs : List ℕ). Walks g old after (Ok (Some xs))) (ap (λ (a : List ℕ). place_bytes (texts_of old.table.macros a) place) (sym t.lends.1))
@@ -172,7 +172,7 @@ module _ {S R : Type 0} (g : Ghosts S R) (old : EngineView S R) (x : ExpansionVi
   unfolding IsStep StepsTo IsFalling state_of
   texts_turn bounded t =
       walks_lent g old (record old { expansion = x }) drained.free drained.open_ bounded [] refl (refl, refl) (not_called g old.sources)
-      (λ _. text_goes [] t.stays (t.step (run_rules g old) (state_of old) (nest_macros old.limits old.table.macros old.conditions old.files.nest)
+      (λ _. text_goes [] t.stays (t.step (run_rules g old) (state_of old) (include_stack_macros old.limits old.table.macros old.conditions old.files.include_stack)
       ∙ sym (and_then-gives_nil (open_left (run_rules g old) (state_of old) old.expansion.line old.expansion.depth (held_texts old) x.opens)))) (work_texts t.stays t.sound t.digits)
       (keeps_texts g old x old.marks drained.free t.stays t.outer t.lets_go) (Nowhere refl (InTexts drained.pending refl t.step t.turns t.sound))
 
@@ -188,14 +188,14 @@ texts_refuse {S} {R} g old mid new place fault drained bounded same is kept own 
     subst (λ (m : EngineView S R). new ≡ record m { kept = Some (fault_at fault.kind m.expansion.line (place_bytes (held_texts m) fault.word) (state_of m)) }) same kept in
     let r : IsRead g old old = read_nothing old in
     let P : S → Type 0 = λ s. SourcesCalled g false false old.sources s in
-    let here : state_of old ≡ state_of new = sym (ap (λ (e : EngineView S R). nest_state e.limits e.table.macros e.conditions e.files.nest) becomes) in
-    let p = left_by g old old.table.macros old.conditions old.files.nest in
+    let here : state_of old ≡ state_of new = sym (ap (λ (e : EngineView S R). include_stack_state e.limits e.table.macros e.conditions e.files.include_stack) becomes) in
+    let p = left_by g old old.table.macros old.conditions old.files.include_stack in
     kept_at g old new place f is (ap (λ e. e.kept) becomes)
     (walks_fault g old new drained.free drained.open_ bounded f (told_kind fault.kind old.expansion.line word (state_of old) (text_kind fault.kind own))
     (keeps_fault old old new f r becomes) (keeps_files old old new f r becomes) (keeps_moves old old new f r becomes) drained.pending (subst P (sym (ap (λ e. e.sources) becomes)) (not_called g old.sources))
-    (λ t. drained_behind (inner_name old.files.nest) old.pending (goes_on (texts_left (run_rules g old) (state_of old) old.table.macros old.expansion) (λ after. p)) drained.pending
+    (λ t. drained_behind (inner_name old.files.include_stack) old.pending (goes_on (texts_left (run_rules g old) (state_of old) old.table.macros old.expansion) (λ after. p)) drained.pending
     ∙ (texts_fail (run_rules g old) (state_of old) old.table.macros old.expansion f p
-    (step (run_rules g old) (state_of old) (nest_macros old.limits old.table.macros old.conditions old.files.nest))
+    (step (run_rules g old) (state_of old) (include_stack_macros old.limits old.table.macros old.conditions old.files.include_stack))
     ∙ ap (leaves (fails f)) here))
     (subst (λ (e : EngineView S R). KeepsStores g old e) (sym becomes) (keeps_refused g old f (own_failed f.kind (told_kind fault.kind old.expansion.line word (state_of old) (text_kind fault.kind own))))))
 
@@ -263,29 +263,29 @@ goes_from rules s macros x next = goes_from_outcome _ s next
 
 -- the innermost source with bytes of it used
 abbrev pub used_file : {R : Type 0} → BufferView R → List ℕ → File R → File R
-used_file b used f = record f { buffer = b; blanks = only_blanks f.blanks used; torn = torn_after f.torn used }
+used_file b used f = record f { buffer = b; blanks = only_blanks f.blanks used; ends_mid_line = ends_mid_line_after f.ends_mid_line used }
 
 module _ {R : Type 0} (limits : Limits) (rules : Rules) (unread : R → List ℕ) (macros : List Macro) (v : ConditionsView) (live : v.skipped ≡ None) where
   -- what remains of the open sources is what remains of the innermost, with those that wait around it
   left_inner : (f : File R) (outer : List (File R))
-      → nest_left limits rules unread macros v (f ∷ outer)
-      ≡ inner_left rules unread (around limits rules unread macros v f outer) (own_conditions f.conditions_below v) (f ∷ outer) (nest_state limits macros v (f ∷ outer))
+      → include_stack_left limits rules unread macros v (f ∷ outer)
+      ≡ inner_left rules unread (around limits rules unread macros v f outer) (own_conditions f.conditions_below v) (f ∷ outer) (include_stack_state limits macros v (f ∷ outer))
   unfolding inner_left
   left_inner f outer = at_live limits rules unread macros v live f outer _ refl
 
   -- a source ends as it did where bytes of it are used
   ends_used : (f : File R) (b : BufferView R) (used : List ℕ) → text_left unread f.buffer ≡ used ++ text_left unread b
-      → torn_after (used_file b used f).torn (text_left unread b) ≡ torn_after f.torn (text_left unread f.buffer)
-  ends_used f b used text = sym (torn_after-append f.torn used (text_left unread b)) ∙ ap (torn_after f.torn) (sym text)
+      → ends_mid_line_after (used_file b used f).ends_mid_line (text_left unread b) ≡ ends_mid_line_after f.ends_mid_line (text_left unread f.buffer)
+  ends_used f b used text = sym (ends_mid_line_after-append f.ends_mid_line used (text_left unread b)) ∙ ap (ends_mid_line_after f.ends_mid_line) (sym text)
 
   -- a usage that is opened
   pub opened_left : (f : File R) (outer : List (File R)) (b : BufferView R) (used : List ℕ) (x : ExpansionView) (line : ℕ) (name : List ℕ) → text_left unread f.buffer ≡ used ++ text_left unread b
-      → TellsUsage rules (nest_state limits macros v (f ∷ outer)) unread (around limits rules unread macros v f outer) (own_conditions f.conditions_below v) macros line name Opened x (f ∷ outer) (used_file b used f ∷ outer)
-      → nest_left limits rules unread macros v (f ∷ outer)
-      ≡ goes_on (texts_left rules (nest_state limits macros v (f ∷ outer)) macros x) (λ after. nest_left limits rules unread macros v (used_file b used f ∷ outer))
-  unfolding nest_state file_state
+      → TellsUsage rules (include_stack_state limits macros v (f ∷ outer)) unread (around limits rules unread macros v f outer) (own_conditions f.conditions_below v) macros line name Opened x (f ∷ outer) (used_file b used f ∷ outer)
+      → include_stack_left limits rules unread macros v (f ∷ outer)
+      ≡ goes_on (texts_left rules (include_stack_state limits macros v (f ∷ outer)) macros x) (λ after. include_stack_left limits rules unread macros v (used_file b used f ∷ outer))
+  unfolding include_stack_state file_state
   opened_left f outer b used x line name text means =
-      let s = nest_state limits macros v (f ∷ outer) in
+      let s = include_stack_state limits macros v (f ∷ outer) in
       let now = used_file b used f in
       let os = own_conditions f.conditions_below v in
       let ws = around limits rules unread macros v f outer in
@@ -298,109 +298,109 @@ module _ {R : Type 0} (limits : Limits) (rules : Rules) (unread : R → List ℕ
 
   -- one that is refused, at its line about its name
   pub refused_left : (f : File R) (outer new : List (File R)) (x : ExpansionView) (kind : FaultKind) (line : ℕ) (name : List ℕ)
-      → TellsUsage rules (nest_state limits macros v (f ∷ outer)) unread (around limits rules unread macros v f outer) (own_conditions f.conditions_below v) macros line name (Refused kind) x (f ∷ outer) new
-      → nest_left limits rules unread macros v (f ∷ outer) ≡ leaves (fails (fault_at kind line name (nest_state limits macros v (f ∷ outer)))) (nest_state limits macros v (f ∷ outer))
+      → TellsUsage rules (include_stack_state limits macros v (f ∷ outer)) unread (around limits rules unread macros v f outer) (own_conditions f.conditions_below v) macros line name (Refused kind) x (f ∷ outer) new
+      → include_stack_left limits rules unread macros v (f ∷ outer) ≡ leaves (fails (fault_at kind line name (include_stack_state limits macros v (f ∷ outer)))) (include_stack_state limits macros v (f ∷ outer))
   refused_left f outer new x kind line name means = left_inner f outer ∙ means
 
   -- and one whose call is broken, at that line about no word
   pub broken_left : (f : File R) (outer new : List (File R)) (x : ExpansionView) (kind : FaultKind) (own line : ℕ) (name : List ℕ)
-      → TellsUsage rules (nest_state limits macros v (f ∷ outer)) unread (around limits rules unread macros v f outer) (own_conditions f.conditions_below v) macros line name (Broken kind own) x (f ∷ outer) new
-      → nest_left limits rules unread macros v (f ∷ outer) ≡ leaves (fails (fault_at kind own [] (nest_state limits macros v (f ∷ outer)))) (nest_state limits macros v (f ∷ outer))
+      → TellsUsage rules (include_stack_state limits macros v (f ∷ outer)) unread (around limits rules unread macros v f outer) (own_conditions f.conditions_below v) macros line name (Broken kind own) x (f ∷ outer) new
+      → include_stack_left limits rules unread macros v (f ∷ outer) ≡ leaves (fails (fault_at kind own [] (include_stack_state limits macros v (f ∷ outer)))) (include_stack_state limits macros v (f ∷ outer))
   broken_left f outer new x kind own line name means = left_inner f outer ∙ means
 
   -- that usage, where bytes of the innermost source are used, and nothing else of the sources changed
-  pub opened_nest : (nest new : List (File R)) (used : List ℕ) (x : ExpansionView) (line : ℕ) (name : List ℕ) → 0 < length nest → new ≡ with_inner (used_file (inner_buffer new) used) nest
-      → text_left unread (inner_buffer nest) ≡ used ++ text_left unread (inner_buffer new)
-      → ((s : State) (ws : List Waiting) (os : List Progress) → s.macros ≡ macros → TellsUsage rules s unread ws os macros line name Opened x nest new)
-      → nest_left limits rules unread macros v nest ≡ goes_on (texts_left rules (nest_state limits macros v nest) macros x) (λ after. nest_left limits rules unread macros v new)
-  opened_nest [] new used x line name some uses text means = absurd (omega arith)
-  opened_nest (f ∷ outer) new used x line name some uses text means =
-      let s = nest_state limits macros v (f ∷ outer) in
+  pub opened_include_stack : (include_stack new : List (File R)) (used : List ℕ) (x : ExpansionView) (line : ℕ) (name : List ℕ) → 0 < length include_stack → new ≡ with_inner (used_file (inner_buffer new) used) include_stack
+      → text_left unread (inner_buffer include_stack) ≡ used ++ text_left unread (inner_buffer new)
+      → ((s : State) (ws : List Waiting) (os : List Progress) → s.macros ≡ macros → TellsUsage rules s unread ws os macros line name Opened x include_stack new)
+      → include_stack_left limits rules unread macros v include_stack ≡ goes_on (texts_left rules (include_stack_state limits macros v include_stack) macros x) (λ after. include_stack_left limits rules unread macros v new)
+  opened_include_stack [] new used x line name some uses text means = absurd (omega arith)
+  opened_include_stack (f ∷ outer) new used x line name some uses text means =
+      let s = include_stack_state limits macros v (f ∷ outer) in
       let ws = around limits rules unread macros v f outer in
       let os = own_conditions f.conditions_below v in
       let now : new ≡ used_file (inner_buffer new) used f ∷ outer = uses in
-      subst (λ (n : List (File R)). nest_left limits rules unread macros v (f ∷ outer) ≡ goes_on (texts_left rules s macros x) (λ after. nest_left limits rules unread macros v n)) (sym now)
+      subst (λ (n : List (File R)). include_stack_left limits rules unread macros v (f ∷ outer) ≡ goes_on (texts_left rules s macros x) (λ after. include_stack_left limits rules unread macros v n)) (sym now)
       (opened_left f outer (inner_buffer new) used x line name text
-      (subst (λ (n : List (File R)). TellsUsage rules s unread ws os macros line name Opened x (f ∷ outer) n) now (means s ws os (nest_macros limits macros v (f ∷ outer)))))
+      (subst (λ (n : List (File R)). TellsUsage rules s unread ws os macros line name Opened x (f ∷ outer) n) now (means s ws os (include_stack_macros limits macros v (f ∷ outer)))))
 
   -- one that is refused
-  pub refused_nest : (nest new : List (File R)) (x : ExpansionView) (kind : FaultKind) (line : ℕ) (name : List ℕ) → 0 < length nest
-      → ((s : State) (ws : List Waiting) (os : List Progress) → s.macros ≡ macros → TellsUsage rules s unread ws os macros line name (Refused kind) x nest new)
-      → nest_left limits rules unread macros v nest ≡ leaves (fails (fault_at kind line name (nest_state limits macros v nest))) (nest_state limits macros v nest)
-  refused_nest [] new x kind line name some means = absurd (omega arith)
-  refused_nest (f ∷ outer) new x kind line name some means =
+  pub refused_include_stack : (include_stack new : List (File R)) (x : ExpansionView) (kind : FaultKind) (line : ℕ) (name : List ℕ) → 0 < length include_stack
+      → ((s : State) (ws : List Waiting) (os : List Progress) → s.macros ≡ macros → TellsUsage rules s unread ws os macros line name (Refused kind) x include_stack new)
+      → include_stack_left limits rules unread macros v include_stack ≡ leaves (fails (fault_at kind line name (include_stack_state limits macros v include_stack))) (include_stack_state limits macros v include_stack)
+  refused_include_stack [] new x kind line name some means = absurd (omega arith)
+  refused_include_stack (f ∷ outer) new x kind line name some means =
       refused_left f outer new x kind line name
-      (means (nest_state limits macros v (f ∷ outer)) (around limits rules unread macros v f outer) (own_conditions f.conditions_below v) (nest_macros limits macros v (f ∷ outer)))
+      (means (include_stack_state limits macros v (f ∷ outer)) (around limits rules unread macros v f outer) (own_conditions f.conditions_below v) (include_stack_macros limits macros v (f ∷ outer)))
 
   -- and one whose call is broken
-  pub broken_nest : (nest new : List (File R)) (x : ExpansionView) (kind : FaultKind) (own line : ℕ) (name : List ℕ) → 0 < length nest
-      → ((s : State) (ws : List Waiting) (os : List Progress) → s.macros ≡ macros → TellsUsage rules s unread ws os macros line name (Broken kind own) x nest new)
-      → nest_left limits rules unread macros v nest ≡ leaves (fails (fault_at kind own [] (nest_state limits macros v nest))) (nest_state limits macros v nest)
-  broken_nest [] new x kind own line name some means = absurd (omega arith)
-  broken_nest (f ∷ outer) new x kind own line name some means =
+  pub broken_include_stack : (include_stack new : List (File R)) (x : ExpansionView) (kind : FaultKind) (own line : ℕ) (name : List ℕ) → 0 < length include_stack
+      → ((s : State) (ws : List Waiting) (os : List Progress) → s.macros ≡ macros → TellsUsage rules s unread ws os macros line name (Broken kind own) x include_stack new)
+      → include_stack_left limits rules unread macros v include_stack ≡ leaves (fails (fault_at kind own [] (include_stack_state limits macros v include_stack))) (include_stack_state limits macros v include_stack)
+  broken_include_stack [] new x kind own line name some means = absurd (omega arith)
+  broken_include_stack (f ∷ outer) new x kind own line name some means =
       broken_left f outer new x kind own line name
-      (means (nest_state limits macros v (f ∷ outer)) (around limits rules unread macros v f outer) (own_conditions f.conditions_below v) (nest_macros limits macros v (f ∷ outer)))
+      (means (include_stack_state limits macros v (f ∷ outer)) (around limits rules unread macros v f outer) (own_conditions f.conditions_below v) (include_stack_macros limits macros v (f ∷ outer)))
 
 -- bytes of the innermost source that are used change no state
-pub used_state : {R : Type 0} (limits : Limits) (macros : List Macro) (v : ConditionsView) (b : BufferView R) (used : List ℕ) (nest : List (File R))
-    → nest_state limits macros v (with_inner (used_file b used) nest) ≡ nest_state limits macros v nest
-unfolding nest_state file_state
+pub used_state : {R : Type 0} (limits : Limits) (macros : List Macro) (v : ConditionsView) (b : BufferView R) (used : List ℕ) (include_stack : List (File R))
+    → include_stack_state limits macros v (with_inner (used_file b used) include_stack) ≡ include_stack_state limits macros v include_stack
+unfolding include_stack_state file_state
 used_state limits macros v b used [] = refl
 used_state limits macros v b used (f ∷ outer) = refl
 
 -- what remains of the text of an engine, by the same rules in the open texts and in the sources
 abbrev pub text_by : {S R : Type 0} → Rules → Ghosts S R → EngineView S R → Passage
-text_by rules g e = behind_bytes (pending_bytes (inner_name e.files.nest) e.pending)
+text_by rules g e = behind_bytes (pending_bytes (inner_name e.files.include_stack) e.pending)
     (goes_on (texts_left rules (state_of e) e.table.macros e.expansion)
-    (λ after. nest_left e.limits rules g.unread e.table.macros e.conditions e.files.nest))
+    (λ after. include_stack_left e.limits rules g.unread e.table.macros e.conditions e.files.include_stack))
 
-module _ {S R : Type 0} (g : Ghosts S R) (rules : Rules) (e : EngineView S R) (drained : e.pending ≡ nothing_pending) (idle : e.expansion.opens ≡ []) (live : e.conditions.skipped ≡ None) (some : 0 < length e.files.nest) where
+module _ {S R : Type 0} (g : Ghosts S R) (rules : Rules) (e : EngineView S R) (drained : e.pending ≡ nothing_pending) (idle : e.expansion.opens ≡ []) (live : e.conditions.skipped ≡ None) (some : 0 < length e.files.include_stack) where
   -- it is what remains of the open sources, where nothing is pending and no text is open
-  text_sources : text_by rules g e ≡ nest_left e.limits rules g.unread e.table.macros e.conditions e.files.nest
+  text_sources : text_by rules g e ≡ include_stack_left e.limits rules g.unread e.table.macros e.conditions e.files.include_stack
   text_sources =
-      let p = nest_left e.limits rules g.unread e.table.macros e.conditions e.files.nest in
-      drained_behind (inner_name e.files.nest) e.pending (goes_on (texts_left rules (state_of e) e.table.macros e.expansion) (λ after. p)) drained
+      let p = include_stack_left e.limits rules g.unread e.table.macros e.conditions e.files.include_stack in
+      drained_behind (inner_name e.files.include_stack) e.pending (goes_on (texts_left rules (state_of e) e.table.macros e.expansion) (λ after. p)) drained
       ∙ silent_texts rules (state_of e) e.table.macros e.expansion p idle
 
   -- before a usage that is opened it is that of the engine with the texts open and the source behind the usage
-  pub opened_text : (new : List (File R)) (used : List ℕ) (x : ExpansionView) (s : S) (line : ℕ) (name : List ℕ) → new ≡ with_inner (used_file (inner_buffer new) used) e.files.nest
-      → text_left g.unread (inner_buffer e.files.nest) ≡ used ++ text_left g.unread (inner_buffer new)
-      → ((t : State) (ws : List Waiting) (os : List Progress) → t.macros ≡ e.table.macros → TellsUsage rules t g.unread ws os e.table.macros line name Opened x e.files.nest new)
-      → text_by rules g e ≡ text_by rules g (record e { files = record e.files { nest = new }; sources = s; expansion = x })
+  pub opened_text : (new : List (File R)) (used : List ℕ) (x : ExpansionView) (s : S) (line : ℕ) (name : List ℕ) → new ≡ with_inner (used_file (inner_buffer new) used) e.files.include_stack
+      → text_left g.unread (inner_buffer e.files.include_stack) ≡ used ++ text_left g.unread (inner_buffer new)
+      → ((t : State) (ws : List Waiting) (os : List Progress) → t.macros ≡ e.table.macros → TellsUsage rules t g.unread ws os e.table.macros line name Opened x e.files.include_stack new)
+      → text_by rules g e ≡ text_by rules g (record e { files = record e.files { include_stack = new }; sources = s; expansion = x })
   unfolding state_of
   opened_text new used x s line name uses text means =
-      let p = nest_left e.limits rules g.unread e.table.macros e.conditions new in
-      let here : nest_state e.limits e.table.macros e.conditions new ≡ nest_state e.limits e.table.macros e.conditions e.files.nest =
-      ap (nest_state e.limits e.table.macros e.conditions) uses ∙ used_state e.limits e.table.macros e.conditions (inner_buffer new) used e.files.nest in
+      let p = include_stack_left e.limits rules g.unread e.table.macros e.conditions new in
+      let here : include_stack_state e.limits e.table.macros e.conditions new ≡ include_stack_state e.limits e.table.macros e.conditions e.files.include_stack =
+      ap (include_stack_state e.limits e.table.macros e.conditions) uses ∙ used_state e.limits e.table.macros e.conditions (inner_buffer new) used e.files.include_stack in
       text_sources
-      ∙ (opened_nest e.limits rules g.unread e.table.macros e.conditions live e.files.nest new used x line name some uses text means
+      ∙ (opened_include_stack e.limits rules g.unread e.table.macros e.conditions live e.files.include_stack new used x line name some uses text means
       ∙ (ap (λ (t : State). goes_on (texts_left rules t e.table.macros x) (λ after. p)) (sym here)
-      ∙ sym (drained_behind (inner_name new) e.pending (goes_on (texts_left rules (nest_state e.limits e.table.macros e.conditions new) e.table.macros x) (λ after. p)) drained)))
+      ∙ sym (drained_behind (inner_name new) e.pending (goes_on (texts_left rules (include_stack_state e.limits e.table.macros e.conditions new) e.table.macros x) (λ after. p)) drained)))
 
   -- before one that is refused it is the fault
   pub refused_text : (new : List (File R)) (x : ExpansionView) (kind : FaultKind) (line : ℕ) (name : List ℕ)
-      → ((t : State) (ws : List Waiting) (os : List Progress) → t.macros ≡ e.table.macros → TellsUsage rules t g.unread ws os e.table.macros line name (Refused kind) x e.files.nest new)
+      → ((t : State) (ws : List Waiting) (os : List Progress) → t.macros ≡ e.table.macros → TellsUsage rules t g.unread ws os e.table.macros line name (Refused kind) x e.files.include_stack new)
       → text_by rules g e ≡ leaves (fails (fault_at kind line name (state_of e))) (state_of e)
   unfolding state_of
-  refused_text new x kind line name means = text_sources ∙ refused_nest e.limits rules g.unread e.table.macros e.conditions live e.files.nest new x kind line name some means
+  refused_text new x kind line name means = text_sources ∙ refused_include_stack e.limits rules g.unread e.table.macros e.conditions live e.files.include_stack new x kind line name some means
 
   -- and so it is before one whose call is broken
   pub broken_text : (new : List (File R)) (x : ExpansionView) (kind : FaultKind) (own line : ℕ) (name : List ℕ)
-      → ((t : State) (ws : List Waiting) (os : List Progress) → t.macros ≡ e.table.macros → TellsUsage rules t g.unread ws os e.table.macros line name (Broken kind own) x e.files.nest new)
+      → ((t : State) (ws : List Waiting) (os : List Progress) → t.macros ≡ e.table.macros → TellsUsage rules t g.unread ws os e.table.macros line name (Broken kind own) x e.files.include_stack new)
       → text_by rules g e ≡ leaves (fails (fault_at kind own [] (state_of e))) (state_of e)
   unfolding state_of
-  broken_text new x kind own line name means = text_sources ∙ broken_nest e.limits rules g.unread e.table.macros e.conditions live e.files.nest new x kind own line name some means
+  broken_text new x kind own line name means = text_sources ∙ broken_include_stack e.limits rules g.unread e.table.macros e.conditions live e.files.include_stack new x kind own line name some means
 
 -- The opening of a usage, as a step of the engine.
 
 -- the innermost source is used, and no other one changed
-used_nest : {R : Type 0} (nest new : List (File R)) (used : List ℕ) → 0 < length nest → new ≡ with_inner (used_file (inner_buffer new) used) nest
-    → 0 < length used → unused_of (inner_buffer new) + length used ≡ unused_of (inner_buffer nest) → IsUsed nest new
-used_nest [] new used some uses has unused = absurd (omega arith)
-used_nest (f ∷ outer) new used some uses has unused = record { fewer = omega arith; outer = ap (drop 1) uses; size = ap length uses }
+used_include_stack : {R : Type 0} (include_stack new : List (File R)) (used : List ℕ) → 0 < length include_stack → new ≡ with_inner (used_file (inner_buffer new) used) include_stack
+    → 0 < length used → unused_of (inner_buffer new) + length used ≡ unused_of (inner_buffer include_stack) → IsUsed include_stack new
+used_include_stack [] new used some uses has unused = absurd (omega arith)
+used_include_stack (f ∷ outer) new used some uses has unused = record { fewer = omega arith; outer = ap (drop 1) uses; size = ap length uses }
 
 -- the bytes of its name are accepted
-usage_within : {R : Type 0} (nest : List (File R)) (n : ℕ) → 0 < n → n ≤ length (held_of (inner_buffer nest)) → (inner_buffer (with_inner (consumed_file n 0) nest)).at ≤ (inner_buffer nest).accepted
+usage_within : {R : Type 0} (include_stack : List (File R)) (n : ℕ) → 0 < n → n ≤ length (held_of (inner_buffer include_stack)) → (inner_buffer (with_inner (consumed_file n 0) include_stack)).at ≤ (inner_buffer include_stack).accepted
 unfolding closed_buffer
 usage_within [] n some inside = omega arith
 usage_within (f ∷ outer) n some inside = let room = held_room f.buffer in omega (arith, room, some, inside)
@@ -425,37 +425,37 @@ unchanged old new idle none line depth most =
     ∙ ap (λ (m : ℕ). view old.opens old.line old.depth m) most))
 
 -- an engine of which the sources and the open texts changed
-module _ {S R : Type 0} (old mid : EngineView S R) (becomes : mid ≡ record old { files = mid.files; sources = mid.sources; expansion = mid.expansion }) (only : mid.files ≡ record old.files { nest = mid.files.nest }) where
+module _ {S R : Type 0} (old mid : EngineView S R) (becomes : mid ≡ record old { files = mid.files; sources = mid.sources; expansion = mid.expansion }) (only : mid.files ≡ record old.files { include_stack = mid.files.include_stack }) where
   -- it has other open sources
-  pub opened_is : mid ≡ record old { files = record old.files { nest = mid.files.nest }; sources = mid.sources; expansion = mid.expansion }
+  pub opened_is : mid ≡ record old { files = record old.files { include_stack = mid.files.include_stack }; sources = mid.sources; expansion = mid.expansion }
   opened_is = becomes ∙ ap (λ (fs : FilesView R). record old { files = fs; sources = mid.sources; expansion = mid.expansion }) only
 
   -- and where a fault is kept, and no text was opened, the same open texts, but for what is kept of the call
   pub stopped_is : (new : EngineView S R) (f : Told) → mid.expansion ≡ record old.expansion { arguments = mid.expansion.arguments } → new ≡ record mid { kept = Some f }
-      → new ≡ record old { kept = Some f; files = record old.files { nest = mid.files.nest }; sources = mid.sources; expansion = record old.expansion { arguments = mid.expansion.arguments } }
+      → new ≡ record old { kept = Some f; files = record old.files { include_stack = mid.files.include_stack }; sources = mid.sources; expansion = record old.expansion { arguments = mid.expansion.arguments } }
   stopped_is new f same is =
       is ∙ (ap (λ (m : EngineView S R). record m { kept = Some f }) opened_is
-      ∙ ap (λ (x : ExpansionView). record old { kept = Some f; files = record old.files { nest = mid.files.nest }; sources = mid.sources; expansion = x }) same)
+      ∙ ap (λ (x : ExpansionView). record old { kept = Some f; files = record old.files { include_stack = mid.files.include_stack }; sources = mid.sources; expansion = x }) same)
 
   -- and it stands in the same state, where bytes of the innermost source are used
-  pub used_here : (used : List ℕ) → mid.files.nest ≡ with_inner (used_file (inner_buffer mid.files.nest) used) old.files.nest → state_of mid ≡ state_of old
+  pub used_here : (used : List ℕ) → mid.files.include_stack ≡ with_inner (used_file (inner_buffer mid.files.include_stack) used) old.files.include_stack → state_of mid ≡ state_of old
   unfolding state_of
   used_here used uses =
-      ap (λ (e : EngineView S R). nest_state e.limits e.table.macros e.conditions e.files.nest) opened_is
-      ∙ (ap (nest_state old.limits old.table.macros old.conditions) uses
-      ∙ used_state old.limits old.table.macros old.conditions (inner_buffer mid.files.nest) used old.files.nest)
+      ap (λ (e : EngineView S R). include_stack_state e.limits e.table.macros e.conditions e.files.include_stack) opened_is
+      ∙ (ap (include_stack_state old.limits old.table.macros old.conditions) uses
+      ∙ used_state old.limits old.table.macros old.conditions (inner_buffer mid.files.include_stack) used old.files.include_stack)
 
 -- an engine that stands before a usage, of whose innermost source bytes are used: its sources and its open texts are these now
 module _ {S R : Type 0} (g : Ghosts S R) (old : EngineView S R) (ready : IsReady old) (live : old.conditions.skipped ≡ None)
-    (nest : List (File R)) (s : S) (x : ExpansionView) (opening : Opening) (uses : UsesSource (g.tells old.sources) g.unread opening old.files.nest nest) where
+    (include_stack : List (File R)) (s : S) (x : ExpansionView) (opening : Opening) (uses : UsesSource (g.tells old.sources) g.unread opening old.files.include_stack include_stack) where
   -- the one in which its texts are open
   abbrev pub opened_engine_at : EngineView S R
-  opened_engine_at = record old { files = record old.files { nest = nest }; sources = s; expansion = x }
+  opened_engine_at = record old { files = record old.files { include_stack = include_stack }; sources = s; expansion = x }
 
   -- what a usage comes to in each run with its macros
   abbrev pub TellsAt : Opening → ℕ → List ℕ → Type 0
   TellsAt opening line name =
-      (t : State) (ws : List Waiting) (os : List Progress) → t.macros ≡ old.table.macros → TellsUsage (run_rules g old) t g.unread ws os old.table.macros line name opening x old.files.nest nest
+      (t : State) (ws : List Waiting) (os : List Progress) → t.macros ≡ old.table.macros → TellsUsage (run_rules g old) t g.unread ws os old.table.macros line name opening x old.files.include_stack include_stack
 
   -- the work left falls
   pub usage_work : AreOpenTexts old.limits old.phase old.table.macros old.expansion → IsRoomy x → x.depth ≡ old.expansion.depth → x.most ≡ old.expansion.most → AreSound (texts_of old.table.macros x.arguments) x.opens
@@ -471,33 +471,33 @@ module _ {S R : Type 0} (g : Ghosts S R) (old : EngineView S R) (ready : IsReady
       let bytes = ready.sound.in_range.definition_bytes.1 in
       let size = ready.sound.size in
       let bytes_is = ready.sound.definition_bytes in
-      work_opens old opened_engine_at refl (used_nest old.files.nest nest uses.used ready.nest uses.inner uses.some uses.unused)
+      work_opens old opened_engine_at refl (used_include_stack old.files.include_stack include_stack uses.used ready.include_stack uses.inner uses.some uses.unused)
       (omega arith) (omega arith)
       (digits-short 16777216 (2 ^ 31) (texts_of old.table.macros x.arguments) x.opens (record { definitions = omega arith; arguments = omega arith }) sound.are_inside (omega arith))
       (drained_few old.pending ready.pending)
 
   -- its texts are open: nothing is lent yet
   pub usage_opens : (line : ℕ) (name : List ℕ) → IsBounded opened_engine_at → SourcesCalled g false false old.sources s → work_left opened_engine_at < work_left old
-      → (g.tells old.sources → text_left g.unread (inner_buffer old.files.nest) ≡ uses.used ++ text_left g.unread (inner_buffer nest))
+      → (g.tells old.sources → text_left g.unread (inner_buffer old.files.include_stack) ≡ uses.used ++ text_left g.unread (inner_buffer include_stack))
       → (g.tells old.sources → TellsAt Opened line name) → KeepsStores g old opened_engine_at → Turns g old opened_engine_at → Walks g old opened_engine_at (Ok (Some []))
   unfolding behind_bytes
   usage_opens line name bounded call falls text means keeps turn =
       let catalog : source_rules (g.catalog s) old.limits old.origins ≡ run_rules g old = ap (λ (c : Catalog). source_rules c old.limits old.origins) call.catalog in
       walks_lent g old opened_engine_at ready.free ready.open_ bounded [] refl (refl, refl) call
       (λ t. by_run g old
-      ∙ (opened_text g (run_rules g old) old ready.pending ready.idle live ready.nest nest uses.used x s line name uses.inner (text t) (means t)
+      ∙ (opened_text g (run_rules g old) old ready.pending ready.idle live ready.include_stack include_stack uses.used x s line name uses.inner (text t) (means t)
       ∙ (ap (λ (r : Rules). text_by r g opened_engine_at) (sym catalog)
       ∙ sym (by_run g opened_engine_at))))
       falls keeps (Nowhere refl turn)
 
   -- the one that keeps a fault of its call
   abbrev pub stopped_engine : Told → EngineView S R
-  stopped_engine f = record old { kept = Some f; files = record old.files { nest = nest }; sources = s; expansion = record old.expansion { arguments = x.arguments } }
+  stopped_engine f = record old { kept = Some f; files = record old.files { include_stack = include_stack }; sources = s; expansion = record old.expansion { arguments = x.arguments } }
 
-  module _ (len : ℕ) (mode : (inner_buffer old.files.nest).mode ≡ Plain) (usage : IsUsage (held_of (inner_buffer old.files.nest)) len) (unopened : is_opened opening ≡ false)
-      (macro : Macro) (named : macro_named old.table.macros (usage_name (held_of (inner_buffer old.files.nest)) len) ≡ Some macro)
-      (kept : KeepsUsage macro.formals (g.tells old.sources) g.unread old.expansion.most opening x.arguments (inner_buffer (with_inner (consumed_file len 0) old.files.nest)) (inner_buffer nest))
-      (inside : (inner_buffer (with_inner (consumed_file len 0) old.files.nest)).at ≤ (inner_buffer old.files.nest).accepted) where
+  module _ (len : ℕ) (mode : (inner_buffer old.files.include_stack).mode ≡ Plain) (usage : IsUsage (held_of (inner_buffer old.files.include_stack)) len) (unopened : is_opened opening ≡ false)
+      (macro : Macro) (named : macro_named old.table.macros (usage_name (held_of (inner_buffer old.files.include_stack)) len) ≡ Some macro)
+      (kept : KeepsUsage macro.formals (g.tells old.sources) g.unread old.expansion.most opening x.arguments (inner_buffer (with_inner (consumed_file len 0) old.files.include_stack)) (inner_buffer include_stack))
+      (inside : (inner_buffer (with_inner (consumed_file len 0) old.files.include_stack)).at ≤ (inner_buffer old.files.include_stack).accepted) where
     -- it stopped in the call
     stops_in : (f : Told) → StopsInCall g old (stopped_engine f)
     stops_in f = record { len = len; mode = mode; usage = usage; idle = ready.idle; becomes = refl; only = refl; opening = opening; unopened = unopened; macro = macro; named = named; kept = kept; uses = uses }
@@ -505,7 +505,7 @@ module _ {S R : Type 0} (g : Ghosts S R) (old : EngineView S R) (ready : IsReady
     -- and closes nothing
     stores_in : (f : Told) → g.catalog s ≡ g.catalog old.sources → (MayGoOn (stopped_engine f) → ⊥) → KeepsStores g old (stopped_engine f)
     stores_in f catalog stops =
-        keeps_broken g old f nest s opening x.arguments uses.used len (IsExactOpening opening) macro.formals ready.free ready.idle ready.nest catalog uses.inner uses.moves inside mode unopened kept stops
+        keeps_broken g old f include_stack s opening x.arguments uses.used len (IsExactOpening opening) macro.formals ready.free ready.idle ready.include_stack catalog uses.inner uses.moves inside mode unopened kept stops
 
     halts_in : (f : Told) → HaltsAt g 0 old (stopped_engine f)
     halts_in f = record { at = old; reached = reaches_same g old; few = no_part _ refl; idle = λ h none. h.idle (inl ready.free) none; text = λ t. refl; drained = ready.pending; stopped = InCall (stops_in f) }
@@ -514,8 +514,8 @@ module _ {S R : Type 0} (g : Ghosts S R) (old : EngineView S R) (ready : IsReady
     same_here : (f : Told) → state_of (stopped_engine f) ≡ state_of old
     unfolding state_of
     same_here f =
-        ap (nest_state old.limits old.table.macros old.conditions) uses.inner
-        ∙ used_state old.limits old.table.macros old.conditions (inner_buffer nest) uses.used old.files.nest
+        ap (include_stack_state old.limits old.table.macros old.conditions) uses.inner
+        ∙ used_state old.limits old.table.macros old.conditions (inner_buffer include_stack) uses.used old.files.include_stack
 
     -- a fault of the text
     usage_faults : (f : Told) → IsOwn f.kind → IsBounded (stopped_engine f) → SourcesCalled g false false old.sources s
@@ -529,93 +529,93 @@ module _ {S R : Type 0} (g : Ghosts S R) (old : EngineView S R) (ready : IsReady
         → SourcesCalled g false false old.sources s → (g.tells old.sources → TellsAt (Refused kind) line name) → Walks g old (stopped_engine f) (Err f)
     usage_refuses kind line name own bounded call means =
         usage_faults (fault_at kind line name (state_of old)) (told_kind kind line name (state_of old) (usage_kind kind own)) bounded call
-        (λ t. refused_text g (run_rules g old) old ready.pending ready.idle live ready.nest nest x kind line name (means t))
+        (λ t. refused_text g (run_rules g old) old ready.pending ready.idle live ready.include_stack include_stack x kind line name (means t))
 
     -- its call is broken, at a line of its own about no word
     pub usage_breaks : (kind : FaultKind) (own line : ℕ) (name : List ℕ) → is_usage_fault kind ≡ true → let f = fault_at kind own [] (state_of old) in IsBounded (stopped_engine f)
         → SourcesCalled g false false old.sources s → (g.tells old.sources → TellsAt (Broken kind own) line name) → Walks g old (stopped_engine f) (Err f)
     usage_breaks kind own line name is bounded call means =
         usage_faults (fault_at kind own [] (state_of old)) (told_kind kind own [] (state_of old) (usage_kind kind is)) bounded call
-        (λ t. broken_text g (run_rules g old) old ready.pending ready.idle live ready.nest nest x kind own line name (means t))
+        (λ t. broken_text g (run_rules g old) old ready.pending ready.idle live ready.include_stack include_stack x kind own line name (means t))
 
     -- a read failed in its call
-    pub usage_fails : held_of (inner_buffer nest) ≡ [] → let f = fault_at fault.ReadFailed (reading_line_of (inner_buffer nest)) [] (state_of old) in IsBounded (stopped_engine f)
+    pub usage_fails : held_of (inner_buffer include_stack) ≡ [] → let f = fault_at fault.ReadFailed (reading_line_of (inner_buffer include_stack)) [] (state_of old) in IsBounded (stopped_engine f)
         → SourcesCalled g true false old.sources s → Walks g old (stopped_engine f) (Err f)
     unfolding fault_at is_read_failed is_write_failed is_memory_kind is_call_failed
     usage_fails unheld bounded call =
-        let f = fault_at fault.ReadFailed (reading_line_of (inner_buffer nest)) [] (state_of old) in
-        let here : f ≡ fault_at fault.ReadFailed (reading_line_of (inner_buffer nest)) [] (state_of (stopped_engine f)) =
-        ap (fault_at fault.ReadFailed (reading_line_of (inner_buffer nest)) []) (sym (same_here f)) in
+        let f = fault_at fault.ReadFailed (reading_line_of (inner_buffer include_stack)) [] (state_of old) in
+        let here : f ≡ fault_at fault.ReadFailed (reading_line_of (inner_buffer include_stack)) [] (state_of (stopped_engine f)) =
+        ap (fault_at fault.ReadFailed (reading_line_of (inner_buffer include_stack)) []) (sym (same_here f)) in
         walks_ceased g old (stopped_engine f) ready.free ready.open_ bounded f (OnRead (inl unheld) here) refl refl refl (halts_in f)
         (record { open_ = ready.open_; still = ready.open_; at = old; stood = BeforeCall (stops_in f) unheld; text = λ t. refl }) call (stores_in f call.catalog (read_stops (stopped_engine f) f refl ready.open_ (inl unheld)))
 
 -- a usage as a step of the engine, by what its opening says
-module _ {S R : Type 0} (g : Ghosts S R) (old mid : EngineView S R) (len : ℕ) (ready : IsReady old) (live : old.conditions.skipped ≡ None) (mode : (inner_buffer old.files.nest).mode ≡ Plain)
-    (usage : IsUsage (held_of (inner_buffer old.files.nest)) len) (texts : AreOpenTexts old.limits old.phase old.table.macros old.expansion) where
+module _ {S R : Type 0} (g : Ghosts S R) (old mid : EngineView S R) (len : ℕ) (ready : IsReady old) (live : old.conditions.skipped ≡ None) (mode : (inner_buffer old.files.include_stack).mode ≡ Plain)
+    (usage : IsUsage (held_of (inner_buffer old.files.include_stack)) len) (texts : AreOpenTexts old.limits old.phase old.table.macros old.expansion) where
   -- the run goes on with its macros and its limits
   run_is : (s : State) → s.macros ≡ old.table.macros → IsRun (run_rules g old) s old.table.macros old.expansion.depth old.expansion.most
   unfolding source_rules rules_of
   run_is s macros = record { macros_are = macros; depth_is = sym texts.depth_is; most_is = sym texts.most_is }
 
   -- the name lies in the accepted lines
-  inside_of : 0 < length (held_of (inner_buffer old.files.nest)) → (inner_buffer (with_inner (consumed_file len 0) old.files.nest)).at ≤ (inner_buffer old.files.nest).accepted
-  inside_of some = let within = usage_inside (held_of (inner_buffer old.files.nest)) len some usage in usage_within old.files.nest len within.0 within.1
+  inside_of : 0 < length (held_of (inner_buffer old.files.include_stack)) → (inner_buffer (with_inner (consumed_file len 0) old.files.include_stack)).at ≤ (inner_buffer old.files.include_stack).accepted
+  inside_of some = let within = usage_inside (held_of (inner_buffer old.files.include_stack)) len some usage in usage_within old.files.include_stack len within.0 within.1
 
   -- its texts are open
   pub opens_step : OpensUsage g len old mid Opened → IsBounded mid → Walks g old mid (Ok (Some []))
   opens_step o bounded =
       let is = opened_is old mid o.becomes o.only in
       subst (λ (e : EngineView S R). Walks g old e (Ok (Some []))) (sym is)
-      (usage_opens g old ready live mid.files.nest mid.sources mid.expansion Opened o.uses (inner_buffer old.files.nest).line (usage_name (held_of (inner_buffer old.files.nest)) len)
+      (usage_opens g old ready live mid.files.include_stack mid.sources mid.expansion Opened o.uses (inner_buffer old.files.include_stack).line (usage_name (held_of (inner_buffer old.files.include_stack)) len)
       (subst (λ (e : EngineView S R). IsBounded e) is bounded) (called g false old.sources mid.sources o.call)
-      (usage_work g old ready live mid.files.nest mid.sources mid.expansion Opened o.uses texts o.now_room o.depth o.most o.sound)
+      (usage_work g old ready live mid.files.include_stack mid.sources mid.expansion Opened o.uses texts o.now_room o.depth o.most o.sound)
       (λ t. o.uses.text (λ own e. cc e) t) (λ t s ws os macros. o.means (run_rules g old) s ws os (run_is s macros) t)
-      (keeps_opened g old mid.files.nest mid.sources mid.expansion o.uses.used len o.macro.formals ready.free ready.nest o.call.catalog o.uses.inner
-      (λ t. parts_moved (g.tells old.sources) Unit g.unread o.uses.used old.files.nest mid.files.nest ready.nest o.uses.inner
-      (moves-told (g.tells old.sources) (g.tells old.sources) Unit (IsExactOpening Opened) g.unread o.uses.used (inner_buffer old.files.nest) (inner_buffer mid.files.nest) (λ x. x) (λ _ own e. cc e) o.uses.moves) t)
+      (keeps_opened g old mid.files.include_stack mid.sources mid.expansion o.uses.used len o.macro.formals ready.free ready.include_stack o.call.catalog o.uses.inner
+      (λ t. parts_moved (g.tells old.sources) Unit g.unread o.uses.used old.files.include_stack mid.files.include_stack ready.include_stack o.uses.inner
+      (moves-told (g.tells old.sources) (g.tells old.sources) Unit (IsExactOpening Opened) g.unread o.uses.used (inner_buffer old.files.include_stack) (inner_buffer mid.files.include_stack) (λ x. x) (λ _ own e. cc e) o.uses.moves) t)
       (inside_of o.some) (o.called refl) o.most o.keeps)
       (OpensText len (subst (λ (e : EngineView S R). OpensUsage g len old e Opened) is o)))
 
   -- it is refused
   pub refuses_step : (new : EngineView S R) (place : PieceLocation) (kind : FaultKind) → OpensUsage g len old mid (Refused kind) → IsBounded new → place ≡ Kept
-      → new ≡ record mid { kept = Some (fault_at kind (inner_buffer old.files.nest).line (usage_name (held_of (inner_buffer old.files.nest)) len) (state_of mid)) } → Walks g old new (lent_answer new place)
+      → new ≡ record mid { kept = Some (fault_at kind (inner_buffer old.files.include_stack).line (usage_name (held_of (inner_buffer old.files.include_stack)) len) (state_of mid)) } → Walks g old new (lent_answer new place)
   refuses_step new place kind o bounded at kept =
-      let line = (inner_buffer old.files.nest).line in
-      let name = usage_name (held_of (inner_buffer old.files.nest)) len in
+      let line = (inner_buffer old.files.include_stack).line in
+      let name = usage_name (held_of (inner_buffer old.files.include_stack)) len in
       let f = fault_at kind line name (state_of old) in
       let here = used_here old mid o.becomes o.only o.uses.used o.uses.inner in
       let same = unchanged old.expansion mid.expansion ready.idle (o.lets_go refl) o.line o.depth o.most in
       let is = stopped_is old mid o.becomes o.only new f same (kept ∙ ap (λ (s : State). record mid { kept = Some (fault_at kind line name s) }) here) in
       kept_at g old new place f at (ap (λ e. e.kept) is)
       (subst (λ (e : EngineView S R). Walks g old e (Err f)) (sym is)
-      (usage_refuses g old ready live mid.files.nest mid.sources mid.expansion (Refused kind) o.uses len mode usage refl o.macro o.named o.keeps (inside_of o.some) kind line name o.fault (subst (λ (e : EngineView S R). IsBounded e) is bounded)
+      (usage_refuses g old ready live mid.files.include_stack mid.sources mid.expansion (Refused kind) o.uses len mode usage refl o.macro o.named o.keeps (inside_of o.some) kind line name o.fault (subst (λ (e : EngineView S R). IsBounded e) is bounded)
       (called g false old.sources mid.sources o.call) (λ t s ws os macros. o.means (run_rules g old) s ws os (run_is s macros) t)))
 
   -- its call is broken
   pub breaks_step : (new : EngineView S R) (place : PieceLocation) (kind : FaultKind) (own : ℕ) → OpensUsage g len old mid (Broken kind own) → IsBounded new → place ≡ Kept
       → new ≡ record mid { kept = Some (fault_at kind own [] (state_of mid)) } → Walks g old new (lent_answer new place)
   breaks_step new place kind own o bounded at kept =
-      let line = (inner_buffer old.files.nest).line in
-      let name = usage_name (held_of (inner_buffer old.files.nest)) len in
+      let line = (inner_buffer old.files.include_stack).line in
+      let name = usage_name (held_of (inner_buffer old.files.include_stack)) len in
       let f = fault_at kind own [] (state_of old) in
       let here = used_here old mid o.becomes o.only o.uses.used o.uses.inner in
       let same = unchanged old.expansion mid.expansion ready.idle (o.lets_go refl) o.line o.depth o.most in
       let is = stopped_is old mid o.becomes o.only new f same (kept ∙ ap (λ (s : State). record mid { kept = Some (fault_at kind own [] s) }) here) in
       kept_at g old new place f at (ap (λ e. e.kept) is)
       (subst (λ (e : EngineView S R). Walks g old e (Err f)) (sym is)
-      (usage_breaks g old ready live mid.files.nest mid.sources mid.expansion (Broken kind own) o.uses len mode usage refl o.macro o.named o.keeps (inside_of o.some) kind own line name o.fault (subst (λ (e : EngineView S R). IsBounded e) is bounded)
+      (usage_breaks g old ready live mid.files.include_stack mid.sources mid.expansion (Broken kind own) o.uses len mode usage refl o.macro o.named o.keeps (inside_of o.some) kind own line name o.fault (subst (λ (e : EngineView S R). IsBounded e) is bounded)
       (called g false old.sources mid.sources o.call) (λ t s ws os macros. o.means (run_rules g old) s ws os (run_is s macros) t)))
 
   -- a read failed in its call
   pub fails_step : (new : EngineView S R) (place : PieceLocation) → OpensUsage g len old mid Failed → IsBounded new → place ≡ Kept
-      → new ≡ record mid { kept = Some (fault_at fault.ReadFailed (reading_line_of (inner_buffer mid.files.nest)) [] (state_of mid)) } → Walks g old new (lent_answer new place)
+      → new ≡ record mid { kept = Some (fault_at fault.ReadFailed (reading_line_of (inner_buffer mid.files.include_stack)) [] (state_of mid)) } → Walks g old new (lent_answer new place)
   fails_step new place o bounded at kept =
-      let line = reading_line_of (inner_buffer mid.files.nest) in
+      let line = reading_line_of (inner_buffer mid.files.include_stack) in
       let f = fault_at fault.ReadFailed line [] (state_of old) in
       let here = used_here old mid o.becomes o.only o.uses.used o.uses.inner in
       let same = unchanged old.expansion mid.expansion ready.idle (o.lets_go refl) o.line o.depth o.most in
       let is = stopped_is old mid o.becomes o.only new f same (kept ∙ ap (λ (s : State). record mid { kept = Some (fault_at fault.ReadFailed line [] s) }) here) in
       kept_at g old new place f at (ap (λ e. e.kept) is)
       (subst (λ (e : EngineView S R). Walks g old e (Err f)) (sym is)
-      (usage_fails g old ready live mid.files.nest mid.sources mid.expansion Failed o.uses len mode usage refl o.macro o.named o.keeps (inside_of o.some) (o.unheld refl) (subst (λ (e : EngineView S R). IsBounded e) is bounded)
+      (usage_fails g old ready live mid.files.include_stack mid.sources mid.expansion Failed o.uses len mode usage refl o.macro o.named o.keeps (inside_of o.some) (o.unheld refl) (subst (λ (e : EngineView S R). IsBounded e) is bounded)
       (called g true old.sources mid.sources o.call)))

@@ -144,13 +144,13 @@ used_falls includes depth pending owing cursors others (f ∷ outer) (g ∷ inne
     (work_less includes depth pending owing (unused_of g.buffer + 1) (unused_of f.buffer + 1) (source_digits outer) cursors others (omega arith) fits room all few)
 
 -- the work left falls where fewer bytes aren't used, whatever texts are open then
-pub work_opens : {S R : Type 0} (old new : EngineView S R) → new.limits ≡ old.limits → IsUsed old.files.nest new.files.nest
+pub work_opens : {S R : Type 0} (old new : EngineView S R) → new.limits ≡ old.limits → IsUsed old.files.include_stack new.files.include_stack
     → length (cursor_digits old.expansion.opens) ≤ old.limits.depth → length (cursor_digits new.expansion.opens) ≤ old.limits.depth → AreDigits (cursor_digits new.expansion.opens)
     → pending_pieces new.pending < 2 ^ 31 → work_left new < work_left old
 unfolding work_left
 work_opens old new limits used fits room all few =
     rw limits (used_falls old.limits.includes old.limits.depth (pending_pieces old.pending) (pending_pieces new.pending) (cursor_digits old.expansion.opens) (cursor_digits new.expansion.opens)
-    old.files.nest new.files.nest used fits room all few)
+    old.files.include_stack new.files.include_stack used fits room all few)
 
 -- no text that is open has a digit
 pub idle_digits : (opens : List Open) → opens ≡ [] → cursor_digits opens ≡ []
@@ -158,7 +158,7 @@ unfolding cursor_digits
 idle_digits opens idle = rw idle refl
 
 -- the work left falls where fewer bytes aren't used, and no text is open
-pub work_falls : {S R : Type 0} (old new : EngineView S R) → new.limits ≡ old.limits → IsUsed old.files.nest new.files.nest → old.expansion.opens ≡ [] → new.expansion.opens ≡ []
+pub work_falls : {S R : Type 0} (old new : EngineView S R) → new.limits ≡ old.limits → IsUsed old.files.include_stack new.files.include_stack → old.expansion.opens ≡ [] → new.expansion.opens ≡ []
     → pending_pieces new.pending < 2 ^ 31 → work_left new < work_left old
 work_falls old new limits used before idle few =
     work_opens old new limits used (rw (idle_digits old.expansion.opens before) (omega arith)) (rw (idle_digits new.expansion.opens idle) (omega arith)) (rw (idle_digits new.expansion.opens idle) tt) few
@@ -168,7 +168,7 @@ pub pending_falls : {S R : Type 0} (old new : EngineView S R) → new.limits ≡
     → work_left new < work_left old
 unfolding work_left work_of number_of
 pending_falls old new limits files texts less =
-    let sources = padded (old.limits.includes + 1) (source_digits old.files.nest) in
+    let sources = padded (old.limits.includes + 1) (source_digits old.files.include_stack) in
     let cursors = padded old.limits.depth (cursor_digits old.expansion.opens) in
     let apart : (n : ℕ) → sources ++ (cursors ++ n ∷ []) ≡ (sources ++ cursors) ++ n ∷ [] = λ n. sym (append_assoc sources cursors (n ∷ [])) in
     rw (limits, files, texts, apart (pending_pieces new.pending), apart (pending_pieces old.pending))
@@ -180,7 +180,7 @@ unfolding held_of
 held_room b = omega (arith, length-drop b.at (take b.accepted b.window), length-take b.accepted b.window)
 
 -- held bytes are used
-pub used_bytes : {R : Type 0} (nest : List (File R)) (len lines : ℕ) → 0 < len → len ≤ length (held_of (inner_buffer nest)) → IsUsed nest (with_inner (consumed_file len lines) nest)
+pub used_bytes : {R : Type 0} (include_stack : List (File R)) (len lines : ℕ) → 0 < len → len ≤ length (held_of (inner_buffer include_stack)) → IsUsed include_stack (with_inner (consumed_file len lines) include_stack)
 unfolding unused_of closed_buffer held_of
 used_bytes [] len lines some inside = absurd (omega arith)
 used_bytes (f ∷ outer) len lines some inside =
@@ -188,8 +188,8 @@ used_bytes (f ∷ outer) len lines some inside =
     record { fewer = omega arith; outer = refl; size = refl }
 
 -- held bytes are used, in another buffer of which as many aren't used
-pub used_after : {R : Type 0} (nest : List (File R)) (b : BufferView R) (len lines : ℕ) → 0 < length nest → unused_of b ≡ unused_of (inner_buffer nest) → 0 < len → len ≤ length (held_of b)
-    → IsUsed nest (with_inner (consumed_file len lines) (with_buffer b nest))
+pub used_after : {R : Type 0} (include_stack : List (File R)) (b : BufferView R) (len lines : ℕ) → 0 < length include_stack → unused_of b ≡ unused_of (inner_buffer include_stack) → 0 < len → len ≤ length (held_of b)
+    → IsUsed include_stack (with_inner (consumed_file len lines) (with_buffer b include_stack))
 unfolding unused_of
 used_after [] b len lines open_ same some inside = absurd (omega arith)
 used_after (f ∷ outer) b len lines open_ same some inside =
@@ -202,23 +202,23 @@ unfolding unused_of entered_mode
 entered_unused b next = refl
 
 -- the digits are the same
-same_digits : {R : Type 0} (nest : List (File R)) (b : BufferView R) → unused_of b ≡ unused_of (inner_buffer nest) → source_digits (with_buffer b nest) ≡ source_digits nest
+same_digits : {R : Type 0} (include_stack : List (File R)) (b : BufferView R) → unused_of b ≡ unused_of (inner_buffer include_stack) → source_digits (with_buffer b include_stack) ≡ source_digits include_stack
 same_digits [] b same = refl
 same_digits {R} (f ∷ outer) b same =
     inner_digit (record f { buffer = b }) outer ∙ (ap (λ (n : ℕ). source_digits outer ++ (n + 1) ∷ []) same ∙ sym (inner_digit f outer))
 
 -- the work left is the same where as many bytes aren't used
-pub work_same : {S R : Type 0} (old new : EngineView S R) (b : BufferView R) → new.limits ≡ old.limits → new.pending ≡ old.pending → new.expansion ≡ old.expansion → new.files.nest ≡ with_buffer b old.files.nest
-    → unused_of b ≡ unused_of (inner_buffer old.files.nest) → work_left new ≡ work_left old
+pub work_same : {S R : Type 0} (old new : EngineView S R) (b : BufferView R) → new.limits ≡ old.limits → new.pending ≡ old.pending → new.expansion ≡ old.expansion → new.files.include_stack ≡ with_buffer b old.files.include_stack
+    → unused_of b ≡ unused_of (inner_buffer old.files.include_stack) → work_left new ≡ work_left old
 unfolding work_left
-work_same old new b limits pending texts nest same = rw (limits, pending, texts, nest, same_digits old.files.nest b same) refl
+work_same old new b limits pending texts include_stack same = rw (limits, pending, texts, include_stack, same_digits old.files.include_stack b same) refl
 
 -- as many digits as sources
-digits-length : {R : Type 0} (nest : List (File R)) → length (source_digits nest) ≡ length nest
+digits-length : {R : Type 0} (include_stack : List (File R)) → length (source_digits include_stack) ≡ length include_stack
 unfolding source_digits
-digits-length {R} nest =
+digits-length {R} include_stack =
     let digit : File R → ℕ = λ g. unused_of g.buffer + 1 in
-    length-reverse (map digit nest) ∙ length-map nest digit
+    length-reverse (map digit include_stack) ∙ length-map include_stack digit
 
 -- one more place of 0 is among those that are filled up
 zero_place : (n : ℕ) (before : List ℕ) → length before < n → padded n (before ++ 0 ∷ []) ≡ padded n before
@@ -230,8 +230,8 @@ zero_place n before room =
     ∙ ap (λ k. before ++ replicate k 0) (sym fewer)
 
 -- the work left falls where the innermost source is left
-dropped_falls : {R : Type 0} (includes depth pending owing : ℕ) (nest : List (File R)) → 0 < length nest → length nest ≤ includes + 1 → owing < 2 ^ 31
-    → work_of includes depth (source_digits (drop 1 nest)) [] owing < work_of includes depth (source_digits nest) [] pending
+dropped_falls : {R : Type 0} (includes depth pending owing : ℕ) (include_stack : List (File R)) → 0 < length include_stack → length include_stack ≤ includes + 1 → owing < 2 ^ 31
+    → work_of includes depth (source_digits (drop 1 include_stack)) [] owing < work_of includes depth (source_digits include_stack) [] pending
 unfolding work_of
 dropped_falls includes depth pending owing [] some few least = absurd (omega arith)
 dropped_falls includes depth pending owing (f ∷ outer) some few least =
@@ -241,11 +241,11 @@ dropped_falls includes depth pending owing (f ∷ outer) some few least =
     rw (inner_digit f outer, ← same)
     (work_less includes depth pending owing 0 (unused_of f.buffer + 1) before [] [] (omega arith) (omega arith) (omega arith) tt least)
 
-pub left_falls : {S R : Type 0} (old new : EngineView S R) → new.limits ≡ old.limits → old.expansion.opens ≡ [] → new.expansion.opens ≡ [] → new.files.nest ≡ drop 1 old.files.nest
-    → 0 < length old.files.nest → length old.files.nest ≤ old.limits.includes + 1 → pending_pieces new.pending < 2 ^ 31 → work_left new < work_left old
+pub left_falls : {S R : Type 0} (old new : EngineView S R) → new.limits ≡ old.limits → old.expansion.opens ≡ [] → new.expansion.opens ≡ [] → new.files.include_stack ≡ drop 1 old.files.include_stack
+    → 0 < length old.files.include_stack → length old.files.include_stack ≤ old.limits.includes + 1 → pending_pieces new.pending < 2 ^ 31 → work_left new < work_left old
 unfolding work_left
-left_falls old new limits before idle nest some few least =
-    rw (limits, nest, idle_digits old.expansion.opens before, idle_digits new.expansion.opens idle) (dropped_falls old.limits.includes old.limits.depth (pending_pieces old.pending) (pending_pieces new.pending) old.files.nest some few least)
+left_falls old new limits before idle include_stack some few least =
+    rw (limits, include_stack, idle_digits old.expansion.opens before, idle_digits new.expansion.opens idle) (dropped_falls old.limits.includes old.limits.depth (pending_pieces old.pending) (pending_pieces new.pending) old.files.include_stack some few least)
 
 -- the work left of two open sources and those around them
 work_by_two : (includes depth pending a e : ℕ) (before : List ℕ) → work_of includes depth ((before ++ a ∷ []) ++ e ∷ []) [] pending
@@ -294,11 +294,11 @@ entered_digits includes depth pending owing (f ∷ outer) (g ∷ rest) inner use
     rw (inner_digit inner (g ∷ rest), inner_digit f outer, inner_digit g rest, same)
     (work_inside includes depth pending owing (unused_of g.buffer + 1) (unused_of f.buffer + 1) (unused_of inner.buffer + 1) (source_digits outer) (omega arith) (omega arith) small few)
 
-pub entered_falls : {S R : Type 0} (old new : EngineView S R) → new.limits ≡ old.limits → old.expansion.opens ≡ [] → new.expansion.opens ≡ [] → IsEntered old.files.nest new.files.nest → length old.files.nest ≤ old.limits.includes
+pub entered_falls : {S R : Type 0} (old new : EngineView S R) → new.limits ≡ old.limits → old.expansion.opens ≡ [] → new.expansion.opens ≡ [] → IsEntered old.files.include_stack new.files.include_stack → length old.files.include_stack ≤ old.limits.includes
     → pending_pieces new.pending < 2 ^ 31 → work_left new < work_left old
 unfolding work_left
 entered_falls old new limits before idle entered room few =
-    rw (limits, entered.becomes, idle_digits old.expansion.opens before, idle_digits new.expansion.opens idle) (entered_digits old.limits.includes old.limits.depth (pending_pieces old.pending) (pending_pieces new.pending) old.files.nest entered.used entered.inner entered.some room entered.small few)
+    rw (limits, entered.becomes, idle_digits old.expansion.opens before, idle_digits new.expansion.opens idle) (entered_digits old.limits.includes old.limits.depth (pending_pieces old.pending) (pending_pieces new.pending) old.files.include_stack entered.used entered.inner entered.some room entered.small few)
 
 -- The work left falls where the digits of the open texts fall.
 

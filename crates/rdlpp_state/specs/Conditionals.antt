@@ -47,7 +47,7 @@ IsGivenBranch d held a = ⊥
 
 -- an engine of whose innermost source so many bytes are passed, whose LF bytes are pending (this project's profile)
 unfoldable pub passes_over : {S R : Type 0} → ℕ → ℕ → EngineView S R → EngineView S R
-passes_over len lines e = record e { pending = line_ends_pending lines; files = record e.files { nest = with_inner (consumed_file len lines) e.files.nest } }
+passes_over len lines e = record e { pending = line_ends_pending lines; files = record e.files { include_stack = with_inner (consumed_file len lines) e.files.include_stack } }
 
 -- the fault of a conditional that is open where its source ends, at the line that it showed (this project's profile)
 abbrev pub unclosed_fault : ℕ → State → Told
@@ -55,15 +55,15 @@ unclosed_fault line s = record { kind = OpenConditional; name = s.name; line = l
 
 -- an engine of whose innermost source so many bytes are used that have no LF, with other conditionals open
 unfoldable pub goes_past : {S R : Type 0} → ConditionsView → ℕ → EngineView S R → EngineView S R
-goes_past v len e = record e { conditions = v; files = record e.files { nest = with_inner (consumed_file len 0) e.files.nest } }
+goes_past v len e = record e { conditions = v; files = record e.files { include_stack = with_inner (consumed_file len 0) e.files.include_stack } }
 
 -- what an engine does by a test: its fault is kept, or so many bytes are used, with other conditionals open (this project's profile)
 abbrev pub DoesByTest : {S R : Type 0} → Test → (Bool → ConditionsView) → ℕ → EngineView S R → EngineView S R → Option PieceLocation → Type 0
-DoesByTest (Stopped kind word) next len old new result = (result ≡ Some Kept) × (new ≡ record old { kept = Some (fault_at kind (inner_buffer old.files.nest).line word (state_of old)) })
+DoesByTest (Stopped kind word) next len old new result = (result ≡ Some Kept) × (new ≡ record old { kept = Some (fault_at kind (inner_buffer old.files.include_stack).line word (state_of old)) })
 DoesByTest (Holds live) next len old new result = (result ≡ None) × (new ≡ goes_past (next live) len old)
 
 -- what a conditional whose test was answered comes to: it is opened, at the line that its directive shows, or too many are open
 -- (this project's profile)
 abbrev pub OpensOne : {S R : Type 0} → Bool → ℕ → EngineView S R → EngineView S R → Option PieceLocation → Type 0
 OpensOne holds len old new result =
-    DoesByTest (opening_within (conditions_left old.conditions) (Holds holds)) (λ live. opened_with (inner_shown old.files.nest) live old.conditions) len old new result
+    DoesByTest (opening_within (conditions_left old.conditions) (Holds holds)) (λ live. opened_with (inner_shown old.files.include_stack) live old.conditions) len old new result

@@ -56,10 +56,10 @@ pub record IsSoundEngine {R : Type 0} (limits : Limits) (phase : Phase) (table :
   pub size : table_size table.macros ≤ table.most_bytes
   pub slots : files.slots ≡ limits.includes + 1
   pub line_bytes : files.line_bytes ≡ limits.line_bytes
-  pub lines : AreIncluded files.nest
-  pub conditions_of : AreConditions limits conditions files.nest
-  pub open_ : is_open phase ≡ true → 0 < length files.nest
-  pub closed : is_open phase ≡ false → files.nest ≡ []
+  pub lines : AreIncluded files.include_stack
+  pub conditions_of : AreConditions limits conditions files.include_stack
+  pub open_ : is_open phase ≡ true → 0 < length files.include_stack
+  pub closed : is_open phase ≡ false → files.include_stack ≡ []
 
 -- what always holds of the open texts of an engine: there is room for those of its limits, they lie in the live bodies and in what is kept of the call, their line can be
 -- counted, and none is open but where the main text is

@@ -59,7 +59,7 @@ is_failed_call (Some f) = is_call_failed f.kind
 -- whether the fault of a search for an included source is kept that failed at a device or for memory: it leaves the engine at the
 -- `include` that asked for it, and that of a read leaves it where no byte is held, or at a `define` (this project's profile)
 unfoldable pub is_failed_search : {S R : Type 0} → EngineView S R → Bool
-is_failed_search e = is_failed_call e.kept && (may_follow e.phase && begins_include (held_of (inner_buffer e.files.nest)))
+is_failed_search e = is_failed_call e.kept && (may_follow e.phase && begins_include (held_of (inner_buffer e.files.include_stack)))
 
 -- whether the fault of an opening of the main text is kept that failed at a device or for memory: no other such fault comes where no
 -- text is open (this project's profile)

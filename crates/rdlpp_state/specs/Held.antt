@@ -22,7 +22,7 @@ unfoldable pub stores_of : {S R : Type 0} → EngineView S R → Stores
 stores_of e = record {
   definitions = table_bytes e.table.macros;
   arguments = e.expansion.arguments;
-  buffers = held_windows e.files.nest;
+  buffers = held_windows e.files.include_stack;
 }
 
 -- how many bytes are held
@@ -42,7 +42,7 @@ pub record IsBounded {S R : Type 0} (e : EngineView S R) : Type 0 where
   pub cursors : length e.expansion.opens ≤ e.limits.depth
   pub bindings : bound_by e.expansion.opens ≤ e.limits.depth * 255
   pub conditions : length e.conditions.open_now ≤ e.limits.conditions
-  pub sources : length e.files.nest ≤ e.limits.includes + 1
+  pub sources : length e.files.include_stack ≤ e.limits.includes + 1
   pub texts : AreSound (texts_of e.table.macros e.expansion.arguments) e.expansion.opens
 
 -- what an engine tells of what it holds (this project's profile)
@@ -54,7 +54,7 @@ held_told e = let s = stores_of e in record {
   cursors = length e.expansion.opens;
   bindings = bound_by e.expansion.opens;
   conditions = length e.conditions.open_now;
-  sources = length e.files.nest;
+  sources = length e.files.include_stack;
 }
 
 -- nothing is held but definitions

@@ -41,23 +41,23 @@ is_bad_name name = (length name == 0) || not (is_utf8 name)
 pub record IsSearch {S R : Type 0} (e : EngineView S R) : Type 0 where
   pub start : ℕ
   pub stop : ℕ
-  pub mode : (inner_buffer e.files.nest).mode ≡ Plain
-  pub has : HasString (held_of (inner_buffer e.files.nest)) start stop
-  pub name : is_bad_name (include_name (held_of (inner_buffer e.files.nest)) start stop) ≡ false
-  pub room : length e.files.nest < e.files.slots
+  pub mode : (inner_buffer e.files.include_stack).mode ≡ Plain
+  pub has : HasString (held_of (inner_buffer e.files.include_stack)) start stop
+  pub name : is_bad_name (include_name (held_of (inner_buffer e.files.include_stack)) start stop) ≡ false
+  pub room : length e.files.include_stack < e.files.slots
 
 -- a search was made for a name from the path of the innermost source, by sources that were others before
 pub record Searches {S R : Type 0} (g : Ghosts S R) (e : EngineView S R) (name : List ℕ) (new : S) (answer : Result (Found R) SourceFault) : Type 0 where
   pub name_good : is_bad_name name ≡ false
-  pub room : length e.files.nest < e.files.slots
-  pub answers : g.tells e.sources → Finds g.unread ((g.catalog e.sources).find (inner_path e.files.nest) name) answer
+  pub room : length e.files.include_stack < e.files.slots
+  pub answers : g.tells e.sources → Finds g.unread ((g.catalog e.sources).find (inner_path e.files.include_stack) name) answer
   pub call : SourcesCalled g (is_device answer) (is_no_memory answer) e.sources new
 
 -- why an `include` of a name opens nothing: the name is bad; too many sources are open, and nothing is searched for; or the search
 -- is refused (this project's profile)
 pub data Denies {S R : Type 0} (g : Ghosts S R) (e : EngineView S R) (name : List ℕ) (new : S) (kind : FaultKind) : Type 0 where
   BadName : is_bad_name name ≡ true → kind ≡ IncludeName → new ≡ e.sources → Denies g e name new kind
-  Full : is_bad_name name ≡ false → e.files.slots ≤ length e.files.nest → kind ≡ TooManyIncludes → new ≡ e.sources → Denies g e name new kind
+  Full : is_bad_name name ≡ false → e.files.slots ≤ length e.files.include_stack → kind ≡ TooManyIncludes → new ≡ e.sources → Denies g e name new kind
   Refuses : (fault : SourceFault) → kind ≡ kind_of_source fault → Searches g e name new (Err fault) → Denies g e name new kind
 
 -- what the search of an `include` comes to
@@ -71,8 +71,8 @@ unfoldable pub included_engine : {S R : Type 0} → Found R → ℕ → EngineVi
 included_engine found stop e = record e {
   pending = record { line_ends = 0; origin = origin_pending e.origins 1 };
   files = record e.files {
-    nest = entered_file found e.limits.source_bytes e.files.line_bytes (length e.conditions.open_now) (inner_buffer e.files.nest).line
-        ∷ with_inner (consumed_file stop 0) e.files.nest;
+    include_stack = entered_file found e.limits.source_bytes e.files.line_bytes (length e.conditions.open_now) (inner_buffer e.files.include_stack).line
+        ∷ with_inner (consumed_file stop 0) e.files.include_stack;
   };
 }
 
@@ -82,7 +82,7 @@ unfoldable pub pending_behind : {R : Type 0} → Bool → List (File R) → Pend
 pending_behind origins [] = nothing_pending
 pending_behind origins (f ∷ []) = nothing_pending
 pending_behind origins (f ∷ around ∷ outer) = record {
-  line_ends = if f.torn then 1 else 0;
+  line_ends = if f.ends_mid_line then 1 else 0;
   origin = origin_pending origins (shown_line (shift_of around.shift) f.include_line);
 }
 
@@ -90,8 +90,8 @@ pending_behind origins (f ∷ around ∷ outer) = record {
 unfoldable pub marks_behind : {R : Type 0} → List (File R) → MarksView → MarksView
 marks_behind [] m = m
 marks_behind (f ∷ []) m = m
-marks_behind (f ∷ around ∷ outer) m = ends_line (if f.torn then 1 else 0) around.name.bytes (shown_line (shift_of around.shift) f.include_line) m
+marks_behind (f ∷ around ∷ outer) m = ends_line (if f.ends_mid_line then 1 else 0) around.name.bytes (shown_line (shift_of around.shift) f.include_line) m
 
 -- an engine that has left an included source
 unfoldable pub left_engine : {S R : Type 0} → EngineView S R → EngineView S R
-left_engine e = record e { pending = pending_behind e.origins e.files.nest; marks = marks_behind e.files.nest e.marks; files = record e.files { nest = drop 1 e.files.nest } }
+left_engine e = record e { pending = pending_behind e.origins e.files.include_stack; marks = marks_behind e.files.include_stack e.marks; files = record e.files { include_stack = drop 1 e.files.include_stack } }

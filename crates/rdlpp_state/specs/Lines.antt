@@ -26,12 +26,12 @@ inner_blanks (f ∷ outer) = f.blanks
 -- (this project's profile)
 pub record Renumbers {S R : Type 0} (given : GivenLine) (old new : EngineView S R) : Type 0 where
   pub lines : ℕ
-  pub counted : lines ≡ line_ends (take (5 + given.stop) (held_of (inner_buffer old.files.nest)))
+  pub counted : lines ≡ line_ends (take (5 + given.stop) (held_of (inner_buffer old.files.include_stack)))
   pub becomes : new ≡ record old {
     pending = record { line_ends = lines; origin = origin_pending old.origins given.number };
-    marks = ends_line lines (state_of old).name (shown_line (state_of old).shift (inner_buffer old.files.nest).line) old.marks;
+    marks = ends_line lines (state_of old).name (shown_line (state_of old).shift (inner_buffer old.files.include_stack).line) old.marks;
     files = record old.files {
-      nest = with_inner (renumbered_file ((inner_buffer old.files.nest).line + 1) given.number given.name)
-          (with_inner (consumed_file (5 + given.stop) lines) old.files.nest);
+      include_stack = with_inner (renumbered_file ((inner_buffer old.files.include_stack).line + 1) given.number given.name)
+          (with_inner (consumed_file (5 + given.stop) lines) old.files.include_stack);
     };
   }

@@ -33,9 +33,9 @@ inner_shown (f ∷ outer) = shown_line (shift_of f.shift) f.buffer.line
 -- what always holds of the open conditionals: no more are open than the limits allow, and each source has its own among them; where
 -- text is skipped, a conditional of the innermost source skips it; and the count of those that opened there stays small with what
 -- that source may still give
-pub record AreConditions {R : Type 0} (limits : Limits) (v : ConditionsView) (nest : List (File R)) : Type 0 where
+pub record AreConditions {R : Type 0} (limits : Limits) (v : ConditionsView) (include_stack : List (File R)) : Type 0 where
   pub limit : v.limit ≡ limits.conditions
   pub few : length v.open_now ≤ v.limit
-  pub below : AreBelow (length v.open_now) nest
-  pub own : (n : ℕ) → v.skipped ≡ Some n → inner_below nest < length v.open_now
-  pub counted : unwrap_or v.skipped 0 + unused_of (inner_buffer nest) < 2 ^ 31
+  pub below : AreBelow (length v.open_now) include_stack
+  pub own : (n : ℕ) → v.skipped ≡ Some n → inner_below include_stack < length v.open_now
+  pub counted : unwrap_or v.skipped 0 + unused_of (inner_buffer include_stack) < 2 ^ 31

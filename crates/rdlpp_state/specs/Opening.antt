@@ -39,7 +39,7 @@ fresh_engine limits sources origins = record {
   table = record { macros = []; most_bytes = limits.definition_bytes; most_macros = limits.definitions };
   conditions = record { open_now = []; skipped = None; limit = limits.conditions };
   sources = sources;
-  files = record { nest = []; slots = limits.includes + 1; line_bytes = limits.line_bytes };
+  files = record { include_stack = []; slots = limits.includes + 1; line_bytes = limits.line_bytes };
   expansion = record { opens = []; arguments = []; line = 0; depth = limits.depth; most = limits.argument_bytes };
 }
 
@@ -57,7 +57,7 @@ opened_engine e path found = record e {
   kept = None;
   main = name_cut path;
   pending = record { line_ends = 0; origin = origin_pending e.origins 1 };
-  files = record e.files { nest = entered_file found e.limits.source_bytes e.files.line_bytes 0 0 ∷ e.files.nest };
+  files = record e.files { include_stack = entered_file found e.limits.source_bytes e.files.line_bytes 0 0 ∷ e.files.include_stack };
 }
 
 -- an engine whose main text couldn't be opened

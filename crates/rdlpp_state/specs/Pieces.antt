@@ -18,7 +18,7 @@ use Rattle.rdlpp_state.specs.declared.place.Piece.TheVariants.{Bytes, Done}
 
 -- the bytes of the part of which a piece that is pending is the beginning, under the name that is shown
 abbrev pub pending_part : {S R : Type 0} → EngineView S R → PendingPiece → List ℕ
-pending_part e piece = part_bytes piece.part (inner_name e.files.nest) (digits_of e.pending.origin)
+pending_part e piece = part_bytes piece.part (inner_name e.files.include_stack) (digits_of e.pending.origin)
 
 -- the texts in which the open texts of a usage lie: the live macros, and what is kept of the call
 abbrev pub held_texts : {S R : Type 0} → EngineView S R → Texts
@@ -26,15 +26,15 @@ held_texts e = texts_of e.table.macros e.expansion.arguments
 
 -- a place lies in the held stores, or in what is pending
 abbrev pub IsPlaced : {S R : Type 0} → EngineView S R → PieceLocation → Type 0
-IsPlaced e (Source start end) = (0 < length e.files.nest) × (start ≤ end) × (end ≤ length (inner_buffer e.files.nest).window)
+IsPlaced e (Source start end) = (0 < length e.files.include_stack) × (start ≤ end) × (end ≤ length (inner_buffer e.files.include_stack).window)
 IsPlaced e (Text place) = IsTextPlaced (held_texts e) place
-IsPlaced e (Pending piece) = (0 < length e.files.nest) × (piece.len ≤ length (pending_part e piece))
+IsPlaced e (Pending piece) = (0 < length e.files.include_stack) × (piece.len ≤ length (pending_part e piece))
 IsPlaced e End = ⊤
 IsPlaced e Kept = ⊤
 
 -- the bytes at a place: a part of the innermost source's buffer, or of an open text, or what is pending; none at the end
 abbrev pub bytes_at : {S R : Type 0} → EngineView S R → PieceLocation → Option (List ℕ)
-bytes_at e (Source start end) = Some (slice_range (inner_buffer e.files.nest).window start end)
+bytes_at e (Source start end) = Some (slice_range (inner_buffer e.files.include_stack).window start end)
 bytes_at e (Text place) = Some (place_bytes (held_texts e) place)
 bytes_at e (Pending piece) = Some (take piece.len (pending_part e piece))
 bytes_at e End = None

@@ -22,14 +22,14 @@ usage_place e = place_at Same e.expansion.line (state_of e)
 
 -- the place of a piece of the innermost source: that of its first byte (this project's profile)
 abbrev pub source_place : {S R : Type 0} → EngineView S R → PlaceView
-source_place e = place_at Next (inner_buffer e.files.nest).line (state_of e)
+source_place e = place_at Next (inner_buffer e.files.include_stack).line (state_of e)
 
 -- the place of the first of the LF bytes that are pending: that of a `line` or of the `include` of a source that has ended, where it stands behind
 -- one; or it is one of those that end the lines before the one on which the innermost source stands (this project's profile)
 unfoldable pub line_end_place : {S R : Type 0} → EngineView S R → PlaceView
 line_end_place e =
     if e.marks.ending then record { name = e.marks.name; line = e.marks.line; step = Next }
-    else place_at Next ((inner_buffer e.files.nest).line - e.pending.line_ends) (state_of e)
+    else place_at Next ((inner_buffer e.files.include_stack).line - e.pending.line_ends) (state_of e)
 
 -- the place of a piece of an origin line, if one is pending: the one that it names (this project's profile)
 unfoldable pub origin_place : List ℕ → Option OriginView → Option PlaceView
@@ -51,11 +51,11 @@ position_of e = elim e.kept [
 -- it; or the place of the `include` of a source that has ended, for the LF that is pending behind that (this project's profile)
 pub data MarksPlace {S R : Type 0} (at after : EngineView S R) : Type 0 where
   Unmarked : after.marks ≡ at.marks → MarksPlace at after
-  BehindLine : (lines : ℕ) → after.marks ≡ ends_line lines (state_of at).name (shown_line (state_of at).shift (inner_buffer at.files.nest).line) at.marks → MarksPlace at after
-  BehindSource : after.marks ≡ marks_behind at.files.nest at.marks → MarksPlace at after
+  BehindLine : (lines : ℕ) → after.marks ≡ ends_line lines (state_of at).name (shown_line (state_of at).shift (inner_buffer at.files.include_stack).line) at.marks → MarksPlace at after
+  BehindSource : after.marks ≡ marks_behind at.files.include_stack at.marks → MarksPlace at after
 
 -- the first piece of what is pending was taken out, and its place is marked
 pub record TakesPending {S R : Type 0} (old new : EngineView S R) (piece : PendingPiece) : Type 0 where
   pub rest : PendingView
-  pub takes : TakesPiece (inner_name old.files.nest) old.pending rest piece
-  pub becomes : new ≡ record old { pending = rest; marks = lends_pending old.pending (inner_buffer old.files.nest).line old.marks }
+  pub takes : TakesPiece (inner_name old.files.include_stack) old.pending rest piece
+  pub becomes : new ≡ record old { pending = rest; marks = lends_pending old.pending (inner_buffer old.files.include_stack).line old.marks }

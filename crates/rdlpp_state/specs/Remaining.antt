@@ -14,7 +14,7 @@ use Rattle.rdlpp_meaning.specs.State.{Lookup, LongPath, NoSource, Rules, Source,
 use Rattle.rdlpp_meaning.specs.Profile.{rules_of}
 use Rattle.rdlpp_meaning.specs.Output.{start_state}
 use Rattle.rdlpp_read.specs.Buffer.{text_left, tokens_left}
-use Rattle.rdlpp_read.specs.Files.{shift_of, source_digits, torn_after}
+use Rattle.rdlpp_read.specs.Files.{shift_of, source_digits, ends_mid_line_after}
 use Rattle.rdlpp_read.specs.declared.files.File.{File}
 use Rattle.rdlpp_front.specs.SourceLeft.{source_left}
 use Rattle.rdlpp_conditions.specs.Conditions.{ConditionsView, place_of}
@@ -53,15 +53,15 @@ file_state limits macros open_count around f = record {
 }
 
 -- the state that the meaning of open sources goes on from, the innermost first
-unfoldable pub nest_state : {R : Type 0} → Limits → List Macro → ConditionsView → List (File R) → State
-nest_state limits macros v [] = start_state macros limits.includes limits.conditions []
-nest_state limits macros v (f ∷ outer) = file_state limits macros (length v.open_now) (length outer) f
+unfoldable pub include_stack_state : {R : Type 0} → Limits → List Macro → ConditionsView → List (File R) → State
+include_stack_state limits macros v [] = start_state macros limits.includes limits.conditions []
+include_stack_state limits macros v (f ∷ outer) = file_state limits macros (length v.open_now) (length outer) f
 
 -- what is written behind an open source, in the one around it: an LF where its text ends in mid-line, and the origin line of
 -- the `include`, where asked for (this project's profile)
 unfoldable pub ending_behind : {R : Type 0} → Rules → (R → List ℕ) → File R → File R → List ℕ
 ending_behind rules unread f around =
-    (if torn_after f.torn (text_left unread f.buffer) then 10 ∷ [] else [])
+    (if ends_mid_line_after f.ends_mid_line (text_left unread f.buffer) then 10 ∷ [] else [])
     ++ origin_line rules around.name.bytes (shown_line (shift_of around.shift) f.include_line)
 
 -- the sources around an open one, the innermost first, as the meaning has those that wait, by the conditionals that are open in them
@@ -76,15 +76,15 @@ waiting_around limits rules unread os f (around ∷ outer) = record {
 } ∷ waiting_around limits rules unread (outer_open around.conditions_below os) around outer
 
 -- what remains of the open sources, the innermost first, from macros and the open conditionals (this project's profile)
-unfoldable pub nest_left : {R : Type 0} → Limits → Rules → (R → List ℕ) → List Macro → ConditionsView → List (File R) → Passage
-nest_left {R} limits rules unread macros v [] = leaves (gives []) (nest_state {R = R} limits macros v [])
-nest_left limits rules unread macros v (f ∷ outer) =
+unfoldable pub include_stack_left : {R : Type 0} → Limits → Rules → (R → List ℕ) → List Macro → ConditionsView → List (File R) → Passage
+include_stack_left {R} limits rules unread macros v [] = leaves (gives []) (include_stack_state {R = R} limits macros v [])
+include_stack_left limits rules unread macros v (f ∷ outer) =
     source_left rules unread (waiting_around limits rules unread (outer_open f.conditions_below v.open_now) f outer)
-    (place_of f.conditions_below v) f (nest_state limits macros v (f ∷ outer))
+    (place_of f.conditions_below v) f (include_stack_state limits macros v (f ∷ outer))
 
 -- the state that the meaning of what remains goes on from
 unfoldable pub state_of : {S R : Type 0} → EngineView S R → State
-state_of e = nest_state e.limits e.table.macros e.conditions e.files.nest
+state_of e = include_stack_state e.limits e.table.macros e.conditions e.files.include_stack
 
 -- the name that the innermost open source shows; none where none is open
 abbrev pub inner_name : {R : Type 0} → List (File R) → List ℕ
@@ -98,9 +98,9 @@ run_rules g e = source_rules (g.catalog e.sources) e.limits e.origins
 -- what remains of the text: the bytes that are pending, then what remains of the open texts of a usage, and then what remains of
 -- the open sources (this project's profile)
 unfoldable pub text_of : {S R : Type 0} → Ghosts S R → EngineView S R → Passage
-text_of g e = behind_bytes (pending_bytes (inner_name e.files.nest) e.pending)
+text_of g e = behind_bytes (pending_bytes (inner_name e.files.include_stack) e.pending)
     (goes_on (texts_left (run_rules g e) (state_of e) e.table.macros e.expansion)
-    (λ after. nest_left e.limits (run_rules g e) g.unread e.table.macros e.conditions e.files.nest))
+    (λ after. include_stack_left e.limits (run_rules g e) g.unread e.table.macros e.conditions e.files.include_stack))
 
 -- the fault of an output that has more bytes than it may have: under the main text's name, at line 0, about no word
 -- (this project's profile)
@@ -129,4 +129,4 @@ left_of g e = limited (output_fault e.main) e.quota (uncut_of g e)
 
 -- the work left of an engine (this project's profile)
 unfoldable pub work_left : {S R : Type 0} → EngineView S R → ℕ
-work_left e = work_of e.limits.includes e.limits.depth (source_digits e.files.nest) (cursor_digits e.expansion.opens) (pending_pieces e.pending)
+work_left e = work_of e.limits.includes e.limits.depth (source_digits e.files.include_stack) (cursor_digits e.expansion.opens) (pending_pieces e.pending)

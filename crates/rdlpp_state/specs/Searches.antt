@@ -22,7 +22,7 @@ pub record Retries {S R : Type 0} (g : Ghosts S R) (old new : EngineView S R) : 
   pub forgets : is_failed_search old ≡ true → new ≡ record old { kept = None }
   pub same : is_failed_search old ≡ false → new ≡ old
   pub search : (f : Told) → old.kept ≡ Some f → is_call_failed f.kind ≡ true → old.phase ≡ Open → IsSearch old → is_failed_search old ≡ true
-  pub read : IsReading (inner_buffer old.files.nest) → is_failed_search old ≡ false
+  pub read : IsReading (inner_buffer old.files.include_stack) → is_failed_search old ≡ false
   pub remains : is_failed_search old ≡ true → (before : EngineView S R) (f : Told) → before.kept ≡ None → Steps g before old (Err f)
       → g.tells before.sources → (text_of g before ≡ text_of g new) × (left_of g before ≡ left_of g new)
   pub lets_go : LetsGo old → LetsGo new

@@ -34,28 +34,28 @@ use Rattle.rdlpp_state.specs.declared.pending.PendingPiece.{PendingPiece}
 -- the opening of a usage of so many bytes: what it says of it, in each run; of the engine the sources, those that are open and the open texts alone changed
 pub record OpensUsage {S R : Type 0} (g : Ghosts S R) (len : ℕ) (old new : EngineView S R) (opening : Opening) : Type 0 where
   pub becomes : new ≡ record old { files = new.files; sources = new.sources; expansion = new.expansion }
-  pub only : new.files ≡ record old.files { nest = new.files.nest }
+  pub only : new.files ≡ record old.files { include_stack = new.files.include_stack }
   pub call : SourcesRead g (is_failed_opening opening) old.sources new.sources
-  pub uses : UsesSource (g.tells old.sources) g.unread opening old.files.nest new.files.nest
+  pub uses : UsesSource (g.tells old.sources) g.unread opening old.files.include_stack new.files.include_stack
   pub depth : new.expansion.depth ≡ old.expansion.depth
   pub most : new.expansion.most ≡ old.expansion.most
-  pub line : new.expansion.line ≡ (if is_opened opening then (inner_buffer old.files.nest).line else old.expansion.line)
+  pub line : new.expansion.line ≡ (if is_opened opening then (inner_buffer old.files.include_stack).line else old.expansion.line)
   pub room : IsRoomy old.expansion
   pub now_room : IsRoomy new.expansion
   pub sound : AreSound (texts_of old.table.macros new.expansion.arguments) new.expansion.opens
   pub lets_go : is_opened opening ≡ false → new.expansion.opens ≡ []
-  pub some : 0 < length (held_of (inner_buffer old.files.nest))
+  pub some : 0 < length (held_of (inner_buffer old.files.include_stack))
   pub macro : Macro
-  pub named : macro_named old.table.macros (usage_name (held_of (inner_buffer old.files.nest)) len) ≡ Some macro
+  pub named : macro_named old.table.macros (usage_name (held_of (inner_buffer old.files.include_stack)) len) ≡ Some macro
   pub called : is_opened opening ≡ true → called_formals old.table.macros new.expansion.opens ≡ macro.formals
   pub bindings : is_opened opening ≡ true → bound_by new.expansion.opens ≡ length (formals_of macro)
   pub alone : is_opened opening ≡ true → (id : ℕ) × ((macro_at old.table.macros id ≡ macro) × IsOpenAlone old.table.macros id new.expansion.opens)
-  pub keeps : KeepsUsage macro.formals (g.tells old.sources) g.unread old.expansion.most opening new.expansion.arguments (inner_buffer (with_inner (consumed_file len 0) old.files.nest)) (inner_buffer new.files.nest)
+  pub keeps : KeepsUsage macro.formals (g.tells old.sources) g.unread old.expansion.most opening new.expansion.arguments (inner_buffer (with_inner (consumed_file len 0) old.files.include_stack)) (inner_buffer new.files.include_stack)
   pub fault : IsUsageFault opening
   pub own : IsOwnLine opening
-  pub unheld : is_failed_opening opening ≡ true → held_of (inner_buffer new.files.nest) ≡ []
+  pub unheld : is_failed_opening opening ≡ true → held_of (inner_buffer new.files.include_stack) ≡ []
   pub means : (rules : Rules) (s : State) (ws : List Waiting) (os : List Progress) → IsRun rules s old.table.macros old.expansion.depth old.expansion.most → g.tells old.sources
-      → TellsUsage rules s g.unread ws os old.table.macros (inner_buffer old.files.nest).line (usage_name (held_of (inner_buffer old.files.nest)) len) opening new.expansion old.files.nest new.files.nest
+      → TellsUsage rules s g.unread ws os old.table.macros (inner_buffer old.files.include_stack).line (usage_name (held_of (inner_buffer old.files.include_stack)) len) opening new.expansion old.files.include_stack new.files.include_stack
 
 -- what a step does that lends no bytes: it goes on over the open sources, while no text of a usage is open, and marks the place of
 -- an LF that is pending; it opens the usage in front of what is held; or it opens or closes a text of a usage, as expansion has it:
@@ -78,11 +78,11 @@ pub data StandsIn {S R : Type 0} (g : Ghosts S R) (at after : EngineView S R) (p
   AtCursor : (text : TextPlace) → at.pending ≡ nothing_pending → IsFrontPlace at.expansion.opens text → piece ≡ place_bytes (held_texts at) text
       → TurnsOver (held_texts at) at.expansion.opens (Lends text) after.expansion.opens
       → place ≡ Some (usage_place at) → after ≡ record at { expansion = after.expansion; marks = lends_usage at.expansion.line at.marks } → StandsIn g at after piece place
-  AtSource : (len lines : ℕ) (next : Mode) → at.pending ≡ nothing_pending → at.expansion.opens ≡ [] → piece ≡ take len (held_of (inner_buffer at.files.nest))
+  AtSource : (len lines : ℕ) (next : Mode) → at.pending ≡ nothing_pending → at.expansion.opens ≡ [] → piece ≡ take len (held_of (inner_buffer at.files.include_stack))
       → place ≡ Some (source_place at)
-      → after ≡ record at { files = record at.files { nest = with_inner (consumed_file len lines) (with_buffer (entered_mode (inner_buffer at.files.nest) next) at.files.nest) }; marks = lends_line (inner_buffer at.files.nest).line at.marks } → StandsIn g at after piece place
-  AtPending : (lent : PendingPiece) (rest : PendingView) → TakesPiece (inner_name at.files.nest) at.pending rest lent
-      → piece ≡ take lent.len (part_bytes lent.part (inner_name at.files.nest) (digits_of rest.origin)) → place ≡ pending_place at → after ≡ record at { pending = rest; marks = lends_pending at.pending (inner_buffer at.files.nest).line at.marks } → StandsIn g at after piece place
+      → after ≡ record at { files = record at.files { include_stack = with_inner (consumed_file len lines) (with_buffer (entered_mode (inner_buffer at.files.include_stack) next) at.files.include_stack) }; marks = lends_line (inner_buffer at.files.include_stack).line at.marks } → StandsIn g at after piece place
+  AtPending : (lent : PendingPiece) (rest : PendingView) → TakesPiece (inner_name at.files.include_stack) at.pending rest lent
+      → piece ≡ take lent.len (part_bytes lent.part (inner_name at.files.include_stack) (digits_of rest.origin)) → place ≡ pending_place at → after ≡ record at { pending = rest; marks = lends_pending at.pending (inner_buffer at.files.include_stack).line at.marks } → StandsIn g at after piece place
   Nowhere : piece ≡ [] → Turns g at after → StandsIn g at after piece place
 
 -- a step that lends no bytes, but for how far the engine is and how many bytes may be lent

@@ -62,7 +62,7 @@ pub record EndsText {S R : Type 0} (new : EngineView S R) (old : Passage) : Type
   pub last : State
   pub text : old ≡ leaves (gives []) last
   pub macros : last.macros ≡ new.table.macros
-  pub closed : new.files.nest ≡ []
+  pub closed : new.files.include_stack ≡ []
 
 -- a piece of so many bytes, of which these are lent
 pub record LendsText (most : List ℕ → List ℕ) (bytes : List ℕ) (old new : Passage) : Type 0 where
@@ -84,30 +84,30 @@ IsReading b = (held_of b ≡ []) ⊎ ((rest : List ℕ) × (held_of b ≡ codes 
 -- the fault of a read that failed, at the line that is read; or that of a search that failed, at the line of the `include` that
 -- asked for it
 pub data FailsAt {S R : Type 0} (e : EngineView S R) (f : Told) : Type 0 where
-  OnRead : IsReading (inner_buffer e.files.nest) → f ≡ fault_at ReadFailed (reading_line_of (inner_buffer e.files.nest)) [] (state_of e) → FailsAt e f
-  OnSearch : IsSearch e → (kind : FaultKind) → is_call_failed kind ≡ true → f ≡ fault_at kind (inner_buffer e.files.nest).line [] (state_of e) → FailsAt e f
+  OnRead : IsReading (inner_buffer e.files.include_stack) → f ≡ fault_at ReadFailed (reading_line_of (inner_buffer e.files.include_stack)) [] (state_of e) → FailsAt e f
+  OnSearch : IsSearch e → (kind : FaultKind) → is_call_failed kind ≡ true → f ≡ fault_at kind (inner_buffer e.files.include_stack).line [] (state_of e) → FailsAt e f
 
 -- an engine that stopped in the call of a usage, before which another one stood: no text of a usage is open, and of the one before it nothing changed but
 -- the fault that is kept, what is read and used of the innermost source, and what is kept of the call, which stays
 pub record StopsInCall {S R : Type 0} (g : Ghosts S R) (at new : EngineView S R) : Type 0 where
   pub len : ℕ
-  pub mode : (inner_buffer at.files.nest).mode ≡ Plain
-  pub usage : IsUsage (held_of (inner_buffer at.files.nest)) len
+  pub mode : (inner_buffer at.files.include_stack).mode ≡ Plain
+  pub usage : IsUsage (held_of (inner_buffer at.files.include_stack)) len
   pub idle : at.expansion.opens ≡ []
   pub becomes : new ≡ record at { kept = new.kept; files = new.files; sources = new.sources; expansion = record at.expansion { arguments = new.expansion.arguments } }
-  pub only : new.files ≡ record at.files { nest = new.files.nest }
+  pub only : new.files ≡ record at.files { include_stack = new.files.include_stack }
   pub opening : Opening
   pub unopened : is_opened opening ≡ false
   pub macro : Macro
-  pub named : macro_named at.table.macros (usage_name (held_of (inner_buffer at.files.nest)) len) ≡ Some macro
-  pub kept : KeepsUsage macro.formals (g.tells at.sources) g.unread at.expansion.most opening new.expansion.arguments (inner_buffer (with_inner (consumed_file len 0) at.files.nest)) (inner_buffer new.files.nest)
-  pub uses : UsesSource (g.tells at.sources) g.unread opening at.files.nest new.files.nest
+  pub named : macro_named at.table.macros (usage_name (held_of (inner_buffer at.files.include_stack)) len) ≡ Some macro
+  pub kept : KeepsUsage macro.formals (g.tells at.sources) g.unread at.expansion.most opening new.expansion.arguments (inner_buffer (with_inner (consumed_file len 0) at.files.include_stack)) (inner_buffer new.files.include_stack)
+  pub uses : UsesSource (g.tells at.sources) g.unread opening at.files.include_stack new.files.include_stack
 
 -- which engine it is whose text remains where a read or a search failed: the one that stopped, or the one before the usage in whose call that is, of
 -- whose source no byte is held any more
 pub data Stood {S R : Type 0} (g : Ghosts S R) (at new : EngineView S R) : Type 0 where
   Itself : at ≡ new → Stood g at new
-  BeforeCall : StopsInCall g at new → held_of (inner_buffer new.files.nest) ≡ [] → Stood g at new
+  BeforeCall : StopsInCall g at new → held_of (inner_buffer new.files.include_stack) ≡ [] → Stood g at new
 
 -- a read or a search that failed: the text is still open, and what remained of it remains; where a read failed in the call of a usage, it remains before that
 pub record StopsReading {S R : Type 0} (g : Ghosts S R) (old new : EngineView S R) : Type 0 where
@@ -121,8 +121,8 @@ pub record StopsReading {S R : Type 0} (g : Ghosts S R) (old new : EngineView S 
 -- moved on over its text, and no source was closed; a byte after a line that is too long may be lost
 pub record StopsAtFront {S R : Type 0} (g : Ghosts S R) (at new : EngineView S R) : Type 0 where
   pub becomes : new ≡ record at { kept = new.kept; files = new.files; sources = new.sources }
-  pub only : new.files ≡ record at.files { nest = with_buffer (inner_buffer new.files.nest) at.files.nest }
-  pub moves : Slides (g.tells at.sources) ⊥ g.unread (inner_buffer at.files.nest) (inner_buffer new.files.nest)
+  pub only : new.files ≡ record at.files { include_stack = with_buffer (inner_buffer new.files.include_stack) at.files.include_stack }
+  pub moves : Slides (g.tells at.sources) ⊥ g.unread (inner_buffer at.files.include_stack) (inner_buffer new.files.include_stack)
 
 -- where a fault comes: at the front of what is held, or in the call of a usage that stands there
 pub data Halted {S R : Type 0} (g : Ghosts S R) (at new : EngineView S R) : Type 0 where

@@ -78,14 +78,14 @@ pub record LetsGo {S R : Type 0} (e : EngineView S R) : Type 0 where
 -- that so far
 pub record HoldsStores {S R : Type 0} (g : Ghosts S R) (e : EngineView S R) : Type 0 where
   pub lets_go : LetsGo e
-  pub parts : AreParts g.unread (g.catalog e.sources) (MayGoOn e) e.files.nest
+  pub parts : AreParts g.unread (g.catalog e.sources) (MayGoOn e) e.files.include_stack
   pub call : (fs : List Formal) → called_formals e.table.macros e.expansion.opens ≡ Some fs
-      → HoldsCall g.unread (g.catalog e.sources) e.expansion.most e.expansion.arguments e.files.nest
+      → HoldsCall g.unread (g.catalog e.sources) e.expansion.most e.expansion.arguments e.files.include_stack
   pub begun : called_formals e.table.macros e.expansion.opens ≡ None
-      → (e.expansion.arguments ≡ []) ⊎ BeginsCall g.unread (g.catalog e.sources) e.expansion.most e.expansion.arguments e.files.nest
+      → (e.expansion.arguments ≡ []) ⊎ BeginsCall g.unread (g.catalog e.sources) e.expansion.most e.expansion.arguments e.files.include_stack
 
 -- nothing is held of a text: no source and no text of a usage is open, and nothing is kept of a call
 pub record HoldsNoText {S R : Type 0} (e : EngineView S R) : Type 0 where
-  pub sources : e.files.nest ≡ []
+  pub sources : e.files.include_stack ≡ []
   pub opens : e.expansion.opens ≡ []
   pub arguments : e.expansion.arguments ≡ []

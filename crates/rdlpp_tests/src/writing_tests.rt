@@ -218,41 +218,41 @@ fn put(parts: &mut Parts, piece: &[u8]) -> Result<(), Fail> {
 }
 
 // Uses so many held bytes, and counts their line ends; answers whether they are held.
-fn pass<R: Drop>(nest: &mut Files<R>, len: usize) -> bool {
-    if nest.len() == 0 {
+fn pass<R: Drop>(include_stack: &mut Files<R>, len: usize) -> bool {
+    if include_stack.len() == 0 {
         return false;
     }
-    let Some(passed) = nest.file().buffer.held().get(..len) else {
+    let Some(passed) = include_stack.file().buffer.held().get(..len) else {
         return false;
     };
     let lines = line_ends_in(passed);
     if len < lines {
         return false;
     }
-    nest.consume(len, lines);
+    include_stack.consume(len, lines);
     true
 }
 
 // Opens the source at a path; answers whether it could.
-fn open<S: Sources>(nest: &mut Files<S::Reader>, sources: &mut S, path: &str) -> bool {
-    if nest.is_full() {
+fn open<S: Sources>(include_stack: &mut Files<S::Reader>, sources: &mut S, path: &str) -> bool {
+    if include_stack.is_full() {
         return false;
     }
     let Ok(found) = sources.top(path) else {
         return false;
     };
-    nest.enter(found, SOURCE_BYTES, 0, 0);
+    include_stack.enter(found, SOURCE_BYTES, 0, 0);
     true
 }
 
 // Leaves the innermost source, which has ended; answers whether no string and no comment is open there.
-fn leave<R: Drop>(nest: &mut Files<R>, parts: &mut Parts) -> Result<bool, Fail> {
-    if nest.len() == 0 || nest.file().buffer.mode() != Mode::Plain {
+fn leave<R: Drop>(include_stack: &mut Files<R>, parts: &mut Parts) -> Result<bool, Fail> {
+    if include_stack.len() == 0 || include_stack.file().buffer.mode() != Mode::Plain {
         return Ok(false);
     }
-    let torn = nest.file().torn;
-    nest.leave();
-    if torn && nest.len() > 0 {
+    let ends_mid_line = include_stack.file().ends_mid_line;
+    include_stack.leave();
+    if ends_mid_line && include_stack.len() > 0 {
         put(parts, b"\n")?;
     }
     Ok(true)
@@ -260,28 +260,28 @@ fn leave<R: Drop>(nest: &mut Files<R>, parts: &mut Parts) -> Result<bool, Fail> 
 
 // Takes the text that is copied with which the held bytes begin, of so many bytes.
 fn lend_text<R: Drop>(
-    nest: &mut Files<R>,
+    include_stack: &mut Files<R>,
     parts: &mut Parts,
     len: usize,
     next: Mode,
 ) -> Result<bool, Fail> {
-    if nest.len() == 0 {
+    if include_stack.len() == 0 {
         return Ok(false);
     }
-    let Some(text) = nest.file().buffer.held().get(..len) else {
+    let Some(text) = include_stack.file().buffer.held().get(..len) else {
         return Ok(false);
     };
     put(parts, text)?;
-    nest.enter_mode(next);
-    Ok(pass(nest, len))
+    include_stack.enter_mode(next);
+    Ok(pass(include_stack, len))
 }
 
 // Takes a usage of one of the macros that are known, of so many bytes.
-fn lend_usage<R: Drop>(nest: &mut Files<R>, parts: &mut Parts, len: usize) -> Result<bool, Fail> {
-    if nest.len() == 0 {
+fn lend_usage<R: Drop>(include_stack: &mut Files<R>, parts: &mut Parts, len: usize) -> Result<bool, Fail> {
+    if include_stack.len() == 0 {
         return Ok(false);
     }
-    let usage = nest.file().buffer.held().get(..len).unwrap_or(&[]);
+    let usage = include_stack.file().buffer.held().get(..len).unwrap_or(&[]);
     if usage == b"`A".as_slice() {
         put(parts, b"1")?;
     } else if usage == b"`C".as_slice() {
@@ -289,50 +289,50 @@ fn lend_usage<R: Drop>(nest: &mut Files<R>, parts: &mut Parts, len: usize) -> Re
     } else {
         return Ok(false);
     }
-    Ok(pass(nest, len))
+    Ok(pass(include_stack, len))
 }
 
 // Takes a `define`, which leaves its line ends.
 fn pass_define<S: Sources>(
-    nest: &mut Files<S::Reader>,
+    include_stack: &mut Files<S::Reader>,
     sources: &mut S,
     parts: &mut Parts,
 ) -> Result<bool, Fail> {
-    if nest.len() == 0 {
+    if include_stack.len() == 0 {
         return Ok(false);
     }
-    let LogicalLine::Whole(len) = nest.hold_line(sources) else {
+    let LogicalLine::Whole(len) = include_stack.hold_line(sources) else {
         return Ok(false);
     };
-    if nest.len() == 0 {
+    if include_stack.len() == 0 {
         return Ok(false);
     }
-    let line = nest.file().buffer.held().get(..len).unwrap_or(&[]);
+    let line = include_stack.file().buffer.held().get(..len).unwrap_or(&[]);
     let lines = line_ends_in(line);
     put(parts, b"\n\n\n\n".get(..lines).unwrap_or(&[]))?;
-    Ok(pass(nest, len))
+    Ok(pass(include_stack, len))
 }
 
 // Takes what the held bytes begin with; answers whether it is known.
 fn take_front<S: Sources>(
-    nest: &mut Files<S::Reader>,
+    include_stack: &mut Files<S::Reader>,
     sources: &mut S,
     parts: &mut Parts,
 ) -> Result<bool, Fail> {
-    if nest.len() == 0 {
+    if include_stack.len() == 0 {
         return Ok(false);
     }
-    let buffer = &nest.file().buffer;
+    let buffer = &include_stack.file().buffer;
     if buffer.held().is_empty() {
         return Ok(false);
     }
     match next_item(buffer.mode(), buffer.held()) {
-        SourceItem::Text(len, next) => lend_text(nest, parts, len, next),
-        SourceItem::Usage(len) => lend_usage(nest, parts, len),
-        SourceItem::Define => pass_define(nest, sources, parts),
-        SourceItem::Undef(Some(argument)) => Ok(pass(nest, argument.stop)),
+        SourceItem::Text(len, next) => lend_text(include_stack, parts, len, next),
+        SourceItem::Usage(len) => lend_usage(include_stack, parts, len),
+        SourceItem::Define => pass_define(include_stack, sources, parts),
+        SourceItem::Undef(Some(argument)) => Ok(pass(include_stack, argument.stop)),
         SourceItem::Include(Some(argument)) => {
-            Ok(pass(nest, argument.stop) && open(nest, sources, "j"))
+            Ok(pass(include_stack, argument.stop) && open(include_stack, sources, "j"))
         }
         _ => Ok(false),
     }
@@ -346,15 +346,15 @@ fn wanted<R: AllocGlobal, S: Sources>(
     sources: &mut S,
 ) -> Result<Parts, Fail> {
     let mut parts = no_parts(rt);
-    let mut nest = Files::new(rt.alloc(), 2, limits.line_bytes)?;
-    let mut goes_on = open(&mut nest, sources, "m");
+    let mut include_stack = Files::new(rt.alloc(), 2, limits.line_bytes)?;
+    let mut goes_on = open(&mut include_stack, sources, "m");
     for _ in 0..10_000 {
-        if !goes_on || nest.len() == 0 {
+        if !goes_on || include_stack.len() == 0 {
             break;
         }
-        goes_on = match nest.fill(sources) {
-            Fill::Held => take_front(&mut nest, sources, &mut parts)?,
-            Fill::End => leave(&mut nest, &mut parts)?,
+        goes_on = match include_stack.fill(sources) {
+            Fill::Held => take_front(&mut include_stack, sources, &mut parts)?,
+            Fill::End => leave(&mut include_stack, &mut parts)?,
             _ => false,
         };
     }

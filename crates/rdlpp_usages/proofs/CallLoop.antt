@@ -12,9 +12,9 @@ use Rattle.rdlpp_meaning.specs.Parts.{only_blanks}
 use Rattle.rdlpp_meaning.proofs.ReadCalls.{onto_kept-append, onto_kept-nil, read_closed, read_refused, read_stopped}
 use Rattle.rdlpp_meaning.proofs.LiveText.{only_blanks-append}
 use Rattle.rdlpp_read.specs.Buffer.{BufferView, EndsHeld, MovesOver, ahead_of, entered_mode, held_of, rest_of, text_left, tokens_left, unused_of}
-use Rattle.rdlpp_read.specs.Files.{FilesView, consumed_file, inner_buffer, torn_after, with_buffer, with_inner}
+use Rattle.rdlpp_read.specs.Files.{FilesView, consumed_file, inner_buffer, ends_mid_line_after, with_buffer, with_inner}
 use Rattle.rdlpp_read.specs.declared.files.File.{File}
-use Rattle.rdlpp_read.proofs.BufferTokens.{ends_line, moves-on, moves-past, moves-told, text-on, text-past, torn_after-append}
+use Rattle.rdlpp_read.proofs.BufferTokens.{ends_line, moves-on, moves-past, moves-told, text-on, text-past, ends_mid_line_after-append}
 use Rattle.rdlpp_usages.specs.CallReads.{TellsCall, used_buffer, with_used, IsEndOfText, IsEnded, IsExactCall, IsTaken, ReadsCall, ReadsUpTo, is_failed_call, IsCallOf, MeansCall}
 use Rattle.rdlpp_usages.specs.Reads.{Closes, GoesOn, reading}
 use Rattle.rdlpp_usages.specs.CallActions.{Around, IsAround, IsClose, IsConsumed, kept_of, call_state_meant, tokens_at, tokens_behind, IsAction, level_in}
@@ -194,62 +194,62 @@ tells_told tells unread at room k u f g (BrokenCall kind line) a = λ t. a tt
 tells_told tells unread at room k u f g Failed a = record { to = a.to; goes_on = goes_on_told tells unread at a.to room k u f g a.goes_on }
 
 -- bytes that were used, and bytes behind them
-pub used_twice : {R : Type 0} (f g : BufferView R) (x y : List ℕ) (nest : List (File R)) → with_used g y (with_used f x nest) ≡ with_used g (x ++ y) nest
+pub used_twice : {R : Type 0} (f g : BufferView R) (x y : List ℕ) (include_stack : List (File R)) → with_used g y (with_used f x include_stack) ≡ with_used g (x ++ y) include_stack
 used_twice f g x y [] = refl
-used_twice f g x y (s ∷ outer) = rw (only_blanks-append s.blanks x y, torn_after-append s.torn x y) refl
+used_twice f g x y (s ∷ outer) = rw (only_blanks-append s.blanks x y, ends_mid_line_after-append s.ends_mid_line x y) refl
 
 -- another buffer, of which nothing more was used
-pub used_none : {R : Type 0} (f : BufferView R) (nest : List (File R)) → with_buffer f nest ≡ with_used f [] nest
-unfolding only_blanks torn_after
+pub used_none : {R : Type 0} (f : BufferView R) (include_stack : List (File R)) → with_buffer f include_stack ≡ with_used f [] include_stack
+unfolding only_blanks ends_mid_line_after
 used_none f [] = refl
 used_none f (s ∷ outer) = refl
 
 -- the innermost of sources of which bytes were used
-pub used_inner : {R : Type 0} (f : BufferView R) (x : List ℕ) (nest : List (File R)) → 0 < length nest → inner_buffer (with_used f x nest) ≡ f
+pub used_inner : {R : Type 0} (f : BufferView R) (x : List ℕ) (include_stack : List (File R)) → 0 < length include_stack → inner_buffer (with_used f x include_stack) ≡ f
 used_inner f x [] some = absurd (omega arith)
 used_inner f x (s ∷ outer) some = refl
 
 -- a mode that is entered changes nothing that is held
-pub entered_held : {R : Type 0} (next : Mode) (nest : List (File R)) → held_of (inner_buffer (with_buffer (entered_mode (inner_buffer nest) next) nest)) ≡ held_of (inner_buffer nest)
+pub entered_held : {R : Type 0} (next : Mode) (include_stack : List (File R)) → held_of (inner_buffer (with_buffer (entered_mode (inner_buffer include_stack) next) include_stack)) ≡ held_of (inner_buffer include_stack)
 unfolding held_of entered_mode
 entered_held next [] = refl
 entered_held next (s ∷ outer) = refl
 
 -- a mode that is entered, and held bytes that are used
-pub used_is : {R : Type 0} (len lines : ℕ) (next : Mode) (nest : List (File R)) → lines ≡ line_ends (take len (held_of (inner_buffer nest)))
-    → with_inner (consumed_file len lines) (with_buffer (entered_mode (inner_buffer nest) next) nest)
-    ≡ with_used (used_buffer (inner_buffer nest) len next) (take len (held_of (inner_buffer nest))) nest
+pub used_is : {R : Type 0} (len lines : ℕ) (next : Mode) (include_stack : List (File R)) → lines ≡ line_ends (take len (held_of (inner_buffer include_stack)))
+    → with_inner (consumed_file len lines) (with_buffer (entered_mode (inner_buffer include_stack) next) include_stack)
+    ≡ with_used (used_buffer (inner_buffer include_stack) len next) (take len (held_of (inner_buffer include_stack))) include_stack
 unfolding held_of entered_mode
 used_is len lines next [] e = refl
 used_is len lines next (s ∷ outer) e = rw e refl
 
 -- the same of the files
-pub used_files : {R : Type 0} (len lines : ℕ) (next : Mode) (files mid new : FilesView R) → mid ≡ record files { nest = with_buffer (entered_mode (inner_buffer files.nest) next) files.nest }
-    → new ≡ record mid { nest = with_inner (consumed_file len lines) mid.nest } → lines ≡ line_ends (take len (held_of (inner_buffer files.nest)))
-    → new ≡ record files { nest = with_used (used_buffer (inner_buffer files.nest) len next) (take len (held_of (inner_buffer files.nest))) files.nest }
+pub used_files : {R : Type 0} (len lines : ℕ) (next : Mode) (files mid new : FilesView R) → mid ≡ record files { include_stack = with_buffer (entered_mode (inner_buffer files.include_stack) next) files.include_stack }
+    → new ≡ record mid { include_stack = with_inner (consumed_file len lines) mid.include_stack } → lines ≡ line_ends (take len (held_of (inner_buffer files.include_stack)))
+    → new ≡ record files { include_stack = with_used (used_buffer (inner_buffer files.include_stack) len next) (take len (held_of (inner_buffer files.include_stack))) files.include_stack }
 used_files {R = R} len lines next files mid new entered used counted =
-    let F : FilesView R → FilesView R = λ m. record m { nest = with_inner (consumed_file len lines) m.nest } in
-    let G : List (File R) → FilesView R = λ n. record files { nest = n } in
-    used ∙ ap F entered ∙ ap G (used_is len lines next files.nest counted)
+    let F : FilesView R → FilesView R = λ m. record m { include_stack = with_inner (consumed_file len lines) m.include_stack } in
+    let G : List (File R) → FilesView R = λ n. record files { include_stack = n } in
+    used ∙ ap F entered ∙ ap G (used_is len lines next files.include_stack counted)
 
 -- The reading of a call as it goes on: what was read so far, and what each turn makes of it.
 
 -- a call of which some was read: the store has what is kept of the used bytes, and reading goes on where it stands
 pub record IsReading {S R : Type 0} (g : Ghosts S R) (failed : Bool) (first now : S) (old new : FilesView R) (most : ℕ) (store : StoreView) (at : CallState) : Type 0 where
   pub used : List ℕ
-  pub only : new ≡ record old { nest = new.nest }
-  pub inner : new.nest ≡ with_used (inner_buffer new.nest) used old.nest
-  pub goes_on : GoesOn (g.tells first) g.unread Before at most store.bytes used (inner_buffer old.nest) (inner_buffer new.nest)
+  pub only : new ≡ record old { include_stack = new.include_stack }
+  pub inner : new.include_stack ≡ with_used (inner_buffer new.include_stack) used old.include_stack
+  pub goes_on : GoesOn (g.tells first) g.unread Before at most store.bytes used (inner_buffer old.include_stack) (inner_buffer new.include_stack)
   pub room : store.most ≡ most
   pub level : level_in at ≤ length store.bytes
-  pub lead : at ≡ Before → (inner_buffer new.nest).mode ≢ InStr
-  pub moves : MovesOver (g.tells first) Unit g.unread used (inner_buffer old.nest) (inner_buffer new.nest)
-  pub text : g.tells first → text_left g.unread (inner_buffer old.nest) ≡ used ++ text_left g.unread (inner_buffer new.nest)
+  pub lead : at ≡ Before → (inner_buffer new.include_stack).mode ≢ InStr
+  pub moves : MovesOver (g.tells first) Unit g.unread used (inner_buffer old.include_stack) (inner_buffer new.include_stack)
+  pub text : g.tells first → text_left g.unread (inner_buffer old.include_stack) ≡ used ++ text_left g.unread (inner_buffer new.include_stack)
   pub call : SourcesRead g failed first now
 
 -- sources of which nothing was used
-same_used : {R : Type 0} (nest : List (File R)) → nest ≡ with_used (inner_buffer nest) [] nest
-unfolding only_blanks torn_after
+same_used : {R : Type 0} (include_stack : List (File R)) → include_stack ≡ with_used (inner_buffer include_stack) [] include_stack
+unfolding only_blanks ends_mid_line_after
 same_used [] = refl
 same_used (f ∷ outer) = refl
 
@@ -268,19 +268,19 @@ not_asked g s = record { failures = refl; refusals = refl; tells = λ t. t; cata
 
 -- nothing was read yet
 pub reading_starts : {S R : Type 0} (g : Ghosts S R) (s : S) (files : FilesView R) (most : ℕ) (store : StoreView) → store.bytes ≡ [] → store.most ≡ most
-    → (inner_buffer files.nest).mode ≡ Plain → IsReading g false s s files files most store Before
+    → (inner_buffer files.include_stack).mode ≡ Plain → IsReading g false s s files files most store Before
 unfolding level_in
 reading_starts g s files most store none room plain =
     record {
       used = [];
       only = refl;
-      inner = same_used files.nest;
-      goes_on = subst (λ (k : List ℕ). GoesOn (g.tells s) g.unread Before Before most k [] (inner_buffer files.nest) (inner_buffer files.nest)) (sym none)
-          (fill_goes_on (g.tells s) g.unread Before most (inner_buffer files.nest) (inner_buffer files.nest) refl refl (λ t. refl));
+      inner = same_used files.include_stack;
+      goes_on = subst (λ (k : List ℕ). GoesOn (g.tells s) g.unread Before Before most k [] (inner_buffer files.include_stack) (inner_buffer files.include_stack)) (sym none)
+          (fill_goes_on (g.tells s) g.unread Before most (inner_buffer files.include_stack) (inner_buffer files.include_stack) refl refl (λ t. refl));
       room = room;
       level = omega arith;
       lead = λ _ open_. (let no : Plain ≡ InStr = sym plain ∙ open_ in cc);
-      moves = same_moves (g.tells s) Unit g.unread (inner_buffer files.nest);
+      moves = same_moves (g.tells s) Unit g.unread (inner_buffer files.include_stack);
       text = λ t. refl;
       call = not_asked g s;
     }
@@ -294,28 +294,28 @@ used_on {R = R} old mid new x y a b =
 -- a buffer was filled, and the tokens stay
 pub filled : {S R : Type 0} (g : Ghosts S R) (failed : Bool) (first now after : S) (old mid new : FilesView R) (most : ℕ) (store : StoreView) (at : CallState)
     → IsReading g false first now old mid most store at
-    → new ≡ record mid { nest = with_buffer (inner_buffer new.nest) mid.nest }
-    → unused_of (inner_buffer new.nest) ≡ unused_of (inner_buffer mid.nest) → (inner_buffer new.nest).mode ≡ (inner_buffer mid.nest).mode
-    → (g.tells now → tokens_left g.unread (inner_buffer new.nest) ≡ tokens_left g.unread (inner_buffer mid.nest))
-    → MovesOver (g.tells now) Unit g.unread [] (inner_buffer mid.nest) (inner_buffer new.nest)
-    → (g.tells now → text_left g.unread (inner_buffer new.nest) ≡ text_left g.unread (inner_buffer mid.nest))
+    → new ≡ record mid { include_stack = with_buffer (inner_buffer new.include_stack) mid.include_stack }
+    → unused_of (inner_buffer new.include_stack) ≡ unused_of (inner_buffer mid.include_stack) → (inner_buffer new.include_stack).mode ≡ (inner_buffer mid.include_stack).mode
+    → (g.tells now → tokens_left g.unread (inner_buffer new.include_stack) ≡ tokens_left g.unread (inner_buffer mid.include_stack))
+    → MovesOver (g.tells now) Unit g.unread [] (inner_buffer mid.include_stack) (inner_buffer new.include_stack)
+    → (g.tells now → text_left g.unread (inner_buffer new.include_stack) ≡ text_left g.unread (inner_buffer mid.include_stack))
     → SourcesRead g failed now after
     → IsReading g failed first after old new most store at
 filled g failed first now after old mid new most store at r only unused mode tokens moves text call =
-    let nest : new.nest ≡ with_used (inner_buffer new.nest) [] mid.nest = ap (λ f. f.nest) only ∙ used_none (inner_buffer new.nest) mid.nest in
+    let include_stack : new.include_stack ≡ with_used (inner_buffer new.include_stack) [] mid.include_stack = ap (λ f. f.include_stack) only ∙ used_none (inner_buffer new.include_stack) mid.include_stack in
     record {
       used = r.used ++ [];
       only = (let o = r.only in cc);
-      inner = used_on old.nest mid.nest new.nest r.used [] r.inner nest;
-      goes_on = subst (λ (k : List ℕ). GoesOn (g.tells first) g.unread Before at most k (r.used ++ []) (inner_buffer old.nest) (inner_buffer new.nest)) (append-nil store.bytes)
-          (goes_on_twice (g.tells first) g.unread Before at at most store.bytes [] r.used [] (inner_buffer old.nest) (inner_buffer mid.nest) (inner_buffer new.nest) r.goes_on
-          (fill_goes_on (g.tells first) g.unread at (most - length store.bytes) (inner_buffer mid.nest) (inner_buffer new.nest) unused mode (λ t. tokens (r.call.tells t))));
+      inner = used_on old.include_stack mid.include_stack new.include_stack r.used [] r.inner include_stack;
+      goes_on = subst (λ (k : List ℕ). GoesOn (g.tells first) g.unread Before at most k (r.used ++ []) (inner_buffer old.include_stack) (inner_buffer new.include_stack)) (append-nil store.bytes)
+          (goes_on_twice (g.tells first) g.unread Before at at most store.bytes [] r.used [] (inner_buffer old.include_stack) (inner_buffer mid.include_stack) (inner_buffer new.include_stack) r.goes_on
+          (fill_goes_on (g.tells first) g.unread at (most - length store.bytes) (inner_buffer mid.include_stack) (inner_buffer new.include_stack) unused mode (λ t. tokens (r.call.tells t))));
       room = r.room;
       level = r.level;
       lead = λ before open_. r.lead before (sym mode ∙ open_);
-      moves = moves-on (g.tells first) (g.tells first) (g.tells now) Unit Unit g.unread r.used [] (inner_buffer old.nest) (inner_buffer mid.nest) (inner_buffer new.nest) (λ t. t) r.call.tells (λ e. e) r.moves moves;
+      moves = moves-on (g.tells first) (g.tells first) (g.tells now) Unit Unit g.unread r.used [] (inner_buffer old.include_stack) (inner_buffer mid.include_stack) (inner_buffer new.include_stack) (λ t. t) r.call.tells (λ e. e) r.moves moves;
       text = λ t.
-          text-on r.used [] (text_left g.unread (inner_buffer old.nest)) (text_left g.unread (inner_buffer mid.nest)) (text_left g.unread (inner_buffer new.nest))
+          text-on r.used [] (text_left g.unread (inner_buffer old.include_stack)) (text_left g.unread (inner_buffer mid.include_stack)) (text_left g.unread (inner_buffer new.include_stack))
           (r.text t) (sym (text (r.call.tells t)));
       call = calls-on g failed first now after r.call call;
     }
@@ -323,8 +323,8 @@ filled g failed first now after old mid new most store at r only unused mode tok
 -- a token was taken
 pub taken : {S R : Type 0} (g : Ghosts S R) (first now : S) (old mid new : FilesView R) (most : ℕ) (store after : StoreView) (at to : CallState)
     → IsReading g false first now old mid most store at
-    → new ≡ record mid { nest = new.nest } → after.most ≡ store.most
-    → IsTaken at to (store.most - length store.bytes) store.bytes after.bytes mid.nest new.nest
+    → new ≡ record mid { include_stack = new.include_stack } → after.most ≡ store.most
+    → IsTaken at to (store.most - length store.bytes) store.bytes after.bytes mid.include_stack new.include_stack
     → IsReading g false first now old new most after to
 taken {R = R} g first now old mid new most store after at to r only room t =
     let size : length after.bytes ≡ length store.bytes + length t.kept = ap length t.bytes ∙ length-append store.bytes t.kept in
@@ -333,17 +333,17 @@ taken {R = R} g first now old mid new most store after at to r only room t =
     record {
       used = r.used ++ t.used;
       only = (let o = r.only in cc);
-      inner = used_on old.nest mid.nest new.nest r.used t.used r.inner t.inner;
-      goes_on = subst (λ (k : List ℕ). GoesOn (g.tells first) g.unread Before to most k (r.used ++ t.used) (inner_buffer old.nest) (inner_buffer new.nest)) (sym t.bytes)
-          (goes_on_twice (g.tells first) g.unread Before at to most store.bytes t.kept r.used t.used (inner_buffer old.nest) (inner_buffer mid.nest) (inner_buffer new.nest) r.goes_on
-          (goes_on_told (g.tells first) g.unread at to (most - length store.bytes) t.kept t.used (inner_buffer mid.nest) (inner_buffer new.nest)
-          (subst (λ n. GoesOn Unit g.unread at to (n - length store.bytes) t.kept t.used (inner_buffer mid.nest) (inner_buffer new.nest)) r.room (t.goes_on g.unread))));
+      inner = used_on old.include_stack mid.include_stack new.include_stack r.used t.used r.inner t.inner;
+      goes_on = subst (λ (k : List ℕ). GoesOn (g.tells first) g.unread Before to most k (r.used ++ t.used) (inner_buffer old.include_stack) (inner_buffer new.include_stack)) (sym t.bytes)
+          (goes_on_twice (g.tells first) g.unread Before at to most store.bytes t.kept r.used t.used (inner_buffer old.include_stack) (inner_buffer mid.include_stack) (inner_buffer new.include_stack) r.goes_on
+          (goes_on_told (g.tells first) g.unread at to (most - length store.bytes) t.kept t.used (inner_buffer mid.include_stack) (inner_buffer new.include_stack)
+          (subst (λ n. GoesOn Unit g.unread at to (n - length store.bytes) t.kept t.used (inner_buffer mid.include_stack) (inner_buffer new.include_stack)) r.room (t.goes_on g.unread))));
       room = room ∙ r.room;
       level = omega arith;
       lead = t.lead;
-      moves = moves-on (g.tells first) (g.tells first) Unit Unit Unit g.unread r.used t.used (inner_buffer old.nest) (inner_buffer mid.nest) (inner_buffer new.nest) (λ t. t) (λ _. tt) (λ e. e) r.moves (t.moves g.unread);
+      moves = moves-on (g.tells first) (g.tells first) Unit Unit Unit g.unread r.used t.used (inner_buffer old.include_stack) (inner_buffer mid.include_stack) (inner_buffer new.include_stack) (λ t. t) (λ _. tt) (λ e. e) r.moves (t.moves g.unread);
       text = λ told.
-          text-on r.used t.used (text_left g.unread (inner_buffer old.nest)) (text_left g.unread (inner_buffer mid.nest)) (text_left g.unread (inner_buffer new.nest))
+          text-on r.used t.used (text_left g.unread (inner_buffer old.include_stack)) (text_left g.unread (inner_buffer mid.include_stack)) (text_left g.unread (inner_buffer new.include_stack))
           (r.text told) (t.text g.unread);
       call = r.call;
     }
@@ -351,81 +351,81 @@ taken {R = R} g first now old mid new most store after at to r only room t =
 -- an answer behind what was read
 pub answered : {S R : Type 0} (g : Ghosts S R) (first now : S) (old mid : FilesView R) (new : List (File R)) (most : ℕ) (store : StoreView) (at : CallState) (used : List ℕ) (result : CallRead)
     → IsReading g false first now old mid most store at
-    → new ≡ with_used (inner_buffer new) used mid.nest → unused_of (inner_buffer new) + length used ≡ unused_of (inner_buffer mid.nest)
-    → MovesOver (g.tells first) (IsExactCall result) g.unread used (inner_buffer mid.nest) (inner_buffer new)
-    → (IsExactCall result → g.tells first → text_left g.unread (inner_buffer mid.nest) ≡ used ++ text_left g.unread (inner_buffer new))
-    → TellsCall (g.tells first) g.unread at (most - length store.bytes) [] used (inner_buffer mid.nest) (inner_buffer new) result
-    → ReadsUpTo (g.tells first) g.unread at (most - length store.bytes) [] (inner_buffer mid.nest) (inner_buffer new)
-    → ReadsCall (g.tells first) g.unread Before most store.bytes result old.nest new
+    → new ≡ with_used (inner_buffer new) used mid.include_stack → unused_of (inner_buffer new) + length used ≡ unused_of (inner_buffer mid.include_stack)
+    → MovesOver (g.tells first) (IsExactCall result) g.unread used (inner_buffer mid.include_stack) (inner_buffer new)
+    → (IsExactCall result → g.tells first → text_left g.unread (inner_buffer mid.include_stack) ≡ used ++ text_left g.unread (inner_buffer new))
+    → TellsCall (g.tells first) g.unread at (most - length store.bytes) [] used (inner_buffer mid.include_stack) (inner_buffer new) result
+    → ReadsUpTo (g.tells first) g.unread at (most - length store.bytes) [] (inner_buffer mid.include_stack) (inner_buffer new)
+    → ReadsCall (g.tells first) g.unread Before most store.bytes result old.include_stack new
 answered g first now old mid new most store at used result r inner unused moves text tells so =
     let on = r.goes_on.unused in
     record {
       used = r.used ++ used;
-      inner = used_on old.nest mid.nest new r.used used r.inner inner;
+      inner = used_on old.include_stack mid.include_stack new r.used used r.inner inner;
       unused = omega (arith, length-append r.used used);
-      moves = moves-on (g.tells first) (g.tells first) (g.tells first) (IsExactCall result) (IsExactCall result) g.unread r.used used (inner_buffer old.nest) (inner_buffer mid.nest) (inner_buffer new)
+      moves = moves-on (g.tells first) (g.tells first) (g.tells first) (IsExactCall result) (IsExactCall result) g.unread r.used used (inner_buffer old.include_stack) (inner_buffer mid.include_stack) (inner_buffer new)
           (λ t. t) (λ t. t) (λ e. e) r.moves moves;
       so_far = record {
         to = so.to;
         used = r.used ++ so.used;
         there = so.there;
-        goes_on = subst (λ (k : List ℕ). GoesOn (g.tells first) g.unread Before so.to most k (r.used ++ so.used) (inner_buffer old.nest) so.there) (append-nil store.bytes)
-            (goes_on_twice (g.tells first) g.unread Before at so.to most store.bytes [] r.used so.used (inner_buffer old.nest) (inner_buffer mid.nest) so.there r.goes_on so.goes_on);
+        goes_on = subst (λ (k : List ℕ). GoesOn (g.tells first) g.unread Before so.to most k (r.used ++ so.used) (inner_buffer old.include_stack) so.there) (append-nil store.bytes)
+            (goes_on_twice (g.tells first) g.unread Before at so.to most store.bytes [] r.used so.used (inner_buffer old.include_stack) (inner_buffer mid.include_stack) so.there r.goes_on so.goes_on);
         whole = (let more = so.whole in omega (arith, length-append r.used so.used, on, more));
       };
       text = λ exact t.
-          text-on r.used used (text_left g.unread (inner_buffer old.nest)) (text_left g.unread (inner_buffer mid.nest)) (text_left g.unread (inner_buffer new))
+          text-on r.used used (text_left g.unread (inner_buffer old.include_stack)) (text_left g.unread (inner_buffer mid.include_stack)) (text_left g.unread (inner_buffer new))
           (r.text t) (text exact t);
-      answer = subst (λ (k : List ℕ). TellsCall (g.tells first) g.unread Before most k (r.used ++ used) (inner_buffer old.nest) (inner_buffer new) result) (append-nil store.bytes)
-          (tells_behind (g.tells first) g.unread Before at most store.bytes [] r.used used (inner_buffer old.nest) (inner_buffer mid.nest) (inner_buffer new) result r.goes_on tells);
+      answer = subst (λ (k : List ℕ). TellsCall (g.tells first) g.unread Before most k (r.used ++ used) (inner_buffer old.include_stack) (inner_buffer new) result) (append-nil store.bytes)
+          (tells_behind (g.tells first) g.unread Before at most store.bytes [] r.used used (inner_buffer old.include_stack) (inner_buffer mid.include_stack) (inner_buffer new) result r.goes_on tells);
     }
 
 -- an answer at a token
 pub answered_token : {S R : Type 0} (g : Ghosts S R) (first now : S) (old mid : FilesView R) (new : List (File R)) (most : ℕ) (store after : StoreView) (at : CallState) (result : CallRead)
     → IsReading g false first now old mid most store at
-    → IsEnded at (store.most - length store.bytes) store.bytes after.bytes mid.nest new result
-    → ReadsCall (g.tells first) g.unread Before most after.bytes result old.nest new
+    → IsEnded at (store.most - length store.bytes) store.bytes after.bytes mid.include_stack new result
+    → ReadsCall (g.tells first) g.unread Before most after.bytes result old.include_stack new
 answered_token g first now old mid new most store after at result r e =
     let c = e.reads g.unread in
-    subst (λ (k : List ℕ). ReadsCall (g.tells first) g.unread Before most k result old.nest new) (sym e.bytes)
-    (answered g first now old mid new most store at c.used result r c.inner c.unused (moves-told (g.tells first) Unit (IsExactCall result) (IsExactCall result) g.unread c.used (inner_buffer mid.nest) (inner_buffer new) (λ t. tt) (λ e. e) c.moves)
+    subst (λ (k : List ℕ). ReadsCall (g.tells first) g.unread Before most k result old.include_stack new) (sym e.bytes)
+    (answered g first now old mid new most store at c.used result r c.inner c.unused (moves-told (g.tells first) Unit (IsExactCall result) (IsExactCall result) g.unread c.used (inner_buffer mid.include_stack) (inner_buffer new) (λ t. tt) (λ e. e) c.moves)
     (λ exact t. c.text exact tt)
-    (tells_told (g.tells first) g.unread at (most - length store.bytes) [] c.used (inner_buffer mid.nest) (inner_buffer new) result
-    (subst (λ n. TellsCall Unit g.unread at (n - length store.bytes) [] c.used (inner_buffer mid.nest) (inner_buffer new) result) r.room c.answer))
-    (let so = subst (λ n. ReadsUpTo Unit g.unread at (n - length store.bytes) [] (inner_buffer mid.nest) (inner_buffer new)) r.room c.so_far in record {
+    (tells_told (g.tells first) g.unread at (most - length store.bytes) [] c.used (inner_buffer mid.include_stack) (inner_buffer new) result
+    (subst (λ n. TellsCall Unit g.unread at (n - length store.bytes) [] c.used (inner_buffer mid.include_stack) (inner_buffer new) result) r.room c.answer))
+    (let so = subst (λ n. ReadsUpTo Unit g.unread at (n - length store.bytes) [] (inner_buffer mid.include_stack) (inner_buffer new)) r.room c.so_far in record {
       to = so.to;
       used = so.used;
       there = so.there;
-      goes_on = goes_on_told (g.tells first) g.unread at so.to (most - length store.bytes) [] so.used (inner_buffer mid.nest) so.there so.goes_on;
+      goes_on = goes_on_told (g.tells first) g.unread at so.to (most - length store.bytes) [] so.used (inner_buffer mid.include_stack) so.there so.goes_on;
       whole = so.whole;
     }))
 
 -- an answer where nothing more is held
 pub answered_unfilled : {S R : Type 0} (g : Ghosts S R) (first now : S) (old mid new : FilesView R) (most : ℕ) (store : StoreView) (at : CallState) (result : CallRead)
     → IsReading g false first now old mid most store at
-    → new ≡ record mid { nest = with_buffer (inner_buffer new.nest) mid.nest } → unused_of (inner_buffer new.nest) ≡ unused_of (inner_buffer mid.nest)
-    → MovesOver (g.tells now) (IsExactCall result) g.unread [] (inner_buffer mid.nest) (inner_buffer new.nest)
-    → (IsExactCall result → g.tells now → text_left g.unread (inner_buffer new.nest) ≡ text_left g.unread (inner_buffer mid.nest))
-    → TellsCall (g.tells first) g.unread at (most - length store.bytes) [] [] (inner_buffer mid.nest) (inner_buffer new.nest) result
-    → ReadsCall (g.tells first) g.unread Before most store.bytes result old.nest new.nest
+    → new ≡ record mid { include_stack = with_buffer (inner_buffer new.include_stack) mid.include_stack } → unused_of (inner_buffer new.include_stack) ≡ unused_of (inner_buffer mid.include_stack)
+    → MovesOver (g.tells now) (IsExactCall result) g.unread [] (inner_buffer mid.include_stack) (inner_buffer new.include_stack)
+    → (IsExactCall result → g.tells now → text_left g.unread (inner_buffer new.include_stack) ≡ text_left g.unread (inner_buffer mid.include_stack))
+    → TellsCall (g.tells first) g.unread at (most - length store.bytes) [] [] (inner_buffer mid.include_stack) (inner_buffer new.include_stack) result
+    → ReadsCall (g.tells first) g.unread Before most store.bytes result old.include_stack new.include_stack
 answered_unfilled g first now old mid new most store at result r only unused moves text tells =
-    answered g first now old mid new.nest most store at [] result r
-    (ap (λ f. f.nest) only ∙ used_none (inner_buffer new.nest) mid.nest) (omega (arith, unused))
-    (moves-told (g.tells first) (g.tells now) (IsExactCall result) (IsExactCall result) g.unread [] (inner_buffer mid.nest) (inner_buffer new.nest) r.call.tells (λ e. e) moves)
+    answered g first now old mid new.include_stack most store at [] result r
+    (ap (λ f. f.include_stack) only ∙ used_none (inner_buffer new.include_stack) mid.include_stack) (omega (arith, unused))
+    (moves-told (g.tells first) (g.tells now) (IsExactCall result) (IsExactCall result) g.unread [] (inner_buffer mid.include_stack) (inner_buffer new.include_stack) r.call.tells (λ e. e) moves)
     (λ exact t. sym (text exact (r.call.tells t))) tells
-    (reads_nothing (g.tells first) g.unread at (most - length store.bytes) (inner_buffer mid.nest) (inner_buffer new.nest) (omega (arith, unused)))
+    (reads_nothing (g.tells first) g.unread at (most - length store.bytes) (inner_buffer mid.include_stack) (inner_buffer new.include_stack) (omega (arith, unused)))
 
 -- a read failed behind what was read
 pub answered_failed : {S R : Type 0} (g : Ghosts S R) (first now : S) (old new : FilesView R) (most : ℕ) (store : StoreView) (at : CallState)
     → IsReading g true first now old new most store at
-    → ReadsCall (g.tells first) g.unread Before most store.bytes Failed old.nest new.nest
+    → ReadsCall (g.tells first) g.unread Before most store.bytes Failed old.include_stack new.include_stack
 answered_failed g first now old new most store at r =
     record {
       used = r.used;
       inner = r.inner;
       unused = r.goes_on.unused;
-      moves = moves-told (g.tells first) (g.tells first) (IsExactCall Failed) Unit g.unread r.used (inner_buffer old.nest) (inner_buffer new.nest) (λ t. t) (λ _. tt) r.moves;
-      so_far = record { to = at; used = r.used; there = inner_buffer new.nest; goes_on = r.goes_on; whole = (let on = r.goes_on.unused in omega (arith, on)) };
+      moves = moves-told (g.tells first) (g.tells first) (IsExactCall Failed) Unit g.unread r.used (inner_buffer old.include_stack) (inner_buffer new.include_stack) (λ t. t) (λ _. tt) r.moves;
+      so_far = record { to = at; used = r.used; there = inner_buffer new.include_stack; goes_on = r.goes_on; whole = (let on = r.goes_on.unused in omega (arith, on)) };
       text = λ exact t. r.text t;
       answer = record { to = at; goes_on = r.goes_on };
     }
@@ -539,31 +539,31 @@ token_closed {R = R} at m room most held bytes old new some ends there mode text
     }
 
 -- nothing was used
-nothing_used : {R : Type 0} (unread : R → List ℕ) (at : CallState) (room : ℕ) (nest : List (File R)) (result : CallRead)
-    → TellsCall Unit unread at room [] [] (inner_buffer nest) (inner_buffer nest) result → ReadsCall Unit unread at room [] result nest nest
-nothing_used unread at room nest result tells = record { used = []; inner = same_used nest; unused = omega arith; moves = same_moves Unit (IsExactCall result) unread (inner_buffer nest); so_far = reads_nothing Unit unread at room (inner_buffer nest) (inner_buffer nest) (omega arith); text = λ exact t. refl; answer = tells }
+nothing_used : {R : Type 0} (unread : R → List ℕ) (at : CallState) (room : ℕ) (include_stack : List (File R)) (result : CallRead)
+    → TellsCall Unit unread at room [] [] (inner_buffer include_stack) (inner_buffer include_stack) result → ReadsCall Unit unread at room [] result include_stack include_stack
+nothing_used unread at room include_stack result tells = record { used = []; inner = same_used include_stack; unused = omega arith; moves = same_moves Unit (IsExactCall result) unread (inner_buffer include_stack); so_far = reads_nothing Unit unread at room (inner_buffer include_stack) (inner_buffer include_stack) (omega arith); text = λ exact t. refl; answer = tells }
 
 -- a call that is refused at a token
-pub token_refused : {R : Type 0} (at : CallState) (m : Mode) (room most : ℕ) (held bytes : List ℕ) (nest : List (File R)) (kind : FaultKind)
-    → EndsHeld (inner_buffer nest) → m ≡ (inner_buffer nest).mode → held ≡ held_of (inner_buffer nest) → room ≡ most - length bytes
-    → IsAction at m room held (RefusedAction kind) → IsEnded at (most - length bytes) bytes bytes nest nest (Refused kind)
-token_refused at m room most held bytes nest kind ends mode text left law =
-    let f = inner_buffer nest in
+pub token_refused : {R : Type 0} (at : CallState) (m : Mode) (room most : ℕ) (held bytes : List ℕ) (include_stack : List (File R)) (kind : FaultKind)
+    → EndsHeld (inner_buffer include_stack) → m ≡ (inner_buffer include_stack).mode → held ≡ held_of (inner_buffer include_stack) → room ≡ most - length bytes
+    → IsAction at m room held (RefusedAction kind) → IsEnded at (most - length bytes) bytes bytes include_stack include_stack (Refused kind)
+token_refused at m room most held bytes include_stack kind ends mode text left law =
+    let f = inner_buffer include_stack in
     let own : IsAction at f.mode (most - length bytes) (held_of f) (RefusedAction kind) =
     subst (λ (d : Mode). IsAction at d (most - length bytes) (held_of f) (RefusedAction kind)) mode
     (subst (λ (xs : List ℕ). IsAction at m (most - length bytes) xs (RefusedAction kind)) text (subst (λ n. IsAction at m n held (RefusedAction kind)) left law)) in
     record {
       bytes = refl;
       answers = refl;
-      reads = λ unread. nothing_used unread at (most - length bytes) nest (Refused kind) (λ _. action_refused unread at (most - length bytes) f kind ends own);
+      reads = λ unread. nothing_used unread at (most - length bytes) include_stack (Refused kind) (λ _. action_refused unread at (most - length bytes) f kind ends own);
     }
 
 -- a call that embedded Perl breaks
-pub token_perl : {R : Type 0} (at : CallState) (m : Mode) (room most line : ℕ) (held bytes : List ℕ) (nest : List (File R))
-    → EndsHeld (inner_buffer nest) → m ≡ (inner_buffer nest).mode → held ≡ held_of (inner_buffer nest) → room ≡ most - length bytes → line ≡ (inner_buffer nest).line
-    → IsAction at m room held Perl → IsEnded at (most - length bytes) bytes bytes nest nest (Broken EmbeddedPerl line)
-token_perl at m room most line held bytes nest ends mode text left where_ law =
-    let f = inner_buffer nest in
+pub token_perl : {R : Type 0} (at : CallState) (m : Mode) (room most line : ℕ) (held bytes : List ℕ) (include_stack : List (File R))
+    → EndsHeld (inner_buffer include_stack) → m ≡ (inner_buffer include_stack).mode → held ≡ held_of (inner_buffer include_stack) → room ≡ most - length bytes → line ≡ (inner_buffer include_stack).line
+    → IsAction at m room held Perl → IsEnded at (most - length bytes) bytes bytes include_stack include_stack (Broken EmbeddedPerl line)
+token_perl at m room most line held bytes include_stack ends mode text left where_ law =
+    let f = inner_buffer include_stack in
     let own : IsAction at f.mode (most - length bytes) (held_of f) Perl =
     subst (λ (d : Mode). IsAction at d (most - length bytes) (held_of f) Perl) mode
     (subst (λ (xs : List ℕ). IsAction at m (most - length bytes) xs Perl) text (subst (λ n. IsAction at m n held Perl) left law)) in
@@ -571,7 +571,7 @@ token_perl at m room most line held bytes nest ends mode text left where_ law =
       bytes = refl;
       answers = refl;
       reads = λ unread.
-          nothing_used unread at (most - length bytes) nest (Broken EmbeddedPerl line)
+          nothing_used unread at (most - length bytes) include_stack (Broken EmbeddedPerl line)
           (λ _. action_broken unread at (most - length bytes) f EmbeddedPerl ends own ∙ ap (ReadStopped EmbeddedPerl) (sym where_));
     }
 

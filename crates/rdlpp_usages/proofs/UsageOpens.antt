@@ -41,7 +41,7 @@ use Rattle.rdlpp_texts.specs.declared.step.CursorStep.TheVariants.{Lends, Refuse
 use Rattle.rdlpp_texts.proofs.BoundParts.{count_exact}
 use Rattle.rdlpp_texts.proofs.Calling.{resumed_open, source_bound, source_breaks, source_counted, source_lacks, usage_with_list}
 use Rattle.rdlpp_read.specs.Buffer.{BufferView, EndsHeld, MovesOver, ahead_of, held_of, rest_of, text_left, tokens_left, unused_of}
-use Rattle.rdlpp_read.specs.Files.{consumed_file, inner_buffer, torn_after, with_inner}
+use Rattle.rdlpp_read.specs.Files.{consumed_file, inner_buffer, ends_mid_line_after, with_inner}
 use Rattle.rdlpp_read.specs.declared.files.File.{File}
 use Rattle.rdlpp_read.proofs.BufferTokens.{moves-on, moves-past, moves-told, text-on, text-past}
 use Rattle.rdlpp_front.specs.SourceItems.{IsUsage, usage_name}
@@ -463,11 +463,11 @@ keeps_listed None tells unread most opening arguments from now e keeps = cc e
 keeps_listed (Some fs) tells unread most opening arguments from now e keeps = keeps
 
 -- the same over sources of which the name was used, with a store of its own limit
-pub keeps_listed_by : {R : Type 0} (macros : List Macro) (id : ℕ) (tells : Type 0) (unread : R → List ℕ) (own most : ℕ) (opening : Opening) (arguments : List ℕ) (mid nest new : List (File R)) → own ≡ most → mid ≡ nest
+pub keeps_listed_by : {R : Type 0} (macros : List Macro) (id : ℕ) (tells : Type 0) (unread : R → List ℕ) (own most : ℕ) (opening : Opening) (arguments : List ℕ) (mid include_stack new : List (File R)) → own ≡ most → mid ≡ include_stack
     → is_some (macro_at macros id).formals ≡ true
-    → KeepsOpening tells unread own opening arguments (inner_buffer mid) (inner_buffer new) → KeepsUsage (macro_at macros id).formals tells unread most opening arguments (inner_buffer nest) (inner_buffer new)
-keeps_listed_by {R} macros id tells unread own most opening arguments mid nest new same is listed keeps =
-    keeps_listed (macro_at macros id).formals tells unread most opening arguments (inner_buffer nest) (inner_buffer new) listed
+    → KeepsOpening tells unread own opening arguments (inner_buffer mid) (inner_buffer new) → KeepsUsage (macro_at macros id).formals tells unread most opening arguments (inner_buffer include_stack) (inner_buffer new)
+keeps_listed_by {R} macros id tells unread own most opening arguments mid include_stack new same is listed keeps =
+    keeps_listed (macro_at macros id).formals tells unread most opening arguments (inner_buffer include_stack) (inner_buffer new) listed
     (subst (λ (ns : List (File R)). KeepsOpening tells unread most opening arguments (inner_buffer ns) (inner_buffer new)) is
     (subst (λ (n : ℕ). KeepsOpening tells unread n opening arguments (inner_buffer mid) (inner_buffer new)) same keeps))
 
@@ -511,8 +511,8 @@ name_text : {R : Type 0} (unread : R → List ℕ) (f : File R) (len : ℕ) → 
 name_text unread f len = text-past unread f.buffer (consumed_file len 0 f).buffer len (name_held f len) (name_rest unread f len)
 
 -- the bytes of a usage are used
-pub uses_name : {R : Type 0} (tells : Type 0) (unread : R → List ℕ) (opening : Opening) (nest : List (File R)) (len : ℕ) → 0 < length nest → 0 < len → len ≤ length (held_of (inner_buffer nest))
-    → UsesSource tells unread opening nest (with_inner (consumed_file len 0) nest)
+pub uses_name : {R : Type 0} (tells : Type 0) (unread : R → List ℕ) (opening : Opening) (include_stack : List (File R)) (len : ℕ) → 0 < length include_stack → 0 < len → len ≤ length (held_of (inner_buffer include_stack))
+    → UsesSource tells unread opening include_stack (with_inner (consumed_file len 0) include_stack)
 unfolding unused_of held_of
 uses_name tells unread opening [] len some has inside = absurd (omega arith)
 uses_name tells unread opening (f ∷ outer) len some has inside =
@@ -553,7 +553,7 @@ uses_more {R} tells unread opening old mid new name c =
     record {
       used = name.used ++ c.used;
       some = omega arith;
-      inner = c.inner ∙ ap (λ (nest : List (File R)). with_used (inner_buffer new) c.used nest) name.inner ∙ used_twice (inner_buffer mid) (inner_buffer new) name.used c.used old;
+      inner = c.inner ∙ ap (λ (include_stack : List (File R)). with_used (inner_buffer new) c.used include_stack) name.inner ∙ used_twice (inner_buffer mid) (inner_buffer new) name.used c.used old;
       unused = omega arith;
       moves = moves-on tells tells tells (IsExactOpening opening) (IsExactOpening opening) unread name.used c.used (inner_buffer old) (inner_buffer mid) (inner_buffer new) (λ t. t) (λ t. t) (λ e. e)
           (moves-told tells tells Unit (IsExactOpening Opened) unread name.used (inner_buffer old) (inner_buffer mid) (λ t. t) (λ _ own e. cc) name.moves) c.moves;
@@ -564,11 +564,11 @@ uses_more {R} tells unread opening old mid new name c =
 
 module _ {R : Type 0} (rules : Rules) (unread : R → List ℕ) (ws : List Waiting) (os : List Progress) (s : State) (macros : List Macro) (depth most id len : ℕ) where
   -- a usage of a macro without a list
-  pub body_means : (nest : List (File R)) (e : ExpansionView) → 0 < length nest → EndsHeld (inner_buffer nest) → 0 < length (held_of (inner_buffer nest)) → (inner_buffer nest).mode ≡ Plain
-      → IsUsage (held_of (inner_buffer nest)) len → IsRun rules s macros depth most → 0 < depth
-      → macro_named macros (usage_name (held_of (inner_buffer nest)) len) ≡ Some (macro_at macros id) → (macro_at macros id).formals ≡ None
-      → e.opens ≡ open_body (texts_of macros []) id [] 0 ∷ [] → e.line ≡ (inner_buffer nest).line → e.depth ≡ depth
-      → TellsUsage rules s unread ws os macros (inner_buffer nest).line (usage_name (held_of (inner_buffer nest)) len) Opened e nest (with_inner (consumed_file len 0) nest)
+  pub body_means : (include_stack : List (File R)) (e : ExpansionView) → 0 < length include_stack → EndsHeld (inner_buffer include_stack) → 0 < length (held_of (inner_buffer include_stack)) → (inner_buffer include_stack).mode ≡ Plain
+      → IsUsage (held_of (inner_buffer include_stack)) len → IsRun rules s macros depth most → 0 < depth
+      → macro_named macros (usage_name (held_of (inner_buffer include_stack)) len) ≡ Some (macro_at macros id) → (macro_at macros id).formals ≡ None
+      → e.opens ≡ open_body (texts_of macros []) id [] 0 ∷ [] → e.line ≡ (inner_buffer include_stack).line → e.depth ≡ depth
+      → TellsUsage rules s unread ws os macros (inner_buffer include_stack).line (usage_name (held_of (inner_buffer include_stack)) len) Opened e include_stack (with_inner (consumed_file len 0) include_stack)
   body_means [] e some ends held plain usage run room found formals opens line same = absurd (omega arith)
   body_means (f ∷ outer) e some ends held plain usage run room found formals opens line same =
       usage_opens_body rules unread ws os s macros depth most id len f outer e (usage_name (held_of f.buffer) len)
@@ -580,19 +580,19 @@ module _ {R : Type 0} (rules : Rules) (unread : R → List ℕ) (ws : List Waiti
   some_list (Some fs) e = (fs, refl)
 
   -- a usage of one with a list, by what its call comes to
-  pub call_means : (tells : Type 0) (opening : Opening) (nest new : List (File R)) (e : ExpansionView) → 0 < length nest → EndsHeld (inner_buffer nest) → 0 < length (held_of (inner_buffer nest))
-      → (inner_buffer nest).mode ≡ Plain → IsUsage (held_of (inner_buffer nest)) len → IsRun rules s macros depth most → 0 < depth
-      → macro_named macros (usage_name (held_of (inner_buffer nest)) len) ≡ Some (macro_at macros id) → is_some (macro_at macros id).formals ≡ true
-      → TellsCallUsage tells unread most macros id opening e.opens e.arguments (inner_buffer (with_inner (consumed_file len 0) nest)) (inner_buffer new)
-      → UsesCall tells unread opening (with_inner (consumed_file len 0) nest) new → tells
-      → (opening ≡ Opened → e.line ≡ (inner_buffer nest).line) → e.depth ≡ depth
-      → TellsUsage rules s unread ws os macros (inner_buffer nest).line (usage_name (held_of (inner_buffer nest)) len) opening e nest new
+  pub call_means : (tells : Type 0) (opening : Opening) (include_stack new : List (File R)) (e : ExpansionView) → 0 < length include_stack → EndsHeld (inner_buffer include_stack) → 0 < length (held_of (inner_buffer include_stack))
+      → (inner_buffer include_stack).mode ≡ Plain → IsUsage (held_of (inner_buffer include_stack)) len → IsRun rules s macros depth most → 0 < depth
+      → macro_named macros (usage_name (held_of (inner_buffer include_stack)) len) ≡ Some (macro_at macros id) → is_some (macro_at macros id).formals ≡ true
+      → TellsCallUsage tells unread most macros id opening e.opens e.arguments (inner_buffer (with_inner (consumed_file len 0) include_stack)) (inner_buffer new)
+      → UsesCall tells unread opening (with_inner (consumed_file len 0) include_stack) new → tells
+      → (opening ≡ Opened → e.line ≡ (inner_buffer include_stack).line) → e.depth ≡ depth
+      → TellsUsage rules s unread ws os macros (inner_buffer include_stack).line (usage_name (held_of (inner_buffer include_stack)) len) opening e include_stack new
   call_means tells opening [] new e some ends held plain usage run room found listed t uses told line same = absurd (omega arith)
   call_means tells Opened (f ∷ outer) new e some ends held plain usage run room found listed t uses told line same =
       let fs = some_list (macro_at macros id).formals listed in
       let b = inner_buffer new in
       let mid = consumed_file len 0 f in
-      let changed : File R = record mid { buffer = b; blanks = only_blanks mid.blanks uses.used; torn = torn_after mid.torn uses.used } in
+      let changed : File R = record mid { buffer = b; blanks = only_blanks mid.blanks uses.used; ends_mid_line = ends_mid_line_after mid.ends_mid_line uses.used } in
       subst (λ (ns : List (File R)). TellsUsage rules s unread ws os macros f.buffer.line (usage_name (held_of f.buffer) len) Opened e (f ∷ outer) ns) (sym uses.inner)
       (usage_opens_call rules unread ws os s macros depth most id len f outer changed uses.used e tells (usage_name (held_of f.buffer) len) fs.0
       (record { some = held; ends = ends }) plain usage run room found fs.1 t
@@ -608,15 +608,15 @@ module _ {R : Type 0} (rules : Rules) (unread : R → List ℕ) (ws : List Waiti
   call_means tells Failed (f ∷ outer) new e some ends held plain usage run room found listed t uses told line same = tt
 
   -- the same over sources of which the name was used, with a store of its own limit
-  pub call_means_by : (tells : Type 0) (opening : Opening) (nest mid new : List (File R)) (e : ExpansionView) (own : ℕ) → own ≡ most → mid ≡ with_inner (consumed_file len 0) nest
-      → 0 < length nest → EndsHeld (inner_buffer nest) → 0 < length (held_of (inner_buffer nest))
-      → (inner_buffer nest).mode ≡ Plain → IsUsage (held_of (inner_buffer nest)) len → IsRun rules s macros depth most → 0 < depth
-      → macro_named macros (usage_name (held_of (inner_buffer nest)) len) ≡ Some (macro_at macros id) → is_some (macro_at macros id).formals ≡ true
+  pub call_means_by : (tells : Type 0) (opening : Opening) (include_stack mid new : List (File R)) (e : ExpansionView) (own : ℕ) → own ≡ most → mid ≡ with_inner (consumed_file len 0) include_stack
+      → 0 < length include_stack → EndsHeld (inner_buffer include_stack) → 0 < length (held_of (inner_buffer include_stack))
+      → (inner_buffer include_stack).mode ≡ Plain → IsUsage (held_of (inner_buffer include_stack)) len → IsRun rules s macros depth most → 0 < depth
+      → macro_named macros (usage_name (held_of (inner_buffer include_stack)) len) ≡ Some (macro_at macros id) → is_some (macro_at macros id).formals ≡ true
       → TellsCallUsage tells unread own macros id opening e.opens e.arguments (inner_buffer mid) (inner_buffer new) → UsesCall tells unread opening mid new → tells
-      → (opening ≡ Opened → e.line ≡ (inner_buffer nest).line) → e.depth ≡ depth
-      → TellsUsage rules s unread ws os macros (inner_buffer nest).line (usage_name (held_of (inner_buffer nest)) len) opening e nest new
-  call_means_by tells opening nest mid new e own same_most is some ends held plain usage run room found listed t uses told line same =
-      call_means tells opening nest new e some ends held plain usage run room found listed
+      → (opening ≡ Opened → e.line ≡ (inner_buffer include_stack).line) → e.depth ≡ depth
+      → TellsUsage rules s unread ws os macros (inner_buffer include_stack).line (usage_name (held_of (inner_buffer include_stack)) len) opening e include_stack new
+  call_means_by tells opening include_stack mid new e own same_most is some ends held plain usage run room found listed t uses told line same =
+      call_means tells opening include_stack new e some ends held plain usage run room found listed
       (subst (λ (ns : List (File R)). TellsCallUsage tells unread most macros id opening e.opens e.arguments (inner_buffer ns) (inner_buffer new)) is
       (subst (λ (n : ℕ). TellsCallUsage tells unread n macros id opening e.opens e.arguments (inner_buffer mid) (inner_buffer new)) same_most t))
       (subst (λ (ns : List (File R)). UsesCall tells unread opening ns new) is uses) told line same

@@ -16,7 +16,7 @@ use Rattle.rdlpp_meaning.specs.Substitution.{body_tokens}
 use Rattle.rdlpp_meaning.specs.Items.{unlined}
 use Rattle.rdlpp_meaning.specs.Parts.{only_blanks}
 use Rattle.rdlpp_read.specs.Buffer.{BufferView, MovesOver, entered_mode, held_of, text_left, tokens_left, unused_of}
-use Rattle.rdlpp_read.specs.Files.{inner_buffer, torn_after, with_inner}
+use Rattle.rdlpp_read.specs.Files.{inner_buffer, ends_mid_line_after, with_inner}
 use Rattle.rdlpp_read.specs.Filling.{ended_tokens}
 use Rattle.rdlpp_read.specs.declared.files.File.{File}
 use Rattle.rdlpp_usages.specs.Reads.{Closes, GoesOn, reading}
@@ -32,8 +32,8 @@ used_buffer f len next = record (entered_mode f next) { at = f.at + len; line = 
 
 -- the sources with another buffer for the innermost, of which bytes were used
 abbrev pub with_used : {R : Type 0} → BufferView R → List ℕ → List (File R) → List (File R)
-with_used buffer used nest =
-    with_inner (λ f. record f { buffer = buffer; blanks = only_blanks f.blanks used; torn = torn_after f.torn used }) nest
+with_used buffer used include_stack =
+    with_inner (λ f. record f { buffer = buffer; blanks = only_blanks f.blanks used; ends_mid_line = ends_mid_line_after f.ends_mid_line used }) include_stack
 
 -- a read failed inside a call: from where the reading stands on, what remains comes to what it would have come to, with the kept
 -- bytes in front

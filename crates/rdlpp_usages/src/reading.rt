@@ -69,25 +69,25 @@ pub fn read_call<S: Sources>(
     sources: &mut S,
     store: &mut ArgumentStore,
 ) -> CallRead
-    requires some { 0 < length files.old.nest }
-    requires plain { (inner_buffer files.old.nest).mode ≡ Plain }
-    ensures only { files.new ≡ record files.old { nest = files.new.nest } }
+    requires some { 0 < length files.old.include_stack }
+    requires plain { (inner_buffer files.old.include_stack).mode ≡ Plain }
+    ensures only { files.new ≡ record files.old { include_stack = files.new.include_stack } }
     ensures room { store.new.most ≡ store.old.most }
     ensures call { SourcesRead S.Sources (is_failed_call result) sources.old sources.new }
-    ensures reads { ReadsCall (S.tells sources.old) S.unread Before store.old.most store.new.bytes result files.old.nest files.new.nest }
-    ensures unheld { is_failed_call result ≡ true → held_of (inner_buffer files.new.nest) ≡ [] }
+    ensures reads { ReadsCall (S.tells sources.old) S.unread Before store.old.most store.new.bytes result files.old.include_stack files.new.include_stack }
+    ensures unheld { is_failed_call result ≡ true → held_of (inner_buffer files.new.include_stack) ≡ [] }
     ensures fault { IsReadFault result }
     ensures line { IsReadLine result }
-    ensures means { MeansCall (S.tells sources.old) S.unread store.old.most store.new.bytes (inner_buffer files.old.nest) (inner_buffer files.new.nest) result }
+    ensures means { MeansCall (S.tells sources.old) S.unread store.old.most store.new.bytes (inner_buffer files.old.include_stack) (inner_buffer files.new.include_stack) result }
 {
     read_tokens(files, sources, store)
 }
 
 // Consumes the first `len` held bytes of the innermost source, behind which its text stands in a mode.
 fn use_bytes<R: Drop>(files: &mut Files<R>, len: usize, next: Mode)
-    requires some { 0 < length files.old.nest }
-    requires inside { len ≤ length (held_of (inner_buffer files.old.nest)) }
-    ensures { files.new ≡ record files.old { nest = with_used (used_buffer (inner_buffer files.old.nest) len next) (take len (held_of (inner_buffer files.old.nest))) files.old.nest } }
+    requires some { 0 < length files.old.include_stack }
+    requires inside { len ≤ length (held_of (inner_buffer files.old.include_stack)) }
+    ensures { files.new ≡ record files.old { include_stack = with_used (used_buffer (inner_buffer files.old.include_stack) len next) (take len (held_of (inner_buffer files.old.include_stack))) files.old.include_stack } }
 {
     let lines = line_ends_in(&files.file().buffer.held()[..len]);
     files.enter_mode(next);
@@ -108,13 +108,13 @@ fn kept_part(token: Consumed, held: &[u8]) -> &[u8]
 
 // Takes one token of a call, or the part of it that is held, or a run of plain argument bytes.
 fn take_token<R: Drop>(files: &mut Files<R>, store: &mut ArgumentStore, call_state: CallState) -> Next
-    requires some { 0 < length files.old.nest }
-    requires held { 0 < length (held_of (inner_buffer files.old.nest)) }
+    requires some { 0 < length files.old.include_stack }
+    requires held { 0 < length (held_of (inner_buffer files.old.include_stack)) }
     requires level { level_in (call_state_meant call_state) ≤ length store.old.bytes }
-    requires lead { call_state_meant call_state ≡ Before → (inner_buffer files.old.nest).mode ≢ InStr }
-    ensures only { files.new ≡ record files.old { nest = files.new.nest } }
+    requires lead { call_state_meant call_state ≡ Before → (inner_buffer files.old.include_stack).mode ≢ InStr }
+    ensures only { files.new ≡ record files.old { include_stack = files.new.include_stack } }
     ensures room { store.new.most ≡ store.old.most }
-    ensures takes { TakesToken (call_state_meant call_state) (store.old.most - length store.old.bytes) store.old.bytes store.new.bytes files.old.nest files.new.nest result }
+    ensures takes { TakesToken (call_state_meant call_state) (store.old.most - length store.old.bytes) store.old.bytes store.new.bytes files.old.include_stack files.new.include_stack result }
     ensures fault { IsNextFault result }
     ensures line { IsNextLine result }
 {
@@ -137,8 +137,8 @@ fn take_token<R: Drop>(files: &mut Files<R>, store: &mut ArgumentStore, call_sta
 
 // The physical line of the next byte of the innermost source.
 fn inner_line<R: Drop>(files: &Files<R>) -> u64
-    requires { 0 < length files.now.nest }
-    ensures line { result ≡ (inner_buffer files.now.nest).line }
+    requires { 0 < length files.now.include_stack }
+    ensures line { result ≡ (inner_buffer files.now.include_stack).line }
     ensures few { result < 2 ^ 63 }
 {
     let buffer = &files.file().buffer;
@@ -148,8 +148,8 @@ fn inner_line<R: Drop>(files: &Files<R>) -> u64
 
 // What a call comes to where the text of the innermost source has ended.
 fn end_of_text<R: Drop>(files: &Files<R>, call_state: CallState) -> CallRead
-    requires { 0 < length files.now.nest }
-    ensures text { (room : ℕ) → IsEndOfText (call_state_meant call_state) room (inner_buffer files.now.nest) result }
+    requires { 0 < length files.now.include_stack }
+    ensures text { (room : ℕ) → IsEndOfText (call_state_meant call_state) room (inner_buffer files.now.include_stack) result }
     ensures fault { IsReadFault result }
     ensures line { IsReadLine result }
 {
@@ -168,13 +168,13 @@ fn read_tokens<S: Sources>(
     sources: &mut S,
     store: &mut ArgumentStore,
 ) -> CallRead
-    requires some { 0 < length files.old.nest }
-    requires plain { (inner_buffer files.old.nest).mode ≡ Plain }
-    ensures only { files.new ≡ record files.old { nest = files.new.nest } }
+    requires some { 0 < length files.old.include_stack }
+    requires plain { (inner_buffer files.old.include_stack).mode ≡ Plain }
+    ensures only { files.new ≡ record files.old { include_stack = files.new.include_stack } }
     ensures room { store.new.most ≡ store.old.most }
     ensures call { SourcesRead S.Sources (is_failed_call result) sources.old sources.new }
-    ensures reads { ReadsCall (S.tells sources.old) S.unread Before store.old.most store.new.bytes result files.old.nest files.new.nest }
-    ensures unheld { is_failed_call result ≡ true → held_of (inner_buffer files.new.nest) ≡ [] }
+    ensures reads { ReadsCall (S.tells sources.old) S.unread Before store.old.most store.new.bytes result files.old.include_stack files.new.include_stack }
+    ensures unheld { is_failed_call result ≡ true → held_of (inner_buffer files.new.include_stack) ≡ [] }
     ensures fault { IsReadFault result }
     ensures line { IsReadLine result }
 {

@@ -73,7 +73,7 @@ impl<S: Sources> Engine<S> {
 
     // Whether the main text is open, and what is held of the innermost source begins with the word of an `include`.
     fn is_at_include(&self) -> bool
-        ensures { result ≡ (may_follow self.now.phase && begins_include (held_of (inner_buffer self.now.files.nest))) }
+        ensures { result ≡ (may_follow self.now.phase && begins_include (held_of (inner_buffer self.now.files.include_stack))) }
     {
         has_open(self.phase) && begins_include(self.front())
     }

@@ -33,9 +33,9 @@ impl<S: Sources> Engine<S> {
     ) -> Option<PieceLocation>
         requires ready { IsReady self.old }
         requires live { self.old.conditions.skipped ≡ None }
-        requires some { 0 < length (held_of (inner_buffer self.old.files.nest)) }
-        requires mode { (inner_buffer self.old.files.nest).mode ≡ Mode.Plain }
-        requires opening { IsNamed (opening_word defined) (held_of (inner_buffer self.old.files.nest)) argument }
+        requires some { 0 < length (held_of (inner_buffer self.old.files.include_stack)) }
+        requires mode { (inner_buffer self.old.files.include_stack).mode ≡ Mode.Plain }
+        requires opening { IsNamed (opening_word defined) (held_of (inner_buffer self.old.files.include_stack)) argument }
         ensures place { IfSome result (IsPlaced self.new) }
         ensures walks { IsBounded self.new → Walks S.Sources self.old self.new (step_answer self.new result) }
     {
@@ -53,7 +53,7 @@ impl<S: Sources> Engine<S> {
     fn open_tested(&mut self, holds: bool, len: usize) -> Option<PieceLocation>
         requires ready { IsReady self.old }
         requires live { self.old.conditions.skipped ≡ None }
-        requires inside { len ≤ length (held_of (inner_buffer self.old.files.nest)) }
+        requires inside { len ≤ length (held_of (inner_buffer self.old.files.include_stack)) }
         ensures { OpensOne holds len self.old self.new result }
     {
         self.files.facts();
@@ -76,9 +76,9 @@ impl<S: Sources> Engine<S> {
         argument: Option<Argument>,
     ) -> Option<PieceLocation>
         requires ready { IsReady self.old }
-        requires some { 0 < length (held_of (inner_buffer self.old.files.nest)) }
-        requires mode { (inner_buffer self.old.files.nest).mode ≡ Mode.Plain }
-        requires branch { IsGivenBranch word (held_of (inner_buffer self.old.files.nest)) argument }
+        requires some { 0 < length (held_of (inner_buffer self.old.files.include_stack)) }
+        requires mode { (inner_buffer self.old.files.include_stack).mode ≡ Mode.Plain }
+        requires branch { IsGivenBranch word (held_of (inner_buffer self.old.files.include_stack)) argument }
         ensures place { IfSome result (IsPlaced self.new) }
         ensures walks { IsBounded self.new → Walks S.Sources self.old self.new (step_answer self.new result) }
     {
@@ -100,10 +100,10 @@ impl<S: Sources> Engine<S> {
     // Takes a branch of the innermost conditional, whose name decides.
     fn turn_named(&mut self, word: Directive, argument: Option<Argument>) -> Option<PieceLocation>
         requires ready { IsReady self.old }
-        requires some { 0 < length (held_of (inner_buffer self.old.files.nest)) }
-        requires mode { (inner_buffer self.old.files.nest).mode ≡ Mode.Plain }
-        requires branch { IsGivenBranch word (held_of (inner_buffer self.old.files.nest)) argument }
-        requires decides { IsBranch (place_of (inner_below self.old.files.nest) self.old.conditions) word Branch.Named }
+        requires some { 0 < length (held_of (inner_buffer self.old.files.include_stack)) }
+        requires mode { (inner_buffer self.old.files.include_stack).mode ≡ Mode.Plain }
+        requires branch { IsGivenBranch word (held_of (inner_buffer self.old.files.include_stack)) argument }
+        requires decides { IsBranch (place_of (inner_below self.old.files.include_stack) self.old.conditions) word Branch.Named }
         ensures place { IfSome result (IsPlaced self.new) }
         ensures walks { IsBounded self.new → Walks S.Sources self.old self.new (step_answer self.new result) }
     {
@@ -121,9 +121,9 @@ impl<S: Sources> Engine<S> {
     // Takes a branch of the innermost conditional, whose test holds or doesn't, and uses its directive of
     // `len` bytes.
     fn turn(&mut self, word: Directive, holds: bool, len: usize)
-        requires own { inner_below self.old.files.nest < length self.old.conditions.open_now }
-        requires nest { 0 < length self.old.files.nest }
-        requires inside { len ≤ length (held_of (inner_buffer self.old.files.nest)) }
+        requires own { inner_below self.old.files.include_stack < length self.old.conditions.open_now }
+        requires include_stack { 0 < length self.old.files.include_stack }
+        requires inside { len ≤ length (held_of (inner_buffer self.old.files.include_stack)) }
         ensures { self.new ≡ goes_past (turned_with word holds self.old.conditions) len self.old }
     {
         self.conditions.turn(word, holds);
@@ -133,9 +133,9 @@ impl<S: Sources> Engine<S> {
     // Takes an `endif`, in live text or behind text that is skipped, and lends nothing; or refuses it.
     pub(super) fn take_endif(&mut self) -> Option<PieceLocation>
         requires ready { IsReady self.old }
-        requires some { 0 < length (held_of (inner_buffer self.old.files.nest)) }
-        requires mode { (inner_buffer self.old.files.nest).mode ≡ Mode.Plain }
-        requires closing { IsDirective Endif (held_of (inner_buffer self.old.files.nest)) }
+        requires some { 0 < length (held_of (inner_buffer self.old.files.include_stack)) }
+        requires mode { (inner_buffer self.old.files.include_stack).mode ≡ Mode.Plain }
+        requires closing { IsDirective Endif (held_of (inner_buffer self.old.files.include_stack)) }
         ensures place { IfSome result (IsPlaced self.new) }
         ensures walks { IsBounded self.new → Walks S.Sources self.old self.new (step_answer self.new result) }
     {

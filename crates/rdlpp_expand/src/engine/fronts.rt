@@ -20,7 +20,7 @@ impl<S: Sources> Engine<S> {
     #[inline(always)]
     pub(super) fn take_held(&mut self) -> Option<PieceLocation>
         requires ready { IsReady self.old }
-        requires some { 0 < length (held_of (inner_buffer self.old.files.nest)) }
+        requires some { 0 < length (held_of (inner_buffer self.old.files.include_stack)) }
         ensures place { IfSome result (IsPlaced self.new) }
         ensures walks { IsBounded self.new → Walks S.Sources self.old self.new (step_answer self.new result) }
     {
@@ -39,9 +39,9 @@ impl<S: Sources> Engine<S> {
     fn lend_copied(&mut self, copied: Copied) -> PieceLocation
         requires ready { IsReady self.old }
         requires live { self.old.conditions.skipped ≡ None }
-        requires some { 0 < length (held_of (inner_buffer self.old.files.nest)) }
-        requires text { IsText (inner_buffer self.old.files.nest).mode (held_of (inner_buffer self.old.files.nest)) copied.len copied.next }
-        requires lines { copied.lines ≡ line_ends (take copied.len (held_of (inner_buffer self.old.files.nest))) }
+        requires some { 0 < length (held_of (inner_buffer self.old.files.include_stack)) }
+        requires text { IsText (inner_buffer self.old.files.include_stack).mode (held_of (inner_buffer self.old.files.include_stack)) copied.len copied.next }
+        requires lines { copied.lines ≡ line_ends (take copied.len (held_of (inner_buffer self.old.files.include_stack))) }
         ensures place { IsPlaced self.new result }
         ensures walks { IsBounded self.new → Walks S.Sources self.old self.new (lent_answer self.new result) }
     {

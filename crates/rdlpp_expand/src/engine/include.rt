@@ -27,9 +27,9 @@ impl<S: Sources> Engine<S> {
     pub(super) fn take_include(&mut self, argument: Option<Argument>) -> Option<PieceLocation>
         requires ready { IsReady self.old }
         requires live { self.old.conditions.skipped ≡ None }
-        requires some { 0 < length (held_of (inner_buffer self.old.files.nest)) }
-        requires mode { (inner_buffer self.old.files.nest).mode ≡ Mode.Plain }
-        requires include { IsGivenString (held_of (inner_buffer self.old.files.nest)) argument }
+        requires some { 0 < length (held_of (inner_buffer self.old.files.include_stack)) }
+        requires mode { (inner_buffer self.old.files.include_stack).mode ≡ Mode.Plain }
+        requires include { IsGivenString (held_of (inner_buffer self.old.files.include_stack)) argument }
         ensures place { IfSome result (IsPlaced self.new) }
         ensures walks { IsBounded self.new → Walks S.Sources self.old self.new (step_answer self.new result) }
     {
@@ -43,9 +43,9 @@ impl<S: Sources> Engine<S> {
     fn include(&mut self, start: usize, stop: usize) -> Option<PieceLocation>
         requires ready { IsReady self.old }
         requires live { self.old.conditions.skipped ≡ None }
-        requires some { 0 < length (held_of (inner_buffer self.old.files.nest)) }
-        requires mode { (inner_buffer self.old.files.nest).mode ≡ Mode.Plain }
-        requires include { HasString (held_of (inner_buffer self.old.files.nest)) start stop }
+        requires some { 0 < length (held_of (inner_buffer self.old.files.include_stack)) }
+        requires mode { (inner_buffer self.old.files.include_stack).mode ≡ Mode.Plain }
+        requires include { HasString (held_of (inner_buffer self.old.files.include_stack)) start stop }
         ensures place { IfSome result (IsPlaced self.new) }
         ensures walks { IsBounded self.new → Walks S.Sources self.old self.new (step_answer self.new result) }
     {
@@ -61,11 +61,11 @@ impl<S: Sources> Engine<S> {
     // Searches for the source that a string names, from the folder of the innermost source, where one more
     // may be opened.
     fn seek(&mut self, start: usize, stop: usize) -> Result<Found<S::Reader>, FaultKind>
-        requires nest { 0 < length self.old.files.nest }
+        requires include_stack { 0 < length self.old.files.include_stack }
         requires some { start < stop }
-        requires inside { stop ≤ length (held_of (inner_buffer self.old.files.nest)) }
+        requires inside { stop ≤ length (held_of (inner_buffer self.old.files.include_stack)) }
         ensures becomes { self.new ≡ record self.old { sources = self.new.sources } }
-        ensures sought { Sought S.Sources self.old (include_name (held_of (inner_buffer self.old.files.nest)) start stop) self.new.sources result }
+        ensures sought { Sought S.Sources self.old (include_name (held_of (inner_buffer self.old.files.include_stack)) start stop) self.new.sources result }
     {
         let file = self.files.file();
         let Some(name) = name_in(&file.buffer.held()[start..stop]) else {
@@ -83,10 +83,10 @@ impl<S: Sources> Engine<S> {
     // Opens a source inside of those that are open, behind the `include` in front, which has `stop` bytes.
     fn enter(&mut self, found: Found<S::Reader>, stop: usize)
         requires live { self.old.conditions.skipped ≡ None }
-        requires nest { 0 < length self.old.files.nest }
+        requires include_stack { 0 < length self.old.files.include_stack }
         requires open { self.old.phase ≡ Phase.Open }
-        requires inside { stop ≤ length (held_of (inner_buffer self.old.files.nest)) }
-        requires room { length self.old.files.nest < self.old.files.slots }
+        requires inside { stop ≤ length (held_of (inner_buffer self.old.files.include_stack)) }
+        requires room { length self.old.files.include_stack < self.old.files.slots }
         requires nothing { self.old.pending ≡ nothing_pending }
         ensures { self.new ≡ included_engine found stop self.old }
     {
@@ -103,14 +103,14 @@ impl<S: Sources> Engine<S> {
     #[inline(never)]
     pub(super) fn leave(&mut self)
         requires open { self.old.phase ≡ Phase.Open }
-        requires inner { 1 < length self.old.files.nest }
-        requires ended { length self.old.conditions.open_now ≡ inner_below self.old.files.nest }
+        requires inner { 1 < length self.old.files.include_stack }
+        requires ended { length self.old.conditions.open_now ≡ inner_below self.old.files.include_stack }
         requires nothing { self.old.pending ≡ nothing_pending }
         ensures { self.new ≡ left_engine self.old }
     {
         self.files.facts();
         let file = self.files.file();
-        let line_ends = if file.torn { 1 } else { 0 };
+        let line_ends = if file.ends_mid_line { 1 } else { 0 };
         let line = file.include_line;
         self.files.leave();
         let around = self.files.file();

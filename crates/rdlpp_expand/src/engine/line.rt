@@ -27,9 +27,9 @@ impl<S: Sources> Engine<S> {
     pub(super) fn take_line(&mut self) -> Option<PieceLocation>
         requires ready { IsReady self.old }
         requires live { self.old.conditions.skipped ≡ None }
-        requires some { 0 < length (held_of (inner_buffer self.old.files.nest)) }
-        requires mode { (inner_buffer self.old.files.nest).mode ≡ Mode.Plain }
-        requires line { IsDirective Line (held_of (inner_buffer self.old.files.nest)) }
+        requires some { 0 < length (held_of (inner_buffer self.old.files.include_stack)) }
+        requires mode { (inner_buffer self.old.files.include_stack).mode ≡ Mode.Plain }
+        requires line { IsDirective Line (held_of (inner_buffer self.old.files.include_stack)) }
         ensures place { IfSome result (IsPlaced self.new) }
         ensures walks { IsBounded self.new → Walks S.Sources self.old self.new (step_answer self.new result) }
     {
@@ -48,8 +48,8 @@ impl<S: Sources> Engine<S> {
 
     // Uses a `line` that is given a number and a name, and owes its LF byte and the origin line.
     fn renumber(&mut self, given: GivenLine)
-        requires nest { 0 < length self.old.files.nest }
-        requires inside { 5 + given.stop ≤ length (held_of (inner_buffer self.old.files.nest)) }
+        requires include_stack { 0 < length self.old.files.include_stack }
+        requires inside { 5 + given.stop ≤ length (held_of (inner_buffer self.old.files.include_stack)) }
         requires few { 5 + given.stop < 2 ^ 63 }
         requires number { given.number < 2 ^ 32 }
         requires nothing { self.old.pending ≡ nothing_pending }
@@ -69,9 +69,9 @@ impl<S: Sources> Engine<S> {
 
     // Gives the innermost source another name to show, and from a physical line on other numbers.
     fn show(&mut self, from: u64, number: u64, name: ArrayString<1024>)
-        requires some { 0 < length self.old.files.nest }
+        requires some { 0 < length self.old.files.include_stack }
         requires number { number < 2 ^ 32 }
-        ensures { self.new ≡ record self.old { files = record self.old.files { nest = with_inner (renumbered_file from number name) self.old.files.nest } } }
+        ensures { self.new ≡ record self.old { files = record self.old.files { include_stack = with_inner (renumbered_file from number name) self.old.files.include_stack } } }
     {
         self.files.renumber(from, number, name);
     }

@@ -56,16 +56,16 @@ impl<S: Sources> Engine<S> {
 
     /// How many sources are open.
     pub fn open_sources(&self) -> usize
-        ensures { result ≡ length self.now.files.nest }
+        ensures { result ≡ length self.now.files.include_stack }
     {
         self.files.len()
     }
 
     /// What the innermost open source shows, where one is open.
     pub fn inner_source(&self) -> Option<OpenSource<'_>>
-        ensures none { IfNone result (length self.now.files.nest ≡ 0) }
-        ensures name { IfSome result (λ source. source.name.now ≡ inner_name self.now.files.nest) }
-        ensures line { IfSome result (λ source. source.line ≡ shown_line (state_of self.now).shift (inner_buffer self.now.files.nest).line) }
+        ensures none { IfNone result (length self.now.files.include_stack ≡ 0) }
+        ensures name { IfSome result (λ source. source.name.now ≡ inner_name self.now.files.include_stack) }
+        ensures line { IfSome result (λ source. source.line ≡ shown_line (state_of self.now).shift (inner_buffer self.now.files.include_stack).line) }
     {
         if self.files.len() == 0 {
             return None;
@@ -111,7 +111,7 @@ impl<S: Sources> Engine<S> {
 
     /// The held bytes of the innermost source that aren't used, at which the engine stands: none where no source is open.
     pub fn front(&self) -> &[u8]
-        ensures { result.now ≡ held_of (inner_buffer self.now.files.nest) }
+        ensures { result.now ≡ held_of (inner_buffer self.now.files.include_stack) }
     {
         if self.files.len() == 0 {
             return &[];
@@ -120,8 +120,8 @@ impl<S: Sources> Engine<S> {
     }
     /// The path of the innermost open source; empty where none is open.
     pub fn inner_path(&self) -> &str
-        ensures some { IfSome (slice_get self.now.files.nest 0) (λ file. result.now ≡ file.path.bytes) }
-        ensures none { length self.now.files.nest ≡ 0 → result.now ≡ [] }
+        ensures some { IfSome (slice_get self.now.files.include_stack 0) (λ file. result.now ≡ file.path.bytes) }
+        ensures none { length self.now.files.include_stack ≡ 0 → result.now ≡ [] }
     {
         if self.files.len() == 0 {
             return "";
@@ -132,8 +132,8 @@ impl<S: Sources> Engine<S> {
     /// What the open source shows at a place that includes others, counted from the innermost source, which has the place 0: its
     /// name, and the line of its `include`.
     pub fn including(&self, place: usize) -> Option<OpenSource<'_>>
-        ensures none { IfNone result ((place ≡ 0) ⊎ (length self.now.files.nest ≤ place)) }
-        ensures shows { IfSome result (λ source. Includes self.now.files.nest place source.name.now source.line) }
+        ensures none { IfNone result ((place ≡ 0) ⊎ (length self.now.files.include_stack ≤ place)) }
+        ensures shows { IfSome result (λ source. Includes self.now.files.include_stack place source.name.now source.line) }
     {
         if place == 0 || place >= self.files.len() {
             return None;

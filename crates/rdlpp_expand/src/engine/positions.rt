@@ -46,7 +46,7 @@ impl<S: Sources> Engine<S> {
 
     // Takes out the first piece of what is pending, and marks its place.
     pub(super) fn take_pending(&mut self) -> Option<PendingPiece>
-        requires { 0 < length self.old.files.nest }
+        requires { 0 < length self.old.files.include_stack }
         ensures nothing { IfNone result ((self.old.pending ≡ nothing_pending) × (self.new ≡ self.old)) }
         ensures piece { IfSome result (TakesPending self.old self.new) }
     {
@@ -59,9 +59,9 @@ impl<S: Sources> Engine<S> {
 
     // The place that a fault at the next byte of the innermost source would name.
     pub(super) fn shown_place(&self) -> ShownPlace
-        requires { 0 < length self.now.files.nest }
+        requires { 0 < length self.now.files.include_stack }
         ensures name { result.name.bytes ≡ (state_of self.now).name }
-        ensures line { result.line ≡ shown_line (state_of self.now).shift (inner_buffer self.now.files.nest).line }
+        ensures line { result.line ≡ shown_line (state_of self.now).shift (inner_buffer self.now.files.include_stack).line }
     {
         self.files.facts();
         let file = self.files.file();

@@ -27,7 +27,7 @@ impl<S: Sources> Engine<S> {
     pub(super) fn skip_front(&mut self) -> Option<PieceLocation>
         requires ready { IsReady self.old }
         requires skipped { self.old.conditions.skipped ≢ None }
-        requires some { 0 < length (held_of (inner_buffer self.old.files.nest)) }
+        requires some { 0 < length (held_of (inner_buffer self.old.files.include_stack)) }
         ensures place { IfSome result (IsPlaced self.new) }
         ensures walks { IsBounded self.new → Walks S.Sources self.old self.new (step_answer self.new result) }
     {
@@ -46,7 +46,7 @@ impl<S: Sources> Engine<S> {
     fn skip_counted(&mut self) -> Option<PieceLocation>
         requires ready { IsReady self.old }
         requires skipped { self.old.conditions.skipped ≢ None }
-        requires some { 0 < length (held_of (inner_buffer self.old.files.nest)) }
+        requires some { 0 < length (held_of (inner_buffer self.old.files.include_stack)) }
         ensures place { IfSome result (IsPlaced self.new) }
         ensures walks { IsBounded self.new → Walks S.Sources self.old self.new (step_answer self.new result) }
     {
@@ -71,8 +71,8 @@ impl<S: Sources> Engine<S> {
     fn skip_part(&mut self, len: usize, next: Mode) -> Option<PieceLocation>
         requires ready { IsReady self.old }
         requires skipped { self.old.conditions.skipped ≢ None }
-        requires some { 0 < length (held_of (inner_buffer self.old.files.nest)) }
-        requires text { IsText (inner_buffer self.old.files.nest).mode (held_of (inner_buffer self.old.files.nest)) len next }
+        requires some { 0 < length (held_of (inner_buffer self.old.files.include_stack)) }
+        requires text { IsText (inner_buffer self.old.files.include_stack).mode (held_of (inner_buffer self.old.files.include_stack)) len next }
         ensures place { IfSome result (IsPlaced self.new) }
         ensures walks { IsBounded self.new → Walks S.Sources self.old self.new (step_answer self.new result) }
     {
@@ -86,8 +86,8 @@ impl<S: Sources> Engine<S> {
     fn skip_refused(&mut self, kind: FaultKind) -> Option<PieceLocation>
         requires ready { IsReady self.old }
         requires skipped { self.old.conditions.skipped ≢ None }
-        requires some { 0 < length (held_of (inner_buffer self.old.files.nest)) }
-        requires refused { IsRefused (inner_buffer self.old.files.nest).mode (held_of (inner_buffer self.old.files.nest)) kind }
+        requires some { 0 < length (held_of (inner_buffer self.old.files.include_stack)) }
+        requires refused { IsRefused (inner_buffer self.old.files.include_stack).mode (held_of (inner_buffer self.old.files.include_stack)) kind }
         ensures place { IfSome result (IsPlaced self.new) }
         ensures walks { IsBounded self.new → Walks S.Sources self.old self.new (step_answer self.new result) }
     {
@@ -101,9 +101,9 @@ impl<S: Sources> Engine<S> {
     fn skip_word(&mut self, len: usize) -> Option<PieceLocation>
         requires ready { IsReady self.old }
         requires skipped { self.old.conditions.skipped ≢ None }
-        requires some { 0 < length (held_of (inner_buffer self.old.files.nest)) }
-        requires mode { (inner_buffer self.old.files.nest).mode ≡ Mode.Plain }
-        requires word { IsSkippedWord (held_of (inner_buffer self.old.files.nest)) len }
+        requires some { 0 < length (held_of (inner_buffer self.old.files.include_stack)) }
+        requires mode { (inner_buffer self.old.files.include_stack).mode ≡ Mode.Plain }
+        requires word { IsSkippedWord (held_of (inner_buffer self.old.files.include_stack)) len }
         ensures place { IfSome result (IsPlaced self.new) }
         ensures walks { IsBounded self.new → Walks S.Sources self.old self.new (step_answer self.new result) }
     {
@@ -115,9 +115,9 @@ impl<S: Sources> Engine<S> {
     fn skip_opening(&mut self, defined: bool) -> Option<PieceLocation>
         requires ready { IsReady self.old }
         requires skipped { self.old.conditions.skipped ≢ None }
-        requires some { 0 < length (held_of (inner_buffer self.old.files.nest)) }
-        requires mode { (inner_buffer self.old.files.nest).mode ≡ Mode.Plain }
-        requires opening { IsDirective (opening_word defined) (held_of (inner_buffer self.old.files.nest)) }
+        requires some { 0 < length (held_of (inner_buffer self.old.files.include_stack)) }
+        requires mode { (inner_buffer self.old.files.include_stack).mode ≡ Mode.Plain }
+        requires opening { IsDirective (opening_word defined) (held_of (inner_buffer self.old.files.include_stack)) }
         ensures place { IfSome result (IsPlaced self.new) }
         ensures walks { IsBounded self.new → Walks S.Sources self.old self.new (step_answer self.new result) }
     {
@@ -131,9 +131,9 @@ impl<S: Sources> Engine<S> {
     fn skip_define(&mut self) -> Option<PieceLocation>
         requires ready { IsReady self.old }
         requires skipped { self.old.conditions.skipped ≢ None }
-        requires some { 0 < length (held_of (inner_buffer self.old.files.nest)) }
-        requires mode { (inner_buffer self.old.files.nest).mode ≡ Mode.Plain }
-        requires define { IsDirective Define (held_of (inner_buffer self.old.files.nest)) }
+        requires some { 0 < length (held_of (inner_buffer self.old.files.include_stack)) }
+        requires mode { (inner_buffer self.old.files.include_stack).mode ≡ Mode.Plain }
+        requires define { IsDirective Define (held_of (inner_buffer self.old.files.include_stack)) }
         ensures place { IfSome result (IsPlaced self.new) }
         ensures walks { IsBounded self.new → Walks S.Sources self.old self.new (step_answer self.new result) }
     {
@@ -157,9 +157,9 @@ impl<S: Sources> Engine<S> {
     fn skip_line(&mut self) -> Option<PieceLocation>
         requires ready { IsReady self.old }
         requires skipped { self.old.conditions.skipped ≢ None }
-        requires some { 0 < length (held_of (inner_buffer self.old.files.nest)) }
-        requires mode { (inner_buffer self.old.files.nest).mode ≡ Mode.Plain }
-        requires line { IsDirective Line (held_of (inner_buffer self.old.files.nest)) }
+        requires some { 0 < length (held_of (inner_buffer self.old.files.include_stack)) }
+        requires mode { (inner_buffer self.old.files.include_stack).mode ≡ Mode.Plain }
+        requires line { IsDirective Line (held_of (inner_buffer self.old.files.include_stack)) }
         ensures place { IfSome result (IsPlaced self.new) }
         ensures walks { IsBounded self.new → Walks S.Sources self.old self.new (step_answer self.new result) }
     {
@@ -173,8 +173,8 @@ impl<S: Sources> Engine<S> {
     // Passes `len` held bytes of skipped text, and owes their `lines` LF bytes. Each fourth byte counts, since they are passed faster
     // than a `define` is read.
     fn pass(&mut self, len: usize, lines: usize)
-        requires nest { 0 < length self.old.files.nest }
-        requires inside { len ≤ length (held_of (inner_buffer self.old.files.nest)) }
+        requires include_stack { 0 < length self.old.files.include_stack }
+        requires inside { len ≤ length (held_of (inner_buffer self.old.files.include_stack)) }
         requires lines { lines ≤ len }
         requires nothing { self.old.pending ≡ nothing_pending }
         ensures { self.new ≡ passes_over len lines self.old }

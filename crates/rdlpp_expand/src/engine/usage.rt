@@ -25,9 +25,9 @@ impl<S: Sources> Engine<S> {
     pub(super) fn expand(&mut self, len: usize) -> Option<PieceLocation>
         requires ready { IsReady self.old }
         requires live { self.old.conditions.skipped ≡ None }
-        requires some { 0 < length (held_of (inner_buffer self.old.files.nest)) }
-        requires mode { (inner_buffer self.old.files.nest).mode ≡ Mode.Plain }
-        requires usage { IsUsage (held_of (inner_buffer self.old.files.nest)) len }
+        requires some { 0 < length (held_of (inner_buffer self.old.files.include_stack)) }
+        requires mode { (inner_buffer self.old.files.include_stack).mode ≡ Mode.Plain }
+        requires usage { IsUsage (held_of (inner_buffer self.old.files.include_stack)) len }
         ensures place { IfSome result (IsPlaced self.new) }
         ensures walks { IsBounded self.new → Walks S.Sources self.old self.new (step_answer self.new result) }
     {
@@ -45,11 +45,11 @@ impl<S: Sources> Engine<S> {
     fn open_usage(&mut self, len: usize, id: MacroId) -> Option<PieceLocation>
         requires ready { IsReady self.old }
         requires live { self.old.conditions.skipped ≡ None }
-        requires some { 0 < length (held_of (inner_buffer self.old.files.nest)) }
-        requires mode { (inner_buffer self.old.files.nest).mode ≡ Mode.Plain }
-        requires usage { IsUsage (held_of (inner_buffer self.old.files.nest)) len }
+        requires some { 0 < length (held_of (inner_buffer self.old.files.include_stack)) }
+        requires mode { (inner_buffer self.old.files.include_stack).mode ≡ Mode.Plain }
+        requires usage { IsUsage (held_of (inner_buffer self.old.files.include_stack)) len }
         requires inside { id < length self.old.table.macros }
-        requires named { macro_named self.old.table.macros (usage_name (held_of (inner_buffer self.old.files.nest)) len) ≡ Some (macro_at self.old.table.macros id) }
+        requires named { macro_named self.old.table.macros (usage_name (held_of (inner_buffer self.old.files.include_stack)) len) ≡ Some (macro_at self.old.table.macros id) }
         ensures place { IfSome result (IsPlaced self.new) }
         ensures walks { IsBounded self.new → Walks S.Sources self.old self.new (step_answer self.new result) }
     {
@@ -69,11 +69,11 @@ impl<S: Sources> Engine<S> {
     // Opens the body of a macro, whose usage has `len` bytes, or tells why not.
     fn open_macro(&mut self, len: usize, id: MacroId) -> Opening
         requires ready { IsReady self.old }
-        requires some { 0 < length (held_of (inner_buffer self.old.files.nest)) }
-        requires mode { (inner_buffer self.old.files.nest).mode ≡ Mode.Plain }
-        requires usage { IsUsage (held_of (inner_buffer self.old.files.nest)) len }
+        requires some { 0 < length (held_of (inner_buffer self.old.files.include_stack)) }
+        requires mode { (inner_buffer self.old.files.include_stack).mode ≡ Mode.Plain }
+        requires usage { IsUsage (held_of (inner_buffer self.old.files.include_stack)) len }
         requires inside { id < length self.old.table.macros }
-        requires named { macro_named self.old.table.macros (usage_name (held_of (inner_buffer self.old.files.nest)) len) ≡ Some (macro_at self.old.table.macros id) }
+        requires named { macro_named self.old.table.macros (usage_name (held_of (inner_buffer self.old.files.include_stack)) len) ≡ Some (macro_at self.old.table.macros id) }
         ensures { OpensUsage S.Sources len self.old self.new result }
     {
         self.facts();

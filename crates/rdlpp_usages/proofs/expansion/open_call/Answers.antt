@@ -18,12 +18,12 @@ returns-in-Closed-clause-keeps g c =
 pub returns-in-Refused-clause-tells : goal.returns-in-Refused-clause-tells
 returns-in-Refused-clause-tells g c =
     call_lacks _ _ _ c.args.table.now.macros c.args.usage.id c.read_call.new.store.bytes c.read_call.new.store.bytes c.in-Refused.kind c.args.texts.now.opens
-    (inner_buffer c.args.files.now.nest) (inner_buffer c.read_call.new.files.nest) c.in-Refused.ensures.means
+    (inner_buffer c.args.files.now.include_stack) (inner_buffer c.read_call.new.files.include_stack) c.in-Refused.ensures.means
 
 pub returns-in-Broken-clause-tells : goal.returns-in-Broken-clause-tells
 returns-in-Broken-clause-tells g c =
     call_breaks _ _ _ c.args.table.now.macros c.args.usage.id c.read_call.new.store.bytes c.read_call.new.store.bytes c.in-Broken.kind c.in-Broken.own
-    c.args.texts.now.opens (inner_buffer c.args.files.now.nest) (inner_buffer c.read_call.new.files.nest) c.in-Broken.ensures.means
+    c.args.texts.now.opens (inner_buffer c.args.files.now.include_stack) (inner_buffer c.read_call.new.files.include_stack) c.in-Broken.ensures.means
 
 pub returns-in-Refused-clause-fault : goal.returns-in-Refused-clause-fault
 returns-in-Refused-clause-fault g c = read_usage c.in-Refused.kind c.in-Refused.ensures.fault

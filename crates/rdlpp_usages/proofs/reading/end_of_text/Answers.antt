@@ -12,14 +12,14 @@ use Rattle.rdlpp_usages.proofs.reading.end_of_text.Goals as goal
 
 pub returns-in-Plain-clause-text : goal.returns-in-Plain-clause-text
 returns-in-Plain-clause-text g c room =
-    let f = inner_buffer c.args.files.now.nest in
+    let f = inner_buffer c.args.files.now.include_stack in
     let mode : f.mode ≡ Plain = ap (λ b. b.mode) (sym c.file.ensures.buffer) ∙ sym c.mode.ensures ∙ c.in-Plain.is in
     end_plain (call_state_meant c.args.call_state) room f mode ∙ ap ReadRefused (sym c.fault_at_end.ensures)
 
 pub returns-in-InStr-clause-text : goal.returns-in-InStr-clause-text
 unfolding breach_kind
 returns-in-InStr-clause-text g c room =
-    let f = inner_buffer c.args.files.now.nest in
+    let f = inner_buffer c.args.files.now.include_stack in
     let mode : f.mode ≡ InStr = ap (λ b. b.mode) (sym c.file.ensures.buffer) ∙ sym c.mode.ensures ∙ c.in-InStr.is in
     end_string (call_state_meant c.args.call_state) room f mode
     ∙ ap (ReadStopped OpenString) (sym (c.open_token_line.ensures ∙ ap (λ b. b.open_token_line) c.file.ensures.buffer))
@@ -27,7 +27,7 @@ returns-in-InStr-clause-text g c room =
 pub returns-in-InBlock-clause-text : goal.returns-in-InBlock-clause-text
 unfolding breach_kind
 returns-in-InBlock-clause-text g c room =
-    let f = inner_buffer c.args.files.now.nest in
+    let f = inner_buffer c.args.files.now.include_stack in
     let mode : f.mode ≡ InBlock = ap (λ b. b.mode) (sym c.file.ensures.buffer) ∙ sym c.mode.ensures ∙ c.in-InBlock.is in
     end_comment (call_state_meant c.args.call_state) room f mode
     ∙ ap (ReadStopped OpenComment) (sym (c.open_token_line-in-InBlock.ensures ∙ ap (λ b. b.open_token_line) c.file.ensures.buffer))

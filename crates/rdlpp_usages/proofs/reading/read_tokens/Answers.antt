@@ -20,7 +20,7 @@ tokens-init g c =
 pub tokens-smaller : goal.tokens-smaller
 tokens-smaller g c =
     less_left g.S.Sources.unread (call_state_meant c.tokens.call_state) (call_state_meant c.in-Goes.to) (c.tokens.store.most - length c.tokens.store.bytes) 0 c.tokens.store.bytes c.take_token.new.store.bytes
-    c.tokens.files.nest c.fill.new.self.nest c.take_token.new.files.nest c.in-Goes.ensures.takes c.in-Held.ensures.fills.unused
+    c.tokens.files.include_stack c.fill.new.self.include_stack c.take_token.new.files.include_stack c.in-Goes.ensures.takes c.in-Held.ensures.fills.unused
 
 pub tokens-preserved : goal.tokens-preserved
 tokens-preserved g c =
@@ -33,7 +33,7 @@ tokens-preserved g c =
 
 pub returns-in-Ends-clause-reads : goal.returns-in-Ends-clause-reads
 returns-in-Ends-clause-reads g c =
-    answered_token g.S.Sources c.args.sources.now c.fill.new.sources c.args.files.now c.fill.new.self c.take_token.new.files.nest c.args.store.now.most c.tokens.store c.take_token.new.store
+    answered_token g.S.Sources c.args.sources.now c.fill.new.sources c.args.files.now c.fill.new.self c.take_token.new.files.include_stack c.args.store.now.most c.tokens.store c.take_token.new.store
     (call_state_meant c.tokens.call_state) c.in-Ends.read
     (filled g.S.Sources false c.args.sources.now c.tokens.sources c.fill.new.sources c.args.files.now c.tokens.files c.fill.new.self c.args.store.now.most c.tokens.store (call_state_meant c.tokens.call_state)
     c.tokens.invariant c.in-Held.ensures.only c.in-Held.ensures.fills.unused c.in-Held.ensures.fills.mode c.in-Held.ensures.fills.tokens
@@ -43,7 +43,7 @@ returns-in-Ends-clause-reads g c =
 pub returns-in-End-clause-call : goal.returns-in-End-clause-call
 returns-in-End-clause-call g c =
     let none : is_failed_call c.end_of_text.result ≡ false =
-    end_read (call_state_meant c.tokens.call_state) 0 (inner_buffer c.fill.new.self.nest) c.end_of_text.result (c.end_of_text.ensures.text 0) in
+    end_read (call_state_meant c.tokens.call_state) 0 (inner_buffer c.fill.new.self.include_stack) c.end_of_text.result (c.end_of_text.ensures.text 0) in
     calls-on g.S.Sources (is_failed_call c.end_of_text.result) c.args.sources.now c.tokens.sources c.fill.new.sources c.tokens.invariant.call
     (subst (λ b. SourcesRead g.S.Sources b c.tokens.sources c.fill.new.sources) (sym none) c.in-End.ensures.call)
 
@@ -54,7 +54,7 @@ returns-in-End-clause-reads g c =
     let fills = c.in-End.ensures.fills in
     answered_unfilled g.S.Sources c.args.sources.now c.tokens.sources c.args.files.now c.tokens.files c.fill.new.self c.args.store.now.most c.tokens.store at c.end_of_text.result
     c.tokens.invariant c.in-End.ensures.only fills.unused (moves-told _ _ _ _ _ [] _ _ (λ t. t) (λ _ e. cc) (moves-slid _ _ _ _ _ fills.slides)) (λ exact. fills.text (λ e. cc))
-    (end_tells (g.S.Sources.tells c.args.sources.now) g.S.Sources.unread at room (inner_buffer c.tokens.files.nest) (inner_buffer c.fill.new.self.nest) c.end_of_text.result
+    (end_tells (g.S.Sources.tells c.args.sources.now) g.S.Sources.unread at room (inner_buffer c.tokens.files.include_stack) (inner_buffer c.fill.new.self.include_stack) c.end_of_text.result
     (c.end_of_text.ensures.text room) fills.mode fills.open_token_line (λ t. fills.tokens (c.tokens.invariant.call.tells t)))
 
 pub returns-in-SourceLong-clause-reads : goal.returns-in-SourceLong-clause-reads
@@ -65,7 +65,7 @@ returns-in-SourceLong-clause-reads g c =
     let fills = c.in-SourceLong.ensures.fills in
     answered_unfilled g.S.Sources c.args.sources.now c.tokens.sources c.args.files.now c.tokens.files c.fill.new.self c.args.store.now.most c.tokens.store at _
     c.tokens.invariant c.in-SourceLong.ensures.only fills.unused (moves-told _ _ _ _ _ [] _ _ (λ t. t) (λ _ e. cc) (moves-slid _ _ _ _ _ fills.slides)) (λ exact. fills.text (λ e. cc))
-    (break_tells (g.S.Sources.tells c.args.sources.now) g.S.Sources.unread at room (inner_buffer c.tokens.files.nest) (inner_buffer c.fill.new.self.nest) SourceLong c.inner_line.result refl
+    (break_tells (g.S.Sources.tells c.args.sources.now) g.S.Sources.unread at room (inner_buffer c.tokens.files.include_stack) (inner_buffer c.fill.new.self.include_stack) SourceLong c.inner_line.result refl
     (c.inner_line.ensures.line ∙ fills.line) (λ t. fills.tokens (c.tokens.invariant.call.tells t)))
 
 pub returns-in-LineLong-clause-reads : goal.returns-in-LineLong-clause-reads
@@ -76,7 +76,7 @@ returns-in-LineLong-clause-reads g c =
     let fills = c.in-LineLong.ensures.fills in
     answered_unfilled g.S.Sources c.args.sources.now c.tokens.sources c.args.files.now c.tokens.files c.fill.new.self c.args.store.now.most c.tokens.store at _
     c.tokens.invariant c.in-LineLong.ensures.only fills.unused (moves-told _ _ _ _ _ [] _ _ (λ t. t) (λ exact e. exact _ refl) (moves-slid _ _ _ _ _ fills.slides)) (λ exact t. absurd (exact _ refl))
-    (break_tells (g.S.Sources.tells c.args.sources.now) g.S.Sources.unread at room (inner_buffer c.tokens.files.nest) (inner_buffer c.fill.new.self.nest) LineLong c.inner_line-in-LineLong.result refl
+    (break_tells (g.S.Sources.tells c.args.sources.now) g.S.Sources.unread at room (inner_buffer c.tokens.files.include_stack) (inner_buffer c.fill.new.self.include_stack) LineLong c.inner_line-in-LineLong.result refl
     (c.inner_line-in-LineLong.ensures.line ∙ fills.line) (λ t. fills.tokens (c.tokens.invariant.call.tells t)))
 
 pub returns-in-Failed-clause-reads : goal.returns-in-Failed-clause-reads

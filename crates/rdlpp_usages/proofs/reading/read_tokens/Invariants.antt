@@ -9,4 +9,4 @@ abbrev pub invariant-tokens : goal.invariant-tokens
 invariant-tokens g l = IsReading g.S.Sources false l.initial.sources l.sources l.initial.files l.files l.fn.store.most l.store (call_state_meant l.call_state)
 
 abbrev pub decreases-tokens : goal.decreases-tokens
-decreases-tokens g l = unused_of (inner_buffer l.files.nest)
+decreases-tokens g l = unused_of (inner_buffer l.files.include_stack)

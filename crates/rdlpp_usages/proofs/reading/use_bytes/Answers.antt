@@ -8,7 +8,7 @@ use Rattle.rdlpp_usages.proofs.reading.use_bytes.Goals as goal
 
 pub consume-requires-clause-inside : goal.consume-requires-clause-inside
 consume-requires-clause-inside g c =
-    let same = ap (λ f. length (held_of (inner_buffer f.nest))) c.enter_mode.ensures ∙ ap length (entered_held c.args.next c.args.files.now.nest) in
+    let same = ap (λ f. length (held_of (inner_buffer f.include_stack))) c.enter_mode.ensures ∙ ap length (entered_held c.args.next c.args.files.now.include_stack) in
     let inside = c.requires.inside in
     omega (arith, same)
 
@@ -18,6 +18,6 @@ consume-requires-clause-lines g c =
 
 pub returns : goal.returns
 returns g c =
-    let lines : c.line_ends_in-lines.result ≡ line_ends (take c.args.len (held_of (inner_buffer c.args.files.now.nest))) =
+    let lines : c.line_ends_in-lines.result ≡ line_ends (take c.args.len (held_of (inner_buffer c.args.files.now.include_stack))) =
     c.line_ends_in-lines.ensures ∙ ap (λ z. line_ends (take c.args.len z)) (c.held.ensures.value ∙ ap held_of c.file.ensures.buffer) in
     used_files c.args.len c.line_ends_in-lines.result c.args.next c.args.files.now c.enter_mode.new.self c.consume.new.self c.enter_mode.ensures c.consume.ensures.used lines

@@ -8,4 +8,4 @@ invariant_of-self g c =
     (rw (← c.self.view_is) at c.requires.idle)
 
 pub returns : goal.returns
-returns g c = let none = left_alone c.self.inside.files.nest (rw (← c.self.view_is) at c.requires.alone) in rw (← c.self.view_is, c.leave.ensures, none) refl
+returns g c = let none = left_alone c.self.inside.files.include_stack (rw (← c.self.view_is) at c.requires.alone) in rw (← c.self.view_is, c.leave.ensures, none) refl

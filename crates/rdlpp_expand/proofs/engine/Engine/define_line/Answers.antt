@@ -12,9 +12,9 @@ read_define-requires g c =
     let e = c.in-Whole.ensures in
     let has = e.holds.has in
     record {
-      nest = c.facts.ensures.sound.open_ (opened_phase _ (ap (λ e. e.phase) e.becomes ∙ c.requires.ready.open_));
+      include_stack = c.facts.ensures.sound.open_ (opened_phase _ (ap (λ e. e.phase) e.becomes ∙ c.requires.ready.open_));
       inside = has.0;
-      line = define_rest_whole _ _ _ e.holds.extends.more (inner_buffer c.hold_line.new.self.files.nest) c.in-Whole.len c.requires.some c.requires.define e.holds.extends.held has.1;
+      line = define_rest_whole _ _ _ e.holds.extends.more (inner_buffer c.hold_line.new.self.files.include_stack) c.in-Whole.len c.requires.some c.requires.define e.holds.extends.held has.1;
       nothing = ap (λ e. e.pending) e.becomes ∙ c.requires.ready.pending;
       idle = ap (λ e. e.expansion.opens) e.becomes ∙ c.requires.ready.idle;
       files = c.facts.ensures.files;
@@ -28,7 +28,7 @@ returns-in-Whole-clause-walks g c = λ bounded.
     let e = c.in-Whole.ensures in
     let r : IsRead g.S.Sources c.args.self.now c.hold_line.new.self = record { becomes = e.becomes; only = e.only; moves = slid _ _ _ _ _ e.holds.slides } in
     let has = e.holds.has in
-    let wide = define_inside _ _ _ e.holds.extends.more (inner_buffer c.hold_line.new.self.files.nest) c.in-Whole.len c.requires.some c.requires.define e.holds.extends.held has.1 in
+    let wide = define_inside _ _ _ e.holds.extends.more (inner_buffer c.hold_line.new.self.files.include_stack) c.in-Whole.len c.requires.some c.requires.define e.holds.extends.held has.1 in
     let some = c.facts.ensures.sound.open_ (opened_phase _ (ap (λ e. e.phase) e.becomes ∙ c.requires.ready.open_)) in
     defined_steps g.S.Sources c.args.self.now c.hold_line.new.self c.read_define.new.self c.in-Whole.len c.requires.ready c.requires.live r bounded c.requires.some c.requires.mode c.requires.define
     e.holds (called g.S.Sources false _ _ e.call) c.read_define.result wide has.0 (held_few c.hold_line.new.self c.facts.ensures.sound c.facts.ensures.files some) c.read_define.ensures.reads

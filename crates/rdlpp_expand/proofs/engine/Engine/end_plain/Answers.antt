@@ -8,17 +8,17 @@ use Rattle.rdlpp_expand.proofs.engine.Engine.end_plain.Goals as goal
 pub unclosed-requires : goal.unclosed-requires
 unclosed-requires g c =
     let below = sym (ap inner_below c.file.ensures.inner) in
-    let most = inner_most c.self.inside.limits c.self.inside.conditions c.self.inside.files.nest c.self.invariant.sources.conditions_of in
+    let most = inner_most c.self.inside.limits c.self.inside.conditions c.self.inside.files.include_stack c.self.invariant.sources.conditions_of in
     omega arith
 
 pub end_whole-requires-clause-ended : goal.end_whole-requires-clause-ended
 end_whole-requires-clause-ended g c =
-    let below : c.file.result.now.conditions_below ≡ inner_below c.args.self.now.files.nest = sym (ap inner_below c.file.ensures.inner) ∙ ap (λ e. inner_below e.files.nest) c.self.view_is in
+    let below : c.file.result.now.conditions_below ≡ inner_below c.args.self.now.files.include_stack = sym (ap inner_below c.file.ensures.inner) ∙ ap (λ e. inner_below e.files.include_stack) c.self.view_is in
     ended_alone _ _ (leaves_here None c.args.self.now (rw (← c.self.view_is) (inner_most _ _ _ c.self.invariant.sources.conditions_of)) c.file.result.now.conditions_below below (let h : IsUnclosed (place_of c.file.result.now.conditions_below c.args.self.now.conditions) None = rw (← c.self.view_is) c.in-None.ensures in h))
 
 pub returns-in-Some : goal.returns-in-Some
 returns-in-Some g c =
-    let below : c.file.result.now.conditions_below ≡ inner_below c.args.self.now.files.nest = sym (ap inner_below c.file.ensures.inner) ∙ ap (λ e. inner_below e.files.nest) c.self.view_is in
+    let below : c.file.result.now.conditions_below ≡ inner_below c.args.self.now.files.include_stack = sym (ap inner_below c.file.ensures.inner) ∙ ap (λ e. inner_below e.files.include_stack) c.self.view_is in
     stops_unclosed c.args.self.now c.refuse_unclosed.new.self c.refuse_unclosed.result c.in-Some.line c.requires.mode
     (leaves_here (Some c.in-Some.line) c.args.self.now (rw (← c.self.view_is) (inner_most _ _ _ c.self.invariant.sources.conditions_of)) _ below (let h : IsUnclosed (place_of c.file.result.now.conditions_below c.args.self.now.conditions) (Some c.in-Some.line) = rw (← c.self.view_is) c.in-Some.ensures in h))
     c.refuse_unclosed.ensures.place c.refuse_unclosed.ensures.kept

@@ -8,7 +8,7 @@ use Rattle.rdlpp_expand.proofs.engine.Engine.enter.Goals as goal
 pub invariant_of-self : goal.invariant_of-self
 unfolding unused_of opened_buffer
 invariant_of-self g c =
-    let buffer = (inner_facts c.self.inside.files (rw (← c.self.view_is) at c.requires.nest) c.facts.ensures).buffer in
+    let buffer = (inner_facts c.self.inside.files (rw (← c.self.view_is) at c.requires.include_stack) c.facts.ensures).buffer in
     let counts = buffer.counts in
     let line = c.line-line.ensures ∙ ap (λ b. b.line) c.file.ensures.buffer in
     let range = c.self-2.invariant.sources.in_range.source_bytes.1 in
@@ -18,6 +18,6 @@ invariant_of-self g c =
 pub returns : goal.returns
 returns g c =
     let e = c.args.self.now in
-    let line : c.line-line.result ≡ (inner_buffer e.files.nest).line = c.line-line.ensures ∙ ap (λ b. b.line) (c.file.ensures.buffer ∙ ap (λ e. inner_buffer e.files.nest) c.self.view_is) in
+    let line : c.line-line.result ≡ (inner_buffer e.files.include_stack).line = c.line-line.ensures ∙ ap (λ b. b.line) (c.file.ensures.buffer ∙ ap (λ e. inner_buffer e.files.include_stack) c.self.view_is) in
     included_by c.args.found c.args.stop e c.consume.new.self _ c.queue_origin.new.self c.enter.new.self c.len-below.result c.line-line.result c.consume.ensures.used
     (rw (← c.self-2.view_is) c.enter.ensures) (rw (← c.self-2.view_is) c.queue_origin.ensures) (rw (← c.self-2.view_is) refl) c.requires.nothing (rw (← c.self-2.view_is) c.len-below.ensures.value) line

@@ -7,4 +7,4 @@ use Rattle.rdlpp_expand.proofs.engine.Engine.enter_mode.Goals as goal
 
 pub invariant_of-self : goal.invariant_of-self
 invariant_of-self g c = whole_inner _ _ _ c.self.inside.files _ _ c.self.invariant _ _ c.enter_mode.ensures (λ f. refl)
-    (buffer_less (entered_mode (inner_buffer c.self.inside.files.nest) c.args.next) c.self.inside.files.nest (let same = entered_unused (inner_buffer c.self.inside.files.nest) c.args.next in omega arith))
+    (buffer_less (entered_mode (inner_buffer c.self.inside.files.include_stack) c.args.next) c.self.inside.files.include_stack (let same = entered_unused (inner_buffer c.self.inside.files.include_stack) c.args.next in omega arith))

@@ -15,21 +15,21 @@ name_of-name-requires-clause-some g c = (usage_inside _ _ c.requires.some c.requ
 
 pub name_of-name-requires-clause-inside : goal.name_of-name-requires-clause-inside
 name_of-name-requires-clause-inside g c =
-    let held : c.held.result.now ≡ held_of (inner_buffer c.args.self.now.files.nest) = c.held.ensures.value ∙ ap held_of (c.file.ensures.buffer ∙ ap (λ e. inner_buffer e.files.nest) c.self.view_is) in
+    let held : c.held.result.now ≡ held_of (inner_buffer c.args.self.now.files.include_stack) = c.held.ensures.value ∙ ap held_of (c.file.ensures.buffer ∙ ap (λ e. inner_buffer e.files.include_stack) c.self.view_is) in
     rw held ((usage_inside _ _ c.requires.some c.requires.usage).1)
 
 pub word_of-word-requires : goal.word_of-word-requires
 word_of-word-requires g c =
-    let held : c.held.result.now ≡ held_of (inner_buffer c.args.self.now.files.nest) = c.held.ensures.value ∙ ap held_of (c.file.ensures.buffer ∙ ap (λ e. inner_buffer e.files.nest) c.self.view_is) in
+    let held : c.held.result.now ≡ held_of (inner_buffer c.args.self.now.files.include_stack) = c.held.ensures.value ∙ ap held_of (c.file.ensures.buffer ∙ ap (λ e. inner_buffer e.files.include_stack) c.self.view_is) in
     rw (c.name_of-name.ensures, held) (usage_word _ _ c.requires.usage)
 
 pub returns-in-None-clause-walks : goal.returns-in-None-clause-walks
 returns-in-None-clause-walks g c = λ bounded.
     let e = c.args.self.now in
-    let held : c.held.result.now ≡ held_of (inner_buffer e.files.nest) = c.held.ensures.value ∙ ap held_of (c.file.ensures.buffer ∙ ap (λ e. inner_buffer e.files.nest) c.self.view_is) in
-    let name : c.name_of-name.result.now ≡ usage_name (held_of (inner_buffer e.files.nest)) c.args.len = c.name_of-name.ensures ∙ ap (λ h. usage_name h c.args.len) held in
-    let none : macro_named e.table.macros (usage_name (held_of (inner_buffer e.files.nest)) c.args.len) ≡ None = rw (← name, ← c.self.view_is) c.in-None.ensures.named in
-    let word : c.word_of-word.result.bytes ≡ take 128 (usage_name (held_of (inner_buffer e.files.nest)) c.args.len) = c.word_of-word.ensures ∙ ap (take 128) name in
-    refuses g.S.Sources e e c.refuse.new.self c.refuse.result fault.UndefinedMacro _ (usage_name (held_of (inner_buffer e.files.nest)) c.args.len) c.requires.ready (read_nothing e) bounded
+    let held : c.held.result.now ≡ held_of (inner_buffer e.files.include_stack) = c.held.ensures.value ∙ ap held_of (c.file.ensures.buffer ∙ ap (λ e. inner_buffer e.files.include_stack) c.self.view_is) in
+    let name : c.name_of-name.result.now ≡ usage_name (held_of (inner_buffer e.files.include_stack)) c.args.len = c.name_of-name.ensures ∙ ap (λ h. usage_name h c.args.len) held in
+    let none : macro_named e.table.macros (usage_name (held_of (inner_buffer e.files.include_stack)) c.args.len) ≡ None = rw (← name, ← c.self.view_is) c.in-None.ensures.named in
+    let word : c.word_of-word.result.bytes ≡ take 128 (usage_name (held_of (inner_buffer e.files.include_stack)) c.args.len) = c.word_of-word.ensures ∙ ap (take 128) name in
+    refuses g.S.Sources e e c.refuse.new.self c.refuse.result fault.UndefinedMacro _ (usage_name (held_of (inner_buffer e.files.include_stack)) c.args.len) c.requires.ready (read_nothing e) bounded
     c.refuse.ensures.place (kept_cut e c.refuse.new.self _ _ _ _ _ c.refuse.ensures.kept word) (own_kind _ refl) (not_called g.S.Sources e.sources)
     (λ t. left_undefined g.S.Sources e c.args.len c.requires.ready c.requires.live c.requires.some c.requires.mode c.requires.usage none)

@@ -11,7 +11,7 @@ held_len-requires g c = rw (c.self.invariant.sources.slots, c.self.invariant.sou
 pub returns-clause-value : goal.returns-clause-value
 unfolding held_told stores_of
 returns-clause-value g c =
-    let bytes : c.held_len.result ≡ sum_by length (held_windows c.self.inside.files.nest) = c.held_len.ensures ∙ sym (held_windows-len c.self.inside.files.nest) in
+    let bytes : c.held_len.result ≡ sum_by length (held_windows c.self.inside.files.include_stack) = c.held_len.ensures ∙ sym (held_windows-len c.self.inside.files.include_stack) in
     let definitions = c.bytes.ensures.value in
     let kept = c.arguments.ensures.value in
     let texts = c.len-2.ensures in

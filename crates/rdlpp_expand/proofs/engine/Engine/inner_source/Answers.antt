@@ -6,7 +6,7 @@ use Rattle.rdlpp_expand.proofs.engine.Engine.inner_source.Goals as goal
 
 pub returns-clause-line : goal.returns-clause-line
 returns-clause-line g c =
-    let nest = ap (λ e. e.files.nest) (sym c.self.view_is) ∙ c.file-file.ensures.inner in
-    let here : c.line.result ≡ (inner_buffer c.args.self.now.files.nest).line = c.line.ensures ∙ (ap (λ b. b.line) c.file-file.ensures.buffer ∙ ap (λ e. (inner_buffer e.files.nest).line) c.self.view_is) in
+    let include_stack = ap (λ e. e.files.include_stack) (sym c.self.view_is) ∙ c.file-file.ensures.inner in
+    let here : c.line.result ≡ (inner_buffer c.args.self.now.files.include_stack).line = c.line.ensures ∙ (ap (λ b. b.line) c.file-file.ensures.buffer ∙ ap (λ e. (inner_buffer e.files.include_stack).line) c.self.view_is) in
     c.shown_line.ensures ∙ (ap (shown_line (shift_of c.file-file.result.now.shift)) here
-    ∙ sym (ap (λ s. shown_line s (inner_buffer c.args.self.now.files.nest).line) (first_shift c.args.self.now c.file-file.result.now _ nest)))
+    ∙ sym (ap (λ s. shown_line s (inner_buffer c.args.self.now.files.include_stack).line) (first_shift c.args.self.now c.file-file.result.now _ include_stack)))

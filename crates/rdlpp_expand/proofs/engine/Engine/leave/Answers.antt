@@ -8,19 +8,19 @@ use Rattle.rdlpp_expand.proofs.engine.Engine.leave.Goals.{then-file, else-file}
 
 pub shown_line-shown-requires : goal.shown_line-shown-requires
 shown_line-shown-requires g c =
-    let number = around_few c.self.inside.files _ c.file-file.result.now c.file-around.result.now c.file-file.ensures.inner (sym (ap (λ f. f.nest) c.leave.ensures) ∙ c.file-around.ensures.inner) c.facts.ensures in
-    let line = line_few c.self.inside.files.nest c.file-file.result.now c.file-file.ensures.inner c.self.invariant.sources.lines in
+    let number = around_few c.self.inside.files _ c.file-file.result.now c.file-around.result.now c.file-file.ensures.inner (sym (ap (λ f. f.include_stack) c.leave.ensures) ∙ c.file-around.ensures.inner) c.facts.ensures in
+    let line = line_few c.self.inside.files.include_stack c.file-file.result.now c.file-file.ensures.inner c.self.invariant.sources.lines in
     omega arith
 
 pub queue_line_ends-requires : goal.queue_line_ends-requires
 unfolding nothing_pending
 queue_line_ends-requires g c =
     let none : c.self.inside.pending.line_ends ≡ 0 = ap (λ e. e.pending.line_ends) c.self.view_is ∙ ap (λ o. o.line_ends) c.requires.nothing in
-    let ends : c.if-file.line_ends ≡ (if c.file-file.result.now.torn then 1 else 0) = elim c.if-file.branch [
+    let ends : c.if-file.line_ends ≡ (if c.file-file.result.now.ends_mid_line then 1 else 0) = elim c.if-file.branch [
       | then-file w ↦ w.line_ends-is ∙ rw w.if-file.true refl
       | else-file w ↦ w.line_ends-is ∙ rw w.if-file.false refl
     ] in
-    ends_few _ _ c.file-file.result.now.torn ends none
+    ends_few _ _ c.file-file.result.now.ends_mid_line ends none
 
 pub invariant_of-self : goal.invariant_of-self
 invariant_of-self g c =
@@ -29,15 +29,15 @@ invariant_of-self g c =
 pub returns : goal.returns
 unfolding left_engine
 returns g c =
-    let ends : c.if-file.line_ends ≡ (if c.file-file.result.now.torn then 1 else 0) = elim c.if-file.branch [
+    let ends : c.if-file.line_ends ≡ (if c.file-file.result.now.ends_mid_line then 1 else 0) = elim c.if-file.branch [
       | then-file w ↦ w.line_ends-is ∙ rw w.if-file.true refl
       | else-file w ↦ w.line_ends-is ∙ rw w.if-file.false refl
     ] in
-    let queues : c.queue_origin.new.self ≡ pending_behind c.self.inside.origins c.self.inside.files.nest =
-    queues_behind c.self.inside.origins c.self.inside.files.nest _ c.file-file.result.now c.file-around.result.now c.self.inside.pending c.queue_line_ends.new.self c.queue_origin.new.self c.if-file.line_ends c.shown_line-shown.result
-    c.file-file.ensures.inner (sym (ap (λ f. f.nest) c.leave.ensures) ∙ c.file-around.ensures.inner) (ap (λ e. e.pending) c.self.view_is ∙ c.requires.nothing) ends c.shown_line-shown.ensures
+    let queues : c.queue_origin.new.self ≡ pending_behind c.self.inside.origins c.self.inside.files.include_stack =
+    queues_behind c.self.inside.origins c.self.inside.files.include_stack _ c.file-file.result.now c.file-around.result.now c.self.inside.pending c.queue_line_ends.new.self c.queue_origin.new.self c.if-file.line_ends c.shown_line-shown.result
+    c.file-file.ensures.inner (sym (ap (λ f. f.include_stack) c.leave.ensures) ∙ c.file-around.ensures.inner) (ap (λ e. e.pending) c.self.view_is ∙ c.requires.nothing) ends c.shown_line-shown.ensures
     c.queue_line_ends.ensures c.queue_origin.ensures in
-    let marks : c.end_line.new.self ≡ marks_behind c.self.inside.files.nest c.self.inside.marks =
-    c.end_line.ensures ∙ marks_two c.self.inside.files.nest _ c.file-file.result.now c.file-around.result.now c.self.inside.marks c.if-file.line_ends c.shown_line-shown.result c.file-around.result.now.name.bytes
-    c.file-file.ensures.inner (sym (ap (λ f. f.nest) c.leave.ensures) ∙ c.file-around.ensures.inner) ends c.shown_line-shown.ensures refl in
+    let marks : c.end_line.new.self ≡ marks_behind c.self.inside.files.include_stack c.self.inside.marks =
+    c.end_line.ensures ∙ marks_two c.self.inside.files.include_stack _ c.file-file.result.now c.file-around.result.now c.self.inside.marks c.if-file.line_ends c.shown_line-shown.result c.file-around.result.now.name.bytes
+    c.file-file.ensures.inner (sym (ap (λ f. f.include_stack) c.leave.ensures) ∙ c.file-around.ensures.inner) ends c.shown_line-shown.ensures refl in
     rw (← c.self.view_is, c.leave.ensures, queues, marks) refl

@@ -13,8 +13,8 @@ use Rattle.rdlpp_expand.proofs.engine.Engine.named.Goals as goal
 
 pub word_of-word-requires : goal.word_of-word-requires
 word_of-word-requires g c =
-    let h = held_of (inner_buffer c.args.self.now.files.nest) in
-    let held : c.held.result.now ≡ h = c.held.ensures.value ∙ ap held_of (c.file.ensures.buffer ∙ ap (λ e. inner_buffer e.files.nest) c.self.view_is) in
+    let h = held_of (inner_buffer c.args.self.now.files.include_stack) in
+    let held : c.held.result.now ≡ h = c.held.ensures.value ∙ ap held_of (c.file.ensures.buffer ∙ ap (λ e. inner_buffer e.files.include_stack) c.self.view_is) in
     rw held (name_word c.requires.given.0 h _ _ (subst (IsNamed c.requires.given.0 h) c.in-Some.is c.requires.given.1))
 
 pub returns-in-None : goal.returns-in-None
@@ -27,9 +27,9 @@ pub returns-then-is_some : goal.returns-then-is_some
 unfolding given_name
 returns-then-is_some g c =
     let e = c.args.self.now in
-    let h = held_of (inner_buffer e.files.nest) in
+    let h = held_of (inner_buffer e.files.include_stack) in
     let a = c.in-Some.given in
-    let held : c.held.result.now ≡ h = c.held.ensures.value ∙ ap held_of (c.file.ensures.buffer ∙ ap (λ e. inner_buffer e.files.nest) c.self.view_is) in
+    let held : c.held.result.now ≡ h = c.held.ensures.value ∙ ap held_of (c.file.ensures.buffer ∙ ap (λ e. inner_buffer e.files.include_stack) c.self.view_is) in
     let name : List ℕ → List ℕ = λ z. argument_name z a.start a.stop in
     let taken : is_reserved (name h) ≡ true = ap (λ z. is_reserved (name z)) (sym held) ∙ (sym c.reserved.ensures.reserved ∙ (sym c.is_some.ensures ∙ c.if-is_some.true)) in
     let word : c.word_of-word.result.bytes ≡ take 128 (name h) = c.word_of-word.ensures ∙ ap (λ z. take 128 (name z)) held in
@@ -42,9 +42,9 @@ pub returns-else-is_some : goal.returns-else-is_some
 unfolding given_name
 returns-else-is_some g c =
     let e = c.args.self.now in
-    let h = held_of (inner_buffer e.files.nest) in
+    let h = held_of (inner_buffer e.files.include_stack) in
     let a = c.in-Some.given in
-    let held : c.held.result.now ≡ h = c.held.ensures.value ∙ ap held_of (c.file.ensures.buffer ∙ ap (λ e. inner_buffer e.files.nest) c.self.view_is) in
+    let held : c.held.result.now ≡ h = c.held.ensures.value ∙ ap held_of (c.file.ensures.buffer ∙ ap (λ e. inner_buffer e.files.include_stack) c.self.view_is) in
     let free : is_reserved (argument_name h a.start a.stop) ≡ false =
     ap (λ z. is_reserved (argument_name z a.start a.stop)) (sym held) ∙ (sym c.reserved.ensures.reserved ∙ (sym c.is_some.ensures ∙ c.if-is_some.false)) in
     subst (λ (x : Option Argument). LooksAtName x e e (Ok a)) (sym c.in-Some.is) (refl, rw free refl, refl)

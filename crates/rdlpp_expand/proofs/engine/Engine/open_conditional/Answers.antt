@@ -21,10 +21,10 @@ returns-in-Ok-clause-walks g c = λ bounded.
     let e = c.args.self.now in
     let a = c.in-Ok.given in
     let looks : LooksAtName c.args.argument e c.named.new.self (Ok a) = c.in-Ok.ensures in
-    let h = held_of (inner_buffer e.files.nest) in
+    let h = held_of (inner_buffer e.files.include_stack) in
     let name = argument_name h a.start a.stop in
     let same = c.self.view_is ∙ looks.2 in
-    let held : c.held.result.now ≡ h = c.held.ensures.value ∙ ap held_of (c.file.ensures.buffer ∙ ap (λ e. inner_buffer e.files.nest) same) in
+    let held : c.held.result.now ≡ h = c.held.ensures.value ∙ ap held_of (c.file.ensures.buffer ∙ ap (λ e. inner_buffer e.files.include_stack) same) in
     let macros : macro_named e.table.macros name ≡ option_map (macro_at e.table.macros) c.find.result = rw (← held, ← same) c.find.ensures.named in
     let found : c.is_some-found.result ≡ is_some (macro_named e.table.macros name) = c.is_some-found.ensures ∙ found_by (macro_at e.table.macros) (macro_named e.table.macros name) c.find.result macros in
     opening_named g.S.Sources e c.open_tested.new.self c.requires.ready bounded c.requires.some c.requires.mode c.requires.live c.args.defined (Some a)

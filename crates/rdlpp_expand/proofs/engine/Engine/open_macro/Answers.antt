@@ -27,14 +27,14 @@ pub invariant_of-self : goal.invariant_of-self
 invariant_of-self g c =
     let o = c.open_usage-opening.ensures in
     let files = c.self.inside.files in
-    let b = inner_buffer c.open_usage-opening.new.files.nest in
-    let counts = (inner_facts files (rw (← c.self.view_is) at c.requires.ready.nest) (rw (← c.self.view_is) at c.facts.ensures.files)).buffer.counts in
+    let b = inner_buffer c.open_usage-opening.new.files.include_stack in
+    let counts = (inner_facts files (rw (← c.self.view_is) at c.requires.ready.include_stack) (rw (← c.self.view_is) at c.facts.ensures.files)).buffer.counts in
     let unused = o.uses.unused in
-    let less : unused_of b ≤ unused_of (inner_buffer files.nest) = omega arith in
+    let less : unused_of b ≤ unused_of (inner_buffer files.include_stack) = omega arith in
     whole_usage _ _ _ files _ _ c.self.invariant _ _ (used_file b o.uses.used)
     (ap (λ e. e.phase) c.self.view_is ∙ c.requires.ready.open_)
-    (o.only ∙ ap (λ ns. record files { nest = ns }) o.uses.inner) (λ f. refl)
-    (subst (λ ns. unused_of (inner_buffer ns) ≤ unused_of (inner_buffer files.nest)) o.uses.inner less)
+    (o.only ∙ ap (λ ns. record files { include_stack = ns }) o.uses.inner) (λ f. refl)
+    (subst (λ ns. unused_of (inner_buffer ns) ≤ unused_of (inner_buffer files.include_stack)) o.uses.inner less)
     o.limits.0 o.limits.1 (o.sound)
     (line_few c.open_usage-opening.result _ _ _ (2 ^ 63) o.line (omega arith) c.self.invariant.texts.line)
 

@@ -12,7 +12,7 @@ use Rattle.rdlpp_expand.proofs.engine.Engine.open_tested.Goals as goal
 pub shown_line-line-requires : goal.shown_line-line-requires
 shown_line-line-requires g c =
     let number = inner_number c.self.inside.files c.file-file.result.now _ c.file-file.ensures.inner c.facts.ensures in
-    let counts = (inner_facts c.self.inside.files (rw (← c.self.view_is) at c.requires.ready.nest) c.facts.ensures).buffer.counts in
+    let counts = (inner_facts c.self.inside.files (rw (← c.self.view_is) at c.requires.ready.include_stack) c.facts.ensures).buffer.counts in
     let line = c.line.ensures ∙ ap (λ b. b.line) c.file-file.ensures.buffer in
     omega arith
 
@@ -21,13 +21,13 @@ invariant_of-self-in-Ok g c =
     let opens = c.in-Ok.ensures in
     let room = one_opens c.in-Ok.field-0 c.self.inside.conditions c.args.holds opens.test in
     whole_with _ _ _ _ c.self.inside.conditions _ _ c.self.invariant
-    (rw opens.becomes (conditions_one _ c.self.inside.conditions c.self.inside.files.nest (rw (← c.self.view_is) at c.requires.ready.nest) c.self.invariant.sources.conditions_of c.shown_line-line.result c.args.holds room))
+    (rw opens.becomes (conditions_one _ c.self.inside.conditions c.self.inside.files.include_stack (rw (← c.self.view_is) at c.requires.ready.include_stack) c.self.invariant.sources.conditions_of c.shown_line-line.result c.args.holds room))
 
 pub returns-in-Err : goal.returns-in-Err
 returns-in-Err g c =
     let e = c.args.self.now in
     let opens : Opens {A = Unit {0}} (Err c.in-Err.kind) c.shown_line-line.result c.args.holds e.conditions c.open.new.self = rw (← c.self.view_is) c.in-Err.ensures in
-    let kept : c.refuse.new.self ≡ record (record e { conditions = c.open.new.self }) { kept = Some (fault_at c.in-Err.kind (inner_buffer e.files.nest).line [] (state_of (record e { conditions = c.open.new.self }))) } =
+    let kept : c.refuse.new.self ≡ record (record e { conditions = c.open.new.self }) { kept = Some (fault_at c.in-Err.kind (inner_buffer e.files.include_stack).line [] (state_of (record e { conditions = c.open.new.self }))) } =
     rw (← c.self.view_is) (rw c.new.ensures at c.refuse.ensures.kept) in
     unopened_by {A = Unit {0}} c.in-Err.kind c.args.holds c.args.len c.shown_line-line.result e c.refuse.new.self c.open.new.self c.refuse.result opens c.refuse.ensures.place kept
 
@@ -35,8 +35,8 @@ pub returns-in-Ok : goal.returns-in-Ok
 unfolding goes_past
 returns-in-Ok g c =
     let e = c.args.self.now in
-    let line : c.shown_line-line.result ≡ inner_shown e.files.nest =
+    let line : c.shown_line-line.result ≡ inner_shown e.files.include_stack =
     c.shown_line-line.ensures ∙ (ap (λ n. shown_line (shift_of c.file-file.result.now.shift) n) c.line.ensures
-    ∙ (sym (ap inner_shown c.file-file.ensures.inner) ∙ ap (λ e. inner_shown e.files.nest) c.self.view_is)) in
+    ∙ (sym (ap inner_shown c.file-file.ensures.inner) ∙ ap (λ e. inner_shown e.files.include_stack) c.self.view_is)) in
     let opens : Opens {A = Unit {0}} (Ok c.in-Ok.field-0) c.shown_line-line.result c.args.holds e.conditions c.open.new.self = rw (← c.self.view_is) c.in-Ok.ensures in
     opened_by c.in-Ok.field-0 c.args.holds c.args.len c.shown_line-line.result e c.consume.new.self c.open.new.self opens (rw (← c.self.view_is) c.consume.ensures.used) line

@@ -32,9 +32,9 @@ returns-in-Failed-clause-walks g c = λ bounded.
 pub returns-in-Refused-clause-walks : goal.returns-in-Refused-clause-walks
 returns-in-Refused-clause-walks g c = λ bounded.
     let e = c.args.self.now in
-    let same = c.file.ensures.buffer ∙ ap (λ e. inner_buffer e.files.nest) c.self.view_is in
-    let line : c.line-line.result ≡ (inner_buffer e.files.nest).line = c.line-line.ensures ∙ ap (λ b. b.line) same in
-    let name = usage_name (held_of (inner_buffer e.files.nest)) c.args.len in
+    let same = c.file.ensures.buffer ∙ ap (λ e. inner_buffer e.files.include_stack) c.self.view_is in
+    let line : c.line-line.result ≡ (inner_buffer e.files.include_stack).line = c.line-line.ensures ∙ ap (λ b. b.line) same in
+    let name = usage_name (held_of (inner_buffer e.files.include_stack)) c.args.len in
     let word : c.word_of-word.result.bytes ≡ take 128 name = c.word_of-word.ensures ∙ ap (take 128)
     (used_name c.self-in-Refused.inside.table e.table name c.name.result.now c.args.id
     (ap (λ v. v.table) c.self-in-Refused.view_is ∙ ap (λ v. v.table) c.open_macro.ensures.becomes) c.name.ensures c.requires.named) in
@@ -45,7 +45,7 @@ returns-in-Refused-clause-walks g c = λ bounded.
 pub word_of-word-requires : goal.word_of-word-requires
 word_of-word-requires g c =
     let e = c.args.self.now in
-    let name = usage_name (held_of (inner_buffer e.files.nest)) c.args.len in
+    let name = usage_name (held_of (inner_buffer e.files.include_stack)) c.args.len in
     let own : c.name.result.now ≡ name =
     used_name c.self-in-Refused.inside.table e.table name c.name.result.now c.args.id
     (ap (λ v. v.table) c.self-in-Refused.view_is ∙ ap (λ v. v.table) c.open_macro.ensures.becomes) c.name.ensures c.requires.named in
@@ -53,7 +53,7 @@ word_of-word-requires g c =
 
 pub refuse_at-requires-clause-line : goal.refuse_at-requires-clause-line
 refuse_at-requires-clause-line g c =
-    let same = c.file.ensures.buffer ∙ ap (λ e. inner_buffer e.files.nest) c.self.view_is in
-    let counts = (inner_facts c.args.self.now.files c.requires.ready.nest c.requires.ready.files).buffer.counts in
+    let same = c.file.ensures.buffer ∙ ap (λ e. inner_buffer e.files.include_stack) c.self.view_is in
+    let counts = (inner_facts c.args.self.now.files c.requires.ready.include_stack c.requires.ready.files).buffer.counts in
     let line = c.line-line.ensures ∙ ap (λ b. b.line) same in
     omega arith

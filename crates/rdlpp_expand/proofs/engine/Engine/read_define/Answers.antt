@@ -11,7 +11,7 @@ use Rattle.rdlpp_expand.proofs.engine.Engine.read_define.Goals as goal
 
 pub consume-requires-clause-lines : goal.consume-requires-clause-lines
 consume-requires-clause-lines g c =
-    let held : c.held.result.now ≡ held_of (inner_buffer c.args.self.now.files.nest) = c.held.ensures.value ∙ ap held_of (c.file-file.ensures.buffer ∙ ap (λ e. inner_buffer e.files.nest) c.self.view_is) in
+    let held : c.held.result.now ≡ held_of (inner_buffer c.args.self.now.files.include_stack) = c.held.ensures.value ∙ ap held_of (c.file-file.ensures.buffer ∙ ap (λ e. inner_buffer e.files.include_stack) c.self.view_is) in
     let few : length (take c.args.len c.held.result.now) ≡ c.args.len = length-take-le c.args.len c.held.result.now (rw held c.requires.inside) in
     let most = line_ends_le (take c.args.len c.held.result.now) in
     let count = c.line_ends_in-lines.ensures in
@@ -29,8 +29,8 @@ pub returns-in-Err-clause-reads : goal.returns-in-Err-clause-reads
 unfolding observed
 returns-in-Err-clause-reads g c =
     let e = c.args.self.now in
-    let held : c.held.result.now ≡ held_of (inner_buffer e.files.nest) = c.held.ensures.value ∙ ap held_of (c.file-file.ensures.buffer ∙ ap (λ e. inner_buffer e.files.nest) c.self.view_is) in
-    let inside : c.held.result.now ≡ held_of (inner_buffer c.self.inside.files.nest) = c.held.ensures.value ∙ ap held_of c.file-file.ensures.buffer in
+    let held : c.held.result.now ≡ held_of (inner_buffer e.files.include_stack) = c.held.ensures.value ∙ ap held_of (c.file-file.ensures.buffer ∙ ap (λ e. inner_buffer e.files.include_stack) c.self.view_is) in
+    let inside : c.held.result.now ≡ held_of (inner_buffer c.self.inside.files.include_stack) = c.held.ensures.value ∙ ap held_of c.file-file.ensures.buffer in
     let wide : length (take c.args.len c.held.result.now) ≡ c.args.len = length-take-le c.args.len c.held.result.now (rw held c.requires.inside) in
     let rest = behind_word (take c.args.len c.held.result.now) c.args.len c.min.result wide c.min.ensures in
     let refused : define_of e.table.most_bytes e.table.most_macros e.table.macros (define_rest e c.args.len) ≡ Refused c.in-Err.fault.kind c.in-Err.fault.word.bytes =
@@ -46,13 +46,13 @@ pub returns-in-Ok-clause-reads : goal.returns-in-Ok-clause-reads
 unfolding observed
 returns-in-Ok-clause-reads g c =
     let e = c.args.self.now in
-    let held : c.held.result.now ≡ held_of (inner_buffer e.files.nest) = c.held.ensures.value ∙ ap held_of (c.file-file.ensures.buffer ∙ ap (λ e. inner_buffer e.files.nest) c.self.view_is) in
-    let inside : c.held.result.now ≡ held_of (inner_buffer c.self.inside.files.nest) = c.held.ensures.value ∙ ap held_of c.file-file.ensures.buffer in
+    let held : c.held.result.now ≡ held_of (inner_buffer e.files.include_stack) = c.held.ensures.value ∙ ap held_of (c.file-file.ensures.buffer ∙ ap (λ e. inner_buffer e.files.include_stack) c.self.view_is) in
+    let inside : c.held.result.now ≡ held_of (inner_buffer c.self.inside.files.include_stack) = c.held.ensures.value ∙ ap held_of c.file-file.ensures.buffer in
     let wide : length (take c.args.len c.held.result.now) ≡ c.args.len = length-take-le c.args.len c.held.result.now (rw held c.requires.inside) in
     let rest = behind_word (take c.args.len c.held.result.now) c.args.len c.min.result wide c.min.ensures in
     let accepted : define_of e.table.most_bytes e.table.most_macros e.table.macros (define_rest e c.args.len) ≡ Accepted c.read_define.new.self.macros =
     rw (← c.self.view_is) (defined_same _ _ _ _ _ _ c.in-Ok.ensures.outcome (rest ∙ ap (λ h. drop 7 (take c.args.len h)) inside)) in
-    let counted : c.line_ends_in-lines.result ≡ line_ends (take c.args.len (held_of (inner_buffer e.files.nest))) = c.line_ends_in-lines.ensures ∙ ap (λ h. line_ends (take c.args.len h)) held in
+    let counted : c.line_ends_in-lines.result ≡ line_ends (take c.args.len (held_of (inner_buffer e.files.include_stack))) = c.line_ends_in-lines.ensures ∙ ap (λ h. line_ends (take c.args.len h)) held in
     let grows : PendingView → PendingView = λ o. record o { line_ends = o.line_ends + c.line_ends_in-lines.result } in
     defines_by c.args.len e c.consume.new.self _ c.read_define.new.self c.queue_line_ends.new.self c.line_ends_in-lines.result
     (rw (← c.self.view_is) c.consume.ensures.used) (owing _ c.consume.new.self c.queue_line_ends.new.self c.self-in-Ok.view_is)

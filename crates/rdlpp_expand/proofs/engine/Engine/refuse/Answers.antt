@@ -13,5 +13,5 @@ refuse_at-requires-clause-line g c =
 
 pub returns-clause-kept : goal.returns-clause-kept
 returns-clause-kept g c =
-    let line : c.line-line.result ≡ (inner_buffer c.args.self.now.files.nest).line = c.line-line.ensures ∙ (ap (λ b. b.line) c.file.ensures.buffer ∙ ap (λ e. (inner_buffer e.files.nest).line) c.self.view_is) in
+    let line : c.line-line.result ≡ (inner_buffer c.args.self.now.files.include_stack).line = c.line-line.ensures ∙ (ap (λ b. b.line) c.file.ensures.buffer ∙ ap (λ e. (inner_buffer e.files.include_stack).line) c.self.view_is) in
     c.refuse_at.ensures.kept ∙ ap (λ n. record c.args.self.now { kept = Some (fault_at c.args.kind n c.args.word.bytes (state_of c.args.self.now)) }) line

@@ -15,5 +15,5 @@ unfolding told state_of
 returns-clause-kept g c =
     let name = c.copied.ensures in
     let shown = c.shown_line.ensures in
-    let fault = told_first c.self.inside.limits c.self.inside.table.macros c.self.inside.conditions c.self.inside.files.nest c.file-file.result.now _ c.args.kind c.args.line c.args.word.bytes c.file-file.ensures.inner (omega arith) in
+    let fault = told_first c.self.inside.limits c.self.inside.table.macros c.self.inside.conditions c.self.inside.files.include_stack c.file-file.result.now _ c.args.kind c.args.line c.args.word.bytes c.file-file.ensures.inner (omega arith) in
     rw (← c.self.view_is) (cc)

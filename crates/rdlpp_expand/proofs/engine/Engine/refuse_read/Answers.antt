@@ -9,7 +9,7 @@ use Rattle.rdlpp_expand.proofs.engine.Engine.refuse_read.Goals as goal
 pub refuse_at-requires-clause-line : goal.refuse_at-requires-clause-line
 unfolding reading_line_of
 refuse_at-requires-clause-line g c =
-    let b = inner_buffer c.self.inside.files.nest in
+    let b = inner_buffer c.self.inside.files.include_stack in
     let counts = (inner_facts c.self.inside.files (rw (← c.self.view_is) at c.requires) c.facts.ensures).buffer.counts in
     let line : c.reading_line-line.result ≡ reading_line_of b = c.reading_line-line.ensures ∙ ap reading_line_of c.file.ensures.buffer in
     let most = line_ends_le (held_of b) in
@@ -18,6 +18,6 @@ refuse_at-requires-clause-line g c =
 
 pub returns-clause-kept : goal.returns-clause-kept
 returns-clause-kept g c =
-    let line : c.reading_line-line.result ≡ reading_line_of (inner_buffer c.args.self.now.files.nest) = c.reading_line-line.ensures ∙ (ap reading_line_of c.file.ensures.buffer ∙ ap (λ e. reading_line_of (inner_buffer e.files.nest)) c.self.view_is) in
+    let line : c.reading_line-line.result ≡ reading_line_of (inner_buffer c.args.self.now.files.include_stack) = c.reading_line-line.ensures ∙ (ap reading_line_of c.file.ensures.buffer ∙ ap (λ e. reading_line_of (inner_buffer e.files.include_stack)) c.self.view_is) in
     let word = c.new.ensures in
     c.refuse_at.ensures.kept ∙ rw (line, word) refl

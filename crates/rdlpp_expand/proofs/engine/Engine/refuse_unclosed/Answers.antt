@@ -7,5 +7,5 @@ pub returns-clause-kept : goal.returns-clause-kept
 unfolding told state_of
 returns-clause-kept g c =
     let name = c.copied.ensures in
-    let shown = named_state c.self.inside.limits c.self.inside.table.macros c.self.inside.conditions c.self.inside.files.nest c.file.result.now _ c.file.ensures.inner in
+    let shown = named_state c.self.inside.limits c.self.inside.table.macros c.self.inside.conditions c.self.inside.files.include_stack c.file.result.now _ c.file.ensures.inner in
     rw (← c.self.view_is) (cc)

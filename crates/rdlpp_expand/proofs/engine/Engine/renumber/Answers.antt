@@ -12,7 +12,7 @@ use Rattle.rdlpp_expand.proofs.engine.Engine.renumber.Goals as goal
 pub consume-requires-clause-lines : goal.consume-requires-clause-lines
 consume-requires-clause-lines g c =
     let len = 5 + c.args.given.stop in
-    let held : c.held.result.now ≡ held_of (inner_buffer c.args.self.now.files.nest) = c.held.ensures.value ∙ ap held_of (c.file.ensures.buffer ∙ ap (λ e. inner_buffer e.files.nest) c.self.view_is) in
+    let held : c.held.result.now ≡ held_of (inner_buffer c.args.self.now.files.include_stack) = c.held.ensures.value ∙ ap held_of (c.file.ensures.buffer ∙ ap (λ e. inner_buffer e.files.include_stack) c.self.view_is) in
     let few : length (take len c.held.result.now) ≡ len = length-take-le len c.held.result.now (rw held c.requires.inside) in
     let most = line_ends_le (take len c.held.result.now) in
     let count = c.line_ends_in-lines.ensures in
@@ -31,10 +31,10 @@ pub returns : goal.returns
 returns g c =
     let e = c.args.self.now in
     let len = 5 + c.args.given.stop in
-    let buffer = c.file.ensures.buffer ∙ ap (λ e. inner_buffer e.files.nest) c.self.view_is in
-    let held : c.held.result.now ≡ held_of (inner_buffer e.files.nest) = c.held.ensures.value ∙ ap held_of buffer in
-    let counted : c.line_ends_in-lines.result ≡ line_ends (take len (held_of (inner_buffer e.files.nest))) = c.line_ends_in-lines.ensures ∙ ap (λ h. line_ends (take len h)) held in
-    let here : c.line-from.result + 1 ≡ (inner_buffer e.files.nest).line + 1 = ap (λ n. n + 1) (c.line-from.ensures ∙ ap (λ b. b.line) buffer) in
+    let buffer = c.file.ensures.buffer ∙ ap (λ e. inner_buffer e.files.include_stack) c.self.view_is in
+    let held : c.held.result.now ≡ held_of (inner_buffer e.files.include_stack) = c.held.ensures.value ∙ ap held_of buffer in
+    let counted : c.line_ends_in-lines.result ≡ line_ends (take len (held_of (inner_buffer e.files.include_stack))) = c.line_ends_in-lines.ensures ∙ ap (λ h. line_ends (take len h)) held in
+    let here : c.line-from.result + 1 ≡ (inner_buffer e.files.include_stack).line + 1 = ap (λ n. n + 1) (c.line-from.ensures ∙ ap (λ b. b.line) buffer) in
     let grows : PendingView → PendingView = λ o. record o { line_ends = o.line_ends + c.line_ends_in-lines.result } in
     renumbers_by c.args.given e c.consume.new.self c.show.new.self _ (c.line-from.result + 1) c.line_ends_in-lines.result c.queue_line_ends.new.self c.queue_origin.new.self c.shown_place-place.result.name.bytes c.shown_place-place.result.line
     c.consume.ensures.used c.show.ensures

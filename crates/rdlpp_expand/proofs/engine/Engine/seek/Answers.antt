@@ -9,13 +9,13 @@ use Rattle.rdlpp_expand.proofs.engine.Engine.seek.Goals.{in-Ok, in-Err}
 
 pub returns-clause-sought : goal.returns-clause-sought
 returns-clause-sought g c =
-    let nest = c.self.inside.files.nest in
-    let held : c.held.result.now ≡ held_of (inner_buffer nest) = c.held.ensures.value ∙ ap held_of c.file-file.ensures.buffer in
-    let name = include_name (held_of (inner_buffer nest)) c.args.start c.args.stop in
+    let include_stack = c.self.inside.files.include_stack in
+    let held : c.held.result.now ≡ held_of (inner_buffer include_stack) = c.held.ensures.value ∙ ap held_of c.file-file.ensures.buffer in
+    let name = include_name (held_of (inner_buffer include_stack)) c.args.start c.args.stop in
     let same : c.in-Some.name.now ≡ name = c.in-Some.ensures.name.0 ∙ ap (λ h. include_name h c.args.start c.args.stop) held in
     let good : is_bad_name name ≡ false = ap (λ h. is_bad_name (include_name h c.args.start c.args.stop)) (sym held) ∙ c.in-Some.ensures.name.1 in
-    let path : c.as_str.result.now ≡ inner_path nest = c.as_str.ensures.value ∙ sym (ap inner_path c.file-file.ensures.inner) in
-    let room : length nest < c.self.inside.files.slots = c.is_full.ensures.room c.if-is_full.false in
+    let path : c.as_str.result.now ≡ inner_path include_stack = c.as_str.ensures.value ∙ sym (ap inner_path c.file-file.ensures.inner) in
+    let room : length include_stack < c.self.inside.files.slots = c.is_full.ensures.room c.if-is_full.false in
     elim c.match-find.branch [
       | in-Ok w ↦
           let e = w.in-Ok.ensures in

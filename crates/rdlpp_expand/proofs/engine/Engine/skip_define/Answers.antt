@@ -13,20 +13,20 @@ use Rattle.rdlpp_state.proofs.Stores.{own_kind}
 
 pub slice_bounds-line_ends_in-end : goal.slice_bounds-line_ends_in-end
 slice_bounds-line_ends_in-end g c =
-    let same = c.file.ensures.buffer ∙ ap (λ e. inner_buffer e.files.nest) c.self.view_is in
-    let held : c.held.result.now ≡ held_of (inner_buffer c.hold_line.new.self.files.nest) = c.held.ensures.value ∙ ap held_of same in
+    let same = c.file.ensures.buffer ∙ ap (λ e. inner_buffer e.files.include_stack) c.self.view_is in
+    let held : c.held.result.now ≡ held_of (inner_buffer c.hold_line.new.self.files.include_stack) = c.held.ensures.value ∙ ap held_of same in
     sym (length-take-le c.in-Whole.len c.held.result.now (rw held (c.in-Whole.ensures.holds.has.0)))
 
-pub pass-requires-clause-nest : goal.pass-requires-clause-nest
-pass-requires-clause-nest g c = c.facts.ensures.sound.open_ (opened_phase _ (ap (λ e. e.phase) c.in-Whole.ensures.becomes ∙ c.requires.ready.open_))
+pub pass-requires-clause-include_stack : goal.pass-requires-clause-include_stack
+pass-requires-clause-include_stack g c = c.facts.ensures.sound.open_ (opened_phase _ (ap (λ e. e.phase) c.in-Whole.ensures.becomes ∙ c.requires.ready.open_))
 
 pub pass-requires-clause-inside : goal.pass-requires-clause-inside
 pass-requires-clause-inside g c = c.in-Whole.ensures.holds.has.0
 
 pub pass-requires-clause-lines : goal.pass-requires-clause-lines
 pass-requires-clause-lines g c =
-    let same = c.file.ensures.buffer ∙ ap (λ e. inner_buffer e.files.nest) c.self.view_is in
-    let held : c.held.result.now ≡ held_of (inner_buffer c.hold_line.new.self.files.nest) = c.held.ensures.value ∙ ap held_of same in
+    let same = c.file.ensures.buffer ∙ ap (λ e. inner_buffer e.files.include_stack) c.self.view_is in
+    let held : c.held.result.now ≡ held_of (inner_buffer c.hold_line.new.self.files.include_stack) = c.held.ensures.value ∙ ap held_of same in
     let few : length (take c.in-Whole.len c.held.result.now) ≡ c.in-Whole.len = length-take-le c.in-Whole.len c.held.result.now (rw held (c.in-Whole.ensures.holds.has.0)) in
     let most = line_ends_le (take c.in-Whole.len c.held.result.now) in
     let count = c.line_ends_in-lines.ensures in
@@ -41,10 +41,10 @@ returns-in-Whole-clause-walks g c = λ bounded.
     let e = c.in-Whole.ensures in
     let r : IsRead g.S.Sources o c.hold_line.new.self = record { becomes = e.becomes; only = e.only; moves = slid _ _ _ _ _ e.holds.slides } in
     let has = e.holds.has in
-    let same = c.file.ensures.buffer ∙ ap (λ e. inner_buffer e.files.nest) c.self.view_is in
-    let held : c.held.result.now ≡ held_of (inner_buffer c.hold_line.new.self.files.nest) = c.held.ensures.value ∙ ap held_of same in
-    let counted : c.line_ends_in-lines.result ≡ line_ends (take c.in-Whole.len (held_of (inner_buffer c.hold_line.new.self.files.nest))) = c.line_ends_in-lines.ensures ∙ ap (λ h. line_ends (take c.in-Whole.len h)) held in
-    let wide = define_inside _ _ _ e.holds.extends.more (inner_buffer c.hold_line.new.self.files.nest) c.in-Whole.len c.requires.some c.requires.define e.holds.extends.held has.1 in
+    let same = c.file.ensures.buffer ∙ ap (λ e. inner_buffer e.files.include_stack) c.self.view_is in
+    let held : c.held.result.now ≡ held_of (inner_buffer c.hold_line.new.self.files.include_stack) = c.held.ensures.value ∙ ap held_of same in
+    let counted : c.line_ends_in-lines.result ≡ line_ends (take c.in-Whole.len (held_of (inner_buffer c.hold_line.new.self.files.include_stack))) = c.line_ends_in-lines.ensures ∙ ap (λ h. line_ends (take c.in-Whole.len h)) held in
+    let wide = define_inside _ _ _ e.holds.extends.more (inner_buffer c.hold_line.new.self.files.include_stack) c.in-Whole.len c.requires.some c.requires.define e.holds.extends.held has.1 in
     let some = c.facts.ensures.sound.open_ (opened_phase _ (ap (λ e. e.phase) e.becomes ∙ c.requires.ready.open_)) in
     define_steps g.S.Sources o c.pass.new.self c.requires.ready bounded c.requires.some (skipping o c.requires.ready c.requires.skipped) c.requires.mode c.requires.define c.hold_line.new.self r
     c.in-Whole.len c.line_ends_in-lines.result e.holds (called g.S.Sources false _ _ e.call) (omega arith) has.0 (held_few c.hold_line.new.self c.facts.ensures.sound c.facts.ensures.files some) counted c.pass.ensures

@@ -11,11 +11,11 @@ use Rattle.rdlpp_expand.proofs.engine.Engine.skip_front.Goals as goal
 pub pass-requires-clause-inside : goal.pass-requires-clause-inside
 pass-requires-clause-inside g c =
     let e = c.args.self.now in
-    let same = c.file.ensures.buffer ∙ ap (λ e. inner_buffer e.files.nest) c.self.view_is in
-    let held : c.held.result.now ≡ held_of (inner_buffer c.args.self.now.files.nest) = c.held.ensures.value ∙ ap held_of same in
-    let mode : c.mode.result ≡ (inner_buffer c.args.self.now.files.nest).mode = c.mode.ensures ∙ ap (λ b. b.mode) same in
-    let inside : c.skip_text-stretch.result.len ≤ length (held_of (inner_buffer e.files.nest)) = rw (← held) c.skip_text-stretch.ensures.inside in
-    let same_held : held_of (inner_buffer c.enter_mode.new.self.files.nest) ≡ held_of (inner_buffer e.files.nest) = ap (λ e. held_of (inner_buffer e.files.nest)) c.enter_mode.ensures ∙ entered_holds _ _ in
+    let same = c.file.ensures.buffer ∙ ap (λ e. inner_buffer e.files.include_stack) c.self.view_is in
+    let held : c.held.result.now ≡ held_of (inner_buffer c.args.self.now.files.include_stack) = c.held.ensures.value ∙ ap held_of same in
+    let mode : c.mode.result ≡ (inner_buffer c.args.self.now.files.include_stack).mode = c.mode.ensures ∙ ap (λ b. b.mode) same in
+    let inside : c.skip_text-stretch.result.len ≤ length (held_of (inner_buffer e.files.include_stack)) = rw (← held) c.skip_text-stretch.ensures.inside in
+    let same_held : held_of (inner_buffer c.enter_mode.new.self.files.include_stack) ≡ held_of (inner_buffer e.files.include_stack) = ap (λ e. held_of (inner_buffer e.files.include_stack)) c.enter_mode.ensures ∙ entered_holds _ _ in
     rw same_held inside
 
 pub pass-requires-clause-lines : goal.pass-requires-clause-lines
@@ -28,13 +28,13 @@ pass-requires-clause-lines g c =
 pub returns-clause-walks : goal.returns-clause-walks
 returns-clause-walks g c = λ bounded.
     let e = c.args.self.now in
-    let h = held_of (inner_buffer e.files.nest) in
-    let same = c.file.ensures.buffer ∙ ap (λ e. inner_buffer e.files.nest) c.self.view_is in
-    let held : c.held.result.now ≡ held_of (inner_buffer c.args.self.now.files.nest) = c.held.ensures.value ∙ ap held_of same in
-    let mode : c.mode.result ≡ (inner_buffer c.args.self.now.files.nest).mode = c.mode.ensures ∙ ap (λ b. b.mode) same in
+    let h = held_of (inner_buffer e.files.include_stack) in
+    let same = c.file.ensures.buffer ∙ ap (λ e. inner_buffer e.files.include_stack) c.self.view_is in
+    let held : c.held.result.now ≡ held_of (inner_buffer c.args.self.now.files.include_stack) = c.held.ensures.value ∙ ap held_of same in
+    let mode : c.mode.result ≡ (inner_buffer c.args.self.now.files.include_stack).mode = c.mode.ensures ∙ ap (λ b. b.mode) same in
     let inside : c.skip_text-stretch.result.len ≤ length h = rw (← held) c.skip_text-stretch.ensures.inside in
     let counted : c.skip_text-stretch.result.line_ends ≡ line_ends (take c.skip_text-stretch.result.len h) = c.skip_text-stretch.ensures.line_ends ∙ ap (λ x. line_ends (take c.skip_text-stretch.result.len x)) held in
-    let passed : IsPassed (inner_buffer e.files.nest).mode h c.skip_text-stretch.result.len c.skip_text-stretch.result.mode = rw (← held, ← mode) c.skip_text-stretch.ensures.passed in
+    let passed : IsPassed (inner_buffer e.files.include_stack).mode h c.skip_text-stretch.result.len c.skip_text-stretch.result.mode = rw (← held, ← mode) c.skip_text-stretch.ensures.passed in
     let other = c.if-stretch-eq0.false in
     stretch_steps g.S.Sources e c.pass.new.self c.requires.ready bounded c.requires.some (skipping e c.requires.ready c.requires.skipped) c.enter_mode.new.self
     c.skip_text-stretch.result.len c.skip_text-stretch.result.line_ends c.skip_text-stretch.result.mode passed (omega arith) inside counted c.enter_mode.ensures c.pass.ensures

@@ -8,7 +8,7 @@ use Rattle.rdlpp_expand.proofs.engine.Engine.skip_line.Goals as goal
 
 pub pass-requires-clause-inside : goal.pass-requires-clause-inside
 pass-requires-clause-inside g c =
-    let held : c.held-held.result.now ≡ held_of (inner_buffer c.args.self.now.files.nest) = c.held-held.ensures.value ∙ ap held_of (c.file.ensures.buffer ∙ ap (λ e. inner_buffer e.files.nest) c.self.view_is) in
+    let held : c.held-held.result.now ≡ held_of (inner_buffer c.args.self.now.files.include_stack) = c.held-held.ensures.value ∙ ap held_of (c.file.ensures.buffer ∙ ap (λ e. inner_buffer e.files.include_stack) c.self.view_is) in
     rw (← held) c.line_len-len.ensures.inside
 
 pub pass-requires-clause-lines : goal.pass-requires-clause-lines
@@ -21,7 +21,7 @@ pass-requires-clause-lines g c =
 pub returns-clause-walks : goal.returns-clause-walks
 returns-clause-walks g c = λ bounded.
     let e = c.args.self.now in
-    let held : c.held-held.result.now ≡ held_of (inner_buffer c.args.self.now.files.nest) = c.held-held.ensures.value ∙ ap held_of (c.file.ensures.buffer ∙ ap (λ e. inner_buffer e.files.nest) c.self.view_is) in
-    let whole : c.line_len-len.result ≡ line_len (held_of (inner_buffer e.files.nest)) = c.line_len-len.ensures.value ∙ ap line_len held in
-    let counted : c.line_ends_in-lines.result ≡ line_ends (take c.line_len-len.result (held_of (inner_buffer e.files.nest))) = c.line_ends_in-lines.ensures ∙ ap (λ h. line_ends (take c.line_len-len.result h)) held in
+    let held : c.held-held.result.now ≡ held_of (inner_buffer c.args.self.now.files.include_stack) = c.held-held.ensures.value ∙ ap held_of (c.file.ensures.buffer ∙ ap (λ e. inner_buffer e.files.include_stack) c.self.view_is) in
+    let whole : c.line_len-len.result ≡ line_len (held_of (inner_buffer e.files.include_stack)) = c.line_len-len.ensures.value ∙ ap line_len held in
+    let counted : c.line_ends_in-lines.result ≡ line_ends (take c.line_len-len.result (held_of (inner_buffer e.files.include_stack))) = c.line_ends_in-lines.ensures ∙ ap (λ h. line_ends (take c.line_len-len.result h)) held in
     line_steps g.S.Sources e c.pass.new.self c.requires.ready bounded c.requires.some (skipping e c.requires.ready c.requires.skipped) c.requires.mode c.line_len-len.result c.line_ends_in-lines.result c.requires.line whole counted c.pass.ensures

@@ -10,7 +10,7 @@ use Rattle.rdlpp_expand.proofs.engine.Engine.skip_opening.Goals as goal
 
 pub consume-requires-clause-inside : goal.consume-requires-clause-inside
 consume-requires-clause-inside g c =
-    rw c.opening_len.ensures ((word_within (opening_word c.args.defined) (held_of (inner_buffer c.args.self.now.files.nest)) c.requires.opening c.requires.some).1)
+    rw c.opening_len.ensures ((word_within (opening_word c.args.defined) (held_of (inner_buffer c.args.self.now.files.include_stack)) c.requires.opening c.requires.some).1)
 
 pub open_skipped-requires : goal.open_skipped-requires
 open_skipped-requires g c = let few = c.self.invariant.sources.conditions_of.counted in omega arith
@@ -19,9 +19,9 @@ pub invariant_of-self : goal.invariant_of-self
 invariant_of-self g c =
     let e = c.args.self.now in
     let s = skipping e c.requires.ready c.requires.skipped in
-    let within = word_within (opening_word c.args.defined) (held_of (inner_buffer e.files.nest)) c.requires.opening c.requires.some in
+    let within = word_within (opening_word c.args.defined) (held_of (inner_buffer e.files.include_stack)) c.requires.opening c.requires.some in
     let len = c.opening_len.ensures in
-    let inside : c.opening_len.result ≤ length (held_of (inner_buffer e.files.nest)) = rw c.opening_len.ensures (within.1) in
+    let inside : c.opening_len.result ≤ length (held_of (inner_buffer e.files.include_stack)) = rw c.opening_len.ensures (within.1) in
     let skips : c.self.inside.conditions.skipped ≡ Some s.count = ap (λ e. e.conditions.skipped) (c.self.view_is ∙ c.consume.ensures.used) ∙ s.skips in
     let counts = counts_one c.self.inside.conditions c.open_skipped.new.self s.count skips c.open_skipped.ensures.skipped in
     whole_with _ _ _ _ c.self.inside.conditions _ _ c.self.invariant

@@ -1,6 +1,6 @@
 use Rattle.rdlpp_state.specs.Opening.{start_fault}
 use Rattle.rdlpp_state.proofs.OpeningFacts.{starts_open, starts_not_found}
-use Rattle.rdlpp_state.proofs.Soundness.{fresh_nest, fresh_open, fresh_texts}
+use Rattle.rdlpp_state.proofs.Soundness.{fresh_include_stack, fresh_open, fresh_texts}
 use Rattle.rdlpp_expand.proofs.engine.Engine.start.Goals as goal
 
 pub returns-in-Ok : goal.returns-in-Ok
@@ -10,7 +10,7 @@ returns-in-Ok g c =
     let bounded = rw c.open_main.ensures at c.facts-in-Ok.ensures.bounded in
     rw (c.open_main.ensures, ← c.self.view_is)
     (starts_open g.S.Sources _ c.top.new.self c.in-Ok.found c.args.path.now c.self.invariant.sources.line_bytes
-    (fresh_nest _ _ _ _ _ c.self.invariant.sources (rw (← c.self.view_is) at c.requires)) (fresh_open _ _ _ _ _ c.self.invariant.sources (rw (← c.self.view_is) at c.requires)) (fresh_texts _ _ _ _ c.self.invariant.texts (rw (← c.self.view_is) at c.requires)) bounded
+    (fresh_include_stack _ _ _ _ _ c.self.invariant.sources (rw (← c.self.view_is) at c.requires)) (fresh_open _ _ _ _ _ c.self.invariant.sources (rw (← c.self.view_is) at c.requires)) (fresh_texts _ _ _ _ c.self.invariant.texts (rw (← c.self.view_is) at c.requires)) bounded
     e.answer e.failures e.refusals e.tells e.catalog)
 
 pub returns-in-Err : goal.returns-in-Err
@@ -20,5 +20,5 @@ returns-in-Err g c =
     let kept = c.refuse_main.ensures in
     rw (kept.fault, kept.kept, c.source_kind.ensures, ← c.self.view_is)
     (starts_not_found g.S.Sources _ c.top.new.self c.in-Err.fault c.args.path.now
-    (fresh_nest _ _ _ _ _ c.self.invariant.sources (rw (← c.self.view_is) at c.requires)) (fresh_texts _ _ _ _ c.self.invariant.texts (rw (← c.self.view_is) at c.requires)) (rw (← c.self.view_is) at c.facts.ensures.bounded)
+    (fresh_include_stack _ _ _ _ _ c.self.invariant.sources (rw (← c.self.view_is) at c.requires)) (fresh_texts _ _ _ _ c.self.invariant.texts (rw (← c.self.view_is) at c.requires)) (rw (← c.self.view_is) at c.facts.ensures.bounded)
     e.answer e.failures e.refusals e.tells e.catalog)

@@ -6,12 +6,12 @@ use Rattle.rdlpp_expand.proofs.TextFacts.{some_in}
 use Rattle.rdlpp_expand.proofs.engine.Engine.step_sources.Goals as goal
 
 pub file-requires : goal.file-requires
-file-requires g c = rw (← c.self.view_is) at c.requires.nest
+file-requires g c = rw (← c.self.view_is) at c.requires.include_stack
 
 pub take_held-requires : goal.take_held-requires
 take_held-requires g c =
     let e = c.args.self.now in
-    let held : c.held-held.result.now ≡ held_of (inner_buffer e.files.nest) = c.held-held.ensures.value ∙ ap held_of (c.file.ensures.buffer ∙ ap (λ e. inner_buffer e.files.nest) c.self.view_is) in
+    let held : c.held-held.result.now ≡ held_of (inner_buffer e.files.include_stack) = c.held-held.ensures.value ∙ ap held_of (c.file.ensures.buffer ∙ ap (λ e. inner_buffer e.files.include_stack) c.self.view_is) in
     record { ready = c.requires; some = rw (← held) (some_in _ (sym c.is_empty.ensures ∙ c.if-is_empty.false)) }
 
 pub returns-clause-walks : goal.returns-clause-walks

@@ -12,7 +12,7 @@ pub returns-in_Inner-self-clause-walks : goal.returns-in_Inner-self-clause-walks
 unfolding goes_past
 returns-in_Inner-self-clause-walks g c = λ bounded.
     let e = c.args.self.now in
-    let below : c.file.result.now.conditions_below ≡ inner_below e.files.nest = sym (ap inner_below c.file.ensures.inner) ∙ ap (λ e. inner_below e.files.nest) c.self.view_is in
+    let below : c.file.result.now.conditions_below ≡ inner_below e.files.include_stack = sym (ap inner_below c.file.ensures.inner) ∙ ap (λ e. inner_below e.files.include_stack) c.self.view_is in
     let is : IsBranch (place_of c.file.result.now.conditions_below e.conditions) c.args.word (Inner) = rw (← c.self.view_is) c.in_Inner-self.ensures in
     inner_steps g.S.Sources e c.consume.new.self c.requires.ready bounded c.requires.some c.requires.mode c.args.word c.args.argument c.requires.branch
     (meets_here c.args.word Inner e c.requires.ready c.file.result.now.conditions_below below is) (rw c.branch_len.ensures at c.consume.ensures.used)
@@ -20,7 +20,7 @@ returns-in_Inner-self-clause-walks g c = λ bounded.
 pub returns-in_Refused-self-clause-walks : goal.returns-in_Refused-self-clause-walks
 returns-in_Refused-self-clause-walks g c = λ bounded.
     let e = c.args.self.now in
-    let below : c.file.result.now.conditions_below ≡ inner_below e.files.nest = sym (ap inner_below c.file.ensures.inner) ∙ ap (λ e. inner_below e.files.nest) c.self.view_is in
+    let below : c.file.result.now.conditions_below ≡ inner_below e.files.include_stack = sym (ap inner_below c.file.ensures.inner) ∙ ap (λ e. inner_below e.files.include_stack) c.self.view_is in
     let is : IsBranch (place_of c.file.result.now.conditions_below e.conditions) c.args.word (Refused c.in_Refused-self.kind) = rw (← c.self.view_is) c.in_Refused-self.ensures in
     refused_steps g.S.Sources e c.refuse.new.self c.requires.ready bounded c.requires.some c.requires.mode c.args.word c.args.argument c.requires.branch c.refuse.result c.in_Refused-self.kind
     (meets_here c.args.word (Refused c.in_Refused-self.kind) e c.requires.ready c.file.result.now.conditions_below below is) c.refuse.ensures.place (rw c.new.ensures at c.refuse.ensures.kept)
@@ -28,7 +28,7 @@ returns-in_Refused-self-clause-walks g c = λ bounded.
 pub turn-requires-clause-own : goal.turn-requires-clause-own
 turn-requires-clause-own g c =
     let e = c.args.self.now in
-    let below : c.file.result.now.conditions_below ≡ inner_below e.files.nest = sym (ap inner_below c.file.ensures.inner) ∙ ap (λ e. inner_below e.files.nest) c.self.view_is in
+    let below : c.file.result.now.conditions_below ≡ inner_below e.files.include_stack = sym (ap inner_below c.file.ensures.inner) ∙ ap (λ e. inner_below e.files.include_stack) c.self.view_is in
     let is : IsBranch (place_of c.file.result.now.conditions_below e.conditions) c.args.word (Decided c.in_Decided-self.holds) = rw (← c.self.view_is) c.in_Decided-self.ensures in
     own_open c.args.word (Decided c.in_Decided-self.holds) _ _
     (own_here c.args.word (Decided c.in_Decided-self.holds) e c.requires.ready c.file.result.now.conditions_below below is (λ e. cc) (λ e. cc))
@@ -36,7 +36,7 @@ turn-requires-clause-own g c =
 pub returns-in_Decided-self-clause-walks : goal.returns-in_Decided-self-clause-walks
 returns-in_Decided-self-clause-walks g c = λ bounded.
     let e = c.args.self.now in
-    let below : c.file.result.now.conditions_below ≡ inner_below e.files.nest = sym (ap inner_below c.file.ensures.inner) ∙ ap (λ e. inner_below e.files.nest) c.self.view_is in
+    let below : c.file.result.now.conditions_below ≡ inner_below e.files.include_stack = sym (ap inner_below c.file.ensures.inner) ∙ ap (λ e. inner_below e.files.include_stack) c.self.view_is in
     let is : IsBranch (place_of c.file.result.now.conditions_below e.conditions) c.args.word (Decided c.in_Decided-self.holds) = rw (← c.self.view_is) c.in_Decided-self.ensures in
     decided_steps g.S.Sources e c.turn.new.self c.requires.ready bounded c.requires.some c.requires.mode c.args.word c.args.argument c.requires.branch c.in_Decided-self.holds
     (own_here c.args.word (Decided c.in_Decided-self.holds) e c.requires.ready c.file.result.now.conditions_below below is (λ e. cc) (λ e. cc)) (rw c.branch_len-in_Decided-self.ensures at c.turn.ensures)

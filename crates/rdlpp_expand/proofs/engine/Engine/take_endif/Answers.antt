@@ -16,14 +16,14 @@ use Rattle.rdlpp_expand.proofs.engine.Engine.take_endif.Goals as goal
 pub close-requires : goal.close-requires
 close-requires g c =
     let below = sym (ap inner_below c.file.ensures.inner) in
-    let most = inner_most c.self.inside.limits c.self.inside.conditions c.self.inside.files.nest c.self.invariant.sources.conditions_of in
+    let most = inner_most c.self.inside.limits c.self.inside.conditions c.self.inside.files.include_stack c.self.invariant.sources.conditions_of in
     omega arith
 
 pub returns-in-Err-clause-walks : goal.returns-in-Err-clause-walks
 returns-in-Err-clause-walks g c = λ bounded.
     let e = c.args.self.now in
-    let below : c.file.result.now.conditions_below ≡ inner_below c.args.self.now.files.nest = sym (ap inner_below c.file.ensures.inner) ∙ ap (λ e. inner_below e.files.nest) c.self.view_is in
-    let kept : c.refuse.new.self ≡ record (record e { conditions = c.close.new.self }) { kept = Some (fault_at c.in-Err.kind (inner_buffer e.files.nest).line [] (state_of (record e { conditions = c.close.new.self }))) } =
+    let below : c.file.result.now.conditions_below ≡ inner_below c.args.self.now.files.include_stack = sym (ap inner_below c.file.ensures.inner) ∙ ap (λ e. inner_below e.files.include_stack) c.self.view_is in
+    let kept : c.refuse.new.self ≡ record (record e { conditions = c.close.new.self }) { kept = Some (fault_at c.in-Err.kind (inner_buffer e.files.include_stack).line [] (state_of (record e { conditions = c.close.new.self }))) } =
     rw (← c.self.view_is) (rw c.new.ensures at c.refuse.ensures.kept) in
     end_refused g.S.Sources e c.refuse.new.self c.requires.ready bounded c.requires.some c.requires.mode _ c.refuse.result c.in-Err.kind c.close.new.self
     (ends_here {A = Unit {0}} (Err c.in-Err.kind) e c.close.new.self c.requires.ready c.file.result.now.conditions_below below
@@ -33,23 +33,23 @@ pub invariant_of-self : goal.invariant_of-self
 invariant_of-self g c =
     let below = sym (ap inner_below c.file.ensures.inner) in
     whole_with _ _ _ _ c.self.inside.conditions _ _ c.self.invariant
-    (conditions_end _ c.self.inside.conditions c.self.inside.files.nest (rw (← c.self.view_is) at c.requires.ready.nest) c.self.invariant.sources.conditions_of (Err c.in-Err.kind) c.close.new.self _ below c.in-Err.ensures)
+    (conditions_end _ c.self.inside.conditions c.self.inside.files.include_stack (rw (← c.self.view_is) at c.requires.ready.include_stack) c.self.invariant.sources.conditions_of (Err c.in-Err.kind) c.close.new.self _ below c.in-Err.ensures)
 
 pub invariant_of-self-in-Ok : goal.invariant_of-self-in-Ok
 invariant_of-self-in-Ok g c =
     let below = sym (ap inner_below c.file.ensures.inner) in
     whole_with _ _ _ _ c.self.inside.conditions _ _ c.self.invariant
-    (conditions_end _ c.self.inside.conditions c.self.inside.files.nest (rw (← c.self.view_is) at c.requires.ready.nest) c.self.invariant.sources.conditions_of (Ok c.in-Ok.field-0) c.close.new.self _ below c.in-Ok.ensures)
+    (conditions_end _ c.self.inside.conditions c.self.inside.files.include_stack (rw (← c.self.view_is) at c.requires.ready.include_stack) c.self.invariant.sources.conditions_of (Ok c.in-Ok.field-0) c.close.new.self _ below c.in-Ok.ensures)
 
 pub consume-requires-clause-inside : goal.consume-requires-clause-inside
 consume-requires-clause-inside g c =
-    rw (← c.self.view_is) at (word_within Endif (held_of (inner_buffer c.args.self.now.files.nest)) c.requires.closing c.requires.some).1
+    rw (← c.self.view_is) at (word_within Endif (held_of (inner_buffer c.args.self.now.files.include_stack)) c.requires.closing c.requires.some).1
 
 pub returns-in-Ok-clause-walks : goal.returns-in-Ok-clause-walks
 unfolding goes_past
 returns-in-Ok-clause-walks g c = λ bounded.
     let e = c.args.self.now in
-    let below : c.file.result.now.conditions_below ≡ inner_below c.args.self.now.files.nest = sym (ap inner_below c.file.ensures.inner) ∙ ap (λ e. inner_below e.files.nest) c.self.view_is in
+    let below : c.file.result.now.conditions_below ≡ inner_below c.args.self.now.files.include_stack = sym (ap inner_below c.file.ensures.inner) ∙ ap (λ e. inner_below e.files.include_stack) c.self.view_is in
     end_closes g.S.Sources e c.consume.new.self c.requires.ready bounded c.requires.some c.requires.mode _ c.in-Ok.field-0 c.close.new.self
     (ends_here {A = Unit {0}} (Ok c.in-Ok.field-0) e c.close.new.self c.requires.ready c.file.result.now.conditions_below below
     (let h : Closes {A = Unit {0}} (place_of c.file.result.now.conditions_below e.conditions) (Ok c.in-Ok.field-0) e.conditions c.close.new.self = rw (← c.self.view_is) c.in-Ok.ensures in h)) c.requires.closing (rw (← c.self.view_is) c.consume.ensures.used)

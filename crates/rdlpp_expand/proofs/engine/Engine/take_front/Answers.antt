@@ -9,10 +9,10 @@ use Rattle.rdlpp_expand.proofs.engine.Engine.take_front.Goals as goal
 pub returns-in-Refused-clause-walks : goal.returns-in-Refused-clause-walks
 returns-in-Refused-clause-walks g c = λ bounded.
     let e = c.args.self.now in
-    let same = c.file.ensures.buffer ∙ ap (λ e. inner_buffer e.files.nest) c.self.view_is in
-    let held : c.held.result.now ≡ held_of (inner_buffer e.files.nest) = c.held.ensures.value ∙ ap held_of same in
-    let mode : c.mode.result ≡ (inner_buffer e.files.nest).mode = c.mode.ensures ∙ ap (λ b. b.mode) same in
-    let refused : IsRefused (inner_buffer e.files.nest).mode (held_of (inner_buffer e.files.nest)) c.in-Refused.kind = rw (← mode, ← held) c.in-Refused.ensures in
+    let same = c.file.ensures.buffer ∙ ap (λ e. inner_buffer e.files.include_stack) c.self.view_is in
+    let held : c.held.result.now ≡ held_of (inner_buffer e.files.include_stack) = c.held.ensures.value ∙ ap held_of same in
+    let mode : c.mode.result ≡ (inner_buffer e.files.include_stack).mode = c.mode.ensures ∙ ap (λ b. b.mode) same in
+    let refused : IsRefused (inner_buffer e.files.include_stack).mode (held_of (inner_buffer e.files.include_stack)) c.in-Refused.kind = rw (← mode, ← held) c.in-Refused.ensures in
     refuses g.S.Sources e e c.refuse.new.self c.refuse.result c.in-Refused.kind _ [] c.requires.ready (read_nothing e) bounded c.refuse.ensures.place (rw c.new.ensures at c.refuse.ensures.kept)
     (refused_kind _ _ _ refused) (not_called g.S.Sources e.sources)
     (λ t. left_refused g.S.Sources e c.in-Refused.kind c.requires.ready c.requires.live c.requires.some refused)
@@ -20,7 +20,7 @@ returns-in-Refused-clause-walks g c = λ bounded.
 pub unreachable-requires : goal.unreachable-requires
 unreachable-requires g c =
     let e = c.args.self.now in
-    let same = c.file.ensures.buffer ∙ ap (λ e. inner_buffer e.files.nest) c.self.view_is in
-    let held : c.held.result.now ≡ held_of (inner_buffer e.files.nest) = c.held.ensures.value ∙ ap held_of same in
-    let mode : c.mode.result ≡ (inner_buffer e.files.nest).mode = c.mode.ensures ∙ ap (λ b. b.mode) same in
+    let same = c.file.ensures.buffer ∙ ap (λ e. inner_buffer e.files.include_stack) c.self.view_is in
+    let held : c.held.result.now ≡ held_of (inner_buffer e.files.include_stack) = c.held.ensures.value ∙ ap held_of same in
+    let mode : c.mode.result ≡ (inner_buffer e.files.include_stack).mode = c.mode.ensures ∙ ap (λ b. b.mode) same in
     c.requires.none _ _ (rw (mode, held) at c.in-Text.ensures)

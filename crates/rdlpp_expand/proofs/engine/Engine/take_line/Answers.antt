@@ -16,15 +16,15 @@ use Rattle.rdlpp_state.proofs.Stores.{own_kind}
 pub returns-then-not-file-clause-walks : goal.returns-then-not-file-clause-walks
 returns-then-not-file-clause-walks g c = λ bounded.
     let e = c.args.self.now in
-    let late : inner_blanks e.files.nest ≡ false = ap inner_blanks (ap (λ e. e.files.nest) (sym c.self.view_is) ∙ c.file-file.ensures.inner) ∙ c.if-not-file.true in
+    let late : inner_blanks e.files.include_stack ≡ false = ap inner_blanks (ap (λ e. e.files.include_stack) (sym c.self.view_is) ∙ c.file-file.ensures.inner) ∙ c.if-not-file.true in
     refuses g.S.Sources e e c.refuse.new.self c.refuse.result fault.BadLine _ [] c.requires.ready (read_nothing e) bounded c.refuse.ensures.place (rw c.new.ensures at c.refuse.ensures.kept)
     (own_kind _ refl) (not_called g.S.Sources e.sources)
     (λ t. left_late_line g.S.Sources e c.requires.ready c.requires.live c.requires.some c.requires.mode c.requires.line late)
 
 pub line_argument-requires : goal.line_argument-requires
 line_argument-requires g c =
-    let h = held_of (inner_buffer c.args.self.now.files.nest) in
-    let held : c.held.result.now ≡ h = c.held.ensures.value ∙ ap held_of (c.file-file.ensures.buffer ∙ ap (λ e. inner_buffer e.files.nest) c.self.view_is) in
+    let h = held_of (inner_buffer c.args.self.now.files.include_stack) in
+    let held : c.held.result.now ≡ h = c.held.ensures.value ∙ ap held_of (c.file-file.ensures.buffer ∙ ap (λ e. inner_buffer e.files.include_stack) c.self.view_is) in
     let size : length c.held.result.now ≡ length h = ap length held in
     let whole = word_held h c.requires.some c.requires.line in
     omega arith
@@ -32,7 +32,7 @@ line_argument-requires g c =
 pub returns-in-None-clause-walks : goal.returns-in-None-clause-walks
 returns-in-None-clause-walks g c = λ bounded.
     let e = c.args.self.now in
-    let held : c.held.result.now ≡ held_of (inner_buffer e.files.nest) = c.held.ensures.value ∙ ap held_of (c.file-file.ensures.buffer ∙ ap (λ e. inner_buffer e.files.nest) c.self.view_is) in
+    let held : c.held.result.now ≡ held_of (inner_buffer e.files.include_stack) = c.held.ensures.value ∙ ap held_of (c.file-file.ensures.buffer ∙ ap (λ e. inner_buffer e.files.include_stack) c.self.view_is) in
     let bad = subst (λ (x : List ℕ). renumbered (take (line_len (drop 5 x)) (drop 5 x)) ≡ None) held c.in-None.ensures in
     refuses g.S.Sources e e c.refuse-in-None.new.self c.refuse-in-None.result fault.BadLine _ [] c.requires.ready (read_nothing e) bounded c.refuse-in-None.ensures.place
     (rw c.new-in-None.ensures at c.refuse-in-None.ensures.kept) (own_kind _ refl) (not_called g.S.Sources e.sources)
@@ -40,8 +40,8 @@ returns-in-None-clause-walks g c = λ bounded.
 
 pub renumber-requires-clause-inside : goal.renumber-requires-clause-inside
 renumber-requires-clause-inside g c =
-    let h = held_of (inner_buffer c.args.self.now.files.nest) in
-    let held : c.held.result.now ≡ h = c.held.ensures.value ∙ ap held_of (c.file-file.ensures.buffer ∙ ap (λ e. inner_buffer e.files.nest) c.self.view_is) in
+    let h = held_of (inner_buffer c.args.self.now.files.include_stack) in
+    let held : c.held.result.now ≡ h = c.held.ensures.value ∙ ap held_of (c.file-file.ensures.buffer ∙ ap (λ e. inner_buffer e.files.include_stack) c.self.view_is) in
     let size : length (drop 5 c.held.result.now) ≡ length (drop 5 h) = ap (λ (x : List ℕ). length (drop 5 x)) held in
     let inside = c.in-Some.ensures.inside in
     let whole = word_held h c.requires.some c.requires.line in
@@ -50,20 +50,20 @@ renumber-requires-clause-inside g c =
 pub renumber-requires-clause-few : goal.renumber-requires-clause-few
 renumber-requires-clause-few g c =
     let e = c.args.self.now in
-    let h = held_of (inner_buffer e.files.nest) in
-    let held : c.held.result.now ≡ h = c.held.ensures.value ∙ ap held_of (c.file-file.ensures.buffer ∙ ap (λ e. inner_buffer e.files.nest) c.self.view_is) in
+    let h = held_of (inner_buffer e.files.include_stack) in
+    let held : c.held.result.now ≡ h = c.held.ensures.value ∙ ap held_of (c.file-file.ensures.buffer ∙ ap (λ e. inner_buffer e.files.include_stack) c.self.view_is) in
     let size : length (drop 5 c.held.result.now) ≡ length (drop 5 h) = ap (λ (x : List ℕ). length (drop 5 x)) held in
     let inside = c.in-Some.ensures.inside in
     let whole = word_held h c.requires.some c.requires.line in
-    let short = held_short e c.requires.ready.sound c.requires.ready.files c.requires.ready.nest in
+    let short = held_short e c.requires.ready.sound c.requires.ready.files c.requires.ready.include_stack in
     omega arith
 
 pub returns-in-Some-clause-walks : goal.returns-in-Some-clause-walks
 returns-in-Some-clause-walks g c = λ bounded.
     let e = c.args.self.now in
-    let h = held_of (inner_buffer e.files.nest) in
-    let held : c.held.result.now ≡ h = c.held.ensures.value ∙ ap held_of (c.file-file.ensures.buffer ∙ ap (λ e. inner_buffer e.files.nest) c.self.view_is) in
-    let first : inner_blanks e.files.nest ≡ true = ap inner_blanks (ap (λ e. e.files.nest) (sym c.self.view_is) ∙ c.file-file.ensures.inner) ∙ c.if-not-file.false in
+    let h = held_of (inner_buffer e.files.include_stack) in
+    let held : c.held.result.now ≡ h = c.held.ensures.value ∙ ap held_of (c.file-file.ensures.buffer ∙ ap (λ e. inner_buffer e.files.include_stack) c.self.view_is) in
+    let first : inner_blanks e.files.include_stack ≡ true = ap inner_blanks (ap (λ e. e.files.include_stack) (sym c.self.view_is) ∙ c.file-file.ensures.inner) ∙ c.if-not-file.false in
     let has : LineGiven (drop 5 h) c.in-Some.given = subst (λ (x : List ℕ). LineGiven (drop 5 x) c.in-Some.given) held c.in-Some.ensures in
     let inside = has.inside in
     let whole = word_held h c.requires.some c.requires.line in

@@ -8,7 +8,7 @@ use Rattle.rdlpp_expand.proofs.engine.Engine.take_pending.Goals as goal
 pub lend_pending-requires : goal.lend_pending-requires
 lend_pending-requires g c =
     let counts = (inner_facts c.args.self.now.files c.requires c.facts.ensures.files).buffer.counts in
-    let line : c.line.result ≡ (inner_buffer c.args.self.now.files.nest).line = c.line.ensures ∙ (ap (λ b. b.line) c.file-file.ensures.buffer ∙ ap (λ e. (inner_buffer e.files.nest).line) c.self.view_is) in
+    let line : c.line.result ≡ (inner_buffer c.args.self.now.files.include_stack).line = c.line.ensures ∙ (ap (λ b. b.line) c.file-file.ensures.buffer ∙ ap (λ e. (inner_buffer e.files.include_stack).line) c.self.view_is) in
     omega arith
 
 pub returns-clause-nothing : goal.returns-clause-nothing
@@ -17,7 +17,7 @@ returns-clause-nothing g c =
 
 pub returns-clause-piece : goal.returns-clause-piece
 returns-clause-piece g c =
-    let nest = ap (λ e. e.files.nest) (sym c.self.view_is) ∙ c.file-file.ensures.inner in
-    let size : length (inner_name c.args.self.now.files.nest) ≡ c.len-name_len.result = ap (λ ns. length (inner_name ns)) nest ∙ sym c.len-name_len.ensures.value in
-    let here : c.line.result ≡ (inner_buffer c.args.self.now.files.nest).line = c.line.ensures ∙ (ap (λ b. b.line) c.file-file.ensures.buffer ∙ ap (λ e. (inner_buffer e.files.nest).line) c.self.view_is) in
+    let include_stack = ap (λ e. e.files.include_stack) (sym c.self.view_is) ∙ c.file-file.ensures.inner in
+    let size : length (inner_name c.args.self.now.files.include_stack) ≡ c.len-name_len.result = ap (λ ns. length (inner_name ns)) include_stack ∙ sym c.len-name_len.ensures.value in
+    let here : c.line.result ≡ (inner_buffer c.args.self.now.files.include_stack).line = c.line.ensures ∙ (ap (λ b. b.line) c.file-file.ensures.buffer ∙ ap (λ e. (inner_buffer e.files.include_stack).line) c.self.view_is) in
     takes_marked c.take.result _ c.args.self.now c.lend_pending.new.self c.take.new.self c.line.result c.len-name_len.result c.self.view_is c.lend_pending.ensures here size c.take.ensures.piece

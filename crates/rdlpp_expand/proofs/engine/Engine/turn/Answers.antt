@@ -9,7 +9,7 @@ turn-requires g c = let own = rw (← c.self.view_is) at c.requires.own in omega
 pub invariant_of-self : goal.invariant_of-self
 invariant_of-self g c =
     whole_with _ _ _ _ c.self.inside.conditions _ _ c.self.invariant
-    (rw c.turn.ensures (conditions_turned _ c.self.inside.conditions c.self.inside.files.nest (rw (← c.self.view_is) at c.requires.nest) c.self.invariant.sources.conditions_of (rw (← c.self.view_is) at c.requires.own) c.args.word c.args.holds))
+    (rw c.turn.ensures (conditions_turned _ c.self.inside.conditions c.self.inside.files.include_stack (rw (← c.self.view_is) at c.requires.include_stack) c.self.invariant.sources.conditions_of (rw (← c.self.view_is) at c.requires.own) c.args.word c.args.holds))
 
 pub returns : goal.returns
 unfolding goes_past

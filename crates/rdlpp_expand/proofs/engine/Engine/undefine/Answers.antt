@@ -20,10 +20,10 @@ returns-in-Ok-clause-walks g c = λ bounded.
     let e = c.args.self.now in
     let a = c.in-Ok.given in
     let looks : LooksAtName c.args.argument e c.named.new.self (Ok a) = c.in-Ok.ensures in
-    let h = held_of (inner_buffer e.files.nest) in
+    let h = held_of (inner_buffer e.files.include_stack) in
     let name = argument_name h a.start a.stop in
     let same = c.self.view_is ∙ looks.2 in
-    let held : c.held.result.now ≡ h = c.held.ensures.value ∙ ap held_of (c.file.ensures.buffer ∙ ap (λ e. inner_buffer e.files.nest) same) in
+    let held : c.held.result.now ≡ h = c.held.ensures.value ∙ ap held_of (c.file.ensures.buffer ∙ ap (λ e. inner_buffer e.files.include_stack) same) in
     let table : c.remove-found.new.self ≡ record e.table { macros = without name e.table.macros } = rw (← held, ← same) c.remove-found.ensures.table in
     undef_named g.S.Sources e c.consume.new.self c.requires.ready bounded c.requires.some c.requires.mode c.requires.live a name (subst (IsNamed Undef h) looks.0 c.requires.undef) looks.1
-    ((rw (← same) c.consume.ensures.used) ∙ ap (λ t. record e { table = t; files = record e.files { nest = with_inner (consumed_file a.stop 0) e.files.nest } }) table)
+    ((rw (← same) c.consume.ensures.used) ∙ ap (λ t. record e { table = t; files = record e.files { include_stack = with_inner (consumed_file a.stop 0) e.files.include_stack } }) table)

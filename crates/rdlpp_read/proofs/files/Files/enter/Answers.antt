@@ -1,7 +1,7 @@
 use Rattle.std.proofs.Common.{◌<◌, ◌-◌, ap, ◌∙◌, arith, length-drop}
 use Rattle.rdlpp_read.specs.Buffer.{opened_buffer}
 use Rattle.rdlpp_read.specs.Files.{IsSlot}
-use Rattle.rdlpp_read.proofs.BufferTokens.{entered-nest, slot-at, slots-entered}
+use Rattle.rdlpp_read.proofs.BufferTokens.{entered-include_stack, slot-at, slots-entered}
 use Rattle.rdlpp_read.proofs.files.Files.enter.Goals as goal
 
 pub invariant_of-self : goal.invariant_of-self
@@ -24,4 +24,4 @@ returns g c =
     slot-at c.self.inside.line_bytes (c.self.inside.first - 1) c.self.inside.slots.items c.index_mut-file.result.now c.self.invariant.each (omega arith) c.index_mut-file.ensures.value in
     let size = slot.size in
     let opened = c.open.ensures.opened in
-    rw (← c.self.view_is, entered-nest) (cc)
+    rw (← c.self.view_is, entered-include_stack) (cc)

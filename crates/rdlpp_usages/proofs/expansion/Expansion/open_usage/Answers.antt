@@ -12,7 +12,7 @@ consume-requires-clause-inside g c = (usage_inside _ _ c.requires.held c.require
 pub returns-then-is_none-clause-uses : goal.returns-then-is_none-clause-uses
 returns-then-is_none-clause-uses g c =
     let inside = usage_inside _ _ c.requires.held c.requires.usage in
-    rw c.consume.ensures.used (uses_name (g.S.Sources.tells c.args.sources.now) g.S.Sources.unread Opened c.args.files.now.nest c.args.len c.requires.some inside.0 inside.1)
+    rw c.consume.ensures.used (uses_name (g.S.Sources.tells c.args.sources.now) g.S.Sources.unread Opened c.args.files.now.include_stack c.args.len c.requires.some inside.0 inside.1)
 
 pub returns-then-is_none-clause-sound : goal.returns-then-is_none-clause-sound
 returns-then-is_none-clause-sound g c = c.open_body.ensures.sound _
@@ -21,7 +21,7 @@ pub returns-then-is_none-clause-means : goal.returns-then-is_none-clause-means
 returns-then-is_none-clause-means g c =
     λ rules s ws os run t.
     rw c.consume.ensures.used
-    (body_means rules g.S.Sources.unread ws os s c.args.table.now.macros c.args.self.now.depth c.args.self.now.most c.args.id c.args.len c.args.files.now.nest _ c.requires.some
+    (body_means rules g.S.Sources.unread ws os s c.args.table.now.macros c.args.self.now.depth c.args.self.now.most c.args.id c.args.len c.args.files.now.include_stack _ c.requires.some
     (subst EndsHeld c.file.ensures.buffer c.file.ensures.ends) c.requires.held c.requires.plain c.requires.usage run c.requires.room c.requires.named
     (no_list _ (ap is_some (sym c.arity.ensures) ∙ c.is_none.ensures ∙ ap (λ (b : Bool). not b) c.if-is_none.true))
     (ap (λ v. v.opens) c.open_body.ensures.opens) (ap (λ v. v.line) c.open_body.ensures.opens ∙ c.line-line.ensures ∙ ap (λ b. b.line) c.file.ensures.buffer)
@@ -30,14 +30,14 @@ returns-then-is_none-clause-means g c =
 pub returns-clause-uses : goal.returns-clause-uses
 returns-clause-uses g c =
     let inside = usage_inside _ _ c.requires.held c.requires.usage in
-    uses_more _ _ c.open_call.result c.args.files.now.nest c.consume.new.self.nest c.open_call.new.files.nest
-    (rw c.consume.ensures.used (uses_name (g.S.Sources.tells c.args.sources.now) g.S.Sources.unread Opened c.args.files.now.nest c.args.len c.requires.some inside.0 inside.1)) c.open_call.ensures.uses
+    uses_more _ _ c.open_call.result c.args.files.now.include_stack c.consume.new.self.include_stack c.open_call.new.files.include_stack
+    (rw c.consume.ensures.used (uses_name (g.S.Sources.tells c.args.sources.now) g.S.Sources.unread Opened c.args.files.now.include_stack c.args.len c.requires.some inside.0 inside.1)) c.open_call.ensures.uses
 
 pub returns-clause-means : goal.returns-clause-means
 returns-clause-means g c =
     λ rules s ws os run t.
     call_means_by rules g.S.Sources.unread ws os s c.args.table.now.macros c.args.self.now.depth c.args.self.now.most c.args.id c.args.len _ c.open_call.result
-    c.args.files.now.nest c.consume.new.self.nest c.open_call.new.files.nest _ c.self.inside.arguments.most (ap (λ e. e.most) c.self.view_is) (ap (λ fs. fs.nest) c.consume.ensures.used) c.requires.some
+    c.args.files.now.include_stack c.consume.new.self.include_stack c.open_call.new.files.include_stack _ c.self.inside.arguments.most (ap (λ e. e.most) c.self.view_is) (ap (λ fs. fs.include_stack) c.consume.ensures.used) c.requires.some
     (subst EndsHeld c.file.ensures.buffer c.file.ensures.ends) c.requires.held c.requires.plain c.requires.usage run c.requires.room c.requires.named
     (is_list _ (ap is_some (sym c.arity.ensures) ∙ c.is_none.ensures ∙ ap (λ (b : Bool). not b) c.if-is_none.false))
     c.open_call.ensures.tells c.open_call.ensures.uses t
@@ -52,7 +52,7 @@ returns-then-is_none-clause-keeps g c =
 pub returns-clause-keeps : goal.returns-clause-keeps
 returns-clause-keeps g c =
     keeps_listed_by c.args.table.now.macros c.args.id (g.S.Sources.tells c.args.sources.now) g.S.Sources.unread c.self.inside.arguments.most c.args.self.now.most c.open_call.result c.open_call.new.arguments.bytes
-    c.consume.new.self.nest _ c.open_call.new.files.nest (ap (λ e. e.most) c.self.view_is) (ap (λ fs. fs.nest) c.consume.ensures.used)
+    c.consume.new.self.include_stack _ c.open_call.new.files.include_stack (ap (λ e. e.most) c.self.view_is) (ap (λ fs. fs.include_stack) c.consume.ensures.used)
     (is_list _ (ap is_some (sym c.arity.ensures) ∙ c.is_none.ensures ∙ ap (λ (b : Bool). not b) c.if-is_none.false)) c.open_call.ensures.keeps
 
 pub returns-then-is_none-clause-usage : goal.returns-then-is_none-clause-usage

@@ -39,7 +39,7 @@ use Rattle.rdlpp_conditions.specs.Conditions.{ConditionsView, place_of}
 use Rattle.rdlpp_conditions.specs.Moves.{skipped_by}
 use Rattle.rdlpp_conditions.specs.SkippedText.{Begins, IsPassed, IsPassedOnce, OneToken, Onward, Stretch, counting_words, counts_skipped, stops_at, stops_closed, stops_skipping}
 use Rattle.rdlpp_read.specs.Buffer.{BufferView, EndsHeld, ahead_of, entered_mode, held_of, rest_of, text_left, tokens_left}
-use Rattle.rdlpp_read.specs.Files.{consumed_file, inner_buffer, torn_after, with_buffer, with_inner}
+use Rattle.rdlpp_read.specs.Files.{consumed_file, inner_buffer, ends_mid_line_after, with_buffer, with_inner}
 use Rattle.rdlpp_read.specs.Filling.{Fills}
 use Rattle.rdlpp_read.specs.LogicalLines.{HoldsLine}
 use Rattle.rdlpp_read.specs.declared.buffer.extending.LogicalLine.TheVariants as line
@@ -54,8 +54,8 @@ use Rattle.rdlpp_front.proofs.NamedDirectives.{word_line_ends}
 use Rattle.rdlpp_front.proofs.DirectivesLeft.{skipped_bare_left, skipped_define_left, skipped_line_left, skipped_unclosed_left, skipped_usage_left, skipped_word_left}
 use Rattle.rdlpp_state.specs.Conditionals.{AnyUsage, IncludeWord, IsSkippedWord, LoneBackquote, UndefWord, unclosed_fault}
 use Rattle.rdlpp_state.specs.OpenConditionals.{inner_below, outer_open}
-use Rattle.rdlpp_state.specs.Remaining.{file_state, nest_left, nest_state, waiting_around}
-use Rattle.rdlpp_state.proofs.NestLeft.{fails_nest, moved, nest_broken, none_held, place_inside, place_skipped, text_entered, torn_consumed, waiting_same}
+use Rattle.rdlpp_state.specs.Remaining.{file_state, include_stack_left, include_stack_state, waiting_around}
+use Rattle.rdlpp_state.proofs.IncludeStackLeft.{fails_include_stack, moved, include_stack_broken, none_held, place_inside, place_skipped, text_entered, ends_mid_line_consumed, waiting_same}
 
 -- What remains behind a stretch of skipped text that is passed: its LF bytes come before.
 
@@ -359,7 +359,7 @@ module _ {R : Type 0} (rules : Rules) (unread : R → List ℕ) (ws : List Waiti
 module _ {R : Type 0} (limits : Limits) (rules : Rules) (unread : R → List ℕ) (macros : List Macro) (outer : List (File R)) (v : ConditionsView) (f : File R) where
   -- the state that the meaning goes on from
   abbrev here : State
-  here = nest_state limits macros v (f ∷ outer)
+  here = include_stack_state limits macros v (f ∷ outer)
 
   -- the sources that wait
   abbrev waiting : List Waiting
@@ -375,13 +375,13 @@ module _ {R : Type 0} (limits : Limits) (rules : Rules) (unread : R → List ℕ
     own_conditionals = take (length os - f.conditions_below) os
 
     -- a stretch of skipped text is passed, and its LF bytes are written
-    pub nest_stretch : (n len : ℕ) (next : Mode) → v.skipped ≡ Some n → HoldsFront f.buffer
+    pub include_stack_stretch : (n len : ℕ) (next : Mode) → v.skipped ≡ Some n → HoldsFront f.buffer
         → IsPassed f.buffer.mode (held_of f.buffer) len next → 0 < len
-        → nest_left limits rules unread macros v (f ∷ outer)
+        → include_stack_left limits rules unread macros v (f ∷ outer)
         ≡ behind_bytes (line_ends_of (take len (held_of f.buffer)))
-        (nest_left limits rules unread macros v (consumed_file len (line_ends (take len (held_of f.buffer))) (with_file_buffer (entered_mode f.buffer Plain) f) ∷ outer))
-    unfolding nest_left nest_state file_state
-    nest_stretch n len next skips holds passes some =
+        (include_stack_left limits rules unread macros v (consumed_file len (line_ends (take len (held_of f.buffer))) (with_file_buffer (entered_mode f.buffer Plain) f) ∷ outer))
+    unfolding include_stack_left include_stack_state file_state
+    include_stack_stretch n len next skips holds passes some =
         let w = take len (held_of f.buffer) in
         let entered = with_file_buffer (entered_mode f.buffer Plain) f in
         let g = consumed_file len (line_ends w) entered in
@@ -392,34 +392,34 @@ module _ {R : Type 0} (limits : Limits) (rules : Rules) (unread : R → List ℕ
         ∙ ap (λ (p : Place). behind_bytes (line_ends_of w) (left p waiting g)) (sym place)
         ∙ ap (λ (ws : List Waiting). behind_bytes (line_ends_of w) (left (place_of f.conditions_below v) ws g))
         (sym (waiting_same limits rules unread (outer_open f.conditions_below v.open_now) f g outer
-        (torn_consumed unread entered len (line_ends w) ∙ ap (torn_after f.torn) (text_entered unread f.buffer Plain)) refl))
+        (ends_mid_line_consumed unread entered len (line_ends w) ∙ ap (ends_mid_line_after f.ends_mid_line) (text_entered unread f.buffer Plain)) refl))
 
     module _ (tells : Type 0) (t : tells) (new : BufferView R) (fills : Fills tells unread fill.End f.buffer new) (plain : f.buffer.mode ≡ Plain) where
       -- the source ends in a branch of a conditional of its own
-      pub nest_unclosed : (live : Bool) → v.skipped ≡ skipped_by live
-          → nest_left limits rules unread macros v (f ∷ outer) ≡ leaves (fails (fault_of_unclosed o)) here
+      pub include_stack_unclosed : (live : Bool) → v.skipped ≡ skipped_by live
+          → include_stack_left limits rules unread macros v (f ∷ outer) ≡ leaves (fails (fault_of_unclosed o)) here
       unfolding in_branch
-      nest_unclosed true skips =
-          fails_nest limits rules unread macros outer v f (in_branch true o own_conditionals) _ (place_inside f.conditions_below v true o os is_open below skips)
+      include_stack_unclosed true skips =
+          fails_include_stack limits rules unread macros outer v f (in_branch true o own_conditionals) _ (place_inside f.conditions_below v true o os is_open below skips)
           (unclosed_left rules unread waiting own_conditionals f here o tells new fills t plain)
-      nest_unclosed false skips =
-          fails_nest limits rules unread macros outer v f (in_branch false o own_conditionals) _ (place_inside f.conditions_below v false o os is_open below skips)
+      include_stack_unclosed false skips =
+          fails_include_stack limits rules unread macros outer v f (in_branch false o own_conditionals) _ (place_inside f.conditions_below v false o os is_open below skips)
           (skipped_unclosed_left rules unread waiting o own_conditionals f here 0 tells new fills t plain)
 
       -- and so it is where more conditionals opened in skipped text
-      pub nest_unclosed_inner : (n : ℕ) → v.skipped ≡ Some n
-          → nest_left limits rules unread macros v (f ∷ outer) ≡ leaves (fails (fault_of_unclosed o)) here
-      nest_unclosed_inner n skips =
-          fails_nest limits rules unread macros outer v f (Skipped n o own_conditionals) _ (place_skipped f.conditions_below v n o os is_open below skips)
+      pub include_stack_unclosed_inner : (n : ℕ) → v.skipped ≡ Some n
+          → include_stack_left limits rules unread macros v (f ∷ outer) ≡ leaves (fails (fault_of_unclosed o)) here
+      include_stack_unclosed_inner n skips =
+          fails_include_stack limits rules unread macros outer v f (Skipped n o own_conditionals) _ (place_skipped f.conditions_below v n o os is_open below skips)
           (skipped_unclosed_left rules unread waiting o own_conditionals f here n tells new fills t plain)
 
 -- What remains of the open sources behind skipped text that is passed in the innermost one, and where a conditional of its own is open
 -- at its end.
 
 -- bytes are held of the innermost source
-pub record IsHeldFront {R : Type 0} (nest : List (File R)) : Type 0 where
-  pub some : 0 < length (held_of (inner_buffer nest))
-  pub ends : EndsHeld (inner_buffer nest)
+pub record IsHeldFront {R : Type 0} (include_stack : List (File R)) : Type 0 where
+  pub some : 0 < length (held_of (inner_buffer include_stack))
+  pub ends : EndsHeld (inner_buffer include_stack)
 
 holds_front : {R : Type 0} (f : File R) (outer : List (File R)) → IsHeldFront (f ∷ outer) → HoldsFront f.buffer
 holds_front f outer h = record { some = h.some; ends = h.ends }
@@ -435,8 +435,8 @@ include_alone = (refl, refl)
 module _ {R : Type 0} (limits : Limits) (rules : Rules) (unread : R → List ℕ) (macros : List Macro) (v : ConditionsView) (n : ℕ) (o : Progress) (os : List Progress) (is_open : v.open_now ≡ o ∷ os)
     (skips : v.skipped ≡ Some n) where
   -- the LF bytes of what is passed, and then what remains
-  abbrev pub NestPasses : List (File R) → List ℕ → List (File R) → Type 0
-  NestPasses nest w new = nest_left limits rules unread macros v nest ≡ behind_bytes (line_ends_of w) (nest_left limits rules unread macros v new)
+  abbrev pub IncludeStackPasses : List (File R) → List ℕ → List (File R) → Type 0
+  IncludeStackPasses include_stack w new = include_stack_left limits rules unread macros v include_stack ≡ behind_bytes (line_ends_of w) (include_stack_left limits rules unread macros v new)
 
   -- the sources that wait
   abbrev around : File R → List (File R) → List Waiting
@@ -447,141 +447,141 @@ module _ {R : Type 0} (limits : Limits) (rules : Rules) (unread : R → List ℕ
   own f = take (length os - f.conditions_below) os
 
   -- what remains of the innermost source in skipped text
-  abbrev nest_rest : File R → List (File R) → File R → Passage
-  nest_rest f outer g = source_left rules unread (around f outer) (Skipped n o (own f)) g (nest_state limits macros v (f ∷ outer))
+  abbrev include_stack_rest : File R → List (File R) → File R → Passage
+  include_stack_rest f outer g = source_left rules unread (around f outer) (Skipped n o (own f)) g (include_stack_state limits macros v (f ∷ outer))
 
   -- a move in skipped text
   moved_skipped : (f g : File R) (outer : List (File R)) (x : List ℕ) → f.conditions_below ≤ length os
-      → nest_state limits macros v (g ∷ outer) ≡ nest_state limits macros v (f ∷ outer)
-      → nest_rest f outer f ≡ behind_bytes x (nest_rest f outer g)
-      → torn_after g.torn (text_left unread g.buffer) ≡ torn_after f.torn (text_left unread f.buffer) → g.include_line ≡ f.include_line → g.conditions_below ≡ f.conditions_below
-      → nest_left limits rules unread macros v (f ∷ outer) ≡ behind_bytes x (nest_left limits rules unread macros v (g ∷ outer))
-  moved_skipped f g outer x below same law torn line around_same =
+      → include_stack_state limits macros v (g ∷ outer) ≡ include_stack_state limits macros v (f ∷ outer)
+      → include_stack_rest f outer f ≡ behind_bytes x (include_stack_rest f outer g)
+      → ends_mid_line_after g.ends_mid_line (text_left unread g.buffer) ≡ ends_mid_line_after f.ends_mid_line (text_left unread f.buffer) → g.include_line ≡ f.include_line → g.conditions_below ≡ f.conditions_below
+      → include_stack_left limits rules unread macros v (f ∷ outer) ≡ behind_bytes x (include_stack_left limits rules unread macros v (g ∷ outer))
+  moved_skipped f g outer x below same law ends_mid_line line around_same =
       let place = place_skipped f.conditions_below v n o os is_open below skips in
       moved limits rules unread macros v f g outer macros x
-      (subst (λ (s : State). source_left rules unread (around f outer) (place_of f.conditions_below v) f (nest_state limits macros v (f ∷ outer))
+      (subst (λ (s : State). source_left rules unread (around f outer) (place_of f.conditions_below v) f (include_stack_state limits macros v (f ∷ outer))
       ≡ behind_bytes x (source_left rules unread (around f outer) (place_of f.conditions_below v) g s)) (sym same)
-      (subst (λ (p : Place). source_left rules unread (around f outer) p f (nest_state limits macros v (f ∷ outer))
-      ≡ behind_bytes x (source_left rules unread (around f outer) p g (nest_state limits macros v (f ∷ outer)))) (sym place) law))
-      torn line around_same
+      (subst (λ (p : Place). source_left rules unread (around f outer) p f (include_stack_state limits macros v (f ∷ outer))
+      ≡ behind_bytes x (source_left rules unread (around f outer) p g (include_stack_state limits macros v (f ∷ outer)))) (sym place) law))
+      ends_mid_line line around_same
 
   -- a stretch of it in which nothing counts
-  pub passes_stretch : (nest : List (File R)) (len : ℕ) (next : Mode) → IsHeldFront nest → inner_below nest ≤ length os → IsPassed (inner_buffer nest).mode (held_of (inner_buffer nest)) len next → 0 < len
-      → (next ≡ Plain) × NestPasses nest (take len (held_of (inner_buffer nest)))
-      (with_inner (consumed_file len (line_ends (take len (held_of (inner_buffer nest))))) (with_buffer (entered_mode (inner_buffer nest) Plain) nest))
+  pub passes_stretch : (include_stack : List (File R)) (len : ℕ) (next : Mode) → IsHeldFront include_stack → inner_below include_stack ≤ length os → IsPassed (inner_buffer include_stack).mode (held_of (inner_buffer include_stack)) len next → 0 < len
+      → (next ≡ Plain) × IncludeStackPasses include_stack (take len (held_of (inner_buffer include_stack)))
+      (with_inner (consumed_file len (line_ends (take len (held_of (inner_buffer include_stack))))) (with_buffer (entered_mode (inner_buffer include_stack) Plain) include_stack))
   passes_stretch [] len next h below passed some = absurd (none_held R h.some)
   passes_stretch (f ∷ outer) len next h below passed some =
-      let s = nest_state limits macros v (f ∷ outer) in (
+      let s = include_stack_state limits macros v (f ∷ outer) in (
         (stretch_passes rules unread (around f outer) n o (own f) s f len next (holds_front f outer h) passed some).1,
-        nest_stretch limits rules unread macros outer v f o os is_open below n len next skips (holds_front f outer h) passed some,
+        include_stack_stretch limits rules unread macros outer v f o os is_open below n len next skips (holds_front f outer h) passed some,
       )
 
   -- a part of a text
-  pub passes_part : (nest : List (File R)) (len lines : ℕ) (next : Mode) → IsHeldFront nest → inner_below nest ≤ length os → IsText (inner_buffer nest).mode (held_of (inner_buffer nest)) len next
-      → lines ≡ line_ends (take len (held_of (inner_buffer nest)))
-      → NestPasses nest (take len (held_of (inner_buffer nest))) (with_inner (consumed_file len lines) (with_buffer (entered_mode (inner_buffer nest) next) nest))
-  unfolding nest_state file_state
+  pub passes_part : (include_stack : List (File R)) (len lines : ℕ) (next : Mode) → IsHeldFront include_stack → inner_below include_stack ≤ length os → IsText (inner_buffer include_stack).mode (held_of (inner_buffer include_stack)) len next
+      → lines ≡ line_ends (take len (held_of (inner_buffer include_stack)))
+      → IncludeStackPasses include_stack (take len (held_of (inner_buffer include_stack))) (with_inner (consumed_file len lines) (with_buffer (entered_mode (inner_buffer include_stack) next) include_stack))
+  unfolding include_stack_state file_state
   passes_part [] len lines next h below text counted = absurd (none_held R h.some)
   passes_part (f ∷ outer) len lines next h below text counted =
       let entered = with_file_buffer (entered_mode f.buffer next) f in
       moved_skipped f (consumed_file len lines entered) outer (line_ends_of (take len (held_of f.buffer))) below refl
-      (skipped_text_left rules unread (around f outer) n o (own f) f (nest_state limits macros v (f ∷ outer)) len lines next (holds_front f outer h) text counted)
-      (torn_consumed unread entered len lines ∙ ap (torn_after f.torn) (text_entered unread f.buffer next)) refl refl
+      (skipped_text_left rules unread (around f outer) n o (own f) f (include_stack_state limits macros v (f ∷ outer)) len lines next (holds_front f outer h) text counted)
+      (ends_mid_line_consumed unread entered len lines ∙ ap (ends_mid_line_after f.ends_mid_line) (text_entered unread f.buffer next)) refl refl
 
   -- a word that doesn't count
-  nest_word_passes : (f : File R) (outer : List (File R)) (len : ℕ) → f.conditions_below ≤ length os
-      → nest_rest f outer f ≡ behind_bytes (line_ends_of (take len (held_of f.buffer))) (nest_rest f outer (consumed_file len 0 f))
-      → NestPasses (f ∷ outer) (take len (held_of f.buffer)) (consumed_file len 0 f ∷ outer)
-  unfolding nest_state file_state
-  nest_word_passes f outer len below law =
-      moved_skipped f (consumed_file len 0 f) outer (line_ends_of (take len (held_of f.buffer))) below refl law (torn_consumed unread f len 0) refl refl
+  include_stack_word_passes : (f : File R) (outer : List (File R)) (len : ℕ) → f.conditions_below ≤ length os
+      → include_stack_rest f outer f ≡ behind_bytes (line_ends_of (take len (held_of f.buffer))) (include_stack_rest f outer (consumed_file len 0 f))
+      → IncludeStackPasses (f ∷ outer) (take len (held_of f.buffer)) (consumed_file len 0 f ∷ outer)
+  unfolding include_stack_state file_state
+  include_stack_word_passes f outer len below law =
+      moved_skipped f (consumed_file len 0 f) outer (line_ends_of (take len (held_of f.buffer))) below refl law (ends_mid_line_consumed unread f len 0) refl refl
 
-  pub passes_word : (nest : List (File R)) (len : ℕ) → IsHeldFront nest → (inner_buffer nest).mode ≡ Plain → inner_below nest ≤ length os → IsSkippedWord (held_of (inner_buffer nest)) len
-      → NestPasses nest (take len (held_of (inner_buffer nest))) (with_inner (consumed_file len 0) nest)
+  pub passes_word : (include_stack : List (File R)) (len : ℕ) → IsHeldFront include_stack → (inner_buffer include_stack).mode ≡ Plain → inner_below include_stack ≤ length os → IsSkippedWord (held_of (inner_buffer include_stack)) len
+      → IncludeStackPasses include_stack (take len (held_of (inner_buffer include_stack))) (with_inner (consumed_file len 0) include_stack)
   passes_word [] len h plain below word = absurd (none_held R h.some)
   passes_word (f ∷ outer) len h plain below (LoneBackquote kind one) =
-      subst (λ (k : ℕ). NestPasses (f ∷ outer) (take k (held_of f.buffer)) (consumed_file k 0 f ∷ outer)) (sym one)
-      (nest_word_passes f outer 1 below (skipped_bare_left rules unread (around f outer) n o (own f) f (nest_state limits macros v (f ∷ outer)) (holds_front f outer h) plain kind))
+      subst (λ (k : ℕ). IncludeStackPasses (f ∷ outer) (take k (held_of f.buffer)) (consumed_file k 0 f ∷ outer)) (sym one)
+      (include_stack_word_passes f outer 1 below (skipped_bare_left rules unread (around f outer) n o (own f) f (include_stack_state limits macros v (f ∷ outer)) (holds_front f outer h) plain kind))
   passes_word (f ∷ outer) len h plain below (AnyUsage usage) =
-      nest_word_passes f outer len below (skipped_usage_left rules unread (around f outer) n o (own f) f (nest_state limits macros v (f ∷ outer)) len (holds_front f outer h) plain usage)
+      include_stack_word_passes f outer len below (skipped_usage_left rules unread (around f outer) n o (own f) f (include_stack_state limits macros v (f ∷ outer)) len (holds_front f outer h) plain usage)
   passes_word (f ∷ outer) len h plain below (UndefWord is whole) =
-      subst (λ (k : ℕ). NestPasses (f ∷ outer) (take k (held_of f.buffer)) (consumed_file k 0 f ∷ outer)) (sym whole)
-      (nest_word_passes f outer (length (word_of Undef)) below
-      (skipped_word_left rules unread (around f outer) n o (own f) f (nest_state limits macros v (f ∷ outer)) Undef undef_alone.1 undef_alone.0 (holds_front f outer h) plain is))
+      subst (λ (k : ℕ). IncludeStackPasses (f ∷ outer) (take k (held_of f.buffer)) (consumed_file k 0 f ∷ outer)) (sym whole)
+      (include_stack_word_passes f outer (length (word_of Undef)) below
+      (skipped_word_left rules unread (around f outer) n o (own f) f (include_stack_state limits macros v (f ∷ outer)) Undef undef_alone.1 undef_alone.0 (holds_front f outer h) plain is))
   passes_word (f ∷ outer) len h plain below (IncludeWord is whole) =
-      subst (λ (k : ℕ). NestPasses (f ∷ outer) (take k (held_of f.buffer)) (consumed_file k 0 f ∷ outer)) (sym whole)
-      (nest_word_passes f outer (length (word_of Include)) below
-      (skipped_word_left rules unread (around f outer) n o (own f) f (nest_state limits macros v (f ∷ outer)) Include include_alone.1 include_alone.0 (holds_front f outer h) plain is))
+      subst (λ (k : ℕ). IncludeStackPasses (f ∷ outer) (take k (held_of f.buffer)) (consumed_file k 0 f ∷ outer)) (sym whole)
+      (include_stack_word_passes f outer (length (word_of Include)) below
+      (skipped_word_left rules unread (around f outer) n o (own f) f (include_stack_state limits macros v (f ∷ outer)) Include include_alone.1 include_alone.0 (holds_front f outer h) plain is))
 
   -- a `line`
-  pub passes_line : (nest : List (File R)) (len lines : ℕ) → IsHeldFront nest → (inner_buffer nest).mode ≡ Plain → inner_below nest ≤ length os → IsDirective Line (held_of (inner_buffer nest))
-      → len ≡ line_len (held_of (inner_buffer nest)) → lines ≡ line_ends (take len (held_of (inner_buffer nest)))
-      → NestPasses nest (take len (held_of (inner_buffer nest))) (with_inner (consumed_file len lines) nest)
-  unfolding nest_state file_state
+  pub passes_line : (include_stack : List (File R)) (len lines : ℕ) → IsHeldFront include_stack → (inner_buffer include_stack).mode ≡ Plain → inner_below include_stack ≤ length os → IsDirective Line (held_of (inner_buffer include_stack))
+      → len ≡ line_len (held_of (inner_buffer include_stack)) → lines ≡ line_ends (take len (held_of (inner_buffer include_stack)))
+      → IncludeStackPasses include_stack (take len (held_of (inner_buffer include_stack))) (with_inner (consumed_file len lines) include_stack)
+  unfolding include_stack_state file_state
   passes_line [] len lines h plain below is whole counted = absurd (none_held R h.some)
   passes_line (f ∷ outer) len lines h plain below is whole counted =
       let held = held_of f.buffer in
       let k = line_len held in
-      let all : NestPasses (f ∷ outer) (line_text held) (consumed_file k (line_ends (line_text held)) f ∷ outer) =
+      let all : IncludeStackPasses (f ∷ outer) (line_text held) (consumed_file k (line_ends (line_text held)) f ∷ outer) =
       moved_skipped f (consumed_file k (line_ends (line_text held)) f) outer (line_ends_of (line_text held)) below refl
-      (skipped_line_left rules unread (around f outer) n o (own f) f (nest_state limits macros v (f ∷ outer)) (holds_front f outer h) plain is)
-      (torn_consumed unread f k (line_ends (line_text held))) refl refl in
+      (skipped_line_left rules unread (around f outer) n o (own f) f (include_stack_state limits macros v (f ∷ outer)) (holds_front f outer h) plain is)
+      (ends_mid_line_consumed unread f k (line_ends (line_text held))) refl refl in
       let exact : lines ≡ line_ends (line_text held) = counted ∙ ap (λ (m : ℕ). line_ends (take m held)) whole in
-      subst (λ (l : ℕ). NestPasses (f ∷ outer) (take len held) (consumed_file len l f ∷ outer)) (sym exact)
-      (subst (λ (m : ℕ). NestPasses (f ∷ outer) (take m held) (consumed_file m (line_ends (line_text held)) f ∷ outer)) (sym whole) all)
+      subst (λ (l : ℕ). IncludeStackPasses (f ∷ outer) (take len held) (consumed_file len l f ∷ outer)) (sym exact)
+      (subst (λ (m : ℕ). IncludeStackPasses (f ∷ outer) (take m held) (consumed_file m (line_ends (line_text held)) f ∷ outer)) (sym whole) all)
 
   -- a `define`
   module _ (tells : Type 0) (t : tells) where
-    pub passes_define : (nest : List (File R)) (new : BufferView R) (len lines : ℕ) → IsHeldFront nest → (inner_buffer nest).mode ≡ Plain → inner_below nest ≤ length os
-        → IsDirective Define (held_of (inner_buffer nest)) → HoldsLine tells unread (line.Whole len) (inner_buffer nest) new → lines ≡ line_ends (take len (held_of new))
-        → NestPasses nest (take len (held_of new)) (with_inner (consumed_file len lines) (with_buffer new nest))
-    unfolding nest_state file_state
+    pub passes_define : (include_stack : List (File R)) (new : BufferView R) (len lines : ℕ) → IsHeldFront include_stack → (inner_buffer include_stack).mode ≡ Plain → inner_below include_stack ≤ length os
+        → IsDirective Define (held_of (inner_buffer include_stack)) → HoldsLine tells unread (line.Whole len) (inner_buffer include_stack) new → lines ≡ line_ends (take len (held_of new))
+        → IncludeStackPasses include_stack (take len (held_of new)) (with_inner (consumed_file len lines) (with_buffer new include_stack))
+    unfolding include_stack_state file_state
     passes_define [] new len lines h plain below is holds counted = absurd (none_held R h.some)
     passes_define (f ∷ outer) new len lines h plain below is holds counted =
         let held = with_file_buffer new f in
         moved_skipped f (consumed_file len lines held) outer (line_ends_of (take len (held_of new))) below refl
-        (skipped_define_left rules unread (around f outer) n o (own f) f (nest_state limits macros v (f ∷ outer)) tells new len lines holds t plain
+        (skipped_define_left rules unread (around f outer) n o (own f) f (include_stack_state limits macros v (f ∷ outer)) tells new len lines holds t plain
         (holds_define unread f (holds_front f outer h) is) counted)
-        (torn_consumed unread held len lines ∙ ap (torn_after f.torn) (holds.text (λ e. cc) t)) refl refl
+        (ends_mid_line_consumed unread held len lines ∙ ap (ends_mid_line_after f.ends_mid_line) (holds.text (λ e. cc) t)) refl refl
 
 -- what ends the output, wherever the innermost source stands
 module _ {R : Type 0} (limits : Limits) (rules : Rules) (unread : R → List ℕ) (macros : List Macro) (v : ConditionsView) where
   -- `<%`
-  pub perl_at : (nest : List (File R)) → IsHeldFront nest → (token_of (inner_buffer nest).mode (held_of (inner_buffer nest))).kind ≡ Perl
-      → nest_left limits rules unread macros v nest ≡ leaves (fails (fault_at fault.EmbeddedPerl (inner_buffer nest).line [] (nest_state limits macros v nest))) (nest_state limits macros v nest)
+  pub perl_at : (include_stack : List (File R)) → IsHeldFront include_stack → (token_of (inner_buffer include_stack).mode (held_of (inner_buffer include_stack))).kind ≡ Perl
+      → include_stack_left limits rules unread macros v include_stack ≡ leaves (fails (fault_at fault.EmbeddedPerl (inner_buffer include_stack).line [] (include_stack_state limits macros v include_stack))) (include_stack_state limits macros v include_stack)
   unfolding breach_kind
   perl_at [] h is = absurd (none_held R h.some)
   perl_at (f ∷ outer) h is =
-      nest_broken limits rules unread macros v (f ∷ outer) PerlFound f.buffer.line (omega arith) (perl_tokens unread f.buffer (holds_front f outer h) is)
+      include_stack_broken limits rules unread macros v (f ∷ outer) PerlFound f.buffer.line (omega arith) (perl_tokens unread f.buffer (holds_front f outer h) is)
 
   -- a `define` that is too long, or that its source's limit cuts
   module _ (tells : Type 0) (t : tells) where
-    pub long_at : (nest : List (File R)) (new : BufferView R) → IsHeldFront nest → (inner_buffer nest).mode ≡ Plain → IsDirective Define (held_of (inner_buffer nest)) → HoldsLine tells unread line.TooLong (inner_buffer nest) new
-        → nest_left limits rules unread macros v nest ≡ leaves (fails (fault_at fault.LineTooLong (inner_buffer nest).line [] (nest_state limits macros v nest))) (nest_state limits macros v nest)
+    pub long_at : (include_stack : List (File R)) (new : BufferView R) → IsHeldFront include_stack → (inner_buffer include_stack).mode ≡ Plain → IsDirective Define (held_of (inner_buffer include_stack)) → HoldsLine tells unread line.TooLong (inner_buffer include_stack) new
+        → include_stack_left limits rules unread macros v include_stack ≡ leaves (fails (fault_at fault.LineTooLong (inner_buffer include_stack).line [] (include_stack_state limits macros v include_stack))) (include_stack_state limits macros v include_stack)
     unfolding breach_kind
     long_at [] new h plain is holds = absurd (none_held R h.some)
     long_at (f ∷ outer) new h plain is holds =
-        nest_broken limits rules unread macros v (f ∷ outer) breach.DefineLong f.buffer.line (omega arith)
+        include_stack_broken limits rules unread macros v (f ∷ outer) breach.DefineLong f.buffer.line (omega arith)
         (holds.define t plain (holds_define unread f (holds_front f outer h) is))
 
-    pub cut_at : (nest : List (File R)) (new : BufferView R) → IsHeldFront nest → (inner_buffer nest).mode ≡ Plain → IsDirective Define (held_of (inner_buffer nest)) → HoldsLine tells unread line.SourceLong (inner_buffer nest) new
-        → nest_left limits rules unread macros v nest ≡ leaves (fails (fault_at fault.SourceTooLong (inner_buffer nest).line [] (nest_state limits macros v nest))) (nest_state limits macros v nest)
+    pub cut_at : (include_stack : List (File R)) (new : BufferView R) → IsHeldFront include_stack → (inner_buffer include_stack).mode ≡ Plain → IsDirective Define (held_of (inner_buffer include_stack)) → HoldsLine tells unread line.SourceLong (inner_buffer include_stack) new
+        → include_stack_left limits rules unread macros v include_stack ≡ leaves (fails (fault_at fault.SourceTooLong (inner_buffer include_stack).line [] (include_stack_state limits macros v include_stack))) (include_stack_state limits macros v include_stack)
     unfolding breach_kind
     cut_at [] new h plain is holds = absurd (none_held R h.some)
     cut_at (f ∷ outer) new h plain is holds =
-        nest_broken limits rules unread macros v (f ∷ outer) breach.DefineCut f.buffer.line (omega arith)
+        include_stack_broken limits rules unread macros v (f ∷ outer) breach.DefineCut f.buffer.line (omega arith)
         (holds.define t plain (holds_define unread f (holds_front f outer h) is))
 
     -- the end of a source in which a conditional of its own is open
     unclosed_by : (f : File R) (outer : List (File R)) (new : BufferView R) (skipped : Option ℕ) (o : Progress) (os : List Progress) → v.skipped ≡ skipped → v.open_now ≡ o ∷ os → f.conditions_below ≤ length os
         → Fills tells unread fill.End f.buffer new → f.buffer.mode ≡ Plain
-        → nest_left limits rules unread macros v (f ∷ outer) ≡ leaves (fails (unclosed_fault o.line (nest_state limits macros v (f ∷ outer)))) (nest_state limits macros v (f ∷ outer))
+        → include_stack_left limits rules unread macros v (f ∷ outer) ≡ leaves (fails (unclosed_fault o.line (include_stack_state limits macros v (f ∷ outer)))) (include_stack_state limits macros v (f ∷ outer))
     unfolding skipped_by
-    unclosed_by f outer new None o os skips is_open below fills plain = nest_unclosed limits rules unread macros outer v f o os is_open below tells t new fills plain true skips
-    unclosed_by f outer new (Some n) o os skips is_open below fills plain = nest_unclosed_inner limits rules unread macros outer v f o os is_open below tells t new fills plain n skips
+    unclosed_by f outer new None o os skips is_open below fills plain = include_stack_unclosed limits rules unread macros outer v f o os is_open below tells t new fills plain true skips
+    unclosed_by f outer new (Some n) o os skips is_open below fills plain = include_stack_unclosed_inner limits rules unread macros outer v f o os is_open below tells t new fills plain n skips
 
-    pub unclosed_at : (nest : List (File R)) (new : BufferView R) (o : Progress) (os : List Progress) → 0 < length nest → v.open_now ≡ o ∷ os → inner_below nest ≤ length os
-        → Fills tells unread fill.End (inner_buffer nest) new → (inner_buffer nest).mode ≡ Plain
-        → nest_left limits rules unread macros v nest ≡ leaves (fails (unclosed_fault o.line (nest_state limits macros v nest))) (nest_state limits macros v nest)
+    pub unclosed_at : (include_stack : List (File R)) (new : BufferView R) (o : Progress) (os : List Progress) → 0 < length include_stack → v.open_now ≡ o ∷ os → inner_below include_stack ≤ length os
+        → Fills tells unread fill.End (inner_buffer include_stack) new → (inner_buffer include_stack).mode ≡ Plain
+        → include_stack_left limits rules unread macros v include_stack ≡ leaves (fails (unclosed_fault o.line (include_stack_state limits macros v include_stack))) (include_stack_state limits macros v include_stack)
     unclosed_at [] new o os some is_open below fills plain = absurd (omega arith)
     unclosed_at (f ∷ outer) new o os some is_open below fills plain = unclosed_by f outer new v.skipped o os refl is_open below fills plain

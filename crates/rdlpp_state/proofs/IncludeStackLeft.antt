@@ -1,0 +1,699 @@
+-- What remains of the open sources, as the innermost moves among its conditionals.
+use Rattle.std.proofs.Common.{◌≡◌, ℕ, zero, suc, ◌-◌, ◌^◌, ◌≤◌, ◌<◌, Bool, true, false, List, [], ◌∷◌, length, take, drop, Option, None, Some, refl, sym, ap, subst, ◌∙◌, inl, inr, arith, ◌+◌, ◌++◌, append_assoc, drop-drop, take-append-drop}
+use Rattle.std.proofs.lemmas.Bool.{cases_lt}
+use Rattle.std.proofs.lemmas.List.{nil_from_length}
+use Rattle.rdlpp_scan.specs.Front as breach
+use Rattle.rdlpp_scan.specs.Front.{Breach}
+use Rattle.rdlpp_scan.specs.SourceTokens.{line_ends}
+use Rattle.rdlpp_scan.specs.declared.token.Directive.{Directive}
+use Rattle.rdlpp_scan.specs.declared.token.Directive.TheVariants.{Define, Endif, Undef}
+use Rattle.rdlpp_scan.specs.declared.token.Mode.{Mode}
+use Rattle.rdlpp_scan.specs.declared.token.Mode.TheVariants.{Plain}
+use Rattle.rdlpp_table.specs.Table.{Macro, macro_named, without}
+use Rattle.rdlpp_table.specs.declared.limits.Limits.{Limits}
+use Rattle.rdlpp_meaning.specs.Meaning.{Checked, Faulty, Fine, Holds, Passage, Progress, Stopped, Test, behind_bytes, in_conditional, is_else, leaves, name_test, opening_within, past_conditional, wants_defined}
+use Rattle.rdlpp_meaning.specs.Opened.{Waiting, unwound}
+use Rattle.rdlpp_meaning.specs.Outcome.{fails, gives}
+use Rattle.rdlpp_meaning.specs.Parts.{line_ends_of}
+use Rattle.rdlpp_meaning.specs.Resumed.{Live, Place, Skipped}
+use Rattle.rdlpp_meaning.specs.State.{Accepted, Refused, Rules, State, breach_kind, fault_at, shown_line}
+use Rattle.rdlpp_meaning.specs.declared.fault.FaultKind.{FaultKind}
+use Rattle.rdlpp_meaning.specs.declared.fault.FaultKind.TheVariants as fault
+use Rattle.rdlpp_meaning.proofs.Directives.{branches_conditional, in_branch, opens_conditional}
+use Rattle.rdlpp_conditions.specs.Conditions.{ConditionsView, own_conditions, place_by, place_of}
+use Rattle.rdlpp_conditions.specs.Moves.{closed_one, opened_with, skipped_by, turned_open, turned_with, with_inner as with_count}
+use Rattle.rdlpp_read.specs.Buffer.{BufferView, EndsHeld, ahead_of, closed_buffer, entered_mode, held_of, rest_of, text_left, tokens_left, unused_of}
+use Rattle.rdlpp_read.specs.Files.{consumed_file, inner_buffer, shift_of, ends_mid_line_after, with_buffer, with_inner}
+use Rattle.rdlpp_read.specs.Filling.{Fills, ended_tokens, only_broken}
+use Rattle.rdlpp_read.specs.LogicalLines.{HoldsLine}
+use Rattle.rdlpp_read.specs.declared.buffer.extending.LogicalLine.TheVariants as line
+use Rattle.rdlpp_read.specs.declared.buffer.filling.Fill.TheVariants as fill
+use Rattle.rdlpp_read.specs.declared.files.File.{File}
+use Rattle.rdlpp_read.proofs.BufferTokens.{ends_mid_line_after-append}
+use Rattle.rdlpp_front.specs.SourceItems.{IsDirective, IsRefused, IsText, IsUsage, given_name, usage_name, word_of}
+use Rattle.rdlpp_front.specs.SourceLeft.{HoldsFront, source_left, with_file_buffer}
+use Rattle.rdlpp_front.proofs.DirectivesLeft.{Counts, Turns, branched, closed_left, counted_left, is_stray, opening_left, skipped_broken_left, stray_left, tested, turned_left}
+use Rattle.rdlpp_front.proofs.TextLeft.{broken_left, define_cut_left, define_left, define_long_left, define_refused_left, ended_left, filled_left, held_left, holds_define, refused_left, text_left as text_law, undefined_left}
+use Rattle.rdlpp_front.proofs.NamedDirectives.{Begins, undef_left, undef_refused_left}
+use Rattle.rdlpp_state.specs.OpenConditionals.{AreBelow, AreConditions, inner_below, inner_shown, outer_open}
+use Rattle.rdlpp_state.specs.Remaining.{ending_behind, file_state, include_stack_left, include_stack_state, waiting_around}
+
+-- Where the innermost source stands among its conditionals.
+
+-- text that isn't skipped is live
+live_by : (os : List Progress) → place_by None os ≡ Live os
+unfolding place_by
+live_by [] = refl
+live_by (o ∷ os) = refl
+
+pub live_place : (below : ℕ) (v : ConditionsView) → v.skipped ≡ None → place_of below v ≡ Live (own_conditions below v)
+unfolding place_of
+live_place below v live = ap (λ (n : Option ℕ). place_by n (own_conditions below v)) live ∙ live_by (own_conditions below v)
+
+-- text is live unless it is skipped
+live_unless : (skipped : Option ℕ) → ((n : ℕ) → skipped ≡ Some n → ⊥) → skipped ≡ None
+live_unless None never = refl
+live_unless (Some n) never = absurd (never n refl)
+
+-- no part of nothing
+take_nothing : (n : ℕ) → take {A = Progress} n [] ≡ []
+take_nothing zero = refl
+take_nothing (suc n) = refl
+
+-- where no conditional is open
+pub no_place : (below : ℕ) (v : ConditionsView) → v.open_now ≡ [] → place_of below v ≡ Live []
+unfolding place_of own_conditions place_by
+no_place below v none =
+    ap (λ (os : List Progress). place_by v.skipped (take (length os - below) os)) none
+    ∙ ap (place_by v.skipped) (take_nothing (length {A = Progress} [] - below))
+
+-- of the sources, a change of the innermost changes none that is around it
+below_inner : {R : Type 0} (most : ℕ) (change : File R → File R) (include_stack : List (File R)) → ((f : File R) → (change f).conditions_below ≡ f.conditions_below)
+    → AreBelow most include_stack → AreBelow most (with_inner change include_stack)
+below_inner most change [] same below = below
+below_inner most change (f ∷ outer) same below = rw (same f) below
+
+-- nor how many conditionals are open around it
+pub inner_below-same : {R : Type 0} (change : File R → File R) (include_stack : List (File R)) → ((f : File R) → (change f).conditions_below ≡ f.conditions_below)
+    → inner_below (with_inner change include_stack) ≡ inner_below include_stack
+inner_below-same change [] same = refl
+inner_below-same change (f ∷ outer) same = same f
+
+-- the innermost source changes, of which no more bytes aren't used
+pub conditions_inner : {R : Type 0} (limits : Limits) (v : ConditionsView) (change : File R → File R) (include_stack : List (File R)) → ((f : File R) → (change f).conditions_below ≡ f.conditions_below)
+    → unused_of (inner_buffer (with_inner change include_stack)) ≤ unused_of (inner_buffer include_stack) → AreConditions limits v include_stack → AreConditions limits v (with_inner change include_stack)
+conditions_inner limits v change include_stack same less s = record {
+  limit = s.limit;
+  few = s.few;
+  below = below_inner (length v.open_now) change include_stack same s.below;
+  own = λ n e. (let some = s.own n e in let around = inner_below-same change include_stack same in omega arith);
+  counted = (let few = s.counted in omega arith);
+}
+
+-- where no source is open, no conditional is
+pub conditions_none : {R : Type 0} (limits : Limits) (v : ConditionsView) (include_stack : List (File R)) → include_stack ≡ [] → AreConditions limits v include_stack → v.open_now ≡ []
+conditions_none {R} limits v include_stack none s =
+    let below : AreBelow {R = R} (length v.open_now) [] = subst (λ (ns : List (File R)). AreBelow (length v.open_now) ns) none s.below in
+    nil_from_length v.open_now below
+
+-- where a source has no conditional of its own that is open, text is live
+pub conditions_live : {R : Type 0} (limits : Limits) (v : ConditionsView) (include_stack : List (File R)) → length v.open_now ≡ inner_below include_stack → AreConditions limits v include_stack → v.skipped ≡ None
+conditions_live limits v include_stack alone s = live_unless v.skipped (λ n e. let some = s.own n e in omega arith)
+
+-- where the innermost source ends, with no conditional of its own open
+pub conditions_left : {R : Type 0} (limits : Limits) (v : ConditionsView) (f : File R) (outer : List (File R)) → length v.open_now ≡ f.conditions_below
+    → unused_of (inner_buffer outer) < 2 ^ 31 → AreConditions limits v (f ∷ outer) → AreConditions limits v outer
+conditions_left limits v f outer alone few s =
+    let live = conditions_live limits v (f ∷ outer) alone s in
+    record {
+      limit = s.limit;
+      few = s.few;
+      below = rw alone s.below.1;
+      own = λ n e. absurd (let no : None ≡ Some n = sym live ∙ e in cc);
+      counted = rw live (omega arith);
+    }
+
+-- where the main text has ended, with no conditional open
+pub conditions_closed : {R : Type 0} (limits : Limits) (v : ConditionsView) (include_stack : List (File R)) → 0 < length include_stack → length include_stack ≤ 1 → length v.open_now ≡ inner_below include_stack
+    → AreConditions limits v include_stack → AreConditions {R = R} limits v []
+unfolding unused_of closed_buffer
+conditions_closed limits v [] some few alone s = absurd (omega arith)
+conditions_closed limits v (f ∷ []) some few alone s = conditions_left limits v f [] alone (omega arith) s
+conditions_closed limits v (f ∷ g ∷ outer) some few alone s = absurd (omega arith)
+
+-- where one more source is opened in live text
+pub conditions_opened : {R : Type 0} (limits : Limits) (v : ConditionsView) (f : File R) (include_stack : List (File R)) → v.skipped ≡ None → f.conditions_below ≤ length v.open_now → AreBelow f.conditions_below include_stack
+    → unused_of f.buffer < 2 ^ 31 → AreConditions limits v include_stack → AreConditions limits v (f ∷ include_stack)
+conditions_opened limits v f include_stack live most below few s = record {
+  limit = s.limit;
+  few = s.few;
+  below = (most, below);
+  own = λ n e. absurd (let no : None ≡ Some n = sym live ∙ e in cc);
+  counted = rw live (omega arith);
+}
+
+-- the innermost source's own conditionals, of which the innermost is one
+own_cons : (below : ℕ) (o : Progress) (os : List Progress) → below ≤ length os → take (length (o ∷ os) - below) (o ∷ os) ≡ o ∷ take (length os - below) os
+own_cons below o os some =
+    let size : length (o ∷ os) - below ≡ suc (length os - below) = omega arith in
+    ap (λ (n : ℕ). take n (o ∷ os)) size
+
+-- those around it are the same without it
+pub outer_cons : (below : ℕ) (o : Progress) (os : List Progress) → below ≤ length os → outer_open below (o ∷ os) ≡ outer_open below os
+unfolding outer_open
+outer_cons below o os some =
+    let size : length (o ∷ os) - below ≡ suc (length os - below) = omega arith in
+    ap (λ (n : ℕ). drop n (o ∷ os)) size
+
+-- in a branch of its own innermost conditional
+place_in_branch : (live : Bool) (o : Progress) (os : List Progress) → place_by (skipped_by live) (o ∷ os) ≡ in_branch live o os
+unfolding place_by skipped_by in_branch
+place_in_branch true o os = refl
+place_in_branch false o os = refl
+
+-- the place by the open conditionals, where one is the innermost source's
+place_own : (below : ℕ) (v : ConditionsView) (o : Progress) (os : List Progress) → v.open_now ≡ o ∷ os → below ≤ length os → place_of below v ≡ place_by v.skipped (o ∷ take (length os - below) os)
+unfolding place_of own_conditions
+place_own below v o os is some =
+    ap (λ (x : List Progress). place_by v.skipped (take (length x - below) x)) is ∙ ap (place_by v.skipped) (own_cons below o os some)
+
+pub place_inside : (below : ℕ) (v : ConditionsView) (live : Bool) (o : Progress) (os : List Progress) → v.open_now ≡ o ∷ os → below ≤ length os → v.skipped ≡ skipped_by live
+    → place_of below v ≡ in_branch live o (take (length os - below) os)
+place_inside below v live o os is some skips =
+    place_own below v o os is some ∙ ap (λ (n : Option ℕ). place_by n (o ∷ take (length os - below) os)) skips ∙ place_in_branch live o (take (length os - below) os)
+
+pub place_skipped : (below : ℕ) (v : ConditionsView) (n : ℕ) (o : Progress) (os : List Progress) → v.open_now ≡ o ∷ os → below ≤ length os → v.skipped ≡ Some n
+    → place_of below v ≡ Skipped n o (take (length os - below) os)
+unfolding place_by
+place_skipped below v n o os is some skips =
+    place_own below v o os is some ∙ ap (λ (k : Option ℕ). place_by k (o ∷ take (length os - below) os)) skips
+
+-- where none is its own
+pub place_outside : (below : ℕ) (v : ConditionsView) → length v.open_now ≡ below → place_of below v ≡ Live []
+unfolding place_of own_conditions place_by
+place_outside below v same =
+    let none : length v.open_now - below ≡ 0 = omega arith in
+    ap (λ (n : ℕ). place_by v.skipped (take n v.open_now)) none
+
+-- where the innermost source stands: outside of all its conditionals, in a branch of its own innermost, or in conditionals that opened in skipped text
+pub data Standing (below : ℕ) (v : ConditionsView) : Type 0 where
+  Outside : length v.open_now ≡ below → Standing below v
+  Inside : (live : Bool) (o : Progress) (os : List Progress) → v.open_now ≡ o ∷ os → below ≤ length os → v.skipped ≡ skipped_by live → Standing below v
+  Deep : (n : ℕ) (o : Progress) (os : List Progress) → v.open_now ≡ o ∷ os → below ≤ length os → v.skipped ≡ Some (suc n) → Standing below v
+
+standing_own : (below : ℕ) (v : ConditionsView) (skipped : Option ℕ) (o : Progress) (os : List Progress) → v.skipped ≡ skipped → v.open_now ≡ o ∷ os → below ≤ length os → Standing below v
+unfolding skipped_by
+standing_own below v None o os skips is some = Inside true o os is some skips
+standing_own below v (Some zero) o os skips is some = Inside false o os is some skips
+standing_own below v (Some (suc n)) o os skips is some = Deep n o os is some skips
+
+standing_by : (below : ℕ) (v : ConditionsView) (open_now : List Progress) → v.open_now ≡ open_now → below ≤ length v.open_now → Standing below v
+standing_by below v [] is most = Outside (let none : length v.open_now ≡ 0 = ap length is in omega arith)
+standing_by below v (o ∷ os) is most =
+    let size : length v.open_now ≡ suc (length os) = ap length is in
+    elim (cases_lt below (length v.open_now)) [
+      | inl more ↦ standing_own below v v.skipped o os refl is (omega arith)
+      | inr all ↦ Outside (omega arith)
+    ]
+
+pub standing : (below : ℕ) (v : ConditionsView) → below ≤ length v.open_now → Standing below v
+standing below v most = standing_by below v v.open_now refl most
+
+-- What remains of the open sources, as the innermost of them moves, where any others wait for it.
+
+-- nothing is held where no source is open
+pub none_held : (R : Type 0) → 0 < length (held_of (inner_buffer {R = R} [])) → ⊥
+unfolding held_of closed_buffer
+none_held R some = omega arith
+
+-- a source of which bytes are used ends as it did
+pub ends_mid_line_consumed : {R : Type 0} (unread : R → List ℕ) (f : File R) (len lines : ℕ)
+    → ends_mid_line_after (consumed_file len lines f).ends_mid_line (text_left unread (consumed_file len lines f).buffer) ≡ ends_mid_line_after f.ends_mid_line (text_left unread f.buffer)
+unfolding text_left held_of rest_of ahead_of
+ends_mid_line_consumed unread f len lines =
+    let held = drop f.buffer.at (take f.buffer.accepted f.buffer.window) in
+    let rest = rest_of unread f.buffer in
+    let now : drop (f.buffer.at + len) (take f.buffer.accepted f.buffer.window) ≡ drop len held = sym (drop-drop len f.buffer.at (take f.buffer.accepted f.buffer.window)) in
+    ap (λ (h : List ℕ). ends_mid_line_after (ends_mid_line_after f.ends_mid_line (take len held)) (h ++ rest)) now
+    ∙ sym (ends_mid_line_after-append f.ends_mid_line (take len held) (drop len held ++ rest))
+    ∙ ap (ends_mid_line_after f.ends_mid_line) (sym (append_assoc (take len held) (drop len held) rest) ∙ ap (λ (h : List ℕ). h ++ rest) (take-append-drop len held))
+
+-- the text that isn't used is the same in each mode
+pub text_entered : {R : Type 0} (unread : R → List ℕ) (b : BufferView R) (next : Mode) → text_left unread (entered_mode b next) ≡ text_left unread b
+unfolding text_left held_of rest_of ahead_of entered_mode
+text_entered unread b next = refl
+
+module _ {R : Type 0} (limits : Limits) (rules : Rules) (unread : R → List ℕ) where
+  -- the sources that wait are the same where the innermost ends as it did
+  pub waiting_same : (os : List Progress) (f g : File R) (outer : List (File R)) → ends_mid_line_after g.ends_mid_line (text_left unread g.buffer) ≡ ends_mid_line_after f.ends_mid_line (text_left unread f.buffer)
+      → g.include_line ≡ f.include_line → waiting_around limits rules unread os g outer ≡ waiting_around limits rules unread os f outer
+  unfolding waiting_around ending_behind
+  waiting_same os f g [] ends_mid_line line = refl
+  waiting_same os f g (around ∷ outer) ends_mid_line line = rw (ends_mid_line, line) refl
+
+  module _ (macros : List Macro) (v : ConditionsView) where
+    -- the sources that wait around one
+    abbrev pub around : File R → List (File R) → List Waiting
+    around f outer = waiting_around limits rules unread (outer_open f.conditions_below v.open_now) f outer
+
+    -- what remains of the innermost source, where another one remains behind a move of it
+    pub moved : (f g : File R) (outer : List (File R)) (now : List Macro) (x : List ℕ)
+        → source_left rules unread (around f outer) (place_of f.conditions_below v) f (include_stack_state limits macros v (f ∷ outer))
+        ≡ behind_bytes x (source_left rules unread (around f outer) (place_of f.conditions_below v) g (include_stack_state limits now v (g ∷ outer)))
+        → ends_mid_line_after g.ends_mid_line (text_left unread g.buffer) ≡ ends_mid_line_after f.ends_mid_line (text_left unread f.buffer) → g.include_line ≡ f.include_line
+        → g.conditions_below ≡ f.conditions_below
+        → include_stack_left limits rules unread macros v (f ∷ outer) ≡ behind_bytes x (include_stack_left limits rules unread now v (g ∷ outer))
+    unfolding include_stack_left
+    moved f g outer now x law ends_mid_line line below =
+        let s = include_stack_state limits now v (g ∷ outer) in
+        let os = v.open_now in
+        law
+        ∙ ap (λ (ws : List Waiting). behind_bytes x (source_left rules unread ws (place_of f.conditions_below v) g s))
+        (sym (waiting_same (outer_open f.conditions_below os) f g outer ends_mid_line line))
+        ∙ ap (λ (n : ℕ). behind_bytes x (source_left rules unread (waiting_around limits rules unread (outer_open n os) g outer) (place_of n v) g s)) (sym below)
+
+    -- one broken token without bytes is a fault wherever it stands
+    broken_anywhere : (place : Place) (f : File R) (outer : List (File R)) (b : Breach) (line : ℕ) → tokens_left unread f.buffer ≡ only_broken b line
+        → let s = include_stack_state limits macros v (f ∷ outer) in
+        source_left rules unread (around f outer) place f s ≡ leaves (fails (fault_at (breach_kind b) line [] s)) s
+    broken_anywhere (Live os) f outer b line e =
+        broken_left rules unread (around f outer) os f (include_stack_state limits macros v (f ∷ outer)) b line e
+    broken_anywhere (Skipped n o os) f outer b line e =
+        skipped_broken_left rules unread (around f outer) o os f (include_stack_state limits macros v (f ∷ outer)) n b line e
+
+    -- where one is all that remains
+    pub include_stack_broken : (include_stack : List (File R)) (b : Breach) (line : ℕ) → 0 < length include_stack → tokens_left unread (inner_buffer include_stack) ≡ only_broken b line
+        → include_stack_left limits rules unread macros v include_stack ≡ leaves (fails (fault_at (breach_kind b) line [] (include_stack_state limits macros v include_stack))) (include_stack_state limits macros v include_stack)
+    unfolding include_stack_left
+    include_stack_broken [] b line some e = absurd (omega arith)
+    include_stack_broken (f ∷ outer) b line some e = broken_anywhere (place_of f.conditions_below v) f outer b line e
+
+    module _ (live : v.skipped ≡ None) where
+      -- what remains in live text
+      pub at_live : (f : File R) (outer : List (File R)) (p : Passage)
+          → source_left rules unread (around f outer) (Live (own_conditions f.conditions_below v)) f (include_stack_state limits macros v (f ∷ outer)) ≡ p
+          → include_stack_left limits rules unread macros v (f ∷ outer) ≡ p
+      unfolding include_stack_left
+      at_live f outer p law =
+          ap (λ (place : Place). source_left rules unread (around f outer) place f (include_stack_state limits macros v (f ∷ outer))) (live_place f.conditions_below v live)
+          ∙ law
+
+      -- a move in live text
+      pub moved_live : (f g : File R) (outer : List (File R)) (now : List Macro) (x : List ℕ)
+          → source_left rules unread (around f outer) (Live (own_conditions f.conditions_below v)) f (include_stack_state limits macros v (f ∷ outer))
+          ≡ behind_bytes x (source_left rules unread (around f outer) (Live (own_conditions f.conditions_below v)) g (include_stack_state limits now v (g ∷ outer)))
+          → ends_mid_line_after g.ends_mid_line (text_left unread g.buffer) ≡ ends_mid_line_after f.ends_mid_line (text_left unread f.buffer) → g.include_line ≡ f.include_line
+          → g.conditions_below ≡ f.conditions_below
+          → include_stack_left limits rules unread macros v (f ∷ outer) ≡ behind_bytes x (include_stack_left limits rules unread now v (g ∷ outer))
+      moved_live f g outer now x law ends_mid_line line below =
+          moved f g outer now x
+          (subst (λ (place : Place). source_left rules unread (around f outer) place f (include_stack_state limits macros v (f ∷ outer))
+          ≡ behind_bytes x (source_left rules unread (around f outer) place g (include_stack_state limits now v (g ∷ outer)))) (sym (live_place f.conditions_below v live)) law)
+          ends_mid_line line below
+
+      -- the text that is copied
+      pub include_stack_text : (include_stack : List (File R)) (len lines : ℕ) (next : Mode) → 0 < length (held_of (inner_buffer include_stack)) → EndsHeld (inner_buffer include_stack)
+          → IsText (inner_buffer include_stack).mode (held_of (inner_buffer include_stack)) len next → lines ≡ line_ends (take len (held_of (inner_buffer include_stack)))
+          → include_stack_left limits rules unread macros v include_stack
+          ≡ behind_bytes (take len (held_of (inner_buffer include_stack))) (include_stack_left limits rules unread macros v (with_inner (consumed_file len lines) (with_buffer (entered_mode (inner_buffer include_stack) next) include_stack)))
+      unfolding include_stack_state file_state
+      include_stack_text [] len lines next some ends text counted = absurd (none_held R some)
+      include_stack_text (f ∷ outer) len lines next some ends text counted =
+          let entered = with_file_buffer (entered_mode f.buffer next) f in
+          moved_live f (consumed_file len lines entered) outer macros _
+          (text_law rules unread (around f outer) (own_conditions f.conditions_below v) f (include_stack_state limits macros v (f ∷ outer)) len lines next
+          (record { some = some; ends = ends }) text counted)
+          (ends_mid_line_consumed unread entered len lines ∙ ap (ends_mid_line_after f.ends_mid_line) (text_entered unread f.buffer next)) refl refl
+
+      -- a usage of what isn't defined
+      pub include_stack_undefined : (include_stack : List (File R)) (len : ℕ) → 0 < length (held_of (inner_buffer include_stack)) → EndsHeld (inner_buffer include_stack)
+          → (inner_buffer include_stack).mode ≡ Plain → IsUsage (held_of (inner_buffer include_stack)) len → macro_named macros (usage_name (held_of (inner_buffer include_stack)) len) ≡ None
+          → include_stack_left limits rules unread macros v include_stack
+          ≡ leaves (fails (fault_at fault.UndefinedMacro (inner_buffer include_stack).line (usage_name (held_of (inner_buffer include_stack)) len) (include_stack_state limits macros v include_stack))) (include_stack_state limits macros v include_stack)
+      unfolding include_stack_left include_stack_state file_state
+      include_stack_undefined [] len some ends plain usage none = absurd (none_held R some)
+      include_stack_undefined (f ∷ outer) len some ends plain usage none =
+          at_live f outer _ (undefined_left rules unread (around f outer) (own_conditions f.conditions_below v) f (include_stack_state limits macros v (f ∷ outer)) len
+          (record { some = some; ends = ends }) plain usage none)
+
+      -- what ends the output
+      pub include_stack_refused : (include_stack : List (File R)) (kind : FaultKind) → 0 < length (held_of (inner_buffer include_stack)) → EndsHeld (inner_buffer include_stack)
+          → IsRefused (inner_buffer include_stack).mode (held_of (inner_buffer include_stack)) kind
+          → include_stack_left limits rules unread macros v include_stack ≡ leaves (fails (fault_at kind (inner_buffer include_stack).line [] (include_stack_state limits macros v include_stack))) (include_stack_state limits macros v include_stack)
+      unfolding include_stack_left
+      include_stack_refused [] kind some ends refused = absurd (none_held R some)
+      include_stack_refused (f ∷ outer) kind some ends refused =
+          at_live f outer _ (refused_left rules unread (around f outer) (own_conditions f.conditions_below v) f (include_stack_state limits macros v (f ∷ outer)) kind
+          (record { some = some; ends = ends }) refused)
+
+      -- an `undef` of a name
+      pub include_stack_undef : (include_stack : List (File R)) (given : Option (List ℕ)) (len : ℕ) → 0 < length (held_of (inner_buffer include_stack)) → EndsHeld (inner_buffer include_stack)
+          → (inner_buffer include_stack).mode ≡ Plain → Begins Undef (held_of (inner_buffer include_stack)) given len → (name : List ℕ) → given_name given ≡ Fine name
+          → include_stack_left limits rules unread macros v include_stack ≡ include_stack_left limits rules unread (without name macros) v (with_inner (consumed_file len 0) include_stack)
+      unfolding include_stack_state file_state behind_bytes
+      include_stack_undef [] given len some ends plain begins name fine = absurd (none_held R some)
+      include_stack_undef (f ∷ outer) given len some ends plain begins name fine =
+          moved_live f (consumed_file len 0 f) outer (without name macros) []
+          (undef_left rules unread (around f outer) (own_conditions f.conditions_below v) f (include_stack_state limits macros v (f ∷ outer)) given len
+          (record { some = some; ends = ends }) plain begins name fine)
+          (ends_mid_line_consumed unread f len 0) refl refl
+
+      -- one that is refused for its name
+      pub include_stack_refused_undef : (include_stack : List (File R)) (given : Option (List ℕ)) (len : ℕ) → 0 < length (held_of (inner_buffer include_stack)) → EndsHeld (inner_buffer include_stack)
+          → (inner_buffer include_stack).mode ≡ Plain → Begins Undef (held_of (inner_buffer include_stack)) given len → (kind : FaultKind) (word : List ℕ) → given_name given ≡ Faulty kind word
+          → include_stack_left limits rules unread macros v include_stack ≡ leaves (fails (fault_at kind (inner_buffer include_stack).line word (include_stack_state limits macros v include_stack))) (include_stack_state limits macros v include_stack)
+      unfolding include_stack_left
+      include_stack_refused_undef [] given len some ends plain begins kind word faulty = absurd (none_held R some)
+      include_stack_refused_undef (f ∷ outer) given len some ends plain begins kind word faulty =
+          at_live f outer _ (undef_refused_left rules unread (around f outer) (own_conditions f.conditions_below v) f (include_stack_state limits macros v (f ∷ outer)) given len
+          (record { some = some; ends = ends }) plain begins kind word faulty)
+
+      module _ (tells : Type 0) (t : tells) where
+        -- a `define` that is accepted
+        pub include_stack_defined : (include_stack : List (File R)) (new : BufferView R) (len lines : ℕ) (now : List Macro) → 0 < length (held_of (inner_buffer include_stack)) → EndsHeld (inner_buffer include_stack)
+            → (inner_buffer include_stack).mode ≡ Plain → IsDirective Define (held_of (inner_buffer include_stack)) → HoldsLine tells unread (line.Whole len) (inner_buffer include_stack) new
+            → rules.define macros (drop 7 (take len (held_of new))) ≡ Accepted now → lines ≡ line_ends (take len (held_of new))
+            → include_stack_left limits rules unread macros v include_stack
+            ≡ behind_bytes (line_ends_of (take len (held_of new))) (include_stack_left limits rules unread now v (with_inner (consumed_file len lines) (with_buffer new include_stack)))
+        unfolding include_stack_state file_state
+        include_stack_defined [] new len lines now some ends plain define holds accepted counted = absurd (none_held R some)
+        include_stack_defined (f ∷ outer) new len lines now some ends plain define holds accepted counted =
+            let h : HoldsFront f.buffer = record { some = some; ends = ends } in
+            let held = with_file_buffer new f in
+            moved_live f (consumed_file len lines held) outer now _
+            (define_left rules unread (around f outer) (own_conditions f.conditions_below v) f (include_stack_state limits macros v (f ∷ outer)) tells new len lines now
+            holds t plain (holds_define unread f h define) accepted counted)
+            (ends_mid_line_consumed unread held len lines ∙ ap (ends_mid_line_after f.ends_mid_line) (holds.text (λ e. cc) t)) refl refl
+
+        -- a `define` that is refused
+        pub include_stack_refused_define : (include_stack : List (File R)) (new : BufferView R) (len : ℕ) (kind : FaultKind) (word : List ℕ) → 0 < length (held_of (inner_buffer include_stack)) → EndsHeld (inner_buffer include_stack)
+            → (inner_buffer include_stack).mode ≡ Plain → IsDirective Define (held_of (inner_buffer include_stack)) → HoldsLine tells unread (line.Whole len) (inner_buffer include_stack) new
+            → rules.define macros (drop 7 (take len (held_of new))) ≡ Refused kind word
+            → include_stack_left limits rules unread macros v include_stack ≡ leaves (fails (fault_at kind (inner_buffer include_stack).line word (include_stack_state limits macros v include_stack))) (include_stack_state limits macros v include_stack)
+        unfolding include_stack_left include_stack_state file_state
+        include_stack_refused_define [] new len kind word some ends plain define holds refused = absurd (none_held R some)
+        include_stack_refused_define (f ∷ outer) new len kind word some ends plain define holds refused =
+            let h : HoldsFront f.buffer = record { some = some; ends = ends } in
+            at_live f outer _ (define_refused_left rules unread (around f outer) (own_conditions f.conditions_below v) f (include_stack_state limits macros v (f ∷ outer)) tells new len kind word
+            holds t plain (holds_define unread f h define) refused)
+
+        -- a `define` that is too long
+        pub include_stack_long_define : (include_stack : List (File R)) (new : BufferView R) → 0 < length (held_of (inner_buffer include_stack)) → EndsHeld (inner_buffer include_stack)
+            → (inner_buffer include_stack).mode ≡ Plain → IsDirective Define (held_of (inner_buffer include_stack)) → HoldsLine tells unread line.TooLong (inner_buffer include_stack) new
+            → include_stack_left limits rules unread macros v include_stack ≡ leaves (fails (fault_at fault.LineTooLong (inner_buffer include_stack).line [] (include_stack_state limits macros v include_stack))) (include_stack_state limits macros v include_stack)
+        unfolding include_stack_left
+        include_stack_long_define [] new some ends plain define holds = absurd (none_held R some)
+        include_stack_long_define (f ∷ outer) new some ends plain define holds =
+            let h : HoldsFront f.buffer = record { some = some; ends = ends } in
+            at_live f outer _ (define_long_left rules unread (around f outer) (own_conditions f.conditions_below v) f (include_stack_state limits macros v (f ∷ outer)) tells new
+            holds t plain (holds_define unread f h define))
+
+        -- a `define` that its source's limit cuts
+        pub include_stack_cut_define : (include_stack : List (File R)) (new : BufferView R) → 0 < length (held_of (inner_buffer include_stack)) → EndsHeld (inner_buffer include_stack)
+            → (inner_buffer include_stack).mode ≡ Plain → IsDirective Define (held_of (inner_buffer include_stack)) → HoldsLine tells unread line.SourceLong (inner_buffer include_stack) new
+            → include_stack_left limits rules unread macros v include_stack ≡ leaves (fails (fault_at fault.SourceTooLong (inner_buffer include_stack).line [] (include_stack_state limits macros v include_stack))) (include_stack_state limits macros v include_stack)
+        unfolding include_stack_left
+        include_stack_cut_define [] new some ends plain define holds = absurd (none_held R some)
+        include_stack_cut_define (f ∷ outer) new some ends plain define holds =
+            let h : HoldsFront f.buffer = record { some = some; ends = ends } in
+            at_live f outer _ (define_cut_left rules unread (around f outer) (own_conditions f.conditions_below v) f (include_stack_state limits macros v (f ∷ outer)) tells new
+            holds t plain (holds_define unread f h define))
+
+    module _ (tells : Type 0) (t : tells) where
+      -- bytes are held that weren't
+      pub include_stack_filled : (include_stack : List (File R)) (new : BufferView R) → Fills tells unread fill.Held (inner_buffer include_stack) new
+          → include_stack_left limits rules unread macros v include_stack ≡ include_stack_left limits rules unread macros v (with_buffer new include_stack)
+      unfolding include_stack_state file_state behind_bytes
+      include_stack_filled [] new fills = refl
+      include_stack_filled (f ∷ outer) new fills =
+          moved f (with_file_buffer new f) outer macros []
+          (sym (filled_left rules unread (around f outer) f (include_stack_state limits macros v (f ∷ outer)) tells (place_of f.conditions_below v) new fill.Held fills t (inl refl)))
+          (ap (ends_mid_line_after f.ends_mid_line) (fills.text (λ e. cc) t)) refl refl
+
+      -- a read failed where bytes were to be filled in
+      pub include_stack_unfilled : (include_stack : List (File R)) (new : BufferView R) → Fills tells unread fill.Failed (inner_buffer include_stack) new
+          → include_stack_left limits rules unread macros v include_stack ≡ include_stack_left limits rules unread macros v (with_buffer new include_stack)
+      unfolding include_stack_state file_state behind_bytes
+      include_stack_unfilled [] new fills = refl
+      include_stack_unfilled (f ∷ outer) new fills =
+          moved f (with_file_buffer new f) outer macros []
+          (sym (filled_left rules unread (around f outer) f (include_stack_state limits macros v (f ∷ outer)) tells (place_of f.conditions_below v) new fill.Failed fills t (inr refl)))
+          (ap (ends_mid_line_after f.ends_mid_line) (fills.text (λ e. cc) t)) refl refl
+
+      -- or where a logical line was to be taken in
+      pub include_stack_unheld : (include_stack : List (File R)) (new : BufferView R) → HoldsLine tells unread line.Failed (inner_buffer include_stack) new
+          → include_stack_left limits rules unread macros v include_stack ≡ include_stack_left limits rules unread macros v (with_buffer new include_stack)
+      unfolding include_stack_state file_state behind_bytes
+      include_stack_unheld [] new holds = refl
+      include_stack_unheld (f ∷ outer) new holds =
+          moved f (with_file_buffer new f) outer macros []
+          (sym (held_left rules unread (around f outer) f (include_stack_state limits macros v (f ∷ outer)) tells (place_of f.conditions_below v) new line.Failed holds t (inr refl)))
+          (ap (ends_mid_line_after f.ends_mid_line) (holds.text (λ e. cc) t)) refl refl
+
+      -- a line that is too long
+      pub include_stack_long_line : (include_stack : List (File R)) (new : BufferView R) → 0 < length include_stack → Fills tells unread fill.LineLong (inner_buffer include_stack) new
+          → include_stack_left limits rules unread macros v include_stack ≡ leaves (fails (fault_at fault.LineTooLong (inner_buffer include_stack).line [] (include_stack_state limits macros v include_stack))) (include_stack_state limits macros v include_stack)
+      unfolding breach_kind
+      include_stack_long_line include_stack new some fills = include_stack_broken include_stack breach.LineLong (inner_buffer include_stack).line some (fills.tokens t)
+
+      -- a line with which the source is too long
+      pub include_stack_long_source : (include_stack : List (File R)) (new : BufferView R) → 0 < length include_stack → Fills tells unread fill.SourceLong (inner_buffer include_stack) new
+          → include_stack_left limits rules unread macros v include_stack ≡ leaves (fails (fault_at fault.SourceTooLong (inner_buffer include_stack).line [] (include_stack_state limits macros v include_stack))) (include_stack_state limits macros v include_stack)
+      unfolding breach_kind
+      include_stack_long_source include_stack new some fills = include_stack_broken include_stack breach.SourceLong (inner_buffer include_stack).line some (fills.tokens t)
+
+      -- a string or a comment that isn't closed where the text ends
+      pub include_stack_open : (include_stack : List (File R)) (new : BufferView R) (b : Breach) → 0 < length include_stack → Fills tells unread fill.End (inner_buffer include_stack) new
+          → ended_tokens (inner_buffer include_stack).mode (inner_buffer include_stack).open_token_line ≡ only_broken b (inner_buffer include_stack).open_token_line
+          → include_stack_left limits rules unread macros v include_stack ≡ leaves (fails (fault_at (breach_kind b) (inner_buffer include_stack).open_token_line [] (include_stack_state limits macros v include_stack))) (include_stack_state limits macros v include_stack)
+      include_stack_open include_stack new b some fills tokens = include_stack_broken include_stack b (inner_buffer include_stack).open_token_line some (fills.tokens t ∙ tokens)
+
+      -- the end of the only open source, in which no conditional is open
+      pub include_stack_ended : (include_stack : List (File R)) (new : BufferView R) → 0 < length include_stack → length include_stack ≤ 1 → length v.open_now ≡ inner_below include_stack → Fills tells unread fill.End (inner_buffer include_stack) new → (inner_buffer include_stack).mode ≡ Plain
+          → include_stack_left limits rules unread macros v include_stack ≡ leaves (gives []) (include_stack_state limits macros v include_stack)
+      unfolding include_stack_left waiting_around unwound
+      include_stack_ended [] new some alone none fills plain = absurd (omega arith)
+      include_stack_ended (f ∷ []) new some alone none fills plain =
+          ap (λ (place : Place). source_left rules unread [] place f (include_stack_state limits macros v (f ∷ []))) (place_outside f.conditions_below v none)
+          ∙ ended_left rules unread [] f (include_stack_state limits macros v (f ∷ [])) tells new fills t plain
+      include_stack_ended (f ∷ g ∷ outer) new some alone none fills plain = absurd (omega arith)
+
+-- What remains of the open sources, as a directive of the innermost one opens, branches or closes a conditional.
+
+-- what remains behind a directive in front of the innermost source
+module _ {R : Type 0} (limits : Limits) (rules : Rules) (unread : R → List ℕ) (macros : List Macro) (v : ConditionsView) (include_stack : List (File R)) where
+  -- what remains behind so many bytes, by the open conditionals
+  abbrev pub Continues : ConditionsView → ℕ → Type 0
+  Continues w len = include_stack_left limits rules unread macros v include_stack ≡ include_stack_left limits rules unread macros w (with_inner (consumed_file len 0) include_stack)
+
+  -- a fault at the line of the next byte
+  abbrev pub Faults : FaultKind → List ℕ → Type 0
+  Faults kind word =
+      include_stack_left limits rules unread macros v include_stack ≡ leaves (fails (fault_at kind (inner_buffer include_stack).line word (include_stack_state limits macros v include_stack))) (include_stack_state limits macros v include_stack)
+
+  -- the one or the other, by a test
+  abbrev pub Decides : Test → (Bool → ConditionsView) → ℕ → Type 0
+  Decides (Stopped kind word) next len = Faults kind word
+  Decides (Holds t) next len = Continues (next t) len
+
+module _ {R : Type 0} (limits : Limits) (rules : Rules) (unread : R → List ℕ) (macros : List Macro) (outer : List (File R)) where
+  -- the sources that wait around one, by the open conditionals
+  abbrev pub around_by : ConditionsView → File R → List Waiting
+  around_by v f = waiting_around limits rules unread (outer_open f.conditions_below v.open_now) f outer
+
+  -- what remains of the innermost source at a place, from the state that open conditionals make
+  abbrev pub left_at : ConditionsView → Place → ConditionsView → File R → File R → Passage
+  left_at v place w f g = source_left rules unread (around_by v f) place g (include_stack_state limits macros w (g ∷ outer))
+
+  -- the source's own conditionals, where the innermost is closed
+  own_closed : (below : ℕ) (v : ConditionsView) (os : List Progress) → drop 1 v.open_now ≡ os → own_conditions below (closed_one v) ≡ take (length os - below) os
+  unfolding own_conditions
+  own_closed below v os rest = ap (λ (x : List Progress). take (length x - below) x) rest
+
+  -- the innermost source moves, and its own open conditionals with it
+  pub turned_include_stack : (v w : ConditionsView) (f g : File R)
+      → left_at v (place_of f.conditions_below v) v f f ≡ left_at v (place_of f.conditions_below w) w f g
+      → outer_open f.conditions_below w.open_now ≡ outer_open f.conditions_below v.open_now
+      → ends_mid_line_after g.ends_mid_line (text_left unread g.buffer) ≡ ends_mid_line_after f.ends_mid_line (text_left unread f.buffer) → g.include_line ≡ f.include_line
+      → g.conditions_below ≡ f.conditions_below
+      → include_stack_left limits rules unread macros v (f ∷ outer) ≡ include_stack_left limits rules unread macros w (g ∷ outer)
+  unfolding include_stack_left
+  turned_include_stack v w f g law same ends_mid_line line below =
+      let s = include_stack_state limits macros w (g ∷ outer) in
+      let at : ℕ → List Waiting → Passage = λ n ws. source_left rules unread ws (place_of n w) g s in
+      law
+      ∙ ap (at f.conditions_below) (sym (waiting_same limits rules unread (outer_open f.conditions_below v.open_now) f g outer ends_mid_line line))
+      ∙ ap (λ (os : List Progress). at f.conditions_below (waiting_around limits rules unread os g outer)) (sym same)
+      ∙ ap (λ (n : ℕ). at n (waiting_around limits rules unread (outer_open n w.open_now) g outer)) (sym below)
+
+  -- what remains at the place where the innermost source stands
+  pub fails_include_stack : (v : ConditionsView) (f : File R) (place : Place) (p : Passage) → place_of f.conditions_below v ≡ place → left_at v place v f f ≡ p
+      → include_stack_left limits rules unread macros v (f ∷ outer) ≡ p
+  unfolding include_stack_left
+  fails_include_stack v f place p is law = ap (λ (x : Place). left_at v x v f f) is ∙ law
+
+  -- the state in one more open conditional, and in one less
+  opened_state : (v : ConditionsView) (line : ℕ) (t : Bool) (f g : File R) → include_stack_state limits macros v (f ∷ outer) ≡ include_stack_state limits macros v (g ∷ outer)
+      → in_conditional (include_stack_state limits macros v (f ∷ outer)) ≡ include_stack_state limits macros (opened_with line t v) (g ∷ outer)
+  unfolding include_stack_state file_state in_conditional
+  opened_state v line t f g same =
+      let n = length v.open_now in
+      let less : limits.conditions - n - 1 ≡ limits.conditions - suc n = omega arith in
+      ap in_conditional same
+      ∙ ap (λ (k : ℕ). record (include_stack_state limits macros v (g ∷ outer)) { conditions_left = k }) less
+
+  closed_state : (v : ConditionsView) (o : Progress) (os : List Progress) (f g : File R) → v.open_now ≡ o ∷ os → length v.open_now ≤ limits.conditions
+      → include_stack_state limits macros v (f ∷ outer) ≡ include_stack_state limits macros v (g ∷ outer)
+      → past_conditional (include_stack_state limits macros v (f ∷ outer)) ≡ include_stack_state limits macros (closed_one v) (g ∷ outer)
+  unfolding include_stack_state file_state past_conditional
+  closed_state v o os f g is few same =
+      let size : length v.open_now ≡ suc (length os) = ap length is in
+      let rest : length (drop 1 v.open_now) ≡ length os = ap (λ (x : List Progress). length (drop 1 x)) is in
+      let more : suc (limits.conditions - length v.open_now) ≡ limits.conditions - length (drop 1 v.open_now) = omega arith in
+      ap past_conditional same
+      ∙ ap (λ (k : ℕ). record (include_stack_state limits macros v (g ∷ outer)) { conditions_left = k }) more
+
+  -- a directive in front
+  module _ (v : ConditionsView) (f : File R) (holds : HoldsFront f.buffer) (mode : f.buffer.mode ≡ Plain) where
+    -- the state that the meaning goes on from
+    abbrev here : State
+    here = include_stack_state limits macros v (f ∷ outer)
+
+    -- what remains at it, by what it comes to
+    abbrev Refuses : FaultKind → List ℕ → Type 0
+    Refuses kind word = Faults limits rules unread macros v (f ∷ outer) kind word
+
+    abbrev GoesOn : ConditionsView → ℕ → Type 0
+    GoesOn w len = Continues limits rules unread macros v (f ∷ outer) w len
+
+    abbrev ByTest : Test → (Bool → ConditionsView) → ℕ → Type 0
+    ByTest x next len = Decides limits rules unread macros v (f ∷ outer) x next len
+
+    -- a directive that moves the innermost source and its conditionals
+    goes_on_at : (w : ConditionsView) (len : ℕ) (place new : Place) (t : State) → place_of f.conditions_below v ≡ place → place_of f.conditions_below w ≡ new
+        → t ≡ include_stack_state limits macros w (consumed_file len 0 f ∷ outer)
+        → outer_open f.conditions_below w.open_now ≡ outer_open f.conditions_below v.open_now
+        → source_left rules unread (around_by v f) place f here ≡ source_left rules unread (around_by v f) new (consumed_file len 0 f) t
+        → GoesOn w len
+    goes_on_at w len place new t is becomes state same law =
+        let g = consumed_file len 0 f in
+        turned_include_stack v w f g
+        (ap (λ (x : Place). source_left rules unread (around_by v f) x f here) is
+        ∙ law
+        ∙ ap (λ (x : Place). source_left rules unread (around_by v f) x g t) (sym becomes)
+        ∙ ap (λ (u : State). source_left rules unread (around_by v f) (place_of f.conditions_below w) g u) state)
+        same (ends_mid_line_consumed unread f len 0) refl refl
+
+    -- one that does so by a test
+    tested_at : (next : Bool → ConditionsView) (len : ℕ) (place : Place) (new : Bool → Place) (s : State) (x : Test) → place_of f.conditions_below v ≡ place
+        → ((t : Bool) → place_of f.conditions_below (next t) ≡ new t) → ((t : Bool) → s ≡ include_stack_state limits macros (next t) (consumed_file len 0 f ∷ outer))
+        → ((t : Bool) → outer_open f.conditions_below (next t).open_now ≡ outer_open f.conditions_below v.open_now)
+        → source_left rules unread (around_by v f) place f here ≡ tested x f.buffer.line here (λ t. source_left rules unread (around_by v f) (new t) (consumed_file len 0 f) s)
+        → ByTest x next len
+    unfolding tested
+    tested_at next len place new s (Stopped kind word) is becomes state same law = fails_include_stack v f place _ is law
+    tested_at next len place new s (Holds t) is becomes state same law = goes_on_at (next t) len place (new t) s is (becomes t) (state t) (same t) law
+
+    -- a conditional opens, where one more may be open
+    include_stack_opening : (d : Directive) (given : Option (List ℕ)) (len : ℕ) → Begins d (held_of f.buffer) given len → v.skipped ≡ None → opens_conditional d ≡ true → f.conditions_below ≤ length v.open_now
+        → ByTest (opening_within (limits.conditions - length v.open_now) (name_test (wants_defined d) (given_name given) here)) (λ t. opened_with (shown_line (shift_of f.shift) f.buffer.line) t v) len
+    unfolding include_stack_state file_state own_conditions
+    include_stack_opening d given len begins live opens below =
+        let line = shown_line (shift_of f.shift) f.buffer.line in
+        let one : Bool → Progress = λ t. record { line = line; taken = t; closing = false } in
+        let own = own_conditions f.conditions_below v in
+        tested_at (λ t. opened_with line t v) len (Live own) (λ t. in_branch t (one t) own) (in_conditional here) _
+        (live_place f.conditions_below v live)
+        (λ t. place_inside f.conditions_below (opened_with line t v) t (one t) v.open_now refl below refl)
+        (λ t. opened_state v line t f (consumed_file len 0 f) refl)
+        (λ t. outer_cons f.conditions_below (one t) v.open_now below)
+        (opening_left rules unread (around_by v f) f here holds mode d given len begins own opens)
+
+    -- a branch, or an end, where no conditional of its source is open
+    include_stack_stray : (d : Directive) → is_stray d ≡ true → length v.open_now ≡ f.conditions_below → IsDirective d (held_of f.buffer) → Refuses fault.StrayBranch []
+    include_stack_stray d stray alone is =
+        fails_include_stack v f (Live []) _ (place_outside f.conditions_below v alone) (stray_left rules unread (around_by v f) f here holds mode d stray is)
+
+    -- in a branch of the innermost conditional, which is its own
+    module _ (live : Bool) (o : Progress) (os : List Progress) (is_open : v.open_now ≡ o ∷ os) (below : f.conditions_below ≤ length os) (skips : v.skipped ≡ skipped_by live) where
+      -- its own conditionals around the innermost
+      abbrev own : List Progress
+      own = take (length os - f.conditions_below) os
+
+      stands : place_of f.conditions_below v ≡ in_branch live o own
+      stands = place_inside f.conditions_below v live o os is_open below skips
+
+      -- another innermost conditional
+      turned_by : (d : Directive) (t : Bool) → turned_open d t v.open_now ≡ branched o t (is_else d) ∷ os
+      unfolding turned_open
+      turned_by d t = ap (turned_open d t) is_open
+
+      turned_place : (d : Directive) (t : Bool) → place_of f.conditions_below (turned_with d t v) ≡ in_branch t (branched o t (is_else d)) own
+      turned_place d t = place_inside f.conditions_below (turned_with d t v) t (branched o t (is_else d)) os (turned_by d t) below refl
+
+      turned_outer : (d : Directive) (t : Bool) → outer_open f.conditions_below (turned_open d t v.open_now) ≡ outer_open f.conditions_below v.open_now
+      turned_outer d t =
+          ap (outer_open f.conditions_below) (turned_by d t) ∙ outer_cons f.conditions_below (branched o t (is_else d)) os below
+          ∙ sym (outer_cons f.conditions_below o os below) ∙ sym (ap (outer_open f.conditions_below) is_open)
+
+      turned_state : (d : Directive) (t : Bool) (len : ℕ) → here ≡ include_stack_state limits macros (turned_with d t v) (consumed_file len 0 f ∷ outer)
+      unfolding include_stack_state file_state
+      turned_state d t len =
+          let size : length v.open_now ≡ length (turned_open d t v.open_now) = ap length is_open ∙ sym (ap length (turned_by d t)) in
+          ap (λ (n : ℕ). file_state limits macros n (length outer) f) size
+
+      -- a branch, by its test
+      include_stack_turned : (d : Directive) (given : Option (List ℕ)) (len : ℕ) (test : Checked → State → Test) → Begins d (held_of f.buffer) given len → branches_conditional d ≡ true → Turns o d test
+          → ByTest (test (given_name given) here) (λ t. turned_with d t v) len
+      include_stack_turned d given len test begins branches turns =
+          tested_at (λ t. turned_with d t v) len (in_branch live o own) (λ t. in_branch t (branched o t (is_else d)) own) here _
+          stands (turned_place d) (λ t. turned_state d t len) (turned_outer d)
+          (turned_left rules unread (around_by v f) f here holds mode d given len begins live o own test branches turns)
+
+      -- an `endif`
+      include_stack_closed : IsDirective Endif (held_of f.buffer) → length v.open_now ≤ limits.conditions → GoesOn (closed_one v) (length (word_of Endif))
+      unfolding include_stack_state file_state
+      include_stack_closed is few =
+          let len = length (word_of Endif) in
+          let rest : drop 1 v.open_now ≡ os = ap (drop 1) is_open in
+          goes_on_at (closed_one v) len (in_branch live o own) (Live own) (past_conditional here) stands
+          (live_place f.conditions_below (closed_one v) refl ∙ ap Live (own_closed f.conditions_below v os rest))
+          (closed_state v o os f (consumed_file len 0 f) is_open few refl)
+          (ap (outer_open f.conditions_below) rest ∙ sym (outer_cons f.conditions_below o os below) ∙ sym (ap (outer_open f.conditions_below) is_open))
+          (closed_left rules unread (around_by v f) f here holds mode live o own is)
+
+    -- a word that counts in skipped text changes alone how many conditionals opened there
+    include_stack_counted : (d : Directive) (n m : ℕ) (o : Progress) (os : List Progress) → Counts d n m → v.open_now ≡ o ∷ os → f.conditions_below ≤ length os → v.skipped ≡ Some n → IsDirective d (held_of f.buffer)
+        → GoesOn (with_count m v) (length (word_of d))
+    unfolding include_stack_state file_state
+    include_stack_counted d n m o os counts is_open below skips is =
+        let around_open = take (length os - f.conditions_below) os in
+        goes_on_at (with_count m v) (length (word_of d)) (Skipped n o around_open) (Skipped m o around_open) here
+        (place_skipped f.conditions_below v n o os is_open below skips) (place_skipped f.conditions_below (with_count m v) m o os is_open below refl) refl refl
+        (counted_left rules unread (around_by v f) o around_open f here d n m counts holds mode is)
+
+-- bytes of plain text are held of the innermost source
+pub record IsPlainFront {R : Type 0} (include_stack : List (File R)) : Type 0 where
+  pub some : 0 < length (held_of (inner_buffer include_stack))
+  pub ends : EndsHeld (inner_buffer include_stack)
+  pub plain : (inner_buffer include_stack).mode ≡ Plain
+
+holds_front : {R : Type 0} (f : File R) (outer : List (File R)) → IsPlainFront (f ∷ outer) → HoldsFront f.buffer
+holds_front f outer h = record { some = h.some; ends = h.ends }
+
+module _ {R : Type 0} (limits : Limits) (rules : Rules) (unread : R → List ℕ) (macros : List Macro) (v : ConditionsView) where
+  -- a conditional opens, where one more may be open
+  pub opens_at : (include_stack : List (File R)) (d : Directive) (given : Option (List ℕ)) (len : ℕ) → IsPlainFront include_stack → Begins d (held_of (inner_buffer include_stack)) given len → v.skipped ≡ None → opens_conditional d ≡ true
+      → inner_below include_stack ≤ length v.open_now
+      → Decides limits rules unread macros v include_stack (opening_within (limits.conditions - length v.open_now) (name_test (wants_defined d) (given_name given) (include_stack_state limits macros v include_stack))) (λ t. opened_with (inner_shown include_stack) t v) len
+  opens_at [] d given len h begins live opens below = absurd (none_held R h.some)
+  opens_at (f ∷ outer) d given len h begins live opens below =
+      include_stack_opening limits rules unread macros outer v f (holds_front f outer h) h.plain d given len begins live opens below
+
+  -- a branch, or an end, where no conditional of its source is open
+  pub stray_at : (include_stack : List (File R)) (d : Directive) → IsPlainFront include_stack → is_stray d ≡ true → length v.open_now ≡ inner_below include_stack → IsDirective d (held_of (inner_buffer include_stack)) → Faults limits rules unread macros v include_stack fault.StrayBranch []
+  stray_at [] d h stray alone is = absurd (none_held R h.some)
+  stray_at (f ∷ outer) d h stray alone is = include_stack_stray limits rules unread macros outer v f (holds_front f outer h) h.plain d stray alone is
+
+  -- in a branch of the innermost conditional, which is its own
+  module _ (live : Bool) (o : Progress) (os : List Progress) (is_open : v.open_now ≡ o ∷ os) (skips : v.skipped ≡ skipped_by live) where
+    -- a branch, by its test
+    pub turns_at : (include_stack : List (File R)) (d : Directive) (given : Option (List ℕ)) (len : ℕ) (test : Checked → State → Test) → IsPlainFront include_stack → inner_below include_stack ≤ length os
+        → Begins d (held_of (inner_buffer include_stack)) given len → branches_conditional d ≡ true → Turns o d test → Decides limits rules unread macros v include_stack (test (given_name given) (include_stack_state limits macros v include_stack)) (λ t. turned_with d t v) len
+    turns_at [] d given len test h below begins branches turns = absurd (none_held R h.some)
+    turns_at (f ∷ outer) d given len test h below begins branches turns =
+        include_stack_turned limits rules unread macros outer v f (holds_front f outer h) h.plain live o os is_open below skips d given len test begins branches turns
+
+    -- an `endif`
+    pub closes_at : (include_stack : List (File R)) → IsPlainFront include_stack → inner_below include_stack ≤ length os → IsDirective Endif (held_of (inner_buffer include_stack))
+        → length v.open_now ≤ limits.conditions → Continues limits rules unread macros v include_stack (closed_one v) (length (word_of Endif))
+    closes_at [] h below is few = absurd (none_held R h.some)
+    closes_at (f ∷ outer) h below is few =
+        include_stack_closed limits rules unread macros outer v f (holds_front f outer h) h.plain live o os is_open below skips is few
+
+  -- a word that counts in skipped text
+  pub counts_at : (include_stack : List (File R)) (d : Directive) (n m : ℕ) (o : Progress) (os : List Progress) → IsPlainFront include_stack → Counts d n m → v.open_now ≡ o ∷ os → inner_below include_stack ≤ length os → v.skipped ≡ Some n
+      → IsDirective d (held_of (inner_buffer include_stack)) → Continues limits rules unread macros v include_stack (with_count m v) (length (word_of d))
+  counts_at [] d n m o os h counts is_open below skips is = absurd (none_held R h.some)
+  counts_at (f ∷ outer) d n m o os h counts is_open below skips is =
+      include_stack_counted limits rules unread macros outer v f (holds_front f outer h) h.plain d n m o os counts is_open below skips is
