@@ -28,7 +28,7 @@ use Rattle.rdlpp_state.proofs.LentPieces.{IsSpent, cut_kept, cut_piece, position
 use Rattle.rdlpp_state.proofs.EngineSteps.{follows}
 use Rattle.rdlpp_expand.specs.Texts.{IsInTexts, LeavesTexts, StaysDrained, further_parts, place_of}
 use Rattle.rdlpp_expand.specs.declared.engine.texts.TextStep.{TextStep}
-use Rattle.rdlpp_expand.specs.declared.engine.texts.TextStep.TheVariants.{Kept, Lent, Silent}
+use Rattle.rdlpp_expand.specs.declared.engine.texts.TextStep.TheVariants.{Fault as AtFault, Lent, Silent}
 
 -- Steps over open texts, and what is known between them.
 
@@ -86,13 +86,13 @@ pub other-steps : {S R : Type 0} (g : Ghosts S R) (old new : EngineView S R) (st
     → WalksOver g most_silent old new (step_answer new (place_of step)) → Steps g old new (step_answer new (place_of step))
 other-steps g old new (Lent place) other w = absurd (other place refl)
 other-steps g old new Silent other w = silent-steps g old new w
-other-steps g old new Kept other w = cut_kept g old new new.kept w
+other-steps g old new AtFault other w = cut_kept g old new new.kept w
 
 -- what holds behind one step that lends a piece or keeps a fault holds behind the steps up to it
 pub other-leaves : {S R : Type 0} (step : TextStep) (e : EngineView S R) → (step ≡ Silent → ⊥) → StaysDrained step e → LeavesTexts step e
 other-leaves (Lent place) e other stays = λ _. stays
 other-leaves Silent e other stays = stays
-other-leaves Kept e other stays = stays
+other-leaves AtFault e other stays = stays
 
 -- a step has one further part at most
 pub one_further : (in_texts : Bool) → further_parts in_texts ≤ 1

@@ -239,7 +239,7 @@ impl<S: Sources> Engine<S> {
                 PieceLocation::Pending(piece.cut(len))
             }
             PieceLocation::End => PieceLocation::End,
-            PieceLocation::Kept => PieceLocation::Kept,
+            PieceLocation::Fault => PieceLocation::Fault,
         }
     }
 
@@ -305,7 +305,7 @@ impl<S: Sources> Engine<S> {
     {
         self.facts();
         if self.kept.is_some() {
-            return Some(PieceLocation::Kept);
+            return Some(PieceLocation::Fault);
         }
         match self.phase {
             Phase::Open => {
@@ -313,7 +313,7 @@ impl<S: Sources> Engine<S> {
                 self.facts();
                 place
             }
-            Phase::Passed => Some(self.refuse_output()),
+            Phase::Passed => Some(self.record_output_fault()),
             _ => Some(PieceLocation::End),
         }
     }
@@ -362,9 +362,9 @@ impl<S: Sources> Engine<S> {
                 self.take_held()
             }
             Fill::End => self.end(),
-            Fill::SourceLong => Some(self.refuse(FaultKind::SourceTooLong, ArrayString::new())),
-            Fill::LineLong => Some(self.refuse(FaultKind::LineTooLong, ArrayString::new())),
-            Fill::Failed => Some(self.refuse_read()),
+            Fill::SourceLong => Some(self.record_fault(FaultKind::SourceTooLong, ArrayString::new())),
+            Fill::LineLong => Some(self.record_fault(FaultKind::LineTooLong, ArrayString::new())),
+            Fill::Failed => Some(self.record_read_fault()),
         }
     }
 
@@ -390,7 +390,7 @@ impl<S: Sources> Engine<S> {
             SourceItem::Endif => self.take_endif(),
             SourceItem::Include(argument) => self.take_include(argument),
             SourceItem::Line => self.take_line(),
-            SourceItem::Refused(kind) => Some(self.refuse(kind, ArrayString::new())),
+            SourceItem::Refused(kind) => Some(self.record_fault(kind, ArrayString::new())),
         }
     }
 
@@ -410,12 +410,12 @@ impl<S: Sources> Engine<S> {
                 self.facts();
                 self.read_define(len)
             }
-            LogicalLine::TooLong => Some(self.refuse(FaultKind::LineTooLong, ArrayString::new())),
-            LogicalLine::SourceLong => Some(self.refuse(
+            LogicalLine::TooLong => Some(self.record_fault(FaultKind::LineTooLong, ArrayString::new())),
+            LogicalLine::SourceLong => Some(self.record_fault(
                 FaultKind::SourceTooLong,
                 ArrayString::new(),
             )),
-            LogicalLine::Failed => Some(self.refuse_read()),
+            LogicalLine::Failed => Some(self.record_read_fault()),
         }
     }
 
@@ -435,7 +435,7 @@ impl<S: Sources> Engine<S> {
         let line = &file.buffer.held()[..len];
         let lines = line_ends_in(line);
         match self.table.read_define(&line[len.min(DEFINE_BYTES)..]) {
-            Err(fault) => Some(self.refuse(fault_kind(fault.kind), fault.word)),
+            Err(fault) => Some(self.record_fault(fault_kind(fault.kind), fault.word)),
             Ok(()) => {
                 let _count = self.table.len();
                 self.taken = len;
@@ -478,12 +478,12 @@ impl<S: Sources> Engine<S> {
         ensures { LooksAtName argument self.old self.new result }
     {
         match argument {
-            None => Err(self.refuse(FaultKind::NameExpected, ArrayString::new())),
+            None => Err(self.record_fault(FaultKind::NameExpected, ArrayString::new())),
             Some(given) => {
                 let name = &self.files.file().buffer.held()[given.start..given.stop];
                 if reserved(name).is_some() {
                     let word = word_of(name);
-                    return Err(self.refuse(FaultKind::ReservedName, word));
+                    return Err(self.record_fault(FaultKind::ReservedName, word));
                 }
                 Ok(given)
             }
@@ -504,8 +504,8 @@ impl<S: Sources> Engine<S> {
         let opened = buffer.open_token_line();
         match buffer.mode() {
             Mode::Plain => self.end_plain(),
-            Mode::InStr => Some(self.refuse_at(FaultKind::OpenString, opened, ArrayString::new())),
-            Mode::InBlock => Some(self.refuse_at(
+            Mode::InStr => Some(self.record_fault_at(FaultKind::OpenString, opened, ArrayString::new())),
+            Mode::InBlock => Some(self.record_fault_at(
                 FaultKind::OpenComment,
                 opened,
                 ArrayString::new(),
@@ -526,7 +526,7 @@ impl<S: Sources> Engine<S> {
         let below = self.files.file().conditions_below;
         match self.conditions.unclosed(below) {
             None => self.end_whole(),
-            Some(line) => Some(self.refuse_unclosed(line)),
+            Some(line) => Some(self.record_unclosed_fault(line)),
         }
     }
 
@@ -602,46 +602,46 @@ impl<S: Sources> Engine<S> {
     }
 
     // Keeps a fault at the line of the next byte.
-    fn refuse(&mut self, kind: FaultKind, word: ArrayString<128>) -> PieceLocation
+    fn record_fault(&mut self, kind: FaultKind, word: ArrayString<128>) -> PieceLocation
         requires { 0 < length self.old.files.include_stack }
-        ensures place { result ≡ PieceLocation.Kept }
+        ensures place { result ≡ PieceLocation.Fault }
         ensures kept { self.new ≡ record self.old { kept = Some (fault_at kind (inner_buffer self.old.files.include_stack).line word.bytes (state_of self.old)) } }
     {
         let line = self.files.file().buffer.line();
         self.files.facts();
-        self.refuse_at(kind, line, word)
+        self.record_fault_at(kind, line, word)
     }
 
     // Keeps a fault of the open texts of a usage, at the line of the usage in the source.
-    fn refuse_text(&mut self, fault: CursorFault) -> PieceLocation
+    fn record_text_fault(&mut self, fault: CursorFault) -> PieceLocation
         requires include_stack { 0 < length self.old.files.include_stack }
         requires line { self.old.expansion.line < 2 ^ 63 }
         requires placed { IsTextPlaced (held_texts self.old) fault.word }
         requires word { IsWordBytes (place_bytes (held_texts self.old) fault.word) }
-        ensures place { result ≡ PieceLocation.Kept }
+        ensures place { result ≡ PieceLocation.Fault }
         ensures kept { self.new ≡ record self.old { kept = Some (fault_at fault.kind self.old.expansion.line (place_bytes (held_texts self.old) fault.word) (state_of self.old)) } }
     {
         let word = word_of(self.text(fault.word));
         let line = self.expansion.line();
-        self.refuse_at(fault.kind, line, word)
+        self.record_fault_at(fault.kind, line, word)
     }
 
     // Keeps that a read failed, at the line that is read.
-    fn refuse_read(&mut self) -> PieceLocation
+    fn record_read_fault(&mut self) -> PieceLocation
         requires { 0 < length self.old.files.include_stack }
-        ensures place { result ≡ PieceLocation.Kept }
+        ensures place { result ≡ PieceLocation.Fault }
         ensures kept { self.new ≡ record self.old { kept = Some (fault_at FaultKind.ReadFailed (reading_line_of (inner_buffer self.old.files.include_stack)) [] (state_of self.old)) } }
     {
         let line = self.files.file().buffer.reading_line();
         self.files.facts();
-        self.refuse_at(FaultKind::ReadFailed, line, ArrayString::new())
+        self.record_fault_at(FaultKind::ReadFailed, line, ArrayString::new())
     }
 
     // Keeps a fault at a physical line of the innermost source.
-    fn refuse_at(&mut self, kind: FaultKind, line: u64, word: ArrayString<128>) -> PieceLocation
+    fn record_fault_at(&mut self, kind: FaultKind, line: u64, word: ArrayString<128>) -> PieceLocation
         requires open { 0 < length self.old.files.include_stack }
         requires line { line < 2 ^ 63 }
-        ensures place { result ≡ PieceLocation.Kept }
+        ensures place { result ≡ PieceLocation.Fault }
         ensures kept { self.new ≡ record self.old { kept = Some (fault_at kind line word.bytes (state_of self.old)) } }
     {
         self.files.facts();
@@ -653,13 +653,13 @@ impl<S: Sources> Engine<S> {
             line: file.shift.shown_line(line),
             word,
         });
-        PieceLocation::Kept
+        PieceLocation::Fault
     }
 
     // Keeps that a conditional is open where its source ends, at the line that the conditional showed.
-    fn refuse_unclosed(&mut self, line: u64) -> PieceLocation
+    fn record_unclosed_fault(&mut self, line: u64) -> PieceLocation
         requires { 0 < length self.old.files.include_stack }
-        ensures place { result ≡ PieceLocation.Kept }
+        ensures place { result ≡ PieceLocation.Fault }
         ensures kept { self.new ≡ record self.old { kept = Some (unclosed_fault line (state_of self.old)) } }
     {
         self.kept = Some(Fault {
@@ -668,14 +668,14 @@ impl<S: Sources> Engine<S> {
             line,
             word: ArrayString::new(),
         });
-        PieceLocation::Kept
+        PieceLocation::Fault
     }
 
     // Keeps that more bytes are due than the output may have, which is told at line 0 under the main
     // text's name.
     #[tactic(auto, unfolding(rdlpp_meaning::specs::Outcome::told, rdlpp_state::specs::Remaining::output_fault))]
-    fn refuse_output(&mut self) -> PieceLocation
-        ensures place { result ≡ PieceLocation.Kept }
+    fn record_output_fault(&mut self) -> PieceLocation
+        ensures place { result ≡ PieceLocation.Fault }
         ensures kept { self.new ≡ record self.old { kept = Some (output_fault self.old.main) } }
     {
         self.kept = Some(Fault {
@@ -684,12 +684,12 @@ impl<S: Sources> Engine<S> {
             line: 0,
             word: ArrayString::new(),
         });
-        PieceLocation::Kept
+        PieceLocation::Fault
     }
 
     // Keeps that a write failed, which is told at line 0 under the main text's name.
     #[tactic(auto, unfolding(rdlpp_meaning::specs::Outcome::told, crate::specs::Run::write_fault))]
-    pub(crate) fn refuse_write(&mut self)
+    pub(crate) fn record_write_fault(&mut self)
         ensures { self.new ≡ record self.old { kept = Some (write_fault self.old.main) } }
     {
         self.kept = Some(Fault {
@@ -726,7 +726,7 @@ impl<S: Sources> Engine<S> {
         ensures { answer_of result ≡ lent_answer self.now place }
     {
         match (place, &self.kept) {
-            (PieceLocation::Kept, Some(fault)) => Err(fault),
+            (PieceLocation::Fault, Some(fault)) => Err(fault),
             _ => Ok(self.lend(place)),
         }
     }
@@ -742,7 +742,7 @@ impl<S: Sources> Engine<S> {
             PieceLocation::Pending(piece) => Piece::Bytes(
                 self.pending.bytes(piece, self.files.file().name.as_str()),
             ),
-            PieceLocation::End | PieceLocation::Kept => Piece::Done,
+            PieceLocation::End | PieceLocation::Fault => Piece::Done,
         }
     }
 

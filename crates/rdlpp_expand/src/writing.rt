@@ -60,7 +60,7 @@ pub fn run_watched<S: Sources, W: Sink, V: Watcher>(
             if is_flushed(writer) {
                 return Ok(written);
             }
-            engine.refuse_write();
+            engine.record_write_fault();
             outcome(engine, written)
         }
         Ending::Stopped => {
@@ -71,7 +71,7 @@ pub fn run_watched<S: Sources, W: Sink, V: Watcher>(
             outcome(engine, written)
         }
         Ending::Unwritten => {
-            engine.refuse_write();
+            engine.record_write_fault();
             outcome(engine, written)
         }
     }
@@ -355,7 +355,7 @@ fn pull_text<S: Sources, W: Sink, V: Watcher>(
             ending: None,
             in_texts: engine.is_in_texts(),
         },
-        TextStep::Kept => TextPulled {
+        TextStep::Fault => TextPulled {
             len: 0,
             ending: Some(Ending::Stopped),
             in_texts: false,

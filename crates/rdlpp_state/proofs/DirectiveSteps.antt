@@ -57,7 +57,7 @@ use Rattle.rdlpp_state.specs.Remaining.{file_state, inner_name, include_stack_le
 use Rattle.rdlpp_state.specs.Standing.{InSources, Nowhere}
 use Rattle.rdlpp_state.specs.Steps.{IsOwn, Walks}
 use Rattle.rdlpp_state.specs.declared.place.PieceLocation.{PieceLocation}
-use Rattle.rdlpp_state.specs.declared.place.PieceLocation.TheVariants.{Kept}
+use Rattle.rdlpp_state.specs.declared.place.PieceLocation.TheVariants.{Fault}
 use Rattle.rdlpp_state.proofs.IncludeStackLeft.{Continues, Decides, Faults, IsPlainFront, around, at_live, closes_at, counts_at, moved_live, include_stack_refused_undef, include_stack_undef, none_held, opens_at, stray_at, ends_mid_line_consumed, turns_at}
 use Rattle.rdlpp_state.proofs.IncludeSteps.{include_stack_macros}
 use Rattle.rdlpp_state.proofs.EngineSteps.{not_called}
@@ -141,7 +141,7 @@ opened_by x holds len line old new v opens becomes shown =
 
 -- too many are open
 pub unopened_by : {S R A : Type 0} (kind : FaultKind) (holds : Bool) (len line : ℕ) (old new : EngineView S R) (v : ConditionsView) (place : PieceLocation) → Opens {A = A} (Err kind) line holds old.conditions v
-    → place ≡ Kept → new ≡ record (record old { conditions = v }) { kept = Some (fault_at kind (inner_buffer old.files.include_stack).line [] (state_of (record old { conditions = v }))) }
+    → place ≡ Fault → new ≡ record (record old { conditions = v }) { kept = Some (fault_at kind (inner_buffer old.files.include_stack).line [] (state_of (record old { conditions = v }))) }
     → OpensOne holds len old new (Some place)
 unopened_by {S} {R} kind holds len line old new v place opens is becomes =
     let keeps : ConditionsView → EngineView S R = λ w. record (record old { conditions = w }) { kept = Some (fault_at kind (inner_buffer old.files.include_stack).line [] (state_of (record old { conditions = w }))) } in
@@ -201,7 +201,7 @@ module _ {S R : Type 0} (g : Ghosts S R) (old new : EngineView S R) (ready : IsR
   here = include_stack_state old.limits old.table.macros old.conditions old.files.include_stack
 
   -- a fault at this line is kept
-  faults : (place : PieceLocation) (kind : FaultKind) (word : List ℕ) → place ≡ Kept → new ≡ record old { kept = Some (fault_at kind (inner_buffer old.files.include_stack).line word (state_of old)) } → IsOwn kind
+  faults : (place : PieceLocation) (kind : FaultKind) (word : List ℕ) → place ≡ Fault → new ≡ record old { kept = Some (fault_at kind (inner_buffer old.files.include_stack).line word (state_of old)) } → IsOwn kind
       → FaultsHere kind word → Walks g old new (lent_answer new place)
   unfolding state_of
   faults place kind word is becomes own law =
@@ -210,7 +210,7 @@ module _ {S R : Type 0} (g : Ghosts S R) (old new : EngineView S R) (ready : IsR
   -- a test is done
   does_by : (x : Test) (next : Bool → ConditionsView) (len : ℕ) (result : Option PieceLocation) → (0 < len) × (len ≤ length held) → IsOwnTest x
       → DecidesHere x next len → DoesByTest x next len old new result → Walks g old new (step_answer new result)
-  does_by (Stopped kind word) next len result within own law does = subst (λ (r : Option PieceLocation). Walks g old new (step_answer new r)) (sym does.0) (faults Kept kind word refl does.1 own law)
+  does_by (Stopped kind word) next len result within own law does = subst (λ (r : Option PieceLocation). Walks g old new (step_answer new r)) (sym does.0) (faults Fault kind word refl does.1 own law)
   does_by (Holds t) next len result within own law does =
       subst (λ (r : Option PieceLocation). Walks g old new (step_answer new r)) (sym does.0) (goes_on g old new (next t) len ready bounded within.0 within.1 does.1 law)
 
@@ -273,7 +273,7 @@ module _ {S R : Type 0} (g : Ghosts S R) (old new : EngineView S R) (ready : IsR
           (subst (λ (x : Test). DecidesHere x (λ t. opened_with (inner_shown old.files.include_stack) t old.conditions) (given_len (opening_word defined) a)) test opening_decides) opens
 
   -- a branch, or an end, that is refused
-  refused_by : (place : PieceLocation) (kind own : FaultKind) → place ≡ Kept → kind ≡ own → IsOwn own → new ≡ record old { kept = Some (fault_at kind (inner_buffer old.files.include_stack).line [] (state_of old)) }
+  refused_by : (place : PieceLocation) (kind own : FaultKind) → place ≡ Fault → kind ≡ own → IsOwn own → new ≡ record old { kept = Some (fault_at kind (inner_buffer old.files.include_stack).line [] (state_of old)) }
       → FaultsHere own [] → Walks g old new (lent_answer new place)
   refused_by place kind own is same owns becomes law =
       faults place own [] is (becomes ∙ ap (λ (k : FaultKind). record old { kept = Some (fault_at k (inner_buffer old.files.include_stack).line [] (state_of old)) }) same) owns law
@@ -305,7 +305,7 @@ module _ {S R : Type 0} (g : Ghosts S R) (old new : EngineView S R) (ready : IsR
         (given_branches d held a given) turns
 
     -- it is refused
-    pub refused_steps : (place : PieceLocation) (kind : FaultKind) → Meets d (Refused kind) (inner_below old.files.include_stack) old.conditions → place ≡ Kept
+    pub refused_steps : (place : PieceLocation) (kind : FaultKind) → Meets d (Refused kind) (inner_below old.files.include_stack) old.conditions → place ≡ Fault
         → new ≡ record old { kept = Some (fault_at kind (inner_buffer old.files.include_stack).line [] (state_of old)) } → Walks g old new (lent_answer new place)
     refused_steps place kind (MeetsNone alone same) is becomes =
         refused_by place kind fault.StrayBranch is (cc) (own_kind _ refl) becomes
@@ -339,7 +339,7 @@ module _ {S R : Type 0} (g : Ghosts S R) (old new : EngineView S R) (ready : IsR
           (turn_decides Named own (λ n s. name_test true n s) own.turns.1)) (refl, becomes)
 
   -- an `endif` that is stray
-  pub end_refused : (A : Type 0) (place : PieceLocation) (kind : FaultKind) (v : ConditionsView) → EndsOne {A = A} (Err kind) old.conditions v (inner_below old.files.include_stack) → IsDirective Endif held → place ≡ Kept
+  pub end_refused : (A : Type 0) (place : PieceLocation) (kind : FaultKind) (v : ConditionsView) → EndsOne {A = A} (Err kind) old.conditions v (inner_below old.files.include_stack) → IsDirective Endif held → place ≡ Fault
       → new ≡ record (record old { conditions = v }) { kept = Some (fault_at kind (inner_buffer old.files.include_stack).line [] (state_of (record old { conditions = v }))) } → Walks g old new (lent_answer new place)
   end_refused A place kind v (EndsNone alone same stays) is kept becomes =
       let keeps : ConditionsView → EngineView S R = λ w. record (record old { conditions = w }) { kept = Some (fault_at kind (inner_buffer old.files.include_stack).line [] (state_of (record old { conditions = w }))) } in

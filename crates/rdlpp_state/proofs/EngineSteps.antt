@@ -28,7 +28,7 @@ use Rattle.rdlpp_state.specs.Steps.{EndsText, FailsAt, OnRead, Halts, HaltsAt, I
 use Rattle.rdlpp_state.specs.declared.phase.Phase.{Phase}
 use Rattle.rdlpp_state.specs.declared.phase.Phase.TheVariants.{Fresh, Open, Passed, Closed}
 use Rattle.rdlpp_state.specs.declared.place.PieceLocation.{PieceLocation}
-use Rattle.rdlpp_state.specs.declared.place.PieceLocation.TheVariants.{Kept}
+use Rattle.rdlpp_state.specs.declared.place.PieceLocation.TheVariants.{Fault as AtFault}
 
 -- nothing was asked of the sources
 pub not_called : {S R : Type 0} (g : Ghosts S R) (sources : S) → SourcesCalled g false false sources sources
@@ -649,11 +649,11 @@ steps_passed {S} {R} g old new free past bounded becomes =
     }
 
 -- a fault that is kept is what is answered
-pub kept_lent : {S R : Type 0} (e : EngineView S R) (place : PieceLocation) (f : Told) → place ≡ Kept → e.kept ≡ Some f → lent_answer e place ≡ Err f
+pub kept_lent : {S R : Type 0} (e : EngineView S R) (place : PieceLocation) (f : Told) → place ≡ AtFault → e.kept ≡ Some f → lent_answer e place ≡ Err f
 kept_lent e place f is kept = ap (lent_answer e) is ∙ ap kept_answer kept
 
 -- a fault that is kept is what a step answers
 pub kept_at : {S R : Type 0} (g : Ghosts S R) (old new : EngineView S R) (place : PieceLocation) (f : Told) →
-    place ≡ Kept → new.kept ≡ Some f → Walks g old new (Err f) → Walks g old new (lent_answer new place)
+    place ≡ AtFault → new.kept ≡ Some f → Walks g old new (Err f) → Walks g old new (lent_answer new place)
 kept_at g old new place f is kept steps =
     subst (λ (a : Result (Option (List ℕ)) Told). Walks g old new a) (sym (kept_lent new place f is kept)) steps

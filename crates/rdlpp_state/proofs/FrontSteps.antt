@@ -53,7 +53,7 @@ use Rattle.rdlpp_state.specs.Steps.{IsOwn, IsReading, Walks, is_memory_kind, is_
 use Rattle.rdlpp_state.specs.declared.phase.Phase.{Phase}
 use Rattle.rdlpp_state.specs.declared.phase.Phase.TheVariants.{Open}
 use Rattle.rdlpp_state.specs.declared.place.PieceLocation.{PieceLocation}
-use Rattle.rdlpp_state.specs.declared.place.PieceLocation.TheVariants.{Source, Text, Pending, End, Kept}
+use Rattle.rdlpp_state.specs.declared.place.PieceLocation.TheVariants.{Source, Text, Pending, End, Fault}
 use Rattle.rdlpp_usages.specs.Usages.{texts_left}
 use Rattle.rdlpp_state.proofs.Soundness.{inner_facts, text_idle, with_inner-length}
 use Rattle.rdlpp_front.proofs.TextLeft.{define_begins}
@@ -280,7 +280,7 @@ told_kind kind line word s own = own
 
 -- a fault of the text is kept, as it is told in the state that the text goes on from
 pub refuses_by : {S R : Type 0} (g : Ghosts S R) (old mid new : EngineView S R) (place : PieceLocation) (tell : State → Told) → ((s : State) → IsOwn (tell s).kind) → IsReady old → IsRead g old mid → IsBounded new
-    → place ≡ Kept → new ≡ record mid { kept = Some (tell (state_of mid)) } → SourcesCalled g false false old.sources mid.sources
+    → place ≡ Fault → new ≡ record mid { kept = Some (tell (state_of mid)) } → SourcesCalled g false false old.sources mid.sources
     → (g.tells old.sources → left_by g old old.table.macros old.conditions old.files.include_stack ≡ leaves (fails (tell (state_of old))) (state_of old))
     → Walks g old new (lent_answer new place)
 unfolding state_of
@@ -297,7 +297,7 @@ refuses_by {S} {R} g old mid new place tell own ready r bounded is becomes call 
 
 -- a fault at a line of the source is kept
 pub refuses : {S R : Type 0} (g : Ghosts S R) (old mid new : EngineView S R) (place : PieceLocation) (kind : FaultKind) (line : ℕ) (word : List ℕ) → IsReady old → IsRead g old mid → IsBounded new
-    → place ≡ Kept → new ≡ record mid { kept = Some (fault_at kind line word (state_of mid)) } → IsOwn kind → SourcesCalled g false false old.sources mid.sources
+    → place ≡ Fault → new ≡ record mid { kept = Some (fault_at kind line word (state_of mid)) } → IsOwn kind → SourcesCalled g false false old.sources mid.sources
     → (g.tells old.sources → left_by g old old.table.macros old.conditions old.files.include_stack ≡ leaves (fails (fault_at kind line word (state_of old))) (state_of old))
     → Walks g old new (lent_answer new place)
 refuses g old mid new place kind line word ready r bounded is becomes own call law =
@@ -305,7 +305,7 @@ refuses g old mid new place kind line word ready r bounded is becomes own call l
 
 -- a failed read is kept
 pub fails_reading : {S R : Type 0} (g : Ghosts S R) (old mid new : EngineView S R) (place : PieceLocation) → IsReady old → IsRead g old mid → IsReading (inner_buffer mid.files.include_stack) → IsBounded new
-    → place ≡ Kept → new ≡ record mid { kept = Some (fault_at fault.ReadFailed (reading_line_of (inner_buffer mid.files.include_stack)) [] (state_of mid)) } → SourcesCalled g true false old.sources mid.sources
+    → place ≡ Fault → new ≡ record mid { kept = Some (fault_at fault.ReadFailed (reading_line_of (inner_buffer mid.files.include_stack)) [] (state_of mid)) } → SourcesCalled g true false old.sources mid.sources
     → (g.tells old.sources → left_by g old old.table.macros old.conditions old.files.include_stack ≡ left_by g old old.table.macros old.conditions (with_buffer (inner_buffer mid.files.include_stack) old.files.include_stack))
     → Walks g old new (lent_answer new place)
 unfolding state_of
@@ -403,7 +403,7 @@ module _ {S R : Type 0} (g : Ghosts S R) (old mid new : EngineView S R) (len : �
       (parts_used g.unread len d.lines (with_buffer b old.files.include_stack))) (Nowhere refl (InSources ready.idle refl (Unmarked refl))))
 
   -- it is refused
-  refused_steps : (place : PieceLocation) → place ≡ Kept → RefusesDefine len mid new → Walks g old new (lent_answer new place)
+  refused_steps : (place : PieceLocation) → place ≡ Fault → RefusesDefine len mid new → Walks g old new (lent_answer new place)
   unfolding source_rules rules_of with_fault state_of
   refused_steps place is d =
       let inner = inner_facts old.files ready.include_stack ready.files in
@@ -419,7 +419,7 @@ module _ {S R : Type 0} (g : Ghosts S R) (old mid new : EngineView S R) (len : �
 
   pub defined_steps : (result : Option PieceLocation) → 7 ≤ len → len ≤ length (held_of (inner_buffer mid.files.include_stack)) → length (held_of (inner_buffer mid.files.include_stack)) < 2 ^ 31 → ReadsDefine len mid new result → Walks g old new (step_answer new result)
   defined_steps None wide inside few reads = accepted_steps wide inside few reads
-  defined_steps (Some Kept) wide inside few reads = refused_steps Kept refl reads
+  defined_steps (Some Fault) wide inside few reads = refused_steps Fault refl reads
   defined_steps (Some (Source start end)) wide inside few reads = absurd reads
   defined_steps (Some (Text p)) wide inside few reads = absurd reads
   defined_steps (Some (Pending n)) wide inside few reads = absurd reads
@@ -428,7 +428,7 @@ module _ {S R : Type 0} (g : Ghosts S R) (old mid new : EngineView S R) (len : �
 -- a `define` leaves no place, or the fault that is kept
 pub defined_placed : {S R : Type 0} (len : ℕ) (old new : EngineView S R) (result : Option PieceLocation) → ReadsDefine len old new result → IfSome result (IsPlaced new)
 defined_placed len old new None reads = tt
-defined_placed len old new (Some Kept) reads = tt
+defined_placed len old new (Some Fault) reads = tt
 defined_placed len old new (Some (Source start end)) reads = absurd reads
 defined_placed len old new (Some (Text p)) reads = absurd reads
 defined_placed len old new (Some (Pending n)) reads = absurd reads
@@ -653,7 +653,7 @@ pub defined_same : (b n : ℕ) (macros : List Macro) (r1 r2 : List ℕ) (o : tab
 defined_same b n macros r1 r2 o e r = rw (← r) (sym e)
 
 -- a refused `define`, at a place
-pub reads_refused : {S R : Type 0} (len : ℕ) (old new : EngineView S R) (place : PieceLocation) → place ≡ Kept → RefusesDefine len old new → ReadsDefine len old new (Some place)
+pub reads_refused : {S R : Type 0} (len : ℕ) (old new : EngineView S R) (place : PieceLocation) → place ≡ Fault → RefusesDefine len old new → ReadsDefine len old new (Some place)
 reads_refused {S} {R} len old new place is refuses = subst (λ (p : PieceLocation). ReadsDefine len old new (Some p)) (sym is) refuses
 
 -- a table of which only the macros changed

@@ -55,7 +55,7 @@ use Rattle.rdlpp_state.specs.Standing.{InSources, Nowhere}
 use Rattle.rdlpp_state.specs.Steps.{IsOwn, OnSearch, Walks, is_call_failed, is_memory_kind, is_read_failed, is_write_failed}
 use Rattle.rdlpp_state.specs.declared.phase.Phase.TheVariants.{Closed}
 use Rattle.rdlpp_state.specs.declared.place.PieceLocation.{PieceLocation}
-use Rattle.rdlpp_state.specs.declared.place.PieceLocation.TheVariants.{End, Kept, Pending, Source as SourcePlace, Text}
+use Rattle.rdlpp_state.specs.declared.place.PieceLocation.TheVariants.{End, Fault, Pending, Source as SourcePlace, Text}
 use Rattle.rdlpp_state.proofs.IncludeStackLeft.{around, at_live, conditions_live, inner_below-same, live_place, include_stack_ended, include_stack_open, none_held, ends_mid_line_consumed, waiting_same}
 use Rattle.rdlpp_state.proofs.EngineSteps.{kept_at, not_called, walks_end, walks_stopped}
 use Rattle.rdlpp_state.proofs.FrontSteps.{Fails, IsRead, keeps_fault, keeps_files, keeps_moves, kept_text, left_by, lends_by, read_nothing, read_text, refuses, refuses_by, text_drained}
@@ -359,14 +359,14 @@ module _ {S R : Type 0} (g : Ghosts S R) (old mid new : EngineView S R) (start s
   KeepsKind kind = new ≡ record mid { kept = Some (fault_at kind (inner_buffer mid.files.include_stack).line [] (state_of mid)) }
 
   -- the text has a fault
-  refuse_steps : (place : PieceLocation) → place ≡ Kept → (kind : FaultKind) → IsOwn kind → SourcesCalled g false false old.sources mid.sources → KeepsKind kind
+  refuse_steps : (place : PieceLocation) → place ≡ Fault → (kind : FaultKind) → IsOwn kind → SourcesCalled g false false old.sources mid.sources → KeepsKind kind
       → (g.tells old.sources → Fails g old kind (inner_buffer old.files.include_stack).line []) → Walks g old new (lent_answer new place)
   refuse_steps place is kind own call kept law =
       let keeps : FilesView R → EngineView S R = λ fs. record mid { kept = Some (fault_at kind (inner_buffer fs.include_stack).line [] (state_of mid)) } in
       refuses g old mid new place kind (inner_buffer old.files.include_stack).line [] ready (read_sources g old mid becomes) bounded is (kept ∙ ap keeps same_files) own call law
 
   -- the search failed
-  stopped_steps : (place : PieceLocation) → place ≡ Kept → (kind : FaultKind) → is_call_failed kind ≡ true → is_write_failed kind ≡ false → SourcesCalled g (is_read_failed kind) (is_memory_kind kind) old.sources mid.sources
+  stopped_steps : (place : PieceLocation) → place ≡ Fault → (kind : FaultKind) → is_call_failed kind ≡ true → is_write_failed kind ≡ false → SourcesCalled g (is_read_failed kind) (is_memory_kind kind) old.sources mid.sources
       → KeepsKind kind → is_bad_name name_of ≡ false → length old.files.include_stack < old.files.slots → Walks g old new (lent_answer new place)
   unfolding fault_at state_of
   stopped_steps place is kind met write call kept good room =
@@ -392,7 +392,7 @@ module _ {S R : Type 0} (g : Ghosts S R) (old mid new : EngineView S R) (start s
       (keeps_searched g old (told mid) mid.sources ready.free ready.idle call.catalog)))
 
   -- what is found is what the rules find
-  finds_as : (fault : SourceFault) → Searches g old name_of mid.sources (Err fault) → (place : PieceLocation) → place ≡ Kept → KeepsKind (kind_of_source fault) → Walks g old new (lent_answer new place)
+  finds_as : (fault : SourceFault) → Searches g old name_of mid.sources (Err fault) → (place : PieceLocation) → place ≡ Fault → KeepsKind (kind_of_source fault) → Walks g old new (lent_answer new place)
   unfolding kind_of_source is_call_failed is_read_failed is_write_failed is_memory_kind source_rules rules_of find_of lookup_of state_of
   finds_as source.Absent s place is kept =
       let room = s.room in
@@ -410,7 +410,7 @@ module _ {S R : Type 0} (g : Ghosts S R) (old mid new : EngineView S R) (start s
   finds_as source.NoMemory s place is kept = stopped_steps place is SourceMemory refl refl s.call kept s.name_good s.room
 
   -- nothing is opened
-  pub denied_steps : (place : PieceLocation) (kind : FaultKind) → place ≡ Kept → Denies g old name_of mid.sources kind → KeepsKind kind → Walks g old new (lent_answer new place)
+  pub denied_steps : (place : PieceLocation) (kind : FaultKind) → place ≡ Fault → Denies g old name_of mid.sources kind → KeepsKind kind → Walks g old new (lent_answer new place)
   unfolding state_of
   denied_steps place kind is (BadName bad named same) kept =
       refuse_steps place is IncludeName (own_kind _ refl) (subst (λ (s : S). SourcesCalled g false false old.sources s) (sym same) (not_called g old.sources)) (subst KeepsKind named kept)
@@ -603,25 +603,25 @@ module _ {S R : Type 0} (g : Ghosts S R) (old mid new : EngineView S R) (ready :
         closed = ap (λ e. e.files.include_stack) becomes;
       })
 
-  ended_open : StopsOpen mid new → Walks g old new (lent_answer new Kept)
+  ended_open : StopsOpen mid new → Walks g old new (lent_answer new Fault)
   unfolding state_of
   ended_open stops =
       let b = inner_buffer mid.files.include_stack in
       let before = inner_buffer old.files.include_stack in
       let tokens : ended_tokens before.mode before.open_token_line ≡ ended_tokens b.mode b.open_token_line =
       rw (fills.mode, fills.open_token_line) refl in
-      refuses g old mid new Kept (breach_kind stops.breach) b.open_token_line [] ready r bounded refl stops.kept stops.own call
+      refuses g old mid new Fault (breach_kind stops.breach) b.open_token_line [] ready r bounded refl stops.kept stops.own call
       (λ t. include_stack_open old.limits (run_rules g old) g.unread old.table.macros old.conditions (g.tells old.sources) t old.files.include_stack b stops.breach ready.include_stack fills
       (tokens ∙ (stops.tokens ∙ ap (only_broken stops.breach) fills.open_token_line))
       ∙ rw fills.open_token_line refl)
 
-  ended_unclosed : StopsUnclosed mid new → Walks g old new (lent_answer new Kept)
+  ended_unclosed : StopsUnclosed mid new → Walks g old new (lent_answer new Fault)
   unfolding state_of
   ended_unclosed stops =
       let o = stops.conditional in
       let below = stops.below in
       let same = same_below in
-      refuses_by g old mid new Kept (unclosed_fault o.line) (λ s. (own_kind _ refl)) ready r bounded refl stops.kept call
+      refuses_by g old mid new Fault (unclosed_fault o.line) (λ s. (own_kind _ refl)) ready r bounded refl stops.kept call
       (λ t. unclosed_at old.limits (run_rules g old) g.unread old.table.macros old.conditions (g.tells old.sources) t old.files.include_stack (inner_buffer mid.files.include_stack) o stops.around ready.include_stack
       (sym (ap (λ (v : ConditionsView). v.open_now) same_open) ∙ stops.is_open) (omega arith) fills (sym fills.mode ∙ stops.plain))
 
@@ -657,8 +657,8 @@ module _ {S R : Type 0} (g : Ghosts S R) (old mid new : EngineView S R) (ready :
   ended_steps (Some (Text p)) ends = absurd ends
   ended_steps (Some (Pending n)) ends = absurd ends
   ended_steps (Some End) ends = ended_text ends
-  ended_steps (Some Kept) (inl ends) = ended_open ends
-  ended_steps (Some Kept) (inr ends) = ended_unclosed ends
+  ended_steps (Some Fault) (inl ends) = ended_open ends
+  ended_steps (Some Fault) (inr ends) = ended_unclosed ends
 
 -- the end is a place, or none
 pub ended_placed : {S R : Type 0} (mid new : EngineView S R) (place : Option PieceLocation) → Ends mid new place → IfSome place (IsPlaced new)
@@ -667,11 +667,11 @@ ended_placed mid new (Some (SourcePlace start end)) ends = absurd ends
 ended_placed mid new (Some (Text p)) ends = absurd ends
 ended_placed mid new (Some (Pending n)) ends = absurd ends
 ended_placed mid new (Some End) ends = tt
-ended_placed mid new (Some Kept) ends = tt
+ended_placed mid new (Some Fault) ends = tt
 
 -- a text that ended in a mode in which its end is a fault, at a place
 pub stops_open : {S R : Type 0} (old new : EngineView S R) (place : PieceLocation) (breach : Breach) (mode : Mode) (line : ℕ) →
-    place ≡ Kept → (inner_buffer old.files.include_stack).mode ≡ mode
+    place ≡ Fault → (inner_buffer old.files.include_stack).mode ≡ mode
     → ended_tokens mode (inner_buffer old.files.include_stack).open_token_line ≡ only_broken breach (inner_buffer old.files.include_stack).open_token_line
     → IsOwn (breach_kind breach) → line ≡ (inner_buffer old.files.include_stack).open_token_line →
     new ≡ record old { kept = Some (fault_at (breach_kind breach) line [] (state_of old)) } → Ends old new (Some place)

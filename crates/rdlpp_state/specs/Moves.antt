@@ -24,7 +24,7 @@ use Rattle.rdlpp_state.specs.Pending.{line_ends_pending, nothing_pending}
 use Rattle.rdlpp_state.specs.Remaining.{state_of}
 use Rattle.rdlpp_state.specs.Steps.{IsOwn}
 use Rattle.rdlpp_state.specs.declared.place.PieceLocation.{PieceLocation}
-use Rattle.rdlpp_state.specs.declared.place.PieceLocation.TheVariants.{Source, Text, Pending, End, Kept}
+use Rattle.rdlpp_state.specs.declared.place.PieceLocation.TheVariants.{Source, Text, Pending, End, Fault}
 use Rattle.rdlpp_state.specs.declared.phase.Phase.TheVariants.{Open, Closed}
 
 -- an engine whose main text is open, that keeps no fault and owes nothing
@@ -82,7 +82,7 @@ Ends old new (Some (Source start end)) = ⊥
 Ends old new (Some (Text place)) = ⊥
 Ends old new (Some (Pending len)) = ⊥
 Ends old new (Some End) = Closes old new
-Ends old new (Some Kept) = StopsOpen old new ⊎ StopsUnclosed old new
+Ends old new (Some Fault) = StopsOpen old new ⊎ StopsUnclosed old new
 
 -- what stands behind the word of the `define` at the front of what is held, whose logical line has so many bytes
 abbrev pub define_rest : {S R : Type 0} → EngineView S R → ℕ → List ℕ
@@ -110,7 +110,7 @@ pub record RefusesDefine {S R : Type 0} (len : ℕ) (old new : EngineView S R) :
 -- what a `define` comes to whose logical line is held
 abbrev pub ReadsDefine : {S R : Type 0} → ℕ → EngineView S R → EngineView S R → Option PieceLocation → Type 0
 ReadsDefine len old new None = Defines len old new
-ReadsDefine len old new (Some Kept) = RefusesDefine len old new
+ReadsDefine len old new (Some Fault) = RefusesDefine len old new
 ReadsDefine len old new (Some (Source start end)) = ⊥
 ReadsDefine len old new (Some (Text place)) = ⊥
 ReadsDefine len old new (Some (Pending n)) = ⊥
@@ -129,4 +129,4 @@ abbrev pub LooksAtName : {S R : Type 0} → Option Argument → EngineView S R �
 LooksAtName argument old new (Ok a) =
     let name = argument_name (held_of (inner_buffer old.files.include_stack)) a.start a.stop in
     (argument ≡ Some a) × (given_name (Some name) ≡ Fine name) × (new ≡ old)
-LooksAtName argument old new (Err place) = (place ≡ Kept) × RefusesName (given_by (held_of (inner_buffer old.files.include_stack)) argument) old new
+LooksAtName argument old new (Err place) = (place ≡ Fault) × RefusesName (given_by (held_of (inner_buffer old.files.include_stack)) argument) old new

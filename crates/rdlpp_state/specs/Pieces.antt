@@ -12,7 +12,7 @@ use Rattle.rdlpp_state.specs.Pending.{digits_of, part_bytes}
 use Rattle.rdlpp_state.specs.Remaining.{inner_name}
 use Rattle.rdlpp_state.specs.declared.pending.PendingPiece.{PendingPiece}
 use Rattle.rdlpp_state.specs.declared.place.PieceLocation.{PieceLocation}
-use Rattle.rdlpp_state.specs.declared.place.PieceLocation.TheVariants.{Source, Text, Pending, End, Kept}
+use Rattle.rdlpp_state.specs.declared.place.PieceLocation.TheVariants.{Source, Text, Pending, End, Fault as AtFault}
 use Rattle.rdlpp_state.specs.declared.place.Piece.{Piece}
 use Rattle.rdlpp_state.specs.declared.place.Piece.TheVariants.{Bytes, Done}
 
@@ -30,7 +30,7 @@ IsPlaced e (Source start end) = (0 < length e.files.include_stack) × (start ≤
 IsPlaced e (Text place) = IsTextPlaced (held_texts e) place
 IsPlaced e (Pending piece) = (0 < length e.files.include_stack) × (piece.len ≤ length (pending_part e piece))
 IsPlaced e End = ⊤
-IsPlaced e Kept = ⊤
+IsPlaced e AtFault = ⊤
 
 -- the bytes at a place: a part of the innermost source's buffer, or of an open text, or what is pending; none at the end
 abbrev pub bytes_at : {S R : Type 0} → EngineView S R → PieceLocation → Option (List ℕ)
@@ -38,7 +38,7 @@ bytes_at e (Source start end) = Some (slice_range (inner_buffer e.files.include_
 bytes_at e (Text place) = Some (place_bytes (held_texts e) place)
 bytes_at e (Pending piece) = Some (take piece.len (pending_part e piece))
 bytes_at e End = None
-bytes_at e Kept = None
+bytes_at e AtFault = None
 
 -- the bytes of a piece; none of the end
 abbrev pub piece_bytes : Piece → Option (List ℕ)
@@ -61,7 +61,7 @@ lent_answer e (Source start end) = Ok (bytes_at e (Source start end))
 lent_answer e (Text place) = Ok (bytes_at e (Text place))
 lent_answer e (Pending piece) = Ok (bytes_at e (Pending piece))
 lent_answer e End = Ok None
-lent_answer e Kept = kept_answer e.kept
+lent_answer e AtFault = kept_answer e.kept
 
 -- what is answered is what stands at a place: a part of the innermost source's buffer, of a live body, of a default, or of what is kept of a call, a few LF bytes, or a piece of
 -- an origin line: a fixed text, the shown name, or decimal digits

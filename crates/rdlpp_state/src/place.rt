@@ -24,5 +24,5 @@ pub enum PieceLocation {
     /// At the end.
     End,
     /// In the fault that is kept.
-    Kept,
+    Fault,
 }

@@ -60,7 +60,7 @@ impl<S: Sources> Engine<S> {
         let file = self.files.file();
         let line = file.shift.shown_line(file.buffer.line());
         match self.conditions.open(line, holds) {
-            Err(kind) => Some(self.refuse(kind, ArrayString::new())),
+            Err(kind) => Some(self.record_fault(kind, ArrayString::new())),
             Ok(()) => {
                 self.consume(len, 0);
                 None
@@ -88,7 +88,7 @@ impl<S: Sources> Engine<S> {
                 self.consume(branch_len(word, None), 0);
                 None
             }
-            Branch::Refused(kind) => Some(self.refuse(kind, ArrayString::new())),
+            Branch::Refused(kind) => Some(self.record_fault(kind, ArrayString::new())),
             Branch::Decided(holds) => {
                 self.turn(word, holds, branch_len(word, argument));
                 None
@@ -141,7 +141,7 @@ impl<S: Sources> Engine<S> {
     {
         let below = self.files.file().conditions_below;
         match self.conditions.close(below) {
-            Err(kind) => Some(self.refuse(kind, ArrayString::new())),
+            Err(kind) => Some(self.record_fault(kind, ArrayString::new())),
             Ok(()) => {
                 self.consume(ENDIF_BYTES, 0);
                 None

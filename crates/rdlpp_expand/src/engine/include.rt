@@ -34,7 +34,7 @@ impl<S: Sources> Engine<S> {
         ensures walks { IsBounded self.new → Walks S.Sources self.old self.new (step_answer self.new result) }
     {
         match argument {
-            None => Some(self.refuse(FaultKind::IncludeName, ArrayString::new())),
+            None => Some(self.record_fault(FaultKind::IncludeName, ArrayString::new())),
             Some(Argument { start, stop }) => self.include(start, stop),
         }
     }
@@ -54,7 +54,7 @@ impl<S: Sources> Engine<S> {
                 self.enter(found, stop);
                 None
             }
-            Err(kind) => Some(self.refuse(kind, ArrayString::new())),
+            Err(kind) => Some(self.record_fault(kind, ArrayString::new())),
         }
     }
 

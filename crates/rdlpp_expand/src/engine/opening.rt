@@ -119,7 +119,7 @@ impl<S: Sources> Engine<S> {
                 self.facts();
                 Ok(())
             }
-            Err(fault) => Err(self.refuse_main(source_kind(fault), path)),
+            Err(fault) => Err(self.record_main_fault(source_kind(fault), path)),
         }
     }
 
@@ -141,7 +141,7 @@ impl<S: Sources> Engine<S> {
 
     // Keeps a fault of the opening of the main text.
     #[tactic(auto, unfolding(rdlpp_state::specs::Opening::unopened_engine, rdlpp_meaning::specs::Output::opening_fault, rdlpp_meaning::specs::Outcome::told))]
-    fn refuse_main(&mut self, kind: FaultKind, path: &str) -> Fault
+    fn record_main_fault(&mut self, kind: FaultKind, path: &str) -> Fault
         requires { self.old.phase ≡ Phase.Fresh }
         ensures fault { told result ≡ opening_fault kind path.now }
         ensures kept { self.new ≡ unopened_engine self.old (opening_fault kind path.now) }

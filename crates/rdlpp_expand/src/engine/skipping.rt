@@ -92,7 +92,7 @@ impl<S: Sources> Engine<S> {
         ensures walks { IsBounded self.new → Walks S.Sources self.old self.new (step_answer self.new result) }
     {
         match kind {
-            FaultKind::EmbeddedPerl => Some(self.refuse(kind, ArrayString::new())),
+            FaultKind::EmbeddedPerl => Some(self.record_fault(kind, ArrayString::new())),
             _ => self.skip_word(1),
         }
     }
@@ -144,12 +144,12 @@ impl<S: Sources> Engine<S> {
                 self.pass(len, lines);
                 None
             }
-            LogicalLine::TooLong => Some(self.refuse(FaultKind::LineTooLong, ArrayString::new())),
-            LogicalLine::SourceLong => Some(self.refuse(
+            LogicalLine::TooLong => Some(self.record_fault(FaultKind::LineTooLong, ArrayString::new())),
+            LogicalLine::SourceLong => Some(self.record_fault(
                 FaultKind::SourceTooLong,
                 ArrayString::new(),
             )),
-            LogicalLine::Failed => Some(self.refuse_read()),
+            LogicalLine::Failed => Some(self.record_read_fault()),
         }
     }
 

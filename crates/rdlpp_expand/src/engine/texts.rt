@@ -23,7 +23,7 @@ pub(crate) enum TextStep {
     // Nothing is lent.
     Silent,
     // The engine keeps a fault.
-    Kept,
+    Fault,
 }
 
 impl TextStep {
@@ -34,7 +34,7 @@ impl TextStep {
         match self {
             TextStep::Lent(place) => Some(PieceLocation::Text(place)),
             TextStep::Silent => None,
-            TextStep::Kept => Some(PieceLocation::Kept),
+            TextStep::Fault => Some(PieceLocation::Fault),
         }
     }
 }
@@ -121,8 +121,8 @@ impl<S: Sources> Engine<S> {
             }
             CursorStep::Silent => TextStep::Silent,
             CursorStep::Refused(fault) => {
-                let _kept = self.refuse_text(fault);
-                TextStep::Kept
+                let _kept = self.record_text_fault(fault);
+                TextStep::Fault
             }
         }
     }

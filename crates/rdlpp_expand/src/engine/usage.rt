@@ -35,7 +35,7 @@ impl<S: Sources> Engine<S> {
         match self.table.find(name) {
             None => {
                 let word = word_of(name);
-                Some(self.refuse(FaultKind::UndefinedMacro, word))
+                Some(self.record_fault(FaultKind::UndefinedMacro, word))
             }
             Some(id) => self.open_usage(len, id),
         }
@@ -59,10 +59,10 @@ impl<S: Sources> Engine<S> {
             Opening::Opened => None,
             Opening::Refused(kind) => {
                 let word = word_of(self.table.name(id));
-                Some(self.refuse_at(kind, line, word))
+                Some(self.record_fault_at(kind, line, word))
             }
-            Opening::Broken(kind, own) => Some(self.refuse_at(kind, own, ArrayString::new())),
-            Opening::Failed => Some(self.refuse_read()),
+            Opening::Broken(kind, own) => Some(self.record_fault_at(kind, own, ArrayString::new())),
+            Opening::Failed => Some(self.record_read_fault()),
         }
     }
 

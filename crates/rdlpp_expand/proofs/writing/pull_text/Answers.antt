@@ -22,13 +22,13 @@ returns-in-Silent-clause-pulls g c = pulled_silent g.S.Sources g.W.Sink _ _ _ c.
 pub returns-in-Silent-clause-next : goal.returns-in-Silent-clause-next
 returns-in-Silent-clause-next g c = λ _. c.is_in_texts.ensures
 
-pub returns-in-Kept-clause-pulls : goal.returns-in-Kept-clause-pulls
-returns-in-Kept-clause-pulls g c =
-    let kept = kept-some _ c.in-Kept.ensures.leaves in
-    pulled_fault g.S.Sources g.W.Sink _ _ _ kept.0 (answer-kept g.S.Sources _ _ kept.0 kept.1 c.in-Kept.ensures.steps)
+pub returns-in-Fault-clause-pulls : goal.returns-in-Fault-clause-pulls
+returns-in-Fault-clause-pulls g c =
+    let kept = kept-some _ c.in-Fault.ensures.leaves in
+    pulled_fault g.S.Sources g.W.Sink _ _ _ kept.0 (answer-kept g.S.Sources _ _ kept.0 kept.1 c.in-Fault.ensures.steps)
 
 pub returns-in-Silent-clause-shows : goal.returns-in-Silent-clause-shows
 returns-in-Silent-clause-shows g c = shows_none g.W.Sink g.V.Watcher _ _
 
-pub returns-in-Kept-clause-shows : goal.returns-in-Kept-clause-shows
-returns-in-Kept-clause-shows g c = shows_none g.W.Sink g.V.Watcher _ _
+pub returns-in-Fault-clause-shows : goal.returns-in-Fault-clause-shows
+returns-in-Fault-clause-shows g c = shows_none g.W.Sink g.V.Watcher _ _

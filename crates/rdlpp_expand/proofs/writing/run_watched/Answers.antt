@@ -13,7 +13,7 @@ returns-else-is_flushed-clause-runs g c =
     runs_unflushed g.S.Sources g.W.Sink _ _ _ _ _ _ _ _
     (wrote_at g.S.Sources g.W.Sink _ _ _ _ _ _ _ _ c.write_output-written.ensures.wrote c.outcome.ensures.count (ap Some (sym c.in-Finished.is)))
     (flushes_as g.W.Sink _ true _ _ (ap not c.if-is_flushed.false) c.is_flushed.ensures)
-    c.refuse_write.ensures c.outcome.ensures.fault
+    c.record_write_fault.ensures c.outcome.ensures.fault
 
 pub returns-then-keeps_write_failure-clause-runs : goal.returns-then-keeps_write_failure-clause-runs
 returns-then-keeps_write_failure-clause-runs g c =
@@ -31,7 +31,7 @@ pub returns-in-Unwritten-clause-runs : goal.returns-in-Unwritten-clause-runs
 returns-in-Unwritten-clause-runs g c =
     runs_broken g.S.Sources g.W.Sink _ _ _ _ _ _ _
     (wrote_at g.S.Sources g.W.Sink _ _ _ _ _ _ _ _ c.write_output-written.ensures.wrote c.outcome-in-Unwritten.ensures.count (ap Some (sym c.in-Unwritten.is)))
-    c.refuse_write-in-Unwritten.ensures c.outcome-in-Unwritten.ensures.fault
+    c.record_write_fault-in-Unwritten.ensures c.outcome-in-Unwritten.ensures.fault
 
 pub returns-then-is_flushed-clause-shows : goal.returns-then-is_flushed-clause-shows
 returns-then-is_flushed-clause-shows g c = shows_kept g.W.Sink g.V.Watcher _ _ _ _ _ c.write_output-written.ensures.shows c.is_flushed.ensures.bytes

@@ -35,8 +35,8 @@ returns-in-Pending-clause-place g c =
 pub returns-in-End-clause-steps : goal.returns-in-End-clause-steps
 returns-in-End-clause-steps g c before w = cut_end g.S.Sources before c.args.self.now (subst (λ p. WalksOver g.S.Sources most_silent before c.args.self.now (lent_answer c.args.self.now p)) c.in-End.is w)
 
-pub returns-in-Kept-clause-steps : goal.returns-in-Kept-clause-steps
-returns-in-Kept-clause-steps g c before w = cut_kept g.S.Sources before c.args.self.now c.args.self.now.kept (subst (λ p. WalksOver g.S.Sources most_silent before c.args.self.now (lent_answer c.args.self.now p)) c.in-Kept.is w)
+pub returns-in-Fault-clause-steps : goal.returns-in-Fault-clause-steps
+returns-in-Fault-clause-steps g c before w = cut_kept g.S.Sources before c.args.self.now c.args.self.now.kept (subst (λ p. WalksOver g.S.Sources most_silent before c.args.self.now (lent_answer c.args.self.now p)) c.in-Fault.is w)
 
 pub spend-len-requires : goal.spend-len-requires
 spend-len-requires g c = c.requires.open _ (ap (lent_answer c.args.self.now) c.in-Source.is)

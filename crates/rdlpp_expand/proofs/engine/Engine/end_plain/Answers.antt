@@ -19,6 +19,6 @@ end_whole-requires-clause-ended g c =
 pub returns-in-Some : goal.returns-in-Some
 returns-in-Some g c =
     let below : c.file.result.now.conditions_below ≡ inner_below c.args.self.now.files.include_stack = sym (ap inner_below c.file.ensures.inner) ∙ ap (λ e. inner_below e.files.include_stack) c.self.view_is in
-    stops_unclosed c.args.self.now c.refuse_unclosed.new.self c.refuse_unclosed.result c.in-Some.line c.requires.mode
+    stops_unclosed c.args.self.now c.record_unclosed_fault.new.self c.record_unclosed_fault.result c.in-Some.line c.requires.mode
     (leaves_here (Some c.in-Some.line) c.args.self.now (rw (← c.self.view_is) (inner_most _ _ _ c.self.invariant.sources.conditions_of)) _ below (let h : IsUnclosed (place_of c.file.result.now.conditions_below c.args.self.now.conditions) (Some c.in-Some.line) = rw (← c.self.view_is) c.in-Some.ensures in h))
-    c.refuse_unclosed.ensures.place c.refuse_unclosed.ensures.kept
+    c.record_unclosed_fault.ensures.place c.record_unclosed_fault.ensures.kept

@@ -30,6 +30,6 @@ returns-in-None-clause-walks g c = λ bounded.
     let name : c.name_of-name.result.now ≡ usage_name (held_of (inner_buffer e.files.include_stack)) c.args.len = c.name_of-name.ensures ∙ ap (λ h. usage_name h c.args.len) held in
     let none : macro_named e.table.macros (usage_name (held_of (inner_buffer e.files.include_stack)) c.args.len) ≡ None = rw (← name, ← c.self.view_is) c.in-None.ensures.named in
     let word : c.word_of-word.result.bytes ≡ take 128 (usage_name (held_of (inner_buffer e.files.include_stack)) c.args.len) = c.word_of-word.ensures ∙ ap (take 128) name in
-    refuses g.S.Sources e e c.refuse.new.self c.refuse.result fault.UndefinedMacro _ (usage_name (held_of (inner_buffer e.files.include_stack)) c.args.len) c.requires.ready (read_nothing e) bounded
-    c.refuse.ensures.place (kept_cut e c.refuse.new.self _ _ _ _ _ c.refuse.ensures.kept word) (own_kind _ refl) (not_called g.S.Sources e.sources)
+    refuses g.S.Sources e e c.record_fault.new.self c.record_fault.result fault.UndefinedMacro _ (usage_name (held_of (inner_buffer e.files.include_stack)) c.args.len) c.requires.ready (read_nothing e) bounded
+    c.record_fault.ensures.place (kept_cut e c.record_fault.new.self _ _ _ _ _ c.record_fault.ensures.kept word) (own_kind _ refl) (not_called g.S.Sources e.sources)
     (λ t. left_undefined g.S.Sources e c.args.len c.requires.ready c.requires.live c.requires.some c.requires.mode c.requires.usage none)

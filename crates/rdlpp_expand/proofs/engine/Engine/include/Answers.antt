@@ -8,5 +8,5 @@ returns-in-Ok-clause-walks g c = λ bounded.
 
 pub returns-in-Err-clause-walks : goal.returns-in-Err-clause-walks
 returns-in-Err-clause-walks g c = λ bounded.
-    denied_steps g.S.Sources c.args.self.now c.seek.new.self c.refuse.new.self c.args.start c.args.stop c.requires.ready c.requires.live c.requires.some c.requires.mode c.requires.include bounded
-    c.in-Err.ensures.becomes c.refuse.result c.in-Err.kind c.refuse.ensures.place c.in-Err.ensures.sought (rw c.new.ensures at c.refuse.ensures.kept)
+    denied_steps g.S.Sources c.args.self.now c.seek.new.self c.record_fault.new.self c.args.start c.args.stop c.requires.ready c.requires.live c.requires.some c.requires.mode c.requires.include bounded
+    c.in-Err.ensures.becomes c.record_fault.result c.in-Err.kind c.record_fault.ensures.place c.in-Err.ensures.sought (rw c.new.ensures at c.record_fault.ensures.kept)

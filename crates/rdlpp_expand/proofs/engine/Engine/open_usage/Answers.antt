@@ -20,14 +20,14 @@ returns-in-Opened-clause-walks g c = λ bounded.
 pub returns-in-Broken-clause-walks : goal.returns-in-Broken-clause-walks
 returns-in-Broken-clause-walks g c = λ bounded.
     let e = c.args.self.now in
-    breaks_step g.S.Sources e c.open_macro.new.self c.args.len c.requires.ready c.requires.live c.requires.mode c.requires.usage c.facts.ensures.texts c.refuse_at-in-Broken.new.self c.refuse_at-in-Broken.result _ _
-    (subst (λ (o : Opening). OpensUsage g.S.Sources c.args.len e c.open_macro.new.self o) c.in-Broken.is c.open_macro.ensures) bounded c.refuse_at-in-Broken.ensures.place (rw c.new.ensures at c.refuse_at-in-Broken.ensures.kept)
+    breaks_step g.S.Sources e c.open_macro.new.self c.args.len c.requires.ready c.requires.live c.requires.mode c.requires.usage c.facts.ensures.texts c.record_fault_at-in-Broken.new.self c.record_fault_at-in-Broken.result _ _
+    (subst (λ (o : Opening). OpensUsage g.S.Sources c.args.len e c.open_macro.new.self o) c.in-Broken.is c.open_macro.ensures) bounded c.record_fault_at-in-Broken.ensures.place (rw c.new.ensures at c.record_fault_at-in-Broken.ensures.kept)
 
 pub returns-in-Failed-clause-walks : goal.returns-in-Failed-clause-walks
 returns-in-Failed-clause-walks g c = λ bounded.
     let e = c.args.self.now in
-    fails_step g.S.Sources e c.open_macro.new.self c.args.len c.requires.ready c.requires.live c.requires.mode c.requires.usage c.facts.ensures.texts c.refuse_read.new.self c.refuse_read.result
-    (subst (λ (o : Opening). OpensUsage g.S.Sources c.args.len e c.open_macro.new.self o) c.in-Failed.is c.open_macro.ensures) bounded c.refuse_read.ensures.place c.refuse_read.ensures.kept
+    fails_step g.S.Sources e c.open_macro.new.self c.args.len c.requires.ready c.requires.live c.requires.mode c.requires.usage c.facts.ensures.texts c.record_read_fault.new.self c.record_read_fault.result
+    (subst (λ (o : Opening). OpensUsage g.S.Sources c.args.len e c.open_macro.new.self o) c.in-Failed.is c.open_macro.ensures) bounded c.record_read_fault.ensures.place c.record_read_fault.ensures.kept
 
 pub returns-in-Refused-clause-walks : goal.returns-in-Refused-clause-walks
 returns-in-Refused-clause-walks g c = λ bounded.
@@ -38,9 +38,9 @@ returns-in-Refused-clause-walks g c = λ bounded.
     let word : c.word_of-word.result.bytes ≡ take 128 name = c.word_of-word.ensures ∙ ap (take 128)
     (used_name c.self-in-Refused.inside.table e.table name c.name.result.now c.args.id
     (ap (λ v. v.table) c.self-in-Refused.view_is ∙ ap (λ v. v.table) c.open_macro.ensures.becomes) c.name.ensures c.requires.named) in
-    refuses_step g.S.Sources e c.open_macro.new.self c.args.len c.requires.ready c.requires.live c.requires.mode c.requires.usage c.facts.ensures.texts c.refuse_at.new.self c.refuse_at.result _
-    (subst (λ (o : Opening). OpensUsage g.S.Sources c.args.len e c.open_macro.new.self o) c.in-Refused.is c.open_macro.ensures) bounded c.refuse_at.ensures.place
-    (kept_cut c.open_macro.new.self c.refuse_at.new.self _ _ _ _ _ (rw line at c.refuse_at.ensures.kept) word)
+    refuses_step g.S.Sources e c.open_macro.new.self c.args.len c.requires.ready c.requires.live c.requires.mode c.requires.usage c.facts.ensures.texts c.record_fault_at.new.self c.record_fault_at.result _
+    (subst (λ (o : Opening). OpensUsage g.S.Sources c.args.len e c.open_macro.new.self o) c.in-Refused.is c.open_macro.ensures) bounded c.record_fault_at.ensures.place
+    (kept_cut c.open_macro.new.self c.record_fault_at.new.self _ _ _ _ _ (rw line at c.record_fault_at.ensures.kept) word)
 
 pub word_of-word-requires : goal.word_of-word-requires
 word_of-word-requires g c =
@@ -51,8 +51,8 @@ word_of-word-requires g c =
     (ap (λ v. v.table) c.self-in-Refused.view_is ∙ ap (λ v. v.table) c.open_macro.ensures.becomes) c.name.ensures c.requires.named in
     rw own (usage_word _ _ c.requires.usage)
 
-pub refuse_at-requires-clause-line : goal.refuse_at-requires-clause-line
-refuse_at-requires-clause-line g c =
+pub record_fault_at-requires-clause-line : goal.record_fault_at-requires-clause-line
+record_fault_at-requires-clause-line g c =
     let same = c.file.ensures.buffer ∙ ap (λ e. inner_buffer e.files.include_stack) c.self.view_is in
     let counts = (inner_facts c.args.self.now.files c.requires.ready.include_stack c.requires.ready.files).buffer.counts in
     let line = c.line-line.ensures ∙ ap (λ b. b.line) same in

@@ -54,24 +54,24 @@ returns-in-TooLong-clause-walks g c = λ bounded.
     let o = c.args.self.now in
     let e = c.in-TooLong.ensures in
     let r : IsRead g.S.Sources o c.hold_line.new.self = record { becomes = e.becomes; only = e.only; moves = slid _ _ _ _ _ e.holds.slides } in
-    refuses g.S.Sources o c.hold_line.new.self c.refuse.new.self c.refuse.result fault.LineTooLong _ [] c.requires.ready r bounded c.refuse.ensures.place
-    (rw c.new.ensures at c.refuse.ensures.kept) (own_kind _ refl) (called g.S.Sources false _ _ e.call)
-    (λ t. left_long g.S.Sources o c.refuse.new.self c.requires.ready bounded c.requires.some (skipping o c.requires.ready c.requires.skipped) c.requires.mode c.requires.define c.hold_line.new.self r e.holds t)
+    refuses g.S.Sources o c.hold_line.new.self c.record_fault.new.self c.record_fault.result fault.LineTooLong _ [] c.requires.ready r bounded c.record_fault.ensures.place
+    (rw c.new.ensures at c.record_fault.ensures.kept) (own_kind _ refl) (called g.S.Sources false _ _ e.call)
+    (λ t. left_long g.S.Sources o c.record_fault.new.self c.requires.ready bounded c.requires.some (skipping o c.requires.ready c.requires.skipped) c.requires.mode c.requires.define c.hold_line.new.self r e.holds t)
 
 pub returns-in-SourceLong-clause-walks : goal.returns-in-SourceLong-clause-walks
 returns-in-SourceLong-clause-walks g c = λ bounded.
     let o = c.args.self.now in
     let e = c.in-SourceLong.ensures in
     let r : IsRead g.S.Sources o c.hold_line.new.self = record { becomes = e.becomes; only = e.only; moves = slid _ _ _ _ _ e.holds.slides } in
-    refuses g.S.Sources o c.hold_line.new.self c.refuse-in-SourceLong.new.self c.refuse-in-SourceLong.result fault.SourceTooLong _ [] c.requires.ready r bounded c.refuse-in-SourceLong.ensures.place
-    (rw c.new-in-SourceLong.ensures at c.refuse-in-SourceLong.ensures.kept) (own_kind _ refl) (called g.S.Sources false _ _ e.call)
-    (λ t. left_cut g.S.Sources o c.refuse-in-SourceLong.new.self c.requires.ready bounded c.requires.some (skipping o c.requires.ready c.requires.skipped) c.requires.mode c.requires.define c.hold_line.new.self r e.holds t)
+    refuses g.S.Sources o c.hold_line.new.self c.record_fault-in-SourceLong.new.self c.record_fault-in-SourceLong.result fault.SourceTooLong _ [] c.requires.ready r bounded c.record_fault-in-SourceLong.ensures.place
+    (rw c.new-in-SourceLong.ensures at c.record_fault-in-SourceLong.ensures.kept) (own_kind _ refl) (called g.S.Sources false _ _ e.call)
+    (λ t. left_cut g.S.Sources o c.record_fault-in-SourceLong.new.self c.requires.ready bounded c.requires.some (skipping o c.requires.ready c.requires.skipped) c.requires.mode c.requires.define c.hold_line.new.self r e.holds t)
 
 pub returns-in-Failed-clause-walks : goal.returns-in-Failed-clause-walks
 returns-in-Failed-clause-walks g c = λ bounded.
     let o = c.args.self.now in
     let e = c.in-Failed.ensures in
     let r : IsRead g.S.Sources o c.hold_line.new.self = record { becomes = e.becomes; only = e.only; moves = slid _ _ _ _ _ e.holds.slides } in
-    fails_reading g.S.Sources o c.hold_line.new.self c.refuse_read.new.self c.refuse_read.result c.requires.ready r (reading_define _ _ e.holds.extends.more c.requires.some c.requires.define e.holds.extends.held) bounded
-    c.refuse_read.ensures.place c.refuse_read.ensures.kept (called g.S.Sources true _ _ e.call)
+    fails_reading g.S.Sources o c.hold_line.new.self c.record_read_fault.new.self c.record_read_fault.result c.requires.ready r (reading_define _ _ e.holds.extends.more c.requires.some c.requires.define e.holds.extends.held) bounded
+    c.record_read_fault.ensures.place c.record_read_fault.ensures.kept (called g.S.Sources true _ _ e.call)
     (λ t. left_unheld g.S.Sources o c.hold_line.new.self c.requires.ready t e.holds)

@@ -17,7 +17,7 @@ pub returns-in-Err : goal.returns-in-Err
 unfolding start_fault
 returns-in-Err g c =
     let e = c.in-Err.ensures in
-    let kept = c.refuse_main.ensures in
+    let kept = c.record_main_fault.ensures in
     rw (kept.fault, kept.kept, c.source_kind.ensures, ← c.self.view_is)
     (starts_not_found g.S.Sources _ c.top.new.self c.in-Err.fault c.args.path.now
     (fresh_include_stack _ _ _ _ _ c.self.invariant.sources (rw (← c.self.view_is) at c.requires)) (fresh_texts _ _ _ _ c.self.invariant.texts (rw (← c.self.view_is) at c.requires)) (rw (← c.self.view_is) at c.facts.ensures.bounded)

@@ -28,20 +28,20 @@ returns-in-End-clause-walks g c = λ bounded.
 pub returns-in-SourceLong-clause-walks : goal.returns-in-SourceLong-clause-walks
 returns-in-SourceLong-clause-walks g c = λ bounded.
     let r : IsRead g.S.Sources c.args.self.now c.fill.new.self = record { becomes = c.in-SourceLong.ensures.becomes; only = c.in-SourceLong.ensures.only; moves = slid _ _ _ _ _ c.in-SourceLong.ensures.fills.slides } in
-    wider g.S.Sources 0 1 _ _ _ (omega arith) (refuses g.S.Sources c.args.self.now c.fill.new.self c.refuse.new.self c.refuse.result fault.SourceTooLong _ [] c.requires r bounded c.refuse.ensures.place
-    (rw c.new.ensures at c.refuse.ensures.kept) (own_kind _ refl) (called g.S.Sources false _ _ c.in-SourceLong.ensures.call)
+    wider g.S.Sources 0 1 _ _ _ (omega arith) (refuses g.S.Sources c.args.self.now c.fill.new.self c.record_fault.new.self c.record_fault.result fault.SourceTooLong _ [] c.requires r bounded c.record_fault.ensures.place
+    (rw c.new.ensures at c.record_fault.ensures.kept) (own_kind _ refl) (called g.S.Sources false _ _ c.in-SourceLong.ensures.call)
     (λ t. left_long_source g.S.Sources c.args.self.now c.fill.new.self c.requires t c.in-SourceLong.ensures.fills))
 
 pub returns-in-LineLong-clause-walks : goal.returns-in-LineLong-clause-walks
 returns-in-LineLong-clause-walks g c = λ bounded.
     let r : IsRead g.S.Sources c.args.self.now c.fill.new.self = record { becomes = c.in-LineLong.ensures.becomes; only = c.in-LineLong.ensures.only; moves = slid _ _ _ _ _ c.in-LineLong.ensures.fills.slides } in
-    wider g.S.Sources 0 1 _ _ _ (omega arith) (refuses g.S.Sources c.args.self.now c.fill.new.self c.refuse-in-LineLong.new.self c.refuse-in-LineLong.result fault.LineTooLong _ [] c.requires r bounded c.refuse-in-LineLong.ensures.place
-    (rw c.new-in-LineLong.ensures at c.refuse-in-LineLong.ensures.kept) (own_kind _ refl) (called g.S.Sources false _ _ c.in-LineLong.ensures.call)
+    wider g.S.Sources 0 1 _ _ _ (omega arith) (refuses g.S.Sources c.args.self.now c.fill.new.self c.record_fault-in-LineLong.new.self c.record_fault-in-LineLong.result fault.LineTooLong _ [] c.requires r bounded c.record_fault-in-LineLong.ensures.place
+    (rw c.new-in-LineLong.ensures at c.record_fault-in-LineLong.ensures.kept) (own_kind _ refl) (called g.S.Sources false _ _ c.in-LineLong.ensures.call)
     (λ t. left_long_line g.S.Sources c.args.self.now c.fill.new.self c.requires t c.in-LineLong.ensures.fills))
 
 pub returns-in-Failed-clause-walks : goal.returns-in-Failed-clause-walks
 returns-in-Failed-clause-walks g c = λ bounded.
     let r : IsRead g.S.Sources c.args.self.now c.fill.new.self = record { becomes = c.in-Failed.ensures.becomes; only = c.in-Failed.ensures.only; moves = slid _ _ _ _ _ c.in-Failed.ensures.fills.slides } in
-    wider g.S.Sources 0 1 _ _ _ (omega arith) (fails_reading g.S.Sources c.args.self.now c.fill.new.self c.refuse_read.new.self c.refuse_read.result c.requires r (inl c.in-Failed.ensures.fills.bytes) bounded
-    c.refuse_read.ensures.place c.refuse_read.ensures.kept (called g.S.Sources true _ _ c.in-Failed.ensures.call)
+    wider g.S.Sources 0 1 _ _ _ (omega arith) (fails_reading g.S.Sources c.args.self.now c.fill.new.self c.record_read_fault.new.self c.record_read_fault.result c.requires r (inl c.in-Failed.ensures.fills.bytes) bounded
+    c.record_read_fault.ensures.place c.record_read_fault.ensures.kept (called g.S.Sources true _ _ c.in-Failed.ensures.call)
     (λ t. left_unfilled g.S.Sources c.args.self.now c.fill.new.self c.requires t c.in-Failed.ensures.fills))

@@ -22,7 +22,7 @@ returns-in-Passed-clause-walks g c =
     let e = c.args.self.now in
     let free : e.kept ≡ None = none_kept_by e.kept c.self.inside.kept (sym (ap (λ e. e.kept) c.self.view_is)) (sym c.is_some.ensures ∙ c.if-is_some.false) in
     let past : e.phase ≡ Passed = sym (ap (λ e. e.phase) c.self.view_is) ∙ c.in-Passed.is in
-    let becomes = c.refuse_output.ensures.kept in
-    let bounded : IsBounded c.refuse_output.new.self = subst (λ e. IsBounded e) (sym becomes) (bounded_kept e _ c.facts.ensures.bounded) in
-    wider g.S.Sources 0 1 _ _ _ (omega arith) (kept_at g.S.Sources e c.refuse_output.new.self c.refuse_output.result (output_fault e.main) c.refuse_output.ensures.place (ap (λ e. e.kept) becomes)
-    (steps_passed g.S.Sources e c.refuse_output.new.self free past bounded becomes))
+    let becomes = c.record_output_fault.ensures.kept in
+    let bounded : IsBounded c.record_output_fault.new.self = subst (λ e. IsBounded e) (sym becomes) (bounded_kept e _ c.facts.ensures.bounded) in
+    wider g.S.Sources 0 1 _ _ _ (omega arith) (kept_at g.S.Sources e c.record_output_fault.new.self c.record_output_fault.result (output_fault e.main) c.record_output_fault.ensures.place (ap (λ e. e.kept) becomes)
+    (steps_passed g.S.Sources e c.record_output_fault.new.self free past bounded becomes))

@@ -6,8 +6,8 @@ use Rattle.rdlpp_state.proofs.LentPieces.{marked_usage}
 use Rattle.rdlpp_state.proofs.UsageSteps.{HoldsTexts, fault_text, lend_step, opening, placed_lent, placed_word, refuse_step, turn_step}
 use Rattle.rdlpp_expand.proofs.engine.Engine.step_text.Goals as goal
 
-pub refuse_text-kept-requires-clause-placed : goal.refuse_text-kept-requires-clause-placed
-refuse_text-kept-requires-clause-placed g c = (placed_word _ _ c.in-Refused.fault c.in-Refused.is c.step-step.ensures.placed)
+pub record_text_fault-kept-requires-clause-placed : goal.record_text_fault-kept-requires-clause-placed
+record_text_fault-kept-requires-clause-placed g c = (placed_word _ _ c.in-Refused.fault c.in-Refused.is c.step-step.ensures.placed)
 
 pub returns-in-Lends-clause-place : goal.returns-in-Lends-clause-place
 returns-in-Lends-clause-place g c = (placed_lent _ _ c.in-Lends.place c.in-Lends.is c.step-step.ensures.placed)
@@ -30,8 +30,8 @@ pub returns-in-Refused-clause-walks : goal.returns-in-Refused-clause-walks
 returns-in-Refused-clause-walks g c = λ bounded.
     let x = c.step-step.new.self in
     let takes = subst (λ v. TakesUsageStep v.table.macros v.expansion c.step-step.result x) c.self.view_is c.step-step.ensures in
-    refuse_step g.S.Sources c.args.self.now x c.step-step.result c.requires.0 takes _ c.refuse_text-kept.new.self place.Kept c.in-Refused.fault c.in-Refused.is
-    (opening _ c.args.self.now x c.self.view_is) bounded refl c.refuse_text-kept.ensures.kept (fault_text c.step-step.result c.in-Refused.fault c.in-Refused.is takes.fault)
+    refuse_step g.S.Sources c.args.self.now x c.step-step.result c.requires.0 takes _ c.record_text_fault-kept.new.self place.Fault c.in-Refused.fault c.in-Refused.is
+    (opening _ c.args.self.now x c.self.view_is) bounded refl c.record_text_fault-kept.ensures.kept (fault_text c.step-step.result c.in-Refused.fault c.in-Refused.is takes.fault)
 
 pub returns-in-Lends-clause-stays : goal.returns-in-Lends-clause-stays
 returns-in-Lends-clause-stays g c =
@@ -44,7 +44,7 @@ returns-in-Silent-clause-stays g c =
     (drained-texts c.args.self.now _ c.step-step.new.self c.args.self.now.marks c.requires.0 (opening _ c.args.self.now c.step-step.new.self c.self.view_is))
 
 pub returns-in-Refused-clause-stays : goal.returns-in-Refused-clause-stays
-returns-in-Refused-clause-stays g c = ap (λ e. is_some e.kept) c.refuse_text-kept.ensures.kept
+returns-in-Refused-clause-stays g c = ap (λ e. is_some e.kept) c.record_text_fault-kept.ensures.kept
 
 pub lend_usage-requires : goal.lend_usage-requires
 lend_usage-requires g c =

@@ -9,6 +9,6 @@ use Rattle.rdlpp_state.proofs.Stores.{own_kind}
 pub returns-in-None-clause-walks : goal.returns-in-None-clause-walks
 returns-in-None-clause-walks g c = λ bounded.
     let e = c.args.self.now in
-    refuses g.S.Sources e e c.refuse.new.self c.refuse.result fault.IncludeName _ [] c.requires.ready (read_nothing e) bounded
-    c.refuse.ensures.place (rw c.new.ensures at c.refuse.ensures.kept) (own_kind _ refl) (not_called g.S.Sources e.sources)
+    refuses g.S.Sources e e c.record_fault.new.self c.record_fault.result fault.IncludeName _ [] c.requires.ready (read_nothing e) bounded
+    c.record_fault.ensures.place (rw c.new.ensures at c.record_fault.ensures.kept) (own_kind _ refl) (not_called g.S.Sources e.sources)
     (λ t. left_nameless_include g.S.Sources e c.requires.ready c.requires.live c.requires.some c.requires.mode (rw c.in-None.is at c.requires.include))

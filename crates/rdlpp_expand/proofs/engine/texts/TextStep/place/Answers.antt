@@ -8,5 +8,5 @@ returns-in-Lent c = sym (ap place_of c.in-Lent.is)
 pub returns-in-Silent : goal.returns-in-Silent
 returns-in-Silent c = sym (ap place_of c.in-Silent.is)
 
-pub returns-in-Kept : goal.returns-in-Kept
-returns-in-Kept c = sym (ap place_of c.in-Kept.is)
+pub returns-in-Fault : goal.returns-in-Fault
+returns-in-Fault c = sym (ap place_of c.in-Fault.is)

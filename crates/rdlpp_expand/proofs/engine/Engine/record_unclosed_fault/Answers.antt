@@ -1,7 +1,7 @@
 use Rattle.rdlpp_meaning.specs.Outcome.{told}
 use Rattle.rdlpp_state.specs.Remaining.{state_of}
 use Rattle.rdlpp_state.proofs.Soundness.{named_state}
-use Rattle.rdlpp_expand.proofs.engine.Engine.refuse_unclosed.Goals as goal
+use Rattle.rdlpp_expand.proofs.engine.Engine.record_unclosed_fault.Goals as goal
 
 pub returns-clause-kept : goal.returns-clause-kept
 unfolding told state_of

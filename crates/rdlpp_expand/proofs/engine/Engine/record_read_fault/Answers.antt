@@ -4,11 +4,11 @@ use Rattle.rdlpp_read.specs.Files.{inner_buffer}
 use Rattle.rdlpp_read.proofs.Growing.{line_ends_le}
 use Rattle.rdlpp_state.proofs.Soundness.{inner_facts}
 use Rattle.rdlpp_state.proofs.WorkFacts.{held_room}
-use Rattle.rdlpp_expand.proofs.engine.Engine.refuse_read.Goals as goal
+use Rattle.rdlpp_expand.proofs.engine.Engine.record_read_fault.Goals as goal
 
-pub refuse_at-requires-clause-line : goal.refuse_at-requires-clause-line
+pub record_fault_at-requires-clause-line : goal.record_fault_at-requires-clause-line
 unfolding reading_line_of
-refuse_at-requires-clause-line g c =
+record_fault_at-requires-clause-line g c =
     let b = inner_buffer c.self.inside.files.include_stack in
     let counts = (inner_facts c.self.inside.files (rw (← c.self.view_is) at c.requires) c.facts.ensures).buffer.counts in
     let line : c.reading_line-line.result ≡ reading_line_of b = c.reading_line-line.ensures ∙ ap reading_line_of c.file.ensures.buffer in
@@ -20,4 +20,4 @@ pub returns-clause-kept : goal.returns-clause-kept
 returns-clause-kept g c =
     let line : c.reading_line-line.result ≡ reading_line_of (inner_buffer c.args.self.now.files.include_stack) = c.reading_line-line.ensures ∙ (ap reading_line_of c.file.ensures.buffer ∙ ap (λ e. reading_line_of (inner_buffer e.files.include_stack)) c.self.view_is) in
     let word = c.new.ensures in
-    c.refuse_at.ensures.kept ∙ rw (line, word) refl
+    c.record_fault_at.ensures.kept ∙ rw (line, word) refl
