@@ -29,7 +29,7 @@ use Rattle.rdlpp_state.specs.Searches.{Retries, StartsAgain}
 use Rattle.rdlpp_state.specs.Steps.{BeforeCall, Itself, Steps, Stood, StopsReading, has_met, has_stopped, is_call_failed, is_memory_kind, is_read_failed, may_follow}
 use Rattle.rdlpp_state.specs.Stored.{HoldsStores, LetsGo}
 use Rattle.rdlpp_state.specs.declared.phase.Phase.{Phase}
-use Rattle.rdlpp_state.specs.declared.phase.Phase.TheVariants.{Closed, Fresh, Open, Passed}
+use Rattle.rdlpp_state.specs.declared.phase.Phase.TheVariants.{Closed, Fresh, Open, OverLimit}
 use Rattle.rdlpp_state.proofs.EngineSteps.{called_after, not_called}
 use Rattle.rdlpp_state.proofs.Stores.{none_called, parts_told, read_front, read_never}
 use Rattle.rdlpp_expand.specs.Reading.{Fills, FillsPart, Leaves, LentEnds, ReadingView, Turns, ended_with, reading_left}
@@ -424,7 +424,7 @@ pub fresh_whole : {R : Type 0} (limits : Limits) (phase : Phase) (table : TableV
 unfolding is_over is_open
 fresh_whole limits Fresh table files conditions expansion over w = absurd (false≢true over)
 fresh_whole limits Open table files conditions expansion over w = absurd (false≢true over)
-fresh_whole limits Passed table files conditions expansion over w = absurd (false≢true over)
+fresh_whole limits OverLimit table files conditions expansion over w = absurd (false≢true over)
 fresh_whole limits Closed table files conditions expansion over w = record {
   sources = record {
     in_range = w.sources.in_range;
@@ -457,7 +457,7 @@ over_shut : (p : Phase) → is_over p ≡ true → is_open p ≡ false
 unfolding is_over is_open
 over_shut Fresh over = absurd (false≢true over)
 over_shut Open over = absurd (false≢true over)
-over_shut Passed over = absurd (false≢true over)
+over_shut OverLimit over = absurd (false≢true over)
 over_shut Closed over = refl
 
 -- a start that is made again, by what it does

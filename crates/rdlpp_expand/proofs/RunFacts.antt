@@ -16,7 +16,7 @@ use Rattle.rdlpp_state.specs.Pending.{nothing_pending}
 use Rattle.rdlpp_state.specs.Remaining.{kept_uncut, left_of, output_fault, phase_uncut, state_of, text_of, uncut_of}
 use Rattle.rdlpp_state.specs.Steps.{BeforeCall, FailsAt, IsStarted, Itself, Steps, Stood, StopsReading, Tells, has_met, is_call_failed, is_memory_kind, is_read_failed, is_write_failed, lent_len}
 use Rattle.rdlpp_state.specs.declared.phase.Phase.{Phase}
-use Rattle.rdlpp_state.specs.declared.phase.Phase.TheVariants.{Closed, Fresh, Open, Passed}
+use Rattle.rdlpp_state.specs.declared.phase.Phase.TheVariants.{Closed, Fresh, Open, OverLimit}
 use Rattle.rdlpp_state.proofs.EngineSteps.{called_after, free_before, left_open, not_called, ok_not_met}
 use Rattle.rdlpp_state.proofs.FrontSteps.{opened_phase}
 use Rattle.rdlpp_state.proofs.Stores.{KeepsStores, keeps_refused}
@@ -191,7 +191,7 @@ end_drained : {S R : Type 0} (g : Ghosts S R) (mid new : EngineView S R) (p : Ph
 unfolding is_open
 end_drained g mid new Fresh phase open_ free s = cc open_
 end_drained g mid new Open phase open_ free s = s.halts free phase
-end_drained g mid new Passed phase open_ free s = absurd (let no : Ok None ≡ Err (output_fault mid.main) = (s.passed free phase).0 in cc)
+end_drained g mid new OverLimit phase open_ free s = absurd (let no : Ok None ≡ Err (output_fault mid.main) = (s.passed free phase).0 in cc)
 end_drained g mid new Closed phase open_ free s = cc open_
 
 -- a piece was written whole

@@ -191,7 +191,7 @@ impl<S: Sources> Engine<S> {
         match self.walk(left) {
             Some(place) => {
                 self.charge(left);
-                self.cut(place)
+                self.clip_to_quota(place)
             }
             None => {
                 self.facts();
@@ -209,13 +209,13 @@ impl<S: Sources> Engine<S> {
         ensures steps { Steps S.Sources self.old self.new (step_answer self.new result) }
     {
         match self.step_outside() {
-            Some(place) => Some(self.cut(place)),
+            Some(place) => Some(self.clip_to_quota(place)),
             None => None,
         }
     }
 
     // Cuts a piece, to which a walk has led, to what the limit on the output leaves.
-    fn cut(&mut self, place: PieceLocation) -> PieceLocation
+    fn clip_to_quota(&mut self, place: PieceLocation) -> PieceLocation
         requires placed { IsPlaced self.old place }
         requires open { (lent : List ℕ) → lent_answer self.old place ≡ Ok (Some lent) → self.old.phase ≡ Phase.Open }
         ensures place { IsPlaced self.new result }
@@ -223,11 +223,11 @@ impl<S: Sources> Engine<S> {
     {
         match place {
             PieceLocation::Source(start, end) => {
-                let len = self.spend(end - start);
+                let len = self.charge_quota(end - start);
                 PieceLocation::Source(start, start + len)
             }
             PieceLocation::Text(place) => {
-                let len = self.spend(place.end - place.from);
+                let len = self.charge_quota(place.end - place.from);
                 PieceLocation::Text(TextPlace {
                     source: place.source,
                     from: place.from,
@@ -235,7 +235,7 @@ impl<S: Sources> Engine<S> {
                 })
             }
             PieceLocation::Pending(piece) => {
-                let len = self.spend(piece.len);
+                let len = self.charge_quota(piece.len);
                 PieceLocation::Pending(piece.cut(len))
             }
             PieceLocation::End => PieceLocation::End,
@@ -244,10 +244,10 @@ impl<S: Sources> Engine<S> {
     }
 
     // Takes so many bytes from what may still be lent, and answers how many of them may be.
-    fn spend(&mut self, len: usize) -> usize
+    fn charge_quota(&mut self, len: usize) -> usize
         requires { self.old.phase ≡ Phase.Open }
         ensures fits { len ≤ self.old.quota → (result ≡ len) × (self.new ≡ record self.old { quota = self.old.quota - len }) }
-        ensures passes { self.old.quota < len → (result ≡ self.old.quota) × (self.new ≡ record self.old { phase = Phase.Passed; quota = 0 }) }
+        ensures passes { self.old.quota < len → (result ≡ self.old.quota) × (self.new ≡ record self.old { phase = Phase.OverLimit; quota = 0 }) }
     {
         if len as u64 <= self.quota {
             self.quota -= len as u64;
@@ -255,7 +255,7 @@ impl<S: Sources> Engine<S> {
         }
         let left = self.quota as usize;
         self.quota = 0;
-        self.phase = Phase::Passed;
+        self.phase = Phase::OverLimit;
         left
     }
 
@@ -313,7 +313,7 @@ impl<S: Sources> Engine<S> {
                 self.facts();
                 place
             }
-            Phase::Passed => Some(self.record_output_fault()),
+            Phase::OverLimit => Some(self.record_output_fault()),
             _ => Some(PieceLocation::End),
         }
     }

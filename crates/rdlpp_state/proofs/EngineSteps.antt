@@ -26,7 +26,7 @@ use Rattle.rdlpp_state.specs.Positions.{position_of}
 use Rattle.rdlpp_state.specs.Remaining.{uncut_of, kept_uncut, output_fault, phase_uncut, state_of, text_of, work_left}
 use Rattle.rdlpp_state.specs.Steps.{EndsText, FailsAt, OnRead, Halts, HaltsAt, IsReading, AtFront, Itself, LendsText, StopsReading, StepsOver, TellsText, Walks, WalksOver, all_of, may_follow, no_len, Tells, IsOwn, IsStarted, has_failed, has_met, has_refused, is_call_failed, is_memory_kind, is_read_failed, is_write_failed}
 use Rattle.rdlpp_state.specs.declared.phase.Phase.{Phase}
-use Rattle.rdlpp_state.specs.declared.phase.Phase.TheVariants.{Fresh, Open, Passed, Closed}
+use Rattle.rdlpp_state.specs.declared.phase.Phase.TheVariants.{Fresh, Open, OverLimit, Closed}
 use Rattle.rdlpp_state.specs.declared.place.PieceLocation.{PieceLocation}
 use Rattle.rdlpp_state.specs.declared.place.PieceLocation.TheVariants.{Fault as AtFault}
 
@@ -85,7 +85,7 @@ steps_ended g e started bounded free closed = record {
   started = started;
   kept = λ h is. absurd (let no : None ≡ Some h = sym free ∙ is in cc);
   ended = λ none is. (refl, refl);
-  passed = λ none past. absurd (let no : Closed ≡ Passed = sym closed ∙ past in cc);
+  passed = λ none past. absurd (let no : Closed ≡ OverLimit = sym closed ∙ past in cc);
   keeps = tt;
   free = free;
   own = λ none. tt;
@@ -159,7 +159,7 @@ module _ {S R : Type 0} (g : Ghosts S R) (old new : EngineView S R) (free : old.
         started = λ fresh. (let no : Open ≡ Fresh = sym still ∙ fresh in cc);
         kept = λ h is. absurd (let no : None ≡ Some h = sym free ∙ is in cc);
         ended = λ _ closed. absurd (let no : Open ≡ Closed = sym open_ ∙ closed in cc);
-        passed = λ _ past. absurd (let no : Open ≡ Passed = sym open_ ∙ past in cc);
+        passed = λ _ past. absurd (let no : Open ≡ OverLimit = sym open_ ∙ past in cc);
         keeps = tt;
         free = none;
         own = λ _. tt;
@@ -219,7 +219,7 @@ module _ {S R : Type 0} (g : Ghosts S R) (old new : EngineView S R) (free : old.
         started = λ fresh. (let no : Open ≡ Fresh = sym still ∙ fresh in cc);
         kept = λ h is. absurd (let no : None ≡ Some h = sym free ∙ is in cc);
         ended = λ _ closed. absurd (let no : Open ≡ Closed = sym open_ ∙ closed in cc);
-        passed = λ _ past. absurd (let no : Open ≡ Passed = sym open_ ∙ past in cc);
+        passed = λ _ past. absurd (let no : Open ≡ OverLimit = sym open_ ∙ past in cc);
         keeps = ap (λ e. e.kept) becomes;
         free = tt;
         own = λ _. own.write;
@@ -264,7 +264,7 @@ module _ {S R : Type 0} (g : Ghosts S R) (old new : EngineView S R) (free : old.
         started = λ fresh. (let no : Open ≡ Fresh = sym still ∙ fresh in cc);
         kept = λ h k. absurd (let no : None ≡ Some h = sym free ∙ k in cc);
         ended = λ _ closed. absurd (let no : Open ≡ Closed = sym open_ ∙ closed in cc);
-        passed = λ _ past. absurd (let no : Open ≡ Passed = sym open_ ∙ past in cc);
+        passed = λ _ past. absurd (let no : Open ≡ OverLimit = sym open_ ∙ past in cc);
         keeps = ap (λ e. e.kept) becomes;
         free = tt;
         own = λ _. write;
@@ -327,7 +327,7 @@ module _ {S R : Type 0} (g : Ghosts S R) (old new : EngineView S R) (free : old.
         started = λ fresh. (let no : Closed ≡ Fresh = sym closed ∙ fresh in cc);
         kept = λ h is. absurd (let no : None ≡ Some h = sym free ∙ is in cc);
         ended = λ _ is. absurd (let no : Open ≡ Closed = sym open_ ∙ is in cc);
-        passed = λ _ past. absurd (let no : Open ≡ Passed = sym open_ ∙ past in cc);
+        passed = λ _ past. absurd (let no : Open ≡ OverLimit = sym open_ ∙ past in cc);
         keeps = tt;
         free = none;
         own = λ _. tt;
@@ -451,7 +451,7 @@ silent_then g n m old mid new answer first then_ =
       started = then_.started;
       kept = λ f is. absurd (let no : None ≡ Some f = sym first.free ∙ is in cc);
       ended = λ none closed. absurd (let no : Open ≡ Closed = sym first.open_ ∙ closed in cc);
-      passed = λ none past. absurd (let no : Open ≡ Passed = sym first.open_ ∙ past in cc);
+      passed = λ none past. absurd (let no : Open ≡ OverLimit = sym first.open_ ∙ past in cc);
       keeps = then_.keeps;
       free = then_.free;
       own = λ none. then_.own first.still;
@@ -486,7 +486,7 @@ pub follows : (p : Phase) → may_follow p ≡ true → p ≡ Open
 unfolding may_follow
 follows Fresh h = cc h
 follows Open h = refl
-follows Passed h = cc h
+follows OverLimit h = cc h
 follows Closed h = cc h
 
 -- a step that lent nothing is such a part
@@ -589,10 +589,10 @@ passes_started {S} {R} g n old new started (inl same) = subst (λ (e : EngineVie
 passes_started g n old new started (inr steps) = steps.2.started
 
 -- a phase that is neither the first nor one of an open text is the last
-pub is_closed : (p : Phase) → (p ≡ Fresh → ⊥) → (p ≡ Open → ⊥) → (p ≡ Passed → ⊥) → p ≡ Closed
+pub is_closed : (p : Phase) → (p ≡ Fresh → ⊥) → (p ≡ Open → ⊥) → (p ≡ OverLimit → ⊥) → p ≡ Closed
 is_closed Fresh a b c = absurd (a refl)
 is_closed Open a b c = absurd (b refl)
-is_closed Passed a b c = absurd (c refl)
+is_closed OverLimit a b c = absurd (c refl)
 is_closed Closed a b c = refl
 
 -- a kept fault, where one is
@@ -614,18 +614,18 @@ write_failed_by f t e = ap (λ (x : Told). is_write_failed x.kind) (let same : t
 
 -- more bytes are due than the output may have
 pub steps_passed : {S R : Type 0} (g : Ghosts S R) (old new : EngineView S R) →
-    old.kept ≡ None → old.phase ≡ Passed → IsBounded new → new ≡ record old { kept = Some (output_fault old.main) } → Walks g old new (Err (output_fault old.main))
+    old.kept ≡ None → old.phase ≡ OverLimit → IsBounded new → new ≡ record old { kept = Some (output_fault old.main) } → Walks g old new (Err (output_fault old.main))
 unfolding has_met uncut_of kept_uncut phase_uncut no_len output_fault is_call_failed is_read_failed is_write_failed is_memory_kind
 steps_passed {S} {R} g old new free past bounded becomes =
-    let still : new.phase ≡ Passed = ap (λ e. e.phase) becomes ∙ past in
+    let still : new.phase ≡ OverLimit = ap (λ e. e.phase) becomes ∙ past in
     let stores : KeepsStores g old new = subst (λ (e : EngineView S R). KeepsStores g old e) (sym becomes) (keeps_refused g old (output_fault old.main) refl) in
     record {
       limits = ap (λ e. e.limits) becomes;
       origins = ap (λ e. e.origins) becomes;
       main = ap (λ e. e.main) becomes;
-      started = λ fresh. (let no : Passed ≡ Fresh = sym still ∙ fresh in cc);
+      started = λ fresh. (let no : OverLimit ≡ Fresh = sym still ∙ fresh in cc);
       kept = λ h is. absurd (let no : None ≡ Some h = sym free ∙ is in cc);
-      ended = λ none closed. absurd (let no : Passed ≡ Closed = sym past ∙ closed in cc);
+      ended = λ none closed. absurd (let no : OverLimit ≡ Closed = sym past ∙ closed in cc);
       passed = λ _ _. (refl, becomes);
       keeps = ap (λ e. e.kept) becomes;
       free = tt;
@@ -634,9 +634,9 @@ steps_passed {S} {R} g old new free past bounded becomes =
       failed = λ met. absurd (let no : false ≡ true = rw free at met in cc);
       call = rw (free, becomes) (not_called g old.sources);
       tells = λ _ t. rw (free, past) refl;
-      text = λ none open_. absurd (let no : Passed ≡ Open = sym past ∙ open_ in cc);
+      text = λ none open_. absurd (let no : OverLimit ≡ Open = sym past ∙ open_ in cc);
       reads = λ met. absurd (let no : false ≡ true = rw free at met in cc);
-      halts = λ none open_. absurd (let no : Passed ≡ Open = sym past ∙ open_ in cc);
+      halts = λ none open_. absurd (let no : OverLimit ≡ Open = sym past ∙ open_ in cc);
       falls = λ bytes e. absurd (cc);
       lends = λ bytes e. absurd (cc);
       quota = omega (arith, ap (λ e. e.quota) becomes);

@@ -38,7 +38,7 @@ use Rattle.rdlpp_state.specs.declared.pending.PendingPart.{PendingPart}
 use Rattle.rdlpp_state.specs.declared.pending.PendingPart.TheVariants.{Colon, Digits, Label, LineEnds, Name}
 use Rattle.rdlpp_state.specs.declared.pending.PendingPiece.{PendingPiece}
 use Rattle.rdlpp_state.specs.declared.phase.Phase.{Phase}
-use Rattle.rdlpp_state.specs.declared.phase.Phase.TheVariants.{Closed, Fresh, Open, Passed}
+use Rattle.rdlpp_state.specs.declared.phase.Phase.TheVariants.{Closed, Fresh, Open, OverLimit}
 use Rattle.rdlpp_state.specs.declared.place.PieceLocation.TheVariants.{Pending, Source, Text}
 use Rattle.rdlpp_state.specs.declared.positions.Lent.TheVariants.{Ending, Line, Origin}
 use Rattle.rdlpp_state.specs.declared.positions.LineStep.TheVariants.{Next}
@@ -410,7 +410,7 @@ module _ {S R : Type 0} (g : Ghosts S R) (e : EngineView S R) (quota : ℕ) wher
   unfolding phase_uncut text_of state_of
   phase_same Fresh = refl
   phase_same Open = refl
-  phase_same Passed = refl
+  phase_same OverLimit = refl
   phase_same Closed = refl
 
   kept_same : (kept : Option Told) → kept_uncut g kept (record e { quota = quota }) ≡ kept_uncut g kept e
@@ -427,7 +427,7 @@ follows_open : (p : Phase) → may_follow p ≡ true → is_open p ≡ true
 unfolding may_follow is_open
 follows_open Fresh h = cc h
 follows_open Open h = refl
-follows_open Passed h = cc h
+follows_open OverLimit h = cc h
 follows_open Closed h = cc h
 
 -- the text, the work left and what is held don't hang on how far an engine is, nor on what may still be lent
@@ -526,16 +526,16 @@ module _ {S R : Type 0} (g : Ghosts S R) (old mid new : EngineView S R) (xs : Li
       (sym (take_all old.quota xs fits)) (omega arith)
 
   -- a part of the piece may be lent
-  pub cut_passes : old.quota < length xs → new ≡ record mid { phase = Passed; quota = 0 } → Steps g old new (Ok (Some (take old.quota xs)))
+  pub cut_passes : old.quota < length xs → new ≡ record mid { phase = OverLimit; quota = 0 } → Steps g old new (Ok (Some (take old.quota xs)))
   unfolding left_of uncut_of kept_uncut phase_uncut no_len is_open
   cut_passes passes becomes =
-      let phase : new.phase ≡ Passed = ap (λ e. e.phase) becomes in
+      let phase : new.phase ≡ OverLimit = ap (λ e. e.phase) becomes in
       let none : new.quota ≡ 0 = ap (λ e. e.quota) becomes in
       let changes : Phase → ℕ → EngineView S R = λ p q. record mid { phase = p; quota = q } in
       let size : length (take old.quota xs) ≡ old.quota = length-take-le old.quota xs (omega arith) in
       let over : left_of g new ≡ fails (output_fault mid.main) =
       ap (left_of g) becomes ∙ rw w.free (limited-fails (output_fault mid.main) 0 (output_fault mid.main)) in
-      lent_step (take old.quota xs) (becomes ∙ (ap (changes Passed) (sym none) ∙ ap (λ p. changes p new.quota) (sym phase))) (λ e. (let no : Passed ≡ Fresh = sym phase ∙ e in cc)) (ap is_open phase)
+      lent_step (take old.quota xs) (becomes ∙ (ap (changes OverLimit) (sym none) ∙ ap (λ p. changes p new.quota) (sym phase))) (λ e. (let no : OverLimit ≡ Fresh = sym phase ∙ e in cc)) (ap is_open phase)
       (λ t. ap (limited (output_fault old.main) old.quota) (uncut_tells t)
       ∙ limited-past (output_fault old.main) old.quota xs (uncut_of g mid) passes
       ∙ ap (λ (n : List ℕ). and_then (gives (take old.quota xs)) (fails (output_fault n))) (sym w.main)
@@ -545,7 +545,7 @@ module _ {S R : Type 0} (g : Ghosts S R) (old mid new : EngineView S R) (xs : Li
 -- a piece of so many bytes, of which so many were lent
 pub record IsSpent {S R : Type 0} (mid new : EngineView S R) (n len : ℕ) : Type 0 where
   pub fits : n ≤ mid.quota → (len ≡ n) × (new ≡ record mid { quota = mid.quota - n })
-  pub passes : mid.quota < n → (len ≡ mid.quota) × (new ≡ record mid { phase = Passed; quota = 0 })
+  pub passes : mid.quota < n → (len ≡ mid.quota) × (new ≡ record mid { phase = OverLimit; quota = 0 })
 
 -- no more than the piece has, and only what may be lent and how far the engine is changed
 pub record IsPart {S R : Type 0} (mid new : EngineView S R) (n len : ℕ) : Type 0 where

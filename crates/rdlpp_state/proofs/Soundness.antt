@@ -34,7 +34,7 @@ use Rattle.rdlpp_state.specs.OpenConditionals.{AreBelow, AreConditions, inner_be
 use Rattle.rdlpp_state.specs.Pending.{pending_bytes}
 use Rattle.rdlpp_state.specs.Remaining.{file_state, inner_name, include_stack_left, include_stack_state, run_rules, state_of, text_of}
 use Rattle.rdlpp_state.specs.declared.phase.Phase.{Phase}
-use Rattle.rdlpp_state.specs.declared.phase.Phase.TheVariants.{Closed, Fresh, Open, Passed}
+use Rattle.rdlpp_state.specs.declared.phase.Phase.TheVariants.{Closed, Fresh, Open, OverLimit}
 use Rattle.rdlpp_state.specs.declared.place.PieceLocation.{PieceLocation as EnginePlace}
 use Rattle.rdlpp_state.specs.declared.place.PieceLocation.TheVariants.{Fault}
 use Rattle.rdlpp_state.proofs.IncludeStackLeft.{Deep, Inside, Outside, Standing, conditions_closed, conditions_inner, conditions_left, conditions_live, conditions_none, conditions_opened, place_inside, place_outside, place_skipped, standing}
@@ -210,7 +210,7 @@ sound_unopened limits phase table files v s fresh = record {
 
 -- an engine whose output has passed its limit
 pub sound_passed : {R : Type 0} (limits : Limits) (phase : Phase) (table : TableView) (files : FilesView R) (v : ConditionsView)
-    → IsSoundEngine limits phase table files v → phase ≡ Open → IsSoundEngine limits Passed table files v
+    → IsSoundEngine limits phase table files v → phase ≡ Open → IsSoundEngine limits OverLimit table files v
 unfolding is_open
 sound_passed limits phase table files v s was = record {
   in_range = s.in_range;
@@ -318,9 +318,9 @@ module _ {R : Type 0} (limits : Limits) (phase : Phase) (table : TableView) (fil
       record { sources = sound_unopened limits phase table files v w.sources fresh; texts = texts_phase limits phase Closed table.macros x w.texts (λ c. w.texts.closed (ap is_open fresh)) }
 
   -- the output has passed its limit
-  pub whole_passed : phase ≡ Open → IsWholeEngine limits Passed table files v x
+  pub whole_passed : phase ≡ Open → IsWholeEngine limits OverLimit table files v x
   unfolding is_open
-  whole_passed was = record { sources = sound_passed limits phase table files v w.sources was; texts = texts_phase limits phase Passed table.macros x w.texts (λ c. cc) }
+  whole_passed was = record { sources = sound_passed limits phase table files v w.sources was; texts = texts_phase limits phase OverLimit table.macros x w.texts (λ c. cc) }
 
   -- an included source is left
   pub whole_left : (new : FilesView R) → AreOpen files → 1 < length files.include_stack → length v.open_now ≡ inner_below files.include_stack → phase ≡ Open → new ≡ record files { include_stack = drop 1 files.include_stack }

@@ -16,7 +16,7 @@ use Rattle.rdlpp_state.specs.OpenConditionals.{AreConditions}
 use Rattle.rdlpp_state.specs.Marks.{MarksView}
 use Rattle.rdlpp_state.specs.Pending.{PendingView}
 use Rattle.rdlpp_state.specs.declared.phase.Phase.{Phase}
-use Rattle.rdlpp_state.specs.declared.phase.Phase.TheVariants.{Fresh, Open, Passed, Closed}
+use Rattle.rdlpp_state.specs.declared.phase.Phase.TheVariants.{Fresh, Open, OverLimit, Closed}
 
 -- an engine: its limits, whether it writes origin lines, how far it is, how many bytes it may still lend, the fault that it keeps, the main
 -- text's name, what it owes, where it stood when it lent, its table, the open conditionals, its sources, those that are open, and the open texts of a usage
@@ -39,7 +39,7 @@ pub record EngineView (S R : Type 0) : Type 0 where
 unfoldable pub is_open : Phase → Bool
 is_open Fresh = false
 is_open Open = true
-is_open Passed = true
+is_open OverLimit = true
 is_open Closed = false
 
 -- each of the open sources was included on a line that can be counted

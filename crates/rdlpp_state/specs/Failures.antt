@@ -9,7 +9,7 @@ use Rattle.rdlpp_read.specs.Buffer.{held_of}
 use Rattle.rdlpp_read.specs.Files.{inner_buffer}
 use Rattle.rdlpp_state.specs.Engine.{EngineView}
 use Rattle.rdlpp_state.specs.declared.phase.Phase.{Phase}
-use Rattle.rdlpp_state.specs.declared.phase.Phase.TheVariants.{Fresh, Open, Passed, Closed}
+use Rattle.rdlpp_state.specs.declared.phase.Phase.TheVariants.{Fresh, Open, OverLimit, Closed}
 
 -- whether a kind is that of a read that failed
 unfoldable pub is_read_failed : FaultKind → Bool
@@ -37,7 +37,7 @@ is_call_failed kind = is_read_failed kind || is_memory_kind kind
 unfoldable pub may_follow : Phase → Bool
 may_follow Fresh = false
 may_follow Open = true
-may_follow Passed = false
+may_follow OverLimit = false
 may_follow Closed = false
 
 -- whether what is held begins with the word of an `include`
@@ -48,7 +48,7 @@ begins_include held = starts_with nat_eq held (codes "`include")
 unfoldable pub is_over : Phase → Bool
 is_over Fresh = false
 is_over Open = false
-is_over Passed = false
+is_over OverLimit = false
 is_over Closed = true
 
 -- whether a fault is kept that is one of a device or of memory

@@ -25,7 +25,7 @@ use Rattle.rdlpp_state.specs.OpenConditionals.{outer_open}
 use Rattle.rdlpp_state.specs.Pending.{pending_bytes, pending_pieces}
 use Rattle.rdlpp_state.specs.Work.{work_of}
 use Rattle.rdlpp_state.specs.declared.phase.Phase.{Phase}
-use Rattle.rdlpp_state.specs.declared.phase.Phase.TheVariants.{Fresh, Open, Passed, Closed}
+use Rattle.rdlpp_state.specs.declared.phase.Phase.TheVariants.{Fresh, Open, OverLimit, Closed}
 
 -- what a search answers, as the meaning of a source has it
 unfoldable pub lookup_of : Answer → Lookup
@@ -111,7 +111,7 @@ output_fault main = record { kind = OutputBytes; name = main; line = 0; word = [
 unfoldable pub phase_uncut : {S R : Type 0} → Ghosts S R → Phase → EngineView S R → Outcome
 phase_uncut g Fresh e = gives []
 phase_uncut g Open e = outcome (text_of g e)
-phase_uncut g Passed e = fails (output_fault e.main)
+phase_uncut g OverLimit e = fails (output_fault e.main)
 phase_uncut g Closed e = gives []
 
 -- what remains without the limit on the output, by the fault that is kept

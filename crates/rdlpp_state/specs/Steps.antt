@@ -25,7 +25,7 @@ use Rattle.rdlpp_state.specs.Standing.{LendsWhere, Reaches}
 use Rattle.rdlpp_state.specs.Stored.{HoldsStores, LetsGo, called_formals}
 use Rattle.rdlpp_state.specs.Remaining.{left_of, output_fault, uncut_of, state_of, text_of, work_left}
 use Rattle.rdlpp_state.specs.declared.phase.Phase.{Phase}
-use Rattle.rdlpp_state.specs.declared.phase.Phase.TheVariants.{Fresh, Open, Passed, Closed}
+use Rattle.rdlpp_state.specs.declared.phase.Phase.TheVariants.{Fresh, Open, OverLimit, Closed}
 
 -- whether an answer is a fault of such a kind, and none was kept before the call
 unfoldable pub has_met : (FaultKind → Bool) → Option Told → Result (Option (List ℕ)) Told → Bool
@@ -163,7 +163,7 @@ pub record StepsOver {S R : Type 0} (g : Ghosts S R) (silent : ℕ) (left : Engi
   pub started : IsStarted new
   pub kept : (f : Told) → old.kept ≡ Some f → (answer ≡ Err f) × (new ≡ old)
   pub ended : old.kept ≡ None → old.phase ≡ Closed → (answer ≡ Ok None) × (new ≡ old)
-  pub passed : old.kept ≡ None → old.phase ≡ Passed → (answer ≡ Err (output_fault old.main)) × (new ≡ record old { kept = Some (output_fault old.main) })
+  pub passed : old.kept ≡ None → old.phase ≡ OverLimit → (answer ≡ Err (output_fault old.main)) × (new ≡ record old { kept = Some (output_fault old.main) })
   pub keeps : IfErr answer (λ f. new.kept ≡ Some f)
   pub free : IfOk answer (λ lent. new.kept ≡ None)
   pub own : old.kept ≡ None → IfErr answer (λ f. is_write_failed f.kind ≡ false)

@@ -8,7 +8,7 @@ pub enum Phase {
     /// The main text is open.
     Open,
     /// The main text is open, and more bytes were due than the output may have.
-    Passed,
+    OverLimit,
     /// The main text has ended, or couldn't be opened.
     Closed,
 }

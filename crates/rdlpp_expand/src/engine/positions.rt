@@ -80,7 +80,7 @@ fn has_text(phase: Phase) -> bool
     match phase {
         Phase::Fresh => false,
         Phase::Open => true,
-        Phase::Passed => true,
+        Phase::OverLimit => true,
         Phase::Closed => false,
     }
 }

@@ -69,7 +69,7 @@ impl<S: Sources> Engine<S> {
         self.facts();
         match step {
             TextStep::Lent(place) => {
-                let len = self.spend(place.end - place.from);
+                let len = self.charge_quota(place.end - place.from);
                 TextStep::Lent(TextPlace {
                     source: place.source,
                     from: place.from,

@@ -1,5 +1,5 @@
 use Rattle.std.proofs.Common.{◌≡◌, None, sym, ap, subst, ◌∙◌, arith}
-use Rattle.rdlpp_state.specs.declared.phase.Phase.TheVariants.{Closed, Passed}
+use Rattle.rdlpp_state.specs.declared.phase.Phase.TheVariants.{Closed, OverLimit}
 use Rattle.rdlpp_state.specs.Held.{IsBounded}
 use Rattle.rdlpp_state.specs.Remaining.{output_fault}
 use Rattle.rdlpp_expand.proofs.RunFacts.{bounded_kept}
@@ -14,14 +14,14 @@ returns-then-is_some-clause-walks g c =
 pub returns-in_default : goal.returns-in_default
 returns-in_default g c =
     let free : c.args.self.now.kept ≡ None = none_kept_by c.args.self.now.kept c.self.inside.kept (sym (ap (λ e. e.kept) c.self.view_is)) (sym c.is_some.ensures ∙ c.if-is_some.false) in
-    let closed : c.args.self.now.phase ≡ Closed = is_closed c.args.self.now.phase c.requires.started (λ e. c.in_default.not-Open (ap (λ x. x.phase) c.self.view_is ∙ e)) (λ e. c.in_default.not-Passed (ap (λ x. x.phase) c.self.view_is ∙ e)) in
+    let closed : c.args.self.now.phase ≡ Closed = is_closed c.args.self.now.phase c.requires.started (λ e. c.in_default.not-Open (ap (λ x. x.phase) c.self.view_is ∙ e)) (λ e. c.in_default.not-OverLimit (ap (λ x. x.phase) c.self.view_is ∙ e)) in
     record { place = tt; walks = wider g.S.Sources 0 1 _ _ _ (omega arith) (steps_ended g.S.Sources c.args.self.now c.requires.started c.facts.ensures.bounded free closed) }
 
-pub returns-in-Passed-clause-walks : goal.returns-in-Passed-clause-walks
-returns-in-Passed-clause-walks g c =
+pub returns-in-OverLimit-clause-walks : goal.returns-in-OverLimit-clause-walks
+returns-in-OverLimit-clause-walks g c =
     let e = c.args.self.now in
     let free : e.kept ≡ None = none_kept_by e.kept c.self.inside.kept (sym (ap (λ e. e.kept) c.self.view_is)) (sym c.is_some.ensures ∙ c.if-is_some.false) in
-    let past : e.phase ≡ Passed = sym (ap (λ e. e.phase) c.self.view_is) ∙ c.in-Passed.is in
+    let past : e.phase ≡ OverLimit = sym (ap (λ e. e.phase) c.self.view_is) ∙ c.in-OverLimit.is in
     let becomes = c.record_output_fault.ensures.kept in
     let bounded : IsBounded c.record_output_fault.new.self = subst (λ e. IsBounded e) (sym becomes) (bounded_kept e _ c.facts.ensures.bounded) in
     wider g.S.Sources 0 1 _ _ _ (omega arith) (kept_at g.S.Sources e c.record_output_fault.new.self c.record_output_fault.result (output_fault e.main) c.record_output_fault.ensures.place (ap (λ e. e.kept) becomes)
