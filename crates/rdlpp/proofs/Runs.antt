@@ -9,7 +9,7 @@ use Rattle.rdlpp_table.specs.declared.fault.DefineFault.{DefineFault}
 use Rattle.rdlpp_table.specs.declared.limits.LimitFault.{LimitFault}
 use Rattle.rdlpp_table.specs.declared.limits.Limits.{Limits}
 use Rattle.rdlpp_meaning.specs.FaultNumbers.{fault_number}
-use Rattle.rdlpp_meaning.specs.Outcome.{Outcome, Told, and_then, fails, gives, told}
+use Rattle.rdlpp_meaning.specs.Outcome.{Outcome, Report, and_then, fails, gives, report_of}
 use Rattle.rdlpp_meaning.specs.declared.fault.Fault.{Fault}
 use Rattle.rdlpp_meaning.specs.declared.fault.FaultKind.{FaultKind}
 use Rattle.rdlpp_meaning.proofs.Outcomes.{and_then-gives_nil}
@@ -95,7 +95,7 @@ taken_all start now i ds (is, gives) all = gives ∙ ap (given_behind now i) (dr
 
 -- an engine that is fresh was given definitions and started
 pub opens_given : {S R : Type 0} (g : Ghosts S R) (limits : Limits) (defines : List Pair) (origins : Bool) (sources : S)
-    (path : List ℕ) (fresh given_to started : EngineView S R) (opening : Option Told) (reading : ReadingView S R)
+    (path : List ℕ) (fresh given_to started : EngineView S R) (opening : Option Report) (reading : ReadingView S R)
     → fresh ≡ fresh_engine limits sources origins
     → given_in fresh defines ≡ Taken given_to.table.macros → given_to ≡ with_macros fresh given_to.table.macros
     → Starts g given_to started path opening → reading ≡ record { engine = started; rest = [] }
@@ -112,7 +112,7 @@ opens_given {S} {R} g limits defines origins sources path fresh given_to started
     }
 
 -- a definition was refused
-pub declines : {S R : Type 0} (limits : Limits) (defines : List Pair) (origins : Bool) (sources : S) (fresh : EngineView S R) (f : Told)
+pub declines : {S R : Type 0} (limits : Limits) (defines : List Pair) (origins : Bool) (sources : S) (fresh : EngineView S R) (f : Report)
     → fresh ≡ fresh_engine limits sources origins → given_in fresh defines ≡ Declined f
     → given limits.definition_bytes limits.definitions 0 [] defines ≡ Declined f
 unfolding fresh_engine
@@ -139,13 +139,13 @@ or_right : (a b : Bool) → (a || b) ≡ false → b ≡ false
 or_right true b e = cc
 or_right false b e = e
 
-is_fresh-false : (test : FaultKind → Bool) (kept fault : Option Told) → IfSome fault (λ f. test f.kind ≡ false) → is_fresh test kept fault ≡ false
+is_fresh-false : (test : FaultKind → Bool) (kept fault : Option Report) → IfSome fault (λ f. test f.kind ≡ false) → is_fresh test kept fault ≡ false
 unfolding is_fresh
 is_fresh-false test (Some k) fault h = refl
 is_fresh-false test None None h = refl
 is_fresh-false test None (Some f) h = h
 
-not_call_failed : (fault : Option Told) → is_failure fault ≡ false → IfSome fault (λ f. is_call_failed f.kind ≡ false)
+not_call_failed : (fault : Option Report) → is_failure fault ≡ false → IfSome fault (λ f. is_call_failed f.kind ≡ false)
 unfolding is_device_fault is_memory_fault is_call_failed
 not_call_failed None e = tt
 not_call_failed (Some f) e =
@@ -153,18 +153,18 @@ not_call_failed (Some f) e =
     let memory : is_memory_kind f.kind ≡ false = or_left _ (is_write_failed f.kind) (or_right (is_read_failed f.kind) _ e) in
     rw (read, memory) refl
 
-not_write_failed : (fault : Option Told) → is_failure fault ≡ false → IfSome fault (λ f. is_write_failed f.kind ≡ false)
+not_write_failed : (fault : Option Report) → is_failure fault ≡ false → IfSome fault (λ f. is_write_failed f.kind ≡ false)
 not_write_failed None e = tt
 not_write_failed (Some f) e = or_right (is_memory_fault (Some f)) _ (or_right (is_device_fault (Some f)) _ e)
 
 -- a fault of the opening is the fault of the run
-device_fault-false : (opening fault : Option Told) → ((f : Told) → opening ≡ Some f → fault ≡ Some f) → is_failure fault ≡ false
+device_fault-false : (opening fault : Option Report) → ((f : Report) → opening ≡ Some f → fault ≡ Some f) → is_failure fault ≡ false
     → is_device_fault opening ≡ false
 unfolding is_device_fault
 device_fault-false None fault h e = refl
 device_fault-false (Some f) fault h e = or_left _ _ (subst (λ x. is_failure x ≡ false) (h f refl) e)
 
-memory_fault-false : (opening fault : Option Told) → ((f : Told) → opening ≡ Some f → fault ≡ Some f) → is_failure fault ≡ false
+memory_fault-false : (opening fault : Option Report) → ((f : Report) → opening ≡ Some f → fault ≡ Some f) → is_failure fault ≡ false
     → is_memory_fault opening ≡ false
 unfolding is_memory_fault
 memory_fault-false None fault h e = refl
@@ -175,35 +175,35 @@ begins_empty : (bytes : List ℕ) (output : Outcome) → bytes ≡ [] → Begins
 begins_empty bytes output e = (output.bytes, ap (λ bs. bs ++ output.bytes) (sym e))
 
 -- the first bytes of what remains after the opening are those of the output
-begins_output : (bytes : List ℕ) (opening : Option Told) (left output : Outcome)
-    → ((f : Told) → opening ≡ Some f → bytes ≡ [])
+begins_output : (bytes : List ℕ) (opening : Option Report) (left output : Outcome)
+    → ((f : Report) → opening ≡ Some f → bytes ≡ [])
     → (opening ≡ None → left ≡ output) → Begins bytes left → Begins bytes output
 begins_output bytes None left output h k b = subst (Begins bytes) (k refl) b
 begins_output bytes (Some f) left output h k b = begins_empty bytes output (h f refl)
 
 writes_output : {S R W : Type 0} (g : Ghosts S R) (h : SinkGhosts W) (fresh : EngineView S R) (path : List ℕ)
-    (before after : W) (count : ℕ) (fault : Option Told)
+    (before after : W) (count : ℕ) (fault : Option Report)
     → RunsFresh g h fresh path before after count fault → g.tells fresh.sources
     → WritesOutput (h.taken before) (h.taken after) (looked_up_output g fresh path) count fault
 unfolding is_device_fault is_memory_fault
 writes_output g h fresh path before after count fault r tells =
-    let again : (f : Told) → r.opening ≡ Some f → fault ≡ Some f = λ f e. (r.runs.again f (r.starts.keeps ∙ e)).0 in
-    let none : (f : Told) → r.opening ≡ Some f → r.runs.bytes ≡ [] = λ f e. (r.runs.again f (r.starts.keeps ∙ e)).1 in
-    let told : g.tells r.started.sources = r.starts.call.tells tells in
+    let again : (f : Report) → r.opening ≡ Some f → fault ≡ Some f = λ f e. (r.runs.again f (r.starts.keeps ∙ e)).0 in
+    let none : (f : Report) → r.opening ≡ Some f → r.runs.bytes ≡ [] = λ f e. (r.runs.again f (r.starts.keeps ∙ e)).1 in
+    let shown : g.tells r.started.sources = r.starts.call.tells tells in
     let remains : is_device_fault r.opening ≡ false → is_memory_fault r.opening ≡ false → left_of g r.started ≡ looked_up_output g fresh path = λ d m. r.starts.remains_output d m tells in
     record {
       bytes = r.runs.bytes;
       taken = r.runs.taken;
       counted = r.runs.counted;
       begins = begins_output r.runs.bytes r.opening (left_of g r.started) _ none
-          (λ e. remains (ap is_device_fault e) (ap is_memory_fault e)) (r.runs.begins told);
+          (λ e. remains (ap is_device_fault e) (ap is_memory_fault e)) (r.runs.begins shown);
       exact = λ e. sym (remains (device_fault-false r.opening fault again e) (memory_fault-false r.opening fault again e))
           ∙ r.runs.exact (is_fresh-false is_call_failed r.started.kept fault (not_call_failed fault e))
-          (is_fresh-false is_write_failed r.started.kept fault (not_write_failed fault e)) told;
+          (is_fresh-false is_write_failed r.started.kept fault (not_write_failed fault e)) shown;
     }
 
 -- a refused definition writes nothing
-writes_nothing : (before after : Option (List ℕ)) (count : ℕ) (f : Told) (fault : Option Told) → fault ≡ Some f → count ≡ 0 → after ≡ before
+writes_nothing : (before after : Option (List ℕ)) (count : ℕ) (f : Report) (fault : Option Report) → fault ≡ Some f → count ≡ 0 → after ≡ before
     → WritesOutput before after (fails f) count fault
 unfolding fails
 writes_nothing before after count f fault e c a = record {
@@ -216,7 +216,7 @@ writes_nothing before after count f fault e c a = record {
 
 -- what follows tells the output
 pub follows_output : {S R W : Type 0} (g : Ghosts S R) (h : SinkGhosts W) (limits : Limits) (what : Given) (origins : Bool) (sources : S)
-    (path : List ℕ) (before after : W) (count : ℕ) (fault : Option Told)
+    (path : List ℕ) (before after : W) (count : ℕ) (fault : Option Report)
     → Follows g h limits what origins sources path before after count fault → g.tells sources
     → WritesOutput (h.taken before) (h.taken after) (output_given g limits origins sources path what) count fault
 unfolding fresh_engine looked_up_output
@@ -237,8 +237,8 @@ fresh_of {S} {R} options sources engine e =
 
 -- an engine that is fresh was given definitions, started and run
 pub follows_from : {S R W : Type 0} (g : Ghosts S R) (h : SinkGhosts W) (options : Options)
-    (path : List ℕ) (before after : W) (fresh given_to started ended : EngineView S R) (opening : Option Told) (answer : Result ℕ RunFault)
-    (count : ℕ) (fault : Option Told)
+    (path : List ℕ) (before after : W) (fresh given_to started ended : EngineView S R) (opening : Option Report) (answer : Result ℕ RunFault)
+    (count : ℕ) (fault : Option Report)
     → IsFreshOf options fresh
     → given_in fresh options.defines.items ≡ Taken given_to.table.macros → given_to ≡ with_macros fresh given_to.table.macros
     → Starts g given_to started path opening
@@ -261,7 +261,7 @@ follows_from g h options path before after fresh given_to started ended opening 
 
 -- a definition was refused
 pub refused_from : {S R W : Type 0} (g : Ghosts S R) (h : SinkGhosts W) (options : Options)
-    (path : List ℕ) (writer : W) (fresh new : EngineView S R) (count : ℕ) (f : Told)
+    (path : List ℕ) (writer : W) (fresh new : EngineView S R) (count : ℕ) (f : Report)
     → IsFreshOf options fresh
     → given_in fresh options.defines.items ≡ Declined f → count ≡ 0
     → FollowsFrom g h options (given_by options) fresh new path writer writer count (Some f)
@@ -272,7 +272,7 @@ refused_from g h options path writer fresh new count f e d c =
 
 -- what follows is what follows of preprocessing
 pub follows_of : {S R W : Type 0} (g : Ghosts S R) (h : SinkGhosts W) (options : Options) (what : Given) (old new : EngineView S R)
-    (path : List ℕ) (before after : W) (count : ℕ) (fault : Option Told)
+    (path : List ℕ) (before after : W) (count : ℕ) (fault : Option Report)
     → FollowsFrom g h options what old new path before after count fault
     → Follows g h options.limits what options.origins old.sources path before after count fault
 follows_of g h options (Taken macros) old new path before after count fault r = r.0
@@ -292,8 +292,8 @@ preprocesses_of g h options sources old new path before after (Err (BadLimits fa
 preprocesses_of g h options sources old new path before after (Err NoMemory) made run = absurd run
 preprocesses_of {S} g h options sources old new path before after (Err (Run f)) (fits, fresh, same) run = (
   fits,
-  subst (λ (s : S). Follows g h options.limits (given_by options) options.origins s path before after f.written (Some (told f.fault))) same
-      (follows_of g h options (given_by options) old new path before after f.written (Some (told f.fault)) run),
+  subst (λ (s : S). Follows g h options.limits (given_by options) options.origins s path before after f.written (Some (report_of f.fault))) same
+      (follows_of g h options (given_by options) old new path before after f.written (Some (report_of f.fault)) run),
 )
 
 -- where no engine was made nothing is written

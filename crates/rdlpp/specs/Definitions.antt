@@ -6,7 +6,7 @@ use Rattle.std.specs.declared.alloc.Global.{Global}
 use Rattle.rdlpp_table.specs.Table.{Macro}
 use Rattle.rdlpp_table.specs.Define.{Accepted, Refused, set_of}
 use Rattle.rdlpp_table.specs.declared.fault.DefineKind.{DefineKind}
-use Rattle.rdlpp_meaning.specs.Outcome.{Told, told}
+use Rattle.rdlpp_meaning.specs.Outcome.{Report, report_of}
 use Rattle.rdlpp_state.specs.Engine.{EngineView}
 use Rattle.rdlpp_meaning.specs.Profile.{define_fault}
 use Rattle.rdlpp_expand.specs.declared.writing.RunFault.{RunFault}
@@ -18,10 +18,10 @@ Pair = String Global × String Global
 -- what definitions come to: macros, or the fault of the first one that is refused
 pub data Given : Type 0 where
   Taken : List Macro → Given
-  Declined : Told → Given
+  Declined : Report → Given
 
 -- the fault of a refused definition: its place from 1 as the line, under the name `-D` (source: this project's profile)
-unfoldable pub refused_definition : DefineKind → List ℕ → ℕ → Told
+unfoldable pub refused_definition : DefineKind → List ℕ → ℕ → Report
 refused_definition kind word place = record { kind = define_fault kind; name = codes "-D"; line = place; word = word }
 
 -- the macros of definitions, each a name and a text, in order behind others, where so many definitions stand before them;
@@ -44,4 +44,4 @@ with_macros e macros = record e { table = record e.table { macros = macros } }
 -- the definitions were taken, or the first refused one is told, with nothing written
 abbrev pub AreGiven : {S R : Type 0} → EngineView S R → EngineView S R → List Pair → Result (Unit {0}) RunFault → Type 0
 AreGiven old new defines (Ok done) = (given_in old defines ≡ Taken new.table.macros) × (new ≡ with_macros old new.table.macros)
-AreGiven old new defines (Err f) = (given_in old defines ≡ Declined (told f.fault)) × (f.written ≡ 0)
+AreGiven old new defines (Err f) = (given_in old defines ≡ Declined (report_of f.fault)) × (f.written ≡ 0)

@@ -4,7 +4,7 @@ use Rattle.std.specs.Prelude.{◌≡◌, ℕ, Bool, false, List, [], Option, Non
 use Rattle.rdlpp_source.specs.declared.sources.Sources.{Ghosts}
 use Rattle.rdlpp_table.specs.Limits.{limit_fault}
 use Rattle.rdlpp_table.specs.declared.limits.Limits.{Limits}
-use Rattle.rdlpp_meaning.specs.Outcome.{Told, told, Outcome}
+use Rattle.rdlpp_meaning.specs.Outcome.{Report, report_of, Outcome}
 use Rattle.rdlpp_state.specs.Engine.{EngineView}
 use Rattle.rdlpp_state.specs.Opening.{Starts, is_device_fault, is_memory_fault}
 use Rattle.rdlpp_expand.specs.Reading.{ReadingView, reading_left}
@@ -16,7 +16,7 @@ use Rattle.rdlpp.specs.declared.fault.PrepFault.TheVariants.{BadLimits, NoMemory
 
 -- a reading of an engine that wasn't started yet and was started with a path
 pub record OpensFresh {S R : Type 0} (g : Ghosts S R) (fresh : EngineView S R) (path : List ℕ) (reading : ReadingView S R) : Type 0 where
-  pub opening : Option Told
+  pub opening : Option Report
   pub starts : Starts g fresh reading.engine path opening
   pub whole : reading.rest ≡ []
 
@@ -31,7 +31,7 @@ abbrev pub Opens : {S R : Type 0} → Ghosts S R → Options → S → List ℕ 
 Opens g options sources path (Ok reading) = (limit_fault options.limits ≡ None) × OpensGiven g options.limits (given_by options) options.origins sources path reading
 Opens g options sources path (Err (BadLimits fault)) = limit_fault options.limits ≡ Some fault
 Opens g options sources path (Err NoMemory) = limit_fault options.limits ≡ None
-Opens g options sources path (Err (Run f)) = (limit_fault options.limits ≡ None) × (given_by options ≡ Declined (told f.fault)) × (f.written ≡ 0)
+Opens g options sources path (Err (Run f)) = (limit_fault options.limits ≡ None) × (given_by options ≡ Declined (report_of f.fault)) × (f.written ≡ 0)
 
 -- what remains of a reading is the output, unless a device failed or memory was refused where it was opened (source: this project's profile)
 abbrev pub OpensOutput : {S R : Type 0} → Ghosts S R → Outcome → Result (ReadingView S R) PrepFault → Type 0

@@ -7,7 +7,7 @@ use Rattle.rdlpp_source.specs.declared.sinks.Sink.{Ghosts as SinkGhosts}
 use Rattle.rdlpp_table.specs.Table.{Macro}
 use Rattle.rdlpp_table.specs.Limits.{limit_fault}
 use Rattle.rdlpp_table.specs.declared.limits.Limits.{Limits}
-use Rattle.rdlpp_meaning.specs.Outcome.{Told, told, Outcome, fails}
+use Rattle.rdlpp_meaning.specs.Outcome.{Report, report_of, Outcome, fails}
 use Rattle.rdlpp_meaning.specs.OutputLimit.{limited_output}
 use Rattle.rdlpp_state.specs.Engine.{EngineView}
 use Rattle.rdlpp_state.specs.Opening.{Starts, fresh_engine, searches_of, is_device_fault, is_memory_fault}
@@ -23,10 +23,10 @@ abbrev pub engine_with : {S R : Type 0} → Limits → Bool → S → List Macro
 engine_with limits origins sources macros = with_macros (fresh_engine limits sources origins) macros
 
 -- an engine that wasn't started yet was started with a path and then run: so many bytes were written, and so it ended (source: this project's profile)
-pub record RunsFresh {S R W : Type 0} (g : Ghosts S R) (h : SinkGhosts W) (fresh : EngineView S R) (path : List ℕ) (before after : W) (count : ℕ) (fault : Option Told) : Type 0 where
+pub record RunsFresh {S R W : Type 0} (g : Ghosts S R) (h : SinkGhosts W) (fresh : EngineView S R) (path : List ℕ) (before after : W) (count : ℕ) (fault : Option Report) : Type 0 where
   pub started : EngineView S R
   pub ended : EngineView S R
-  pub opening : Option Told
+  pub opening : Option Report
   pub starts : Starts g fresh started path opening
   pub runs : Runs g h started ended before after count fault
 
@@ -35,7 +35,7 @@ abbrev pub given_by : Options → Given
 given_by options = given options.limits.definition_bytes options.limits.definitions 0 [] options.defines.items
 
 -- what comes of options whose limits are in range and of an engine that was made: the fault of the first definition that is refused, with nothing opened or written, and else what the run of a fresh engine with the definitions comes to (source: this project's profile)
-abbrev pub Follows : {S R W : Type 0} → Ghosts S R → SinkGhosts W → Limits → Given → Bool → S → List ℕ → W → W → ℕ → Option Told → Type 0
+abbrev pub Follows : {S R W : Type 0} → Ghosts S R → SinkGhosts W → Limits → Given → Bool → S → List ℕ → W → W → ℕ → Option Report → Type 0
 Follows g h limits (Taken macros) origins sources path before after count fault = RunsFresh g h (engine_with limits origins sources macros) path before after count fault
 Follows g h limits (Declined f) origins sources path before after count fault = (fault ≡ Some f) × (count ≡ 0) × (after ≡ before)
 
@@ -48,7 +48,7 @@ Preprocesses g h options sources path before after (Err (BadLimits fault)) = (li
 Preprocesses g h options sources path before after (Err NoMemory) = (limit_fault options.limits ≡ None) × (after ≡ before)
 Preprocesses g h options sources path before after (Err (Run f)) =
     (limit_fault options.limits ≡ None)
-    × Follows g h options.limits (given_by options) options.origins sources path before after f.written (Some (told f.fault))
+    × Follows g h options.limits (given_by options) options.origins sources path before after f.written (Some (report_of f.fault))
 
 -- the output of a main text, by what the definitions come to
 abbrev pub output_given : {S R : Type 0} → Ghosts S R → Limits → Bool → S → List ℕ → Given → Outcome
@@ -60,12 +60,12 @@ abbrev pub output_of : {S R : Type 0} → Ghosts S R → Options → S → List 
 output_of g options sources path = output_given g options.limits options.origins sources path (given_by options)
 
 -- whether a fault is that of a device or of memory: F32, F33 or F34 (source: this project's profile)
-abbrev pub is_failure : Option Told → Bool
+abbrev pub is_failure : Option Report → Bool
 is_failure None = false
 is_failure (Some f) = is_device_fault (Some f) || (is_memory_fault (Some f) || is_write_failed f.kind)
 
 -- the output was written whole and so it ended, unless a device failed or memory was refused, and else its first bytes were; and the count of what was written (source: this project's profile)
-pub record WritesOutput (taken_before taken_after : Option (List ℕ)) (output : Outcome) (count : ℕ) (fault : Option Told) : Type 0 where
+pub record WritesOutput (taken_before taken_after : Option (List ℕ)) (output : Outcome) (count : ℕ) (fault : Option Report) : Type 0 where
   pub bytes : List ℕ
   pub taken : Appends taken_before taken_after bytes
   pub counted : count ≡ min (length bytes) (2 ^ 64 - 1)
@@ -77,4 +77,4 @@ abbrev pub Tells : Option (List ℕ) → Option (List ℕ) → Outcome → Resul
 Tells before after output (Ok count) = WritesOutput before after output count None
 Tells before after output (Err (BadLimits fault)) = after ≡ before
 Tells before after output (Err NoMemory) = after ≡ before
-Tells before after output (Err (Run f)) = WritesOutput before after output f.written (Some (told f.fault))
+Tells before after output (Err (Run f)) = WritesOutput before after output f.written (Some (report_of f.fault))

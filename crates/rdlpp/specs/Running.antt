@@ -4,7 +4,7 @@ use Rattle.std.specs.Prelude.{◌≡◌, ℕ, List, Option, None, Some, Result, 
 use Rattle.rdlpp_source.specs.declared.sources.Sources.{Ghosts}
 use Rattle.rdlpp_source.specs.declared.sinks.Sink.{Ghosts as SinkGhosts}
 use Rattle.rdlpp_table.specs.Limits.{limit_fault}
-use Rattle.rdlpp_meaning.specs.Outcome.{Told, told}
+use Rattle.rdlpp_meaning.specs.Outcome.{Report, report_of}
 use Rattle.rdlpp_state.specs.Engine.{EngineView}
 use Rattle.rdlpp_state.specs.Opening.{fresh_engine}
 use Rattle.rdlpp.specs.Definitions.{Given, Taken, Declined}
@@ -25,7 +25,7 @@ MakesEngine options sources (Err NoMemory) = limit_fault options.limits ≡ None
 MakesEngine options sources (Err (Run f)) = ⊥
 
 -- what comes of an engine that was made, and how it is left: the run of it with the definitions; or the fault of the first definition that is refused, with nothing opened or written (source: this project's profile)
-abbrev pub FollowsFrom : {S R W : Type 0} → Ghosts S R → SinkGhosts W → Options → Given → EngineView S R → EngineView S R → List ℕ → W → W → ℕ → Option Told → Type 0
+abbrev pub FollowsFrom : {S R W : Type 0} → Ghosts S R → SinkGhosts W → Options → Given → EngineView S R → EngineView S R → List ℕ → W → W → ℕ → Option Report → Type 0
 FollowsFrom g h options (Taken macros) old new path before after count fault =
     (run : RunsFresh g h (engine_with options.limits options.origins old.sources macros) path before after count fault) × (run.ended ≡ new)
 FollowsFrom g h options (Declined f) old new path before after count fault = (fault ≡ Some f) × (count ≡ 0) × (after ≡ before)
@@ -35,4 +35,4 @@ abbrev pub RunsFrom : {S R W : Type 0} → Ghosts S R → SinkGhosts W → Optio
 RunsFrom g h options old new path before after (Ok count) = FollowsFrom g h options (given_by options) old new path before after count None
 RunsFrom g h options old new path before after (Err (BadLimits fault)) = ⊥
 RunsFrom g h options old new path before after (Err NoMemory) = ⊥
-RunsFrom g h options old new path before after (Err (Run f)) = FollowsFrom g h options (given_by options) old new path before after f.written (Some (told f.fault))
+RunsFrom g h options old new path before after (Err (Run f)) = FollowsFrom g h options (given_by options) old new path before after f.written (Some (report_of f.fault))

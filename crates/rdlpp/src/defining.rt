@@ -1,6 +1,6 @@
 // Definitions from outside.
 ghost use Rattle.std.specs.Prelude.{◌≡◌};
-ghost use Rattle.rdlpp_meaning.specs.Outcome.{told};
+ghost use Rattle.rdlpp_meaning.specs.Outcome.{report_of};
 ghost use Rattle.rdlpp_state.specs.Engine.{EngineView};
 ghost use Rattle.rdlpp_state.specs.declared.phase.Phase.TheVariants as phase;
 ghost use Rattle.rdlpp.specs.Definitions.{AreGiven, refused_definition};
@@ -30,9 +30,9 @@ pub(crate) fn define_all<S: Sources>(
 }
 
 // The fault of a refused definition, at its place.
-#[tactic(auto, unfolding(rdlpp_meaning::specs::Outcome::told, crate::specs::Definitions::refused_definition))]
+#[tactic(auto, unfolding(rdlpp_meaning::specs::Outcome::report_of, crate::specs::Definitions::refused_definition))]
 fn refused(fault: DefineFault, place: u64) -> RunFault
-    ensures fault { told result.fault ≡ refused_definition fault.kind fault.word.bytes place }
+    ensures fault { report_of result.fault ≡ refused_definition fault.kind fault.word.bytes place }
     ensures written { result.written ≡ 0 }
 {
     let mut name = ArrayString::new();

@@ -3,7 +3,7 @@ use Rattle.std.proofs.Common.{◌≡◌, ℕ, ◌+◌, ◌<◌, Bool, true, fals
 use Rattle.std.specs.declared.alloc.AllocError.{AllocError}
 use Rattle.std.proofs.lemmas.List.{take_more}
 use Rattle.arrayvec.specs.declared.array_string.ArrayString.{ArrayString}
-use Rattle.rdlpp_meaning.specs.Outcome.{Told}
+use Rattle.rdlpp_meaning.specs.Outcome.{Report}
 use Rattle.rdlpp_source.specs.Asked.{first_known, told_of}
 use Rattle.rdlpp_source.specs.declared.asked.AskedTexts.{AskedTexts}
 use Rattle.rdlpp_source.specs.declared.asked.Standing.{Standing}
@@ -63,7 +63,7 @@ takes_again None old new e searches = cc e
 takes_again (Some path) old new e searches = searches
 
 -- a search is made again, by a retry and then by a second start
-pub searches : (old new : Stream) (retried : ReadingView AskedTexts (List ℕ)) (path : List ℕ) (opening : Option Told) → path ≡ string_bytes old.path
+pub searches : (old new : Stream) (retried : ReadingView AskedTexts (List ℕ)) (path : List ℕ) (opening : Option Report) → path ≡ string_bytes old.path
     → Retries owned_sources old.reading.engine retried.engine → retried.rest ≡ old.reading.rest
     → StartsAgain owned_sources retried.engine new.reading.engine path opening
     → new.reading.rest ≡ (if is_failed_start retried.engine then [] else retried.rest) → new ≡ record old { reading = new.reading } → SearchesAgain old new

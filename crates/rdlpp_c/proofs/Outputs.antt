@@ -3,7 +3,7 @@ use Rattle.std.proofs.Common.{◌≡◌, ℕ, ◌+◌, ◌-◌, ◌^◌, ◌<◌
 use Rattle.std.proofs.Math.Seq.{take-append_seam}
 use Rattle.rdlpp_table.specs.Limits.{limit_fault}
 use Rattle.rdlpp_table.specs.declared.limits.Limits.{Limits}
-use Rattle.rdlpp_meaning.specs.Outcome.{Outcome, Told, and_then, fails, gives, told}
+use Rattle.rdlpp_meaning.specs.Outcome.{Outcome, Report, and_then, fails, gives, report_of}
 use Rattle.rdlpp_meaning.proofs.Outcomes.{and_then-gives_gives, bytes-and_then_gives}
 use Rattle.rdlpp_source.specs.Counts.{Counts}
 use Rattle.rdlpp_source.specs.declared.asked.AskedTexts.{AskedTexts}
@@ -47,7 +47,7 @@ stays false c = refl
 stays true c = (let bad : ⊥ = omega (arith, c) in absurd bad)
 
 -- a fault that was met is none of a source
-pub unfailed : (kept : Option Told) (fault : Told) (old new : Texts)
+pub unfailed : (kept : Option Report) (fault : Report) (old new : Texts)
     → SourcesCalled text_sources (is_fresh is_read_failed kept (Some fault)) (is_fresh is_memory_kind kept (Some fault)) old new
     → is_fresh is_call_failed kept (Some fault) ≡ false
 unfolding is_fresh is_call_failed
@@ -65,7 +65,7 @@ opening_unfailed limits (Taken macros) origins sources path reading o = (
 opening_unfailed limits (Declined f) origins sources path reading o = absurd o
 
 -- bytes and then a fault
-stopped : (bytes : List ℕ) (fault : Told) → and_then (gives bytes) (fails fault) ≡ record { bytes = bytes; fault = Some fault }
+stopped : (bytes : List ℕ) (fault : Report) → and_then (gives bytes) (fails fault) ≡ record { bytes = bytes; fault = Some fault }
 unfolding and_then gives fails
 stopped bytes fault = ap (λ (b : List ℕ). record { bytes = b; fault = Some fault }) (append-nil bytes)
 
@@ -75,15 +75,15 @@ pub ends : (old new : View) (before after : List ℕ) (len : ℕ) (e : ReadEnd) 
 unfolding gives
 ends old new before after len Finished f l = record { is = l }
 ends old new before after len StoppedRead f l =
-    let P : Option Told → Type 0 = λ k. SourcesCalled text_sources (is_fresh is_read_failed old.engine.kept k) (is_fresh is_memory_kind old.engine.kept k) old.engine.sources new.engine.sources in
+    let P : Option Report → Type 0 = λ k. SourcesCalled text_sources (is_fresh is_read_failed old.engine.kept k) (is_fresh is_memory_kind old.engine.kept k) old.engine.sources new.engine.sources in
     let bytes = take len after in
     record {
       is = l.exact (unfailed old.engine.kept l.fault old.engine.sources new.engine.sources (subst P l.kept f.reads))
-          ∙ stopped bytes l.fault ∙ ap (λ (k : Option Told). record { bytes = bytes; fault = k }) (sym l.kept);
+          ∙ stopped bytes l.fault ∙ ap (λ (k : Option Report). record { bytes = bytes; fault = k }) (sym l.kept);
     }
 
 -- bytes in front of an output that ended
-ended_behind : (xs ys : List ℕ) (fault : Option Told) → and_then (gives xs) (record { bytes = ys; fault = fault }) ≡ record { bytes = xs ++ ys; fault = fault }
+ended_behind : (xs ys : List ℕ) (fault : Option Report) → and_then (gives xs) (record { bytes = ys; fault = fault }) ≡ record { bytes = xs ++ ys; fault = fault }
 unfolding and_then gives
 ended_behind xs ys fault = refl
 
@@ -171,20 +171,20 @@ least : (count len size : ℕ) → count ≡ len → len < 2 ^ 64 → size ≡ l
 least count len size p fits q = grind arith
 
 -- an output whose first read came to its end
-pub read_whole : (old new : View) (before after : List ℕ) (len count : ℕ) (e : ReadEnd) (fault : Option Told) → count ≡ len → len < 2 ^ 64
+pub read_whole : (old new : View) (before after : List ℕ) (len count : ℕ) (e : ReadEnd) (fault : Option Report) → count ≡ len → len < 2 ^ 64
     → Fills text_sources old new before after len (Some e) → Leaves text_sources old new (take len after) (Some e)
     → fault ≡ ended_with (Some e) new.engine.kept → IsRead (reading_left text_sources old) before after count fault
 read_whole old new before after len count e fault same_count fits f l same =
     let size = written old new before after len (Some e) f in
     record {
       bytes = take len after;
-      is = (ends old new before after len e f l).is ∙ ap (λ (k : Option Told). record { bytes = take len after; fault = k }) (sym same);
+      is = (ends old new before after len e f l).is ∙ ap (λ (k : Option Report). record { bytes = take len after; fault = k }) (sym same);
       counted = least count len (length (take len after)) same_count fits size;
       front = overwritten_part before after len f.inside f.size f.behind size;
     }
 
 -- an output that went on behind a full buffer
-pub read_rest : (old mid new : View) (before after : List ℕ) (len all count : ℕ) (e : ReadEnd) (fault : Option Told) → count ≡ all
+pub read_rest : (old mid new : View) (before after : List ℕ) (len all count : ℕ) (e : ReadEnd) (fault : Option Report) → count ≡ all
     → Fills text_sources old mid before after len None → Leaves text_sources old mid (take len after) None → Counted text_sources mid new len all e
     → fault ≡ ended_with (Some e) new.engine.kept → IsRead (reading_left text_sources old) before after count fault
 read_rest old mid new before after len all count e fault same_count f l c same =
@@ -193,7 +193,7 @@ read_rest old mid new before after len all count e fault same_count f l c same =
     let size = written old mid before after len None f in
     record {
       bytes = xs ++ c.bytes;
-      is = (ends_behind old mid new xs c.bytes e l c.ends).is ∙ ap (λ (k : Option Told). record { bytes = xs ++ c.bytes; fault = k }) (sym same);
+      is = (ends_behind old mid new xs c.bytes e l c.ends).is ∙ ap (λ (k : Option Report). record { bytes = xs ++ c.bytes; fault = k }) (sym same);
       counted = same_count ∙ c.count ∙ ap (λ k. min k (2 ^ 64 - 1)) (ap (λ k. k + length c.bytes) (sym size) ∙ sym (length-append xs c.bytes));
       front = overwritten_full before after c.bytes f.size ∙ ap (λ (ys : List ℕ). overwritten (ys ++ c.bytes) before) (sym whole);
     }
@@ -225,7 +225,7 @@ output_asked a lists sources output are files folders in_range is = record {
 }
 
 -- an output that was read to its end is the one that a call asks for
-output_read : (a : Asked) (lists : Lists) (sources : Texts) (reading : View) (before after : List ℕ) (count : ℕ) (fault : Option Told)
+output_read : (a : Asked) (lists : Lists) (sources : Texts) (reading : View) (before after : List ℕ) (count : ℕ) (fault : Option Report)
     → AreLists a lists → sources.files.now ≡ lists.files.items → sources.folders.now ≡ lists.folders.items → limit_fault a.limits ≡ None
     → Opens text_sources lists.options sources lists.path.now (Ok reading)
     → OpensOutput text_sources (output_of text_sources lists.options sources lists.path.now) (Ok reading)
@@ -251,10 +251,10 @@ pub gives_stopped : (a : Asked) (lists : Lists) (sources : Texts) (reading : Vie
     → AreLists a lists → sources.files.now ≡ lists.files.items → sources.folders.now ≡ lists.folders.items → limit_fault a.limits ≡ None
     → Opens text_sources lists.options sources lists.path.now (Ok reading)
     → OpensOutput text_sources (output_of text_sources lists.options sources lists.path.now) (Ok reading)
-    → IsRead (reading_left text_sources reading) before after run.written (Some (told run.fault)) → Gives a before after (Stopped run)
+    → IsRead (reading_left text_sources reading) before after run.written (Some (report_of run.fault)) → Gives a before after (Stopped run)
 gives_stopped a lists sources reading before after run are files folders in_range opens output read = record {
   bytes = read.bytes;
-  comes = (output_read a lists sources reading before after run.written (Some (told run.fault)) are files folders in_range opens output read, read.counted);
+  comes = (output_read a lists sources reading before after run.written (Some (report_of run.fault)) are files folders in_range opens output read, read.counted);
   front = read.front;
 }
 
@@ -271,7 +271,7 @@ gives_refused a lists sources buffer fault answer are files folders in_range ope
     by (Run run) h = record {
       bytes = [];
       comes = (
-        output_asked a lists sources (record { bytes = []; fault = Some (told run.fault) }) are files folders in_range
+        output_asked a lists sources (record { bytes = []; fault = Some (report_of run.fault) }) are files folders in_range
             (ap (output_given text_sources lists.options.limits lists.options.origins sources lists.path.now) h.1),
         h.2,
       );
@@ -303,7 +303,7 @@ streams a owned reading stream are in_range opens asks quiet same path pieces = 
 }
 
 -- a definition that is refused is the output
-pub declined : (a : Asked) (owned : Owned) (f : Told) → AreOwned a owned → limit_fault a.limits ≡ None → given_by owned.options ≡ Declined f → IsStreamed a (fails f)
+pub declined : (a : Asked) (owned : Owned) (f : Report) → AreOwned a owned → limit_fault a.limits ≡ None → given_by owned.options ≡ Declined f → IsStreamed a (fails f)
 declined a owned f are in_range refused = record {
   options = owned.options;
   sources = owned.sources;
@@ -320,7 +320,7 @@ refused a owned fault result are in_range opens e = subst (λ (r : Result Stream
     by : (fault : PrepFault) → Opens owned_sources owned.options owned.sources (string_bytes owned.path) (Err fault) → OpensStream a (Err (refused_answer fault))
     by (BadLimits limit) h = ap limit_fault (sym are.asks.limits) ∙ h
     by NoneLeft h = in_range
-    by (Run run) h = (declined a owned (told run.fault) are in_range h.1, h.2)
+    by (Run run) h = (declined a owned (report_of run.fault) are in_range h.1, h.2)
 
 -- a read of the stream that a handle owns
 pub reads_held : (old new : ReadBuffers) (before after : Stream) (first last : Option Stream) (outcome : Numbers)

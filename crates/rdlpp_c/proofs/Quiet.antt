@@ -6,7 +6,7 @@ use Rattle.std.proofs.lemmas.Option.{none-some, same_Some, slice_get-get_or, sli
 use borrow.Rule.Slice.PartMut.{mid_of, put_mid}
 use Rattle.rdlpp_table.specs.declared.limits.Limits.{Limits}
 use Rattle.rdlpp_meaning.specs.FaultNumbers.{fault_number}
-use Rattle.rdlpp_meaning.specs.Outcome.{Told, and_then, gives}
+use Rattle.rdlpp_meaning.specs.Outcome.{Report, and_then, gives}
 use Rattle.rdlpp_meaning.specs.declared.fault.FaultKind.{FaultKind}
 use Rattle.rdlpp_meaning.specs.declared.fault.FaultKind.TheVariants.{ArgumentBytes, ArgumentCount, ArgumentsMissing, ArgumentsOpen, BadFormals, BadLine, BareBackquote, BranchAfterElse, DefinitionBytes, DepthPassed, DirectiveInText, EmbeddedPerl, FormalTwice, IncludeName, LineTooLong, NameExpected, NameTooLong, OpenComment, OpenConditional, OpenString, OutputBytes, PathTooLong, ReadFailed, RecursiveMacro, ReservedName, SourceMemory, SourceNotFound, SourceTooLong, StrayBranch, TooManyConditionals, TooManyDefinitions, TooManyFormals, TooManyIncludes, UndefinedMacro, WriteFailed}
 use Rattle.rdlpp_meaning.proofs.Outcomes.{and_then-gives_gives}
@@ -156,19 +156,19 @@ opening_asks limits (Declined f) origins sources path reading o = absurd o
 
 -- A step.
 
-answered : (answer : Result (Option (List ℕ)) Told) (kept : Option Told) → has_failed None answer ≡ false → IfErr answer (λ f. kept ≡ Some f)
+answered : (answer : Result (Option (List ℕ)) Report) (kept : Option Report) → has_failed None answer ≡ false → IfErr answer (λ f. kept ≡ Some f)
     → IfOk answer (λ lent. kept ≡ None) → is_device_fault kept ≡ false
 unfolding has_met is_device_fault
 answered (Ok lent) kept met keeps free = ap is_device_fault free
 answered (Err f) kept met keeps free = ap is_device_fault keeps ∙ met
 
-stepped : (kept : Option Told) (old new : View) (answer : Result (Option (List ℕ)) Told) → old.kept ≡ kept → Steps owned_sources old new answer → IsQuiet old → IsQuiet new
+stepped : (kept : Option Report) (old new : View) (answer : Result (Option (List ℕ)) Report) → old.kept ≡ kept → Steps owned_sources old new answer → IsQuiet old → IsQuiet new
 stepped (Some f) old new answer e s q = subst (λ (x : View). IsQuiet x) (sym (s.kept f e).1) q
 stepped None old new answer e s q =
     let c = called (has_failed old.kept answer) (has_refused old.kept answer) old.sources new.sources s.call q.asks in
-    record { asks = c.1; kept = answered answer new.kept (ap (λ (k : Option Told). has_failed k answer) (sym e) ∙ c.0) s.keeps s.free }
+    record { asks = c.1; kept = answered answer new.kept (ap (λ (k : Option Report). has_failed k answer) (sym e) ∙ c.0) s.keeps s.free }
 
-quiet_step : (old new : View) (answer : Result (Option (List ℕ)) Told) → Steps owned_sources old new answer → IsQuiet old → IsQuiet new
+quiet_step : (old new : View) (answer : Result (Option (List ℕ)) Report) → Steps owned_sources old new answer → IsQuiet old → IsQuiet new
 quiet_step old new answer s q = stepped old.kept old new answer refl s q
 
 -- A read.
@@ -184,11 +184,11 @@ pub quiet_piece : (old : ReadingView AskedTexts (List ℕ)) (new : View) (rest p
 quiet_piece old new [] piece ending n q = turned old.engine new piece ending n q
 quiet_piece old new (b ∷ rest) piece ending n q = subst (λ (x : View). IsQuiet x) (sym n.0) q
 
-stopped : (kept : Option Told) (old new : View) (lent : List ℕ) → old.kept ≡ kept → Stops owned_sources old new lent → is_fresh is_read_failed kept new.kept ≡ false
+stopped : (kept : Option Report) (old new : View) (lent : List ℕ) → old.kept ≡ kept → Stops owned_sources old new lent → is_fresh is_read_failed kept new.kept ≡ false
     → is_device_fault kept ≡ false → is_device_fault new.kept ≡ false
 unfolding is_fresh is_device_fault
 stopped (Some k) old new lent e s met q = ap (λ (x : View). is_device_fault x.kept) (s.again k e).2 ∙ (ap is_device_fault e ∙ q)
-stopped None old new lent e s met q = ap is_device_fault s.kept ∙ (ap (λ (k : Option Told). is_fresh is_read_failed None k) (sym s.kept) ∙ met)
+stopped None old new lent e s met q = ap is_device_fault s.kept ∙ (ap (λ (k : Option Report). is_fresh is_read_failed None k) (sym s.kept) ∙ met)
 
 filled : (old new : View) (lent : List ℕ) (ending : Option ReadEnd) → LentEnds owned_sources old new lent ending
     → is_fresh is_read_failed old.kept (ended_with ending new.kept) ≡ false → is_device_fault old.kept ≡ false → is_device_fault new.kept ≡ false
@@ -219,7 +219,7 @@ unfolding is_device_fault
 retried true old new e r q = subst (λ (x : View). IsQuiet x) (sym (r.forgets e)) (record { asks = q.asks; kept = refl })
 retried false old new e r q = subst (λ (x : View). IsQuiet x) (sym (r.same e)) q
 
-restarted : (failed : Bool) (old new : View) (path : List ℕ) (answer : Option Told) → is_failed_start old ≡ failed → StartsAgain owned_sources old new path answer
+restarted : (failed : Bool) (old new : View) (path : List ℕ) (answer : Option Report) → is_failed_start old ≡ failed → StartsAgain owned_sources old new path answer
     → IsQuiet old → IsQuiet new
 restarted true old new path answer e s q =
     let starts = s.again e in
@@ -244,7 +244,7 @@ unread kind e is =
     let failed : true ≡ is_read_failed kind = ap is_read_failed same in
     cc
 
-ended : (ending : Option ReadEnd) (kept : Option Told) → is_device_fault kept ≡ false → is_device_fault (ended_with ending kept) ≡ false
+ended : (ending : Option ReadEnd) (kept : Option Report) → is_device_fault kept ≡ false → is_device_fault (ended_with ending kept) ≡ false
 unfolding is_device_fault
 ended None kept q = refl
 ended (Some Finished) kept q = refl
@@ -254,7 +254,7 @@ ended (Some Stopped) kept q = q
 abbrev TellsNone : Numbers → Type 0
 TellsNone outcome = ¬ (outcome.status ≡ 7) × ¬ (outcome.number ≡ 32)
 
-numbers : (len : ℕ) (ending : Option ReadEnd) (fault : Option Told) (sources : AskedTexts) → is_device_fault fault ≡ false
+numbers : (len : ℕ) (ending : Option ReadEnd) (fault : Option Report) (sources : AskedTexts) → is_device_fault fault ≡ false
     → TellsNone (told_numbers len ending fault (read_wanted fault sources))
 unfolding is_device_fault
 numbers len None None sources q = (λ e. omega (arith, e), λ e. omega (arith, e))

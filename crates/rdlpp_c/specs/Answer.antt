@@ -6,7 +6,7 @@ use Rattle.rdlpp_source.specs.declared.texts.Texts.{Texts}
 use Rattle.rdlpp_source.specs.declared.texts.TextReader.{TextReader}
 use Rattle.rdlpp_source.specs.Texts.{texts_catalog, left_of}
 use Rattle.rdlpp_table.specs.Limits.{limit_fault}
-use Rattle.rdlpp_meaning.specs.Outcome.{told, Outcome}
+use Rattle.rdlpp_meaning.specs.Outcome.{report_of, Outcome}
 use Rattle.rdlpp.specs.Preprocess.{output_of}
 use Rattle.rdlpp.specs.declared.options.Options.{Options}
 use Rattle.rdlpp_c.specs.Buffers.{overwritten}
@@ -40,7 +40,7 @@ pub record IsOutput (a : Asked) (output : Outcome) : Type 0 where
 -- first limit that is out of its range; bytes that have to be UTF-8 and aren't; or want of memory
 abbrev pub ComesTo : Asked → List ℕ → Answer → Type 0
 ComesTo a bytes (Whole count) = IsOutput a (record { bytes = bytes; fault = None }) × (count ≡ min (length bytes) (2 ^ 64 - 1))
-ComesTo a bytes (Stopped run) = IsOutput a (record { bytes = bytes; fault = Some (told run.fault) }) × (run.written ≡ min (length bytes) (2 ^ 64 - 1))
+ComesTo a bytes (Stopped run) = IsOutput a (record { bytes = bytes; fault = Some (report_of run.fault) }) × (run.written ≡ min (length bytes) (2 ^ 64 - 1))
 ComesTo a bytes (BadLimit limit) = limit_fault a.limits ≡ Some limit
 ComesTo a bytes BadText = (limit_fault a.limits ≡ None) × ¬ (AreUtf8 a)
 ComesTo a bytes NoMemory = limit_fault a.limits ≡ None

@@ -2,7 +2,7 @@
 -- A definition that names no source is this project's own.
 use Rattle.std.specs.Prelude.{◌≡◌, ℕ, ◌+◌, ◌-◌, ◌^◌, List, length, min, Option, Some}
 use Rattle.rdlpp_source.specs.declared.sources.Sources.{Ghosts}
-use Rattle.rdlpp_meaning.specs.Outcome.{Told, Outcome}
+use Rattle.rdlpp_meaning.specs.Outcome.{Report, Outcome}
 use Rattle.rdlpp_expand.specs.Reading.{ReadingView, ended_with, reading_left}
 use Rattle.rdlpp_expand.specs.declared.reading.ReadEnd.{ReadEnd}
 use Rattle.rdlpp_c.specs.Buffers.{overwritten}
@@ -18,7 +18,7 @@ pub record Counted {S R : Type 0} (g : Ghosts S R) (old new : ReadingView S R) (
   pub count : after ≡ min (before + length bytes) (2 ^ 64 - 1)
 
 -- an output was read to its end: its front is in a buffer, and its length and its fault are told
-pub record IsRead (output : Outcome) (before after : List ℕ) (count : ℕ) (fault : Option Told) : Type 0 where
+pub record IsRead (output : Outcome) (before after : List ℕ) (count : ℕ) (fault : Option Report) : Type 0 where
   pub bytes : List ℕ
   pub is : output ≡ record { bytes = bytes; fault = fault }
   pub counted : count ≡ min (length bytes) (2 ^ 64 - 1)

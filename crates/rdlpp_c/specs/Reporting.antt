@@ -1,7 +1,7 @@
 -- What is told of what an output leaves: its definitions, and notes on its fault.
 -- A definition that names no source is this project's own.
 use Rattle.std.specs.Prelude.{◌≡◌, ℕ, ◌⊎◌, List, Option, None, Some}
-use Rattle.rdlpp_meaning.specs.Outcome.{Told}
+use Rattle.rdlpp_meaning.specs.Outcome.{Report}
 use Rattle.rdlpp_reports.specs.Definitions.{definition_lines}
 use Rattle.rdlpp_c.specs.Streaming.{stream_fault}
 use Rattle.rdlpp_c.specs.Telling.{TellsText}
@@ -25,7 +25,7 @@ TellsDefinitions None held old new len = (held ≡ None) × IsSilent old new len
 TellsDefinitions (Some s) held old new len = (held ≡ Some s) × TellsOrNot (definition_lines s.reading.engine.table.macros) old new len
 
 -- lines are told where a fault ended the output, and else nothing
-abbrev pub Notes : Option Told → List ℕ → List ℕ → ℕ → Type 0
+abbrev pub Notes : Option Report → List ℕ → List ℕ → ℕ → Type 0
 Notes None old new len = IsSilent old new len
 Notes (Some f) old new len = TellsSome old new len
 

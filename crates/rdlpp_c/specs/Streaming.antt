@@ -11,7 +11,7 @@ use Rattle.rdlpp_source.specs.declared.asked.AskedTexts.{AskedTexts}
 use Rattle.rdlpp_table.specs.Limits.{limit_fault}
 use Rattle.rdlpp_meaning.specs.FaultNumbers.{fault_number}
 use Rattle.rdlpp_meaning.specs.declared.fault.FaultKind.{FaultKind}
-use Rattle.rdlpp_meaning.specs.Outcome.{Told, told, Outcome, fails}
+use Rattle.rdlpp_meaning.specs.Outcome.{Report, report_of, Outcome, fails}
 use Rattle.rdlpp_state.specs.Opening.{is_device_fault, is_memory_fault}
 use Rattle.rdlpp_state.specs.Engine.{EngineView}
 use Rattle.rdlpp_state.specs.Searches.{Retries, StartsAgain, is_failed_start}
@@ -96,7 +96,7 @@ pub record StreamsOutput (a : Asked) (stream : Stream) : Type 0 where
 abbrev pub OpensStream : Asked → Result Stream Answer → Type 0
 OpensStream a (Ok stream) = StreamsOutput a stream
 OpensStream a (Err (Whole count)) = ⊥
-OpensStream a (Err (Stopped run)) = IsStreamed a (fails (told run.fault)) × (run.written ≡ 0)
+OpensStream a (Err (Stopped run)) = IsStreamed a (fails (report_of run.fault)) × (run.written ≡ 0)
 OpensStream a (Err (BadLimit limit)) = limit_fault a.limits ≡ Some limit
 OpensStream a (Err BadText) = (limit_fault a.limits ≡ None) × ¬ (AreUtf8 a)
 OpensStream a (Err NoMemory) = limit_fault a.limits ≡ None
@@ -146,17 +146,17 @@ read_status (Some Finished) = 0
 read_status (Some StoppedRead) = 0
 
 -- the numbers that tell a read of so many bytes
-abbrev pub read_numbers : ℕ → Option ReadEnd → Option Told → Numbers
+abbrev pub read_numbers : ℕ → Option ReadEnd → Option Report → Numbers
 read_numbers len ending None = record { status = read_status ending; number = 0; line = 0; length = len; name_length = 0; word_length = 0 }
 read_numbers len ending (Some f) = record { status = 1; number = fault_number f.kind; line = f.line; length = len; name_length = length f.name; word_length = length f.word }
 
 -- the shown name of a fault; none where there is none
-abbrev pub fault_name : Option Told → List ℕ
+abbrev pub fault_name : Option Report → List ℕ
 fault_name None = []
 fault_name (Some f) = f.name
 
 -- the word of a fault; none where there is none
-abbrev pub fault_word : Option Told → List ℕ
+abbrev pub fault_word : Option Report → List ℕ
 fault_word None = []
 fault_word (Some f) = f.word
 
@@ -170,7 +170,7 @@ pub record ReadBuffers : Type 0 where
 pub record SearchesAgain (old new : Stream) : Type 0 where
   pub retried : EngineView AskedTexts (List ℕ)
   pub retries : Retries owned_sources old.reading.engine retried
-  pub opening : Option Told
+  pub opening : Option Report
   pub starts : StartsAgain owned_sources retried new.reading.engine (string_bytes old.path) opening
   pub rest : new.reading.rest ≡ (if is_failed_start retried then [] else old.reading.rest)
   pub only : new ≡ record old { reading = new.reading }
@@ -211,27 +211,27 @@ abbrev pub wanted_by : FaultKind → AskedTexts → Option (List ℕ)
 wanted_by kind sources = if is_read_failed kind then wanted_of sources else None
 
 -- the path that is asked for, by the fault that a read ended with
-abbrev pub read_wanted : Option Told → AskedTexts → Option (List ℕ)
+abbrev pub read_wanted : Option Report → AskedTexts → Option (List ℕ)
 read_wanted None sources = None
 read_wanted (Some f) sources = wanted_by f.kind sources
 
 -- the numbers that tell a read, by its fault and by the path that is asked for: 7 where one is
-abbrev pub told_numbers : ℕ → Option ReadEnd → Option Told → Option (List ℕ) → Numbers
+abbrev pub told_numbers : ℕ → Option ReadEnd → Option Report → Option (List ℕ) → Numbers
 told_numbers len ending fault None = read_numbers len ending fault
 told_numbers len ending fault (Some path) = record { status = 7; number = 0; line = 0; length = len; name_length = length path; word_length = 0 }
 
 -- what is told in the buffer for the shown name: the path that is asked for, where one is
-abbrev pub told_name : Option Told → Option (List ℕ) → List ℕ
+abbrev pub told_name : Option Report → Option (List ℕ) → List ℕ
 told_name fault None = fault_name fault
 told_name fault (Some path) = path
 
 -- what is told in the buffer for the word
-abbrev pub told_word : Option Told → Option (List ℕ) → List ℕ
+abbrev pub told_word : Option Report → Option (List ℕ) → List ℕ
 told_word fault None = fault_word fault
 told_word fault (Some path) = []
 
 -- how a read is told that ended with a fault, if it did, and asks for a path, if it does
-pub record TellsRead (len : ℕ) (ending : Option ReadEnd) (fault : Option Told) (wanted : Option (List ℕ)) (old new : FaultBuffers) (outcome : Numbers) : Type 0 where
+pub record TellsRead (len : ℕ) (ending : Option ReadEnd) (fault : Option Report) (wanted : Option (List ℕ)) (old new : FaultBuffers) (outcome : Numbers) : Type 0 where
   pub numbers : outcome ≡ told_numbers len ending fault wanted
   pub name : new.name ≡ overwritten (told_name fault wanted) old.name
   pub word : new.word ≡ overwritten (told_word fault wanted) old.word
@@ -264,9 +264,9 @@ ReadsQuietly None held outcome = held ≡ None
 ReadsQuietly (Some before) held outcome = IsQuiet before.reading.engine → (after : Stream) × (held ≡ Some after) × StaysQuiet after outcome
 
 -- the fault that ended the output of a stream, if one did: none where a source is asked for
-abbrev pub fault_or : Option Told → Option (List ℕ) → Option Told
+abbrev pub fault_or : Option Report → Option (List ℕ) → Option Report
 fault_or kept None = kept
 fault_or kept (Some path) = None
 
-abbrev pub stream_fault : Stream → Option Told
+abbrev pub stream_fault : Stream → Option Report
 stream_fault s = fault_or s.reading.engine.kept (read_wanted s.reading.engine.kept s.reading.engine.sources)

@@ -2,7 +2,7 @@
 ghost use Rattle.std.specs.Prelude.{◌≡◌, ◌≤◌, ◌==◌, None, Some, length};
 ghost use Rattle.std.specs.List.{count_by};
 ghost use Rattle.std.specs.Option.{option_map};
-ghost use Rattle.rdlpp_meaning.specs.Outcome.{told};
+ghost use Rattle.rdlpp_meaning.specs.Outcome.{report_of};
 ghost use Rattle.rdlpp_source.specs.Asked.{wanted_of};
 ghost use Rattle.rdlpp_state.specs.Marks.{told_position};
 ghost use Rattle.rdlpp_state.specs.Positions.{position_of};
@@ -138,7 +138,7 @@ impl Stream {
     }
 
     // The path that is asked for, where a read ended with a search that asked.
-    #[tactic(auto, unfolding(rdlpp_meaning::specs::Outcome::told))]
+    #[tactic(auto, unfolding(rdlpp_meaning::specs::Outcome::report_of))]
     pub(crate) fn wanted(&self, ending: Option<ReadEnd>) -> Option<ArrayString<1024>>
         ensures { option_map (λ path. path.bytes) result ≡ read_wanted (ended_with ending self.now.reading.engine.kept) self.now.reading.engine.sources }
     {
@@ -150,7 +150,7 @@ impl Stream {
 
     // The fault that ended the output, if one did: none where a source is asked for.
     pub(crate) fn fault(&self) -> Option<Fault>
-        ensures { option_map told result ≡ stream_fault self.now }
+        ensures { option_map report_of result ≡ stream_fault self.now }
     {
         match self.wanted(Some(ReadEnd::Stopped)) {
             Some(_) => None,
@@ -195,7 +195,7 @@ pub(crate) fn ended_fault<S: Sources>(
     reading: &Reading<S>,
     ending: Option<ReadEnd>,
 ) -> Option<Fault>
-    ensures { option_map told result ≡ ended_with ending reading.now.engine.kept }
+    ensures { option_map report_of result ≡ ended_with ending reading.now.engine.kept }
 {
     match ending {
         Some(ReadEnd::Stopped) => reading.fault(),
@@ -205,9 +205,9 @@ pub(crate) fn ended_fault<S: Sources>(
 }
 
 // The numbers of a read.
-#[tactic(auto, unfolding(rdlpp_meaning::specs::Outcome::told))]
+#[tactic(auto, unfolding(rdlpp_meaning::specs::Outcome::report_of))]
 fn read_outcome(part: &ReadPart, fault: &Option<Fault>) -> Outcome
-    ensures { result ≡ read_numbers part.now.len part.now.ending (option_map told fault.now) }
+    ensures { result ≡ read_numbers part.now.len part.now.ending (option_map report_of fault.now) }
 {
     match fault {
         Some(fault) => Outcome {
@@ -230,10 +230,10 @@ fn read_outcome(part: &ReadPart, fault: &Option<Fault>) -> Outcome
 }
 
 // Writes the shown name and the word of a fault, where there is one.
-#[tactic(auto, unfolding(rdlpp_meaning::specs::Outcome::told))]
+#[tactic(auto, unfolding(rdlpp_meaning::specs::Outcome::report_of))]
 fn tell_read(fault: &Option<Fault>, name: &mut [u8], word: &mut [u8])
-    ensures name { name.new ≡ overwritten (fault_name (option_map told fault.now)) name.old }
-    ensures word { word.new ≡ overwritten (fault_word (option_map told fault.now)) word.old }
+    ensures name { name.new ≡ overwritten (fault_name (option_map report_of fault.now)) name.old }
+    ensures word { word.new ≡ overwritten (fault_word (option_map report_of fault.now)) word.old }
 {
     if let Some(fault) = fault {
         let _name_len = tell_text(fault.name.as_bytes(), name);

@@ -10,7 +10,7 @@ use Rattle.rdlpp_scan.specs.Tokens.{token_of}
 use Rattle.rdlpp_scan.specs.declared.token.Mode.TheVariants.{Plain}
 use Rattle.rdlpp_table.specs.View.{TableView}
 use Rattle.rdlpp_table.specs.declared.limits.Limits.{Limits}
-use Rattle.rdlpp_meaning.specs.Outcome.{Told, and_then, fails, gives, told}
+use Rattle.rdlpp_meaning.specs.Outcome.{Report, and_then, fails, gives, report_of}
 use Rattle.rdlpp_meaning.specs.declared.fault.Fault.{Fault}
 use Rattle.rdlpp_meaning.proofs.Outcomes.{and_then-gives, and_then-gives_gives, and_then-gives_nil, bytes-and_then_gives}
 use Rattle.rdlpp_source.specs.declared.sources.Sources.{Ghosts}
@@ -73,8 +73,8 @@ lent_more g old mid new xs ys (Some Finished) l t =
 lent_more {S} {R} g old mid new xs ys (Some Stopped) l stop =
     let s : Steps g mid new (Err stop.fault) = stop.steps in
     let was = going_reads g old.kept _ _ l.reads in
-    let P : Option Told → Option Told → Type 0 = λ k f. SourcesCalled g (is_fresh is_read_failed k f) (is_fresh is_memory_kind k f) mid.sources new.sources in
-    let reads : P old.kept new.kept = subst (λ (f : Option Told). P old.kept f) (sym s.keeps) (subst (λ (k : Option Told). P k (Some stop.fault)) l.ends.kept (err_reads g mid new stop.fault s)) in
+    let P : Option Report → Option Report → Type 0 = λ k f. SourcesCalled g (is_fresh is_read_failed k f) (is_fresh is_memory_kind k f) mid.sources new.sources in
+    let reads : P old.kept new.kept = subst (λ (f : Option Report). P old.kept f) (sym s.keeps) (subst (λ (k : Option Report). P k (Some stop.fault)) l.ends.kept (err_reads g mid new stop.fault s)) in
     record {
       reads = called_after g false _ false _ _ _ _ refl refl was reads;
       limits = s.limits ∙ l.limits;
@@ -330,7 +330,7 @@ first_holds true false c h = absurd (false≢true h)
 first_holds false b c h = absurd (false≢true h)
 
 -- a search is one that is made again
-search_again : {S R : Type 0} (e : EngineView S R) (f : Told) → e.kept ≡ Some f → is_call_failed f.kind ≡ true → e.phase ≡ Open → IsSearch e → is_failed_search e ≡ true
+search_again : {S R : Type 0} (e : EngineView S R) (f : Report) → e.kept ≡ Some f → is_call_failed f.kind ≡ true → e.phase ≡ Open → IsSearch e → is_failed_search e ≡ true
 unfolding is_failed_search is_failed_call may_follow
 search_again e f kept failed open_ search =
     all_hold (is_failed_call e.kept) (may_follow e.phase) (begins_include (held_of (inner_buffer e.files.include_stack)))
@@ -348,14 +348,14 @@ unfolding text_of state_of
 kept_text g e = refl
 
 -- what remained before a search that failed remains
-searched_rest : {S R : Type 0} (g : Ghosts S R) (before old : EngineView S R) (f : Told) → is_failed_search old ≡ true → before.kept ≡ None → Steps g before old (Err f)
+searched_rest : {S R : Type 0} (g : Ghosts S R) (before old : EngineView S R) (f : Report) → is_failed_search old ≡ true → before.kept ≡ None → Steps g before old (Err f)
     → g.tells before.sources → (text_of g before ≡ text_of g (record old { kept = None })) × (left_of g before ≡ left_of g (record old { kept = None }))
 unfolding is_failed_search is_failed_call is_call_failed is_read_failed has_met
 searched_rest {S} {R} g before old f failed free s t =
     let both = first_holds (is_failed_call old.kept) (may_follow old.phase) (begins_include (held_of (inner_buffer old.files.include_stack))) failed in
     let keeps : old.kept ≡ Some f = s.keeps in
     let kind : is_call_failed f.kind ≡ true = sym (ap is_failed_call keeps) ∙ both.0 in
-    let met : has_stopped before.kept (Err f) ≡ true = ap (λ (k : Option Told). has_stopped k (Err f)) free ∙ kind in
+    let met : has_stopped before.kept (Err f) ≡ true = ap (λ (k : Option Report). has_stopped k (Err f)) free ∙ kind in
     let reads : StopsReading g before old = s.reads met in
     let same : reads.at ≡ old = stood_itself g reads.at old both.1 reads.stood in (
       reads.text t ∙ ap (λ (e : EngineView S R). text_of g e) same ∙ kept_text g old,
@@ -403,12 +403,12 @@ first_test true b x p q = absurd (false≢true (sym q ∙ p))
 first_test false b x p q = q
 
 -- a fault that is kept, by what is told of it
-pub failed_by : (f : Fault) (k : Option Told) → k ≡ Some (told f) → is_call_failed f.kind ≡ is_failed_call k
-unfolding told is_failed_call
+pub failed_by : (f : Fault) (k : Option Report) → k ≡ Some (report_of f) → is_call_failed f.kind ≡ is_failed_call k
+unfolding report_of is_failed_call
 failed_by f k e = sym (ap is_failed_call e)
 
 -- none is kept
-pub failed_none : (k : Option Told) → k ≡ None → false ≡ is_failed_call k
+pub failed_none : (k : Option Report) → k ≡ None → false ≡ is_failed_call k
 unfolding is_failed_call
 failed_none k e = sym (ap is_failed_call e)
 
@@ -461,7 +461,7 @@ over_shut OverLimit over = absurd (false≢true over)
 over_shut Closed over = refl
 
 -- a start that is made again, by what it does
-pub starts_again : {S R : Type 0} (g : Ghosts S R) (old new : EngineView S R) (path : List ℕ) (answer : Option Told) → is_failed_start old ≡ true
+pub starts_again : {S R : Type 0} (g : Ghosts S R) (old new : EngineView S R) (path : List ℕ) (answer : Option Report) → is_failed_start old ≡ true
     → AreOpenTexts old.limits old.phase old.table.macros old.expansion → Starts g (record old { phase = Fresh; kept = None }) new path answer → StartsAgain g old new path answer
 starts_again g old new path answer failed texts starts =
     let idle = texts.closed (over_shut old.phase (failed_over old failed)) in
@@ -475,7 +475,7 @@ starts_again g old new path answer failed texts starts =
     }
 
 -- and one that isn't
-pub starts_never : {S R : Type 0} (g : Ghosts S R) (e : EngineView S R) (path : List ℕ) (answer : Option Told) → is_failed_start e ≡ false → answer ≡ e.kept → StartsAgain g e e path answer
+pub starts_never : {S R : Type 0} (g : Ghosts S R) (e : EngineView S R) (path : List ℕ) (answer : Option Report) → is_failed_start e ≡ false → answer ≡ e.kept → StartsAgain g e e path answer
 starts_never g e path answer isnt kept = record {
   again = λ yes. absurd (false≢true (sym isnt ∙ yes));
   same = λ _. (refl, kept);

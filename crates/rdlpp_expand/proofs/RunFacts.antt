@@ -2,7 +2,7 @@
 use Rattle.std.proofs.Common.{◌≡◌, ◌≢◌, ℕ, ◌+◌, ◌-◌, ◌^◌, ◌≤◌, ◌==◌, min, Bool, true, false, ◌&&◌, ◌||◌, not, List, [], ◌++◌, length, take, drop, Option, None, Some, Result, Ok, Err, IfSome, refl, sym, ap, subst, ◌∙◌, append_assoc, append-nil, length-append, ne_eqb, arith, inl, inr, if◌then◌else◌, length-take-le, take-append-drop, take_all}
 use Rattle.std.specs.Io.KnownBytes.{Appends, Keeps}
 use Rattle.rdlpp_meaning.specs.Meaning.{outcome}
-use Rattle.rdlpp_meaning.specs.Outcome.{Outcome, Told, and_then, fails, gives}
+use Rattle.rdlpp_meaning.specs.Outcome.{Outcome, Report, and_then, fails, gives}
 use Rattle.rdlpp_meaning.specs.OutputLimit.{limited}
 use Rattle.rdlpp_meaning.specs.declared.fault.FaultKind.{FaultKind}
 use Rattle.rdlpp_meaning.proofs.Outcomes.{and_then-gives, and_then-gives_gives, and_then-gives_nil, bytes-and_then_gives}
@@ -65,13 +65,13 @@ pub counted_more : (n a k b m : ℕ) → n ≡ min a (2 ^ 64 - 1) → k ≡ b �
 counted_more n a k b m p q r = grind arith
 
 -- whether a fault was met in a call, in both words
-pub err_met : (test : FaultKind → Bool) (kept : Option Told) (f : Told) → has_met test kept (Err f) ≡ is_fresh test kept (Some f)
+pub err_met : (test : FaultKind → Bool) (kept : Option Report) (f : Report) → has_met test kept (Err f) ≡ is_fresh test kept (Some f)
 unfolding has_met is_fresh
 err_met test None f = refl
 err_met test (Some k) f = refl
 
 -- no fault is no fresh fault
-pub none_fresh : (test : FaultKind → Bool) (kept : Option Told) → is_fresh test kept None ≡ false
+pub none_fresh : (test : FaultKind → Bool) (kept : Option Report) → is_fresh test kept None ≡ false
 unfolding is_fresh
 none_fresh test None = refl
 none_fresh test (Some k) = refl
@@ -81,7 +81,7 @@ pub ok_reads : {S R : Type 0} (g : Ghosts S R) (old new : EngineView S R) (lent 
 ok_reads g old new lent s = rw (ok_not_met is_read_failed old.kept lent, ok_not_met is_memory_kind old.kept lent) at s.call
 
 -- a step's call, by the fault that it answers
-pub err_reads : {S R : Type 0} (g : Ghosts S R) (old new : EngineView S R) (f : Told) → Steps g old new (Err f)
+pub err_reads : {S R : Type 0} (g : Ghosts S R) (old new : EngineView S R) (f : Report) → Steps g old new (Err f)
     → SourcesCalled g (is_fresh is_read_failed old.kept (Some f)) (is_fresh is_memory_kind old.kept (Some f)) old.sources new.sources
 err_reads g old new f s = rw (err_met is_read_failed old.kept f, err_met is_memory_kind old.kept f) at s.call
 
@@ -90,7 +90,7 @@ pub ok_tells : {S R : Type 0} (g : Ghosts S R) (old new : EngineView S R) (lent 
 ok_tells g old new lent s told = s.tells (ok_not_met is_call_failed old.kept lent) told
 
 -- a fault that wasn't kept isn't that of a write
-pub own_of : {S R : Type 0} (g : Ghosts S R) (old new : EngineView S R) (f : Told) (kept : Option Told) → old.kept ≡ kept → Steps g old new (Err f) → is_fresh is_write_failed kept (Some f) ≡ false
+pub own_of : {S R : Type 0} (g : Ghosts S R) (old new : EngineView S R) (f : Report) (kept : Option Report) → old.kept ≡ kept → Steps g old new (Err f) → is_fresh is_write_failed kept (Some f) ≡ false
 unfolding is_fresh
 own_of g old new f None e s = s.own e
 own_of g old new f (Some k) e s = refl
@@ -104,12 +104,12 @@ pub begins_of : (xs : List ℕ) (o p : Outcome) → p ≡ and_then (gives xs) o 
 begins_of xs o p e = let P : Outcome → Type 0 = λ q. Begins xs q in subst P (sym e) (begins_behind xs o)
 
 -- a call in which nothing failed, where no fault was answered
-pub none_reads : {S R : Type 0} (g : Ghosts S R) (kept : Option Told) (old new : S) → SourcesCalled g false false old new
+pub none_reads : {S R : Type 0} (g : Ghosts S R) (kept : Option Report) (old new : S) → SourcesCalled g false false old new
     → SourcesCalled g (is_fresh is_read_failed kept None) (is_fresh is_memory_kind kept None) old new
 none_reads g kept old new r = rw (none_fresh is_read_failed kept, none_fresh is_memory_kind kept) r
 
 -- so far nothing failed
-pub going_reads : {S R : Type 0} (g : Ghosts S R) (kept : Option Told) (old new : S)
+pub going_reads : {S R : Type 0} (g : Ghosts S R) (kept : Option Report) (old new : S)
     → SourcesCalled g (is_fresh is_read_failed kept None) (is_fresh is_memory_kind kept None) old new → SourcesCalled g false false old new
 going_reads g kept old new r = rw (none_fresh is_read_failed kept, none_fresh is_memory_kind kept) at r
 
@@ -159,7 +159,7 @@ unfolding left_of uncut_of kept_uncut phase_uncut text_of state_of
 left_but g e open_ = rw open_ refl
 
 -- where a read failed, no fault was kept
-met_free : (test : FaultKind → Bool) (kept : Option Told) (f : Told) → has_met test kept (Err f) ≡ true → kept ≡ None
+met_free : (test : FaultKind → Bool) (kept : Option Report) (f : Report) → has_met test kept (Err f) ≡ true → kept ≡ None
 unfolding has_met
 met_free test None f met = refl
 met_free test (Some k) f met = cc met
@@ -175,7 +175,7 @@ alike g at new (Itself same) = record { main = sym (ap (λ e. e.main) same); quo
 alike g at new (BeforeCall c unheld) = record { main = ap (λ e. e.main) c.becomes; quota = ap (λ e. e.quota) c.becomes; phase = ap (λ e. e.phase) c.becomes }
 
 -- where a read failed, what remains but for the fault is what remained
-pub failed_rest : {S R : Type 0} (g : Ghosts S R) (mid new : EngineView S R) (f : Told) → Steps g mid new (Err f) → has_met is_call_failed mid.kept (Err f) ≡ true → (reads : StopsReading g mid new) → g.tells mid.sources
+pub failed_rest : {S R : Type 0} (g : Ghosts S R) (mid new : EngineView S R) (f : Report) → Steps g mid new (Err f) → has_met is_call_failed mid.kept (Err f) ≡ true → (reads : StopsReading g mid new) → g.tells mid.sources
     → left_of g mid ≡ left_of g (record reads.at { kept = None })
 unfolding left_of lent_len
 failed_rest g mid new f s met reads t =
@@ -231,11 +231,11 @@ stops g old mid new xs ys told w stop =
     let same : xs ≡ xs ++ ys = sym (ap (λ (zs : List ℕ). xs ++ zs) stop.none ∙ append-nil xs) in
     let own : is_fresh is_write_failed mid.kept (Some f) ≡ false = own_of g mid new f mid.kept refl s in
     let met : (test : FaultKind → Bool) → has_met test mid.kept (Err f) ≡ is_fresh test old.kept (Some f) =
-    λ test. err_met test mid.kept f ∙ ap (λ (k : Option Told). is_fresh test k (Some f)) w.kept in
+    λ test. err_met test mid.kept f ∙ ap (λ (k : Option Report). is_fresh test k (Some f)) w.kept in
     record {
       fault = f;
       kept = s.keeps;
-      own = ap (λ (k : Option Told). is_fresh is_write_failed k (Some f)) (sym w.kept) ∙ own;
+      own = ap (λ (k : Option Report). is_fresh is_write_failed k (Some f)) (sym w.kept) ∙ own;
       failed = λ fresh. s.failed (met is_call_failed ∙ fresh);
       rest = λ fresh.
           let reads = s.reads (met is_call_failed ∙ fresh) in
@@ -287,8 +287,8 @@ wrote_more g h old mid new before between after n len (Some Stopped) w p =
     let stop : StopsAt g mid new p.bytes = p.ends in
     let s = stop.steps in
     let was = going_reads g old.kept _ _ w.reads in
-    let P : Option Told → Option Told → Type 0 = λ k f. SourcesCalled g (is_fresh is_read_failed k f) (is_fresh is_memory_kind k f) mid.sources new.sources in
-    let reads : P old.kept new.kept = subst (λ (f : Option Told). P old.kept f) (sym s.keeps) (subst (λ (k : Option Told). P k (Some stop.fault)) w.ends.kept (err_reads g mid new stop.fault s)) in
+    let P : Option Report → Option Report → Type 0 = λ k f. SourcesCalled g (is_fresh is_read_failed k f) (is_fresh is_memory_kind k f) mid.sources new.sources in
+    let reads : P old.kept new.kept = subst (λ (f : Option Report). P old.kept f) (sym s.keeps) (subst (λ (k : Option Report). P k (Some stop.fault)) w.ends.kept (err_reads g mid new stop.fault s)) in
     wrote_with g h old mid new before between after n len (Some Stopped) w p
     (called_after g false _ false _ _ _ _ refl refl was reads)
     s.limits s.origins s.main s.most_bytes s.most_macros s.started (stops g old mid new w.bytes p.bytes was.tells w.ends stop)
@@ -356,7 +356,7 @@ pub pulled_silent : {S R W : Type 0} (g : Ghosts S R) (h : SinkGhosts W) (old ne
 pulled_silent g h old new w s = record { bytes = []; taken = appends_none (h.taken w); count = refl; writes = refl; quiet = quiet_same h w; ends = s }
 
 -- a pull that came to a fault
-pub pulled_fault : {S R W : Type 0} (g : Ghosts S R) (h : SinkGhosts W) (old new : EngineView S R) (w : W) (f : Told) → Steps g old new (Err f) → Pulls g h old new w w 0 (Some Stopped)
+pub pulled_fault : {S R W : Type 0} (g : Ghosts S R) (h : SinkGhosts W) (old new : EngineView S R) (w : W) (f : Report) → Steps g old new (Err f) → Pulls g h old new w w 0 (Some Stopped)
 pulled_fault g h old new w f s = record {
   bytes = [];
   taken = appends_none (h.taken w);
@@ -375,8 +375,8 @@ wrote_at g h old new before after n m e f w p q =
     subst Q (sym q) (subst P (sym p) w)
 
 -- a step, by an answer that is the same
-pub answer_step : {S R : Type 0} (g : Ghosts S R) (old new : EngineView S R) (a b : Result (Option (List ℕ)) Told) → Steps g old new a → b ≡ a → Steps g old new b
-answer_step g old new a b s e = subst (λ (x : Result (Option (List ℕ)) Told). Steps g old new x) (sym e) s
+pub answer_step : {S R : Type 0} (g : Ghosts S R) (old new : EngineView S R) (a b : Result (Option (List ℕ)) Report) → Steps g old new a → b ≡ a → Steps g old new b
+answer_step g old new a b s e = subst (λ (x : Result (Option (List ℕ)) Report). Steps g old new x) (sym e) s
 
 -- a count, by what its test came to
 pub counts_as : (b c : Bool) (old new : ℕ) → b ≡ c → Counts b old new → Counts c old new
@@ -393,32 +393,32 @@ unfolding gives
 gives_whole xs o e = e
 
 -- bytes and a fault behind them
-pub fails_whole : (xs : List ℕ) (f : Told) (o : Outcome) → o ≡ and_then (gives xs) (fails f) → o ≡ record { bytes = xs; fault = Some f }
+pub fails_whole : (xs : List ℕ) (f : Report) (o : Outcome) → o ≡ and_then (gives xs) (fails f) → o ≡ record { bytes = xs; fault = Some f }
 unfolding gives fails and_then
 fails_whole xs f o e = e ∙ ap (λ (ys : List ℕ). record { bytes = ys; fault = Some f }) (append-nil xs)
 
 -- the fault of a write is fresh where none was kept
-pub write_fresh : (kept : Option Told) (name : List ℕ) (f : Told) → kept ≡ None → f ≡ write_fault name → is_fresh is_write_failed kept (Some f) ≡ true
+pub write_fresh : (kept : Option Report) (name : List ℕ) (f : Report) → kept ≡ None → f ≡ write_fault name → is_fresh is_write_failed kept (Some f) ≡ true
 unfolding is_fresh write_fault is_write_failed
-write_fresh None name f e p = ap (λ (x : Told). is_write_failed x.kind) p
+write_fresh None name f e p = ap (λ (x : Report). is_write_failed x.kind) p
 write_fresh (Some k) name f e p = cc e
 
 -- the fault of a write is no read that failed
-pub write_no_read : (kept : Option Told) (name : List ℕ) (f : Told) → f ≡ write_fault name → is_fresh is_read_failed kept (Some f) ≡ false
+pub write_no_read : (kept : Option Report) (name : List ℕ) (f : Report) → f ≡ write_fault name → is_fresh is_read_failed kept (Some f) ≡ false
 unfolding is_fresh write_fault is_read_failed
-write_no_read None name f p = ap (λ (x : Told). is_read_failed x.kind) p
+write_no_read None name f p = ap (λ (x : Report). is_read_failed x.kind) p
 write_no_read (Some k) name f p = refl
 
 -- nor is it memory that was refused
-pub write_no_memory : (kept : Option Told) (name : List ℕ) (f : Told) → f ≡ write_fault name → is_fresh is_memory_kind kept (Some f) ≡ false
+pub write_no_memory : (kept : Option Report) (name : List ℕ) (f : Report) → f ≡ write_fault name → is_fresh is_memory_kind kept (Some f) ≡ false
 unfolding is_fresh write_fault is_memory_kind
-write_no_memory None name f p = ap (λ (x : Told). is_memory_kind x.kind) p
+write_no_memory None name f p = ap (λ (x : Report). is_memory_kind x.kind) p
 write_no_memory (Some k) name f p = refl
 
 -- so it is no call that failed
-pub write_no_call : (kept : Option Told) (name : List ℕ) (f : Told) → f ≡ write_fault name → is_fresh is_call_failed kept (Some f) ≡ false
+pub write_no_call : (kept : Option Report) (name : List ℕ) (f : Report) → f ≡ write_fault name → is_fresh is_call_failed kept (Some f) ≡ false
 unfolding is_fresh write_fault is_call_failed is_read_failed is_memory_kind
-write_no_call None name f p = ap (λ (x : Told). is_call_failed x.kind) p
+write_no_call None name f p = ap (λ (x : Report). is_call_failed x.kind) p
 write_no_call (Some k) name f p = refl
 
 -- and none of a device or of memory
@@ -432,21 +432,21 @@ or_false true = refl
 or_false false = refl
 
 -- the bound doesn't speak of the fault that is kept
-pub bounded_kept : {S R : Type 0} (e : EngineView S R) (kept : Option Told) → IsBounded e → IsBounded (record e { kept = kept })
+pub bounded_kept : {S R : Type 0} (e : EngineView S R) (kept : Option Report) → IsBounded e → IsBounded (record e { kept = kept })
 unfolding stores_of
 bounded_kept e kept b = record { bytes = b.bytes; windows = b.windows; cursors = b.cursors; bindings = b.bindings; conditions = b.conditions; sources = b.sources; texts = b.texts }
 
 -- the kept fault is no write that failed, where none is kept
-none_kept : (test : FaultKind → Bool) (kept : Option Told) → kept ≡ None → is_kept test kept ≡ false
+none_kept : (test : FaultKind → Bool) (kept : Option Report) → kept ≡ None → is_kept test kept ≡ false
 unfolding is_kept
 none_kept test None e = refl
 none_kept test (Some f) e = cc e
 
 -- a fault that came now isn't that of a write, and the one that was kept is: then it was kept
-kept_before : (test : FaultKind → Bool) (kept : Option Told) (f : Told) (b : Bool) → is_fresh test kept (Some f) ≡ false → ((k : Told) → kept ≡ Some k → k ≡ f) → test f.kind ≡ b → is_kept test kept ≡ b
+kept_before : (test : FaultKind → Bool) (kept : Option Report) (f : Report) (b : Bool) → is_fresh test kept (Some f) ≡ false → ((k : Report) → kept ≡ Some k → k ≡ f) → test f.kind ≡ b → is_kept test kept ≡ b
 unfolding is_kept is_fresh
 kept_before test None f b fresh same is = sym fresh ∙ is
-kept_before test (Some k) f b fresh same is = ap (λ (t : Told). test t.kind) (same k refl) ∙ is
+kept_before test (Some k) f b fresh same is = ap (λ (t : Report). test t.kind) (same k refl) ∙ is
 
 -- the output was written whole, and so was the flush
 pub runs_whole : {S R W : Type 0} (g : Ghosts S R) (h : SinkGhosts W) (old new : EngineView S R) (before between after : W) (n : ℕ)
@@ -496,7 +496,7 @@ module _ {S R W : Type 0} (g : Ghosts S R) (h : SinkGhosts W) (old new : EngineV
   stopped_reads = w.reads
 
   -- a fault of the engine, and what was asked of the sink behind it
-  runs_ended : (asked unflushed : Bool) (fault : Option Told) → fault ≡ new.kept → Keeps (h.taken between) (h.taken after) → h.failed_writes after ≡ h.failed_writes between
+  runs_ended : (asked unflushed : Bool) (fault : Option Report) → fault ≡ new.kept → Keeps (h.taken between) (h.taken after) → h.failed_writes after ≡ h.failed_writes between
       → Counts unflushed (h.failed_flushes between) (h.failed_flushes after) → Counts asked (h.flushes between) (h.flushes after)
       → (unflushed ≡ true → asked ≡ true) → asked ≡ not (is_kept is_write_failed old.kept) → (unflushed ≡ true → is_write_failed w.ends.fault.kind ≡ false)
       → Runs g h old new before after n fault
@@ -513,9 +513,9 @@ module _ {S R W : Type 0} (g : Ghosts S R) (h : SinkGhosts W) (old new : EngineV
         taken = appends_kept _ _ _ w.bytes w.taken keeps;
         counted = w.counted;
         begins = w.ends.begins;
-        exact = λ r x t. fails_whole w.bytes f _ (w.ends.tells (sym (same is_call_failed) ∙ r) t) ∙ ap (λ (k : Option Told). record { bytes = w.bytes; fault = k }) (sym told);
+        exact = λ r x t. fails_whole w.bytes f _ (w.ends.tells (sym (same is_call_failed) ∙ r) t) ∙ ap (λ (k : Option Report). record { bytes = w.bytes; fault = k }) (sym told);
         reads = rw is stopped_reads;
-        failed = λ e. subst (λ (k : Option Told). IfSome k (FailsAt new)) (sym told) (w.ends.failed (sym (same is_call_failed) ∙ e));
+        failed = λ e. subst (λ (k : Option Report). IfSome k (FailsAt new)) (sym told) (w.ends.failed (sym (same is_call_failed) ∙ e));
         rest = λ e. w.ends.rest (sym (same is_call_failed) ∙ e);
         writes = writes ∙ w.writes;
         failed_flushes = counts_after unflushed _ _ _ w.quiet.failed_flushes failed;
@@ -542,15 +542,15 @@ module _ {S R W : Type 0} (g : Ghosts S R) (h : SinkGhosts W) (old new : EngineV
       }
 
   -- a fault came before the flush
-  pub runs_stopped : (failed : Bool) (fault : Option Told) (test : Bool) → fault ≡ new.kept → Flushes h failed between after
-      → ((f : Told) → new.kept ≡ Some f → test ≡ is_write_failed f.kind) → test ≡ false → Runs g h old new before after n fault
+  pub runs_stopped : (failed : Bool) (fault : Option Report) (test : Bool) → fault ≡ new.kept → Flushes h failed between after
+      → ((f : Report) → new.kept ≡ Some f → test ≡ is_write_failed f.kind) → test ≡ false → Runs g h old new before after n fault
   runs_stopped failed fault test is flush tests is_not =
       let other : is_write_failed w.ends.fault.kind ≡ false = sym (tests w.ends.fault w.ends.kept) ∙ is_not in
       runs_ended true failed fault is flush.bytes flush.writes flush.failures flush.asked (λ e. refl)
       (ap not (sym (kept_before is_write_failed old.kept w.ends.fault false w.ends.own (λ k e. (w.ends.again k e).0) other))) (λ e. other)
 
 -- a write or the flush failed, and no fault came before
-pub runs_unwritten : {S R W : Type 0} (g : Ghosts S R) (h : SinkGhosts W) (old mid new : EngineView S R) (before between after : W) (n : ℕ) (fault : Option Told) (ending : Option Ending)
+pub runs_unwritten : {S R W : Type 0} (g : Ghosts S R) (h : SinkGhosts W) (old mid new : EngineView S R) (before between after : W) (n : ℕ) (fault : Option Report) (ending : Option Ending)
     (unwritten unflushed asked : Bool) (w : Wrote g h old mid before between n ending) → answered ending mid.kept ≡ None → old.kept ≡ None → (g.tells old.sources → Begins w.bytes (left_of g old)) → IsBounded mid
     → Keeps (h.taken between) (h.taken after) → Counts unwritten (h.failed_writes before) (h.failed_writes after)
     → Counts unflushed (h.failed_flushes between) (h.failed_flushes after) → Counts asked (h.flushes between) (h.flushes after)
@@ -562,7 +562,7 @@ runs_unwritten {S} {R} g h old mid new before between after n fault ending unwri
     let stores : KeepsStores g mid new = subst (λ (e : EngineView S R). KeepsStores g mid e) (sym becomes) (keeps_refused g mid f (write_own mid.main)) in
     let told : fault ≡ Some f = is ∙ ap (λ e. e.kept) becomes in
     let fresh : is_fresh is_write_failed old.kept fault ≡ true = ap (is_fresh is_write_failed old.kept) told ∙ write_fresh old.kept mid.main f free refl in
-    let P : Option Told → Type 0 = λ k. SourcesCalled g (is_fresh is_read_failed old.kept k) (is_fresh is_memory_kind old.kept k) old.sources mid.sources in
+    let P : Option Report → Type 0 = λ k. SourcesCalled g (is_fresh is_read_failed old.kept k) (is_fresh is_memory_kind old.kept k) old.sources mid.sources in
     let reads : SourcesCalled g false false old.sources mid.sources = going_reads g old.kept _ _ (subst P quiet w.reads) in
     let no_read : is_fresh is_read_failed old.kept fault ≡ false = ap (is_fresh is_read_failed old.kept) told ∙ write_no_read old.kept mid.main f refl in
     let no_call : is_fresh is_call_failed old.kept fault ≡ false = ap (is_fresh is_call_failed old.kept) told ∙ write_no_call old.kept mid.main f refl in
@@ -610,7 +610,7 @@ keeps_same None = tt
 keeps_same (Some xs) = refl
 
 -- the flush failed behind the whole output
-pub runs_unflushed : {S R W : Type 0} (g : Ghosts S R) (h : SinkGhosts W) (old mid new : EngineView S R) (before between after : W) (n : ℕ) (fault : Option Told)
+pub runs_unflushed : {S R W : Type 0} (g : Ghosts S R) (h : SinkGhosts W) (old mid new : EngineView S R) (before between after : W) (n : ℕ) (fault : Option Report)
     → Wrote g h old mid before between n (Some Finished) → Flushes h true between after
     → new ≡ record mid { kept = Some (write_fault mid.main) } → fault ≡ new.kept → Runs g h old new before after n fault
 runs_unflushed g h old mid new before between after n fault w flush becomes is =
@@ -619,7 +619,7 @@ runs_unflushed g h old mid new before between after n fault w flush becomes is =
     (record { lets_go = w.ends.lets_go; stores = w.ends.stores }) (λ _. (w.ends.closed, w.ends.tells))
 
 -- a write failed
-pub runs_broken : {S R W : Type 0} (g : Ghosts S R) (h : SinkGhosts W) (old mid new : EngineView S R) (before after : W) (n : ℕ) (fault : Option Told)
+pub runs_broken : {S R W : Type 0} (g : Ghosts S R) (h : SinkGhosts W) (old mid new : EngineView S R) (before after : W) (n : ℕ) (fault : Option Report)
     → Wrote g h old mid before after n (Some Unwritten)
     → new ≡ record mid { kept = Some (write_fault mid.main) } → fault ≡ new.kept → Runs g h old new before after n fault
 runs_broken g h old mid new before after n fault w becomes is =
@@ -628,9 +628,9 @@ runs_broken g h old mid new before after n fault w becomes is =
     (record { lets_go = w.ends.lets_go; stores = w.ends.stores }) (λ e. absurd (cc))
 
 -- the fault of a write was kept, and nothing was flushed
-pub runs_unchanged : {S R W : Type 0} (g : Ghosts S R) (h : SinkGhosts W) (old new : EngineView S R) (before after : W) (n : ℕ) (fault : Option Told)
+pub runs_unchanged : {S R W : Type 0} (g : Ghosts S R) (h : SinkGhosts W) (old new : EngineView S R) (before after : W) (n : ℕ) (fault : Option Report)
     (test : Bool) (w : Wrote g h old new before after n (Some Stopped)) → fault ≡ new.kept
-    → ((f : Told) → new.kept ≡ Some f → test ≡ is_write_failed f.kind) → test ≡ true → Runs g h old new before after n fault
+    → ((f : Report) → new.kept ≡ Some f → test ≡ is_write_failed f.kind) → test ≡ true → Runs g h old new before after n fault
 runs_unchanged g h old new before after n fault test w is tests is_so =
     let other : is_write_failed w.ends.fault.kind ≡ true = sym (tests w.ends.fault w.ends.kept) ∙ is_so in
     runs_ended g h old new before after after n w false false fault is (keeps_same (h.taken after)) refl refl refl (λ e. (let bad : ⊥ = cc e in absurd bad))

@@ -6,7 +6,7 @@ use Rattle.std.proofs.lemmas.Option.{none-some, same_Some}
 use Rattle.std.proofs.lemmas.Slice.Eq.{bytes_eq-Decides}
 use Rattle.rdlpp_table.specs.Table.{Macro, macro_named}
 use Rattle.rdlpp_table.specs.View.{TableView, macro_at}
-use Rattle.rdlpp_meaning.specs.Outcome.{Told, told}
+use Rattle.rdlpp_meaning.specs.Outcome.{Report, report_of}
 use Rattle.rdlpp_meaning.specs.declared.fault.Fault.{Fault}
 use Rattle.rdlpp_source.specs.declared.sources.Sources.{Ghosts}
 use Rattle.rdlpp_texts.specs.declared.place.TextPlace.{TextPlace}
@@ -57,7 +57,7 @@ pub silent-steps : {S R : Type 0} (g : Ghosts S R) (old new : EngineView S R) �
 silent-steps g old new w = cut_piece g old new new [] 0 0 w refl (silent-spent new)
 
 -- a fault that is kept is answered
-pub kept-some : (kept : Option Told) → is_some kept ≡ true → (f : Told) × (kept ≡ Some f)
+pub kept-some : (kept : Option Report) → is_some kept ≡ true → (f : Report) × (kept ≡ Some f)
 kept-some None e = absurd (true≢false (sym e))
 kept-some (Some f) e = (f, refl)
 
@@ -78,7 +78,7 @@ lent-texts old new x marks result place drained is lent becomes =
     (drained-texts old new x marks drained becomes, rw becomes open_now.0)
 
 -- the fault of an engine that keeps one is what it answers
-pub answer-kept : {S R : Type 0} (g : Ghosts S R) (old new : EngineView S R) (f : Told) → new.kept ≡ Some f → Steps g old new (kept_answer new.kept) → Steps g old new (Err f)
+pub answer-kept : {S R : Type 0} (g : Ghosts S R) (old new : EngineView S R) (f : Report) → new.kept ≡ Some f → Steps g old new (kept_answer new.kept) → Steps g old new (Err f)
 answer-kept g old new f e s = subst (λ k. Steps g old new (kept_answer k)) e s
 
 -- what steps over open texts answer that lend no piece is within the limit on the output
@@ -114,15 +114,15 @@ allowed all left most = omega (arith, most)
 -- The place of the piece that was lent last.
 
 -- a fault is kept where one is told
-pub told-some : (kept : Option Fault) → is_some (option_map told kept) ≡ is_some kept
+pub told-some : (kept : Option Fault) → is_some (option_map report_of kept) ≡ is_some kept
 told-some None = refl
 told-some (Some f) = refl
 
 -- what the innermost source shows is the place of the engine
 pub position-by : {S R : Type 0} (inside e : EngineView S R) (f : File R) (outer : List (File R)) (name : List ℕ) (place : Option PlaceView) → inside ≡ e → inside.files.include_stack ≡ f ∷ outer
     → is_some e.kept ≡ false → is_open e.phase ≡ true → place ≡ marked_place inside.marks name (shift_of f.shift) → name ≡ f.name.bytes → place ≡ position_of e
-position-by {S} {R} inside e f outer name place is include_stack none opens told named =
-    told ∙ (ap (λ (n : List ℕ). marked_place inside.marks n (shift_of f.shift)) named ∙ (ap (λ (x : EngineView S R). marked_place x.marks f.name.bytes (shift_of f.shift)) is
+position-by {S} {R} inside e f outer name place is include_stack none opens shown named =
+    shown ∙ (ap (λ (n : List ℕ). marked_place inside.marks n (shift_of f.shift)) named ∙ (ap (λ (x : EngineView S R). marked_place x.marks f.name.bytes (shift_of f.shift)) is
     ∙ sym (position_first e f outer (ap (λ (x : EngineView S R). x.files.include_stack) (sym is) ∙ include_stack) none opens)))
 
 -- The name of the macro that a usage names is that of the usage.
@@ -139,9 +139,9 @@ named_so (x ∷ ms) name m e = elim (cases_Bool (bytes_eq x.name name)) [
 ]
 
 -- the name of the macro at a place of a table, where a usage names that macro
-pub used_name : (told table : TableView) (name own : List ℕ) (id : ℕ) → told ≡ table → own ≡ (macro_at told.macros id).name
+pub used_name : (shown table : TableView) (name own : List ℕ) (id : ℕ) → shown ≡ table → own ≡ (macro_at shown.macros id).name
     → macro_named table.macros name ≡ Some (macro_at table.macros id) → own ≡ name
-used_name told table name own id same is named =
+used_name shown table name own id same is named =
     is ∙ ap (λ (t : TableView). (macro_at t.macros id).name) same ∙ named_so table.macros name (macro_at table.macros id) named
 
 -- What holds of each open source.

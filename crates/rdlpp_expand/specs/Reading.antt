@@ -2,7 +2,7 @@
 -- A definition that names no source is this project's own.
 use Rattle.std.specs.Prelude.{◌≡◌, ℕ, ◌≤◌, ◌<◌, ◌⊎◌, min, false, List, [], ◌∷◌, ◌++◌, length, take, drop, Option, None, Some, Ok}
 use Rattle.rdlpp_source.specs.declared.sources.Sources.{Ghosts}
-use Rattle.rdlpp_meaning.specs.Outcome.{Told, Outcome, gives, fails, and_then}
+use Rattle.rdlpp_meaning.specs.Outcome.{Report, Outcome, gives, fails, and_then}
 use Rattle.rdlpp_state.specs.Calls.{SourcesCalled}
 use Rattle.rdlpp_state.specs.Engine.{EngineView}
 use Rattle.rdlpp_state.specs.Pieces.{IsPlaced, bytes_at}
@@ -50,7 +50,7 @@ LentEnds g old new lent (Some Finished) = Finishes g old new lent
 LentEnds g old new lent (Some Stopped) = Stops g old new lent
 
 -- the fault that a read ended with, if it did: the one that the engine keeps
-abbrev pub ended_with : Option ReadEnd → Option Told → Option Told
+abbrev pub ended_with : Option ReadEnd → Option Report → Option Report
 ended_with None kept = None
 ended_with (Some Finished) kept = None
 ended_with (Some Stopped) kept = kept
@@ -111,7 +111,7 @@ pub record GivesPiece {S R : Type 0} (g : Ghosts S R) (old new : ReadingView S R
 -- bytes of an output that a fault ended: its first ones; and all of them, and the fault its end, unless a device failed or memory was
 -- refused in this call (this project's profile)
 pub record LeavesFault {S R : Type 0} (g : Ghosts S R) (old new : ReadingView S R) (bytes : List ℕ) : Type 0 where
-  pub fault : Told
+  pub fault : Report
   pub kept : new.engine.kept ≡ Some fault
   pub begins : Begins bytes (reading_left g old)
   pub exact : is_fresh is_call_failed old.engine.kept (Some fault) ≡ false → reading_left g old ≡ and_then (gives bytes) (fails fault)

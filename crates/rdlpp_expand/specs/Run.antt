@@ -7,7 +7,7 @@ use Rattle.rdlpp_source.specs.declared.sources.Sources.{Ghosts}
 use Rattle.rdlpp_source.specs.declared.sinks.Sink.{Ghosts as SinkGhosts}
 use Rattle.rdlpp_meaning.specs.declared.fault.FaultKind.{FaultKind}
 use Rattle.rdlpp_meaning.specs.declared.fault.FaultKind.TheVariants.{WriteFailed}
-use Rattle.rdlpp_meaning.specs.Outcome.{Told, told, Outcome, gives, fails, and_then}
+use Rattle.rdlpp_meaning.specs.Outcome.{Report, report_of, Outcome, gives, fails, and_then}
 use Rattle.rdlpp_state.specs.Calls.{SourcesCalled}
 use Rattle.rdlpp_state.specs.Engine.{EngineView, is_open}
 use Rattle.rdlpp_state.specs.Held.{IsBounded}
@@ -21,11 +21,11 @@ use Rattle.rdlpp_expand.specs.declared.writing.Ending.TheVariants.{Finished, Sto
 use Rattle.rdlpp_expand.specs.declared.writing.RunFault.{RunFault}
 
 -- the fault of a write that failed: under the main text's name, at line 0, about no word (source: this project's profile)
-unfoldable pub write_fault : List ℕ → Told
+unfoldable pub write_fault : List ℕ → Report
 write_fault main = record { kind = WriteFailed; name = main; line = 0; word = [] }
 
 -- whether a call answered a fault of such a kind, and none was kept before the call (source: this project's profile)
-unfoldable pub is_fresh : (FaultKind → Bool) → Option Told → Option Told → Bool
+unfoldable pub is_fresh : (FaultKind → Bool) → Option Report → Option Report → Bool
 is_fresh test (Some f) fault = false
 is_fresh test None None = false
 is_fresh test None (Some f) = test f.kind
@@ -35,7 +35,7 @@ abbrev pub Begins : List ℕ → Outcome → Type 0
 Begins bytes outcome = (rest : List ℕ) × (outcome.bytes ≡ bytes ++ rest)
 
 -- whether a fault of such a kind is kept (source: this project's profile)
-unfoldable pub is_kept : (FaultKind → Bool) → Option Told → Bool
+unfoldable pub is_kept : (FaultKind → Bool) → Option Report → Bool
 is_kept test None = false
 is_kept test (Some f) = test f.kind
 
@@ -47,7 +47,7 @@ is_unwritten (Some Stopped) = false
 is_unwritten (Some Unwritten) = true
 
 -- the fault that the engine answered, if it did: the one that it keeps (source: this project's profile)
-abbrev pub answered : Option Ending → Option Told → Option Told
+abbrev pub answered : Option Ending → Option Report → Option Report
 answered None kept = None
 answered (Some Finished) kept = None
 answered (Some Stopped) kept = kept
@@ -67,7 +67,7 @@ pub record Flushes {W : Type 0} (h : SinkGhosts W) (failed : Bool) (before after
 
 -- a step that came to a fault (source: this project's profile)
 pub record StopsAt {S R : Type 0} (g : Ghosts S R) (old new : EngineView S R) (bytes : List ℕ) : Type 0 where
-  pub fault : Told
+  pub fault : Report
   pub steps : Steps g old new (Err fault)
   pub none : bytes ≡ []
 
@@ -102,7 +102,7 @@ pub record Going {S R : Type 0} (g : Ghosts S R) (old new : EngineView S R) (byt
   pub kept : new.kept ≡ old.kept
   pub open_ : (new ≡ old) ⊎ (is_open new.phase ≡ true)
   pub tells : g.tells old.sources → left_of g old ≡ and_then (gives bytes) (left_of g new)
-  pub again : (f : Told) → old.kept ≡ Some f → (bytes ≡ []) × (new ≡ old)
+  pub again : (f : Report) → old.kept ≡ Some f → (bytes ≡ []) × (new ≡ old)
   pub lets_go : LetsGo old → LetsGo new
   pub stores : g.tells old.sources → HoldsStores g old → HoldsStores g new
 
@@ -119,14 +119,14 @@ pub record Finishes {S R : Type 0} (g : Ghosts S R) (old new : EngineView S R) (
 
 -- the output was written up to a fault (source: this project's profile)
 pub record Stops {S R : Type 0} (g : Ghosts S R) (old new : EngineView S R) (bytes : List ℕ) : Type 0 where
-  pub fault : Told
+  pub fault : Report
   pub kept : new.kept ≡ Some fault
   pub own : is_fresh is_write_failed old.kept (Some fault) ≡ false
   pub failed : is_fresh is_call_failed old.kept (Some fault) ≡ true → FailsAt new fault
   pub rest : is_fresh is_call_failed old.kept (Some fault) ≡ true → LeavesRest g old new bytes
   pub begins : g.tells old.sources → Begins bytes (left_of g old)
   pub tells : is_fresh is_call_failed old.kept (Some fault) ≡ false → g.tells old.sources → left_of g old ≡ and_then (gives bytes) (fails fault)
-  pub again : (k : Told) → old.kept ≡ Some k → (k ≡ fault) × (bytes ≡ []) × (new ≡ old)
+  pub again : (k : Report) → old.kept ≡ Some k → (k ≡ fault) × (bytes ≡ []) × (new ≡ old)
   pub bounded : IsBounded new
   pub lets_go : LetsGo old → LetsGo new
   pub stores : g.tells old.sources → HoldsStores g old → HoldsStores g new
@@ -169,9 +169,9 @@ count_of (Ok n) = n
 count_of (Err f) = f.written
 
 -- the fault that an answer of a run tells, if it does (source: this project's profile)
-abbrev pub fault_of : Result ℕ RunFault → Option Told
+abbrev pub fault_of : Result ℕ RunFault → Option Report
 fault_of (Ok n) = None
-fault_of (Err f) = Some (told f.fault)
+fault_of (Err f) = Some (report_of f.fault)
 
 -- a run: the bytes that the writer took in this call and their count, up to `u64::MAX`; and whether a write failed, a flush
 -- failed, and a flush was asked for. Where the sources tell their texts the bytes are the output that remained, or its first
@@ -186,7 +186,7 @@ fault_of (Err f) = Some (told f.fault)
 -- a fault only after the whole output. A flush is asked for
 -- once, unless a write failed, now or before. A kept fault is answered again, and then nothing is written and the engine
 -- stays as it is. The fault that is answered is kept, and after the end none is (source: this project's profile)
-pub record Runs {S R W : Type 0} (g : Ghosts S R) (h : SinkGhosts W) (old new : EngineView S R) (before after : W) (count : ℕ) (fault : Option Told) : Type 0 where
+pub record Runs {S R W : Type 0} (g : Ghosts S R) (h : SinkGhosts W) (old new : EngineView S R) (before after : W) (count : ℕ) (fault : Option Report) : Type 0 where
   pub bytes : List ℕ
   pub unwritten : Bool
   pub unflushed : Bool
@@ -207,7 +207,7 @@ pub record Runs {S R W : Type 0} (g : Ghosts S R) (h : SinkGhosts W) (old new : 
   pub unwritten_told : unwritten ≡ true → is_fresh is_write_failed old.kept fault ≡ true
   pub unflushed_told : unflushed ≡ true → (is_fresh is_write_failed old.kept fault ≡ true) ⊎ IsSomeAnd fault (λ f. is_write_failed f.kind ≡ false)
   pub flushed : is_fresh is_write_failed old.kept fault ≡ true → unwritten ≡ false → (new.phase ≡ Closed) × (g.tells old.sources → left_of g old ≡ gives bytes)
-  pub again : (f : Told) → old.kept ≡ Some f → (fault ≡ Some f) × (bytes ≡ []) × (new ≡ old)
+  pub again : (f : Report) → old.kept ≡ Some f → (fault ≡ Some f) × (bytes ≡ []) × (new ≡ old)
   pub kept : new.kept ≡ fault
   pub closed : fault ≡ None → new.phase ≡ Closed
   pub drained : fault ≡ None → old.phase ≡ Open → new.pending ≡ nothing_pending

@@ -6,7 +6,7 @@ ghost use Rattle.std.specs.Io.BufRead.{Rests};
 ghost use Rattle.rdlpp_scan.specs.SourceTokens.{logical_len};
 ghost use Rattle.rdlpp_scan.specs.declared.token.Directive.TheVariants.{Define, Undef};
 ghost use Rattle.rdlpp_table.specs.Table.{macro_named};
-ghost use Rattle.rdlpp_meaning.specs.Outcome.{Told, told};
+ghost use Rattle.rdlpp_meaning.specs.Outcome.{Report, report_of};
 ghost use Rattle.rdlpp_meaning.specs.State.{fault_at};
 ghost use Rattle.rdlpp_read.specs.Buffer.{entered_mode, held_of, reading_line_of};
 ghost use Rattle.rdlpp_read.specs.Calls.{SourcesRead};
@@ -105,7 +105,7 @@ pub struct Engine<S: Sources> {
 
 impl<S: Sources> Model for Engine<S> {
     ghost use Rattle.std.specs.Option.{option_map};
-    ghost use Rattle.rdlpp_meaning.specs.Outcome.{told};
+    ghost use Rattle.rdlpp_meaning.specs.Outcome.{report_of};
     ghost use Rattle.rdlpp_state.specs.Engine.{EngineView, IsWholeEngine};
 
     ghost Value = { EngineView S S.Reader };
@@ -115,7 +115,7 @@ impl<S: Sources> Model for Engine<S> {
       origins = e.origins;
       phase = e.phase;
       quota = e.quota;
-      kept = option_map told e.kept;
+      kept = option_map report_of e.kept;
       main = e.main.bytes;
       pending = e.pending;
       marks = e.marks;
@@ -673,7 +673,7 @@ impl<S: Sources> Engine<S> {
 
     // Keeps that more bytes are due than the output may have, which is told at line 0 under the main
     // text's name.
-    #[tactic(auto, unfolding(rdlpp_meaning::specs::Outcome::told, rdlpp_state::specs::Remaining::output_fault))]
+    #[tactic(auto, unfolding(rdlpp_meaning::specs::Outcome::report_of, rdlpp_state::specs::Remaining::output_fault))]
     fn record_output_fault(&mut self) -> PieceLocation
         ensures place { result ≡ PieceLocation.Fault }
         ensures kept { self.new ≡ record self.old { kept = Some (output_fault self.old.main) } }
@@ -688,7 +688,7 @@ impl<S: Sources> Engine<S> {
     }
 
     // Keeps that a write failed, which is told at line 0 under the main text's name.
-    #[tactic(auto, unfolding(rdlpp_meaning::specs::Outcome::told, crate::specs::Run::write_fault))]
+    #[tactic(auto, unfolding(rdlpp_meaning::specs::Outcome::report_of, crate::specs::Run::write_fault))]
     pub(crate) fn record_write_fault(&mut self)
         ensures { self.new ≡ record self.old { kept = Some (write_fault self.old.main) } }
     {
@@ -702,7 +702,7 @@ impl<S: Sources> Engine<S> {
 
     // Whether the fault that is kept is that of a write that failed.
     pub(crate) fn keeps_write_failure(&self) -> bool
-        ensures { (f : Told) → self.now.kept ≡ Some f → result ≡ is_write_failed f.kind }
+        ensures { (f : Report) → self.now.kept ≡ Some f → result ≡ is_write_failed f.kind }
     {
         match &self.kept {
             Some(fault) => is_write_failure(fault.kind),
@@ -712,7 +712,7 @@ impl<S: Sources> Engine<S> {
 
     // The fault that is kept, once more.
     pub(crate) fn kept_fault(&self) -> Option<Fault>
-        ensures { option_map told result ≡ self.now.kept }
+        ensures { option_map report_of result ≡ self.now.kept }
     {
         match &self.kept {
             Some(fault) => Some(copied_fault(fault)),

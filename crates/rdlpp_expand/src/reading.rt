@@ -1,7 +1,7 @@
 // Readings: the output, read into buffers of a caller's.
 ghost use Rattle.std.specs.Prelude.{◌≡◌, ◌+◌, ◌-◌, ◌≤◌, ◌++◌, if◌then◌else◌, [], length, min, take, drop};
 ghost use Rattle.std.specs.Option.{option_map};
-ghost use Rattle.rdlpp_meaning.specs.Outcome.{told};
+ghost use Rattle.rdlpp_meaning.specs.Outcome.{report_of};
 ghost use Rattle.rdlpp_state.specs.Held.{IsBounded, held_told};
 ghost use Rattle.rdlpp_state.specs.Steps.{IsStarted};
 ghost use Rattle.rdlpp_state.specs.Opening.{start_fault};
@@ -76,7 +76,7 @@ impl<S: Sources> Reading<S> {
 
     /// The fault that the engine keeps, if it does.
     pub fn fault(&self) -> Option<Fault>
-        ensures { option_map told result ≡ self.now.engine.kept }
+        ensures { option_map report_of result ≡ self.now.engine.kept }
     {
         self.engine.kept_fault()
     }

@@ -25,7 +25,7 @@ use Rattle.rdlpp_table.specs.Table.{Macro, macro_named}
 use Rattle.rdlpp_meaning.specs.Expansion.{bytes_of, is_copied, usage_token}
 use Rattle.rdlpp_meaning.specs.Meaning.{Passage, Progress, behind_bytes, goes_on, leaves, refusal}
 use Rattle.rdlpp_meaning.specs.Opened.{Waiting, all_resumed, unwound}
-use Rattle.rdlpp_meaning.specs.Outcome.{Told, fails}
+use Rattle.rdlpp_meaning.specs.Outcome.{Report, fails}
 use Rattle.rdlpp_meaning.specs.Parts.{Command, directive_of, line_ends_of, only_blanks}
 use Rattle.rdlpp_meaning.specs.Resumed.{Live, Place, Skipped, resumed}
 use Rattle.rdlpp_meaning.specs.State.{Accepted, Refused, Rules, State, breach_kind, fault_at}
@@ -414,7 +414,7 @@ tokens_entered unread b n l next =
 -- What remains of an include stack of open sources in live text, with the state behind it, for each kind of token in front of the innermost.
 
 -- bytes and then a fault of the innermost source end the include stack
-pub all_resumed_behind_fails : (rules : Rules) (ws : List Waiting) (place : Place) (first : Bool) (ts : List SourceToken) (s t : State) (x : List ℕ) (f : Told)
+pub all_resumed_behind_fails : (rules : Rules) (ws : List Waiting) (place : Place) (first : Bool) (ts : List SourceToken) (s t : State) (x : List ℕ) (f : Report)
     → resumed rules place first ts s ≡ behind_bytes x (leaves (fails f) t)
     → all_resumed rules ws place first ts s ≡ behind_bytes x (leaves (fails f) t)
 unfolding all_resumed

@@ -11,7 +11,7 @@ use Rattle.rdlpp_table.specs.Table.{without}
 use Rattle.rdlpp_meaning.specs.Expansion.{bytes_of}
 use Rattle.rdlpp_meaning.specs.Meaning.{Checked, Faulty, Fine, Holds, IncludedMeaning, Passage, Progress, Renumbered, Stopped, Test, added_end, at_start_of, back_in, begun, behind_bytes, by_test, defines, goes_on, in_conditional, includes, includes_found, includes_given, includes_named, leaves, macro_name, mean, included_meaning_of, opening, origin_line, refusal, renumbered, renumbers, single, text_meaning, turn, turned, undefines, unquoted}
 use Rattle.rdlpp_meaning.specs.Opened.{Waiting, all_resumed, ending_of, unwound, waiting}
-use Rattle.rdlpp_meaning.specs.Outcome.{Outcome, Told, fails, gives}
+use Rattle.rdlpp_meaning.specs.Outcome.{Outcome, Report, fails, gives}
 use Rattle.rdlpp_meaning.specs.Parts.{Argument, Branching, Closing, Command, Opening, Piece, Single, argument_of, behind_blanks, behind_directive, command_in_front, command_of, directive_of, line_ends_of, name_in_front, no_argument, one_argument, only_blanks, parts_of, past_blanks, piece_of, pieces, string_in_front}
 use Rattle.rdlpp_meaning.specs.Resumed.{Live, Place, Skipped, behind, resume, resumed}
 use Rattle.rdlpp_meaning.specs.State.{Accepted, Defined, LongPath, Lookup, NoSource, Refused, Rules, Source, State, fault_at, shown_line}
@@ -164,7 +164,7 @@ undefines_keeps (Fine name) c s e = refl
 undefines_keeps (Faulty kind word) c s e = refl
 
 -- an included text keeps it, by its fault
-within_keeps : (x y : List ℕ) (bytes : List ℕ) (f : Option Told) (after s : State)
+within_keeps : (x y : List ℕ) (bytes : List ℕ) (f : Option Report) (after s : State)
     → Keeps s (behind_bytes x (goes_on (record { bytes = bytes; fault = f; after = after }) (λ a. leaves (gives y) (back_in s a))))
 unfolding Keeps behind_bytes goes_on leaves back_in
 within_keeps x y bytes (Some f) after s e = cc
@@ -227,7 +227,7 @@ single_keeps : (rules : Rules) (included_meaning : IncludedMeaning) (c : Command
 single_keeps rules included_meaning c s = single_keeps_by rules included_meaning c.word c.given c.text c.line c.first s
 
 -- what goes on from a passage's own state alone counts, by the passage's fault
-on_after_by : (x : List ℕ) (f : Option Told) (s : State) (g h : State → Passage) → (f ≡ None → g s ≡ h s)
+on_after_by : (x : List ℕ) (f : Option Report) (s : State) (g h : State → Passage) → (f ≡ None → g s ≡ h s)
     → goes_on (record { bytes = x; fault = f; after = s }) g ≡ goes_on (record { bytes = x; fault = f; after = s }) h
 unfolding goes_on
 on_after_by x (Some f) s g h e = refl
@@ -458,7 +458,7 @@ resumed_late_line rules os bytes line more s =
 -- Laws of a nest of open sources: an `include` opens one, the end of a text goes back, and each step of the innermost is a step of the nest.
 
 -- bytes in front of a passage stay there where more goes on behind it, by its fault
-front_by : (x y : List ℕ) (f : Option Told) (s : State) (next : State → Passage)
+front_by : (x y : List ℕ) (f : Option Report) (s : State) (next : State → Passage)
     → goes_on (behind_bytes x (record { bytes = y; fault = f; after = s })) next
     ≡ behind_bytes x (goes_on (record { bytes = y; fault = f; after = s }) next)
 unfolding goes_on behind_bytes
@@ -472,7 +472,7 @@ pub behind_bytes-goes_on : (x : List ℕ) (p : Passage) (next : State → Passag
 behind_bytes-goes_on x p next = front_by x p.bytes p.fault p.after next
 
 -- nothing behind a passage changes nothing, by its fault
-nothing_by : (x : List ℕ) (f : Option Told) (s : State)
+nothing_by : (x : List ℕ) (f : Option Report) (s : State)
     → goes_on (record { bytes = x; fault = f; after = s }) (λ after. leaves (gives []) after) ≡ record { bytes = x; fault = f; after = s }
 unfolding goes_on behind_bytes leaves gives
 nothing_by x (Some f) s = refl
@@ -652,7 +652,7 @@ all_resumed_behind rules ws place new first then_first ts us s t x e =
     ∙ behind_bytes-goes_on x (resumed rules new then_first us t) (λ after. unwound rules ws after)
 
 -- a fault of the innermost source ends the nest
-pub all_resumed_fails : (rules : Rules) (ws : List Waiting) (place : Place) (first : Bool) (ts : List SourceToken) (s t : State) (f : Told)
+pub all_resumed_fails : (rules : Rules) (ws : List Waiting) (place : Place) (first : Bool) (ts : List SourceToken) (s t : State) (f : Report)
     → resumed rules place first ts s ≡ leaves (fails f) t
     → all_resumed rules ws place first ts s ≡ leaves (fails f) t
 unfolding all_resumed

@@ -7,7 +7,7 @@ use Rattle.rdlpp_scan.specs.SourceTokens.{Broken, SourceToken, whole_tokens}
 use Rattle.rdlpp_table.specs.Table.{Macro, macro_size, table_size, without}
 use Rattle.rdlpp_meaning.specs.declared.fault.FaultKind.{FaultKind}
 use Rattle.rdlpp_meaning.specs.declared.fault.FaultKind.TheVariants.{BranchAfterElse, TooManyConditionals, TooManyIncludes, IncludeName, SourceNotFound, PathTooLong, BadLine, StrayBranch, OutputBytes}
-use Rattle.rdlpp_meaning.specs.Outcome.{Told, Outcome, gives, fails, and_then}
+use Rattle.rdlpp_meaning.specs.Outcome.{Report, Outcome, gives, fails, and_then}
 use Rattle.rdlpp_meaning.specs.State.{Defined, Accepted, Refused, Lookup, NoSource, LongPath, Source, Rules, State, fault_at, shown_line, breach_kind}
 use Rattle.rdlpp_meaning.specs.Parts.{Command, line_ends_of, Piece, Run, Single, Opening, Branching, Closing, pieces, parts_of}
 use Rattle.rdlpp_meaning.specs.Meaning.{Passage, leaves, behind_bytes, goes_on, refusal, IncludedMeaning, skipped_run, Checked, Fine, Faulty, macro_name, defines, undefines, origin_line, at_start_of, back_in, added_end, includes, includes_found, unquoted, includes_named, includes_given, Renumbered, renumbered, renumbers, single, Progress, Test, Stopped, Holds, by_test, is_defined, name_test, wants_defined, opening_within, opening, in_conditional, past_conditional, is_else, turn, outcome, skipped_command, begun, turned, unclosed, mean, included_meaning_of, text_meaning}
@@ -58,7 +58,7 @@ unfolding leaves
 leaves-same sources more s a = lifted-agrees sources more (leaves a s)
 
 -- a passage and what goes on from its state, by its fault
-on-agrees-by : (more : ℕ) (x : List ℕ) (f : Option Told) (s : State) (q : Passage) (next next' : State → Passage)
+on-agrees-by : (more : ℕ) (x : List ℕ) (f : Option Report) (s : State) (q : Passage) (next next' : State → Passage)
     → PassageAgrees more (record { bytes = x; fault = f; after = s }) q
     → ((sources : ℕ) (t : State) → PassageAgrees more (next t) (next' (roomier sources more t)))
     → PassageAgrees more (goes_on (record { bytes = x; fault = f; after = s }) next) (goes_on q next')
@@ -215,14 +215,14 @@ record Widens (rules : Rules) (depth most : ℕ) (define : List Macro → List �
   texts : (text : List ℕ) → TokensTorn true (rules.tokens text) (tokens text)
 
 -- what goes on behind a fault of a limit agrees with all, by the outcome's fault
-limited-by : (more : ℕ) (x : List ℕ) (o f : Option Told) (s : State) (next : State → Passage) (q : Passage) → o ≡ f → IsFault f
+limited-by : (more : ℕ) (x : List ℕ) (o f : Option Report) (s : State) (next : State → Passage) (q : Passage) → o ≡ f → IsFault f
     → (NamesNoLimit f → ⊥) → PassageAgrees more (goes_on (leaves (record { bytes = x; fault = o }) s) next) q
 unfolding PassageAgrees goes_on leaves IsFault behind_bytes
-limited-by more x None f s next q e h limit = absurd (subst (λ (z : Option Told). IsFault z) (sym e) h)
-limited-by more x (Some g) f s next q e h limit = λ n. absurd (limit (subst (λ (z : Option Told). NamesNoLimit z) e n))
+limited-by more x None f s next q e h limit = absurd (subst (λ (z : Option Report). IsFault z) (sym e) h)
+limited-by more x (Some g) f s next q e h limit = λ n. absurd (limit (subst (λ (z : Option Report). NamesNoLimit z) e n))
 
 -- what goes on behind outcomes that end in a fault agrees where they do, by the first one's fault
-faulty-by : (sources more : ℕ) (x : List ℕ) (f : Option Told) (b : Outcome) (s : State) (next next' : State → Passage)
+faulty-by : (sources more : ℕ) (x : List ℕ) (f : Option Report) (b : Outcome) (s : State) (next next' : State → Passage)
     → IsFault f → Agrees (record { bytes = x; fault = f }) b
     → PassageAgrees more (goes_on (leaves (record { bytes = x; fault = f }) s) next) (goes_on (leaves b (roomier sources more s)) next')
 unfolding PassageAgrees goes_on leaves IsFault Agrees
@@ -605,7 +605,7 @@ larger_output small large find origins macros path found l n =
     difference a b h = omega (arith, h)
 
 -- what is limited and names no limit has no more bytes than that, by whether it has
-within-by : (over : Told) (quota : ℕ) (o : Outcome) (b : Bool) → is_limit over.kind ≡ true → nat_le (length o.bytes) quota ≡ b
+within-by : (over : Report) (quota : ℕ) (o : Outcome) (b : Bool) → is_limit over.kind ≡ true → nat_le (length o.bytes) quota ≡ b
     → NamesNoLimit (limited over quota o).fault → length o.bytes ≤ quota
 within-by over quota o true l e n = leb-true (length o.bytes) quota e
 within-by over quota o false l e n =
@@ -614,7 +614,7 @@ within-by over quota o false l e n =
     absurd (true≢false (sym l ∙ none))
 
 -- outcomes that agree where no limit is named agree where both are limited and the one names none
-limited-agree : (over : Told) (quota more : ℕ) (o p : Outcome) → is_limit over.kind ≡ true → quota ≤ more
+limited-agree : (over : Report) (quota more : ℕ) (o p : Outcome) → is_limit over.kind ≡ true → quota ≤ more
     → (NamesNoLimit o.fault → p ≡ o) → NamesNoLimit (limited over quota o).fault → limited over more p ≡ limited over quota o
 limited-agree over quota more o p l h same n =
     let within : length o.bytes ≤ quota = within-by over quota o (nat_le (length o.bytes) quota) l refl n in

@@ -25,7 +25,7 @@ use Rattle.rdlpp_meaning.specs.Expansion.{Opens, Refuses, Usage, expand, run_out
 use Rattle.rdlpp_meaning.specs.Items.{Arg, Item, Written, listed}
 use Rattle.rdlpp_meaning.specs.LimitLaws.{NamesNoLimit, is_limit}
 use Rattle.rdlpp_meaning.specs.Meaning.{skipped_run}
-use Rattle.rdlpp_meaning.specs.Outcome.{Outcome, Told, and_then, fails, gives}
+use Rattle.rdlpp_meaning.specs.Outcome.{Outcome, Report, and_then, fails, gives}
 use Rattle.rdlpp_meaning.specs.Parts.{line_ends_of}
 use Rattle.rdlpp_meaning.specs.Resumed.{leading}
 use Rattle.rdlpp_meaning.specs.State.{Rules, State, breach_kind, fault_at}
@@ -492,7 +492,7 @@ unfolding Agrees
 agrees-along a a' b b' e f h = λ n. f ∙ h (subst (λ (o : Outcome). NamesNoLimit o.fault) e n) ∙ sym e
 
 -- one outcome and then another, by the fault of the first
-then-agrees-by : (x : List ℕ) (f : Option Told) (b c d : Outcome) → Agrees (record { bytes = x; fault = f }) b → Agrees c d
+then-agrees-by : (x : List ℕ) (f : Option Report) (b c d : Outcome) → Agrees (record { bytes = x; fault = f }) b → Agrees c d
     → Agrees (and_then (record { bytes = x; fault = f }) c) (and_then b d)
 unfolding Agrees and_then
 then-agrees-by x None b c d h k =
@@ -504,7 +504,7 @@ then-agrees : (a b c d : Outcome) → Agrees a b → Agrees c d → Agrees (and_
 then-agrees a b c d h k = then-agrees-by a.bytes a.fault b c d h k
 
 -- a fault
-unfoldable pub IsFault : Option Told → Type 0
+unfoldable pub IsFault : Option Report → Type 0
 IsFault None = ⊥
 IsFault (Some f) = Unit
 
@@ -514,7 +514,7 @@ pub record TornAgrees (torn : Type 0) (a b : Outcome) : Type 0 where
   pub agrees : Agrees a b
 
 -- what ends in a fault does so behind an outcome, by that one's fault
-then-faulty-by : (x : List ℕ) (f : Option Told) (c : Outcome) → IsFault c.fault → IsFault (and_then (record { bytes = x; fault = f }) c).fault
+then-faulty-by : (x : List ℕ) (f : Option Report) (c : Outcome) → IsFault c.fault → IsFault (and_then (record { bytes = x; fault = f }) c).fault
 unfolding IsFault and_then
 then-faulty-by x None c h = h
 then-faulty-by x (Some f) c h = tt
@@ -531,7 +531,7 @@ torn-along torn a a' b b' e f h = record {
 }
 
 -- a fault of a limit agrees with all
-limit-torn : (x : List ℕ) (f : Told) (b : Outcome) → is_limit f.kind ≡ true → TornAgrees Unit (and_then (gives x) (fails f)) b
+limit-torn : (x : List ℕ) (f : Report) (b : Outcome) → is_limit f.kind ≡ true → TornAgrees Unit (and_then (gives x) (fails f)) b
 unfolding Agrees IsFault and_then gives fails
 limit-torn x f b limit = record { faulty = λ p. tt; agrees = λ n. absurd (true≢false (sym limit ∙ n)) }
 

@@ -18,7 +18,7 @@ use Rattle.rdlpp_meaning.specs.CallScan.{Before, Inside, Refused as RefusedCall,
 use Rattle.rdlpp_meaning.specs.Expansion.{Opens, Refuses, Usage, bytes_of, expand, is_copied, name_of, run_outcome, usage_of, usage_token, walk}
 use Rattle.rdlpp_meaning.specs.Items.{Item, Written}
 use Rattle.rdlpp_meaning.specs.Meaning.{IncludedMeaning, Passage, Progress, behind_bytes, defines, goes_on, leaves, included_meaning_of, refusal, single}
-use Rattle.rdlpp_meaning.specs.Outcome.{Outcome, Told, and_then, fails, gives}
+use Rattle.rdlpp_meaning.specs.Outcome.{Outcome, Report, and_then, fails, gives}
 use Rattle.rdlpp_meaning.specs.Parts.{Branching, Closing, Command, Opening, Piece, Run, Single, argument_of, command_of, directive_named, directive_of, joined, line_ends_of, no_argument, only_blanks, piece_of, pieces}
 use Rattle.rdlpp_meaning.specs.Resumed.{Live, leading, resume, resumed, trailing}
 use Rattle.rdlpp_meaning.specs.State.{Accepted, Defined, Refused, Rules, State, breach_kind, fault_at}
@@ -473,7 +473,7 @@ resumed_writes rules os first t ts s x e w =
     ∙ goes_on-gives x s (λ after. resumed rules (Live os) (only_blanks first t.bytes) ts after)
 
 -- a token that writes a fault ends its source
-pub resumed_fails : (rules : Rules) (os : List Progress) (first : Bool) (t : SourceToken) (ts : List SourceToken) (s : State) (f : Told)
+pub resumed_fails : (rules : Rules) (os : List Progress) (first : Bool) (t : SourceToken) (ts : List SourceToken) (s : State) (f : Report)
     → directive_of t ≡ None → Writes rules s t (fails f)
     → resumed rules (Live os) first (t ∷ ts) s ≡ leaves (fails f) s
 resumed_fails rules os first t ts s f e w =

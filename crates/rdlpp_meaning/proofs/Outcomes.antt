@@ -12,7 +12,7 @@ use Rattle.rdlpp_scan.specs.declared.token.Kind.TheVariants.{Back, BareBackquote
 use Rattle.rdlpp_table.specs.Table.{Macro}
 use Rattle.rdlpp_meaning.specs.Expansion.{is_copied}
 use Rattle.rdlpp_meaning.specs.Meaning.{Holds, IncludedMeaning, Passage, Progress, Stopped, Test, begun, behind_bytes, by_test, goes_on, in_conditional, leaves, mean, mean_branches, mean_part, included_meaning_of, opening, origin_line, outcome, past_conditional, refusal, skip, skip_branches, skip_part, skipped_command, text_meaning, turn, turned, unclosed}
-use Rattle.rdlpp_meaning.specs.Outcome.{Outcome, Told, and_then, fails, gives}
+use Rattle.rdlpp_meaning.specs.Outcome.{Outcome, Report, and_then, fails, gives}
 use Rattle.rdlpp_meaning.specs.Output.{opening_fault, output, start_state}
 use Rattle.rdlpp_meaning.specs.OutputLimit.{limited}
 use Rattle.rdlpp_meaning.specs.Parts.{Alone, Branch, Branching, Closing, Command, Conditional, Ended, Last, Level, More, Nothing, Opening, Part, Parts, Piece, Run, Single, Text, Upto, appended, behind_end, front_parts, further_branches, in_front, level_of, level_parts, opened_before, parts_of, pieces}
@@ -24,14 +24,14 @@ use Rattle.rdlpp_meaning.specs.declared.fault.FaultKind.TheVariants.{PathTooLong
 -- Laws of outcomes: one and then another.
 
 -- `and_then` goes on in one way however it is grouped, by the first one's fault
-assoc_by : (x : List ℕ) (f : Option Told) (b c : Outcome)
+assoc_by : (x : List ℕ) (f : Option Report) (b c : Outcome)
     → and_then (and_then (record { bytes = x; fault = f }) b) c
     ≡ and_then (record { bytes = x; fault = f }) (and_then b c)
 unfolding and_then
 assoc_by x (Some f) b c = refl
 assoc_by x None b c = by_second b.bytes b.fault
   where
-    by_second : (y : List ℕ) (g : Option Told)
+    by_second : (y : List ℕ) (g : Option Report)
         → and_then (and_then (record { bytes = x; fault = None }) (record { bytes = y; fault = g })) c
         ≡ and_then (record { bytes = x; fault = None }) (and_then (record { bytes = y; fault = g }) c)
     by_second y (Some g) = refl
@@ -57,12 +57,12 @@ unfolding and_then gives
 and_then-gives_gives x y o = ap (λ (z : List ℕ). record { bytes = z; fault = o.fault }) (sym (append_assoc x y o.bytes))
 
 -- nothing counts behind a fault
-pub and_then-fails : (f : Told) (o : Outcome) → and_then (fails f) o ≡ fails f
+pub and_then-fails : (f : Report) (o : Outcome) → and_then (fails f) o ≡ fails f
 unfolding and_then fails
 and_then-fails f o = refl
 
 -- an outcome with nothing behind it, by its fault
-nil_by : (x : List ℕ) (f : Option Told)
+nil_by : (x : List ℕ) (f : Option Report)
     → and_then (record { bytes = x; fault = f }) (gives []) ≡ record { bytes = x; fault = f }
 unfolding and_then gives
 nil_by x (Some f) = refl
@@ -80,7 +80,7 @@ bytes-and_then_gives x o = refl
 -- Laws of passages: one and then what goes on from its state.
 
 -- what goes on from an outcome's state, by the outcome's fault
-on_leaves_by : (x : List ℕ) (f : Option Told) (s : State) (g h : State → Passage) → g s ≡ h s
+on_leaves_by : (x : List ℕ) (f : Option Report) (s : State) (g h : State → Passage) → g s ≡ h s
     → goes_on (leaves (record { bytes = x; fault = f }) s) g ≡ goes_on (leaves (record { bytes = x; fault = f }) s) h
 unfolding goes_on leaves behind_bytes
 on_leaves_by x (Some f) s g h e = refl
@@ -92,7 +92,7 @@ pub on_leaves : (o : Outcome) (s : State) (g h : State → Passage) → g s ≡ 
 on_leaves o s g h e = on_leaves_by o.bytes o.fault s g h e
 
 -- two outcomes that leave a state, by their faults
-and_then_by : (x : List ℕ) (f : Option Told) (y : List ℕ) (g : Option Told) (s : State) (next : State → Passage)
+and_then_by : (x : List ℕ) (f : Option Report) (y : List ℕ) (g : Option Report) (s : State) (next : State → Passage)
     → goes_on (leaves (and_then (record { bytes = x; fault = f }) (record { bytes = y; fault = g })) s) next
     ≡ goes_on (leaves (record { bytes = x; fault = f }) s) (λ after. goes_on (leaves (record { bytes = y; fault = g }) after) next)
 unfolding goes_on leaves behind_bytes and_then
@@ -117,14 +117,14 @@ unfolding outcome leaves
 outcome-leaves o s = refl
 
 -- passages are grouped as one likes, by their faults
-passage_assoc_by : (x : List ℕ) (f : Option Told) (s : State) (g h : State → Passage)
+passage_assoc_by : (x : List ℕ) (f : Option Report) (s : State) (g h : State → Passage)
     → goes_on (goes_on (record { bytes = x; fault = f; after = s }) g) h
     ≡ goes_on (record { bytes = x; fault = f; after = s }) (λ after. goes_on (g after) h)
 unfolding goes_on behind_bytes
 passage_assoc_by x (Some f) s g h = refl
 passage_assoc_by x None s g h = by_second (g s).bytes (g s).fault (g s).after
   where
-    by_second : (y : List ℕ) (k : Option Told) (t : State)
+    by_second : (y : List ℕ) (k : Option Report) (t : State)
         → goes_on (behind_bytes x (record { bytes = y; fault = k; after = t })) h
         ≡ behind_bytes x (goes_on (record { bytes = y; fault = k; after = t }) h)
     by_second y (Some k) t = refl
@@ -146,7 +146,7 @@ unfolding goes_on leaves gives
 goes_on-gives x s next = refl
 
 -- nothing goes on behind a fault
-pub fails-goes_on : (f : Told) (s : State) (next : State → Passage) → goes_on (leaves (fails f) s) next ≡ leaves (fails f) s
+pub fails-goes_on : (f : Report) (s : State) (next : State → Passage) → goes_on (leaves (fails f) s) next ≡ leaves (fails f) s
 unfolding goes_on leaves fails
 fails-goes_on f s next = refl
 
@@ -162,7 +162,7 @@ behind_bytes-twice x y p =
     ap (λ (z : List ℕ). record { bytes = z; fault = p.fault; after = p.after }) (sym (append_assoc x y p.bytes))
 
 -- bytes and a fault behind which nothing goes on
-pub gives_fails-goes_on : (x : List ℕ) (f : Told) (s : State) (next : State → Passage)
+pub gives_fails-goes_on : (x : List ℕ) (f : Report) (s : State) (next : State → Passage)
     → goes_on (leaves (and_then (gives x) (fails f)) s) next ≡ behind_bytes x (leaves (fails f) s)
 unfolding goes_on leaves and_then gives fails behind_bytes
 gives_fails-goes_on x f s next = refl
@@ -170,20 +170,20 @@ gives_fails-goes_on x f s next = refl
 -- Laws of an outcome of at most so many bytes.
 
 -- an outcome of no more bytes stays
-pub limited-within : (over : Told) (quota : ℕ) (o : Outcome) → length o.bytes ≤ quota → limited over quota o ≡ o
+pub limited-within : (over : Report) (quota : ℕ) (o : Outcome) → length o.bytes ≤ quota → limited over quota o ≡ o
 unfolding limited
 limited-within over quota o h =
     ap (λ (b : Bool). if b then o else record { bytes = take quota o.bytes; fault = Some over }) (le-leb (length o.bytes) quota h)
 
 -- one of more bytes is its first ones and then the fault
-pub limited-over : (over : Told) (quota : ℕ) (o : Outcome) → quota < length o.bytes
+pub limited-over : (over : Report) (quota : ℕ) (o : Outcome) → quota < length o.bytes
     → limited over quota o ≡ record { bytes = take quota o.bytes; fault = Some over }
 unfolding limited
 limited-over over quota o h =
     ap (λ (b : Bool). if b then o else record { bytes = take quota o.bytes; fault = Some over }) (lt-leb (length o.bytes) quota h)
 
 -- a fault and no bytes stays
-pub limited-fails : (over : Told) (quota : ℕ) (f : Told) → limited over quota (fails f) ≡ fails f
+pub limited-fails : (over : Report) (quota : ℕ) (f : Report) → limited over quota (fails f) ≡ fails f
 unfolding fails
 limited-fails over quota f = limited-within over quota (fails f) (omega arith)
 
@@ -193,7 +193,7 @@ unfolding and_then gives
 joined-length xs o = length-append xs o.bytes
 
 -- the first bytes of two texts, where all of the one are among them
-front-cut : (over : Told) (quota rest : ℕ) (xs : List ℕ) (o : Outcome) → quota ≡ length xs + rest
+front-cut : (over : Report) (quota rest : ℕ) (xs : List ℕ) (o : Outcome) → quota ≡ length xs + rest
     → record { bytes = take quota (and_then (gives xs) o).bytes; fault = Some over }
     ≡ and_then (gives xs) (record { bytes = take rest o.bytes; fault = Some over })
 unfolding and_then gives
@@ -202,7 +202,7 @@ front-cut over quota rest xs o e =
     (ap (λ (k : ℕ). take k (xs ++ o.bytes)) e ∙ take-append-add xs o.bytes rest)
 
 -- bytes in front, by whether the rest has more than is left for it
-limited-front : (over : Told) (quota : ℕ) (xs : List ℕ) (o : Outcome) (b : Bool) → length xs ≤ quota
+limited-front : (over : Report) (quota : ℕ) (xs : List ℕ) (o : Outcome) (b : Bool) → length xs ≤ quota
     → nat_le (length o.bytes) (quota - length xs) ≡ b
     → limited over quota (and_then (gives xs) o) ≡ and_then (gives xs) (limited over (quota - length xs) o)
 limited-front over quota xs o true h e =
@@ -219,12 +219,12 @@ limited-front over quota xs o false h e =
     ∙ ap (and_then (gives xs)) (sym (limited-over over (quota - length xs) o k))
 
 -- bytes that fit in front leave less for the rest
-pub limited-gives : (over : Told) (quota : ℕ) (xs : List ℕ) (o : Outcome) → length xs ≤ quota
+pub limited-gives : (over : Report) (quota : ℕ) (xs : List ℕ) (o : Outcome) → length xs ≤ quota
     → limited over quota (and_then (gives xs) o) ≡ and_then (gives xs) (limited over (quota - length xs) o)
 limited-gives over quota xs o h = limited-front over quota xs o (nat_le (length o.bytes) (quota - length xs)) h refl
 
 -- bytes that don't fit are cut, and the fault ends them
-pub limited-past : (over : Told) (quota : ℕ) (xs : List ℕ) (o : Outcome) → quota < length xs
+pub limited-past : (over : Report) (quota : ℕ) (xs : List ℕ) (o : Outcome) → quota < length xs
     → limited over quota (and_then (gives xs) o) ≡ and_then (gives (take quota xs)) (fails over)
 unfolding and_then gives fails
 limited-past over quota xs o h =
@@ -236,7 +236,7 @@ limited-past over quota xs o h =
 -- What remains of a file from any place, read off the tree of its parts: resuming is that, and at the start it is the meaning.
 
 -- what goes on from a passage's state is what goes on, by the passage's fault
-goes_on_by : (x : List ℕ) (f : Option Told) (s : State) (g h : State → Passage) → ((t : State) → g t ≡ h t)
+goes_on_by : (x : List ℕ) (f : Option Report) (s : State) (g h : State → Passage) → ((t : State) → g t ≡ h t)
     → goes_on (record { bytes = x; fault = f; after = s }) g ≡ goes_on (record { bytes = x; fault = f; after = s }) h
 unfolding goes_on
 goes_on_by x (Some f) s g h e = refl

@@ -5,7 +5,7 @@ use Rattle.rdlpp_table.specs.declared.limits.Limits.{Limits}
 use Rattle.rdlpp_table.specs.Table.{Macro}
 use Rattle.rdlpp_meaning.specs.declared.fault.FaultKind.{FaultKind}
 use Rattle.rdlpp_meaning.specs.declared.fault.FaultKind.TheVariants.{LineTooLong, SourceTooLong, ArgumentBytes, DepthPassed, DefinitionBytes, TooManyDefinitions, TooManyConditionals, TooManyIncludes, OutputBytes}
-use Rattle.rdlpp_meaning.specs.Outcome.{Told}
+use Rattle.rdlpp_meaning.specs.Outcome.{Report}
 use Rattle.rdlpp_meaning.specs.OutputLimit.{Searches, limited_output}
 
 -- whether a fault says that a limit is passed: of a line, a source, an actual's bytes, open bodies, definitions, open
@@ -23,7 +23,7 @@ is_limit OutputBytes = true
 is_limit kind = false
 
 -- no limit is named where a text ends (source: this project's profile)
-abbrev pub NamesNoLimit : Option Told → Type 0
+abbrev pub NamesNoLimit : Option Report → Type 0
 NamesNoLimit None = Unit
 NamesNoLimit (Some f) = is_limit f.kind ≡ false
 

@@ -11,7 +11,7 @@ use Rattle.rdlpp_scan.specs.Reserved.{is_reserved}
 use Rattle.rdlpp_table.specs.Table.{macro_named, without}
 use Rattle.rdlpp_meaning.specs.declared.fault.FaultKind.{FaultKind}
 use Rattle.rdlpp_meaning.specs.declared.fault.FaultKind.TheVariants.{NameExpected, ReservedName, StrayBranch, BranchAfterElse, OpenConditional, TooManyConditionals, IncludeName, SourceNotFound, TooManyIncludes, BadLine, PathTooLong}
-use Rattle.rdlpp_meaning.specs.Outcome.{Told, Outcome, gives, fails, and_then}
+use Rattle.rdlpp_meaning.specs.Outcome.{Report, Outcome, gives, fails, and_then}
 use Rattle.rdlpp_meaning.specs.State.{Defined, Accepted, Refused, Lookup, NoSource, LongPath, Source, Rules, no_shift, shown_line, State, fault_at, breach_kind}
 use Rattle.rdlpp_meaning.specs.Expansion.{run_outcome}
 use Rattle.rdlpp_meaning.specs.Parts.{Command, Parts, Nothing, More, Part, Text, Alone, Stray, Conditional, Branches, Unclosed, Closed, Branch, line_ends_of, parts_of}
@@ -19,7 +19,7 @@ use Rattle.rdlpp_meaning.specs.Parts.{Command, Parts, Nothing, More, Part, Text,
 -- what parts come to: bytes, the fault that ends them, if one does, and the state behind them (source: this project's profile)
 pub record Passage : Type 0 where
   pub bytes : List ℕ
-  pub fault : Option Told
+  pub fault : Option Report
   pub after : State
 
 -- an outcome that leaves a state

@@ -5,27 +5,27 @@ use Rattle.rdlpp_meaning.specs.declared.fault.FaultKind.{FaultKind}
 use Rattle.rdlpp_meaning.specs.declared.fault.Fault.{Fault}
 
 -- a fault as told: its kind, the shown name and line, and the name that it is about (source: this project's profile)
-pub record Told : Type 0 where
+pub record Report : Type 0 where
   pub kind : FaultKind
   pub name : List ℕ
   pub line : ℕ
   pub word : List ℕ
 
 -- what a fault tells (source: this project's profile)
-unfoldable pub told : Fault → Told
-told f = record { kind = f.kind; name = f.name.bytes; line = f.line; word = f.word.bytes }
+unfoldable pub report_of : Fault → Report
+report_of f = record { kind = f.kind; name = f.name.bytes; line = f.line; word = f.word.bytes }
 
 -- bytes, and the fault that ends them, if one does (source: this project's profile)
 pub record Outcome : Type 0 where
   pub bytes : List ℕ
-  pub fault : Option Told
+  pub fault : Option Report
 
 -- bytes alone (source: this project's profile)
 unfoldable pub gives : List ℕ → Outcome
 gives bytes = record { bytes = bytes; fault = None }
 
 -- a fault, and no bytes (source: this project's profile)
-unfoldable pub fails : Told → Outcome
+unfoldable pub fails : Report → Outcome
 fails f = record { bytes = []; fault = Some f }
 
 -- one outcome and then another, which counts for nothing behind a fault (source: this project's profile)

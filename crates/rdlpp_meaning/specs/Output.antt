@@ -4,7 +4,7 @@ use Rattle.std.specs.Prelude.{ℕ, zero, suc, ◌&&◌, nat_le, List, [], take, 
 use Rattle.rdlpp_table.specs.Table.{Macro}
 use Rattle.rdlpp_meaning.specs.declared.fault.FaultKind.{FaultKind}
 use Rattle.rdlpp_meaning.specs.declared.fault.FaultKind.TheVariants.{SourceNotFound, PathTooLong}
-use Rattle.rdlpp_meaning.specs.Outcome.{Told, Outcome, fails}
+use Rattle.rdlpp_meaning.specs.Outcome.{Report, Outcome, fails}
 use Rattle.rdlpp_meaning.specs.State.{Lookup, NoSource, LongPath, Source, Rules, no_shift, State}
 use Rattle.rdlpp_meaning.specs.Meaning.{outcome, behind_bytes, origin_line, text_meaning}
 
@@ -20,7 +20,7 @@ unfoldable pub name_cut : List ℕ → List ℕ
 name_cut bytes = take (character_place bytes 1024) bytes
 
 -- a fault of the opening of the main text (source: this project's profile)
-unfoldable pub opening_fault : FaultKind → List ℕ → Told
+unfoldable pub opening_fault : FaultKind → List ℕ → Report
 opening_fault kind path = record { kind = kind; name = name_cut path; line = 0; word = [] }
 
 -- the state at the beginning of a main text, with macros and with how many included sources and conditionals may be opened (source: this project's profile)

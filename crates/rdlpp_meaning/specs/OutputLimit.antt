@@ -4,7 +4,7 @@ use Rattle.std.specs.Prelude.{ℕ, Bool, nat_le, List, length, take, Some, if◌
 use Rattle.rdlpp_table.specs.declared.limits.Limits.{Limits}
 use Rattle.rdlpp_table.specs.Table.{Macro}
 use Rattle.rdlpp_meaning.specs.declared.fault.FaultKind.TheVariants.{OutputBytes}
-use Rattle.rdlpp_meaning.specs.Outcome.{Told, Outcome}
+use Rattle.rdlpp_meaning.specs.Outcome.{Report, Outcome}
 use Rattle.rdlpp_meaning.specs.State.{Lookup, Rules}
 use Rattle.rdlpp_meaning.specs.Output.{opening_fault, output}
 use Rattle.rdlpp_meaning.specs.Profile.{rules_of}
@@ -16,7 +16,7 @@ pub record Searches : Type 0 where
   pub included : List ℕ → List ℕ → Lookup
 
 -- an outcome of at most so many bytes: its first ones and then a fault, where it has more (source: this project's profile)
-unfoldable pub limited : Told → ℕ → Outcome → Outcome
+unfoldable pub limited : Report → ℕ → Outcome → Outcome
 limited over quota o =
     if nat_le (length o.bytes) quota then o else record { bytes = take quota o.bytes; fault = Some over }
 

@@ -6,7 +6,7 @@ use Rattle.rdlpp_scan.specs.SourceTokens.{SourceToken}
 use Rattle.rdlpp_table.specs.Table.{Macro}
 use Rattle.rdlpp_meaning.specs.declared.fault.FaultKind.{FaultKind}
 use Rattle.rdlpp_meaning.specs.declared.fault.FaultKind.TheVariants.{EmbeddedPerl, OpenString, OpenComment, LineTooLong, SourceTooLong}
-use Rattle.rdlpp_meaning.specs.Outcome.{Told}
+use Rattle.rdlpp_meaning.specs.Outcome.{Report}
 
 -- what a `define` comes to: the macros after it, or a kind of fault and its word (source: IEEE 1364-2001, `define`)
 pub data Defined : Type 0 where
@@ -54,7 +54,7 @@ pub record State : Type 0 where
   pub conditions_left : ℕ
 
 -- a fault of a kind at a physical line, about a word of which 128 bytes are told (source: this project's profile)
-unfoldable pub fault_at : FaultKind → ℕ → List ℕ → State → Told
+unfoldable pub fault_at : FaultKind → ℕ → List ℕ → State → Report
 fault_at kind line word s =
     record { kind = kind; name = s.name; line = shown_line s.shift line; word = take 128 word }
 

@@ -6,7 +6,7 @@ use Rattle.rdlpp_meaning.specs.declared.fault.Fault.{Fault}
 use Rattle.rdlpp_meaning.specs.declared.fault.FaultKind.{FaultKind}
 use Rattle.rdlpp_meaning.specs.declared.fault.FaultKind.TheVariants as fault
 use Rattle.rdlpp_meaning.specs.Meaning.{Passage, behind_bytes, leaves, outcome}
-use Rattle.rdlpp_meaning.specs.Outcome.{Told, told, Outcome, fails, gives}
+use Rattle.rdlpp_meaning.specs.Outcome.{Report, report_of, Outcome, fails, gives}
 use Rattle.rdlpp_meaning.specs.State.{fault_at}
 use Rattle.rdlpp_meaning.proofs.Outcomes.{outcome-behind_bytes, outcome-leaves}
 use Rattle.rdlpp_read.specs.Buffer.{Slides, reading_line_of}
@@ -44,7 +44,7 @@ unfolding uncut_of kept_uncut phase_uncut
 left_open g e free open_ = rw (free, open_) refl
 
 -- a kept fault
-pub steps_kept : {S R : Type 0} (g : Ghosts S R) (e : EngineView S R) (f : Told) → IsStarted e → IsBounded e → e.kept ≡ Some f → Walks g e e (Err f)
+pub steps_kept : {S R : Type 0} (g : Ghosts S R) (e : EngineView S R) (f : Report) → IsStarted e → IsBounded e → e.kept ≡ Some f → Walks g e e (Err f)
 unfolding has_met uncut_of kept_uncut no_len
 steps_kept g e f started bounded kept = record {
   limits = refl;
@@ -182,10 +182,10 @@ module _ {S R : Type 0} (g : Ghosts S R) (old new : EngineView S R) (free : old.
       }
 
   -- what a fault leaves, where nothing is pending
-  halts_at : (f : Told) → new ≡ record old { kept = Some f; files = new.files; sources = new.sources }
+  halts_at : (f : Report) → new ≡ record old { kept = Some f; files = new.files; sources = new.sources }
       → new.files ≡ record old.files { include_stack = with_buffer (inner_buffer new.files.include_stack) old.files.include_stack } → Slides (g.tells old.sources) ⊥ g.unread (inner_buffer old.files.include_stack) (inner_buffer new.files.include_stack) → old.pending ≡ nothing_pending → HaltsAt g 0 old new
   halts_at f becomes only moves drained =
-      let keeps : Option Told → EngineView S R = λ k. record old { kept = k; files = new.files; sources = new.sources } in
+      let keeps : Option Report → EngineView S R = λ k. record old { kept = k; files = new.files; sources = new.sources } in
       record {
         at = old;
         reached = reaches_same g old;
@@ -201,12 +201,12 @@ module _ {S R : Type 0} (g : Ghosts S R) (old new : EngineView S R) (free : old.
       }
 
   -- the open texts stay
-  same_texts : (f : Told) → new ≡ record old { kept = Some f; files = new.files; sources = new.sources } → new ≡ record old { kept = Some f; files = new.files; sources = new.sources; expansion = new.expansion }
+  same_texts : (f : Report) → new ≡ record old { kept = Some f; files = new.files; sources = new.sources } → new ≡ record old { kept = Some f; files = new.files; sources = new.sources; expansion = new.expansion }
   same_texts f becomes =
       becomes ∙ ap (λ x. record old { kept = Some f; files = new.files; sources = new.sources; expansion = x }) (sym (ap (λ e. e.expansion) becomes))
 
   -- the text has a fault, which is kept, wherever that came
-  pub walks_kept : (f : Told) → IsOwn f.kind → new ≡ record old { kept = Some f; files = new.files; sources = new.sources; expansion = new.expansion } → HaltsAt g 0 old new
+  pub walks_kept : (f : Report) → IsOwn f.kind → new ≡ record old { kept = Some f; files = new.files; sources = new.sources; expansion = new.expansion } → HaltsAt g 0 old new
       → SourcesCalled g false false old.sources new.sources
       → (g.tells old.sources → text_of g old ≡ leaves (fails f) (state_of new)) → KeepsStores g old new → Walks g old new (Err f)
   unfolding has_met no_len is_call_failed
@@ -242,7 +242,7 @@ module _ {S R : Type 0} (g : Ghosts S R) (old new : EngineView S R) (free : old.
       }
 
   -- a fault at the front of what is held
-  pub walks_fault : (f : Told) → IsOwn f.kind → new ≡ record old { kept = Some f; files = new.files; sources = new.sources }
+  pub walks_fault : (f : Report) → IsOwn f.kind → new ≡ record old { kept = Some f; files = new.files; sources = new.sources }
       → new.files ≡ record old.files { include_stack = with_buffer (inner_buffer new.files.include_stack) old.files.include_stack }
       → Slides (g.tells old.sources) ⊥ g.unread (inner_buffer old.files.include_stack) (inner_buffer new.files.include_stack) → old.pending ≡ nothing_pending
       → SourcesCalled g false false old.sources new.sources
@@ -251,7 +251,7 @@ module _ {S R : Type 0} (g : Ghosts S R) (old new : EngineView S R) (free : old.
       walks_kept f own (same_texts f becomes) (halts_at f becomes only moves drained) call text stores
 
   -- a read or a search failed, wherever that was
-  pub walks_ceased : (f : Told) → FailsAt new f → is_call_failed f.kind ≡ true → is_write_failed f.kind ≡ false
+  pub walks_ceased : (f : Report) → FailsAt new f → is_call_failed f.kind ≡ true → is_write_failed f.kind ≡ false
       → new ≡ record old { kept = Some f; files = new.files; sources = new.sources; expansion = new.expansion } → HaltsAt g 0 old new → StopsReading g old new
       → SourcesCalled g (is_read_failed f.kind) (is_memory_kind f.kind) old.sources new.sources → KeepsStores g old new → Walks g old new (Err f)
   unfolding has_met no_len
@@ -287,7 +287,7 @@ module _ {S R : Type 0} (g : Ghosts S R) (old new : EngineView S R) (free : old.
       }
 
   -- at the front of what is held
-  pub walks_stopped : (f : Told) → FailsAt new f → is_call_failed f.kind ≡ true → is_write_failed f.kind ≡ false
+  pub walks_stopped : (f : Report) → FailsAt new f → is_call_failed f.kind ≡ true → is_write_failed f.kind ≡ false
       → new ≡ record old { kept = Some f; files = new.files; sources = new.sources }
       → new.files ≡ record old.files { include_stack = with_buffer (inner_buffer new.files.include_stack) old.files.include_stack }
       → Slides (g.tells old.sources) ⊥ g.unread (inner_buffer old.files.include_stack) (inner_buffer new.files.include_stack) → old.pending ≡ nothing_pending
@@ -299,7 +299,7 @@ module _ {S R : Type 0} (g : Ghosts S R) (old new : EngineView S R) (free : old.
       (record { open_ = open_; still = still; at = new; stood = Itself refl; text = text }) call stores
 
   -- a read failed
-  pub walks_failed : (f : Told) → IsReading (inner_buffer new.files.include_stack) → f ≡ fault_at fault.ReadFailed (reading_line_of (inner_buffer new.files.include_stack)) [] (state_of new)
+  pub walks_failed : (f : Report) → IsReading (inner_buffer new.files.include_stack) → f ≡ fault_at fault.ReadFailed (reading_line_of (inner_buffer new.files.include_stack)) [] (state_of new)
       → new ≡ record old { kept = Some f; files = new.files; sources = new.sources }
       → new.files ≡ record old.files { include_stack = with_buffer (inner_buffer new.files.include_stack) old.files.include_stack }
       → Slides (g.tells old.sources) ⊥ g.unread (inner_buffer old.files.include_stack) (inner_buffer new.files.include_stack) → old.pending ≡ nothing_pending
@@ -374,17 +374,17 @@ pub record IsSilent {S R : Type 0} (g : Ghosts S R) (n : ℕ) (old mid : EngineV
   pub few : length reaches.between ≤ n
 
 -- what a step says of the fault that is kept, where it answers none: none was kept
-pub free_before : {S R : Type 0} {n : ℕ} (g : Ghosts S R) (left : EngineView S R → Outcome) (spent : Result (Option (List ℕ)) Told → ℕ) (most : ℕ → List ℕ → List ℕ) (goes_on : Phase → Bool) (old new : EngineView S R) (kept : Option Told) (lent : Option (List ℕ)) →
+pub free_before : {S R : Type 0} {n : ℕ} (g : Ghosts S R) (left : EngineView S R → Outcome) (spent : Result (Option (List ℕ)) Report → ℕ) (most : ℕ → List ℕ → List ℕ) (goes_on : Phase → Bool) (old new : EngineView S R) (kept : Option Report) (lent : Option (List ℕ)) →
     old.kept ≡ kept → StepsOver g n left spent most goes_on old new (Ok lent) → kept ≡ None
 free_before g left spent most goes_on old new None lent e s = refl
 free_before g left spent most goes_on old new (Some f) lent e s = cc ((s.kept f e).0)
 
 -- whether a fault was met, by the fault that was kept before
-met_none : (test : FaultKind → Bool) (a b : Option Told) (answer : Result (Option (List ℕ)) Told) → a ≡ None → b ≡ None → has_met test a answer ≡ has_met test b answer
+met_none : (test : FaultKind → Bool) (a b : Option Report) (answer : Result (Option (List ℕ)) Report) → a ≡ None → b ≡ None → has_met test a answer ≡ has_met test b answer
 met_none test a b answer p q = ap (λ k. has_met test k answer) (p ∙ sym q)
 
 -- an answer with no fault met none
-pub ok_not_met : (test : FaultKind → Bool) (kept : Option Told) (lent : Option (List ℕ)) → has_met test kept (Ok lent) ≡ false
+pub ok_not_met : (test : FaultKind → Bool) (kept : Option Report) (lent : Option (List ℕ)) → has_met test kept (Ok lent) ≡ false
 unfolding has_met
 ok_not_met test None lent = refl
 ok_not_met test (Some f) lent = refl
@@ -406,7 +406,7 @@ called_after g a b c d old mid new e f first then_ = record {
 }
 
 -- all of a piece is lent, whatever may still be
-told_over : {S R : Type 0} (g : Ghosts S R) (answer : Result (Option (List ℕ)) Told) (a b : ℕ) (p : Passage) (new : EngineView S R)
+told_over : {S R : Type 0} (g : Ghosts S R) (answer : Result (Option (List ℕ)) Report) (a b : ℕ) (p : Passage) (new : EngineView S R)
     → TellsText (all_of a) g answer p new → TellsText (all_of b) g answer p new
 unfolding all_of
 told_over g (Ok (Some bytes)) a b p new tells = record { piece = tells.piece; lent = tells.lent; text = tells.text }
@@ -419,7 +419,7 @@ unfolding all_of behind_bytes
 silent_text quota old new lends = lends.text ∙ ap (λ (x : List ℕ). behind_bytes x new) (sym lends.lent)
 
 -- what an answer leaves, behind such a part
-halts_behind : {S R : Type 0} (g : Ghosts S R) (n m : ℕ) (answer : Result (Option (List ℕ)) Told) (old mid new : EngineView S R) → IsSilent g n old mid → Halts g m answer mid new → Halts g (n + m) answer old new
+halts_behind : {S R : Type 0} (g : Ghosts S R) (n m : ℕ) (answer : Result (Option (List ℕ)) Report) (old mid new : EngineView S R) → IsSilent g n old mid → Halts g m answer mid new → Halts g (n + m) answer old new
 halts_behind g n m (Ok (Some bytes)) old mid new first halts = tt
 halts_behind g n m (Ok None) old mid new first halts = halts
 halts_behind g n m (Err f) old mid new first halts = record {
@@ -439,7 +439,7 @@ unfolding all_of
 lends_behind g n m old mid new bytes a b reaches few text tells l = record { at = l.at; reached = reaches_on g old mid l.at reaches l.reached; few = parts_both _ _ _ n m (length-append reaches.between l.reached.between) few l.few; text = λ t. text t ∙ l.text (tells t); after = l.after; becomes = l.becomes; piece = l.piece; lent = l.lent; stands = l.stands }
 
 -- such a part, and then a step, are one step
-pub silent_then : {S R : Type 0} (g : Ghosts S R) (n m : ℕ) (old mid new : EngineView S R) (answer : Result (Option (List ℕ)) Told) →
+pub silent_then : {S R : Type 0} (g : Ghosts S R) (n m : ℕ) (old mid new : EngineView S R) (answer : Result (Option (List ℕ)) Report) →
     IsSilent g n old mid → WalksOver g m mid new answer → WalksOver g (n + m) old new answer
 unfolding no_len all_of
 silent_then g n m old mid new answer first then_ =
@@ -521,14 +521,14 @@ silent_step g m old mid w =
     }
 
 -- a fault that came behind fewer parts
-halts_wider : {S R : Type 0} (g : Ghosts S R) (n m : ℕ) (answer : Result (Option (List ℕ)) Told) (old new : EngineView S R) → n ≤ m → Halts g n answer old new → Halts g m answer old new
+halts_wider : {S R : Type 0} (g : Ghosts S R) (n m : ℕ) (answer : Result (Option (List ℕ)) Report) (old new : EngineView S R) → n ≤ m → Halts g n answer old new → Halts g m answer old new
 halts_wider g n m (Ok (Some bytes)) old new more halts = tt
 halts_wider g n m (Ok None) old new more halts = halts
 halts_wider g n m (Err f) old new more halts =
     record { at = halts.at; reached = halts.reached; few = parts_wider _ n m halts.few more; idle = halts.idle; text = halts.text; drained = halts.drained; stopped = halts.stopped }
 
 -- what more parts may be is no more than so many
-pub wider : {S R : Type 0} (g : Ghosts S R) (n m : ℕ) (old new : EngineView S R) (answer : Result (Option (List ℕ)) Told) → n ≤ m
+pub wider : {S R : Type 0} (g : Ghosts S R) (n m : ℕ) (old new : EngineView S R) (answer : Result (Option (List ℕ)) Report) → n ≤ m
     → WalksOver g n old new answer → WalksOver g m old new answer
 wider g n m old new answer more w = record {
   limits = w.limits;
@@ -562,7 +562,7 @@ wider g n m old new answer more w = record {
 }
 
 -- a step that lent nothing, and then another, are one step
-pub steps_on : {S R : Type 0} (g : Ghosts S R) (n m : ℕ) (old mid new : EngineView S R) (answer : Result (Option (List ℕ)) Told) →
+pub steps_on : {S R : Type 0} (g : Ghosts S R) (n m : ℕ) (old mid new : EngineView S R) (answer : Result (Option (List ℕ)) Report) →
     WalksOver g n old mid (Ok (Some [])) → WalksOver g m mid new answer → WalksOver g (n + 1 + m) old new answer
 steps_on g n m old mid new answer first then_ = silent_then g (n + 1) m old mid new answer (silent_step g n old mid first) then_
 
@@ -571,7 +571,7 @@ abbrev pub Passes : {S R : Type 0} → Ghosts S R → ℕ → EngineView S R →
 Passes g n old new = (new ≡ old) ⊎ ((m : ℕ) × (m < n) × WalksOver g m old new (Ok (Some [])))
 
 -- such steps, and then another, are one step
-pub passes_on : {S R : Type 0} (g : Ghosts S R) (n m k : ℕ) (old mid new : EngineView S R) (answer : Result (Option (List ℕ)) Told) → n + m ≤ k →
+pub passes_on : {S R : Type 0} (g : Ghosts S R) (n m k : ℕ) (old mid new : EngineView S R) (answer : Result (Option (List ℕ)) Report) → n + m ≤ k →
     Passes g n old mid → WalksOver g m mid new answer → WalksOver g k old new answer
 passes_on {S} {R} g n m k old mid new answer room (inl same) steps =
     wider g m k old new answer (omega (arith, room)) (subst (λ (e : EngineView S R). WalksOver g m e new answer) same steps)
@@ -596,21 +596,21 @@ is_closed OverLimit a b c = absurd (c refl)
 is_closed Closed a b c = refl
 
 -- a kept fault, where one is
-pub steps_kept_by : {S R : Type 0} (g : Ghosts S R) (e : EngineView S R) (o : Option Fault) → IsStarted e → IsBounded e → e.kept ≡ option_map told o → is_some o ≡ true →
+pub steps_kept_by : {S R : Type 0} (g : Ghosts S R) (e : EngineView S R) (o : Option Fault) → IsStarted e → IsBounded e → e.kept ≡ option_map report_of o → is_some o ≡ true →
     Walks g e e (kept_answer e.kept)
 steps_kept_by g e None started bounded kept some = cc some
 steps_kept_by g e (Some f) started bounded kept some =
-    subst (λ (a : Result (Option (List ℕ)) Told). Walks g e e a) (sym (ap kept_answer kept)) (steps_kept g e (told f) started bounded kept)
+    subst (λ (a : Result (Option (List ℕ)) Report). Walks g e e a) (sym (ap kept_answer kept)) (steps_kept g e (report_of f) started bounded kept)
 
 -- none is kept, where none is
-pub none_kept_by : (k : Option Told) (o : Option Fault) → k ≡ option_map told o → is_some o ≡ false → k ≡ None
+pub none_kept_by : (k : Option Report) (o : Option Fault) → k ≡ option_map report_of o → is_some o ≡ false → k ≡ None
 none_kept_by k None kept none = kept
 none_kept_by k (Some f) kept none = cc none
 
 -- whether a kept fault is that of a write that failed
-pub write_failed_by : (f : Fault) (t : Told) → Some (told f) ≡ Some t → is_write_failed f.kind ≡ is_write_failed t.kind
-unfolding told
-write_failed_by f t e = ap (λ (x : Told). is_write_failed x.kind) (let same : told f ≡ t = cc e in same)
+pub write_failed_by : (f : Fault) (t : Report) → Some (report_of f) ≡ Some t → is_write_failed f.kind ≡ is_write_failed t.kind
+unfolding report_of
+write_failed_by f t e = ap (λ (x : Report). is_write_failed x.kind) (let same : report_of f ≡ t = cc e in same)
 
 -- more bytes are due than the output may have
 pub steps_passed : {S R : Type 0} (g : Ghosts S R) (old new : EngineView S R) →
@@ -649,11 +649,11 @@ steps_passed {S} {R} g old new free past bounded becomes =
     }
 
 -- a fault that is kept is what is answered
-pub kept_lent : {S R : Type 0} (e : EngineView S R) (place : PieceLocation) (f : Told) → place ≡ AtFault → e.kept ≡ Some f → lent_answer e place ≡ Err f
+pub kept_lent : {S R : Type 0} (e : EngineView S R) (place : PieceLocation) (f : Report) → place ≡ AtFault → e.kept ≡ Some f → lent_answer e place ≡ Err f
 kept_lent e place f is kept = ap (lent_answer e) is ∙ ap kept_answer kept
 
 -- a fault that is kept is what a step answers
-pub kept_at : {S R : Type 0} (g : Ghosts S R) (old new : EngineView S R) (place : PieceLocation) (f : Told) →
+pub kept_at : {S R : Type 0} (g : Ghosts S R) (old new : EngineView S R) (place : PieceLocation) (f : Report) →
     place ≡ AtFault → new.kept ≡ Some f → Walks g old new (Err f) → Walks g old new (lent_answer new place)
 kept_at g old new place f is kept steps =
-    subst (λ (a : Result (Option (List ℕ)) Told). Walks g old new a) (sym (kept_lent new place f is kept)) steps
+    subst (λ (a : Result (Option (List ℕ)) Report). Walks g old new a) (sym (kept_lent new place f is kept)) steps

@@ -18,7 +18,7 @@ use Rattle.rdlpp_table.specs.declared.fault.DefineKind.TheVariants as define
 use Rattle.rdlpp_meaning.specs.declared.fault.FaultKind.{FaultKind}
 use Rattle.rdlpp_meaning.specs.declared.fault.FaultKind.TheVariants as fault
 use Rattle.rdlpp_meaning.specs.Meaning.{Passage, behind_bytes, goes_on, leaves}
-use Rattle.rdlpp_meaning.specs.Outcome.{Told, fails}
+use Rattle.rdlpp_meaning.specs.Outcome.{Report, fails}
 use Rattle.rdlpp_meaning.specs.Parts.{line_ends_of}
 use Rattle.rdlpp_meaning.specs.Profile.{define_fault, rules_of, with_fault}
 use Rattle.rdlpp_meaning.specs.State.{State, fault_at}
@@ -197,7 +197,7 @@ pub kept_cut : {S R : Type 0} (old new : EngineView S R) (kind : FaultKind) (lin
     new ≡ record old { kept = Some (fault_at kind line word s) } → word ≡ take 128 name →
     new ≡ record old { kept = Some (fault_at kind line name s) }
 kept_cut {S} {R} old new kind line word name s becomes cut =
-    let keeps : Told → EngineView S R = λ f. record old { kept = Some f } in
+    let keeps : Report → EngineView S R = λ f. record old { kept = Some f } in
     becomes ∙ ap keeps (ap (λ w. fault_at kind line w s) cut ∙ cut_once kind line name s)
 
 -- only the innermost buffer and the sources changed
@@ -223,7 +223,7 @@ read_state {S} {R} old mid r =
     ∙ rw (limits, table, conditions) refl)
 
 -- what keeping a fault makes of an engine
-pub keeps_fault : {S R : Type 0} {g : Ghosts S R} (old mid new : EngineView S R) (f : Told) → IsRead g old mid → new ≡ record mid { kept = Some f }
+pub keeps_fault : {S R : Type 0} {g : Ghosts S R} (old mid new : EngineView S R) (f : Report) → IsRead g old mid → new ≡ record mid { kept = Some f }
     → new ≡ record old { kept = Some f; files = new.files; sources = new.sources }
 keeps_fault {S} {R} old mid new f r becomes =
     let files : new.files ≡ mid.files = ap (λ e. e.files) becomes in
@@ -233,19 +233,19 @@ keeps_fault {S} {R} old mid new f r becomes =
     ∙ (ap (λ (fs : FilesView R). keeps fs mid.sources) (sym files) ∙ ap (λ (s : S). keeps new.files s) (sym sources)))
 
 -- and the innermost buffer alone
-pub keeps_files : {S R : Type 0} {g : Ghosts S R} (old mid new : EngineView S R) (f : Told) → IsRead g old mid → new ≡ record mid { kept = Some f }
+pub keeps_files : {S R : Type 0} {g : Ghosts S R} (old mid new : EngineView S R) (f : Report) → IsRead g old mid → new ≡ record mid { kept = Some f }
     → new.files ≡ record old.files { include_stack = with_buffer (inner_buffer new.files.include_stack) old.files.include_stack }
 keeps_files {S} {R} old mid new f r becomes =
     subst (λ (fs : FilesView R). fs ≡ record old.files { include_stack = with_buffer (inner_buffer fs.include_stack) old.files.include_stack }) (sym (ap (λ e. e.files) becomes)) r.only
 
 -- whose window moved on
-pub keeps_moves : {S R : Type 0} {g : Ghosts S R} (old mid new : EngineView S R) (f : Told) → IsRead g old mid → new ≡ record mid { kept = Some f }
+pub keeps_moves : {S R : Type 0} {g : Ghosts S R} (old mid new : EngineView S R) (f : Report) → IsRead g old mid → new ≡ record mid { kept = Some f }
     → Slides (g.tells old.sources) ⊥ g.unread (inner_buffer old.files.include_stack) (inner_buffer new.files.include_stack)
 keeps_moves {S} {R} {g} old mid new f r becomes =
     subst (λ (fs : FilesView R). Slides (g.tells old.sources) ⊥ g.unread (inner_buffer old.files.include_stack) (inner_buffer fs.include_stack)) (sym (ap (λ e. e.files) becomes)) r.moves
 
 -- and what is held stays
-pub keeps_read : {S R : Type 0} (g : Ghosts S R) (old mid new : EngineView S R) (f : Told) → IsReady old → IsRead g old mid → new ≡ record mid { kept = Some f } → g.catalog mid.sources ≡ g.catalog old.sources → (MayGoOn new → ⊥)
+pub keeps_read : {S R : Type 0} (g : Ghosts S R) (old mid new : EngineView S R) (f : Report) → IsReady old → IsRead g old mid → new ≡ record mid { kept = Some f } → g.catalog mid.sources ≡ g.catalog old.sources → (MayGoOn new → ⊥)
     → KeepsStores g old new
 keeps_read {S} {R} g old mid new f ready r becomes catalog stops =
     let b = inner_buffer mid.files.include_stack in
@@ -269,7 +269,7 @@ read_text {S} {R} g old mid drained idle r catalog law =
     ∙ (rw (limits, origins, table, conditions, catalog) refl ∙ sym (text_drained g mid (pending ∙ drained) (ap (λ e. e.expansion.opens) r.becomes ∙ idle)))))
 
 -- the fault that is kept is no part of the text
-pub kept_text : {S R : Type 0} (g : Ghosts S R) (mid new : EngineView S R) (f : Told) → new ≡ record mid { kept = Some f } → text_of g new ≡ text_of g mid
+pub kept_text : {S R : Type 0} (g : Ghosts S R) (mid new : EngineView S R) (f : Report) → new ≡ record mid { kept = Some f } → text_of g new ≡ text_of g mid
 unfolding text_of state_of
 kept_text g mid new f becomes = ap (text_of g) becomes
 
@@ -279,7 +279,7 @@ unfolding fault_at
 told_kind kind line word s own = own
 
 -- a fault of the text is kept, as it is told in the state that the text goes on from
-pub refuses_by : {S R : Type 0} (g : Ghosts S R) (old mid new : EngineView S R) (place : PieceLocation) (tell : State → Told) → ((s : State) → IsOwn (tell s).kind) → IsReady old → IsRead g old mid → IsBounded new
+pub refuses_by : {S R : Type 0} (g : Ghosts S R) (old mid new : EngineView S R) (place : PieceLocation) (tell : State → Report) → ((s : State) → IsOwn (tell s).kind) → IsReady old → IsRead g old mid → IsBounded new
     → place ≡ Fault → new ≡ record mid { kept = Some (tell (state_of mid)) } → SourcesCalled g false false old.sources mid.sources
     → (g.tells old.sources → left_by g old old.table.macros old.conditions old.files.include_stack ≡ leaves (fails (tell (state_of old))) (state_of old))
     → Walks g old new (lent_answer new place)
@@ -310,7 +310,7 @@ pub fails_reading : {S R : Type 0} (g : Ghosts S R) (old mid new : EngineView S 
     → Walks g old new (lent_answer new place)
 unfolding state_of
 fails_reading {S} {R} g old mid new place ready r reading bounded is becomes call law =
-    let told : EngineView S R → Told = λ e. fault_at fault.ReadFailed (reading_line_of (inner_buffer e.files.include_stack)) [] (include_stack_state e.limits e.table.macros e.conditions e.files.include_stack) in
+    let told : EngineView S R → Report = λ e. fault_at fault.ReadFailed (reading_line_of (inner_buffer e.files.include_stack)) [] (include_stack_state e.limits e.table.macros e.conditions e.files.include_stack) in
     let sources : new.sources ≡ mid.sources = ap (λ e. e.sources) becomes in
     let P : S → Type 0 = λ s. SourcesCalled g true false old.sources s in
     let open_ : new.phase ≡ Open = ap (λ e. e.phase) becomes ∙ (ap (λ e. e.phase) r.becomes ∙ ready.open_) in

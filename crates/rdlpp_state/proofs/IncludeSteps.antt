@@ -14,7 +14,7 @@ use Rattle.rdlpp_table.specs.Table.{Macro}
 use Rattle.rdlpp_table.specs.declared.limits.Limits.{Limits}
 use Rattle.rdlpp_meaning.specs.Meaning.{Passage, Progress, added_end, at_start_of, back_in, behind_bytes, goes_on, leaves, origin_line, unquoted}
 use Rattle.rdlpp_meaning.specs.Opened.{Waiting, all_resumed, unwound}
-use Rattle.rdlpp_meaning.specs.Outcome.{Told, fails}
+use Rattle.rdlpp_meaning.specs.Outcome.{Report, fails}
 use Rattle.rdlpp_meaning.specs.Output.{start_state}
 use Rattle.rdlpp_meaning.specs.Profile.{rules_of}
 use Rattle.rdlpp_meaning.specs.Resumed.{Live, Place as OwnPlace, resumed}
@@ -370,7 +370,7 @@ module _ {S R : Type 0} (g : Ghosts S R) (old mid new : EngineView S R) (start s
       → KeepsKind kind → is_bad_name name_of ≡ false → length old.files.include_stack < old.files.slots → Walks g old new (lent_answer new place)
   unfolding fault_at state_of
   stopped_steps place is kind met write call kept good room =
-      let told : EngineView S R → Told = λ e. fault_at kind (inner_buffer e.files.include_stack).line [] (include_stack_state e.limits e.table.macros e.conditions e.files.include_stack) in
+      let told : EngineView S R → Report = λ e. fault_at kind (inner_buffer e.files.include_stack).line [] (include_stack_state e.limits e.table.macros e.conditions e.files.include_stack) in
       let r = read_sources g old mid becomes in
       let files : new.files ≡ old.files = ap (λ e. e.files) kept ∙ same_files in
       let sources : new.sources ≡ mid.sources = ap (λ e. e.sources) kept in

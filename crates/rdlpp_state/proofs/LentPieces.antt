@@ -7,7 +7,7 @@ use Rattle.rdlpp_scan.specs.declared.token.Mode.{Mode}
 use Rattle.rdlpp_table.specs.Table.{Macro}
 use Rattle.rdlpp_table.specs.declared.limits.Limits.{Limits}
 use Rattle.rdlpp_meaning.specs.Meaning.{behind_bytes, origin_line}
-use Rattle.rdlpp_meaning.specs.Outcome.{Outcome, Told, and_then, fails, gives}
+use Rattle.rdlpp_meaning.specs.Outcome.{Outcome, Report, and_then, fails, gives}
 use Rattle.rdlpp_meaning.specs.OutputLimit.{limited}
 use Rattle.rdlpp_meaning.specs.Parts.{line_ends_of}
 use Rattle.rdlpp_meaning.specs.Profile.{rules_of}
@@ -224,12 +224,12 @@ marking {S} {R} inside e after m change is becomes marks =
     ap (λ (n : MarksView). record inside { marks = n }) marks ∙ ap (λ (x : EngineView S R). record x { marks = change x.marks }) (is ∙ becomes)
 
 -- no fault is kept
-no_fault : (kept : Option Told) → is_some kept ≡ false → kept ≡ None
+no_fault : (kept : Option Report) → is_some kept ≡ false → kept ≡ None
 no_fault None e = refl
 no_fault (Some f) e = cc e
 
 -- the place where a fault is kept, and where no main text is open
-nowhere_by : {S R : Type 0} (e : EngineView S R) (kept : Option Told) → e.kept ≡ kept → is_some kept ≡ true → position_of e ≡ None
+nowhere_by : {S R : Type 0} (e : EngineView S R) (kept : Option Report) → e.kept ≡ kept → is_some kept ≡ true → position_of e ≡ None
 unfolding position_of
 nowhere_by e None is some = cc some
 nowhere_by e (Some f) is some = rw is refl
@@ -237,7 +237,7 @@ nowhere_by e (Some f) is some = rw is refl
 pub nowhere_kept : {S R : Type 0} (e : EngineView S R) → is_some e.kept ≡ true → position_of e ≡ None
 nowhere_kept e some = nowhere_by e e.kept refl some
 
-nowhere_free : {S R : Type 0} (e : EngineView S R) (kept : Option Told) → e.kept ≡ kept → is_open e.phase ≡ false → position_of e ≡ None
+nowhere_free : {S R : Type 0} (e : EngineView S R) (kept : Option Report) → e.kept ≡ kept → is_open e.phase ≡ false → position_of e ≡ None
 unfolding position_of
 nowhere_free e None is closed = rw (is, closed) refl
 nowhere_free e (Some f) is closed = rw is refl
@@ -336,7 +336,7 @@ part_cut xs from to len h =
     ap (λ k. take k (drop from xs)) same ∙ sym (take-take len (to - from) (drop from xs) h)
 
 -- an outcome without bytes is within each limit
-tells_end : (over : Told) (quota : ℕ) (o : Outcome) → o ≡ gives [] → limited over quota o ≡ gives []
+tells_end : (over : Report) (quota : ℕ) (o : Outcome) → o ≡ gives [] → limited over quota o ≡ gives []
 unfolding gives
 tells_end over quota o is = ap (limited over quota) is ∙ limited-within over quota (gives []) (omega arith)
 
@@ -373,7 +373,7 @@ module _ {S R : Type 0} (g : Ghosts S R) (old new : EngineView S R) where
     stores = w.stores;
   }
 
-  pub cut_fault : (f : Told) → WalksOver g most_silent old new (Err f) → Steps g old new (Err f)
+  pub cut_fault : (f : Report) → WalksOver g most_silent old new (Err f) → Steps g old new (Err f)
   unfolding left_of no_len lent_len
   cut_fault f w = record {
     limits = w.limits;
@@ -413,7 +413,7 @@ module _ {S R : Type 0} (g : Ghosts S R) (e : EngineView S R) (quota : ℕ) wher
   phase_same OverLimit = refl
   phase_same Closed = refl
 
-  kept_same : (kept : Option Told) → kept_uncut g kept (record e { quota = quota }) ≡ kept_uncut g kept e
+  kept_same : (kept : Option Report) → kept_uncut g kept (record e { quota = quota }) ≡ kept_uncut g kept e
   unfolding kept_uncut
   kept_same None = phase_same e.phase
   kept_same (Some f) = refl
@@ -622,7 +622,7 @@ text_cut_placed {S} {R} mid new place len placed spent =
     (record { source = placed.source; order = omega arith; inside = omega arith })
 
 -- the fault that is kept, or the end where none is
-pub cut_kept : {S R : Type 0} (g : Ghosts S R) (old new : EngineView S R) (kept : Option Told) → WalksOver g most_silent old new (kept_answer kept) → Steps g old new (kept_answer kept)
+pub cut_kept : {S R : Type 0} (g : Ghosts S R) (old new : EngineView S R) (kept : Option Report) → WalksOver g most_silent old new (kept_answer kept) → Steps g old new (kept_answer kept)
 cut_kept g old new None w = cut_end g old new w
 cut_kept g old new (Some f) w = cut_fault g old new f w
 

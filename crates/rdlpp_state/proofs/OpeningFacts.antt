@@ -13,7 +13,7 @@ use Rattle.rdlpp_table.specs.declared.limits.Limits.{Limits}
 use Rattle.rdlpp_table.proofs.Sizes.{length_table_bytes}
 use Rattle.rdlpp_meaning.specs.Meaning.{Passage, Progress, behind_bytes, origin_line, outcome}
 use Rattle.rdlpp_meaning.specs.Opened.{all_resumed}
-use Rattle.rdlpp_meaning.specs.Outcome.{Outcome, Told, and_then, fails, gives}
+use Rattle.rdlpp_meaning.specs.Outcome.{Outcome, Report, and_then, fails, gives}
 use Rattle.rdlpp_meaning.specs.Output.{character_place, name_cut, opening_fault, output, start_state}
 use Rattle.rdlpp_meaning.specs.OutputLimit.{limited, limited_output, search_rules, unlimited_output}
 use Rattle.rdlpp_meaning.specs.Profile.{rules_of}
@@ -327,7 +327,7 @@ unfolding looked_up_output looked_up searches_of limited_output unlimited_output
 found_output g e path answer found = ap (λ (a : Answer). looked_up g e path (lookup_of a)) found
 
 -- the output of a main path that is no text
-looked_up-fails : {S R : Type 0} (g : Ghosts S R) (e : EngineView S R) (path : List ℕ) (lookup : Lookup) (f : Told)
+looked_up-fails : {S R : Type 0} (g : Ghosts S R) (e : EngineView S R) (path : List ℕ) (lookup : Lookup) (f : Report)
     → output (run_rules g e) e.table.macros e.limits.includes e.limits.conditions path lookup ≡ fails f
     → looked_up g e path lookup ≡ fails f
 unfolding looked_up
@@ -402,7 +402,7 @@ starts_refused {S} {R} g e s kind path own none idle bounded failures refusals t
   opens = λ is. absurd (cc is);
   refused = λ f is.
       let same : opening_fault kind path ≡ f = cc is in
-      (sym same ∙ ap (λ (t : Told). opening_fault t.kind path) same, ap (unopened_engine (record e { sources = s })) same);
+      (sym same ∙ ap (λ (t : Report). opening_fault t.kind path) same, ap (unopened_engine (record e { sources = s })) same);
   call = record { failures = failures; refusals = refusals; tells = tells; catalog = catalog };
   remains_output = λ device memory telling. left_unopened g e s kind path ∙ told device memory telling;
   bounded = record {

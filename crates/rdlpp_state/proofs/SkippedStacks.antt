@@ -25,7 +25,7 @@ use Rattle.rdlpp_table.specs.Table.{Macro}
 use Rattle.rdlpp_table.specs.declared.limits.Limits.{Limits}
 use Rattle.rdlpp_meaning.specs.Meaning.{Passage, Progress, behind_bytes, leaves}
 use Rattle.rdlpp_meaning.specs.Opened.{Waiting, all_resumed}
-use Rattle.rdlpp_meaning.specs.Outcome.{Told, fails}
+use Rattle.rdlpp_meaning.specs.Outcome.{Report, fails}
 use Rattle.rdlpp_meaning.specs.Parts.{line_ends_of, only_blanks}
 use Rattle.rdlpp_meaning.specs.Resumed.{Place, Skipped}
 use Rattle.rdlpp_meaning.specs.State.{Rules, State, breach_kind, fault_at}
@@ -366,7 +366,7 @@ module _ {R : Type 0} (limits : Limits) (rules : Rules) (unread : R → List ℕ
   waiting = waiting_around limits rules unread (outer_open f.conditions_below v.open_now) f outer
 
   -- the fault of a conditional that is open where its source ends, at the line that it showed
-  abbrev pub fault_of_unclosed : Progress → Told
+  abbrev pub fault_of_unclosed : Progress → Report
   fault_of_unclosed o = record { kind = OpenConditional; name = here.name; line = o.line; word = [] }
 
   module _ (o : Progress) (os : List Progress) (is_open : v.open_now ≡ o ∷ os) (below : f.conditions_below ≤ length os) where

@@ -9,7 +9,7 @@ use Rattle.rdlpp_table.specs.Table.{Formal, Macro}
 use Rattle.rdlpp_table.specs.View.{macro_at}
 use Rattle.rdlpp_meaning.specs.CallScan.{Before}
 use Rattle.rdlpp_meaning.specs.Opens.{Open}
-use Rattle.rdlpp_meaning.specs.Outcome.{Told}
+use Rattle.rdlpp_meaning.specs.Outcome.{Report}
 use Rattle.rdlpp_meaning.specs.Parts.{only_blanks}
 use Rattle.rdlpp_meaning.specs.declared.fault.FaultKind.{FaultKind}
 use Rattle.rdlpp_meaning.specs.declared.fault.FaultKind.TheVariants.{ReadFailed, SourceMemory, WriteFailed}
@@ -72,12 +72,12 @@ unfolding is_call_failed
 own_failed kind own = or_from _ _ own.read own.memory
 
 -- a fault is kept, and nothing is made again: the engine can't go on
-stops_by : {S R : Type 0} (e : EngineView S R) (f : Told) → e.kept ≡ Some f → is_failed_search e ≡ false → is_failed_start e ≡ false → MayGoOn e → ⊥
+stops_by : {S R : Type 0} (e : EngineView S R) (f : Report) → e.kept ≡ Some f → is_failed_search e ≡ false → is_failed_start e ≡ false → MayGoOn e → ⊥
 stops_by e f kept search start (inl none) = (let no : Some f ≡ None = sym kept ∙ none in cc)
 stops_by e f kept search start (inr on) = false≢true (sym (or_from (is_failed_search e) (is_failed_start e) search start) ∙ on)
 
 -- so it is after a fault that is none of a device or of memory
-pub own_stops : {S R : Type 0} (e : EngineView S R) (f : Told) → e.kept ≡ Some f → is_call_failed f.kind ≡ false → MayGoOn e → ⊥
+pub own_stops : {S R : Type 0} (e : EngineView S R) (f : Report) → e.kept ≡ Some f → is_call_failed f.kind ≡ false → MayGoOn e → ⊥
 unfolding is_failed_search is_failed_start is_failed_call
 own_stops e f kept own =
     let none : is_failed_call e.kept ≡ false = ap is_failed_call kept ∙ own in
@@ -90,7 +90,7 @@ read_never e reading =
     and_right (is_failed_call e.kept) _ (and_right (may_follow e.phase) (begins_include (held_of (inner_buffer e.files.include_stack))) (read_front (inner_buffer e.files.include_stack) reading))
 
 -- and after one that failed
-pub read_stops : {S R : Type 0} (e : EngineView S R) (f : Told) → e.kept ≡ Some f → e.phase ≡ OpenPhase → IsReading (inner_buffer e.files.include_stack) → MayGoOn e → ⊥
+pub read_stops : {S R : Type 0} (e : EngineView S R) (f : Report) → e.kept ≡ Some f → e.phase ≡ OpenPhase → IsReading (inner_buffer e.files.include_stack) → MayGoOn e → ⊥
 unfolding is_failed_start is_over
 read_stops e f kept open_ reading = stops_by e f kept (read_never e reading) (and_right (is_failed_call e.kept) (is_over e.phase) (ap is_over open_))
 
@@ -382,7 +382,7 @@ keeps_phase g old phase quota free = record {
 }
 
 -- where a fault is kept that is none of a device or of memory, and nothing else changed: it closes nothing
-pub keeps_refused : {S R : Type 0} (g : Ghosts S R) (old : EngineView S R) (f : Told) → is_call_failed f.kind ≡ false → KeepsStores g old (record old { kept = Some f })
+pub keeps_refused : {S R : Type 0} (g : Ghosts S R) (old : EngineView S R) (f : Report) → is_call_failed f.kind ≡ false → KeepsStores g old (record old { kept = Some f })
 keeps_refused {S} {R} g old f own =
     let new : EngineView S R = record old { kept = Some f } in
     let stops : MayGoOn new → ⊥ = own_stops new f refl own in
@@ -397,7 +397,7 @@ keeps_refused {S} {R} g old f own =
     }
 
 -- where a search failed: the sources alone changed, and no byte is lost
-pub keeps_searched : {S R : Type 0} (g : Ghosts S R) (old : EngineView S R) (f : Told) (sources : S) → old.kept ≡ None → old.expansion.opens ≡ [] → g.catalog sources ≡ g.catalog old.sources
+pub keeps_searched : {S R : Type 0} (g : Ghosts S R) (old : EngineView S R) (f : Report) (sources : S) → old.kept ≡ None → old.expansion.opens ≡ [] → g.catalog sources ≡ g.catalog old.sources
     → KeepsStores g old (record old { kept = Some f; sources = sources })
 keeps_searched g old f sources free idle catalog =
     let none = none_called old.table.macros old.expansion.opens idle in
@@ -414,7 +414,7 @@ keeps_searched g old f sources free idle catalog =
 
 -- where a fault is kept that came at the front of what is held, and after which the engine can't go on: the innermost window moved on, and
 -- bytes may be lost after it
-pub keeps_stopped : {S R : Type 0} (g : Ghosts S R) (old : EngineView S R) (f : Told) (b : BufferView R) (sources : S) → old.kept ≡ None → old.expansion.opens ≡ [] → 0 < length old.files.include_stack
+pub keeps_stopped : {S R : Type 0} (g : Ghosts S R) (old : EngineView S R) (f : Report) (b : BufferView R) (sources : S) → old.kept ≡ None → old.expansion.opens ≡ [] → 0 < length old.files.include_stack
     → g.catalog sources ≡ g.catalog old.sources → Slides (g.tells old.sources) ⊥ g.unread (inner_buffer old.files.include_stack) b
     → (MayGoOn (record old { kept = Some f; files = record old.files { include_stack = with_buffer b old.files.include_stack }; sources = sources }) → ⊥)
     → KeepsStores g old (record old { kept = Some f; files = record old.files { include_stack = with_buffer b old.files.include_stack }; sources = sources })
@@ -434,7 +434,7 @@ keeps_stopped {S} {R} g old f b sources free idle some catalog slides stops =
     }
 
 -- where a fault is kept that came in the call of a usage, and after which the engine can't go on
-pub keeps_broken : {S R : Type 0} (g : Ghosts S R) (old : EngineView S R) (f : Told) (include_stack : List (File R)) (s : S) (opening : Opening) (arguments used : List ℕ) (len : ℕ) (exact : Type 0) (formals : Option (List Formal))
+pub keeps_broken : {S R : Type 0} (g : Ghosts S R) (old : EngineView S R) (f : Report) (include_stack : List (File R)) (s : S) (opening : Opening) (arguments used : List ℕ) (len : ℕ) (exact : Type 0) (formals : Option (List Formal))
     → old.kept ≡ None → old.expansion.opens ≡ [] → 0 < length old.files.include_stack → g.catalog s ≡ g.catalog old.sources → include_stack ≡ with_used (inner_buffer include_stack) used old.files.include_stack
     → MovesOver (g.tells old.sources) exact g.unread used (inner_buffer old.files.include_stack) (inner_buffer include_stack)
     → (inner_buffer (with_inner (consumed_file len 0) old.files.include_stack)).at ≤ (inner_buffer old.files.include_stack).accepted → (inner_buffer old.files.include_stack).mode ≡ Plain → is_opened opening ≡ false

@@ -7,7 +7,7 @@ use Rattle.rdlpp_meaning.specs.Meaning.{Passage, Progress, behind_bytes, goes_on
 use Rattle.rdlpp_meaning.specs.OpenItems.{open_left}
 use Rattle.rdlpp_meaning.specs.Opened.{Waiting}
 use Rattle.rdlpp_meaning.specs.Opens.{Open, Texts}
-use Rattle.rdlpp_meaning.specs.Outcome.{Outcome, Told, and_then, fails, gives}
+use Rattle.rdlpp_meaning.specs.Outcome.{Outcome, Report, and_then, fails, gives}
 use Rattle.rdlpp_meaning.specs.Parts.{only_blanks}
 use Rattle.rdlpp_meaning.specs.Profile.{rules_of}
 use Rattle.rdlpp_meaning.specs.State.{Rules, State, fault_at}
@@ -61,7 +61,7 @@ use Rattle.rdlpp_state.proofs.LentPieces.{usage_position}
 -- The steps of the open texts of a usage, as steps of the engine.
 
 -- bytes in front of what goes on
-goes_by : (bytes xs : List ℕ) (f : Option Told) (s : State) (next : State → Passage)
+goes_by : (bytes xs : List ℕ) (f : Option Report) (s : State) (next : State → Passage)
     → goes_on (leaves (and_then (gives bytes) (record { bytes = xs; fault = f })) s) next ≡ behind_bytes bytes (goes_on (leaves (record { bytes = xs; fault = f }) s) next)
 unfolding goes_on leaves and_then gives behind_bytes
 goes_by bytes xs None s next = behind_twice bytes xs (next s)
@@ -100,7 +100,7 @@ texts_go rules s macros old new bytes p goes stays =
     ∙ ap (λ (o : Outcome). behind_bytes bytes (goes_on (leaves o s) (λ after. p))) (same_left rules s macros old new stays))
 
 -- or end with a fault
-texts_fail : (rules : Rules) (s : State) (macros : List Macro) (x : ExpansionView) (f : Told) (p : Passage)
+texts_fail : (rules : Rules) (s : State) (macros : List Macro) (x : ExpansionView) (f : Report) (p : Passage)
     → open_left rules s x.line x.depth (texts_of macros x.arguments) x.opens ≡ fails f → goes_on (texts_left rules s macros x) (λ after. p) ≡ leaves (fails f) s
 unfolding texts_left
 texts_fail rules s macros x f p ends = ap (λ (o : Outcome). goes_on (leaves o s) (λ after. p)) ends ∙ fails-goes_on f s (λ after. p)
@@ -183,7 +183,7 @@ pub texts_refuse : {S R : Type 0} (g : Ghosts S R) (old mid new : EngineView S R
 unfolding IsStep StepsTo state_of text_of
 texts_refuse {S} {R} g old mid new place fault drained bounded same is kept own step =
     let word = place_bytes (held_texts old) fault.word in
-    let f : Told = fault_at fault.kind old.expansion.line word (state_of old) in
+    let f : Report = fault_at fault.kind old.expansion.line word (state_of old) in
     let becomes : new ≡ record old { kept = Some f } =
     subst (λ (m : EngineView S R). new ≡ record m { kept = Some (fault_at fault.kind m.expansion.line (place_bytes (held_texts m) fault.word) (state_of m)) }) same kept in
     let r : IsRead g old old = read_nothing old in
@@ -247,7 +247,7 @@ fault_text result fault is kind = let p : IsTextFault (RefusedStep fault) = subs
 -- A usage that is opened: what remained of the open sources is its open texts and then what remains of the open sources behind it.
 
 -- what goes on from a state goes on from that one alone
-goes_from_by : (bytes : List ℕ) (f : Option Told) (s : State) (next : State → Passage)
+goes_from_by : (bytes : List ℕ) (f : Option Report) (s : State) (next : State → Passage)
     → goes_on (leaves (record { bytes = bytes; fault = f }) s) next ≡ goes_on (leaves (record { bytes = bytes; fault = f }) s) (λ after. next s)
 unfolding goes_on leaves
 goes_from_by bytes None s next = refl
@@ -431,7 +431,7 @@ module _ {S R : Type 0} (old mid : EngineView S R) (becomes : mid ≡ record old
   opened_is = becomes ∙ ap (λ (fs : FilesView R). record old { files = fs; sources = mid.sources; expansion = mid.expansion }) only
 
   -- and where a fault is kept, and no text was opened, the same open texts, but for what is kept of the call
-  pub stopped_is : (new : EngineView S R) (f : Told) → mid.expansion ≡ record old.expansion { arguments = mid.expansion.arguments } → new ≡ record mid { kept = Some f }
+  pub stopped_is : (new : EngineView S R) (f : Report) → mid.expansion ≡ record old.expansion { arguments = mid.expansion.arguments } → new ≡ record mid { kept = Some f }
       → new ≡ record old { kept = Some f; files = record old.files { include_stack = mid.files.include_stack }; sources = mid.sources; expansion = record old.expansion { arguments = mid.expansion.arguments } }
   stopped_is new f same is =
       is ∙ (ap (λ (m : EngineView S R). record m { kept = Some f }) opened_is
@@ -491,7 +491,7 @@ module _ {S R : Type 0} (g : Ghosts S R) (old : EngineView S R) (ready : IsReady
       falls keeps (Nowhere refl turn)
 
   -- the one that keeps a fault of its call
-  abbrev pub stopped_engine : Told → EngineView S R
+  abbrev pub stopped_engine : Report → EngineView S R
   stopped_engine f = record old { kept = Some f; files = record old.files { include_stack = include_stack }; sources = s; expansion = record old.expansion { arguments = x.arguments } }
 
   module _ (len : ℕ) (mode : (inner_buffer old.files.include_stack).mode ≡ Plain) (usage : IsUsage (held_of (inner_buffer old.files.include_stack)) len) (unopened : is_opened opening ≡ false)
@@ -499,26 +499,26 @@ module _ {S R : Type 0} (g : Ghosts S R) (old : EngineView S R) (ready : IsReady
       (kept : KeepsUsage macro.formals (g.tells old.sources) g.unread old.expansion.most opening x.arguments (inner_buffer (with_inner (consumed_file len 0) old.files.include_stack)) (inner_buffer include_stack))
       (inside : (inner_buffer (with_inner (consumed_file len 0) old.files.include_stack)).at ≤ (inner_buffer old.files.include_stack).accepted) where
     -- it stopped in the call
-    stops_in : (f : Told) → StopsInCall g old (stopped_engine f)
+    stops_in : (f : Report) → StopsInCall g old (stopped_engine f)
     stops_in f = record { len = len; mode = mode; usage = usage; idle = ready.idle; becomes = refl; only = refl; opening = opening; unopened = unopened; macro = macro; named = named; kept = kept; uses = uses }
 
     -- and closes nothing
-    stores_in : (f : Told) → g.catalog s ≡ g.catalog old.sources → (MayGoOn (stopped_engine f) → ⊥) → KeepsStores g old (stopped_engine f)
+    stores_in : (f : Report) → g.catalog s ≡ g.catalog old.sources → (MayGoOn (stopped_engine f) → ⊥) → KeepsStores g old (stopped_engine f)
     stores_in f catalog stops =
         keeps_broken g old f include_stack s opening x.arguments uses.used len (IsExactOpening opening) macro.formals ready.free ready.idle ready.include_stack catalog uses.inner uses.moves inside mode unopened kept stops
 
-    halts_in : (f : Told) → HaltsAt g 0 old (stopped_engine f)
+    halts_in : (f : Report) → HaltsAt g 0 old (stopped_engine f)
     halts_in f = record { at = old; reached = reaches_same g old; few = no_part _ refl; idle = λ h none. h.idle (inl ready.free) none; text = λ t. refl; drained = ready.pending; stopped = InCall (stops_in f) }
 
     -- and stands in the same state
-    same_here : (f : Told) → state_of (stopped_engine f) ≡ state_of old
+    same_here : (f : Report) → state_of (stopped_engine f) ≡ state_of old
     unfolding state_of
     same_here f =
         ap (include_stack_state old.limits old.table.macros old.conditions) uses.inner
         ∙ used_state old.limits old.table.macros old.conditions (inner_buffer include_stack) uses.used old.files.include_stack
 
     -- a fault of the text
-    usage_faults : (f : Told) → IsOwn f.kind → IsBounded (stopped_engine f) → SourcesCalled g false false old.sources s
+    usage_faults : (f : Report) → IsOwn f.kind → IsBounded (stopped_engine f) → SourcesCalled g false false old.sources s
         → (g.tells old.sources → text_by (run_rules g old) g old ≡ leaves (fails f) (state_of old)) → Walks g old (stopped_engine f) (Err f)
     usage_faults f own bounded call law =
         walks_kept g old (stopped_engine f) ready.free ready.open_ bounded f own refl (halts_in f) call

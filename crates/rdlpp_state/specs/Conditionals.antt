@@ -8,7 +8,7 @@ use Rattle.rdlpp_scan.specs.declared.token.Mode.TheVariants.{Plain}
 use Rattle.rdlpp_scan.specs.Tokens.{token_of}
 use Rattle.rdlpp_meaning.specs.declared.fault.FaultKind.TheVariants.{OpenConditional}
 use Rattle.rdlpp_meaning.specs.Meaning.{Holds, Stopped, Test, opening_within}
-use Rattle.rdlpp_meaning.specs.Outcome.{Told}
+use Rattle.rdlpp_meaning.specs.Outcome.{Report}
 use Rattle.rdlpp_meaning.specs.State.{State, fault_at}
 use Rattle.rdlpp_conditions.specs.Conditions.{ConditionsView, conditions_left}
 use Rattle.rdlpp_conditions.specs.Moves.{opened_with}
@@ -50,7 +50,7 @@ unfoldable pub passes_over : {S R : Type 0} → ℕ → ℕ → EngineView S R �
 passes_over len lines e = record e { pending = line_ends_pending lines; files = record e.files { include_stack = with_inner (consumed_file len lines) e.files.include_stack } }
 
 -- the fault of a conditional that is open where its source ends, at the line that it showed (this project's profile)
-abbrev pub unclosed_fault : ℕ → State → Told
+abbrev pub unclosed_fault : ℕ → State → Report
 unclosed_fault line s = record { kind = OpenConditional; name = s.name; line = line; word = [] }
 
 -- an engine of whose innermost source so many bytes are used that have no LF, with other conditionals open

@@ -5,7 +5,7 @@ use Rattle.rdlpp_table.specs.Limits.{AreInRange}
 use Rattle.rdlpp_table.specs.Table.{Macro, table_size}
 use Rattle.rdlpp_table.specs.View.{TableView}
 use Rattle.rdlpp_table.specs.declared.limits.Limits.{Limits}
-use Rattle.rdlpp_meaning.specs.Outcome.{Told}
+use Rattle.rdlpp_meaning.specs.Outcome.{Report}
 use Rattle.rdlpp_conditions.specs.Conditions.{ConditionsView}
 use Rattle.rdlpp_read.specs.Files.{FilesView}
 use Rattle.rdlpp_read.specs.declared.files.File.{File}
@@ -25,7 +25,7 @@ pub record EngineView (S R : Type 0) : Type 0 where
   pub origins : Bool
   pub phase : Phase
   pub quota : ℕ
-  pub kept : Option Told
+  pub kept : Option Report
   pub main : List ℕ
   pub pending : PendingView
   pub marks : MarksView

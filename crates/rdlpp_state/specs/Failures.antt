@@ -4,7 +4,7 @@ use Rattle.std.specs.Prelude.{◌≡◌, ◌⊎◌, ◌&&◌, ◌||◌, ℕ, Boo
 use Rattle.std.specs.List.{starts_with}
 use Rattle.rdlpp_meaning.specs.declared.fault.FaultKind.{FaultKind}
 use Rattle.rdlpp_meaning.specs.declared.fault.FaultKind.TheVariants.{ReadFailed, WriteFailed, SourceMemory, EmbeddedPerl}
-use Rattle.rdlpp_meaning.specs.Outcome.{Told}
+use Rattle.rdlpp_meaning.specs.Outcome.{Report}
 use Rattle.rdlpp_read.specs.Buffer.{held_of}
 use Rattle.rdlpp_read.specs.Files.{inner_buffer}
 use Rattle.rdlpp_state.specs.Engine.{EngineView}
@@ -52,7 +52,7 @@ is_over OverLimit = false
 is_over Closed = true
 
 -- whether a fault is kept that is one of a device or of memory
-unfoldable pub is_failed_call : Option Told → Bool
+unfoldable pub is_failed_call : Option Report → Bool
 is_failed_call None = false
 is_failed_call (Some f) = is_call_failed f.kind
 

@@ -10,7 +10,7 @@ use Rattle.rdlpp_table.specs.declared.limits.Limits.{Limits}
 use Rattle.rdlpp_meaning.specs.declared.fault.Fault.{Fault}
 use Rattle.rdlpp_meaning.specs.declared.fault.FaultKind.{FaultKind}
 use Rattle.rdlpp_meaning.specs.declared.fault.FaultKind.TheVariants.{PathTooLong, ReadFailed, SourceMemory, SourceNotFound}
-use Rattle.rdlpp_meaning.specs.Outcome.{Told, told, Outcome}
+use Rattle.rdlpp_meaning.specs.Outcome.{Report, report_of, Outcome}
 use Rattle.rdlpp_meaning.specs.Output.{name_cut, opening_fault}
 use Rattle.rdlpp_state.specs.Engine.{EngineView}
 use Rattle.rdlpp_state.specs.Marks.{no_marks}
@@ -61,7 +61,7 @@ opened_engine e path found = record e {
 }
 
 -- an engine whose main text couldn't be opened
-unfoldable pub unopened_engine : {S R : Type 0} → EngineView S R → Told → EngineView S R
+unfoldable pub unopened_engine : {S R : Type 0} → EngineView S R → Report → EngineView S R
 unopened_engine e fault = record e { phase = Closed; kept = Some fault }
 
 -- what the searches of sources come to that tell their texts
@@ -73,17 +73,17 @@ unfoldable pub looked_up_output : {S R : Type 0} → Ghosts S R → EngineView S
 looked_up_output g e path = limited_output e.limits (searches_of (g.catalog e.sources)) e.origins e.table.macros path
 
 -- the fault that a start answers
-unfoldable pub start_fault : Result (Unit {0}) Fault → Option Told
+unfoldable pub start_fault : Result (Unit {0}) Fault → Option Report
 start_fault (Ok done) = None
-start_fault (Err fault) = Some (told fault)
+start_fault (Err fault) = Some (report_of fault)
 
 -- whether a start was refused at a device
-unfoldable pub is_device_fault : Option Told → Bool
+unfoldable pub is_device_fault : Option Report → Bool
 is_device_fault None = false
 is_device_fault (Some f) = is_read_failed f.kind
 
 -- whether a start was refused memory
-unfoldable pub is_memory_fault : Option Told → Bool
+unfoldable pub is_memory_fault : Option Report → Bool
 is_memory_fault None = false
 is_memory_fault (Some f) = is_memory_kind f.kind
 
@@ -105,7 +105,7 @@ pub record Opens {S R : Type 0} (g : Ghosts S R) (old new : EngineView S R) (pat
 
 -- what a start does: it keeps what it answers; the counts of failures; the text that was opened, or the fault of the opening
 -- for that path, of one of the four kinds that an opening has, where nothing else changed; the output that remains is that of the main path (this project's profile)
-pub record Starts {S R : Type 0} (g : Ghosts S R) (old new : EngineView S R) (path : List ℕ) (answer : Option Told) : Type 0 where
+pub record Starts {S R : Type 0} (g : Ghosts S R) (old new : EngineView S R) (path : List ℕ) (answer : Option Report) : Type 0 where
   pub limits : new.limits ≡ old.limits
   pub origins : new.origins ≡ old.origins
   pub table : new.table ≡ old.table
@@ -113,7 +113,7 @@ pub record Starts {S R : Type 0} (g : Ghosts S R) (old new : EngineView S R) (pa
   pub keeps : new.kept ≡ answer
   pub opens : answer ≡ None → Opens g old new path
   pub kinds : IfSome answer (λ f. is_opening_kind f.kind ≡ true)
-  pub refused : (f : Told) → answer ≡ Some f → (f ≡ opening_fault f.kind path) × (new ≡ unopened_engine (record old { sources = new.sources }) f)
+  pub refused : (f : Report) → answer ≡ Some f → (f ≡ opening_fault f.kind path) × (new ≡ unopened_engine (record old { sources = new.sources }) f)
   pub call : SourcesCalled g (is_device_fault answer) (is_memory_fault answer) old.sources new.sources
   pub remains_output : is_device_fault answer ≡ false → is_memory_fault answer ≡ false → g.tells old.sources
       → left_of g new ≡ looked_up_output g old path

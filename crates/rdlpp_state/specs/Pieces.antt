@@ -2,7 +2,7 @@
 -- A definition that names no source is this project's own.
 use Rattle.std.specs.Prelude.{◌≡◌, ℕ, ◌≤◌, ◌<◌, List, [], length, take, slice_range, Option, None, Some, Result, Ok, Err, ⊤}
 use Rattle.std.specs.Borrow.{Bor}
-use Rattle.rdlpp_meaning.specs.Outcome.{Told, told}
+use Rattle.rdlpp_meaning.specs.Outcome.{Report, report_of}
 use Rattle.rdlpp_meaning.specs.declared.fault.Fault.{Fault}
 use Rattle.rdlpp_read.specs.Files.{inner_buffer}
 use Rattle.rdlpp_meaning.specs.Opens.{Texts}
@@ -46,17 +46,17 @@ piece_bytes (Bytes bytes) = Some bytes.now
 piece_bytes Done = None
 
 -- what an answer tells: bytes, the end, or a fault
-abbrev pub answer_of : Result Piece (Bor Fault) → Result (Option (List ℕ)) Told
+abbrev pub answer_of : Result Piece (Bor Fault) → Result (Option (List ℕ)) Report
 answer_of (Ok piece) = Ok (piece_bytes piece)
-answer_of (Err fault) = Err (told fault.now)
+answer_of (Err fault) = Err (report_of fault.now)
 
 -- what is answered of a fault, where one is kept
-abbrev pub kept_answer : Option Told → Result (Option (List ℕ)) Told
+abbrev pub kept_answer : Option Report → Result (Option (List ℕ)) Report
 kept_answer (Some f) = Err f
 kept_answer None = Ok None
 
 -- what is answered at a place
-abbrev pub lent_answer : {S R : Type 0} → EngineView S R → PieceLocation → Result (Option (List ℕ)) Told
+abbrev pub lent_answer : {S R : Type 0} → EngineView S R → PieceLocation → Result (Option (List ℕ)) Report
 lent_answer e (Source start end) = Ok (bytes_at e (Source start end))
 lent_answer e (Text place) = Ok (bytes_at e (Text place))
 lent_answer e (Pending piece) = Ok (bytes_at e (Pending piece))
@@ -66,12 +66,12 @@ lent_answer e AtFault = kept_answer e.kept
 -- what is answered is what stands at a place: a part of the innermost source's buffer, of a live body, of a default, or of what is kept of a call, a few LF bytes, or a piece of
 -- an origin line: a fixed text, the shown name, or decimal digits
 -- (source: this project's profile)
-pub record Lends {S R : Type 0} (e : EngineView S R) (answer : Result (Option (List ℕ)) Told) : Type 0 where
+pub record Lends {S R : Type 0} (e : EngineView S R) (answer : Result (Option (List ℕ)) Report) : Type 0 where
   pub place : PieceLocation
   pub placed : IsPlaced e place
   pub lent : answer ≡ lent_answer e place
 
 -- what is answered by a step: what stands at a place, or no bytes, where nothing is lent
-abbrev pub step_answer : {S R : Type 0} → EngineView S R → Option PieceLocation → Result (Option (List ℕ)) Told
+abbrev pub step_answer : {S R : Type 0} → EngineView S R → Option PieceLocation → Result (Option (List ℕ)) Report
 step_answer e None = Ok (Some [])
 step_answer e (Some place) = lent_answer e place

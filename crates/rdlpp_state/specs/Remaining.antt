@@ -9,7 +9,7 @@ use Rattle.rdlpp_meaning.specs.declared.fault.FaultKind.TheVariants.{OutputBytes
 use Rattle.rdlpp_meaning.specs.Meaning.{Passage, Progress, behind_bytes, goes_on, leaves, origin_line, outcome}
 use Rattle.rdlpp_meaning.specs.Opened.{Waiting}
 use Rattle.rdlpp_meaning.specs.OutputLimit.{limited}
-use Rattle.rdlpp_meaning.specs.Outcome.{Told, Outcome, gives, fails}
+use Rattle.rdlpp_meaning.specs.Outcome.{Report, Outcome, gives, fails}
 use Rattle.rdlpp_meaning.specs.State.{Lookup, LongPath, NoSource, Rules, Source, State, shown_line}
 use Rattle.rdlpp_meaning.specs.Profile.{rules_of}
 use Rattle.rdlpp_meaning.specs.Output.{start_state}
@@ -104,7 +104,7 @@ text_of g e = behind_bytes (pending_bytes (inner_name e.files.include_stack) e.p
 
 -- the fault of an output that has more bytes than it may have: under the main text's name, at line 0, about no word
 -- (this project's profile)
-unfoldable pub output_fault : List ℕ → Told
+unfoldable pub output_fault : List ℕ → Report
 output_fault main = record { kind = OutputBytes; name = main; line = 0; word = [] }
 
 -- what remains without the limit on the output, by how far an engine is
@@ -115,7 +115,7 @@ phase_uncut g OverLimit e = fails (output_fault e.main)
 phase_uncut g Closed e = gives []
 
 -- what remains without the limit on the output, by the fault that is kept
-unfoldable pub kept_uncut : {S R : Type 0} → Ghosts S R → Option Told → EngineView S R → Outcome
+unfoldable pub kept_uncut : {S R : Type 0} → Ghosts S R → Option Report → EngineView S R → Outcome
 kept_uncut g (Some f) e = fails f
 kept_uncut g None e = phase_uncut g e.phase e
 

@@ -2,7 +2,7 @@
 -- A definition that names no source is this project's own.
 use Rattle.std.specs.Prelude.{◌≡◌, ℕ, true, false, List, Option, None, Some, Err}
 use Rattle.rdlpp_source.specs.declared.sources.Sources.{Ghosts}
-use Rattle.rdlpp_meaning.specs.Outcome.{Told}
+use Rattle.rdlpp_meaning.specs.Outcome.{Report}
 use Rattle.rdlpp_read.specs.Files.{inner_buffer}
 use Rattle.rdlpp_state.specs.Engine.{EngineView}
 unfoldable pub use Rattle.rdlpp_state.specs.Failures.{begins_include, is_failed_call, is_failed_search, is_failed_start, is_over}
@@ -21,16 +21,16 @@ use Rattle.rdlpp_state.specs.declared.phase.Phase.TheVariants.{Fresh, Open}
 pub record Retries {S R : Type 0} (g : Ghosts S R) (old new : EngineView S R) : Type 0 where
   pub forgets : is_failed_search old ≡ true → new ≡ record old { kept = None }
   pub same : is_failed_search old ≡ false → new ≡ old
-  pub search : (f : Told) → old.kept ≡ Some f → is_call_failed f.kind ≡ true → old.phase ≡ Open → IsSearch old → is_failed_search old ≡ true
+  pub search : (f : Report) → old.kept ≡ Some f → is_call_failed f.kind ≡ true → old.phase ≡ Open → IsSearch old → is_failed_search old ≡ true
   pub read : IsReading (inner_buffer old.files.include_stack) → is_failed_search old ≡ false
-  pub remains : is_failed_search old ≡ true → (before : EngineView S R) (f : Told) → before.kept ≡ None → Steps g before old (Err f)
+  pub remains : is_failed_search old ≡ true → (before : EngineView S R) (f : Report) → before.kept ≡ None → Steps g before old (Err f)
       → g.tells before.sources → (text_of g before ≡ text_of g new) × (left_of g before ≡ left_of g new)
   pub lets_go : LetsGo old → LetsGo new
   pub stores : HoldsStores g old → HoldsStores g new
 
 -- what a second start does: where the opening of the main text failed, it is a start of the same engine that wasn't started; else nothing
 -- changes, and the fault that is kept is answered; and where the stores were what they should be, they are so after it (this project's profile)
-pub record StartsAgain {S R : Type 0} (g : Ghosts S R) (old new : EngineView S R) (path : List ℕ) (answer : Option Told) : Type 0 where
+pub record StartsAgain {S R : Type 0} (g : Ghosts S R) (old new : EngineView S R) (path : List ℕ) (answer : Option Report) : Type 0 where
   pub again : is_failed_start old ≡ true → Starts g (record old { phase = Fresh; kept = None }) new path answer
   pub same : is_failed_start old ≡ false → (new ≡ old) × (answer ≡ old.kept)
   pub lets_go : LetsGo old → LetsGo new

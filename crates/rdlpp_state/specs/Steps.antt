@@ -7,7 +7,7 @@ use Rattle.rdlpp_meaning.specs.declared.fault.FaultKind.{FaultKind}
 use Rattle.rdlpp_meaning.specs.declared.fault.FaultKind.TheVariants.{ReadFailed}
 use Rattle.rdlpp_meaning.specs.Meaning.{Passage, behind_bytes, leaves}
 use Rattle.rdlpp_meaning.specs.State.{State, fault_at}
-use Rattle.rdlpp_meaning.specs.Outcome.{Told, Outcome, gives, fails, and_then}
+use Rattle.rdlpp_meaning.specs.Outcome.{Report, Outcome, gives, fails, and_then}
 use Rattle.rdlpp_read.specs.Buffer.{BufferView, Slides, held_of, reading_line_of}
 use Rattle.rdlpp_table.specs.Table.{Macro, macro_named}
 use Rattle.rdlpp_read.specs.Files.{consumed_file, inner_buffer, with_buffer, with_inner}
@@ -28,21 +28,21 @@ use Rattle.rdlpp_state.specs.declared.phase.Phase.{Phase}
 use Rattle.rdlpp_state.specs.declared.phase.Phase.TheVariants.{Fresh, Open, OverLimit, Closed}
 
 -- whether an answer is a fault of such a kind, and none was kept before the call
-unfoldable pub has_met : (FaultKind → Bool) → Option Told → Result (Option (List ℕ)) Told → Bool
+unfoldable pub has_met : (FaultKind → Bool) → Option Report → Result (Option (List ℕ)) Report → Bool
 has_met test (Some f) answer = false
 has_met test None (Ok lent) = false
 has_met test None (Err f) = test f.kind
 
 -- whether an answer is a read that failed in this call
-abbrev pub has_failed : Option Told → Result (Option (List ℕ)) Told → Bool
+abbrev pub has_failed : Option Report → Result (Option (List ℕ)) Report → Bool
 has_failed kept answer = has_met is_read_failed kept answer
 
 -- whether an answer is memory that was refused in this call
-abbrev pub has_refused : Option Told → Result (Option (List ℕ)) Told → Bool
+abbrev pub has_refused : Option Report → Result (Option (List ℕ)) Report → Bool
 has_refused kept answer = has_met is_memory_kind kept answer
 
 -- whether an answer is a read or a search that failed in this call, at a device or for memory
-abbrev pub has_stopped : Option Told → Result (Option (List ℕ)) Told → Bool
+abbrev pub has_stopped : Option Report → Result (Option (List ℕ)) Report → Bool
 has_stopped kept answer = has_met is_call_failed kept answer
 
 -- a kind of fault that is a text's own: none of a device or of memory
@@ -52,7 +52,7 @@ pub record IsOwn (kind : FaultKind) : Type 0 where
   pub memory : is_memory_kind kind ≡ false
 
 -- what an answer says of what remained: bytes that were lent and then what remains now, the end, or the fault
-abbrev pub Tells : Result (Option (List ℕ)) Told → Outcome → Outcome → Type 0
+abbrev pub Tells : Result (Option (List ℕ)) Report → Outcome → Outcome → Type 0
 Tells (Ok (Some bytes)) old new = old ≡ and_then (gives bytes) new
 Tells (Ok None) old new = (old ≡ gives []) × (new ≡ gives [])
 Tells (Err f) old new = old ≡ fails f
@@ -72,7 +72,7 @@ pub record LendsText (most : List ℕ → List ℕ) (bytes : List ℕ) (old new 
 
 -- what an answer says of what remained of the text, with the state behind it: a piece and then what remains now; the end; or the
 -- fault, in the state that the engine stands in
-abbrev pub TellsText : {S R : Type 0} → (List ℕ → List ℕ) → Ghosts S R → Result (Option (List ℕ)) Told → Passage → EngineView S R → Type 0
+abbrev pub TellsText : {S R : Type 0} → (List ℕ → List ℕ) → Ghosts S R → Result (Option (List ℕ)) Report → Passage → EngineView S R → Type 0
 TellsText most g (Ok (Some bytes)) old new = LendsText most bytes old (text_of g new)
 TellsText most g (Ok None) old new = EndsText new old
 TellsText most g (Err f) old new = old ≡ leaves (fails f) (state_of new)
@@ -83,7 +83,7 @@ IsReading b = (held_of b ≡ []) ⊎ ((rest : List ℕ) × (held_of b ≡ codes 
 
 -- the fault of a read that failed, at the line that is read; or that of a search that failed, at the line of the `include` that
 -- asked for it
-pub data FailsAt {S R : Type 0} (e : EngineView S R) (f : Told) : Type 0 where
+pub data FailsAt {S R : Type 0} (e : EngineView S R) (f : Report) : Type 0 where
   OnRead : IsReading (inner_buffer e.files.include_stack) → f ≡ fault_at ReadFailed (reading_line_of (inner_buffer e.files.include_stack)) [] (state_of e) → FailsAt e f
   OnSearch : IsSearch e → (kind : FaultKind) → is_call_failed kind ≡ true → f ≡ fault_at kind (inner_buffer e.files.include_stack).line [] (state_of e) → FailsAt e f
 
@@ -141,7 +141,7 @@ pub record HaltsAt {S R : Type 0} (g : Ghosts S R) (silent : ℕ) (old new : Eng
   pub stopped : Halted g at new
 
 -- what an answer leaves of an open text: where it ended, nothing is pending; where a fault came, nothing else changed
-abbrev pub Halts : {S R : Type 0} → Ghosts S R → ℕ → Result (Option (List ℕ)) Told → EngineView S R → EngineView S R → Type 0
+abbrev pub Halts : {S R : Type 0} → Ghosts S R → ℕ → Result (Option (List ℕ)) Report → EngineView S R → EngineView S R → Type 0
 Halts g silent (Ok (Some bytes)) old new = ⊤
 Halts g silent (Ok None) old new = new.pending ≡ nothing_pending
 Halts g silent (Err f) old new = HaltsAt g silent old new
@@ -155,13 +155,13 @@ IsStarted e = e.phase ≡ Fresh → ⊥
 -- and then the output that remains; so it is with the text and the state behind it; where a read or a search failed, the same text remains; what
 -- is pending and what changed at the end and at a fault; the work left falls; bytes come of an open text alone; what may still be lent;
 -- the room of the table; the bound holds; before a piece so many parts of it at most lent none
-pub record StepsOver {S R : Type 0} (g : Ghosts S R) (silent : ℕ) (left : EngineView S R → Outcome) (spent : Result (Option (List ℕ)) Told → ℕ)
-    (most : ℕ → List ℕ → List ℕ) (goes_on : Phase → Bool) (old new : EngineView S R) (answer : Result (Option (List ℕ)) Told) : Type 0 where
+pub record StepsOver {S R : Type 0} (g : Ghosts S R) (silent : ℕ) (left : EngineView S R → Outcome) (spent : Result (Option (List ℕ)) Report → ℕ)
+    (most : ℕ → List ℕ → List ℕ) (goes_on : Phase → Bool) (old new : EngineView S R) (answer : Result (Option (List ℕ)) Report) : Type 0 where
   pub limits : new.limits ≡ old.limits
   pub origins : new.origins ≡ old.origins
   pub main : new.main ≡ old.main
   pub started : IsStarted new
-  pub kept : (f : Told) → old.kept ≡ Some f → (answer ≡ Err f) × (new ≡ old)
+  pub kept : (f : Report) → old.kept ≡ Some f → (answer ≡ Err f) × (new ≡ old)
   pub ended : old.kept ≡ None → old.phase ≡ Closed → (answer ≡ Ok None) × (new ≡ old)
   pub passed : old.kept ≡ None → old.phase ≡ OverLimit → (answer ≡ Err (output_fault old.main)) × (new ≡ record old { kept = Some (output_fault old.main) })
   pub keeps : IfErr answer (λ f. new.kept ≡ Some f)
@@ -186,13 +186,13 @@ pub record StepsOver {S R : Type 0} (g : Ghosts S R) (silent : ℕ) (left : Engi
   pub stores : g.tells old.sources → HoldsStores g old → HoldsStores g new
 
 -- how many bytes an answer lends
-unfoldable pub lent_len : Result (Option (List ℕ)) Told → ℕ
+unfoldable pub lent_len : Result (Option (List ℕ)) Report → ℕ
 lent_len (Ok (Some bytes)) = length bytes
 lent_len (Ok None) = 0
 lent_len (Err f) = 0
 
 -- none, whatever is answered
-unfoldable pub no_len : Result (Option (List ℕ)) Told → ℕ
+unfoldable pub no_len : Result (Option (List ℕ)) Report → ℕ
 no_len answer = 0
 
 -- all of a piece, whatever may still be lent
@@ -201,13 +201,13 @@ all_of quota piece = piece
 
 -- a step over what remains of the output, in which the lent bytes count: no more are lent of a piece than may be (this project's
 -- profile)
-abbrev pub Steps : {S R : Type 0} → Ghosts S R → EngineView S R → EngineView S R → Result (Option (List ℕ)) Told → Type 0
+abbrev pub Steps : {S R : Type 0} → Ghosts S R → EngineView S R → EngineView S R → Result (Option (List ℕ)) Report → Type 0
 Steps g old new answer = StepsOver g most_silent (left_of g) lent_len take is_open old new answer
 
 -- a step over what remains without the limit on the output, of which so many parts at most before a piece lent no bytes
-abbrev pub WalksOver : {S R : Type 0} → Ghosts S R → ℕ → EngineView S R → EngineView S R → Result (Option (List ℕ)) Told → Type 0
+abbrev pub WalksOver : {S R : Type 0} → Ghosts S R → ℕ → EngineView S R → EngineView S R → Result (Option (List ℕ)) Report → Type 0
 WalksOver g silent old new answer = StepsOver g silent (uncut_of g) no_len all_of may_follow old new answer
 
 -- one such step alone
-abbrev pub Walks : {S R : Type 0} → Ghosts S R → EngineView S R → EngineView S R → Result (Option (List ℕ)) Told → Type 0
+abbrev pub Walks : {S R : Type 0} → Ghosts S R → EngineView S R → EngineView S R → Result (Option (List ℕ)) Report → Type 0
 Walks g old new answer = WalksOver g 0 old new answer

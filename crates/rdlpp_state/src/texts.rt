@@ -1,6 +1,6 @@
 // Short texts of bounded length.
 ghost use Rattle.std.specs.Prelude.{◌≡◌, length, take};
-ghost use Rattle.rdlpp_meaning.specs.Outcome.{told};
+ghost use Rattle.rdlpp_meaning.specs.Outcome.{report_of};
 ghost use Rattle.rdlpp_front.specs.Names.{IsWordBytes};
 
 use arrayvec::ArrayString;
@@ -17,9 +17,9 @@ pub fn copied<const N: usize>(text: &ArrayString<N>) -> ArrayString<N>
 }
 
 /// The same fault once more.
-#[tactic(auto, unfolding(rdlpp_meaning::specs::Outcome::told))]
+#[tactic(auto, unfolding(rdlpp_meaning::specs::Outcome::report_of))]
 pub fn copied_fault(fault: &Fault) -> Fault
-    ensures { told result ≡ told fault.now }
+    ensures { report_of result ≡ report_of fault.now }
 {
     Fault {
         kind: fault.kind,

@@ -1,7 +1,7 @@
 // How an engine is made, and how its main text is opened.
 ghost use Rattle.std.specs.Prelude.{◌≡◌, OnErr};
 ghost use Rattle.rdlpp_table.specs.Define.{observed, set_of};
-ghost use Rattle.rdlpp_meaning.specs.Outcome.{told};
+ghost use Rattle.rdlpp_meaning.specs.Outcome.{report_of};
 ghost use Rattle.rdlpp_meaning.specs.Output.{name_cut, opening_fault};
 ghost use Rattle.rdlpp_state.specs.Held.{IsBounded};
 ghost use Rattle.rdlpp_state.specs.Includes.{kind_of_source};
@@ -140,10 +140,10 @@ impl<S: Sources> Engine<S> {
     }
 
     // Keeps a fault of the opening of the main text.
-    #[tactic(auto, unfolding(rdlpp_state::specs::Opening::unopened_engine, rdlpp_meaning::specs::Output::opening_fault, rdlpp_meaning::specs::Outcome::told))]
+    #[tactic(auto, unfolding(rdlpp_state::specs::Opening::unopened_engine, rdlpp_meaning::specs::Output::opening_fault, rdlpp_meaning::specs::Outcome::report_of))]
     fn record_main_fault(&mut self, kind: FaultKind, path: &str) -> Fault
         requires { self.old.phase ≡ Phase.Fresh }
-        ensures fault { told result ≡ opening_fault kind path.now }
+        ensures fault { report_of result ≡ opening_fault kind path.now }
         ensures kept { self.new ≡ unopened_engine self.old (opening_fault kind path.now) }
     {
         let fault = Fault {

@@ -1,5 +1,5 @@
 use Rattle.std.proofs.Common.{arith}
-use Rattle.rdlpp_meaning.specs.Outcome.{told}
+use Rattle.rdlpp_meaning.specs.Outcome.{report_of}
 use Rattle.rdlpp_state.specs.Remaining.{state_of}
 use Rattle.rdlpp_state.proofs.Soundness.{inner_number, told_first}
 use Rattle.rdlpp_expand.proofs.engine.Engine.record_fault_at.Goals as goal
@@ -11,7 +11,7 @@ shown_line-requires g c =
     omega arith
 
 pub returns-clause-kept : goal.returns-clause-kept
-unfolding told state_of
+unfolding report_of state_of
 returns-clause-kept g c =
     let name = c.copied.ensures in
     let shown = c.shown_line.ensures in

@@ -1,5 +1,5 @@
 use Rattle.std.proofs.Common.{ap, sym, ◌∙◌, option_map}
-use Rattle.rdlpp_meaning.specs.Outcome.{told}
+use Rattle.rdlpp_meaning.specs.Outcome.{report_of}
 use Rattle.rdlpp_state.specs.Failures.{is_failed_start, is_over}
 use Rattle.rdlpp_state.specs.Opening.{start_fault}
 use Rattle.rdlpp_expand.proofs.Readings.{failed_over, fresh_whole, starts_again, starts_never}
@@ -18,9 +18,9 @@ returns-then-keeps_failed_start g c =
 pub returns-in-Some : goal.returns-in-Some
 unfolding start_fault
 returns-in-Some g c =
-    starts_never g.S.Sources _ _ _ (sym c.keeps_failed_start.ensures ∙ c.if-keeps_failed_start.false) (sym (ap (option_map told) c.in-Some.is) ∙ c.kept_fault.ensures)
+    starts_never g.S.Sources _ _ _ (sym c.keeps_failed_start.ensures ∙ c.if-keeps_failed_start.false) (sym (ap (option_map report_of) c.in-Some.is) ∙ c.kept_fault.ensures)
 
 pub returns-in-None : goal.returns-in-None
 unfolding start_fault
 returns-in-None g c =
-    starts_never g.S.Sources _ _ _ (sym c.keeps_failed_start.ensures ∙ c.if-keeps_failed_start.false) (sym (ap (option_map told) c.in-None.is) ∙ c.kept_fault.ensures)
+    starts_never g.S.Sources _ _ _ (sym c.keeps_failed_start.ensures ∙ c.if-keeps_failed_start.false) (sym (ap (option_map report_of) c.in-None.is) ∙ c.kept_fault.ensures)
