@@ -18,7 +18,7 @@ use Rattle.rdlpp_state.specs.Engine.{EngineView}
 use Rattle.rdlpp_state.specs.Opening.{fresh_engine, is_device_fault, is_memory_fault}
 use Rattle.rdlpp_state.specs.Remaining.{left_of}
 use Rattle.rdlpp_state.specs.Searches.{Retries, StartsAgain, is_failed_search, is_failed_start}
-use Rattle.rdlpp_state.specs.Steps.{Steps, has_failed, has_met, has_refused, is_memory_kind, is_read_failed}
+use Rattle.rdlpp_state.specs.Steps.{Step, has_failed, has_met, has_refused, is_memory_kind, is_read_failed}
 use Rattle.rdlpp_expand.specs.Reading.{FillsPart, GivesPiece, IsNextPiece, Leaves, LentEnds, Pauses, ReadingView, Turns, ended_with, reading_left}
 use Rattle.rdlpp_expand.specs.Run.{Stops, is_fresh}
 use Rattle.rdlpp_expand.specs.declared.reading.ReadEnd.{ReadEnd}
@@ -162,13 +162,13 @@ unfolding has_met is_device_fault
 answered (Ok lent) kept met keeps free = ap is_device_fault free
 answered (Err f) kept met keeps free = ap is_device_fault keeps ∙ met
 
-stepped : (kept : Option Report) (old new : View) (answer : Result (Option (List ℕ)) Report) → old.kept ≡ kept → Steps owned_sources old new answer → IsQuiet old → IsQuiet new
+stepped : (kept : Option Report) (old new : View) (answer : Result (Option (List ℕ)) Report) → old.kept ≡ kept → Step owned_sources old new answer → IsQuiet old → IsQuiet new
 stepped (Some f) old new answer e s q = subst (λ (x : View). IsQuiet x) (sym (s.kept f e).1) q
 stepped None old new answer e s q =
     let c = called (has_failed old.kept answer) (has_refused old.kept answer) old.sources new.sources s.call q.asks in
     record { asks = c.1; kept = answered answer new.kept (ap (λ (k : Option Report). has_failed k answer) (sym e) ∙ c.0) s.keeps s.free }
 
-quiet_step : (old new : View) (answer : Result (Option (List ℕ)) Report) → Steps owned_sources old new answer → IsQuiet old → IsQuiet new
+quiet_step : (old new : View) (answer : Result (Option (List ℕ)) Report) → Step owned_sources old new answer → IsQuiet old → IsQuiet new
 quiet_step old new answer s q = stepped old.kept old new answer refl s q
 
 -- A read.

@@ -26,7 +26,7 @@ use Rattle.rdlpp_state.specs.Includes.{IsSearch}
 use Rattle.rdlpp_state.specs.Opening.{Starts}
 use Rattle.rdlpp_state.specs.Remaining.{left_of, state_of, text_of, work_left}
 use Rattle.rdlpp_state.specs.Searches.{Retries, StartsAgain}
-use Rattle.rdlpp_state.specs.Steps.{BeforeCall, Itself, Steps, Stood, StopsReading, has_met, has_stopped, is_call_failed, is_memory_kind, is_read_failed, may_follow}
+use Rattle.rdlpp_state.specs.Steps.{BeforeCall, Itself, Step, Stood, StopsReading, has_met, has_stopped, is_call_failed, is_memory_kind, is_read_failed, may_follow}
 use Rattle.rdlpp_state.specs.Stored.{HoldsStores, LetsGo}
 use Rattle.rdlpp_state.specs.declared.phase.Phase.{Phase}
 use Rattle.rdlpp_state.specs.declared.phase.Phase.TheVariants.{Closed, Fresh, Open, OverLimit}
@@ -61,7 +61,7 @@ lent_more g old mid new xs ys None l s =
       ends = goes_on g old mid new xs ys was.tells l.ends s;
     }
 lent_more g old mid new xs ys (Some Finished) l t =
-    let s : Steps g mid new (Ok None) = t.0 in
+    let s : Step g mid new (Ok None) = t.0 in
     let was = going_reads g old.kept _ _ l.reads in
     record {
       reads = none_reads g old.kept _ _ (called_after g false false false false _ _ _ refl refl was (ok_reads g mid new None s));
@@ -71,7 +71,7 @@ lent_more g old mid new xs ys (Some Finished) l t =
       ends = finishes g old mid new xs ys was.tells l.ends s t.1;
     }
 lent_more {S} {R} g old mid new xs ys (Some Stopped) l stop =
-    let s : Steps g mid new (Err stop.fault) = stop.steps in
+    let s : Step g mid new (Err stop.fault) = stop.steps in
     let was = going_reads g old.kept _ _ l.reads in
     let P : Option Report → Option Report → Type 0 = λ k f. SourcesCalled g (is_fresh is_read_failed k f) (is_fresh is_memory_kind k f) mid.sources new.sources in
     let reads : P old.kept new.kept = subst (λ (f : Option Report). P old.kept f) (sym s.keeps) (subst (λ (k : Option Report). P k (Some stop.fault)) l.ends.kept (err_reads g mid new stop.fault s)) in
@@ -186,7 +186,7 @@ given_turned g old mid new before after len w none t = record {
   given = ap (λ (xs : List ℕ). xs ++ new.rest) (sym (append-nil (take len after)) ∙ ap (λ (r : List ℕ). take len after ++ r) (sym none) ∙ w.given) ∙ append_assoc old.rest w.lent new.rest;
   behind = w.behind;
   so = lent_more g old.engine mid.engine new.engine w.lent new.rest None w.so t;
-  work = (let steps : Steps g mid.engine new.engine (Ok (Some new.rest)) = t in work_behind _ _ _ w.work (steps.falls new.rest refl));
+  work = (let steps : Step g mid.engine new.engine (Ok (Some new.rest)) = t in work_behind _ _ _ w.work (steps.falls new.rest refl));
 }
 
 -- the work left fell, where it does again
@@ -260,7 +260,7 @@ pub fills_paused : {S R : Type 0} (g : Ghosts S R) (old mid new : ReadingView S 
 fills_paused g old mid new before after len w used t none =
     let empty : new.rest ≡ [] = nil_from_length new.rest none in
     let v : IsGiven g old new before after len = given_turned g old mid new before after len w used t in
-    let steps : Steps g mid.engine new.engine (Ok (Some new.rest)) = t in
+    let steps : Step g mid.engine new.engine (Ok (Some new.rest)) = t in
     record {
       lent = v.lent;
       inside = (let i = v.inside in let s = v.size in omega arith);
@@ -270,7 +270,7 @@ fills_paused g old mid new before after len w used t none =
       full = λ _. inr (record {
         none = empty;
         before = mid.engine;
-        steps = subst (λ (xs : List ℕ). Steps g mid.engine new.engine (Ok (Some xs))) empty steps;
+        steps = subst (λ (xs : List ℕ). Step g mid.engine new.engine (Ok (Some xs))) empty steps;
         falls = work_fell _ _ _ w.work (steps.falls new.rest refl);
       });
       used = λ e bad. (let no : ⊥ = cc bad in absurd no);
@@ -348,7 +348,7 @@ unfolding text_of state_of
 kept_text g e = refl
 
 -- what remained before a search that failed remains
-searched_rest : {S R : Type 0} (g : Ghosts S R) (before old : EngineView S R) (f : Report) → is_failed_search old ≡ true → before.kept ≡ None → Steps g before old (Err f)
+searched_rest : {S R : Type 0} (g : Ghosts S R) (before old : EngineView S R) (f : Report) → is_failed_search old ≡ true → before.kept ≡ None → Step g before old (Err f)
     → g.tells before.sources → (text_of g before ≡ text_of g (record old { kept = None })) × (left_of g before ≡ left_of g (record old { kept = None }))
 unfolding is_failed_search is_failed_call is_call_failed is_read_failed has_met
 searched_rest {S} {R} g before old f failed free s t =

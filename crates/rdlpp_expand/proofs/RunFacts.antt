@@ -14,7 +14,7 @@ use Rattle.rdlpp_state.specs.Engine.{EngineView, is_open}
 use Rattle.rdlpp_state.specs.Held.{IsBounded, stores_of}
 use Rattle.rdlpp_state.specs.Pending.{nothing_pending}
 use Rattle.rdlpp_state.specs.Remaining.{kept_uncut, left_of, output_fault, phase_uncut, state_of, text_of, uncut_of}
-use Rattle.rdlpp_state.specs.Steps.{BeforeCall, FailsAt, IsStarted, Itself, Steps, Stood, StopsReading, Tells, has_met, is_call_failed, is_memory_kind, is_read_failed, is_write_failed, lent_len}
+use Rattle.rdlpp_state.specs.Steps.{BeforeCall, FailsAt, IsStarted, Itself, Step, Stood, StopsReading, Tells, has_met, is_call_failed, is_memory_kind, is_read_failed, is_write_failed, lent_len}
 use Rattle.rdlpp_state.specs.declared.phase.Phase.{Phase}
 use Rattle.rdlpp_state.specs.declared.phase.Phase.TheVariants.{Closed, Fresh, Open, OverLimit}
 use Rattle.rdlpp_state.proofs.EngineSteps.{called_after, free_before, left_open, not_called, ok_not_met}
@@ -77,20 +77,20 @@ none_fresh test None = refl
 none_fresh test (Some k) = refl
 
 -- a step that answers no fault is a call in which no device failed and no memory was refused
-pub ok_reads : {S R : Type 0} (g : Ghosts S R) (old new : EngineView S R) (lent : Option (List ℕ)) → Steps g old new (Ok lent) → SourcesCalled g false false old.sources new.sources
+pub ok_reads : {S R : Type 0} (g : Ghosts S R) (old new : EngineView S R) (lent : Option (List ℕ)) → Step g old new (Ok lent) → SourcesCalled g false false old.sources new.sources
 ok_reads g old new lent s = rw (ok_not_met is_read_failed old.kept lent, ok_not_met is_memory_kind old.kept lent) at s.call
 
 -- a step's call, by the fault that it answers
-pub err_reads : {S R : Type 0} (g : Ghosts S R) (old new : EngineView S R) (f : Report) → Steps g old new (Err f)
+pub err_reads : {S R : Type 0} (g : Ghosts S R) (old new : EngineView S R) (f : Report) → Step g old new (Err f)
     → SourcesCalled g (is_fresh is_read_failed old.kept (Some f)) (is_fresh is_memory_kind old.kept (Some f)) old.sources new.sources
 err_reads g old new f s = rw (err_met is_read_failed old.kept f, err_met is_memory_kind old.kept f) at s.call
 
 -- what a step that answers no fault tells
-pub ok_tells : {S R : Type 0} (g : Ghosts S R) (old new : EngineView S R) (lent : Option (List ℕ)) → Steps g old new (Ok lent) → g.tells old.sources → Tells (Ok lent) (left_of g old) (left_of g new)
+pub ok_tells : {S R : Type 0} (g : Ghosts S R) (old new : EngineView S R) (lent : Option (List ℕ)) → Step g old new (Ok lent) → g.tells old.sources → Tells (Ok lent) (left_of g old) (left_of g new)
 ok_tells g old new lent s told = s.tells (ok_not_met is_call_failed old.kept lent) told
 
 -- a fault that wasn't kept isn't that of a write
-pub own_of : {S R : Type 0} (g : Ghosts S R) (old new : EngineView S R) (f : Report) (kept : Option Report) → old.kept ≡ kept → Steps g old new (Err f) → is_fresh is_write_failed kept (Some f) ≡ false
+pub own_of : {S R : Type 0} (g : Ghosts S R) (old new : EngineView S R) (f : Report) (kept : Option Report) → old.kept ≡ kept → Step g old new (Err f) → is_fresh is_write_failed kept (Some f) ≡ false
 unfolding is_fresh
 own_of g old new f None e s = s.own e
 own_of g old new f (Some k) e s = refl
@@ -175,7 +175,7 @@ alike g at new (Itself same) = record { main = sym (ap (λ e. e.main) same); quo
 alike g at new (BeforeCall c unheld) = record { main = ap (λ e. e.main) c.becomes; quota = ap (λ e. e.quota) c.becomes; phase = ap (λ e. e.phase) c.becomes }
 
 -- where a read failed, what remains but for the fault is what remained
-pub failed_rest : {S R : Type 0} (g : Ghosts S R) (mid new : EngineView S R) (f : Report) → Steps g mid new (Err f) → has_met is_call_failed mid.kept (Err f) ≡ true → (reads : StopsReading g mid new) → g.tells mid.sources
+pub failed_rest : {S R : Type 0} (g : Ghosts S R) (mid new : EngineView S R) (f : Report) → Step g mid new (Err f) → has_met is_call_failed mid.kept (Err f) ≡ true → (reads : StopsReading g mid new) → g.tells mid.sources
     → left_of g mid ≡ left_of g (record reads.at { kept = None })
 unfolding left_of lent_len
 failed_rest g mid new f s met reads t =
@@ -187,7 +187,7 @@ failed_rest g mid new f s met reads t =
     ∙ sym (left_but g reads.at (sym same.phase ∙ reads.still))))
 
 -- where an output ended that was open, nothing is pending
-end_drained : {S R : Type 0} (g : Ghosts S R) (mid new : EngineView S R) (p : Phase) → mid.phase ≡ p → is_open p ≡ true → mid.kept ≡ None → Steps g mid new (Ok None) → new.pending ≡ nothing_pending
+end_drained : {S R : Type 0} (g : Ghosts S R) (mid new : EngineView S R) (p : Phase) → mid.phase ≡ p → is_open p ≡ true → mid.kept ≡ None → Step g mid new (Ok None) → new.pending ≡ nothing_pending
 unfolding is_open
 end_drained g mid new Fresh phase open_ free s = cc open_
 end_drained g mid new Open phase open_ free s = s.halts free phase
@@ -195,7 +195,7 @@ end_drained g mid new OverLimit phase open_ free s = absurd (let no : Ok None �
 end_drained g mid new Closed phase open_ free s = cc open_
 
 -- a piece was written whole
-pub goes_on : {S R : Type 0} (g : Ghosts S R) (old mid new : EngineView S R) (xs ys : List ℕ) → (g.tells old.sources → g.tells mid.sources) → Going g old mid xs → Steps g mid new (Ok (Some ys)) → Going g old new (xs ++ ys)
+pub goes_on : {S R : Type 0} (g : Ghosts S R) (old mid new : EngineView S R) (xs ys : List ℕ) → (g.tells old.sources → g.tells mid.sources) → Going g old mid xs → Step g mid new (Ok (Some ys)) → Going g old new (xs ++ ys)
 goes_on g old mid new xs ys told w s =
     let free : old.kept ≡ None = sym w.kept ∙ free_before g (left_of g) lent_len take is_open mid new mid.kept (Some ys) refl s in
     record {
@@ -208,7 +208,7 @@ goes_on g old mid new xs ys told w s =
     }
 
 -- nothing was left
-pub finishes : {S R : Type 0} (g : Ghosts S R) (old mid new : EngineView S R) (xs ys : List ℕ) → (g.tells old.sources → g.tells mid.sources) → Going g old mid xs → Steps g mid new (Ok None) → ys ≡ [] → Finishes g old new (xs ++ ys)
+pub finishes : {S R : Type 0} (g : Ghosts S R) (old mid new : EngineView S R) (xs ys : List ℕ) → (g.tells old.sources → g.tells mid.sources) → Going g old mid xs → Step g mid new (Ok None) → ys ≡ [] → Finishes g old new (xs ++ ys)
 finishes g old mid new xs ys told w s none =
     let free : old.kept ≡ None = sym w.kept ∙ free_before g (left_of g) lent_len take is_open mid new mid.kept None refl s in
     record {
@@ -254,7 +254,7 @@ stops g old mid new xs ys told w stop =
     }
 
 -- a piece was written in part
-pub breaks : {S R : Type 0} (g : Ghosts S R) (old mid new : EngineView S R) (xs ys rest : List ℕ) → (g.tells old.sources → g.tells mid.sources) → Going g old mid xs → Steps g mid new (Ok (Some (ys ++ rest))) → Breaks g old new (xs ++ ys)
+pub breaks : {S R : Type 0} (g : Ghosts S R) (old mid new : EngineView S R) (xs ys rest : List ℕ) → (g.tells old.sources → g.tells mid.sources) → Going g old mid xs → Step g mid new (Ok (Some (ys ++ rest))) → Breaks g old new (xs ++ ys)
 breaks g old mid new xs ys rest told w s =
     let left = left_of g new in
     let free : old.kept ≡ None = sym w.kept ∙ free_before g (left_of g) lent_len take is_open mid new mid.kept (Some (ys ++ rest)) refl s in
@@ -272,13 +272,13 @@ breaks g old mid new xs ys rest told w s =
 pub wrote_more : {S R W : Type 0} (g : Ghosts S R) (h : SinkGhosts W) (old mid new : EngineView S R) (before between after : W) (n len : ℕ) (ending : Option Ending)
     → Wrote g h old mid before between n None → Pulls g h mid new between after len ending → Wrote g h old new before after (min (n + len) (2 ^ 64 - 1)) ending
 wrote_more g h old mid new before between after n len None w p =
-    let s : Steps g mid new (Ok (Some p.bytes)) = p.ends in
+    let s : Step g mid new (Ok (Some p.bytes)) = p.ends in
     let was = going_reads g old.kept _ _ w.reads in
     wrote_with g h old mid new before between after n len None w p
     (none_reads g old.kept _ _ (called_after g false false false false _ _ _ refl refl was (ok_reads g mid new (Some p.bytes) s)))
     s.limits s.origins s.main s.most_bytes s.most_macros s.started (goes_on g old mid new w.bytes p.bytes was.tells w.ends s)
 wrote_more g h old mid new before between after n len (Some Finished) w p =
-    let s : Steps g mid new (Ok None) = p.ends.0 in
+    let s : Step g mid new (Ok None) = p.ends.0 in
     let was = going_reads g old.kept _ _ w.reads in
     wrote_with g h old mid new before between after n len (Some Finished) w p
     (none_reads g old.kept _ _ (called_after g false false false false _ _ _ refl refl was (ok_reads g mid new None s)))
@@ -293,7 +293,7 @@ wrote_more g h old mid new before between after n len (Some Stopped) w p =
     (called_after g false _ false _ _ _ _ refl refl was reads)
     s.limits s.origins s.main s.most_bytes s.most_macros s.started (stops g old mid new w.bytes p.bytes was.tells w.ends stop)
 wrote_more g h old mid new before between after n len (Some Unwritten) w p =
-    let s : Steps g mid new (Ok (Some (p.bytes ++ p.ends.0))) = p.ends.1 in
+    let s : Step g mid new (Ok (Some (p.bytes ++ p.ends.0))) = p.ends.1 in
     let was = going_reads g old.kept _ _ w.reads in
     wrote_with g h old mid new before between after n len (Some Unwritten) w p
     (none_reads g old.kept _ _ (called_after g false false false false _ _ _ refl refl was (ok_reads g mid new (Some (p.bytes ++ p.ends.0)) s)))
@@ -309,7 +309,7 @@ flushes_as h b c before after e f = subst (λ (x : Bool). Flushes h x before aft
 
 -- a pull of a piece that was written whole
 pub pulled_whole : {S R W : Type 0} (g : Ghosts S R) (h : SinkGhosts W) (old new : EngineView S R) (before after : W) (piece : List ℕ) (len : ℕ)
-    → Steps g old new (Ok (Some piece)) → len ≡ length piece → Appends (h.taken before) (h.taken after) (take len piece) → Counts false (h.failed_writes before) (h.failed_writes after)
+    → Step g old new (Ok (Some piece)) → len ≡ length piece → Appends (h.taken before) (h.taken after) (take len piece) → Counts false (h.failed_writes before) (h.failed_writes after)
     → Unflushed h before after → Pulls g h old new before after len None
 pulled_whole g h old new before after piece len s whole taken writes quiet = record {
   bytes = piece;
@@ -322,7 +322,7 @@ pulled_whole g h old new before after piece len s whole taken writes quiet = rec
 
 -- a pull of a piece that was written in part
 pub pulled_part : {S R W : Type 0} (g : Ghosts S R) (h : SinkGhosts W) (old new : EngineView S R) (before after : W) (piece : List ℕ) (len : ℕ)
-    → Steps g old new (Ok (Some piece)) → len ≤ length piece → Appends (h.taken before) (h.taken after) (take len piece) → Counts true (h.failed_writes before) (h.failed_writes after)
+    → Step g old new (Ok (Some piece)) → len ≤ length piece → Appends (h.taken before) (h.taken after) (take len piece) → Counts true (h.failed_writes before) (h.failed_writes after)
     → Unflushed h before after → Pulls g h old new before after len (Some Unwritten)
 pulled_part g h old new before after piece len s inside taken writes quiet = record {
   bytes = take len piece;
@@ -330,12 +330,12 @@ pulled_part g h old new before after piece len s inside taken writes quiet = rec
   count = sym (length-take-le len piece inside);
   writes = writes;
   quiet = quiet;
-  ends = (drop len piece, let P : List ℕ → Type 0 = λ xs. Steps g old new (Ok (Some xs)) in subst P (sym (take-append-drop len piece)) s);
+  ends = (drop len piece, let P : List ℕ → Type 0 = λ xs. Step g old new (Ok (Some xs)) in subst P (sym (take-append-drop len piece)) s);
 }
 
 -- a pull of a piece, by what was written of it
 pub pulled_written : {S R W : Type 0} (g : Ghosts S R) (h : SinkGhosts W) (old new : EngineView S R) (before after : W) (piece : List ℕ) (len : ℕ) (failed : Bool) (ending : Option Ending)
-    → Steps g old new (Ok (Some piece)) → ending ≡ (if failed then Some Unwritten else None) → len ≤ length piece → (failed ≡ false → len ≡ length piece)
+    → Step g old new (Ok (Some piece)) → ending ≡ (if failed then Some Unwritten else None) → len ≤ length piece → (failed ≡ false → len ≡ length piece)
     → Appends (h.taken before) (h.taken after) (take len piece) → Counts failed (h.failed_writes before) (h.failed_writes after)
     → Unflushed h before after → Pulls g h old new before after len ending
 pulled_written g h old new before after piece len true ending s e inside whole taken writes quiet =
@@ -348,15 +348,15 @@ quiet_same : {W : Type 0} (h : SinkGhosts W) (w : W) → Unflushed h w w
 quiet_same h w = record { failed_flushes = refl; flushes = refl }
 
 -- a pull that came to an end without a piece
-pub pulled_none : {S R W : Type 0} (g : Ghosts S R) (h : SinkGhosts W) (old new : EngineView S R) (w : W) → Steps g old new (Ok None) → Pulls g h old new w w 0 (Some Finished)
+pub pulled_none : {S R W : Type 0} (g : Ghosts S R) (h : SinkGhosts W) (old new : EngineView S R) (w : W) → Step g old new (Ok None) → Pulls g h old new w w 0 (Some Finished)
 pulled_none g h old new w s = record { bytes = []; taken = appends_none (h.taken w); count = refl; writes = refl; quiet = quiet_same h w; ends = (s, refl) }
 
 -- a pull that lent nothing
-pub pulled_silent : {S R W : Type 0} (g : Ghosts S R) (h : SinkGhosts W) (old new : EngineView S R) (w : W) → Steps g old new (Ok (Some [])) → Pulls g h old new w w 0 None
+pub pulled_silent : {S R W : Type 0} (g : Ghosts S R) (h : SinkGhosts W) (old new : EngineView S R) (w : W) → Step g old new (Ok (Some [])) → Pulls g h old new w w 0 None
 pulled_silent g h old new w s = record { bytes = []; taken = appends_none (h.taken w); count = refl; writes = refl; quiet = quiet_same h w; ends = s }
 
 -- a pull that came to a fault
-pub pulled_fault : {S R W : Type 0} (g : Ghosts S R) (h : SinkGhosts W) (old new : EngineView S R) (w : W) (f : Report) → Steps g old new (Err f) → Pulls g h old new w w 0 (Some Stopped)
+pub pulled_fault : {S R W : Type 0} (g : Ghosts S R) (h : SinkGhosts W) (old new : EngineView S R) (w : W) (f : Report) → Step g old new (Err f) → Pulls g h old new w w 0 (Some Stopped)
 pulled_fault g h old new w f s = record {
   bytes = [];
   taken = appends_none (h.taken w);
@@ -375,8 +375,8 @@ wrote_at g h old new before after n m e f w p q =
     subst Q (sym q) (subst P (sym p) w)
 
 -- a step, by an answer that is the same
-pub answer_step : {S R : Type 0} (g : Ghosts S R) (old new : EngineView S R) (a b : Result (Option (List ℕ)) Report) → Steps g old new a → b ≡ a → Steps g old new b
-answer_step g old new a b s e = subst (λ (x : Result (Option (List ℕ)) Report). Steps g old new x) (sym e) s
+pub answer_step : {S R : Type 0} (g : Ghosts S R) (old new : EngineView S R) (a b : Result (Option (List ℕ)) Report) → Step g old new a → b ≡ a → Step g old new b
+answer_step g old new a b s e = subst (λ (x : Result (Option (List ℕ)) Report). Step g old new x) (sym e) s
 
 -- a count, by what its test came to
 pub counts_as : (b c : Bool) (old new : ℕ) → b ≡ c → Counts b old new → Counts c old new

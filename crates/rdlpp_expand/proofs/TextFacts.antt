@@ -21,7 +21,7 @@ use Rattle.rdlpp_state.specs.Moves.{IsDrained}
 use Rattle.rdlpp_state.specs.Pieces.{kept_answer, lent_answer, step_answer}
 use Rattle.rdlpp_state.specs.Positions.{position_of}
 use Rattle.rdlpp_state.specs.Silences.{most_silent}
-use Rattle.rdlpp_state.specs.Steps.{Steps, WalksOver}
+use Rattle.rdlpp_state.specs.Steps.{Step, UncutStepWithin}
 use Rattle.rdlpp_state.specs.declared.phase.Phase.TheVariants.{Open}
 use Rattle.rdlpp_state.specs.declared.place.PieceLocation.{PieceLocation}
 use Rattle.rdlpp_state.proofs.LentPieces.{IsSpent, cut_kept, cut_piece, position_first}
@@ -38,7 +38,7 @@ some_in [] e = absurd (true≢false e)
 some_in (x ∷ xs) e = omega arith
 
 -- where bytes are lent, the main text is open
-pub open-lent : {S R : Type 0} (g : Ghosts S R) (n : ℕ) (old new : EngineView S R) (place : PieceLocation) (lent : List ℕ) → WalksOver g n old new (lent_answer new place)
+pub open-lent : {S R : Type 0} (g : Ghosts S R) (n : ℕ) (old new : EngineView S R) (place : PieceLocation) (lent : List ℕ) → UncutStepWithin g n old new (lent_answer new place)
     → lent_answer new place ≡ Ok (Some lent) → new.phase ≡ Open
 open-lent g n old new place lent w e = follows new.phase (w.lends lent e).1
 
@@ -53,7 +53,7 @@ silent-spent {S} {R} e = record {
     same = omega arith
 
 -- a step that lends nothing is one within the limit on the output
-pub silent-steps : {S R : Type 0} (g : Ghosts S R) (old new : EngineView S R) → WalksOver g most_silent old new (Ok (Some [])) → Steps g old new (Ok (Some []))
+pub silent-steps : {S R : Type 0} (g : Ghosts S R) (old new : EngineView S R) → UncutStepWithin g most_silent old new (Ok (Some [])) → Step g old new (Ok (Some []))
 silent-steps g old new w = cut_piece g old new new [] 0 0 w refl (silent-spent new)
 
 -- a fault that is kept is answered
@@ -78,12 +78,12 @@ lent-texts old new x marks result place drained is lent becomes =
     (drained-texts old new x marks drained becomes, rw becomes open_now.0)
 
 -- the fault of an engine that keeps one is what it answers
-pub answer-kept : {S R : Type 0} (g : Ghosts S R) (old new : EngineView S R) (f : Report) → new.kept ≡ Some f → Steps g old new (kept_answer new.kept) → Steps g old new (Err f)
-answer-kept g old new f e s = subst (λ k. Steps g old new (kept_answer k)) e s
+pub answer-kept : {S R : Type 0} (g : Ghosts S R) (old new : EngineView S R) (f : Report) → new.kept ≡ Some f → Step g old new (kept_answer new.kept) → Step g old new (Err f)
+answer-kept g old new f e s = subst (λ k. Step g old new (kept_answer k)) e s
 
 -- what steps over open texts answer that lend no piece is within the limit on the output
 pub other-steps : {S R : Type 0} (g : Ghosts S R) (old new : EngineView S R) (step : TextStep) → ((place : TextPlace) → step ≡ Lent place → ⊥)
-    → WalksOver g most_silent old new (step_answer new (place_of step)) → Steps g old new (step_answer new (place_of step))
+    → UncutStepWithin g most_silent old new (step_answer new (place_of step)) → Step g old new (step_answer new (place_of step))
 other-steps g old new (Lent place) other w = absurd (other place refl)
 other-steps g old new Silent other w = silent-steps g old new w
 other-steps g old new AtFault other w = cut_kept g old new new.kept w

@@ -7,7 +7,7 @@ use Rattle.rdlpp_state.specs.Calls.{SourcesCalled}
 use Rattle.rdlpp_state.specs.Engine.{EngineView}
 use Rattle.rdlpp_state.specs.Pieces.{IsPlaced, bytes_at}
 use Rattle.rdlpp_state.specs.Remaining.{left_of, work_left}
-use Rattle.rdlpp_state.specs.Steps.{Steps, IsStarted, is_call_failed, is_memory_kind, is_read_failed}
+use Rattle.rdlpp_state.specs.Steps.{Step, IsStarted, is_call_failed, is_memory_kind, is_read_failed}
 use Rattle.rdlpp_state.specs.declared.place.PieceLocation.{PieceLocation}
 use Rattle.rdlpp_expand.specs.Run.{Begins, Finishes, Going, Stops, StopsAt, is_fresh}
 use Rattle.rdlpp_expand.specs.declared.reading.ReadEnd.{ReadEnd}
@@ -39,8 +39,8 @@ reading_left g r = and_then (gives r.rest) (left_of g r.engine)
 
 -- a step to the next piece, or to the end, or to a fault
 abbrev pub Turns : {S R : Type 0} → Ghosts S R → EngineView S R → EngineView S R → List ℕ → Option ReadEnd → Type 0
-Turns g old new rest None = Steps g old new (Ok (Some rest))
-Turns g old new rest (Some Finished) = Steps g old new (Ok None) × (rest ≡ [])
+Turns g old new rest None = Step g old new (Ok (Some rest))
+Turns g old new rest (Some Finished) = Step g old new (Ok None) × (rest ≡ [])
 Turns g old new rest (Some Stopped) = StopsAt g old new rest
 
 -- how far the engine went on by the bytes that it lent, by how the output ended
@@ -76,7 +76,7 @@ pub record Fills {S R : Type 0} (g : Ghosts S R) (old new : ReadingView S R) (be
 pub record Pauses {S R : Type 0} (g : Ghosts S R) (old new : ReadingView S R) : Type 0 where
   pub none : new.rest ≡ []
   pub before : EngineView S R
-  pub steps : Steps g before new.engine (Ok (Some []))
+  pub steps : Step g before new.engine (Ok (Some []))
   pub falls : work_left new.engine < work_left old.engine
 
 -- a read that may come back before the buffer is full, behind a piece without bytes; else it is as one that fills it (this project's profile)

@@ -14,7 +14,7 @@ use Rattle.rdlpp_state.specs.Held.{IsBounded}
 use Rattle.rdlpp_state.specs.Stored.{HoldsStores, LetsGo}
 use Rattle.rdlpp_state.specs.Pending.{nothing_pending}
 use Rattle.rdlpp_state.specs.Remaining.{left_of}
-use Rattle.rdlpp_state.specs.Steps.{Steps, FailsAt, IsStarted, Stood, is_call_failed, is_memory_kind, is_read_failed, is_write_failed}
+use Rattle.rdlpp_state.specs.Steps.{Step, FailsAt, IsStarted, Stood, is_call_failed, is_memory_kind, is_read_failed, is_write_failed}
 use Rattle.rdlpp_state.specs.declared.phase.Phase.TheVariants.{Open, Closed}
 use Rattle.rdlpp_expand.specs.declared.writing.Ending.{Ending}
 use Rattle.rdlpp_expand.specs.declared.writing.Ending.TheVariants.{Finished, Stopped, Unwritten}
@@ -68,16 +68,16 @@ pub record Flushes {W : Type 0} (h : SinkGhosts W) (failed : Bool) (before after
 -- a step that came to a fault (source: this project's profile)
 pub record StopsAt {S R : Type 0} (g : Ghosts S R) (old new : EngineView S R) (bytes : List ℕ) : Type 0 where
   pub fault : Report
-  pub steps : Steps g old new (Err fault)
+  pub steps : Step g old new (Err fault)
   pub none : bytes ≡ []
 
 -- the step of a pull, by how it ended: a whole piece was written, there was none, a fault came, or a piece was written in
 -- part (source: this project's profile)
 abbrev pub PullEnds : {S R : Type 0} → Ghosts S R → EngineView S R → EngineView S R → List ℕ → Option Ending → Type 0
-PullEnds g old new bytes None = Steps g old new (Ok (Some bytes))
-PullEnds g old new bytes (Some Finished) = Steps g old new (Ok None) × (bytes ≡ [])
+PullEnds g old new bytes None = Step g old new (Ok (Some bytes))
+PullEnds g old new bytes (Some Finished) = Step g old new (Ok None) × (bytes ≡ [])
 PullEnds g old new bytes (Some Stopped) = StopsAt g old new bytes
-PullEnds g old new bytes (Some Unwritten) = (rest : List ℕ) × Steps g old new (Ok (Some (bytes ++ rest)))
+PullEnds g old new bytes (Some Unwritten) = (rest : List ℕ) × Step g old new (Ok (Some (bytes ++ rest)))
 
 -- a pull: what the sink took of a piece, and how many bytes; the sink's counts; the engine's step (source: this project's
 -- profile)

@@ -28,7 +28,7 @@ ghost use Rattle.rdlpp_state.specs.Stored.{LetsGo};
 ghost use Rattle.rdlpp_state.specs.Remaining.{output_fault, state_of};
 ghost use Rattle.rdlpp_expand.specs.Run.{write_fault};
 ghost use Rattle.rdlpp_expand.specs.Texts.{IsInTexts, further_parts};
-ghost use Rattle.rdlpp_state.specs.Steps.{IsStarted, Steps, Walks, WalksOver, is_write_failed};
+ghost use Rattle.rdlpp_state.specs.Steps.{IsStarted, Step, UncutStep, UncutStepWithin, is_write_failed};
 ghost use Rattle.rdlpp_state.specs.Silences.{most_silent};
 ghost use Rattle.rdlpp_expand.specs.contracts.engine.Engine.{the_row};
 
@@ -171,7 +171,7 @@ impl<S: Sources> Engine<S> {
     pub fn next(&mut self) -> Result<Piece<'_>, &Fault>
         requires { IsStarted self.old }
         ensures* after { sem 𝓛 (Rests (the_row S.row S.Reader.row S.Sources) self.entry (λ new.
-            Steps S.Sources self.old new (answer_of result) × Lends new (answer_of result))) }
+            Step S.Sources self.old new (answer_of result) × Lends new (answer_of result))) }
     {
         let mut left = READ_ALLOWANCE;
         let place = self.advance(&mut left);
@@ -186,7 +186,7 @@ impl<S: Sources> Engine<S> {
         requires left { left.old ≤ 65535 }
         ensures place { IsPlaced self.new result }
         ensures left { left.new ≤ left.old }
-        ensures steps { Steps S.Sources self.old self.new (lent_answer self.new result) }
+        ensures steps { Step S.Sources self.old self.new (lent_answer self.new result) }
     {
         match self.walk(left) {
             Some(place) => {
@@ -206,7 +206,7 @@ impl<S: Sources> Engine<S> {
         requires started { IsStarted self.old }
         requires outside { IsDrained self.old → self.old.expansion.opens ≡ [] }
         ensures place { IfSome result (IsPlaced self.new) }
-        ensures steps { Steps S.Sources self.old self.new (step_answer self.new result) }
+        ensures steps { Step S.Sources self.old self.new (step_answer self.new result) }
     {
         match self.step_outside() {
             Some(place) => Some(self.clip_to_quota(place)),
@@ -219,7 +219,7 @@ impl<S: Sources> Engine<S> {
         requires placed { IsPlaced self.old place }
         requires open { (lent : List ℕ) → lent_answer self.old place ≡ Ok (Some lent) → self.old.phase ≡ Phase.Open }
         ensures place { IsPlaced self.new result }
-        ensures steps { (before : EngineView S S.Reader) → WalksOver S.Sources most_silent before self.old (lent_answer self.old place) → Steps S.Sources before self.new (lent_answer self.new result) }
+        ensures steps { (before : EngineView S S.Reader) → UncutStepWithin S.Sources most_silent before self.old (lent_answer self.old place) → Step S.Sources before self.new (lent_answer self.new result) }
     {
         match place {
             PieceLocation::Source(start, end) => {
@@ -265,7 +265,7 @@ impl<S: Sources> Engine<S> {
         requires { IsStarted self.old }
         ensures place { IfSome result (IsPlaced self.new) }
         ensures left { left.new ≤ left.old }
-        ensures walks { WalksOver S.Sources (left.old - left.new + 1) self.old self.new (step_answer self.new result) }
+        ensures uncut_step { UncutStepWithin S.Sources (left.old - left.new + 1) self.old self.new (step_answer self.new result) }
     {
         loop {
             let in_texts = self.is_in_texts();
@@ -285,7 +285,7 @@ impl<S: Sources> Engine<S> {
         requires started { IsStarted self.old }
         requires texts { IsTrue in_texts ↔ IsInTexts self.old }
         ensures place { IfSome result (IsPlaced self.new) }
-        ensures walks { WalksOver S.Sources (further_parts in_texts) self.old self.new (step_answer self.new result) }
+        ensures uncut_step { UncutStepWithin S.Sources (further_parts in_texts) self.old self.new (step_answer self.new result) }
     {
         if !in_texts {
             return self.step_outside();
@@ -301,7 +301,7 @@ impl<S: Sources> Engine<S> {
         requires started { IsStarted self.old }
         requires outside { IsDrained self.old → self.old.expansion.opens ≡ [] }
         ensures place { IfSome result (IsPlaced self.new) }
-        ensures walks { WalksOver S.Sources 1 self.old self.new (step_answer self.new result) }
+        ensures uncut_step { UncutStepWithin S.Sources 1 self.old self.new (step_answer self.new result) }
     {
         self.facts();
         if self.kept.is_some() {
@@ -325,7 +325,7 @@ impl<S: Sources> Engine<S> {
         requires free { self.old.kept ≡ None }
         requires outside { IsDrained self.old → self.old.expansion.opens ≡ [] }
         ensures place { IfSome result (IsPlaced self.new) }
-        ensures walks { IsBounded self.new → WalksOver S.Sources 1 self.old self.new (step_answer self.new result) }
+        ensures uncut_step { IsBounded self.new → UncutStepWithin S.Sources 1 self.old self.new (step_answer self.new result) }
     {
         self.facts();
         match self.take_pending() {
@@ -339,7 +339,7 @@ impl<S: Sources> Engine<S> {
     fn step_sources(&mut self) -> Option<PieceLocation>
         requires { IsReady self.old }
         ensures place { IfSome result (IsPlaced self.new) }
-        ensures walks { IsBounded self.new → WalksOver S.Sources 1 self.old self.new (step_answer self.new result) }
+        ensures uncut_step { IsBounded self.new → UncutStepWithin S.Sources 1 self.old self.new (step_answer self.new result) }
     {
         let held = self.files.file().buffer.held();
         if held.is_empty() {
@@ -354,7 +354,7 @@ impl<S: Sources> Engine<S> {
     fn step_filled(&mut self) -> Option<PieceLocation>
         requires { IsReady self.old }
         ensures place { IfSome result (IsPlaced self.new) }
-        ensures walks { IsBounded self.new → WalksOver S.Sources 1 self.old self.new (step_answer self.new result) }
+        ensures uncut_step { IsBounded self.new → UncutStepWithin S.Sources 1 self.old self.new (step_answer self.new result) }
     {
         match self.fill() {
             Fill::Held => {
@@ -375,7 +375,7 @@ impl<S: Sources> Engine<S> {
         requires some { 0 < length (held_of (inner_buffer self.old.files.include_stack)) }
         requires none { (len : ℕ) → (next : Mode) → IsText (inner_buffer self.old.files.include_stack).mode (held_of (inner_buffer self.old.files.include_stack)) len next → ⊥ }
         ensures place { IfSome result (IsPlaced self.new) }
-        ensures walks { IsBounded self.new → Walks S.Sources self.old self.new (step_answer self.new result) }
+        ensures uncut_step { IsBounded self.new → UncutStep S.Sources self.old self.new (step_answer self.new result) }
     {
         let buffer = &self.files.file().buffer;
         match next_item(buffer.mode(), buffer.held()) {
@@ -403,7 +403,7 @@ impl<S: Sources> Engine<S> {
         requires mode { (inner_buffer self.old.files.include_stack).mode ≡ Mode.Plain }
         requires define { IsDirective Define (held_of (inner_buffer self.old.files.include_stack)) }
         ensures place { IfSome result (IsPlaced self.new) }
-        ensures walks { IsBounded self.new → Walks S.Sources self.old self.new (step_answer self.new result) }
+        ensures uncut_step { IsBounded self.new → UncutStep S.Sources self.old self.new (step_answer self.new result) }
     {
         match self.hold_line() {
             LogicalLine::Whole(len) => {
@@ -456,7 +456,7 @@ impl<S: Sources> Engine<S> {
         requires mode { (inner_buffer self.old.files.include_stack).mode ≡ Mode.Plain }
         requires undef { IsNamed Undef (held_of (inner_buffer self.old.files.include_stack)) argument }
         ensures place { IfSome result (IsPlaced self.new) }
-        ensures walks { IsBounded self.new → Walks S.Sources self.old self.new (step_answer self.new result) }
+        ensures uncut_step { IsBounded self.new → UncutStep S.Sources self.old self.new (step_answer self.new result) }
     {
         match self.named(argument) {
             Err(place) => Some(place),

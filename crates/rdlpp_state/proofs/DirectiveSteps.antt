@@ -55,7 +55,7 @@ use Rattle.rdlpp_state.specs.Pieces.{lent_answer, step_answer}
 use Rattle.rdlpp_state.specs.Positions.{BehindLine, Unmarked}
 use Rattle.rdlpp_state.specs.Remaining.{file_state, inner_name, include_stack_left, include_stack_state, run_rules, state_of}
 use Rattle.rdlpp_state.specs.Standing.{InSources, Nowhere}
-use Rattle.rdlpp_state.specs.Steps.{IsOwn, Walks}
+use Rattle.rdlpp_state.specs.Steps.{IsOwn, UncutStep}
 use Rattle.rdlpp_state.specs.declared.place.PieceLocation.{PieceLocation}
 use Rattle.rdlpp_state.specs.declared.place.PieceLocation.TheVariants.{Fault}
 use Rattle.rdlpp_state.proofs.IncludeStackLeft.{Continues, Decides, Faults, IsPlainFront, around, at_live, closes_at, counts_at, moved_live, include_stack_refused_undef, include_stack_undef, none_held, opens_at, stray_at, ends_mid_line_consumed, turns_at}
@@ -72,7 +72,7 @@ use Rattle.rdlpp_state.proofs.WorkFacts.{IsUsed, entered_unused, held_room, used
 
 -- bytes that have no LF are used, and other conditionals are open
 pub goes_on : {S R : Type 0} (g : Ghosts S R) (old new : EngineView S R) (v : ConditionsView) (len : ℕ) → IsReady old → IsBounded new → 0 < len → len ≤ length (held_of (inner_buffer old.files.include_stack))
-    → new ≡ goes_past v len old → Continues old.limits (run_rules g old) g.unread old.table.macros old.conditions old.files.include_stack v len → Walks g old new (step_answer new None)
+    → new ≡ goes_past v len old → Continues old.limits (run_rules g old) g.unread old.table.macros old.conditions old.files.include_stack v len → UncutStep g old new (step_answer new None)
 unfolding goes_past behind_bytes
 goes_on g old new v len ready bounded some inside becomes law =
     lends_source g old new ready [] old.marks old.table.macros v (with_inner (consumed_file len 0) old.files.include_stack) becomes bounded (used_bytes old.files.include_stack len 0 some inside) law (parts_used g.unread len 0 old.files.include_stack) (Nowhere refl (InSources ready.idle refl (Unmarked refl)))
@@ -202,26 +202,26 @@ module _ {S R : Type 0} (g : Ghosts S R) (old new : EngineView S R) (ready : IsR
 
   -- a fault at this line is kept
   faults : (place : PieceLocation) (kind : FaultKind) (word : List ℕ) → place ≡ Fault → new ≡ record old { kept = Some (fault_at kind (inner_buffer old.files.include_stack).line word (state_of old)) } → IsOwn kind
-      → FaultsHere kind word → Walks g old new (lent_answer new place)
+      → FaultsHere kind word → UncutStep g old new (lent_answer new place)
   unfolding state_of
   faults place kind word is becomes own law =
       refuses g old old new place kind (inner_buffer old.files.include_stack).line word ready (read_nothing old) bounded is becomes own (not_called g old.sources) (λ t. law)
 
   -- a test is done
   does_by : (x : Test) (next : Bool → ConditionsView) (len : ℕ) (result : Option PieceLocation) → (0 < len) × (len ≤ length held) → IsOwnTest x
-      → DecidesHere x next len → DoesByTest x next len old new result → Walks g old new (step_answer new result)
-  does_by (Stopped kind word) next len result within own law does = subst (λ (r : Option PieceLocation). Walks g old new (step_answer new r)) (sym does.0) (faults Fault kind word refl does.1 own law)
+      → DecidesHere x next len → DoesByTest x next len old new result → UncutStep g old new (step_answer new result)
+  does_by (Stopped kind word) next len result within own law does = subst (λ (r : Option PieceLocation). UncutStep g old new (step_answer new r)) (sym does.0) (faults Fault kind word refl does.1 own law)
   does_by (Holds t) next len result within own law does =
-      subst (λ (r : Option PieceLocation). Walks g old new (step_answer new r)) (sym does.0) (goes_on g old new (next t) len ready bounded within.0 within.1 does.1 law)
+      subst (λ (r : Option PieceLocation). UncutStep g old new (step_answer new r)) (sym does.0) (goes_on g old new (next t) len ready bounded within.0 within.1 does.1 law)
 
   -- the name that a directive is given is refused
   unnamed : (a : Option Argument) (place : PieceLocation) → LooksAtName a old new (Err place)
-      → ((kind : FaultKind) (word : List ℕ) → name_of a ≡ Faulty kind word → FaultsHere kind word) → Walks g old new (lent_answer new place)
+      → ((kind : FaultKind) (word : List ℕ) → name_of a ≡ Faulty kind word → FaultsHere kind word) → UncutStep g old new (lent_answer new place)
   unnamed a place looks law = let r = looks.1 in faults place r.kind r.word looks.0 r.becomes r.own (law r.kind r.word r.faulty)
 
   module _ (live : old.conditions.skipped ≡ None) where
     -- an `undef` whose name is refused
-    pub undef_unnamed : (a : Option Argument) (place : PieceLocation) → IsNamed Undef held a → LooksAtName a old new (Err place) → Walks g old new (lent_answer new place)
+    pub undef_unnamed : (a : Option Argument) (place : PieceLocation) → IsNamed Undef held a → LooksAtName a old new (Err place) → UncutStep g old new (lent_answer new place)
     undef_unnamed a place named looks =
         unnamed a place looks
         (include_stack_refused_undef old.limits (run_rules g old) g.unread old.table.macros old.conditions live old.files.include_stack _ _ some front.ends plain (named_begins Undef held a undef_wants named))
@@ -229,7 +229,7 @@ module _ {S R : Type 0} (g : Ghosts S R) (old new : EngineView S R) (ready : IsR
     -- a macro is taken out
     pub undef_named : (a : Argument) (name : List ℕ) → IsNamed Undef held (Some a) → name_of (Some a) ≡ Fine name
         → new ≡ record old { table = record old.table { macros = without name old.table.macros }; files = record old.files { include_stack = with_inner (consumed_file a.stop 0) old.files.include_stack } }
-        → Walks g old new (step_answer new None)
+        → UncutStep g old new (step_answer new None)
     unfolding behind_bytes
     undef_named a name named fine becomes =
         let begins = named_begins Undef held (Some a) undef_wants named in
@@ -253,14 +253,14 @@ module _ {S R : Type 0} (g : Ghosts S R) (old new : EngineView S R) (ready : IsR
           opens_at old.limits (run_rules g old) g.unread old.table.macros old.conditions old.files.include_stack (opening_word defined) _ _ front opening_begins live (opening_opens defined)
           (inner_most old.limits old.conditions old.files.include_stack ready.sound.conditions_of)
 
-      pub opening_unnamed : (place : PieceLocation) → LooksAtName a old new (Err place) → Walks g old new (lent_answer new place)
+      pub opening_unnamed : (place : PieceLocation) → LooksAtName a old new (Err place) → UncutStep g old new (lent_answer new place)
       unfolding opening_within name_test
       opening_unnamed place looks =
           unnamed a place looks (λ kind word faulty.
           subst (λ (n : Checked). DecidesHere (opening_by n) (λ t. opened_with (inner_shown old.files.include_stack) t old.conditions) (given_len (opening_word defined) a)) faulty opening_decides)
 
       pub opening_named : (name : List ℕ) (result : Option PieceLocation) → name_of a ≡ Fine name
-          → OpensOne (test_of defined (is_some (macro_named old.table.macros name))) (given_len (opening_word defined) a) old new result → Walks g old new (step_answer new result)
+          → OpensOne (test_of defined (is_some (macro_named old.table.macros name))) (given_len (opening_word defined) a) old new result → UncutStep g old new (step_answer new result)
       unfolding conditions_left
       opening_named name result fine opens =
           let holds : Test = Holds (test_of defined (is_some (macro_named old.table.macros name))) in
@@ -274,7 +274,7 @@ module _ {S R : Type 0} (g : Ghosts S R) (old new : EngineView S R) (ready : IsR
 
   -- a branch, or an end, that is refused
   refused_by : (place : PieceLocation) (kind own : FaultKind) → place ≡ Fault → kind ≡ own → IsOwn own → new ≡ record old { kept = Some (fault_at kind (inner_buffer old.files.include_stack).line [] (state_of old)) }
-      → FaultsHere own [] → Walks g old new (lent_answer new place)
+      → FaultsHere own [] → UncutStep g old new (lent_answer new place)
   refused_by place kind own is same owns becomes law =
       faults place own [] is (becomes ∙ ap (λ (k : FaultKind). record old { kept = Some (fault_at k (inner_buffer old.files.include_stack).line [] (state_of old)) }) same) owns law
 
@@ -287,7 +287,7 @@ module _ {S R : Type 0} (g : Ghosts S R) (old new : EngineView S R) (ready : IsR
     branch_word = begins_word d held _ _ branch_begins
 
     -- of a conditional that opened in skipped text, it is used
-    pub inner_steps : Meets d Inner (inner_below old.files.include_stack) old.conditions → new ≡ goes_past old.conditions (length (word_of d)) old → Walks g old new (step_answer new None)
+    pub inner_steps : Meets d Inner (inner_below old.files.include_stack) old.conditions → new ≡ goes_past old.conditions (length (word_of d)) old → UncutStep g old new (step_answer new None)
     inner_steps (MeetsNone alone wrong) becomes = absurd (cc)
     inner_steps (MeetsOwn own) becomes = absurd own.turns
     inner_steps (MeetsInner n o os is_open below skips same) becomes =
@@ -306,7 +306,7 @@ module _ {S R : Type 0} (g : Ghosts S R) (old new : EngineView S R) (ready : IsR
 
     -- it is refused
     pub refused_steps : (place : PieceLocation) (kind : FaultKind) → Meets d (Refused kind) (inner_below old.files.include_stack) old.conditions → place ≡ Fault
-        → new ≡ record old { kept = Some (fault_at kind (inner_buffer old.files.include_stack).line [] (state_of old)) } → Walks g old new (lent_answer new place)
+        → new ≡ record old { kept = Some (fault_at kind (inner_buffer old.files.include_stack).line [] (state_of old)) } → UncutStep g old new (lent_answer new place)
     refused_steps place kind (MeetsNone alone same) is becomes =
         refused_by place kind fault.StrayBranch is (cc) (own_kind _ refl) becomes
         (stray_at old.limits (run_rules g old) g.unread old.table.macros old.conditions old.files.include_stack d front (given_strays d held a given) alone branch_word)
@@ -315,13 +315,13 @@ module _ {S R : Type 0} (g : Ghosts S R) (old new : EngineView S R) (ready : IsR
     refused_steps place kind (MeetsInner n o os is_open below skips wrong) is becomes = absurd (cc)
 
     -- it is decided
-    pub decided_steps : (t : Bool) → OwnTurn d (Decided t) (inner_below old.files.include_stack) old.conditions → new ≡ goes_past (turned_with d t old.conditions) (given_len d a) old → Walks g old new (step_answer new None)
+    pub decided_steps : (t : Bool) → OwnTurn d (Decided t) (inner_below old.files.include_stack) old.conditions → new ≡ goes_past (turned_with d t old.conditions) (given_len d a) old → UncutStep g old new (step_answer new None)
     decided_steps t own becomes =
         does_by (Holds t) (λ u. turned_with d u old.conditions) (given_len d a) None (begins_within _ _ _ _ branch_begins some) tt (turn_decides (Decided t) own (λ n s. Holds t) own.turns) (refl, becomes)
 
     -- its name decides
     module _ (own : OwnTurn d Named (inner_below old.files.include_stack) old.conditions) where
-      pub turn_unnamed : (place : PieceLocation) → LooksAtName a old new (Err place) → Walks g old new (lent_answer new place)
+      pub turn_unnamed : (place : PieceLocation) → LooksAtName a old new (Err place) → UncutStep g old new (lent_answer new place)
       unfolding name_test
       turn_unnamed place looks =
           unnamed a place looks (λ kind word faulty.
@@ -329,7 +329,7 @@ module _ {S R : Type 0} (g : Ghosts S R) (old new : EngineView S R) (ready : IsR
           (turn_decides Named own (λ n s. name_test true n s) own.turns.1))
 
       pub turn_named : (name : List ℕ) → name_of a ≡ Fine name
-          → new ≡ goes_past (turned_with d (is_some (macro_named old.table.macros name)) old.conditions) (given_len d a) old → Walks g old new (step_answer new None)
+          → new ≡ goes_past (turned_with d (is_some (macro_named old.table.macros name)) old.conditions) (given_len d a) old → UncutStep g old new (step_answer new None)
       unfolding name_test is_defined
       turn_named name fine becomes =
           let test : name_test true (name_of a) here ≡ Holds (is_some (macro_named old.table.macros name)) =
@@ -340,7 +340,7 @@ module _ {S R : Type 0} (g : Ghosts S R) (old new : EngineView S R) (ready : IsR
 
   -- an `endif` that is stray
   pub end_refused : (A : Type 0) (place : PieceLocation) (kind : FaultKind) (v : ConditionsView) → EndsOne {A = A} (Err kind) old.conditions v (inner_below old.files.include_stack) → IsDirective Endif held → place ≡ Fault
-      → new ≡ record (record old { conditions = v }) { kept = Some (fault_at kind (inner_buffer old.files.include_stack).line [] (state_of (record old { conditions = v }))) } → Walks g old new (lent_answer new place)
+      → new ≡ record (record old { conditions = v }) { kept = Some (fault_at kind (inner_buffer old.files.include_stack).line [] (state_of (record old { conditions = v }))) } → UncutStep g old new (lent_answer new place)
   end_refused A place kind v (EndsNone alone same stays) is kept becomes =
       let keeps : ConditionsView → EngineView S R = λ w. record (record old { conditions = w }) { kept = Some (fault_at kind (inner_buffer old.files.include_stack).line [] (state_of (record old { conditions = w }))) } in
       refused_by place kind fault.StrayBranch kept (cc) (own_kind _ refl) (becomes ∙ ap keeps stays) (stray_at old.limits (run_rules g old) g.unread old.table.macros old.conditions old.files.include_stack Endif front end_strays alone is)
@@ -349,7 +349,7 @@ module _ {S R : Type 0} (g : Ghosts S R) (old new : EngineView S R) (ready : IsR
 
   -- one that closes a conditional
   pub end_closes : (A : Type 0) (x : A) (v : ConditionsView) → EndsOne {A = A} (Ok x) old.conditions v (inner_below old.files.include_stack) → IsDirective Endif held
-      → new ≡ goes_past v (length (word_of Endif)) old → Walks g old new (step_answer new None)
+      → new ≡ goes_past v (length (word_of Endif)) old → UncutStep g old new (step_answer new None)
   end_closes A x v (EndsNone alone wrong stays) is becomes = absurd (cc)
   end_closes A x v (EndsOwn live o os is_open below skips done moves) is becomes =
       let within = word_within Endif held is some in
@@ -398,12 +398,12 @@ pub passes_text : {S R : Type 0} (g : Ghosts S R) (old new : EngineView S R) (so
     → new ≡ record old { pending = line_ends_pending lines; files = record old.files { include_stack = include_stack }; sources = sources }
     → (g.tells old.sources → left_by g old old.table.macros old.conditions old.files.include_stack ≡ behind_bytes (line_ends_of w) (left_by g old old.table.macros old.conditions include_stack))
     → (g.tells old.sources → KeepsParts g.unread old.files.include_stack include_stack)
-    → Walks g old new (step_answer new None)
+    → UncutStep g old new (step_answer new None)
 unfolding behind_bytes
 passes_text {S} {R} g old new sources w lines include_stack ready bounded counted few used call becomes law parts =
     let pending : line_ends_of w ≡ pending_bytes (inner_name include_stack) (line_ends_pending lines) =
     line_ends_of-owed w ∙ (ap (λ n. replicate n 10) (sym counted) ∙ sym (pending_lines (inner_name include_stack) lines)) in
-    subst (λ (e : EngineView S R). Walks g old e (Ok (Some []))) (sym becomes)
+    subst (λ (e : EngineView S R). UncutStep g old e (Ok (Some []))) (sym becomes)
     (lends_piece g old ready [] (line_ends_pending lines) old.marks old.table.macros old.conditions include_stack sources (subst IsBounded becomes bounded) (lines_few lines _ few) used call
     (λ t. law t ∙ ap (λ (x : List ℕ). behind_bytes x (left_by g old old.table.macros old.conditions include_stack)) pending) parts (Nowhere refl (InSources ready.idle refl (Unmarked refl))))
 
@@ -490,7 +490,7 @@ module _ {S R : Type 0} (g : Ghosts S R) (old new : EngineView S R) (ready : IsR
   pub stretch_steps : (mid : EngineView S R) (len lines : ℕ) (next : Mode) → IsPassed (inner_buffer old.files.include_stack).mode (held_of (inner_buffer old.files.include_stack)) len next → 0 < len
       → len ≤ length (held_of (inner_buffer old.files.include_stack)) → lines ≡ line_ends (take len (held_of (inner_buffer old.files.include_stack)))
       → mid ≡ record old { files = record old.files { include_stack = with_buffer (entered_mode (inner_buffer old.files.include_stack) next) old.files.include_stack } } → new ≡ passes_over len lines mid
-      → Walks g old new (step_answer new None)
+      → UncutStep g old new (step_answer new None)
   unfolding passes_over
   stretch_steps mid len lines next passed positive inside counted enters uses =
       let b = inner_buffer old.files.include_stack in
@@ -509,7 +509,7 @@ module _ {S R : Type 0} (g : Ghosts S R) (old new : EngineView S R) (ready : IsR
   pub part_steps : (mid : EngineView S R) (len lines : ℕ) (next : Mode) → IsText (inner_buffer old.files.include_stack).mode (held_of (inner_buffer old.files.include_stack)) len next
       → lines ≡ line_ends (take len (held_of (inner_buffer old.files.include_stack)))
       → mid ≡ record old { files = record old.files { include_stack = with_buffer (entered_mode (inner_buffer old.files.include_stack) next) old.files.include_stack } } → new ≡ passes_over len lines mid
-      → Walks g old new (step_answer new None)
+      → UncutStep g old new (step_answer new None)
   unfolding passes_over
   part_steps mid len lines next text counted enters uses =
       let b = inner_buffer old.files.include_stack in
@@ -529,7 +529,7 @@ module _ {S R : Type 0} (g : Ghosts S R) (old new : EngineView S R) (ready : IsR
 
   module _ (plain : (inner_buffer old.files.include_stack).mode ≡ Plain) where
     -- a word that doesn't count
-    pub word_steps : (len : ℕ) → IsSkippedWord (held_of (inner_buffer old.files.include_stack)) len → new ≡ passes_over len 0 old → Walks g old new (step_answer new None)
+    pub word_steps : (len : ℕ) → IsSkippedWord (held_of (inner_buffer old.files.include_stack)) len → new ≡ passes_over len 0 old → UncutStep g old new (step_answer new None)
     unfolding passes_over
     word_steps len word becomes =
         let w = take len (held_of (inner_buffer old.files.include_stack)) in
@@ -541,7 +541,7 @@ module _ {S R : Type 0} (g : Ghosts S R) (old new : EngineView S R) (ready : IsR
 
     -- a `line`
     pub line_steps : (len lines : ℕ) → IsDirective Line (held_of (inner_buffer old.files.include_stack)) → len ≡ line_len (held_of (inner_buffer old.files.include_stack))
-        → lines ≡ line_ends (take len (held_of (inner_buffer old.files.include_stack))) → new ≡ passes_over len lines old → Walks g old new (step_answer new None)
+        → lines ≡ line_ends (take len (held_of (inner_buffer old.files.include_stack))) → new ≡ passes_over len lines old → UncutStep g old new (step_answer new None)
     unfolding passes_over
     line_steps len lines is whole counted becomes =
         let held = held_of (inner_buffer old.files.include_stack) in
@@ -555,7 +555,7 @@ module _ {S R : Type 0} (g : Ghosts S R) (old new : EngineView S R) (ready : IsR
 
     -- a conditional that opens in skipped text
     pub opening_steps : (defined : Bool) (v : ConditionsView) → IsDirective (opening_word defined) (held_of (inner_buffer old.files.include_stack)) → v ≡ with_count (s.count + 1) old.conditions
-        → new ≡ goes_past v (length (word_of (opening_word defined))) old → Walks g old new (step_answer new None)
+        → new ≡ goes_past v (length (word_of (opening_word defined))) old → UncutStep g old new (step_answer new None)
     opening_steps defined v is counts becomes =
         let within = word_within (opening_word defined) (held_of (inner_buffer old.files.include_stack)) is some in
         let one : s.count + 1 ≡ suc s.count = omega arith in
@@ -569,7 +569,7 @@ module _ {S R : Type 0} (g : Ghosts S R) (old new : EngineView S R) (ready : IsR
     module _ (is : IsDirective Define (held_of (inner_buffer old.files.include_stack))) (mid : EngineView S R) (r : IsRead g old mid) where
       pub define_steps : (len lines : ℕ) → HoldsLine (g.tells old.sources) g.unread (line.Whole len) (inner_buffer old.files.include_stack) (inner_buffer mid.files.include_stack) → SourcesCalled g false false old.sources mid.sources
           → 0 < len → len ≤ length (held_of (inner_buffer mid.files.include_stack)) → length (held_of (inner_buffer mid.files.include_stack)) < 2 ^ 31 → lines ≡ line_ends (take len (held_of (inner_buffer mid.files.include_stack)))
-          → new ≡ passes_over len lines mid → Walks g old new (step_answer new None)
+          → new ≡ passes_over len lines mid → UncutStep g old new (step_answer new None)
       unfolding passes_over
       define_steps len lines holds call positive inside few counted becomes =
           let b = inner_buffer mid.files.include_stack in
@@ -686,7 +686,7 @@ some_inner change (f ∷ outer) some = some
 pub take_renumbered : {S R : Type 0} (g : Ghosts S R) (old new : EngineView S R) (given : GivenLine) → IsReady old → old.conditions.skipped ≡ None → IsBounded new
     → 0 < length (held_of (inner_buffer old.files.include_stack)) → (inner_buffer old.files.include_stack).mode ≡ Plain → IsDirective Line (held_of (inner_buffer old.files.include_stack))
     → inner_blanks old.files.include_stack ≡ true → LineGiven (drop 5 (held_of (inner_buffer old.files.include_stack))) given → 5 + given.stop ≤ length (held_of (inner_buffer old.files.include_stack))
-    → Renumbers given old new → Walks g old new (step_answer new None)
+    → Renumbers given old new → UncutStep g old new (step_answer new None)
 unfolding behind_bytes
 take_renumbered {S} {R} g old new given ready live bounded some plain is first has inside d =
     let inner = inner_facts old.files ready.include_stack ready.files in
@@ -706,7 +706,7 @@ take_renumbered {S} {R} g old new given ready live bounded some plain is first h
     let name : inner_name include_stack ≡ given.name.bytes = named_inner from given.number given.name used (some_inner (consumed_file len d.lines) old.files.include_stack ready.include_stack) in
     let bytes : pending_bytes (inner_name include_stack) pending ≡ line_ends_of w ++ origin_line (run_rules g old) given.name.bytes given.number =
     ap (λ (n : List ℕ). pending_bytes n pending) name ∙ pending_with_origin (g.catalog old.sources) old.limits old.origins given.name.bytes w d.lines given.number d.counted in
-    subst (λ (e : EngineView S R). Walks g old e (Ok (Some []))) (sym d.becomes)
+    subst (λ (e : EngineView S R). UncutStep g old e (Ok (Some []))) (sym d.becomes)
     (lends_piece g old ready [] pending marks old.table.macros old.conditions include_stack old.sources (subst IsBounded d.becomes bounded) (pending_few old.origins d.lines given.number (omega arith))
     (shown_used old.files.include_stack used (renumbered_file from given.number given.name) (λ f. refl) (used_bytes old.files.include_stack len d.lines (omega arith) inside))
     (not_called g old.sources)

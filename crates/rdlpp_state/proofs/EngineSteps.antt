@@ -24,7 +24,7 @@ use Rattle.rdlpp_state.specs.Pending.{nothing_pending}
 use Rattle.rdlpp_state.specs.Pieces.{kept_answer, lent_answer}
 use Rattle.rdlpp_state.specs.Positions.{position_of}
 use Rattle.rdlpp_state.specs.Remaining.{uncut_of, kept_uncut, output_fault, phase_uncut, state_of, text_of, work_left}
-use Rattle.rdlpp_state.specs.Steps.{EndsText, FailsAt, OnRead, Halts, HaltsAt, IsReading, AtFront, Itself, LendsText, StopsReading, StepsOver, TellsText, Walks, WalksOver, all_of, may_follow, no_len, Tells, IsOwn, IsStarted, has_failed, has_met, has_refused, is_call_failed, is_memory_kind, is_read_failed, is_write_failed}
+use Rattle.rdlpp_state.specs.Steps.{EndsText, FailsAt, OnRead, Halts, HaltsAt, IsReading, AtFront, Itself, LendsText, StopsReading, StepSpec, TellsText, UncutStep, UncutStepWithin, all_of, may_follow, no_len, Tells, IsOwn, IsStarted, has_failed, has_met, has_refused, is_call_failed, is_memory_kind, is_read_failed, is_write_failed}
 use Rattle.rdlpp_state.specs.declared.phase.Phase.{Phase}
 use Rattle.rdlpp_state.specs.declared.phase.Phase.TheVariants.{Fresh, Open, OverLimit, Closed}
 use Rattle.rdlpp_state.specs.declared.place.PieceLocation.{PieceLocation}
@@ -44,7 +44,7 @@ unfolding uncut_of kept_uncut phase_uncut
 left_open g e free open_ = rw (free, open_) refl
 
 -- a kept fault
-pub steps_kept : {S R : Type 0} (g : Ghosts S R) (e : EngineView S R) (f : Report) → IsStarted e → IsBounded e → e.kept ≡ Some f → Walks g e e (Err f)
+pub steps_kept : {S R : Type 0} (g : Ghosts S R) (e : EngineView S R) (f : Report) → IsStarted e → IsBounded e → e.kept ≡ Some f → UncutStep g e e (Err f)
 unfolding has_met uncut_of kept_uncut no_len
 steps_kept g e f started bounded kept = record {
   limits = refl;
@@ -76,7 +76,7 @@ steps_kept g e f started bounded kept = record {
 }
 
 -- the end once more
-pub steps_ended : {S R : Type 0} (g : Ghosts S R) (e : EngineView S R) → IsStarted e → IsBounded e → e.kept ≡ None → e.phase ≡ Closed → Walks g e e (Ok None)
+pub steps_ended : {S R : Type 0} (g : Ghosts S R) (e : EngineView S R) → IsStarted e → IsBounded e → e.kept ≡ None → e.phase ≡ Closed → UncutStep g e e (Ok None)
 unfolding has_met uncut_of kept_uncut phase_uncut no_len
 steps_ended g e started bounded free closed = record {
   limits = refl;
@@ -147,7 +147,7 @@ module _ {S R : Type 0} (g : Ghosts S R) (old new : EngineView S R) (free : old.
       → (new.table.most_bytes ≡ old.table.most_bytes) × (new.table.most_macros ≡ old.table.most_macros)
       → SourcesCalled g false false old.sources new.sources
       → (g.tells old.sources → text_of g old ≡ behind_bytes bytes (text_of g new))
-      → work_left new < work_left old → KeepsStores g old new → StandsIn g old new bytes (position_of new) → Walks g old new (Ok (Some bytes))
+      → work_left new < work_left old → KeepsStores g old new → StandsIn g old new bytes (position_of new) → UncutStep g old new (Ok (Some bytes))
   unfolding has_met no_len all_of may_follow
   walks_lent bytes becomes room call text falls keeps from =
       let still : new.phase ≡ Open = ap (λ e. e.phase) becomes ∙ open_ in
@@ -208,7 +208,7 @@ module _ {S R : Type 0} (g : Ghosts S R) (old new : EngineView S R) (free : old.
   -- the text has a fault, which is kept, wherever that came
   pub walks_kept : (f : Report) → IsOwn f.kind → new ≡ record old { kept = Some f; files = new.files; sources = new.sources; expansion = new.expansion } → HaltsAt g 0 old new
       → SourcesCalled g false false old.sources new.sources
-      → (g.tells old.sources → text_of g old ≡ leaves (fails f) (state_of new)) → KeepsStores g old new → Walks g old new (Err f)
+      → (g.tells old.sources → text_of g old ≡ leaves (fails f) (state_of new)) → KeepsStores g old new → UncutStep g old new (Err f)
   unfolding has_met no_len is_call_failed
   walks_kept f own becomes halts call text stores =
       let still : new.phase ≡ Open = ap (λ e. e.phase) becomes ∙ open_ in
@@ -246,14 +246,14 @@ module _ {S R : Type 0} (g : Ghosts S R) (old new : EngineView S R) (free : old.
       → new.files ≡ record old.files { include_stack = with_buffer (inner_buffer new.files.include_stack) old.files.include_stack }
       → Slides (g.tells old.sources) ⊥ g.unread (inner_buffer old.files.include_stack) (inner_buffer new.files.include_stack) → old.pending ≡ nothing_pending
       → SourcesCalled g false false old.sources new.sources
-      → (g.tells old.sources → text_of g old ≡ leaves (fails f) (state_of new)) → KeepsStores g old new → Walks g old new (Err f)
+      → (g.tells old.sources → text_of g old ≡ leaves (fails f) (state_of new)) → KeepsStores g old new → UncutStep g old new (Err f)
   walks_fault f own becomes only moves drained call text stores =
       walks_kept f own (same_texts f becomes) (halts_at f becomes only moves drained) call text stores
 
   -- a read or a search failed, wherever that was
   pub walks_ceased : (f : Report) → FailsAt new f → is_call_failed f.kind ≡ true → is_write_failed f.kind ≡ false
       → new ≡ record old { kept = Some f; files = new.files; sources = new.sources; expansion = new.expansion } → HaltsAt g 0 old new → StopsReading g old new
-      → SourcesCalled g (is_read_failed f.kind) (is_memory_kind f.kind) old.sources new.sources → KeepsStores g old new → Walks g old new (Err f)
+      → SourcesCalled g (is_read_failed f.kind) (is_memory_kind f.kind) old.sources new.sources → KeepsStores g old new → UncutStep g old new (Err f)
   unfolding has_met no_len
   walks_ceased f fails met write becomes halts reads call stores =
       let still : new.phase ≡ Open = ap (λ e. e.phase) becomes ∙ open_ in
@@ -292,7 +292,7 @@ module _ {S R : Type 0} (g : Ghosts S R) (old new : EngineView S R) (free : old.
       → new.files ≡ record old.files { include_stack = with_buffer (inner_buffer new.files.include_stack) old.files.include_stack }
       → Slides (g.tells old.sources) ⊥ g.unread (inner_buffer old.files.include_stack) (inner_buffer new.files.include_stack) → old.pending ≡ nothing_pending
       → SourcesCalled g (is_read_failed f.kind) (is_memory_kind f.kind) old.sources new.sources
-      → (g.tells old.sources → text_of g old ≡ text_of g new) → KeepsStores g old new → Walks g old new (Err f)
+      → (g.tells old.sources → text_of g old ≡ text_of g new) → KeepsStores g old new → UncutStep g old new (Err f)
   walks_stopped f fails met write becomes only moves drained call text stores =
       let still : new.phase ≡ Open = ap (λ e. e.phase) becomes ∙ open_ in
       walks_ceased f fails met write (same_texts f becomes) (halts_at f becomes only moves drained)
@@ -304,7 +304,7 @@ module _ {S R : Type 0} (g : Ghosts S R) (old new : EngineView S R) (free : old.
       → new.files ≡ record old.files { include_stack = with_buffer (inner_buffer new.files.include_stack) old.files.include_stack }
       → Slides (g.tells old.sources) ⊥ g.unread (inner_buffer old.files.include_stack) (inner_buffer new.files.include_stack) → old.pending ≡ nothing_pending
       → SourcesCalled g true false old.sources new.sources
-      → (g.tells old.sources → text_of g old ≡ text_of g new) → KeepsStores g old new → Walks g old new (Err f)
+      → (g.tells old.sources → text_of g old ≡ text_of g new) → KeepsStores g old new → UncutStep g old new (Err f)
   unfolding fault_at is_read_failed is_write_failed is_memory_kind is_call_failed
   walks_failed f reading is becomes only moves drained call text stores =
       let read : is_read_failed f.kind ≡ true = ap (λ t. is_read_failed t.kind) is in
@@ -315,7 +315,7 @@ module _ {S R : Type 0} (g : Ghosts S R) (old new : EngineView S R) (free : old.
   -- the text has ended
   pub walks_end : new ≡ record old { phase = Closed; files = new.files; sources = new.sources } → old.pending ≡ nothing_pending → old.expansion.opens ≡ []
       → SourcesCalled g false false old.sources new.sources
-      → (g.tells old.sources → EndsText new (text_of g old)) → Walks g old new (Ok None)
+      → (g.tells old.sources → EndsText new (text_of g old)) → UncutStep g old new (Ok None)
   unfolding has_met no_len uncut_of kept_uncut phase_uncut
   walks_end becomes drained idle call text =
       let closed : new.phase ≡ Closed = ap (λ e. e.phase) becomes in
@@ -375,7 +375,7 @@ pub record IsSilent {S R : Type 0} (g : Ghosts S R) (n : ℕ) (old mid : EngineV
 
 -- what a step says of the fault that is kept, where it answers none: none was kept
 pub free_before : {S R : Type 0} {n : ℕ} (g : Ghosts S R) (left : EngineView S R → Outcome) (spent : Result (Option (List ℕ)) Report → ℕ) (most : ℕ → List ℕ → List ℕ) (goes_on : Phase → Bool) (old new : EngineView S R) (kept : Option Report) (lent : Option (List ℕ)) →
-    old.kept ≡ kept → StepsOver g n left spent most goes_on old new (Ok lent) → kept ≡ None
+    old.kept ≡ kept → StepSpec g n left spent most goes_on old new (Ok lent) → kept ≡ None
 free_before g left spent most goes_on old new None lent e s = refl
 free_before g left spent most goes_on old new (Some f) lent e s = cc ((s.kept f e).0)
 
@@ -440,7 +440,7 @@ lends_behind g n m old mid new bytes a b reaches few text tells l = record { at 
 
 -- such a part, and then a step, are one step
 pub silent_then : {S R : Type 0} (g : Ghosts S R) (n m : ℕ) (old mid new : EngineView S R) (answer : Result (Option (List ℕ)) Report) →
-    IsSilent g n old mid → WalksOver g m mid new answer → WalksOver g (n + m) old new answer
+    IsSilent g n old mid → UncutStepWithin g m mid new answer → UncutStepWithin g (n + m) old new answer
 unfolding no_len all_of
 silent_then g n m old mid new answer first then_ =
     let same : (test : FaultKind → Bool) → has_met test old.kept answer ≡ has_met test mid.kept answer = λ test. met_none test old.kept mid.kept answer first.free first.still in
@@ -490,7 +490,7 @@ follows OverLimit h = cc h
 follows Closed h = cc h
 
 -- a step that lent nothing is such a part
-silent_step : {S R : Type 0} (g : Ghosts S R) (m : ℕ) (old mid : EngineView S R) → WalksOver g m old mid (Ok (Some [])) → IsSilent g (m + 1) old mid
+silent_step : {S R : Type 0} (g : Ghosts S R) (m : ℕ) (old mid : EngineView S R) → UncutStepWithin g m old mid (Ok (Some [])) → IsSilent g (m + 1) old mid
 unfolding no_len all_of
 silent_step g m old mid w =
     let free : old.kept ≡ None = free_before g (uncut_of g) no_len all_of may_follow old mid old.kept (Some []) refl w in
@@ -529,7 +529,7 @@ halts_wider g n m (Err f) old new more halts =
 
 -- what more parts may be is no more than so many
 pub wider : {S R : Type 0} (g : Ghosts S R) (n m : ℕ) (old new : EngineView S R) (answer : Result (Option (List ℕ)) Report) → n ≤ m
-    → WalksOver g n old new answer → WalksOver g m old new answer
+    → UncutStepWithin g n old new answer → UncutStepWithin g m old new answer
 wider g n m old new answer more w = record {
   limits = w.limits;
   origins = w.origins;
@@ -563,24 +563,24 @@ wider g n m old new answer more w = record {
 
 -- a step that lent nothing, and then another, are one step
 pub steps_on : {S R : Type 0} (g : Ghosts S R) (n m : ℕ) (old mid new : EngineView S R) (answer : Result (Option (List ℕ)) Report) →
-    WalksOver g n old mid (Ok (Some [])) → WalksOver g m mid new answer → WalksOver g (n + 1 + m) old new answer
+    UncutStepWithin g n old mid (Ok (Some [])) → UncutStepWithin g m mid new answer → UncutStepWithin g (n + 1 + m) old new answer
 steps_on g n m old mid new answer first then_ = silent_then g (n + 1) m old mid new answer (silent_step g n old mid first) then_
 
 -- steps that lent nothing, fewer than so many, and perhaps none
 abbrev pub Passes : {S R : Type 0} → Ghosts S R → ℕ → EngineView S R → EngineView S R → Type 0
-Passes g n old new = (new ≡ old) ⊎ ((m : ℕ) × (m < n) × WalksOver g m old new (Ok (Some [])))
+Passes g n old new = (new ≡ old) ⊎ ((m : ℕ) × (m < n) × UncutStepWithin g m old new (Ok (Some [])))
 
 -- such steps, and then another, are one step
 pub passes_on : {S R : Type 0} (g : Ghosts S R) (n m k : ℕ) (old mid new : EngineView S R) (answer : Result (Option (List ℕ)) Report) → n + m ≤ k →
-    Passes g n old mid → WalksOver g m mid new answer → WalksOver g k old new answer
+    Passes g n old mid → UncutStepWithin g m mid new answer → UncutStepWithin g k old new answer
 passes_on {S} {R} g n m k old mid new answer room (inl same) steps =
-    wider g m k old new answer (omega (arith, room)) (subst (λ (e : EngineView S R). WalksOver g m e new answer) same steps)
+    wider g m k old new answer (omega (arith, room)) (subst (λ (e : EngineView S R). UncutStepWithin g m e new answer) same steps)
 passes_on g n m k old mid new answer room (inr first) steps =
     wider g (first.0 + 1 + m) k old new answer (let less = first.1 in omega (arith, room)) (steps_on g first.0 m old mid new answer first.2 steps)
 
 -- and another that lent nothing are more of them
 pub passes_more : {S R : Type 0} (g : Ghosts S R) (n m k : ℕ) (old mid new : EngineView S R) → n + m < k →
-    Passes g n old mid → WalksOver g m mid new (Ok (Some [])) → Passes g k old new
+    Passes g n old mid → UncutStepWithin g m mid new (Ok (Some [])) → Passes g k old new
 passes_more g n m k old mid new room passes steps = inr (n + m, room, passes_on g n m (n + m) old mid new (Ok (Some [])) (omega arith) passes steps)
 
 -- an engine that such steps left was started
@@ -597,10 +597,10 @@ is_closed Closed a b c = refl
 
 -- a kept fault, where one is
 pub steps_kept_by : {S R : Type 0} (g : Ghosts S R) (e : EngineView S R) (o : Option Fault) → IsStarted e → IsBounded e → e.kept ≡ option_map report_of o → is_some o ≡ true →
-    Walks g e e (kept_answer e.kept)
+    UncutStep g e e (kept_answer e.kept)
 steps_kept_by g e None started bounded kept some = cc some
 steps_kept_by g e (Some f) started bounded kept some =
-    subst (λ (a : Result (Option (List ℕ)) Report). Walks g e e a) (sym (ap kept_answer kept)) (steps_kept g e (report_of f) started bounded kept)
+    subst (λ (a : Result (Option (List ℕ)) Report). UncutStep g e e a) (sym (ap kept_answer kept)) (steps_kept g e (report_of f) started bounded kept)
 
 -- none is kept, where none is
 pub none_kept_by : (k : Option Report) (o : Option Fault) → k ≡ option_map report_of o → is_some o ≡ false → k ≡ None
@@ -614,7 +614,7 @@ write_failed_by f t e = ap (λ (x : Report). is_write_failed x.kind) (let same :
 
 -- more bytes are due than the output may have
 pub steps_passed : {S R : Type 0} (g : Ghosts S R) (old new : EngineView S R) →
-    old.kept ≡ None → old.phase ≡ OverLimit → IsBounded new → new ≡ record old { kept = Some (output_fault old.main) } → Walks g old new (Err (output_fault old.main))
+    old.kept ≡ None → old.phase ≡ OverLimit → IsBounded new → new ≡ record old { kept = Some (output_fault old.main) } → UncutStep g old new (Err (output_fault old.main))
 unfolding has_met uncut_of kept_uncut phase_uncut no_len output_fault is_call_failed is_read_failed is_write_failed is_memory_kind
 steps_passed {S} {R} g old new free past bounded becomes =
     let still : new.phase ≡ OverLimit = ap (λ e. e.phase) becomes ∙ past in
@@ -654,6 +654,6 @@ kept_lent e place f is kept = ap (lent_answer e) is ∙ ap kept_answer kept
 
 -- a fault that is kept is what a step answers
 pub kept_at : {S R : Type 0} (g : Ghosts S R) (old new : EngineView S R) (place : PieceLocation) (f : Report) →
-    place ≡ AtFault → new.kept ≡ Some f → Walks g old new (Err f) → Walks g old new (lent_answer new place)
+    place ≡ AtFault → new.kept ≡ Some f → UncutStep g old new (Err f) → UncutStep g old new (lent_answer new place)
 kept_at g old new place f is kept steps =
-    subst (λ (a : Result (Option (List ℕ)) Report). Walks g old new a) (sym (kept_lent new place f is kept)) steps
+    subst (λ (a : Result (Option (List ℕ)) Report). UncutStep g old new a) (sym (kept_lent new place f is kept)) steps

@@ -49,7 +49,7 @@ use Rattle.rdlpp_state.specs.declared.pending.PendingPiece.{PendingPiece}
 use Rattle.rdlpp_state.specs.Pieces.{IsPlaced, lent_answer, step_answer}
 use Rattle.rdlpp_state.specs.Positions.{Unmarked, position_of}
 use Rattle.rdlpp_state.specs.Remaining.{file_state, inner_name, include_stack_left, include_stack_state, run_rules, source_rules, state_of, text_of, work_left}
-use Rattle.rdlpp_state.specs.Steps.{IsOwn, IsReading, Walks, is_memory_kind, is_read_failed, is_write_failed}
+use Rattle.rdlpp_state.specs.Steps.{IsOwn, IsReading, UncutStep, is_memory_kind, is_read_failed, is_write_failed}
 use Rattle.rdlpp_state.specs.declared.phase.Phase.{Phase}
 use Rattle.rdlpp_state.specs.declared.phase.Phase.TheVariants.{Open}
 use Rattle.rdlpp_state.specs.declared.place.PieceLocation.{PieceLocation}
@@ -134,7 +134,7 @@ pub lends_by : {S R : Type 0} (g : Ghosts S R) (old : EngineView S R) (ready : I
     IsBounded after → work_left after < work_left old → SourcesCalled g false false old.sources sources
     → (g.tells old.sources → left_by g old old.table.macros old.conditions old.files.include_stack ≡ behind_bytes bytes (behind_bytes (pending_bytes (inner_name include_stack) pending) (left_by g old macros v include_stack)))
     → (g.tells old.sources → AreParts g.unread (g.catalog old.sources) Unit old.files.include_stack → AreParts g.unread (g.catalog old.sources) Unit include_stack)
-    → StandsIn g old after bytes (position_of after) → Walks g old after (Ok (Some bytes))
+    → StandsIn g old after bytes (position_of after) → UncutStep g old after (Ok (Some bytes))
 lends_by g old ready bytes pending marks macros v include_stack sources bounded falls call law parts from =
     let after = record old { pending = pending; marks = marks; table = record old.table { macros = macros }; conditions = v; files = record old.files { include_stack = include_stack }; sources = sources } in
     walks_lent g old after ready.free ready.open_ bounded bytes refl (refl, refl) call
@@ -149,7 +149,7 @@ pub lends_piece : {S R : Type 0} (g : Ghosts S R) (old : EngineView S R) (ready 
     IsBounded after → pending_pieces pending < 2 ^ 31 → IsUsed old.files.include_stack include_stack → SourcesCalled g false false old.sources sources
     → (g.tells old.sources → left_by g old old.table.macros old.conditions old.files.include_stack ≡ behind_bytes bytes (behind_bytes (pending_bytes (inner_name include_stack) pending) (left_by g old macros v include_stack)))
     → (g.tells old.sources → KeepsParts g.unread old.files.include_stack include_stack)
-    → StandsIn g old after bytes (position_of after) → Walks g old after (Ok (Some bytes))
+    → StandsIn g old after bytes (position_of after) → UncutStep g old after (Ok (Some bytes))
 lends_piece g old ready bytes pending marks macros v include_stack sources bounded few used call law parts from =
     let after = record old { pending = pending; marks = marks; table = record old.table { macros = macros }; conditions = v; files = record old.files { include_stack = include_stack }; sources = sources } in
     lends_by g old ready bytes pending marks macros v include_stack sources bounded (work_falls old after refl used ready.idle ready.idle few) call law (λ t. parts t (g.catalog old.sources)) from
@@ -160,9 +160,9 @@ pub lends_source : {S R : Type 0} (g : Ghosts S R) (old new : EngineView S R) (r
     → IsBounded new → IsUsed old.files.include_stack include_stack
     → left_by g old old.table.macros old.conditions old.files.include_stack ≡ behind_bytes bytes (left_by g old macros v include_stack)
     → KeepsParts g.unread old.files.include_stack include_stack
-    → (let after = record old { marks = marks; table = record old.table { macros = macros }; conditions = v; files = record old.files { include_stack = include_stack } } in StandsIn g old after bytes (position_of after)) → Walks g old new (Ok (Some bytes))
+    → (let after = record old { marks = marks; table = record old.table { macros = macros }; conditions = v; files = record old.files { include_stack = include_stack } } in StandsIn g old after bytes (position_of after)) → UncutStep g old new (Ok (Some bytes))
 lends_source {S} {R} g old new ready bytes marks macros v include_stack becomes bounded used law parts from =
-    subst (λ (e : EngineView S R). Walks g old e (Ok (Some bytes))) (sym becomes)
+    subst (λ (e : EngineView S R). UncutStep g old e (Ok (Some bytes))) (sym becomes)
     (lends_piece g old ready bytes old.pending marks macros v include_stack old.sources (subst IsBounded becomes bounded) (drained_few old.pending ready.pending) used (not_called g old.sources)
     (λ t. law ∙ ap (behind_bytes bytes) (sym (drained_behind (inner_name include_stack) old.pending (left_by g old macros v include_stack) ready.pending))) (λ t. parts) from)
 
@@ -282,7 +282,7 @@ told_kind kind line word s own = own
 pub refuses_by : {S R : Type 0} (g : Ghosts S R) (old mid new : EngineView S R) (place : PieceLocation) (tell : State → Report) → ((s : State) → IsOwn (tell s).kind) → IsReady old → IsRead g old mid → IsBounded new
     → place ≡ Fault → new ≡ record mid { kept = Some (tell (state_of mid)) } → SourcesCalled g false false old.sources mid.sources
     → (g.tells old.sources → left_by g old old.table.macros old.conditions old.files.include_stack ≡ leaves (fails (tell (state_of old))) (state_of old))
-    → Walks g old new (lent_answer new place)
+    → UncutStep g old new (lent_answer new place)
 unfolding state_of
 refuses_by {S} {R} g old mid new place tell own ready r bounded is becomes call law =
     let f = tell (state_of mid) in
@@ -299,7 +299,7 @@ refuses_by {S} {R} g old mid new place tell own ready r bounded is becomes call 
 pub refuses : {S R : Type 0} (g : Ghosts S R) (old mid new : EngineView S R) (place : PieceLocation) (kind : FaultKind) (line : ℕ) (word : List ℕ) → IsReady old → IsRead g old mid → IsBounded new
     → place ≡ Fault → new ≡ record mid { kept = Some (fault_at kind line word (state_of mid)) } → IsOwn kind → SourcesCalled g false false old.sources mid.sources
     → (g.tells old.sources → left_by g old old.table.macros old.conditions old.files.include_stack ≡ leaves (fails (fault_at kind line word (state_of old))) (state_of old))
-    → Walks g old new (lent_answer new place)
+    → UncutStep g old new (lent_answer new place)
 refuses g old mid new place kind line word ready r bounded is becomes own call law =
     refuses_by g old mid new place (λ s. fault_at kind line word s) (λ s. told_kind kind line word s own) ready r bounded is becomes call law
 
@@ -307,7 +307,7 @@ refuses g old mid new place kind line word ready r bounded is becomes own call l
 pub fails_reading : {S R : Type 0} (g : Ghosts S R) (old mid new : EngineView S R) (place : PieceLocation) → IsReady old → IsRead g old mid → IsReading (inner_buffer mid.files.include_stack) → IsBounded new
     → place ≡ Fault → new ≡ record mid { kept = Some (fault_at fault.ReadFailed (reading_line_of (inner_buffer mid.files.include_stack)) [] (state_of mid)) } → SourcesCalled g true false old.sources mid.sources
     → (g.tells old.sources → left_by g old old.table.macros old.conditions old.files.include_stack ≡ left_by g old old.table.macros old.conditions (with_buffer (inner_buffer mid.files.include_stack) old.files.include_stack))
-    → Walks g old new (lent_answer new place)
+    → UncutStep g old new (lent_answer new place)
 unfolding state_of
 fails_reading {S} {R} g old mid new place ready r reading bounded is becomes call law =
     let told : EngineView S R → Report = λ e. fault_at fault.ReadFailed (reading_line_of (inner_buffer e.files.include_stack)) [] (include_stack_state e.limits e.table.macros e.conditions e.files.include_stack) in
@@ -345,7 +345,7 @@ pub take_text : {S R : Type 0} (g : Ghosts S R) (old mid new : EngineView S R) (
     → lines ≡ line_ends (take len (held_of (inner_buffer old.files.include_stack)))
     → mid ≡ record old { files = record old.files { include_stack = with_buffer (entered_mode (inner_buffer old.files.include_stack) next) old.files.include_stack } }
     → new ≡ record mid { files = record mid.files { include_stack = with_inner (consumed_file len lines) mid.files.include_stack }; marks = lends_line (inner_buffer old.files.include_stack).line mid.marks }
-    → from ≡ (inner_buffer old.files.include_stack).at → to ≡ from + len → Walks g old new (lent_answer new (Source from to))
+    → from ≡ (inner_buffer old.files.include_stack).at → to ≡ from + len → UncutStep g old new (lent_answer new (Source from to))
 take_text {S} {R} g old mid new len lines from to next ready live bounded some text counted enters uses begins stops =
     let inner = inner_facts old.files ready.include_stack ready.files in
     let b = inner_buffer old.files.include_stack in
@@ -357,7 +357,7 @@ take_text {S} {R} g old mid new len lines from to next ready live bounded some t
     let window : (inner_buffer new.files.include_stack).window ≡ b.window = ap (λ (e : EngineView S R). (inner_buffer e.files.include_stack).window) becomes ∙ same_window old.files.include_stack len lines next in
     let part : slice_range (inner_buffer new.files.include_stack).window from to ≡ take len (held_of b) =
     rw (window, begins, stops) (rw begins (held_part b len inner.buffer.used within.1)) in
-    subst (λ (xs : List ℕ). Walks g old new (Ok (Some xs))) (sym part)
+    subst (λ (xs : List ℕ). UncutStep g old new (Ok (Some xs))) (sym part)
     (lends_source g old new ready (take len (held_of b)) marks old.table.macros old.conditions include_stack becomes bounded
     (used_after old.files.include_stack (entered_mode b next) len lines ready.include_stack (entered_unused b next) within.0 (rw (held_entered b next) within.1))
     (include_stack_text old.limits (run_rules g old) g.unread old.table.macros old.conditions live old.files.include_stack len lines next some inner.ends text counted)
@@ -370,7 +370,7 @@ module _ {S R : Type 0} (g : Ghosts S R) (old mid new : EngineView S R) (len : �
     (holds : HoldsLine (g.tells old.sources) g.unread (line.Whole len) (inner_buffer old.files.include_stack) (inner_buffer mid.files.include_stack))
     (call : SourcesCalled g false false old.sources mid.sources) where
   -- it is accepted
-  accepted_steps : 7 ≤ len → len ≤ length (held_of (inner_buffer mid.files.include_stack)) → length (held_of (inner_buffer mid.files.include_stack)) < 2 ^ 31 → Defines len mid new → Walks g old new (step_answer new None)
+  accepted_steps : 7 ≤ len → len ≤ length (held_of (inner_buffer mid.files.include_stack)) → length (held_of (inner_buffer mid.files.include_stack)) < 2 ^ 31 → Defines len mid new → UncutStep g old new (step_answer new None)
   unfolding source_rules rules_of with_fault behind_bytes
   accepted_steps wide inside few d =
       let inner = inner_facts old.files ready.include_stack ready.files in
@@ -393,7 +393,7 @@ module _ {S R : Type 0} (g : Ghosts S R) (old mid new : EngineView S R) (len : �
       rw (← ready.sound.definition_bytes, ← ready.sound.definitions) (rw table at d.accepted) in
       let pending : line_ends_of w ≡ pending_bytes (inner_name after) (line_ends_pending d.lines) =
       line_ends_of-owed w ∙ (ap (λ n. replicate n 10) (sym counted) ∙ sym (pending_lines (inner_name after) d.lines)) in
-      subst (λ (e : EngineView S R). Walks g old e (Ok (Some []))) (sym becomes)
+      subst (λ (e : EngineView S R). UncutStep g old e (Ok (Some []))) (sym becomes)
       (lends_piece g old ready [] (line_ends_pending d.lines) old.marks d.macros old.conditions after mid.sources (subst IsBounded becomes bounded) (lines_few d.lines _ (omega arith))
       (used_after old.files.include_stack b len d.lines ready.include_stack holds.extends.unused (omega arith) inside) call
       (λ t. include_stack_defined old.limits (run_rules g old) g.unread old.table.macros old.conditions live (g.tells old.sources) t old.files.include_stack b len d.lines d.macros
@@ -403,7 +403,7 @@ module _ {S R : Type 0} (g : Ghosts S R) (old mid new : EngineView S R) (len : �
       (parts_used g.unread len d.lines (with_buffer b old.files.include_stack))) (Nowhere refl (InSources ready.idle refl (Unmarked refl))))
 
   -- it is refused
-  refused_steps : (place : PieceLocation) → place ≡ Fault → RefusesDefine len mid new → Walks g old new (lent_answer new place)
+  refused_steps : (place : PieceLocation) → place ≡ Fault → RefusesDefine len mid new → UncutStep g old new (lent_answer new place)
   unfolding source_rules rules_of with_fault state_of
   refused_steps place is d =
       let inner = inner_facts old.files ready.include_stack ready.files in
@@ -417,7 +417,7 @@ module _ {S R : Type 0} (g : Ghosts S R) (old mid new : EngineView S R) (len : �
       some inner.ends plain define holds (ap with_fault refused)
       ∙ rw here refl)
 
-  pub defined_steps : (result : Option PieceLocation) → 7 ≤ len → len ≤ length (held_of (inner_buffer mid.files.include_stack)) → length (held_of (inner_buffer mid.files.include_stack)) < 2 ^ 31 → ReadsDefine len mid new result → Walks g old new (step_answer new result)
+  pub defined_steps : (result : Option PieceLocation) → 7 ≤ len → len ≤ length (held_of (inner_buffer mid.files.include_stack)) → length (held_of (inner_buffer mid.files.include_stack)) < 2 ^ 31 → ReadsDefine len mid new result → UncutStep g old new (step_answer new result)
   defined_steps None wide inside few reads = accepted_steps wide inside few reads
   defined_steps (Some Fault) wide inside few reads = refused_steps Fault refl reads
   defined_steps (Some (Source start end)) wide inside few reads = absurd reads
@@ -441,7 +441,7 @@ behind_twice x y p = ap (λ (xs : List ℕ). record { bytes = xs; fault = p.faul
 
 -- what is pending is lent
 pub take_pending : {S R : Type 0} (g : Ghosts S R) (old new : EngineView S R) (piece : PendingPiece) (pending : PendingView) → old.kept ≡ None → old.phase ≡ Open → IsBounded new
-    → TakesPiece (inner_name old.files.include_stack) old.pending pending piece → new ≡ record old { pending = pending; marks = lends_pending old.pending (inner_buffer old.files.include_stack).line old.marks } → Walks g old new (lent_answer new (Pending piece))
+    → TakesPiece (inner_name old.files.include_stack) old.pending pending piece → new ≡ record old { pending = pending; marks = lends_pending old.pending (inner_buffer old.files.include_stack).line old.marks } → UncutStep g old new (lent_answer new (Pending piece))
 unfolding text_of state_of
 take_pending {S} {R} g old new piece pending free open_ bounded takes becomes =
     let marks = lends_pending old.pending (inner_buffer old.files.include_stack).line old.marks in
@@ -449,7 +449,7 @@ take_pending {S} {R} g old new piece pending free open_ bounded takes becomes =
     let name = inner_name old.files.include_stack in
     let bytes = take piece.len (part_bytes piece.part name (digits_of pending.origin)) in
     let rest = goes_on (texts_left (run_rules g old) (state_of old) old.table.macros old.expansion) (λ after. left_by g old old.table.macros old.conditions old.files.include_stack) in
-    subst (λ (e : EngineView S R). Walks g old e (lent_answer e (Pending piece))) (sym becomes)
+    subst (λ (e : EngineView S R). UncutStep g old e (lent_answer e (Pending piece))) (sym becomes)
     (walks_lent g old after free open_ (subst IsBounded becomes bounded) bytes refl (refl, refl) (not_called g old.sources)
     (λ t. ap (λ (x : List ℕ). behind_bytes x rest) takes.bytes ∙ behind_twice bytes (pending_bytes name pending) rest)
     (pending_falls old after refl refl refl takes.fewer) (keeps_pending g old pending marks) (AtPending piece pending takes refl (pending_position old pending piece takes free open_) refl))

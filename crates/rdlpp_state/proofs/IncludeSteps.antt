@@ -52,7 +52,7 @@ use Rattle.rdlpp_state.specs.Pieces.{IsPlaced, lent_answer, step_answer}
 use Rattle.rdlpp_state.specs.Positions.{BehindSource, Unmarked}
 use Rattle.rdlpp_state.specs.Remaining.{ending_behind, file_state, find_of, inner_name, lookup_of, include_stack_left, include_stack_state, run_rules, source_rules, state_of, waiting_around}
 use Rattle.rdlpp_state.specs.Standing.{InSources, Nowhere}
-use Rattle.rdlpp_state.specs.Steps.{IsOwn, OnSearch, Walks, is_call_failed, is_memory_kind, is_read_failed, is_write_failed}
+use Rattle.rdlpp_state.specs.Steps.{IsOwn, OnSearch, UncutStep, is_call_failed, is_memory_kind, is_read_failed, is_write_failed}
 use Rattle.rdlpp_state.specs.declared.phase.Phase.TheVariants.{Closed}
 use Rattle.rdlpp_state.specs.declared.place.PieceLocation.{PieceLocation}
 use Rattle.rdlpp_state.specs.declared.place.PieceLocation.TheVariants.{End, Fault, Pending, Source as SourcePlace, Text}
@@ -360,14 +360,14 @@ module _ {S R : Type 0} (g : Ghosts S R) (old mid new : EngineView S R) (start s
 
   -- the text has a fault
   refuse_steps : (place : PieceLocation) → place ≡ Fault → (kind : FaultKind) → IsOwn kind → SourcesCalled g false false old.sources mid.sources → KeepsKind kind
-      → (g.tells old.sources → Fails g old kind (inner_buffer old.files.include_stack).line []) → Walks g old new (lent_answer new place)
+      → (g.tells old.sources → Fails g old kind (inner_buffer old.files.include_stack).line []) → UncutStep g old new (lent_answer new place)
   refuse_steps place is kind own call kept law =
       let keeps : FilesView R → EngineView S R = λ fs. record mid { kept = Some (fault_at kind (inner_buffer fs.include_stack).line [] (state_of mid)) } in
       refuses g old mid new place kind (inner_buffer old.files.include_stack).line [] ready (read_sources g old mid becomes) bounded is (kept ∙ ap keeps same_files) own call law
 
   -- the search failed
   stopped_steps : (place : PieceLocation) → place ≡ Fault → (kind : FaultKind) → is_call_failed kind ≡ true → is_write_failed kind ≡ false → SourcesCalled g (is_read_failed kind) (is_memory_kind kind) old.sources mid.sources
-      → KeepsKind kind → is_bad_name name_of ≡ false → length old.files.include_stack < old.files.slots → Walks g old new (lent_answer new place)
+      → KeepsKind kind → is_bad_name name_of ≡ false → length old.files.include_stack < old.files.slots → UncutStep g old new (lent_answer new place)
   unfolding fault_at state_of
   stopped_steps place is kind met write call kept good room =
       let told : EngineView S R → Report = λ e. fault_at kind (inner_buffer e.files.include_stack).line [] (include_stack_state e.limits e.table.macros e.conditions e.files.include_stack) in
@@ -392,7 +392,7 @@ module _ {S R : Type 0} (g : Ghosts S R) (old mid new : EngineView S R) (start s
       (keeps_searched g old (told mid) mid.sources ready.free ready.idle call.catalog)))
 
   -- what is found is what the rules find
-  finds_as : (fault : SourceFault) → Searches g old name_of mid.sources (Err fault) → (place : PieceLocation) → place ≡ Fault → KeepsKind (kind_of_source fault) → Walks g old new (lent_answer new place)
+  finds_as : (fault : SourceFault) → Searches g old name_of mid.sources (Err fault) → (place : PieceLocation) → place ≡ Fault → KeepsKind (kind_of_source fault) → UncutStep g old new (lent_answer new place)
   unfolding kind_of_source is_call_failed is_read_failed is_write_failed is_memory_kind source_rules rules_of find_of lookup_of state_of
   finds_as source.Absent s place is kept =
       let room = s.room in
@@ -410,7 +410,7 @@ module _ {S R : Type 0} (g : Ghosts S R) (old mid new : EngineView S R) (start s
   finds_as source.NoMemory s place is kept = stopped_steps place is SourceMemory refl refl s.call kept s.name_good s.room
 
   -- nothing is opened
-  pub denied_steps : (place : PieceLocation) (kind : FaultKind) → place ≡ Fault → Denies g old name_of mid.sources kind → KeepsKind kind → Walks g old new (lent_answer new place)
+  pub denied_steps : (place : PieceLocation) (kind : FaultKind) → place ≡ Fault → Denies g old name_of mid.sources kind → KeepsKind kind → UncutStep g old new (lent_answer new place)
   unfolding state_of
   denied_steps place kind is (BadName bad named same) kept =
       refuse_steps place is IncludeName (own_kind _ refl) (subst (λ (s : S). SourcesCalled g false false old.sources s) (sym same) (not_called g old.sources)) (subst KeepsKind named kept)
@@ -422,7 +422,7 @@ module _ {S R : Type 0} (g : Ghosts S R) (old mid new : EngineView S R) (start s
   denied_steps place kind is (Refuses fault named s) kept = finds_as fault s place is (subst KeepsKind named kept)
 
   -- a source is opened
-  pub entered_steps : (found : Found R) → Searches g old name_of mid.sources (Ok found) → new ≡ included_engine found stop mid → Walks g old new (step_answer new None)
+  pub entered_steps : (found : Found R) → Searches g old name_of mid.sources (Ok found) → new ≡ included_engine found stop mid → UncutStep g old new (step_answer new None)
   unfolding included_engine behind_bytes source_rules rules_of find_of lookup_of unused_of opened_buffer
   entered_steps found s enters =
       let room = s.room in
@@ -436,7 +436,7 @@ module _ {S R : Type 0} (g : Ghosts S R) (old mid new : EngineView S R) (start s
       let pending : PendingView = record { line_ends = 0; origin = origin_pending old.origins 1 } in
       let after : EngineView S R = record old { pending = pending; files = record old.files { include_stack = file ∷ used }; sources = mid.sources } in
       let is : new ≡ after = enters ∙ ap (included_engine found stop) becomes in
-      subst (λ (e : EngineView S R). Walks g old e (Ok (Some []))) (sym is)
+      subst (λ (e : EngineView S R). UncutStep g old e (Ok (Some []))) (sym is)
       (lends_by g old ready [] pending old.marks old.table.macros old.conditions (file ∷ used) mid.sources (subst IsBounded is bounded)
       (entered_falls old after refl ready.idle ready.idle (record {
         inner = file;
@@ -579,7 +579,7 @@ module _ {S R : Type 0} (g : Ghosts S R) (old mid new : EngineView S R) (ready :
   same_ended : length mid.conditions.open_now ≡ inner_below mid.files.include_stack → length old.conditions.open_now ≡ inner_below old.files.include_stack
   same_ended none = sym (ap (λ (v : ConditionsView). length v.open_now) same_open) ∙ none ∙ same_below
 
-  ended_text : Closes mid new → Walks g old new (Ok None)
+  ended_text : Closes mid new → UncutStep g old new (Ok None)
   unfolding state_of
   ended_text c =
       let becomes = c.becomes in
@@ -603,7 +603,7 @@ module _ {S R : Type 0} (g : Ghosts S R) (old mid new : EngineView S R) (ready :
         closed = ap (λ e. e.files.include_stack) becomes;
       })
 
-  ended_open : StopsOpen mid new → Walks g old new (lent_answer new Fault)
+  ended_open : StopsOpen mid new → UncutStep g old new (lent_answer new Fault)
   unfolding state_of
   ended_open stops =
       let b = inner_buffer mid.files.include_stack in
@@ -615,7 +615,7 @@ module _ {S R : Type 0} (g : Ghosts S R) (old mid new : EngineView S R) (ready :
       (tokens ∙ (stops.tokens ∙ ap (only_broken stops.breach) fills.open_token_line))
       ∙ rw fills.open_token_line refl)
 
-  ended_unclosed : StopsUnclosed mid new → Walks g old new (lent_answer new Fault)
+  ended_unclosed : StopsUnclosed mid new → UncutStep g old new (lent_answer new Fault)
   unfolding state_of
   ended_unclosed stops =
       let o = stops.conditional in
@@ -626,7 +626,7 @@ module _ {S R : Type 0} (g : Ghosts S R) (old mid new : EngineView S R) (ready :
       (sym (ap (λ (v : ConditionsView). v.open_now) same_open) ∙ stops.is_open) (omega arith) fills (sym fills.mode ∙ stops.plain))
 
   -- an included source has ended: the one around it goes on
-  ended_back : Returns mid new → Walks g old new (Ok (Some []))
+  ended_back : Returns mid new → UncutStep g old new (Ok (Some []))
   unfolding left_engine behind_bytes
   ended_back back =
       let b = inner_buffer mid.files.include_stack in
@@ -644,14 +644,14 @@ module _ {S R : Type 0} (g : Ghosts S R) (old mid new : EngineView S R) (ready :
       ∙ (ap (λ (m : MarksView). by pending m (drop 1 (with_buffer b before))) (marks_same old.marks b before) ∙ ap (by pending marks) (drop_same b before))))) in
       let few = ready.files.few in
       let slots = ready.sound.slots in
-      subst (λ (e : EngineView S R). Walks g old e (Ok (Some []))) (sym becomes)
+      subst (λ (e : EngineView S R). UncutStep g old e (Ok (Some []))) (sym becomes)
       (lends_by g old ready [] pending marks old.table.macros old.conditions (drop 1 before) mid.sources (subst IsBounded becomes bounded)
       (left_falls old (by pending marks (drop 1 before)) refl ready.idle ready.idle refl ready.include_stack (omega arith) (pending_behind-few old.origins before)) call
       (λ t. include_stack_back old.limits (run_rules g old) g.unread old.table.macros old.conditions live (g.tells old.sources) t before b inner ended fills (sym fills.mode ∙ back.mode)
       ∙ ap (λ (x : List ℕ). behind_bytes x (left_by g old old.table.macros old.conditions (drop 1 before))) (sym (pending_ending (g.catalog old.sources) old.limits old.origins before inner)))
       (λ t. parts_around g.unread before (g.catalog old.sources)) (Nowhere refl (InSources ready.idle refl (BehindSource refl))))
 
-  pub ended_steps : (place : Option PieceLocation) → Ends mid new place → Walks g old new (step_answer new place)
+  pub ended_steps : (place : Option PieceLocation) → Ends mid new place → UncutStep g old new (step_answer new place)
   ended_steps None ends = ended_back ends
   ended_steps (Some (SourcePlace start end)) ends = absurd ends
   ended_steps (Some (Text p)) ends = absurd ends

@@ -32,7 +32,7 @@ use Rattle.rdlpp_state.specs.Positions.{TakesPending, line_end_place, origin_pla
 use Rattle.rdlpp_state.specs.Remaining.{file_state, inner_name, kept_uncut, left_of, include_stack_state, output_fault, phase_uncut, source_rules, state_of, text_of, uncut_of, work_left}
 use Rattle.rdlpp_state.specs.Silences.{most_silent}
 use Rattle.rdlpp_state.specs.Standing.{StandsIn}
-use Rattle.rdlpp_state.specs.Steps.{Steps, WalksOver, all_of, has_met, is_call_failed, lent_len, may_follow, no_len}
+use Rattle.rdlpp_state.specs.Steps.{Step, UncutStepWithin, all_of, has_met, is_call_failed, lent_len, may_follow, no_len}
 use Rattle.rdlpp_state.specs.Stored.{HoldsStores, LetsGo}
 use Rattle.rdlpp_state.specs.declared.pending.PendingPart.{PendingPart}
 use Rattle.rdlpp_state.specs.declared.pending.PendingPart.TheVariants.{Colon, Digits, Label, LineEnds, Name}
@@ -342,7 +342,7 @@ tells_end over quota o is = ap (limited over quota) is ∙ limited-within over q
 
 -- a step that ends the output, or tells its fault
 module _ {S R : Type 0} (g : Ghosts S R) (old new : EngineView S R) where
-  pub cut_end : WalksOver g most_silent old new (Ok None) → Steps g old new (Ok None)
+  pub cut_end : UncutStepWithin g most_silent old new (Ok None) → Step g old new (Ok None)
   unfolding left_of no_len lent_len
   cut_end w = record {
     limits = w.limits;
@@ -373,7 +373,7 @@ module _ {S R : Type 0} (g : Ghosts S R) (old new : EngineView S R) where
     stores = w.stores;
   }
 
-  pub cut_fault : (f : Report) → WalksOver g most_silent old new (Err f) → Steps g old new (Err f)
+  pub cut_fault : (f : Report) → UncutStepWithin g most_silent old new (Err f) → Step g old new (Err f)
   unfolding left_of no_len lent_len
   cut_fault f w = record {
     limits = w.limits;
@@ -444,7 +444,7 @@ unfolding stores_of
 same_bound e phase quota b = record { bytes = b.bytes; windows = b.windows; cursors = b.cursors; bindings = b.bindings; conditions = b.conditions; sources = b.sources; texts = b.texts }
 
 -- what a walk that lent bytes says of what remains
-module _ {S R : Type 0} (g : Ghosts S R) (old mid new : EngineView S R) (xs : List ℕ) (w : WalksOver g most_silent old mid (Ok (Some xs))) where
+module _ {S R : Type 0} (g : Ghosts S R) (old mid new : EngineView S R) (xs : List ℕ) (w : UncutStepWithin g most_silent old mid (Ok (Some xs))) where
   free_old : old.kept ≡ None
   free_old = free_before g (uncut_of g) no_len all_of may_follow old mid old.kept (Some xs) refl w
 
@@ -454,7 +454,7 @@ module _ {S R : Type 0} (g : Ghosts S R) (old mid new : EngineView S R) (xs : Li
   -- a walk that lent bytes, and then only what may be lent and how far the engine is changed
   lent_step : (ys : List ℕ) → new ≡ record mid { phase = new.phase; quota = new.quota } → (new.phase ≡ Fresh → ⊥) → is_open new.phase ≡ true
       → (g.tells old.sources → left_of g old ≡ and_then (gives ys) (left_of g new)) → ys ≡ take old.quota xs → new.quota + length ys ≡ old.quota
-      → Steps g old new (Ok (Some ys))
+      → Step g old new (Ok (Some ys))
   unfolding has_met lent_len all_of
   lent_step ys becomes started opens tells part quota =
       let limits : new.limits ≡ mid.limits = ap (λ e. e.limits) becomes in
@@ -509,7 +509,7 @@ module _ {S R : Type 0} (g : Ghosts S R) (old mid new : EngineView S R) (xs : Li
       }
 
   -- the whole piece may be lent
-  pub cut_fits : length xs ≤ old.quota → new ≡ record mid { quota = mid.quota - length xs } → Steps g old new (Ok (Some xs))
+  pub cut_fits : length xs ≤ old.quota → new ≡ record mid { quota = mid.quota - length xs } → Step g old new (Ok (Some xs))
   unfolding left_of no_len
   cut_fits fits becomes =
       let quota : mid.quota ≡ old.quota = (let q = w.quota in omega arith) in
@@ -526,7 +526,7 @@ module _ {S R : Type 0} (g : Ghosts S R) (old mid new : EngineView S R) (xs : Li
       (sym (take_all old.quota xs fits)) (omega arith)
 
   -- a part of the piece may be lent
-  pub cut_passes : old.quota < length xs → new ≡ record mid { phase = OverLimit; quota = 0 } → Steps g old new (Ok (Some (take old.quota xs)))
+  pub cut_passes : old.quota < length xs → new ≡ record mid { phase = OverLimit; quota = 0 } → Step g old new (Ok (Some (take old.quota xs)))
   unfolding left_of uncut_of kept_uncut phase_uncut no_len is_open
   cut_passes passes becomes =
       let phase : new.phase ≡ OverLimit = ap (λ e. e.phase) becomes in
@@ -563,11 +563,11 @@ spent_part mid new n len spent =
     ]
 
 -- a piece, cut to what may still be lent
-pub cut_piece : {S R : Type 0} (g : Ghosts S R) (old mid new : EngineView S R) (xs : List ℕ) (n len : ℕ) → WalksOver g most_silent old mid (Ok (Some xs)) → length xs ≡ n → IsSpent mid new n len → Steps g old new (Ok (Some (take len xs)))
+pub cut_piece : {S R : Type 0} (g : Ghosts S R) (old mid new : EngineView S R) (xs : List ℕ) (n len : ℕ) → UncutStepWithin g most_silent old mid (Ok (Some xs)) → length xs ≡ n → IsSpent mid new n len → Step g old new (Ok (Some (take len xs)))
 unfolding no_len
 cut_piece {S} {R} g old mid new xs n len w size spent =
     let quota : mid.quota ≡ old.quota = (let q = w.quota in omega arith) in
-    let P : List ℕ → Type 0 = λ ys. Steps g old new (Ok (Some ys)) in
+    let P : List ℕ → Type 0 = λ ys. Step g old new (Ok (Some ys)) in
     let keeps : ℕ → EngineView S R = λ k. record mid { quota = mid.quota - k } in
     elim (cases_lt mid.quota n) [
       | inl over ↦
@@ -579,12 +579,12 @@ cut_piece {S} {R} g old mid new xs n len w size spent =
     ]
 
 -- a step of which the same bytes are told
-told_bytes : {S R : Type 0} (g : Ghosts S R) (old new : EngineView S R) (xs ys : List ℕ) → ys ≡ xs → Steps g old new (Ok (Some xs)) → Steps g old new (Ok (Some ys))
-told_bytes g old new xs ys same steps = subst (λ (zs : List ℕ). Steps g old new (Ok (Some zs))) (sym same) steps
+told_bytes : {S R : Type 0} (g : Ghosts S R) (old new : EngineView S R) (xs ys : List ℕ) → ys ≡ xs → Step g old new (Ok (Some xs)) → Step g old new (Ok (Some ys))
+told_bytes g old new xs ys same steps = subst (λ (zs : List ℕ). Step g old new (Ok (Some zs))) (sym same) steps
 
 -- a part of the open source's buffer, cut to what may still be lent
-pub cut_source : {S R : Type 0} (g : Ghosts S R) (old mid new : EngineView S R) (from to len : ℕ) → WalksOver g most_silent old mid (lent_answer mid (Source from to))
-    → IsPlaced mid (Source from to) → IsSpent mid new (to - from) len → Steps g old new (lent_answer new (Source from (from + len)))
+pub cut_source : {S R : Type 0} (g : Ghosts S R) (old mid new : EngineView S R) (from to len : ℕ) → UncutStepWithin g most_silent old mid (lent_answer mid (Source from to))
+    → IsPlaced mid (Source from to) → IsSpent mid new (to - from) len → Step g old new (lent_answer new (Source from (from + len)))
 cut_source {S} {R} g old mid new from to len w placed spent =
     let part = spent_part mid new (to - from) len spent in
     let xs = slice_range (inner_buffer mid.files.include_stack).window from to in
@@ -601,8 +601,8 @@ texts_same : {S R : Type 0} (mid new : EngineView S R) (n len : ℕ) → IsPart 
 texts_same mid new n len part = ap (λ t. texts_of t.macros new.expansion.arguments) part.table ∙ ap (λ x. texts_of mid.table.macros x.arguments) part.expansion
 
 -- a part of an open text, cut to what may still be lent
-pub cut_text : {S R : Type 0} (g : Ghosts S R) (old mid new : EngineView S R) (place : TextPlace) (len : ℕ) → WalksOver g most_silent old mid (lent_answer mid (Text place))
-    → IsPlaced mid (Text place) → IsSpent mid new (place.end - place.from) len → Steps g old new (lent_answer new (Text (cut_place place len)))
+pub cut_text : {S R : Type 0} (g : Ghosts S R) (old mid new : EngineView S R) (place : TextPlace) (len : ℕ) → UncutStepWithin g most_silent old mid (lent_answer mid (Text place))
+    → IsPlaced mid (Text place) → IsSpent mid new (place.end - place.from) len → Step g old new (lent_answer new (Text (cut_place place len)))
 unfolding place_bytes
 cut_text {S} {R} g old mid new place len w placed spent =
     let part = spent_part mid new (place.end - place.from) len spent in
@@ -622,7 +622,7 @@ text_cut_placed {S} {R} mid new place len placed spent =
     (record { source = placed.source; order = omega arith; inside = omega arith })
 
 -- the fault that is kept, or the end where none is
-pub cut_kept : {S R : Type 0} (g : Ghosts S R) (old new : EngineView S R) (kept : Option Report) → WalksOver g most_silent old new (kept_answer kept) → Steps g old new (kept_answer kept)
+pub cut_kept : {S R : Type 0} (g : Ghosts S R) (old new : EngineView S R) (kept : Option Report) → UncutStepWithin g most_silent old new (kept_answer kept) → Step g old new (kept_answer kept)
 cut_kept g old new None w = cut_end g old new w
 cut_kept g old new (Some f) w = cut_fault g old new f w
 
@@ -634,8 +634,8 @@ part_same mid new piece n len k part =
     ∙ ap (λ o. part_bytes piece.part (inner_name mid.files.include_stack) (digits_of o.origin)) part.pending
 
 -- a piece that is pending, cut to what may still be lent
-pub cut_pending : {S R : Type 0} (g : Ghosts S R) (old mid new : EngineView S R) (piece : PendingPiece) (len : ℕ) → WalksOver g most_silent old mid (lent_answer mid (Pending piece))
-    → IsPlaced mid (Pending piece) → IsSpent mid new piece.len len → Steps g old new (lent_answer new (Pending (cut_to piece len)))
+pub cut_pending : {S R : Type 0} (g : Ghosts S R) (old mid new : EngineView S R) (piece : PendingPiece) (len : ℕ) → UncutStepWithin g most_silent old mid (lent_answer mid (Pending piece))
+    → IsPlaced mid (Pending piece) → IsSpent mid new piece.len len → Step g old new (lent_answer new (Pending (cut_to piece len)))
 unfolding cut_to
 cut_pending g old mid new piece len w placed spent =
     let part = spent_part mid new piece.len len spent in

@@ -46,7 +46,7 @@ use Rattle.rdlpp_state.specs.Pending.{nothing_pending, pending_bytes, pending_pi
 use Rattle.rdlpp_state.specs.Pieces.{held_texts, lent_answer}
 use Rattle.rdlpp_state.specs.Remaining.{file_state, inner_name, include_stack_left, include_stack_state, run_rules, source_rules, state_of, text_of, work_left}
 use Rattle.rdlpp_state.specs.Standing.{AtCursor, InTexts, Nowhere, OpensText, OpensUsage, Turns}
-use Rattle.rdlpp_state.specs.Steps.{BeforeCall, HaltsAt, InCall, IsOwn, OnRead, StopsInCall, Walks, is_call_failed, is_memory_kind, is_read_failed, is_write_failed}
+use Rattle.rdlpp_state.specs.Steps.{BeforeCall, HaltsAt, InCall, IsOwn, OnRead, StopsInCall, UncutStep, is_call_failed, is_memory_kind, is_read_failed, is_write_failed}
 use Rattle.rdlpp_state.specs.declared.place.PieceLocation.{PieceLocation}
 use Rattle.rdlpp_state.specs.declared.place.PieceLocation.TheVariants.{Fault, Text}
 use Rattle.rdlpp_state.proofs.WorkFacts.{IsUsed, cursors_fall, held_room, idle_digits, work_opens}
@@ -156,19 +156,19 @@ module _ {S R : Type 0} (g : Ghosts S R) (old : EngineView S R) (x : ExpansionVi
 
   -- bytes of a text are lent
   pub texts_lend : (place : TextPlace) → (let after = record old { expansion = x; marks = lends_usage old.expansion.line old.marks } in IsBounded after) → TakesUsageStep old.table.macros old.expansion (Lends place) x
-      → (let after = record old { expansion = x; marks = lends_usage old.expansion.line old.marks } in Walks g old after (lent_answer after (Text place)))
+      → (let after = record old { expansion = x; marks = lends_usage old.expansion.line old.marks } in UncutStep g old after (lent_answer after (Text place)))
   unfolding IsStep StepsTo IsFalling StaysLent state_of lends_usage text_of work_left
   texts_lend place bounded t =
       let goes = t.step (run_rules g old) (state_of old) (include_stack_macros old.limits old.table.macros old.conditions old.files.include_stack) in
       let marks = lends_usage old.expansion.line old.marks in
       let after = record old { expansion = x; marks = marks } in
-      subst (λ (xs : List ℕ). Walks g old after (Ok (Some xs))) (ap (λ (a : List ℕ). place_bytes (texts_of old.table.macros a) place) (sym t.lends.1))
+      subst (λ (xs : List ℕ). UncutStep g old after (Ok (Some xs))) (ap (λ (a : List ℕ). place_bytes (texts_of old.table.macros a) place) (sym t.lends.1))
       (walks_lent g old after drained.free drained.open_ bounded (place_bytes (held_texts old) place) refl (refl, refl) (not_called g old.sources)
       (λ _. text_goes (place_bytes (held_texts old) place) t.stays goes) (work_texts t.stays t.sound t.digits) (keeps_texts g old x marks drained.free t.stays t.outer t.lets_go)
       (AtCursor place drained.pending t.stands refl t.turns (usage_position old x drained.free drained.open_) refl))
 
   -- a text was opened or closed
-  pub texts_turn : IsBounded (record old { expansion = x }) → TakesUsageStep old.table.macros old.expansion Silent x → Walks g old (record old { expansion = x }) (Ok (Some []))
+  pub texts_turn : IsBounded (record old { expansion = x }) → TakesUsageStep old.table.macros old.expansion Silent x → UncutStep g old (record old { expansion = x }) (Ok (Some []))
   unfolding IsStep StepsTo IsFalling state_of
   texts_turn bounded t =
       walks_lent g old (record old { expansion = x }) drained.free drained.open_ bounded [] refl (refl, refl) (not_called g old.sources)
@@ -179,7 +179,7 @@ module _ {S R : Type 0} (g : Ghosts S R) (old : EngineView S R) (x : ExpansionVi
 -- the open texts end with a fault, and nothing else changes
 pub texts_refuse : {S R : Type 0} (g : Ghosts S R) (old mid new : EngineView S R) (place : PieceLocation) (fault : CursorFault) → IsDrained old → IsBounded new → mid ≡ old → place ≡ Fault
     → new ≡ record mid { kept = Some (fault_at fault.kind mid.expansion.line (place_bytes (held_texts mid) fault.word) (state_of mid)) } → is_text_fault fault.kind ≡ true
-    → IsStep old.expansion.line old.expansion.depth (held_texts old) old.expansion.opens (RefusedStep fault) mid.expansion.opens → Walks g old new (lent_answer new place)
+    → IsStep old.expansion.line old.expansion.depth (held_texts old) old.expansion.opens (RefusedStep fault) mid.expansion.opens → UncutStep g old new (lent_answer new place)
 unfolding IsStep StepsTo state_of text_of
 texts_refuse {S} {R} g old mid new place fault drained bounded same is kept own step =
     let word = place_bytes (held_texts old) fault.word in
@@ -209,20 +209,20 @@ some_open (x ∷ below) e = omega arith
 
 module _ {S R : Type 0} (g : Ghosts S R) (old : EngineView S R) (x : ExpansionView) (result : CursorStep) (drained : IsDrained old) (takes : TakesUsageStep old.table.macros old.expansion result x) where
   -- a step that lends bytes
-  pub lend_step : (new : EngineView S R) (place : TextPlace) → HoldsTexts old x → result ≡ Lends place → new ≡ record old { expansion = x; marks = lends_usage old.expansion.line old.marks } → IsBounded new → Walks g old new (lent_answer new (Text place))
+  pub lend_step : (new : EngineView S R) (place : TextPlace) → HoldsTexts old x → result ≡ Lends place → new ≡ record old { expansion = x; marks = lends_usage old.expansion.line old.marks } → IsBounded new → UncutStep g old new (lent_answer new (Text place))
   lend_step new place holds is becomes bounded =
-      subst (λ (e : EngineView S R). Walks g old e (lent_answer e (Text place))) (sym becomes)
+      subst (λ (e : EngineView S R). UncutStep g old e (lent_answer e (Text place))) (sym becomes)
       (texts_lend g old x drained holds place (subst (λ (e : EngineView S R). IsBounded e) becomes bounded) (subst (λ (r : CursorStep). TakesUsageStep old.table.macros old.expansion r x) is takes))
 
   -- one that lends none
-  pub turn_step : (new : EngineView S R) → HoldsTexts old x → result ≡ Silent → new ≡ record old { expansion = x } → IsBounded new → Walks g old new (Ok (Some []))
+  pub turn_step : (new : EngineView S R) → HoldsTexts old x → result ≡ Silent → new ≡ record old { expansion = x } → IsBounded new → UncutStep g old new (Ok (Some []))
   turn_step new holds is becomes bounded =
-      subst (λ (e : EngineView S R). Walks g old e (Ok (Some []))) (sym becomes)
+      subst (λ (e : EngineView S R). UncutStep g old e (Ok (Some []))) (sym becomes)
       (texts_turn g old x drained holds (subst (λ (e : EngineView S R). IsBounded e) becomes bounded) (subst (λ (r : CursorStep). TakesUsageStep old.table.macros old.expansion r x) is takes))
 
   -- one that is refused
   pub refuse_step : (mid new : EngineView S R) (place : PieceLocation) (fault : CursorFault) → result ≡ RefusedStep fault → mid ≡ record old { expansion = x } → IsBounded new → place ≡ Fault
-      → new ≡ record mid { kept = Some (fault_at fault.kind mid.expansion.line (place_bytes (held_texts mid) fault.word) (state_of mid)) } → is_text_fault fault.kind ≡ true → Walks g old new (lent_answer new place)
+      → new ≡ record mid { kept = Some (fault_at fault.kind mid.expansion.line (place_bytes (held_texts mid) fault.word) (state_of mid)) } → is_text_fault fault.kind ≡ true → UncutStep g old new (lent_answer new place)
   unfolding StaysAt
   refuse_step mid new place fault is becomes bounded at kept own =
       let t : TakesUsageStep old.table.macros old.expansion (RefusedStep fault) x = subst (λ (r : CursorStep). TakesUsageStep old.table.macros old.expansion r x) is takes in
@@ -479,7 +479,7 @@ module _ {S R : Type 0} (g : Ghosts S R) (old : EngineView S R) (ready : IsReady
   -- its texts are open: nothing is lent yet
   pub usage_opens : (line : ℕ) (name : List ℕ) → IsBounded opened_engine_at → SourcesCalled g false false old.sources s → work_left opened_engine_at < work_left old
       → (g.tells old.sources → text_left g.unread (inner_buffer old.files.include_stack) ≡ uses.used ++ text_left g.unread (inner_buffer include_stack))
-      → (g.tells old.sources → TellsAt Opened line name) → KeepsStores g old opened_engine_at → Turns g old opened_engine_at → Walks g old opened_engine_at (Ok (Some []))
+      → (g.tells old.sources → TellsAt Opened line name) → KeepsStores g old opened_engine_at → Turns g old opened_engine_at → UncutStep g old opened_engine_at (Ok (Some []))
   unfolding behind_bytes
   usage_opens line name bounded call falls text means keeps turn =
       let catalog : source_rules (g.catalog s) old.limits old.origins ≡ run_rules g old = ap (λ (c : Catalog). source_rules c old.limits old.origins) call.catalog in
@@ -519,28 +519,28 @@ module _ {S R : Type 0} (g : Ghosts S R) (old : EngineView S R) (ready : IsReady
 
     -- a fault of the text
     usage_faults : (f : Report) → IsOwn f.kind → IsBounded (stopped_engine f) → SourcesCalled g false false old.sources s
-        → (g.tells old.sources → text_by (run_rules g old) g old ≡ leaves (fails f) (state_of old)) → Walks g old (stopped_engine f) (Err f)
+        → (g.tells old.sources → text_by (run_rules g old) g old ≡ leaves (fails f) (state_of old)) → UncutStep g old (stopped_engine f) (Err f)
     usage_faults f own bounded call law =
         walks_kept g old (stopped_engine f) ready.free ready.open_ bounded f own refl (halts_in f) call
         (λ t. by_run g old ∙ (law t ∙ ap (leaves (fails f)) (sym (same_here f)))) (stores_in f call.catalog (own_stops (stopped_engine f) f refl (own_failed f.kind own)))
 
     -- the usage is refused, at its line about its name
     pub usage_refuses : (kind : FaultKind) (line : ℕ) (name : List ℕ) → is_usage_fault kind ≡ true → let f = fault_at kind line name (state_of old) in IsBounded (stopped_engine f)
-        → SourcesCalled g false false old.sources s → (g.tells old.sources → TellsAt (Refused kind) line name) → Walks g old (stopped_engine f) (Err f)
+        → SourcesCalled g false false old.sources s → (g.tells old.sources → TellsAt (Refused kind) line name) → UncutStep g old (stopped_engine f) (Err f)
     usage_refuses kind line name own bounded call means =
         usage_faults (fault_at kind line name (state_of old)) (told_kind kind line name (state_of old) (usage_kind kind own)) bounded call
         (λ t. refused_text g (run_rules g old) old ready.pending ready.idle live ready.include_stack include_stack x kind line name (means t))
 
     -- its call is broken, at a line of its own about no word
     pub usage_breaks : (kind : FaultKind) (own line : ℕ) (name : List ℕ) → is_usage_fault kind ≡ true → let f = fault_at kind own [] (state_of old) in IsBounded (stopped_engine f)
-        → SourcesCalled g false false old.sources s → (g.tells old.sources → TellsAt (Broken kind own) line name) → Walks g old (stopped_engine f) (Err f)
+        → SourcesCalled g false false old.sources s → (g.tells old.sources → TellsAt (Broken kind own) line name) → UncutStep g old (stopped_engine f) (Err f)
     usage_breaks kind own line name is bounded call means =
         usage_faults (fault_at kind own [] (state_of old)) (told_kind kind own [] (state_of old) (usage_kind kind is)) bounded call
         (λ t. broken_text g (run_rules g old) old ready.pending ready.idle live ready.include_stack include_stack x kind own line name (means t))
 
     -- a read failed in its call
     pub usage_fails : held_of (inner_buffer include_stack) ≡ [] → let f = fault_at fault.ReadFailed (reading_line_of (inner_buffer include_stack)) [] (state_of old) in IsBounded (stopped_engine f)
-        → SourcesCalled g true false old.sources s → Walks g old (stopped_engine f) (Err f)
+        → SourcesCalled g true false old.sources s → UncutStep g old (stopped_engine f) (Err f)
     unfolding fault_at is_read_failed is_write_failed is_memory_kind is_call_failed
     usage_fails unheld bounded call =
         let f = fault_at fault.ReadFailed (reading_line_of (inner_buffer include_stack)) [] (state_of old) in
@@ -562,10 +562,10 @@ module _ {S R : Type 0} (g : Ghosts S R) (old mid : EngineView S R) (len : ℕ) 
   inside_of some = let within = usage_inside (held_of (inner_buffer old.files.include_stack)) len some usage in usage_within old.files.include_stack len within.0 within.1
 
   -- its texts are open
-  pub opens_step : OpensUsage g len old mid Opened → IsBounded mid → Walks g old mid (Ok (Some []))
+  pub opens_step : OpensUsage g len old mid Opened → IsBounded mid → UncutStep g old mid (Ok (Some []))
   opens_step o bounded =
       let is = opened_is old mid o.becomes o.only in
-      subst (λ (e : EngineView S R). Walks g old e (Ok (Some []))) (sym is)
+      subst (λ (e : EngineView S R). UncutStep g old e (Ok (Some []))) (sym is)
       (usage_opens g old ready live mid.files.include_stack mid.sources mid.expansion Opened o.uses (inner_buffer old.files.include_stack).line (usage_name (held_of (inner_buffer old.files.include_stack)) len)
       (subst (λ (e : EngineView S R). IsBounded e) is bounded) (called g false old.sources mid.sources o.call)
       (usage_work g old ready live mid.files.include_stack mid.sources mid.expansion Opened o.uses texts o.now_room o.depth o.most o.sound)
@@ -578,7 +578,7 @@ module _ {S R : Type 0} (g : Ghosts S R) (old mid : EngineView S R) (len : ℕ) 
 
   -- it is refused
   pub refuses_step : (new : EngineView S R) (place : PieceLocation) (kind : FaultKind) → OpensUsage g len old mid (Refused kind) → IsBounded new → place ≡ Fault
-      → new ≡ record mid { kept = Some (fault_at kind (inner_buffer old.files.include_stack).line (usage_name (held_of (inner_buffer old.files.include_stack)) len) (state_of mid)) } → Walks g old new (lent_answer new place)
+      → new ≡ record mid { kept = Some (fault_at kind (inner_buffer old.files.include_stack).line (usage_name (held_of (inner_buffer old.files.include_stack)) len) (state_of mid)) } → UncutStep g old new (lent_answer new place)
   refuses_step new place kind o bounded at kept =
       let line = (inner_buffer old.files.include_stack).line in
       let name = usage_name (held_of (inner_buffer old.files.include_stack)) len in
@@ -587,13 +587,13 @@ module _ {S R : Type 0} (g : Ghosts S R) (old mid : EngineView S R) (len : ℕ) 
       let same = unchanged old.expansion mid.expansion ready.idle (o.lets_go refl) o.line o.depth o.most in
       let is = stopped_is old mid o.becomes o.only new f same (kept ∙ ap (λ (s : State). record mid { kept = Some (fault_at kind line name s) }) here) in
       kept_at g old new place f at (ap (λ e. e.kept) is)
-      (subst (λ (e : EngineView S R). Walks g old e (Err f)) (sym is)
+      (subst (λ (e : EngineView S R). UncutStep g old e (Err f)) (sym is)
       (usage_refuses g old ready live mid.files.include_stack mid.sources mid.expansion (Refused kind) o.uses len mode usage refl o.macro o.named o.keeps (inside_of o.some) kind line name o.fault (subst (λ (e : EngineView S R). IsBounded e) is bounded)
       (called g false old.sources mid.sources o.call) (λ t s ws os macros. o.means (run_rules g old) s ws os (run_is s macros) t)))
 
   -- its call is broken
   pub breaks_step : (new : EngineView S R) (place : PieceLocation) (kind : FaultKind) (own : ℕ) → OpensUsage g len old mid (Broken kind own) → IsBounded new → place ≡ Fault
-      → new ≡ record mid { kept = Some (fault_at kind own [] (state_of mid)) } → Walks g old new (lent_answer new place)
+      → new ≡ record mid { kept = Some (fault_at kind own [] (state_of mid)) } → UncutStep g old new (lent_answer new place)
   breaks_step new place kind own o bounded at kept =
       let line = (inner_buffer old.files.include_stack).line in
       let name = usage_name (held_of (inner_buffer old.files.include_stack)) len in
@@ -602,13 +602,13 @@ module _ {S R : Type 0} (g : Ghosts S R) (old mid : EngineView S R) (len : ℕ) 
       let same = unchanged old.expansion mid.expansion ready.idle (o.lets_go refl) o.line o.depth o.most in
       let is = stopped_is old mid o.becomes o.only new f same (kept ∙ ap (λ (s : State). record mid { kept = Some (fault_at kind own [] s) }) here) in
       kept_at g old new place f at (ap (λ e. e.kept) is)
-      (subst (λ (e : EngineView S R). Walks g old e (Err f)) (sym is)
+      (subst (λ (e : EngineView S R). UncutStep g old e (Err f)) (sym is)
       (usage_breaks g old ready live mid.files.include_stack mid.sources mid.expansion (Broken kind own) o.uses len mode usage refl o.macro o.named o.keeps (inside_of o.some) kind own line name o.fault (subst (λ (e : EngineView S R). IsBounded e) is bounded)
       (called g false old.sources mid.sources o.call) (λ t s ws os macros. o.means (run_rules g old) s ws os (run_is s macros) t)))
 
   -- a read failed in its call
   pub fails_step : (new : EngineView S R) (place : PieceLocation) → OpensUsage g len old mid Failed → IsBounded new → place ≡ Fault
-      → new ≡ record mid { kept = Some (fault_at fault.ReadFailed (reading_line_of (inner_buffer mid.files.include_stack)) [] (state_of mid)) } → Walks g old new (lent_answer new place)
+      → new ≡ record mid { kept = Some (fault_at fault.ReadFailed (reading_line_of (inner_buffer mid.files.include_stack)) [] (state_of mid)) } → UncutStep g old new (lent_answer new place)
   fails_step new place o bounded at kept =
       let line = reading_line_of (inner_buffer mid.files.include_stack) in
       let f = fault_at fault.ReadFailed line [] (state_of old) in
@@ -616,6 +616,6 @@ module _ {S R : Type 0} (g : Ghosts S R) (old mid : EngineView S R) (len : ℕ) 
       let same = unchanged old.expansion mid.expansion ready.idle (o.lets_go refl) o.line o.depth o.most in
       let is = stopped_is old mid o.becomes o.only new f same (kept ∙ ap (λ (s : State). record mid { kept = Some (fault_at fault.ReadFailed line [] s) }) here) in
       kept_at g old new place f at (ap (λ e. e.kept) is)
-      (subst (λ (e : EngineView S R). Walks g old e (Err f)) (sym is)
+      (subst (λ (e : EngineView S R). UncutStep g old e (Err f)) (sym is)
       (usage_fails g old ready live mid.files.include_stack mid.sources mid.expansion Failed o.uses len mode usage refl o.macro o.named o.keeps (inside_of o.some) (o.unheld refl) (subst (λ (e : EngineView S R). IsBounded e) is bounded)
       (called g true old.sources mid.sources o.call)))

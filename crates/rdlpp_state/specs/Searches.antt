@@ -10,7 +10,7 @@ use Rattle.rdlpp_state.specs.Failures.{is_call_failed}
 use Rattle.rdlpp_state.specs.Includes.{IsSearch}
 use Rattle.rdlpp_state.specs.Opening.{Starts}
 use Rattle.rdlpp_state.specs.Remaining.{left_of, text_of}
-use Rattle.rdlpp_state.specs.Steps.{IsReading, Steps}
+use Rattle.rdlpp_state.specs.Steps.{IsReading, Step}
 use Rattle.rdlpp_state.specs.Stored.{HoldsStores, LetsGo}
 use Rattle.rdlpp_state.specs.declared.phase.Phase.TheVariants.{Fresh, Open}
 
@@ -23,7 +23,7 @@ pub record Retries {S R : Type 0} (g : Ghosts S R) (old new : EngineView S R) : 
   pub same : is_failed_search old ≡ false → new ≡ old
   pub search : (f : Report) → old.kept ≡ Some f → is_call_failed f.kind ≡ true → old.phase ≡ Open → IsSearch old → is_failed_search old ≡ true
   pub read : IsReading (inner_buffer old.files.include_stack) → is_failed_search old ≡ false
-  pub remains : is_failed_search old ≡ true → (before : EngineView S R) (f : Report) → before.kept ≡ None → Steps g before old (Err f)
+  pub remains : is_failed_search old ≡ true → (before : EngineView S R) (f : Report) → before.kept ≡ None → Step g before old (Err f)
       → g.tells before.sources → (text_of g before ≡ text_of g new) × (left_of g before ≡ left_of g new)
   pub lets_go : LetsGo old → LetsGo new
   pub stores : HoldsStores g old → HoldsStores g new

@@ -155,7 +155,7 @@ IsStarted e = e.phase ≡ Fresh → ⊥
 -- and then the output that remains; so it is with the text and the state behind it; where a read or a search failed, the same text remains; what
 -- is pending and what changed at the end and at a fault; the work left falls; bytes come of an open text alone; what may still be lent;
 -- the room of the table; the bound holds; before a piece so many parts of it at most lent none
-pub record StepsOver {S R : Type 0} (g : Ghosts S R) (silent : ℕ) (left : EngineView S R → Outcome) (spent : Result (Option (List ℕ)) Report → ℕ)
+pub record StepSpec {S R : Type 0} (g : Ghosts S R) (silent : ℕ) (left : EngineView S R → Outcome) (spent : Result (Option (List ℕ)) Report → ℕ)
     (most : ℕ → List ℕ → List ℕ) (goes_on : Phase → Bool) (old new : EngineView S R) (answer : Result (Option (List ℕ)) Report) : Type 0 where
   pub limits : new.limits ≡ old.limits
   pub origins : new.origins ≡ old.origins
@@ -201,13 +201,13 @@ all_of quota piece = piece
 
 -- a step over what remains of the output, in which the lent bytes count: no more are lent of a piece than may be (this project's
 -- profile)
-abbrev pub Steps : {S R : Type 0} → Ghosts S R → EngineView S R → EngineView S R → Result (Option (List ℕ)) Report → Type 0
-Steps g old new answer = StepsOver g most_silent (left_of g) lent_len take is_open old new answer
+abbrev pub Step : {S R : Type 0} → Ghosts S R → EngineView S R → EngineView S R → Result (Option (List ℕ)) Report → Type 0
+Step g old new answer = StepSpec g most_silent (left_of g) lent_len take is_open old new answer
 
 -- a step over what remains without the limit on the output, of which so many parts at most before a piece lent no bytes
-abbrev pub WalksOver : {S R : Type 0} → Ghosts S R → ℕ → EngineView S R → EngineView S R → Result (Option (List ℕ)) Report → Type 0
-WalksOver g silent old new answer = StepsOver g silent (uncut_of g) no_len all_of may_follow old new answer
+abbrev pub UncutStepWithin : {S R : Type 0} → Ghosts S R → ℕ → EngineView S R → EngineView S R → Result (Option (List ℕ)) Report → Type 0
+UncutStepWithin g silent old new answer = StepSpec g silent (uncut_of g) no_len all_of may_follow old new answer
 
 -- one such step alone
-abbrev pub Walks : {S R : Type 0} → Ghosts S R → EngineView S R → EngineView S R → Result (Option (List ℕ)) Report → Type 0
-Walks g old new answer = WalksOver g 0 old new answer
+abbrev pub UncutStep : {S R : Type 0} → Ghosts S R → EngineView S R → EngineView S R → Result (Option (List ℕ)) Report → Type 0
+UncutStep g old new answer = UncutStepWithin g 0 old new answer

@@ -11,7 +11,7 @@ ghost use Rattle.rdlpp_state.specs.Held.{IsBounded};
 ghost use Rattle.rdlpp_state.specs.Moves.{IsReady};
 ghost use Rattle.rdlpp_state.specs.OpenConditionals.{inner_below};
 ghost use Rattle.rdlpp_state.specs.Pieces.{IsPlaced, step_answer};
-ghost use Rattle.rdlpp_state.specs.Steps.{Walks};
+ghost use Rattle.rdlpp_state.specs.Steps.{UncutStep};
 
 use super::Engine;
 use super::words::{ELSE_BYTES, ELSIF_BYTES, ENDIF_BYTES};
@@ -37,7 +37,7 @@ impl<S: Sources> Engine<S> {
         requires mode { (inner_buffer self.old.files.include_stack).mode ≡ Mode.Plain }
         requires opening { IsNamed (opening_word defined) (held_of (inner_buffer self.old.files.include_stack)) argument }
         ensures place { IfSome result (IsPlaced self.new) }
-        ensures walks { IsBounded self.new → Walks S.Sources self.old self.new (step_answer self.new result) }
+        ensures uncut_step { IsBounded self.new → UncutStep S.Sources self.old self.new (step_answer self.new result) }
     {
         match self.named(argument) {
             Err(place) => Some(place),
@@ -80,7 +80,7 @@ impl<S: Sources> Engine<S> {
         requires mode { (inner_buffer self.old.files.include_stack).mode ≡ Mode.Plain }
         requires branch { IsGivenBranch word (held_of (inner_buffer self.old.files.include_stack)) argument }
         ensures place { IfSome result (IsPlaced self.new) }
-        ensures walks { IsBounded self.new → Walks S.Sources self.old self.new (step_answer self.new result) }
+        ensures uncut_step { IsBounded self.new → UncutStep S.Sources self.old self.new (step_answer self.new result) }
     {
         let below = self.files.file().conditions_below;
         match self.conditions.branch(below, word) {
@@ -105,7 +105,7 @@ impl<S: Sources> Engine<S> {
         requires branch { IsGivenBranch word (held_of (inner_buffer self.old.files.include_stack)) argument }
         requires decides { IsBranch (place_of (inner_below self.old.files.include_stack) self.old.conditions) word Branch.Named }
         ensures place { IfSome result (IsPlaced self.new) }
-        ensures walks { IsBounded self.new → Walks S.Sources self.old self.new (step_answer self.new result) }
+        ensures uncut_step { IsBounded self.new → UncutStep S.Sources self.old self.new (step_answer self.new result) }
     {
         match self.named(argument) {
             Err(place) => Some(place),
@@ -137,7 +137,7 @@ impl<S: Sources> Engine<S> {
         requires mode { (inner_buffer self.old.files.include_stack).mode ≡ Mode.Plain }
         requires closing { IsDirective Endif (held_of (inner_buffer self.old.files.include_stack)) }
         ensures place { IfSome result (IsPlaced self.new) }
-        ensures walks { IsBounded self.new → Walks S.Sources self.old self.new (step_answer self.new result) }
+        ensures uncut_step { IsBounded self.new → UncutStep S.Sources self.old self.new (step_answer self.new result) }
     {
         let below = self.files.file().conditions_below;
         match self.conditions.close(below) {

@@ -7,7 +7,7 @@ ghost use Rattle.rdlpp_front.specs.SourceItems.{IsText};
 ghost use Rattle.rdlpp_state.specs.Held.{IsBounded};
 ghost use Rattle.rdlpp_state.specs.Moves.{IsReady, IsDrained};
 ghost use Rattle.rdlpp_state.specs.Pieces.{IsPlaced, lent_answer, step_answer};
-ghost use Rattle.rdlpp_state.specs.Steps.{IsStarted, Walks, WalksOver};
+ghost use Rattle.rdlpp_state.specs.Steps.{IsStarted, UncutStep, UncutStepWithin};
 
 use crate::engine::Engine;
 use rdlpp_front::{Copied, copied_text};
@@ -22,7 +22,7 @@ impl<S: Sources> Engine<S> {
         requires ready { IsReady self.old }
         requires some { 0 < length (held_of (inner_buffer self.old.files.include_stack)) }
         ensures place { IfSome result (IsPlaced self.new) }
-        ensures walks { IsBounded self.new → Walks S.Sources self.old self.new (step_answer self.new result) }
+        ensures uncut_step { IsBounded self.new → UncutStep S.Sources self.old self.new (step_answer self.new result) }
     {
         if !self.conditions.is_live() {
             return self.skip_front();
@@ -43,7 +43,7 @@ impl<S: Sources> Engine<S> {
         requires text { IsText (inner_buffer self.old.files.include_stack).mode (held_of (inner_buffer self.old.files.include_stack)) copied.len copied.next }
         requires lines { copied.lines ≡ line_ends (take copied.len (held_of (inner_buffer self.old.files.include_stack))) }
         ensures place { IsPlaced self.new result }
-        ensures walks { IsBounded self.new → Walks S.Sources self.old self.new (lent_answer self.new result) }
+        ensures uncut_step { IsBounded self.new → UncutStep S.Sources self.old self.new (lent_answer self.new result) }
     {
         let Copied { len, lines, next } = copied;
         let line = self.files.file().buffer.line();

@@ -10,7 +10,7 @@ ghost use Rattle.rdlpp_state.specs.Lines.{Renumbers, renumbered_file};
 ghost use Rattle.rdlpp_state.specs.Moves.{IsReady};
 ghost use Rattle.rdlpp_state.specs.Pending.{nothing_pending};
 ghost use Rattle.rdlpp_state.specs.Pieces.{IsPlaced, step_answer};
-ghost use Rattle.rdlpp_state.specs.Steps.{Walks};
+ghost use Rattle.rdlpp_state.specs.Steps.{UncutStep};
 
 use super::Engine;
 use super::words::LINE_BYTES;
@@ -31,7 +31,7 @@ impl<S: Sources> Engine<S> {
         requires mode { (inner_buffer self.old.files.include_stack).mode ≡ Mode.Plain }
         requires line { IsDirective Line (held_of (inner_buffer self.old.files.include_stack)) }
         ensures place { IfSome result (IsPlaced self.new) }
-        ensures walks { IsBounded self.new → Walks S.Sources self.old self.new (step_answer self.new result) }
+        ensures uncut_step { IsBounded self.new → UncutStep S.Sources self.old self.new (step_answer self.new result) }
     {
         let file = self.files.file();
         if !file.blanks {

@@ -9,7 +9,7 @@ ghost use Rattle.rdlpp_state.specs.Held.{IsBounded};
 ghost use Rattle.rdlpp_state.specs.Moves.{IsReady};
 ghost use Rattle.rdlpp_state.specs.Pending.{nothing_pending};
 ghost use Rattle.rdlpp_state.specs.Pieces.{IsPlaced, step_answer};
-ghost use Rattle.rdlpp_state.specs.Steps.{Walks};
+ghost use Rattle.rdlpp_state.specs.Steps.{UncutStep};
 
 use super::Engine;
 use super::words::{IFDEF_BYTES, IFNDEF_BYTES, INCLUDE_BYTES, UNDEF_BYTES};
@@ -29,7 +29,7 @@ impl<S: Sources> Engine<S> {
         requires skipped { self.old.conditions.skipped ≢ None }
         requires some { 0 < length (held_of (inner_buffer self.old.files.include_stack)) }
         ensures place { IfSome result (IsPlaced self.new) }
-        ensures walks { IsBounded self.new → Walks S.Sources self.old self.new (step_answer self.new result) }
+        ensures uncut_step { IsBounded self.new → UncutStep S.Sources self.old self.new (step_answer self.new result) }
     {
         let buffer = &self.files.file().buffer;
         let stretch = skip_text(buffer.mode(), buffer.held());
@@ -48,7 +48,7 @@ impl<S: Sources> Engine<S> {
         requires skipped { self.old.conditions.skipped ≢ None }
         requires some { 0 < length (held_of (inner_buffer self.old.files.include_stack)) }
         ensures place { IfSome result (IsPlaced self.new) }
-        ensures walks { IsBounded self.new → Walks S.Sources self.old self.new (step_answer self.new result) }
+        ensures uncut_step { IsBounded self.new → UncutStep S.Sources self.old self.new (step_answer self.new result) }
     {
         let buffer = &self.files.file().buffer;
         match next_item(buffer.mode(), buffer.held()) {
@@ -74,7 +74,7 @@ impl<S: Sources> Engine<S> {
         requires some { 0 < length (held_of (inner_buffer self.old.files.include_stack)) }
         requires text { IsText (inner_buffer self.old.files.include_stack).mode (held_of (inner_buffer self.old.files.include_stack)) len next }
         ensures place { IfSome result (IsPlaced self.new) }
-        ensures walks { IsBounded self.new → Walks S.Sources self.old self.new (step_answer self.new result) }
+        ensures uncut_step { IsBounded self.new → UncutStep S.Sources self.old self.new (step_answer self.new result) }
     {
         let lines = line_ends_in(&self.files.file().buffer.held()[..len]);
         self.enter_mode(next);
@@ -89,7 +89,7 @@ impl<S: Sources> Engine<S> {
         requires some { 0 < length (held_of (inner_buffer self.old.files.include_stack)) }
         requires refused { IsRefused (inner_buffer self.old.files.include_stack).mode (held_of (inner_buffer self.old.files.include_stack)) kind }
         ensures place { IfSome result (IsPlaced self.new) }
-        ensures walks { IsBounded self.new → Walks S.Sources self.old self.new (step_answer self.new result) }
+        ensures uncut_step { IsBounded self.new → UncutStep S.Sources self.old self.new (step_answer self.new result) }
     {
         match kind {
             FaultKind::EmbeddedPerl => Some(self.record_fault(kind, ArrayString::new())),
@@ -105,7 +105,7 @@ impl<S: Sources> Engine<S> {
         requires mode { (inner_buffer self.old.files.include_stack).mode ≡ Mode.Plain }
         requires word { IsSkippedWord (held_of (inner_buffer self.old.files.include_stack)) len }
         ensures place { IfSome result (IsPlaced self.new) }
-        ensures walks { IsBounded self.new → Walks S.Sources self.old self.new (step_answer self.new result) }
+        ensures uncut_step { IsBounded self.new → UncutStep S.Sources self.old self.new (step_answer self.new result) }
     {
         self.pass(len, 0);
         None
@@ -119,7 +119,7 @@ impl<S: Sources> Engine<S> {
         requires mode { (inner_buffer self.old.files.include_stack).mode ≡ Mode.Plain }
         requires opening { IsDirective (opening_word defined) (held_of (inner_buffer self.old.files.include_stack)) }
         ensures place { IfSome result (IsPlaced self.new) }
-        ensures walks { IsBounded self.new → Walks S.Sources self.old self.new (step_answer self.new result) }
+        ensures uncut_step { IsBounded self.new → UncutStep S.Sources self.old self.new (step_answer self.new result) }
     {
         self.consume(opening_len(defined), 0);
         self.conditions.open_skipped();
@@ -135,7 +135,7 @@ impl<S: Sources> Engine<S> {
         requires mode { (inner_buffer self.old.files.include_stack).mode ≡ Mode.Plain }
         requires define { IsDirective Define (held_of (inner_buffer self.old.files.include_stack)) }
         ensures place { IfSome result (IsPlaced self.new) }
-        ensures walks { IsBounded self.new → Walks S.Sources self.old self.new (step_answer self.new result) }
+        ensures uncut_step { IsBounded self.new → UncutStep S.Sources self.old self.new (step_answer self.new result) }
     {
         match self.hold_line() {
             LogicalLine::Whole(len) => {
@@ -161,7 +161,7 @@ impl<S: Sources> Engine<S> {
         requires mode { (inner_buffer self.old.files.include_stack).mode ≡ Mode.Plain }
         requires line { IsDirective Line (held_of (inner_buffer self.old.files.include_stack)) }
         ensures place { IfSome result (IsPlaced self.new) }
-        ensures walks { IsBounded self.new → Walks S.Sources self.old self.new (step_answer self.new result) }
+        ensures uncut_step { IsBounded self.new → UncutStep S.Sources self.old self.new (step_answer self.new result) }
     {
         let held = self.files.file().buffer.held();
         let len = line_len(held);

@@ -4,7 +4,7 @@ ghost use Rattle.rdlpp_texts.specs.Places.{IsPlaced as IsTextPlaced, place_bytes
 ghost use Rattle.rdlpp_state.specs.Held.{IsBounded};
 ghost use Rattle.rdlpp_state.specs.Moves.{IsDrained};
 ghost use Rattle.rdlpp_state.specs.Pieces.{IsPlaced, held_texts, step_answer};
-ghost use Rattle.rdlpp_state.specs.Steps.{Steps, Walks, WalksOver};
+ghost use Rattle.rdlpp_state.specs.Steps.{Step, UncutStep, UncutStepWithin};
 ghost use Rattle.rdlpp_expand.specs.Texts.{IsInTexts, LeavesTexts, StaysDrained, place_of};
 
 use crate::engine::Engine;
@@ -62,7 +62,7 @@ impl<S: Sources> Engine<S> {
     pub(crate) fn advance_text(&mut self) -> TextStep
         requires { IsInTexts self.old }
         ensures place { IfSome (place_of result) (IsPlaced self.new) }
-        ensures steps { Steps S.Sources self.old self.new (step_answer self.new (place_of result)) }
+        ensures steps { Step S.Sources self.old self.new (step_answer self.new (place_of result)) }
         ensures leaves { LeavesTexts result self.new }
     {
         let step = self.walk_texts();
@@ -85,7 +85,7 @@ impl<S: Sources> Engine<S> {
     fn walk_texts(&mut self) -> TextStep
         requires { IsInTexts self.old }
         ensures place { IfSome (place_of result) (IsPlaced self.new) }
-        ensures walks { IsBounded self.new → WalksOver S.Sources 255 self.old self.new (step_answer self.new (place_of result)) }
+        ensures uncut_step { IsBounded self.new → UncutStepWithin S.Sources 255 self.old self.new (step_answer self.new (place_of result)) }
         ensures leaves { LeavesTexts result self.new }
     {
         let mut silent = 0;
@@ -107,7 +107,7 @@ impl<S: Sources> Engine<S> {
     pub(super) fn step_text(&mut self) -> TextStep
         requires { IsInTexts self.old }
         ensures place { IfSome (place_of result) (IsPlaced self.new) }
-        ensures walks { IsBounded self.new → Walks S.Sources self.old self.new (step_answer self.new (place_of result)) }
+        ensures uncut_step { IsBounded self.new → UncutStep S.Sources self.old self.new (step_answer self.new (place_of result)) }
         ensures stays { StaysDrained result self.new }
     {
         self.facts();

@@ -9,7 +9,7 @@ ghost use Rattle.rdlpp_state.specs.Held.{IsBounded};
 ghost use Rattle.rdlpp_state.specs.Moves.{IsReady};
 ghost use Rattle.rdlpp_state.specs.Standing.{OpensUsage};
 ghost use Rattle.rdlpp_state.specs.Pieces.{IsPlaced, lent_answer, step_answer};
-ghost use Rattle.rdlpp_state.specs.Steps.{Walks};
+ghost use Rattle.rdlpp_state.specs.Steps.{UncutStep};
 
 use super::Engine;
 use arrayvec::ArrayString;
@@ -29,7 +29,7 @@ impl<S: Sources> Engine<S> {
         requires mode { (inner_buffer self.old.files.include_stack).mode ≡ Mode.Plain }
         requires usage { IsUsage (held_of (inner_buffer self.old.files.include_stack)) len }
         ensures place { IfSome result (IsPlaced self.new) }
-        ensures walks { IsBounded self.new → Walks S.Sources self.old self.new (step_answer self.new result) }
+        ensures uncut_step { IsBounded self.new → UncutStep S.Sources self.old self.new (step_answer self.new result) }
     {
         let name = name_of(self.files.file().buffer.held(), len);
         match self.table.find(name) {
@@ -51,7 +51,7 @@ impl<S: Sources> Engine<S> {
         requires inside { id < length self.old.table.macros }
         requires named { macro_named self.old.table.macros (usage_name (held_of (inner_buffer self.old.files.include_stack)) len) ≡ Some (macro_at self.old.table.macros id) }
         ensures place { IfSome result (IsPlaced self.new) }
-        ensures walks { IsBounded self.new → Walks S.Sources self.old self.new (step_answer self.new result) }
+        ensures uncut_step { IsBounded self.new → UncutStep S.Sources self.old self.new (step_answer self.new result) }
     {
         let line = self.files.file().buffer.line();
         self.facts();

@@ -23,8 +23,8 @@ read_define-requires g c =
 pub returns-in-Whole-clause-place : goal.returns-in-Whole-clause-place
 returns-in-Whole-clause-place g c = defined_placed _ _ _ _ c.read_define.ensures.reads
 
-pub returns-in-Whole-clause-walks : goal.returns-in-Whole-clause-walks
-returns-in-Whole-clause-walks g c = λ bounded.
+pub returns-in-Whole-clause-uncut_step : goal.returns-in-Whole-clause-uncut_step
+returns-in-Whole-clause-uncut_step g c = λ bounded.
     let e = c.in-Whole.ensures in
     let r : IsRead g.S.Sources c.args.self.now c.hold_line.new.self = record { becomes = e.becomes; only = e.only; moves = slid _ _ _ _ _ e.holds.slides } in
     let has = e.holds.has in
@@ -33,24 +33,24 @@ returns-in-Whole-clause-walks g c = λ bounded.
     defined_steps g.S.Sources c.args.self.now c.hold_line.new.self c.read_define.new.self c.in-Whole.len c.requires.ready c.requires.live r bounded c.requires.some c.requires.mode c.requires.define
     e.holds (called g.S.Sources false _ _ e.call) c.read_define.result wide has.0 (held_few c.hold_line.new.self c.facts.ensures.sound c.facts.ensures.files some) c.read_define.ensures.reads
 
-pub returns-in-TooLong-clause-walks : goal.returns-in-TooLong-clause-walks
-returns-in-TooLong-clause-walks g c = λ bounded.
+pub returns-in-TooLong-clause-uncut_step : goal.returns-in-TooLong-clause-uncut_step
+returns-in-TooLong-clause-uncut_step g c = λ bounded.
     let e = c.in-TooLong.ensures in
     let r : IsRead g.S.Sources c.args.self.now c.hold_line.new.self = record { becomes = e.becomes; only = e.only; moves = slid _ _ _ _ _ e.holds.slides } in
     refuses g.S.Sources c.args.self.now c.hold_line.new.self c.record_fault.new.self c.record_fault.result fault.LineTooLong _ [] c.requires.ready r bounded c.record_fault.ensures.place
     (rw c.new.ensures at c.record_fault.ensures.kept) (own_kind _ refl) (called g.S.Sources false _ _ e.call)
     (λ t. left_long_define g.S.Sources c.args.self.now c.hold_line.new.self c.requires.ready t c.requires.live c.requires.some c.requires.mode c.requires.define e.holds)
 
-pub returns-in-SourceLong-clause-walks : goal.returns-in-SourceLong-clause-walks
-returns-in-SourceLong-clause-walks g c = λ bounded.
+pub returns-in-SourceLong-clause-uncut_step : goal.returns-in-SourceLong-clause-uncut_step
+returns-in-SourceLong-clause-uncut_step g c = λ bounded.
     let e = c.in-SourceLong.ensures in
     let r : IsRead g.S.Sources c.args.self.now c.hold_line.new.self = record { becomes = e.becomes; only = e.only; moves = slid _ _ _ _ _ e.holds.slides } in
     refuses g.S.Sources c.args.self.now c.hold_line.new.self c.record_fault-in-SourceLong.new.self c.record_fault-in-SourceLong.result fault.SourceTooLong _ [] c.requires.ready r bounded c.record_fault-in-SourceLong.ensures.place
     (rw c.new-in-SourceLong.ensures at c.record_fault-in-SourceLong.ensures.kept) (own_kind _ refl) (called g.S.Sources false _ _ e.call)
     (λ t. left_cut_define g.S.Sources c.args.self.now c.hold_line.new.self c.requires.ready t c.requires.live c.requires.some c.requires.mode c.requires.define e.holds)
 
-pub returns-in-Failed-clause-walks : goal.returns-in-Failed-clause-walks
-returns-in-Failed-clause-walks g c = λ bounded.
+pub returns-in-Failed-clause-uncut_step : goal.returns-in-Failed-clause-uncut_step
+returns-in-Failed-clause-uncut_step g c = λ bounded.
     let e = c.in-Failed.ensures in
     let r : IsRead g.S.Sources c.args.self.now c.hold_line.new.self = record { becomes = e.becomes; only = e.only; moves = slid _ _ _ _ _ e.holds.slides } in
     fails_reading g.S.Sources c.args.self.now c.hold_line.new.self c.record_read_fault.new.self c.record_read_fault.result c.requires.ready r (reading_define _ _ e.holds.extends.more c.requires.some c.requires.define e.holds.extends.held) bounded

@@ -23,8 +23,8 @@ word_of-word-requires g c =
     let held : c.held.result.now ≡ held_of (inner_buffer c.args.self.now.files.include_stack) = c.held.ensures.value ∙ ap held_of (c.file.ensures.buffer ∙ ap (λ e. inner_buffer e.files.include_stack) c.self.view_is) in
     rw (c.name_of-name.ensures, held) (usage_word _ _ c.requires.usage)
 
-pub returns-in-None-clause-walks : goal.returns-in-None-clause-walks
-returns-in-None-clause-walks g c = λ bounded.
+pub returns-in-None-clause-uncut_step : goal.returns-in-None-clause-uncut_step
+returns-in-None-clause-uncut_step g c = λ bounded.
     let e = c.args.self.now in
     let held : c.held.result.now ≡ held_of (inner_buffer e.files.include_stack) = c.held.ensures.value ∙ ap held_of (c.file.ensures.buffer ∙ ap (λ e. inner_buffer e.files.include_stack) c.self.view_is) in
     let name : c.name_of-name.result.now ≡ usage_name (held_of (inner_buffer e.files.include_stack)) c.args.len = c.name_of-name.ensures ∙ ap (λ h. usage_name h c.args.len) held in

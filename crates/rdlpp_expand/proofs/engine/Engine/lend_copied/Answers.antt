@@ -36,8 +36,8 @@ returns-clause-place g c =
     (room_of c.args.self.now c.args.copied.len c.consume-start.result c.requires.ready ((text_inside _ _ _ _ c.requires.some c.requires.text).1) begins) c.enter_mode.ensures (lends_line c.line-line.result c.enter_mode.new.self.marks)
     (marking _ c.consume-start.new.self _ c.lend_line.new.self (lends_line c.line-line.result) c.self-2.view_is c.consume-start.ensures.used c.lend_line.ensures)
 
-pub returns-clause-walks : goal.returns-clause-walks
-returns-clause-walks g c = λ bounded.
+pub returns-clause-uncut_step : goal.returns-clause-uncut_step
+returns-clause-uncut_step g c = λ bounded.
     let begins : c.consume-start.result ≡ (inner_buffer c.args.self.now.files.include_stack).at = c.consume-start.ensures.start ∙ (ap (λ e. (inner_buffer e.files.include_stack).at) c.enter_mode.ensures ∙ entered_at _ _) in
     let here : c.line-line.result ≡ (inner_buffer c.args.self.now.files.include_stack).line = c.line-line.ensures ∙ (ap (λ b. b.line) c.file.ensures.buffer ∙ ap (λ e. (inner_buffer e.files.include_stack).line) c.self.view_is) in
     let marked = marking _ c.consume-start.new.self _ c.lend_line.new.self (lends_line c.line-line.result) c.self-2.view_is c.consume-start.ensures.used c.lend_line.ensures in

@@ -11,26 +11,26 @@ use Rattle.rdlpp_state.proofs.Soundness.{inner_facts}
 use Rattle.rdlpp_expand.proofs.TextFacts.{used_name}
 use Rattle.rdlpp_expand.proofs.engine.Engine.open_usage.Goals as goal
 
-pub returns-in-Opened-clause-walks : goal.returns-in-Opened-clause-walks
-returns-in-Opened-clause-walks g c = λ bounded.
+pub returns-in-Opened-clause-uncut_step : goal.returns-in-Opened-clause-uncut_step
+returns-in-Opened-clause-uncut_step g c = λ bounded.
     let e = c.args.self.now in
     opens_step g.S.Sources e c.open_macro.new.self c.args.len c.requires.ready c.requires.live c.requires.mode c.requires.usage c.facts.ensures.texts
     (subst (λ (o : Opening). OpensUsage g.S.Sources c.args.len e c.open_macro.new.self o) c.in-Opened.is c.open_macro.ensures) bounded
 
-pub returns-in-Broken-clause-walks : goal.returns-in-Broken-clause-walks
-returns-in-Broken-clause-walks g c = λ bounded.
+pub returns-in-Broken-clause-uncut_step : goal.returns-in-Broken-clause-uncut_step
+returns-in-Broken-clause-uncut_step g c = λ bounded.
     let e = c.args.self.now in
     breaks_step g.S.Sources e c.open_macro.new.self c.args.len c.requires.ready c.requires.live c.requires.mode c.requires.usage c.facts.ensures.texts c.record_fault_at-in-Broken.new.self c.record_fault_at-in-Broken.result _ _
     (subst (λ (o : Opening). OpensUsage g.S.Sources c.args.len e c.open_macro.new.self o) c.in-Broken.is c.open_macro.ensures) bounded c.record_fault_at-in-Broken.ensures.place (rw c.new.ensures at c.record_fault_at-in-Broken.ensures.kept)
 
-pub returns-in-Failed-clause-walks : goal.returns-in-Failed-clause-walks
-returns-in-Failed-clause-walks g c = λ bounded.
+pub returns-in-Failed-clause-uncut_step : goal.returns-in-Failed-clause-uncut_step
+returns-in-Failed-clause-uncut_step g c = λ bounded.
     let e = c.args.self.now in
     fails_step g.S.Sources e c.open_macro.new.self c.args.len c.requires.ready c.requires.live c.requires.mode c.requires.usage c.facts.ensures.texts c.record_read_fault.new.self c.record_read_fault.result
     (subst (λ (o : Opening). OpensUsage g.S.Sources c.args.len e c.open_macro.new.self o) c.in-Failed.is c.open_macro.ensures) bounded c.record_read_fault.ensures.place c.record_read_fault.ensures.kept
 
-pub returns-in-Refused-clause-walks : goal.returns-in-Refused-clause-walks
-returns-in-Refused-clause-walks g c = λ bounded.
+pub returns-in-Refused-clause-uncut_step : goal.returns-in-Refused-clause-uncut_step
+returns-in-Refused-clause-uncut_step g c = λ bounded.
     let e = c.args.self.now in
     let same = c.file.ensures.buffer ∙ ap (λ e. inner_buffer e.files.include_stack) c.self.view_is in
     let line : c.line-line.result ≡ (inner_buffer e.files.include_stack).line = c.line-line.ensures ∙ ap (λ b. b.line) same in

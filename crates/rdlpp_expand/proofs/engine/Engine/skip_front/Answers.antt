@@ -25,8 +25,8 @@ pass-requires-clause-lines g c =
     let count = c.skip_text-stretch.ensures.line_ends in
     omega arith
 
-pub returns-clause-walks : goal.returns-clause-walks
-returns-clause-walks g c = λ bounded.
+pub returns-clause-uncut_step : goal.returns-clause-uncut_step
+returns-clause-uncut_step g c = λ bounded.
     let e = c.args.self.now in
     let h = held_of (inner_buffer e.files.include_stack) in
     let same = c.file.ensures.buffer ∙ ap (λ e. inner_buffer e.files.include_stack) c.self.view_is in

@@ -8,8 +8,8 @@ use Rattle.rdlpp_expand.proofs.engine.Engine.step_open.Goals as goal
 pub take_pending-requires : goal.take_pending-requires
 take_pending-requires g c = c.facts.ensures.sound.open_ (opened_phase c.args.self.now.phase c.requires.open)
 
-pub returns-in-Some-clause-walks : goal.returns-in-Some-clause-walks
-returns-in-Some-clause-walks g c = λ bounded.
+pub returns-in-Some-clause-uncut_step : goal.returns-in-Some-clause-uncut_step
+returns-in-Some-clause-uncut_step g c = λ bounded.
     let t = c.in-Some.ensures.piece in
     wider g.S.Sources 0 1 _ _ _ (omega arith) (take_pending g.S.Sources c.args.self.now _ c.in-Some.piece t.rest c.requires.free c.requires.open bounded t.takes t.becomes)
 

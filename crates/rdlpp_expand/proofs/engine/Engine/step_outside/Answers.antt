@@ -6,8 +6,8 @@ use Rattle.rdlpp_expand.proofs.RunFacts.{bounded_kept}
 use Rattle.rdlpp_state.proofs.EngineSteps.{kept_at, steps_passed, steps_kept_by, steps_ended, is_closed, none_kept_by, wider}
 use Rattle.rdlpp_expand.proofs.engine.Engine.step_outside.Goals as goal
 
-pub returns-then-is_some-clause-walks : goal.returns-then-is_some-clause-walks
-returns-then-is_some-clause-walks g c =
+pub returns-then-is_some-clause-uncut_step : goal.returns-then-is_some-clause-uncut_step
+returns-then-is_some-clause-uncut_step g c =
     wider g.S.Sources 0 1 _ _ _ (omega arith)
     (steps_kept_by g.S.Sources c.args.self.now c.self.inside.kept c.requires.started c.facts.ensures.bounded (sym (ap (λ e. e.kept) c.self.view_is)) (sym c.is_some.ensures ∙ c.if-is_some.true))
 
@@ -15,10 +15,10 @@ pub returns-in_default : goal.returns-in_default
 returns-in_default g c =
     let free : c.args.self.now.kept ≡ None = none_kept_by c.args.self.now.kept c.self.inside.kept (sym (ap (λ e. e.kept) c.self.view_is)) (sym c.is_some.ensures ∙ c.if-is_some.false) in
     let closed : c.args.self.now.phase ≡ Closed = is_closed c.args.self.now.phase c.requires.started (λ e. c.in_default.not-Open (ap (λ x. x.phase) c.self.view_is ∙ e)) (λ e. c.in_default.not-OverLimit (ap (λ x. x.phase) c.self.view_is ∙ e)) in
-    record { place = tt; walks = wider g.S.Sources 0 1 _ _ _ (omega arith) (steps_ended g.S.Sources c.args.self.now c.requires.started c.facts.ensures.bounded free closed) }
+    record { place = tt; uncut_step = wider g.S.Sources 0 1 _ _ _ (omega arith) (steps_ended g.S.Sources c.args.self.now c.requires.started c.facts.ensures.bounded free closed) }
 
-pub returns-in-OverLimit-clause-walks : goal.returns-in-OverLimit-clause-walks
-returns-in-OverLimit-clause-walks g c =
+pub returns-in-OverLimit-clause-uncut_step : goal.returns-in-OverLimit-clause-uncut_step
+returns-in-OverLimit-clause-uncut_step g c =
     let e = c.args.self.now in
     let free : e.kept ≡ None = none_kept_by e.kept c.self.inside.kept (sym (ap (λ e. e.kept) c.self.view_is)) (sym c.is_some.ensures ∙ c.if-is_some.false) in
     let past : e.phase ≡ OverLimit = sym (ap (λ e. e.phase) c.self.view_is) ∙ c.in-OverLimit.is in

@@ -14,5 +14,5 @@ take_held-requires g c =
     let held : c.held-held.result.now ≡ held_of (inner_buffer e.files.include_stack) = c.held-held.ensures.value ∙ ap held_of (c.file.ensures.buffer ∙ ap (λ e. inner_buffer e.files.include_stack) c.self.view_is) in
     record { ready = c.requires; some = rw (← held) (some_in _ (sym c.is_empty.ensures ∙ c.if-is_empty.false)) }
 
-pub returns-clause-walks : goal.returns-clause-walks
-returns-clause-walks g c = λ bounded. wider g.S.Sources 0 1 _ _ _ (omega arith) (c.take_held.ensures.walks bounded)
+pub returns-clause-uncut_step : goal.returns-clause-uncut_step
+returns-clause-uncut_step g c = λ bounded. wider g.S.Sources 0 1 _ _ _ (omega arith) (c.take_held.ensures.uncut_step bounded)

@@ -12,22 +12,22 @@ record_text_fault-kept-requires-clause-placed g c = (placed_word _ _ c.in-Refuse
 pub returns-in-Lends-clause-place : goal.returns-in-Lends-clause-place
 returns-in-Lends-clause-place g c = (placed_lent _ _ c.in-Lends.place c.in-Lends.is c.step-step.ensures.placed)
 
-pub returns-in-Lends-clause-walks : goal.returns-in-Lends-clause-walks
-returns-in-Lends-clause-walks g c = (λ bounded.
+pub returns-in-Lends-clause-uncut_step : goal.returns-in-Lends-clause-uncut_step
+returns-in-Lends-clause-uncut_step g c = (λ bounded.
     let x = c.step-step.new.self in
     let takes = subst (λ v. TakesUsageStep v.table.macros v.expansion c.step-step.result x) c.self.view_is c.step-step.ensures in
     let holds : HoldsTexts c.args.self.now x = record { sound = c.facts.ensures.sound; texts = c.facts.ensures.texts; room = c.facts.ensures.room; now_room = c.facts-2.ensures } in
     lend_step g.S.Sources c.args.self.now x c.step-step.result c.requires.0 takes _ c.in-Lends.place holds c.in-Lends.is (marked_usage _ c.args.self.now x c.lend_usage.new.self c.line-line.result c.self.view_is c.lend_usage.ensures (c.line-line.ensures ∙ takes.stays.line)) bounded)
 
-pub returns-in-Silent-clause-walks : goal.returns-in-Silent-clause-walks
-returns-in-Silent-clause-walks g c = (λ bounded.
+pub returns-in-Silent-clause-uncut_step : goal.returns-in-Silent-clause-uncut_step
+returns-in-Silent-clause-uncut_step g c = (λ bounded.
     let x = c.step-step.new.self in
     let takes = subst (λ v. TakesUsageStep v.table.macros v.expansion c.step-step.result x) c.self.view_is c.step-step.ensures in
     let holds : HoldsTexts c.args.self.now x = record { sound = c.facts.ensures.sound; texts = c.facts.ensures.texts; room = c.facts.ensures.room; now_room = c.facts-2.ensures } in
     turn_step g.S.Sources c.args.self.now x c.step-step.result c.requires.0 takes _ holds c.in-Silent.is (opening _ c.args.self.now x c.self.view_is) bounded)
 
-pub returns-in-Refused-clause-walks : goal.returns-in-Refused-clause-walks
-returns-in-Refused-clause-walks g c = λ bounded.
+pub returns-in-Refused-clause-uncut_step : goal.returns-in-Refused-clause-uncut_step
+returns-in-Refused-clause-uncut_step g c = λ bounded.
     let x = c.step-step.new.self in
     let takes = subst (λ v. TakesUsageStep v.table.macros v.expansion c.step-step.result x) c.self.view_is c.step-step.ensures in
     refuse_step g.S.Sources c.args.self.now x c.step-step.result c.requires.0 takes _ c.record_text_fault-kept.new.self place.Fault c.in-Refused.fault c.in-Refused.is

@@ -6,8 +6,8 @@ use Rattle.rdlpp_state.proofs.FrontSteps.{read_nothing, refuses}
 use Rattle.rdlpp_expand.proofs.engine.Engine.take_include.Goals as goal
 use Rattle.rdlpp_state.proofs.Stores.{own_kind}
 
-pub returns-in-None-clause-walks : goal.returns-in-None-clause-walks
-returns-in-None-clause-walks g c = λ bounded.
+pub returns-in-None-clause-uncut_step : goal.returns-in-None-clause-uncut_step
+returns-in-None-clause-uncut_step g c = λ bounded.
     let e = c.args.self.now in
     refuses g.S.Sources e e c.record_fault.new.self c.record_fault.result fault.IncludeName _ [] c.requires.ready (read_nothing e) bounded
     c.record_fault.ensures.place (rw c.new.ensures at c.record_fault.ensures.kept) (own_kind _ refl) (not_called g.S.Sources e.sources)

@@ -13,8 +13,8 @@ use Rattle.rdlpp_state.proofs.DirectiveSteps.{held_short, left_bad_line, left_la
 use Rattle.rdlpp_expand.proofs.engine.Engine.take_line.Goals as goal
 use Rattle.rdlpp_state.proofs.Stores.{own_kind}
 
-pub returns-then-not-file-clause-walks : goal.returns-then-not-file-clause-walks
-returns-then-not-file-clause-walks g c = λ bounded.
+pub returns-then-not-file-clause-uncut_step : goal.returns-then-not-file-clause-uncut_step
+returns-then-not-file-clause-uncut_step g c = λ bounded.
     let e = c.args.self.now in
     let late : inner_blanks e.files.include_stack ≡ false = ap inner_blanks (ap (λ e. e.files.include_stack) (sym c.self.view_is) ∙ c.file-file.ensures.inner) ∙ c.if-not-file.true in
     refuses g.S.Sources e e c.record_fault.new.self c.record_fault.result fault.BadLine _ [] c.requires.ready (read_nothing e) bounded c.record_fault.ensures.place (rw c.new.ensures at c.record_fault.ensures.kept)
@@ -29,8 +29,8 @@ line_argument-requires g c =
     let whole = word_held h c.requires.some c.requires.line in
     omega arith
 
-pub returns-in-None-clause-walks : goal.returns-in-None-clause-walks
-returns-in-None-clause-walks g c = λ bounded.
+pub returns-in-None-clause-uncut_step : goal.returns-in-None-clause-uncut_step
+returns-in-None-clause-uncut_step g c = λ bounded.
     let e = c.args.self.now in
     let held : c.held.result.now ≡ held_of (inner_buffer e.files.include_stack) = c.held.ensures.value ∙ ap held_of (c.file-file.ensures.buffer ∙ ap (λ e. inner_buffer e.files.include_stack) c.self.view_is) in
     let bad = subst (λ (x : List ℕ). renumbered (take (line_len (drop 5 x)) (drop 5 x)) ≡ None) held c.in-None.ensures in
@@ -58,8 +58,8 @@ renumber-requires-clause-few g c =
     let short = held_short e c.requires.ready.sound c.requires.ready.files c.requires.ready.include_stack in
     omega arith
 
-pub returns-in-Some-clause-walks : goal.returns-in-Some-clause-walks
-returns-in-Some-clause-walks g c = λ bounded.
+pub returns-in-Some-clause-uncut_step : goal.returns-in-Some-clause-uncut_step
+returns-in-Some-clause-uncut_step g c = λ bounded.
     let e = c.args.self.now in
     let h = held_of (inner_buffer e.files.include_stack) in
     let held : c.held.result.now ≡ h = c.held.ensures.value ∙ ap held_of (c.file-file.ensures.buffer ∙ ap (λ e. inner_buffer e.files.include_stack) c.self.view_is) in
