@@ -346,15 +346,15 @@ one_byte k z s raw text (Return r t j) e = absurd (false≢true (sym s ∙ e))
 
 -- The first token of a text of a logical line is that of the text as it is read.
 
-abbrev is_remark : Kind → Bool
-is_remark LineComment = true
-is_remark _ = false
+abbrev is_line_comment_kind : Kind → Bool
+is_line_comment_kind LineComment = true
+is_line_comment_kind _ = false
 
 -- two first tokens that are one, but for the bytes of a `//` comment
 record Alike (raw text : List ℕ) (t u : Token) : Type 0 where
   kind : t.kind ≡ u.kind
   next_mode : t.next_mode ≡ u.next_mode
-  bytes : is_remark t.kind ≡ false → Joins (take t.len raw) (take u.len text)
+  bytes : is_line_comment_kind t.kind ≡ false → Joins (take t.len raw) (take u.len text)
   behind : Joins (drop t.len raw) (drop u.len text)
 
 alike_token : (k : Kind) (mode : Mode) (n m : ℕ) (raw text : List ℕ) → Reaches n m raw text → Alike raw text (record { kind = k; len = n; next_mode = mode }) (record { kind = k; len = m; next_mode = mode })
@@ -561,7 +561,7 @@ line_alike InStr raw text j h =
 line_alike InBlock raw text j h =
     alike_block 0 (first_place ends_block_comment raw) (first_place ends_block_comment text) raw text (omega arith) (omega arith) (comment_reaches raw text j) (λ lt. first_place-at ends_block_comment raw lt)
 
-kept_same : (k : Kind) (xs ys : List ℕ) → (is_remark k ≡ false → xs ≡ ys) → kept_of k xs ≡ kept_of k ys
+kept_same : (k : Kind) (xs ys : List ℕ) → (is_line_comment_kind k ≡ false → xs ≡ ys) → kept_of k xs ≡ kept_of k ys
 kept_same LineComment xs ys f = refl
 kept_same k xs ys f = f refl
 

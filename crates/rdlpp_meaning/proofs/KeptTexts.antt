@@ -24,7 +24,7 @@ use Rattle.rdlpp_scan.proofs.StopKinds.{closed_kind_plain, one_byte_len}
 use Rattle.rdlpp_scan.proofs.TokenLens.{token_of-part, tokens_from-step}
 use Rattle.rdlpp_table.specs.Table.{Macro}
 use Rattle.rdlpp_table.specs.View.{IsSound, IsSoundMacro, TableView, formals_of}
-use Rattle.rdlpp_meaning.specs.Actuals.{Cut, Down, End, Ends, Remark, Role, Start, Stops, Text, Up, broken_role, kind_role, token_role}
+use Rattle.rdlpp_meaning.specs.Actuals.{Cut, Down, End, Ends, KeptComment, Role, Start, Stops, Text, Up, broken_role, kind_role, token_role}
 use Rattle.rdlpp_meaning.specs.CallScan.{IsClosed, is_call_text, is_kept, source_role}
 use Rattle.rdlpp_meaning.specs.Expansion.{bytes_of}
 use Rattle.rdlpp_meaning.specs.Items.{broken_line, unlined}
@@ -160,7 +160,7 @@ text_cut m bs us vs e =
 -- whether a token of a role leaves plain text behind it, wherever it stands
 unfoldable pub closes_text : Role → Bool
 closes_text Text = false
-closes_text Remark = false
+closes_text KeptComment = false
 closes_text r = true
 
 -- such a token isn't open

@@ -536,15 +536,15 @@ unfolding Agrees IsFault and_then gives fails
 limit-torn x f b limit = record { faulty = λ p. tt; agrees = λ n. absurd (true≢false (sym limit ∙ n)) }
 
 -- what nothing expands to
-expand_nil : (rules : Rules) (s : State) (n : ℕ) (source : Option ℕ) (o : List (List ℕ)) → expand rules s n source o [] ≡ gives []
+expand_nil : (rules : Rules) (s : State) (n : ℕ) (line_or_text : Option ℕ) (o : List (List ℕ)) → expand rules s n line_or_text o [] ≡ gives []
 unfolding walk
-expand_nil rules s n source o = expand_walk rules s n source o []
+expand_nil rules s n line_or_text o = expand_walk rules s n line_or_text o []
 
 -- and what a broken token does
-expand_broken : (rules : Rules) (s : State) (n : ℕ) (source : Option ℕ) (o : List (List ℕ)) (b : Breach) (bytes : List ℕ) (line : ℕ)
-    → expand rules s n source o (Written (record { sort = Broken b; bytes = bytes; line = line }) ∷ []) ≡ and_then (gives bytes) (fails (fault_at (breach_kind b) line [] s))
+expand_broken : (rules : Rules) (s : State) (n : ℕ) (line_or_text : Option ℕ) (o : List (List ℕ)) (b : Breach) (bytes : List ℕ) (line : ℕ)
+    → expand rules s n line_or_text o (Written (record { sort = Broken b; bytes = bytes; line = line }) ∷ []) ≡ and_then (gives bytes) (fails (fault_at (breach_kind b) line [] s))
 unfolding walk
-expand_broken rules s n source o b bytes line = expand_walk rules s n source o (Written (record { sort = Broken b; bytes = bytes; line = line }) ∷ [])
+expand_broken rules s n line_or_text o b bytes line = expand_walk rules s n line_or_text o (Written (record { sort = Broken b; bytes = bytes; line = line }) ∷ [])
 
 -- what opens marks and bodies agrees
 unfoldable Opening : (ℕ → List (List ℕ) → List Item → Outcome) → (ℕ → List (List ℕ) → List Item → Outcome) → Type 0
@@ -554,13 +554,13 @@ Opening deeper deeper' = (line : ℕ) (p : List (List ℕ)) (g : List Item) → 
 module _ (rules large : Rules) (s : State) (sources more : ℕ) (bytes : rules.argument_bytes ≤ large.argument_bytes) where
   -- things in front of an end that agrees, of which the last may be torn
   module _ (ys zs : List Item) (torn : Type 0) (tail : IsTail item_role ys zs) (deeper deeper' : ℕ → List (List ℕ) → List Item → Outcome) (inner : Opening deeper deeper')
-      (source : Option ℕ) (o : List (List ℕ)) (ends : TornAgrees torn (walk rules s deeper source o 0 ys) (walk large (roomier sources more s) deeper' source o 0 zs)) where
+      (line_or_text : Option ℕ) (o : List (List ℕ)) (ends : TornAgrees torn (walk rules s deeper line_or_text o 0 ys) (walk large (roomier sources more s) deeper' line_or_text o 0 zs)) where
     -- what is walked after so many items
     abbrev small : ℕ → List Item → Outcome
-    small k xs = walk rules s deeper source o k xs
+    small k xs = walk rules s deeper line_or_text o k xs
 
     abbrev wide : ℕ → List Item → Outcome
-    wide k xs = walk large (roomier sources more s) deeper' source o k xs
+    wide k xs = walk large (roomier sources more s) deeper' line_or_text o k xs
 
     -- walks agree from each number of items on
     abbrev Walks : List Item → Type 0
@@ -568,14 +568,14 @@ module _ (rules large : Rules) (s : State) (sources more : ℕ) (bytes : rules.a
 
     -- what a usage writes, by what it comes to
     usage-agrees : (line : ℕ) (xs : List Item) (u v : Usage Item) → Walks xs → UsageTorn (length xs) u v
-        → TornAgrees torn (usage_walk rules s deeper source o line (xs ++ ys) u) (usage_walk large (roomier sources more s) deeper' source o line (xs ++ zs) v)
+        → TornAgrees torn (usage_walk rules s deeper line_or_text o line (xs ++ ys) u) (usage_walk large (roomier sources more s) deeper' line_or_text o line (xs ++ zs) v)
     unfolding usage_walk Opening UsageTorn IsLimitedUsage UsesUpTo fault_at fails Agrees IsFault
     usage-agrees line xs (Refuses f word at) v rest (inl h) = record { faulty = λ p. tt; agrees = λ n. absurd (true≢false (sym h ∙ n)) }
     usage-agrees line xs (Opens m actuals used) v rest (inl h) = absurd h
     usage-agrees line xs (Refuses f word at) v rest (inr h) =
-        record { faulty = λ p. tt; agrees = λ n. ap (usage_walk large (roomier sources more s) deeper' source o line (xs ++ zs)) h.0 }
+        record { faulty = λ p. tt; agrees = λ n. ap (usage_walk large (roomier sources more s) deeper' line_or_text o line (xs ++ zs)) h.0 }
     usage-agrees line xs (Opens m actuals used) v rest (inr h) =
-        torn-along torn _ _ _ _ refl (ap (usage_walk large (roomier sources more s) deeper' source o line (xs ++ zs)) h.0)
+        torn-along torn _ _ _ _ refl (ap (usage_walk large (roomier sources more s) deeper' line_or_text o line (xs ++ zs)) h.0)
         (then-torn torn _ _ (small used (xs ++ ys)) (wide used (xs ++ zs)) (inner line (m.name ∷ o) (substituted m actuals o)) (rest used h.1))
 
     -- a token in front, by what it is
@@ -583,13 +583,13 @@ module _ (rules large : Rules) (s : State) (sources more : ℕ) (bytes : rules.a
         → TornAgrees torn (small 0 (Written (record { sort = sort; bytes = bytes; line = line }) ∷ (xs ++ ys))) (wide 0 (Written (record { sort = sort; bytes = bytes; line = line }) ∷ (xs ++ zs)))
     unfolding walk fault_at IsFault and_then gives fails
     token-agrees (Ordinary Back) word line xs rest =
-        let at = unwrap_or source line in
+        let at = unwrap_or line_or_text line in
         let name = drop 1 word in
-        let u = usage_of rules s (item_reads source) at o name (xs ++ ys) in
-        let v = usage_of large (roomier sources more s) (item_reads source) at o name (xs ++ zs) in
-        torn-along torn _ _ _ _ (usage_walks rules s deeper source o word line (xs ++ ys) u refl)
-        (usage_walks large (roomier sources more s) deeper' source o word line (xs ++ zs) v refl)
-        (usage-agrees at xs u v rest (usage-torn (item_reads source) at name rules large xs ys zs bytes tail s sources more o))
+        let u = usage_of rules s (item_reads line_or_text) at o name (xs ++ ys) in
+        let v = usage_of large (roomier sources more s) (item_reads line_or_text) at o name (xs ++ zs) in
+        torn-along torn _ _ _ _ (usage_walks rules s deeper line_or_text o word line (xs ++ ys) u refl)
+        (usage_walks large (roomier sources more s) deeper' line_or_text o word line (xs ++ zs) v refl)
+        (usage-agrees at xs u v rest (usage-torn (item_reads line_or_text) at name rules large xs ys zs bytes tail s sources more o))
     token-agrees (Ordinary BareBackquote) word line xs rest = record { faulty = λ p. tt; agrees = agrees-same _ }
     token-agrees (Broken b) word line xs rest = record { faulty = λ p. tt; agrees = agrees-same _ }
     token-agrees sort word line xs rest = then-torn torn (gives word) (gives word) (small 0 (xs ++ ys)) (wide 0 (xs ++ zs)) (agrees-same (gives word)) (rest 0 (omega arith))
@@ -601,29 +601,29 @@ module _ (rules large : Rules) (s : State) (sources more : ℕ) (bytes : rules.a
     walks-agree [] (suc k) le = absurd (omega (arith, le))
     walks-agree (Written w ∷ xs) zero le = token-agrees w.sort w.bytes w.line xs (walks-agree xs)
     walks-agree (Arg p g ∷ xs) zero le =
-        then-torn torn _ _ (small 0 (xs ++ ys)) (wide 0 (xs ++ zs)) (inner (unwrap_or source 0) p (listed g)) (walks-agree xs 0 (omega arith))
+        then-torn torn _ _ (small 0 (xs ++ ys)) (wide 0 (xs ++ zs)) (inner (unwrap_or line_or_text 0) p (listed g)) (walks-agree xs 0 (omega arith))
     walks-agree (Written w ∷ xs) (suc k) le = walks-agree xs k (omega (arith, le))
     walks-agree (Arg p g ∷ xs) (suc k) le = walks-agree xs k (omega (arith, le))
 
   -- what items expand to, where so many bodies and actuals may be open
   expand-torn : (ys zs : List Item) (torn : Type 0) → IsTail item_role ys zs → (n m : ℕ) → Opening (deeper_of rules s n) (deeper_of large (roomier sources more s) m)
-      → (source : Option ℕ) (o : List (List ℕ)) → TornAgrees torn (expand rules s n source o ys) (expand large (roomier sources more s) m source o zs)
-      → (xs : List Item) → TornAgrees torn (expand rules s n source o (xs ++ ys)) (expand large (roomier sources more s) m source o (xs ++ zs))
-  expand-torn ys zs torn tail n m inner source o ends xs =
+      → (line_or_text : Option ℕ) (o : List (List ℕ)) → TornAgrees torn (expand rules s n line_or_text o ys) (expand large (roomier sources more s) m line_or_text o zs)
+      → (xs : List Item) → TornAgrees torn (expand rules s n line_or_text o (xs ++ ys)) (expand large (roomier sources more s) m line_or_text o (xs ++ zs))
+  expand-torn ys zs torn tail n m inner line_or_text o ends xs =
       let room = roomier sources more s in
-      torn-along torn _ _ _ _ (expand_walk rules s n source o (xs ++ ys)) (expand_walk large room m source o (xs ++ zs))
-      (walks-agree ys zs torn tail (deeper_of rules s n) (deeper_of large room m) inner source o
-      (torn-along torn _ _ _ _ (sym (expand_walk rules s n source o ys)) (sym (expand_walk large room m source o zs)) ends) xs 0 (omega arith))
+      torn-along torn _ _ _ _ (expand_walk rules s n line_or_text o (xs ++ ys)) (expand_walk large room m line_or_text o (xs ++ zs))
+      (walks-agree ys zs torn tail (deeper_of rules s n) (deeper_of large room m) inner line_or_text o
+      (torn-along torn _ _ _ _ (sym (expand_walk rules s n line_or_text o ys)) (sym (expand_walk large room m line_or_text o zs)) ends) xs 0 (omega arith))
 
   -- where nothing is torn, it agrees
-  expand-agrees : (n m : ℕ) → Opening (deeper_of rules s n) (deeper_of large (roomier sources more s) m) → (source : Option ℕ) (o : List (List ℕ)) (xs : List Item)
-      → Agrees (expand rules s n source o xs) (expand large (roomier sources more s) m source o xs)
-  expand-agrees n m inner source o xs =
+  expand-agrees : (n m : ℕ) → Opening (deeper_of rules s n) (deeper_of large (roomier sources more s) m) → (line_or_text : Option ℕ) (o : List (List ℕ)) (xs : List Item)
+      → Agrees (expand rules s n line_or_text o xs) (expand large (roomier sources more s) m line_or_text o xs)
+  expand-agrees n m inner line_or_text o xs =
       let room = roomier sources more s in
-      let none : expand rules s n source o [] ≡ gives [] = expand_nil rules s n source o in
-      let none' : expand large room m source o [] ≡ gives [] = expand_nil large room m source o in
-      subst (λ (ys : List Item). Agrees (expand rules s n source o ys) (expand large room m source o ys)) (append-nil xs)
-      (expand-torn [] [] ⊥ (no-tail item_role) n m inner source o
+      let none : expand rules s n line_or_text o [] ≡ gives [] = expand_nil rules s n line_or_text o in
+      let none' : expand large room m line_or_text o [] ≡ gives [] = expand_nil large room m line_or_text o in
+      subst (λ (ys : List Item). Agrees (expand rules s n line_or_text o ys) (expand large room m line_or_text o ys)) (append-nil xs)
+      (expand-torn [] [] ⊥ (no-tail item_role) n m inner line_or_text o
       (torn-along ⊥ _ _ _ _ none none' (record { faulty = λ p. absurd p; agrees = agrees-same (gives []) })) xs).agrees
 
   -- what may be opened agrees where more may be open

@@ -36,31 +36,31 @@ deeper_of rules s zero line p g = fails (fault_at DepthPassed line [] s)
 deeper_of rules s (suc d) line p g = expand rules s d (Some line) p g
 
 -- expansion is a walk at each depth
-pub expand_walk : (rules : Rules) (s : State) (d : ℕ) (source : Option ℕ) (o : List (List ℕ)) (items : List Item)
-    → expand rules s d source o items ≡ walk rules s (deeper_of rules s d) source o 0 items
+pub expand_walk : (rules : Rules) (s : State) (d : ℕ) (line_or_text : Option ℕ) (o : List (List ℕ)) (items : List Item)
+    → expand rules s d line_or_text o items ≡ walk rules s (deeper_of rules s d) line_or_text o 0 items
 unfolding expand deeper_of
-expand_walk rules s zero source o items = refl
-expand_walk rules s (suc d) source o items = refl
+expand_walk rules s zero line_or_text o items = refl
+expand_walk rules s (suc d) line_or_text o items = refl
 
 -- a token that is copied, by what it is
-copied_by : (rules : Rules) (s : State) (deeper : ℕ → List (List ℕ) → List Item → Outcome) (source : Option ℕ) (o : List (List ℕ))
+copied_by : (rules : Rules) (s : State) (deeper : ℕ → List (List ℕ) → List Item → Outcome) (line_or_text : Option ℕ) (o : List (List ℕ))
     (sort : Sort) (bytes : List ℕ) (line : ℕ) (xs : List Item)
     → is_copied (record { sort = sort; bytes = bytes; line = line }) ≡ true
-    → walk rules s deeper source o 0 (Written (record { sort = sort; bytes = bytes; line = line }) ∷ xs)
-    ≡ and_then (gives bytes) (walk rules s deeper source o 0 xs)
+    → walk rules s deeper line_or_text o 0 (Written (record { sort = sort; bytes = bytes; line = line }) ∷ xs)
+    ≡ and_then (gives bytes) (walk rules s deeper line_or_text o 0 xs)
 unfolding walk is_copied
-copied_by rules s deeper source o (Ordinary Back) bytes line xs e = cc
-copied_by rules s deeper source o (Ordinary BareBackquote) bytes line xs e = cc
-copied_by rules s deeper source o (Ordinary k) bytes line xs e = refl
-copied_by rules s deeper source o Definition bytes line xs e = cc
-copied_by rules s deeper source o Renumbering bytes line xs e = cc
-copied_by rules s deeper source o (Broken b) bytes line xs e = cc
+copied_by rules s deeper line_or_text o (Ordinary Back) bytes line xs e = cc
+copied_by rules s deeper line_or_text o (Ordinary BareBackquote) bytes line xs e = cc
+copied_by rules s deeper line_or_text o (Ordinary k) bytes line xs e = refl
+copied_by rules s deeper line_or_text o Definition bytes line xs e = cc
+copied_by rules s deeper line_or_text o Renumbering bytes line xs e = cc
+copied_by rules s deeper line_or_text o (Broken b) bytes line xs e = cc
 
 -- a token that is copied gives its bytes
-pub walk_copied : (rules : Rules) (s : State) (deeper : ℕ → List (List ℕ) → List Item → Outcome) (source : Option ℕ) (o : List (List ℕ))
+pub walk_copied : (rules : Rules) (s : State) (deeper : ℕ → List (List ℕ) → List Item → Outcome) (line_or_text : Option ℕ) (o : List (List ℕ))
     (t : SourceToken) (xs : List Item) → is_copied t ≡ true
-    → walk rules s deeper source o 0 (Written t ∷ xs) ≡ and_then (gives t.bytes) (walk rules s deeper source o 0 xs)
-walk_copied rules s deeper source o t xs e = copied_by rules s deeper source o t.sort t.bytes t.line xs e
+    → walk rules s deeper line_or_text o 0 (Written t ∷ xs) ≡ and_then (gives t.bytes) (walk rules s deeper line_or_text o 0 xs)
+walk_copied rules s deeper line_or_text o t xs e = copied_by rules s deeper line_or_text o t.sort t.bytes t.line xs e
 
 -- a token writes an outcome in front of each run
 unfoldable pub Writes : Rules → State → SourceToken → Outcome → Type 0
@@ -120,26 +120,26 @@ resumed_token rules os first t ts s o e w =
 -- Laws of usages: of a name that isn't defined, and of a macro without a list.
 
 -- a usage of a name that isn't defined
-pub usage_none : (rules : Rules) (s : State) (source : Option ℕ) (line : ℕ) (o : List (List ℕ)) (name : List ℕ) (xs : List Item)
+pub usage_none : (rules : Rules) (s : State) (line_or_text : Option ℕ) (line : ℕ) (o : List (List ℕ)) (name : List ℕ) (xs : List Item)
     → is_reserved name ≡ false → macro_named s.macros name ≡ None
-    → usage_of rules s (item_reads source) line o name xs ≡ Refuses UndefinedMacro name line
+    → usage_of rules s (item_reads line_or_text) line o name xs ≡ Refuses UndefinedMacro name line
 unfolding usage_of
-usage_none rules s source line o name xs r e = rw (r, e) refl
+usage_none rules s line_or_text line o name xs r e = rw (r, e) refl
 
 -- what a usage writes in front of further items, by what it comes to
 unfoldable pub usage_walk : Rules → State → (ℕ → List (List ℕ) → List Item → Outcome) → Option ℕ → List (List ℕ) → ℕ → List Item → Usage Item → Outcome
-usage_walk rules s deeper source o line xs (Refuses f word at) = fails (fault_at f at word s)
-usage_walk rules s deeper source o line xs (Opens m actuals used) =
-    and_then (deeper line (m.name ∷ o) (substituted m actuals o)) (walk rules s deeper source o used xs)
+usage_walk rules s deeper line_or_text o line xs (Refuses f word at) = fails (fault_at f at word s)
+usage_walk rules s deeper line_or_text o line xs (Opens m actuals used) =
+    and_then (deeper line (m.name ∷ o) (substituted m actuals o)) (walk rules s deeper line_or_text o used xs)
 
 -- a usage writes that
-pub usage_walks : (rules : Rules) (s : State) (deeper : ℕ → List (List ℕ) → List Item → Outcome) (source : Option ℕ) (o : List (List ℕ)) (bytes : List ℕ) (line : ℕ) (xs : List Item) (u : Usage Item)
-    → usage_of rules s (item_reads source) (unwrap_or source line) o (drop 1 bytes) xs ≡ u
-    → walk rules s deeper source o 0 (Written (record { sort = Ordinary Back; bytes = bytes; line = line }) ∷ xs)
-    ≡ usage_walk rules s deeper source o (unwrap_or source line) xs u
+pub usage_walks : (rules : Rules) (s : State) (deeper : ℕ → List (List ℕ) → List Item → Outcome) (line_or_text : Option ℕ) (o : List (List ℕ)) (bytes : List ℕ) (line : ℕ) (xs : List Item) (u : Usage Item)
+    → usage_of rules s (item_reads line_or_text) (unwrap_or line_or_text line) o (drop 1 bytes) xs ≡ u
+    → walk rules s deeper line_or_text o 0 (Written (record { sort = Ordinary Back; bytes = bytes; line = line }) ∷ xs)
+    ≡ usage_walk rules s deeper line_or_text o (unwrap_or line_or_text line) xs u
 unfolding walk usage_walk name_of
-usage_walks rules s deeper source o bytes line xs (Refuses f word at) e = rw (e, walk) refl
-usage_walks rules s deeper source o bytes line xs (Opens m actuals used) e = rw (e, walk) refl
+usage_walks rules s deeper line_or_text o bytes line xs (Refuses f word at) e = rw (e, walk) refl
+usage_walks rules s deeper line_or_text o bytes line xs (Opens m actuals used) e = rw (e, walk) refl
 
 -- a run that begins with a usage that is refused fails with its fault
 pub run_refused : (rules : Rules) (s : State) (name : List ℕ) (line : ℕ) (us : List SourceToken) (f : FaultKind) (word : List ℕ) (at : ℕ)

@@ -15,7 +15,7 @@ use Rattle.rdlpp_scan.specs.declared.token.Mode.TheVariants.{InBlock, InStr, Pla
 use Rattle.rdlpp_scan.proofs.RemainingLaws.{after_step, course, step-end_of, tokens_step}
 use Rattle.rdlpp_scan.proofs.StopKinds.{block_token-kind, string_token-kind}
 use Rattle.rdlpp_scan.proofs.TokenSteps.{comment_rest, end_of, string_rest}
-use Rattle.rdlpp_meaning.specs.Actuals.{Broke, Cut, Down, Dropped, End, Ends, Halt, Lacking, Remark, Role, Space, Start, Stops, Text, Up, broken_role, kept, kept_size, kind_role, level_behind, map_call, token_role}
+use Rattle.rdlpp_meaning.specs.Actuals.{Broke, Cut, Down, Dropped, End, Ends, Halt, Lacking, KeptComment, Role, Space, Start, Stops, Text, Up, broken_role, kept, kept_size, kind_role, level_behind, map_call, token_role}
 use Rattle.rdlpp_meaning.specs.CallReading.{ReadClosed, Reading, ReadRefused, ReadStopped, is_part_breach, is_part_sort, onto_kept, part_kept, read, read_by, reading_of, rest_role, role_in}
 use Rattle.rdlpp_meaning.specs.CallScan.{Before, Breaks, Closed, Closes, Inside, IsClosed, Keeps, Passes, Refused, Refuses, Scanned, CallState, Stopped, Turn, call_of, call_of_scan, is_call_text, is_kept, level_of_things, room_behind, scan, scan_onto, scanned, source_role, call_state_behind, call_state_behind_lead, turn, turn_before, turn_fitting, turn_inside}
 use Rattle.rdlpp_meaning.specs.Expansion.{bytes_of}
@@ -62,7 +62,7 @@ turn_facts (Ends f line) k fits = breaking (Ends f line) k fits f line
 turn_facts (Stops f line) k fits = breaking (Stops f line) k fits f line
 turn_facts End (suc k) fits = fitting End (suc k) fits refl refl
 turn_facts Space k fits = fitting Space k fits refl refl
-turn_facts Remark k fits = fitting Remark k fits refl refl
+turn_facts KeptComment k fits = fitting KeptComment k fits refl refl
 turn_facts Start k fits = fitting Start k fits refl refl
 turn_facts Up k fits = fitting Up k fits refl refl
 turn_facts Down k fits = fitting Down k fits refl refl
@@ -207,7 +207,7 @@ before_by : {A : Type 0} (role : A → Role) (r : Role) (x : A) (xs kept : List 
 unfolding scanned turn_before behind_lead is_call_text
 before_by role Space x xs kept used before inside is rest opened e = led role x xs kept used before (ap is_call_text is) rest e
 before_by role Dropped x xs kept used before inside is rest opened e = led role x xs kept used before (ap is_call_text is) rest e
-before_by role Remark x xs kept used before inside is rest opened e = led role x xs kept used before (ap is_call_text is) rest e
+before_by role KeptComment x xs kept used before inside is rest opened e = led role x xs kept used before (ap is_call_text is) rest e
 before_by role Start x xs kept used before inside is rest opened e =
     let p = onto_closed [] inside kept used e in
     let c = opened p.0 p.1.0 p.1.1.0 in

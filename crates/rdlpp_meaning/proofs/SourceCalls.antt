@@ -29,13 +29,13 @@ use Rattle.rdlpp_meaning.proofs.TornCalls.{usage_within}
 -- The law of a usage in a source: its expansion, and then what remains behind its call.
 
 -- items that are passed over are dropped
-pub walk_skip : (rules : Rules) (s : State) (deeper : ℕ → List (List ℕ) → List Item → Outcome) (source : Option ℕ) (o : List (List ℕ)) (k : ℕ) (xs : List Item)
-    → walk rules s deeper source o k xs ≡ walk rules s deeper source o 0 (drop k xs)
+pub walk_skip : (rules : Rules) (s : State) (deeper : ℕ → List (List ℕ) → List Item → Outcome) (line_or_text : Option ℕ) (o : List (List ℕ)) (k : ℕ) (xs : List Item)
+    → walk rules s deeper line_or_text o k xs ≡ walk rules s deeper line_or_text o 0 (drop k xs)
 unfolding walk
-walk_skip rules s deeper source o zero xs = refl
-walk_skip rules s deeper source o (suc k) [] = refl
-walk_skip rules s deeper source o (suc k) (Written t ∷ xs) = walk_skip rules s deeper source o k xs
-walk_skip rules s deeper source o (suc k) (Arg p g ∷ xs) = walk_skip rules s deeper source o k xs
+walk_skip rules s deeper line_or_text o zero xs = refl
+walk_skip rules s deeper line_or_text o (suc k) [] = refl
+walk_skip rules s deeper line_or_text o (suc k) (Written t ∷ xs) = walk_skip rules s deeper line_or_text o k xs
+walk_skip rules s deeper line_or_text o (suc k) (Arg p g ∷ xs) = walk_skip rules s deeper line_or_text o k xs
 
 -- a run that begins with a usage is what the usage opens, and then the run behind its call
 run_usage : (rules : Rules) (s : State) (name : List ℕ) (line : ℕ) (us : List SourceToken) (m : Macro) (actuals : List (List Item)) (used : ℕ)

@@ -14,7 +14,7 @@ use Rattle.rdlpp_meaning.specs.Items.{Item, Written, Arg, unlined, unlined_item}
 -- a further closer, a comma, a broken `define`, which ends the run, a broken string and another broken token with fault and
 -- line, or any other text (source: this project's profile)
 pub data Role : Type 0 where
-  Space Dropped Remark Start Up End Down Cut Halt Text : Role
+  Space Dropped KeptComment Start Up End Down Cut Halt Text : Role
   Ends Stops : FaultKind → ℕ → Role
 
 -- what a call comes to: its own fault, that of a broken token at its line, or the first part between its parentheses,
@@ -61,7 +61,7 @@ unfoldable pub kind_role : Kind → List ℕ → Role
 kind_role Blank bytes = Space
 kind_role LineEnd bytes = Space
 kind_role LineComment bytes = Dropped
-kind_role BlockComment bytes = Remark
+kind_role BlockComment bytes = KeptComment
 kind_role Opener bytes = if slice_index bytes 0 == 40 then Start else Up
 kind_role Closer bytes = if slice_index bytes 0 == 41 then End else Down
 kind_role Comma bytes = Cut
@@ -108,9 +108,9 @@ pub record Reads (A : Type 0) : Type 0 where
   pub size : A → ℕ
   pub plain : A → A
 
--- items; `source` has the line of the outermost usage, and none in a source (source: this project's profile)
+-- items; `line_or_text` has the line of the outermost usage, and none in a source (source: this project's profile)
 abbrev pub item_reads : Option ℕ → Reads Item
-item_reads source = record { role = item_role; size = item_size source; plain = unlined_item }
+item_reads line_or_text = record { role = item_role; size = item_size line_or_text; plain = unlined_item }
 
 -- tokens of a source
 abbrev pub source_reads : Reads SourceToken

@@ -4,7 +4,7 @@ use Rattle.std.specs.Prelude.{◌≡◌, ℕ, zero, suc, ◌+◌, ◌-◌, Bool,
 use Rattle.rdlpp_scan.specs.SourceTokens.{SourceToken}
 use Rattle.rdlpp_meaning.specs.declared.fault.FaultKind.{FaultKind}
 use Rattle.rdlpp_meaning.specs.declared.fault.FaultKind.TheVariants.{ArgumentsMissing, ArgumentsOpen, ArgumentBytes}
-use Rattle.rdlpp_meaning.specs.Actuals.{Role, Space, Dropped, Remark, Start, End, Cut, Halt, Ends, Stops, Call, Lacking, Broke, Bound, level_behind, kept_size, token_role}
+use Rattle.rdlpp_meaning.specs.Actuals.{Role, Space, Dropped, KeptComment, Start, End, Cut, Halt, Ends, Stops, Call, Lacking, Broke, Bound, level_behind, kept_size, token_role}
 use Rattle.rdlpp_meaning.specs.Parts.{directive_of}
 
 -- where the scan of a call stands: before its `(`, or behind it at a level of openers (source: this project's profile)
@@ -23,7 +23,7 @@ pub data Turn : Type 0 where
 unfoldable pub turn_before : Role → Turn
 turn_before Space = Passes
 turn_before Dropped = Passes
-turn_before Remark = Passes
+turn_before KeptComment = Passes
 turn_before Start = Passes
 turn_before (Stops f line) = Breaks f line
 turn_before r = Refuses ArgumentsMissing

@@ -65,34 +65,34 @@ usage_of rules s reads line o name xs =
     ]
 
 -- the bytes of items in the text of the macros o, after so many items are passed over, where `deeper` expands the items of
--- a mark or of a body that a usage at a line opens; `source` has the line of the outermost usage, and none in a source
+-- a mark or of a body that a usage at a line opens; `line_or_text` has the line of the outermost usage, and none in a source
 -- (source: this project's profile)
 unfoldable pub walk : Rules → State → (ℕ → List (List ℕ) → List Item → Outcome) → Option ℕ → List (List ℕ) → ℕ → List Item → Outcome
-walk rules s deeper source o skip [] = gives []
-walk rules s deeper source o (suc skip) (x ∷ xs) = walk rules s deeper source o skip xs
-walk rules s deeper source o zero (Arg p g ∷ xs) =
-    and_then (deeper (unwrap_or source 0) p (listed g)) (walk rules s deeper source o 0 xs)
-walk rules s deeper source o zero (Written t ∷ xs) = elim t.sort [
+walk rules s deeper line_or_text o skip [] = gives []
+walk rules s deeper line_or_text o (suc skip) (x ∷ xs) = walk rules s deeper line_or_text o skip xs
+walk rules s deeper line_or_text o zero (Arg p g ∷ xs) =
+    and_then (deeper (unwrap_or line_or_text 0) p (listed g)) (walk rules s deeper line_or_text o 0 xs)
+walk rules s deeper line_or_text o zero (Written t ∷ xs) = elim t.sort [
   | Ordinary k ↦ elim k [
-    | Back ↦ elim (usage_of rules s (item_reads source) (unwrap_or source t.line) o (name_of t) xs) [
+    | Back ↦ elim (usage_of rules s (item_reads line_or_text) (unwrap_or line_or_text t.line) o (name_of t) xs) [
       | Refuses f word line ↦ fails (fault_at f line word s)
       | Opens m actuals used ↦ and_then
-          (deeper (unwrap_or source t.line) (m.name ∷ o) (substituted m actuals o))
-          (walk rules s deeper source o used xs)
+          (deeper (unwrap_or line_or_text t.line) (m.name ∷ o) (substituted m actuals o))
+          (walk rules s deeper line_or_text o used xs)
     ]
-    | BareBackquote ↦ fails (fault_at NoName (unwrap_or source t.line) [] s)
-    | _ ↦ and_then (gives t.bytes) (walk rules s deeper source o 0 xs)
+    | BareBackquote ↦ fails (fault_at NoName (unwrap_or line_or_text t.line) [] s)
+    | _ ↦ and_then (gives t.bytes) (walk rules s deeper line_or_text o 0 xs)
   ]
   | Broken b ↦ and_then (gives t.bytes) (fails (fault_at (breach_kind b) t.line [] s))
-  | _ ↦ and_then (gives t.bytes) (walk rules s deeper source o 0 xs)
+  | _ ↦ and_then (gives t.bytes) (walk rules s deeper line_or_text o 0 xs)
 ]
 
 -- the bytes of items in the text of the macros o, where so many further bodies and actuals may be open (source: this project's profile)
 unfoldable pub expand : Rules → State → ℕ → Option ℕ → List (List ℕ) → List Item → Outcome
-expand rules s zero source o items =
-    walk rules s (λ line p g. fails (fault_at DepthPassed line [] s)) source o 0 items
-expand rules s (suc d) source o items =
-    walk rules s (λ line p g. expand rules s d (Some line) p g) source o 0 items
+expand rules s zero line_or_text o items =
+    walk rules s (λ line p g. fails (fault_at DepthPassed line [] s)) line_or_text o 0 items
+expand rules s (suc d) line_or_text o items =
+    walk rules s (λ line p g. expand rules s d (Some line) p g) line_or_text o 0 items
 
 -- a backquote with a name, as a token of a source
 abbrev pub usage_token : List ℕ → ℕ → SourceToken

@@ -25,7 +25,7 @@ use Rattle.rdlpp_table.specs.Store.{fills, is_clean, is_default}
 use Rattle.rdlpp_scan.specs.TokenKinds.{opens_mode}
 use Rattle.rdlpp_table.specs.Table.{Formal, Macro, default_size}
 use Rattle.rdlpp_table.specs.Formals.{default_behind, IsDefault, default_left}
-use Rattle.rdlpp_table.specs.Define.{DefaultText, Drawn, Rejected, default_in, default_of_tokens, is_space, lexical, onto_default, onto_trimmed, trimmed, trimmed_default, trimmed_of, with_body, without_end, without_remarks}
+use Rattle.rdlpp_table.specs.Define.{DefaultText, Drawn, Rejected, default_in, default_of_tokens, is_space, lexical, onto_default, onto_trimmed, trimmed, trimmed_default, trimmed_of, with_body, without_end, text_without_line_comments}
 
 -- Default texts as they are read back from a table's bytes: the levels of their tokens, without `//` comments and without spaces at
 
@@ -289,24 +289,24 @@ kept_by LineComment xs rest = refl
 kept_by _ xs rest = refl
 
 -- a text without its `//` comments
-without_remarks_is : (ts : List Token) (text : List ℕ) → without_remarks ts text ≡ concat (other_texts ts text)
-unfolding without_remarks other_texts
-without_remarks_is [] text = refl
-without_remarks_is (t ∷ ts) text =
-    ap (λ (x : List ℕ). elim t.kind [ LineComment ↦ x | _ ↦ take t.len text ++ x ]) (without_remarks_is ts (drop t.len text)) ∙ kept_by t.kind (take t.len text) (other_texts ts (drop t.len text))
+text_without_line_comments_is : (ts : List Token) (text : List ℕ) → text_without_line_comments ts text ≡ concat (other_texts ts text)
+unfolding text_without_line_comments other_texts
+text_without_line_comments_is [] text = refl
+text_without_line_comments_is (t ∷ ts) text =
+    ap (λ (x : List ℕ). elim t.kind [ LineComment ↦ x | _ ↦ take t.len text ++ x ]) (text_without_line_comments_is ts (drop t.len text)) ∙ kept_by t.kind (take t.len text) (other_texts ts (drop t.len text))
 
 drawn_is : (m n : Macro) → Drawn m ≡ Drawn n → m ≡ n
 drawn_is m n e = cc
 
 -- the body of a definition is clean
 body_by : (name : List ℕ) (formals : Option (List Formal)) (text : List ℕ) (m : Macro) (fault : Option LexFault) → lex_fault_from Plain text ≡ fault
-    → (elim fault [ Some f ↦ Rejected (lexical f) [] | None ↦ Drawn (record { name = name; formals = formals; body = trimmed (without_remarks (tokens_from Plain 0 text) text) }) ]) ≡ Drawn m → IsCleanText m.body
+    → (elim fault [ Some f ↦ Rejected (lexical f) [] | None ↦ Drawn (record { name = name; formals = formals; body = trimmed (text_without_line_comments (tokens_from Plain 0 text) text) }) ]) ≡ Drawn m → IsCleanText m.body
 unfolding trimmed without_line_comments
 body_by name formals text m (Some f) is e = absurd (cc)
 body_by name formals text m None is e =
-    let left = without_remarks (tokens_from Plain 0 text) text in
+    let left = text_without_line_comments (tokens_from Plain 0 text) text in
     let body : trimmed_of is_blank left ≡ m.body = ap (λ (x : Macro). x.body) (drawn_is (record { name = name; formals = formals; body = trimmed_of is_blank left }) m e) in
-    let clean : IsCleanText left = subst IsCleanText (sym (without_remarks_is (tokens_from Plain 0 text) text)) (clean_without text is) in
+    let clean : IsCleanText left = subst IsCleanText (sym (text_without_line_comments_is (tokens_from Plain 0 text) text)) (clean_without text is) in
     subst IsCleanText body (trimmed_clean is_blank blanks_are left clean).clean
 
 pub drawn_clean : (name : List ℕ) (formals : Option (List Formal)) (text : List ℕ) (m : Macro) → with_body name formals text ≡ Drawn m → IsCleanText m.body

@@ -20,7 +20,7 @@ use Rattle.rdlpp_table.specs.declared.fault.DefineFault.{DefineFault}
 use Rattle.rdlpp_table.specs.Table.{Formal, Macro, formal_bytes, formal_size, macro_bytes, macro_size}
 use Rattle.rdlpp_lines.specs.Continuations.{joined}
 use Rattle.rdlpp_lines.specs.Texts.{Cleared, Sound, Unsound, onto, trimmed_left, trimmed_len, trims, cleared, told, read_by, left_in, kept_bytes, start_level}
-use Rattle.rdlpp_table.specs.Define.{Draft, Drawn, Rejected, lexical, observed, macro_set, name_fault, refused_word, set_of, stored, stored_draft, trimmed, with_body, without_list, without_remarks, Bad, DefaultText, Good, Listed, Unlisted, after_space, behind_name, default_in, formal_fault, formal_in, formal_name, formals_in, formals_of_list, is_nothing, with_default, FormalList}
+use Rattle.rdlpp_table.specs.Define.{Draft, Drawn, Rejected, lexical, observed, macro_set, name_fault, refused_word, set_of, stored, stored_draft, trimmed, with_body, without_list, text_without_line_comments, Bad, DefaultText, Good, Listed, Unlisted, after_space, behind_name, default_in, formal_fault, formal_in, formal_name, formals_in, formals_of_list, is_nothing, with_default, FormalList}
 use Rattle.rdlpp_table.proofs.Taken.{between_parts}
 use Rattle.rdlpp_table.proofs.RoundTrip.{refused_is, read_list}
 use Rattle.rdlpp_table.specs.View.{AreSoundFormals, IsSoundMacro, formals_of}
@@ -51,8 +51,8 @@ by_fault : (name : List ℕ) (formals : Option (List Formal)) (fault : Option Le
 by_fault name formals None rest = refl
 by_fault name formals (Some f) rest = refl
 
-none_left : (text : List ℕ) → without_remarks [] text ≡ []
-unfolding without_remarks
+none_left : (text : List ℕ) → text_without_line_comments [] text ≡ []
+unfolding text_without_line_comments
 none_left text = refl
 
 kept_front_of : (k : Kind) (xs ys : List ℕ) → (elim k [ LineComment ↦ ys | _ ↦ xs ++ ys ]) ≡ (elim k [ LineComment ↦ [] | _ ↦ xs ]) ++ ys
@@ -71,9 +71,9 @@ kept_front_of Other xs ys = refl
 kept_front_of Perl xs ys = refl
 kept_front_of BareBackquote xs ys = refl
 
-kept_front : (t : Token) (ts : List Token) (text : List ℕ) → without_remarks (t ∷ ts) text ≡ kept_bytes t text ++ without_remarks ts (drop t.len text)
-unfolding without_remarks
-kept_front t ts text = kept_front_of t.kind (take t.len text) (without_remarks ts (drop t.len text))
+kept_front : (t : Token) (ts : List Token) (text : List ℕ) → text_without_line_comments (t ∷ ts) text ≡ kept_bytes t text ++ text_without_line_comments ts (drop t.len text)
+unfolding text_without_line_comments
+kept_front t ts text = kept_front_of t.kind (take t.len text) (text_without_line_comments ts (drop t.len text))
 
 told_onto : (fault : Option LexFault) (xs ys : List ℕ) → told fault (xs ++ ys) ≡ onto xs (told fault ys)
 unfolding onto
@@ -81,28 +81,28 @@ told_onto None xs ys = refl
 told_onto (Some f) xs ys = refl
 
 -- a body's tokens leave what its text without `//` comments is, or its first fault
-body_read : (mode : Mode) (ts : List Token) (text : List ℕ) → read_by None mode ts text ≡ told (fault_of_tokens mode ts) (without_remarks ts text)
+body_read : (mode : Mode) (ts : List Token) (text : List ℕ) → read_by None mode ts text ≡ told (fault_of_tokens mode ts) (text_without_line_comments ts text)
 unfolding fault_of_tokens
 body_read mode [] text = ap (told (open_fault mode)) (sym (none_left text))
 body_read mode (t ∷ ts) text =
     elim (cases_Bool (is_perl t.kind)) [
-      | inl e ↦ cond-true _ _ _ e ∙ sym (ap (λ (f : Option LexFault). told f (without_remarks (t ∷ ts) text)) (cond-true _ _ _ e))
+      | inl e ↦ cond-true _ _ _ e ∙ sym (ap (λ (f : Option LexFault). told f (text_without_line_comments (t ∷ ts) text)) (cond-true _ _ _ e))
       | inr e ↦
           cond-false _ _ _ e
           ∙ (ap (onto (kept_bytes t text)) (body_read t.next_mode ts (drop t.len text))
-          ∙ (sym (told_onto (fault_of_tokens t.next_mode ts) (kept_bytes t text) (without_remarks ts (drop t.len text)))
+          ∙ (sym (told_onto (fault_of_tokens t.next_mode ts) (kept_bytes t text) (text_without_line_comments ts (drop t.len text)))
           ∙ (ap (told (fault_of_tokens t.next_mode ts)) (sym (kept_front t ts text))
-          ∙ sym (ap (λ (f : Option LexFault). told f (without_remarks (t ∷ ts) text)) (cond-false _ _ _ e)))))
+          ∙ sym (ap (λ (f : Option LexFault). told f (text_without_line_comments (t ∷ ts) text)) (cond-false _ _ _ e)))))
     ]
 
-pub same_left : (text : List ℕ) → told (lex_fault_from Plain text) (without_remarks (tokens_from Plain 0 text) text) ≡ cleared None text
+pub same_left : (text : List ℕ) → told (lex_fault_from Plain text) (text_without_line_comments (tokens_from Plain 0 text) text) ≡ cleared None text
 unfolding lex_fault_from cleared left_in
 same_left text = sym (body_read Plain (tokens_from Plain 0 text) text)
 
 body_draft : (name : List ℕ) (formals : Option (List Formal)) (text : List ℕ) → with_body name formals text ≡ drafted_by name formals (cleared None text)
 unfolding with_body
 body_draft name formals text =
-    by_fault name formals (lex_fault_from Plain text) (without_remarks (tokens_from Plain 0 text) text) ∙ ap (drafted_by name formals) (same_left text)
+    by_fault name formals (lex_fault_from Plain text) (text_without_line_comments (tokens_from Plain 0 text) text) ∙ ap (drafted_by name formals) (same_left text)
 
 drawn_by : (name : List ℕ) (formals : Option (List Formal)) (c : Cleared) (len : ℕ) → Ok len ≡ trimmed_len (trims false) c → drafted_by name formals c ≡ Drawn (record { name = name; formals = formals; body = trimmed_left (trims false) c })
 unfolding trimmed_len trimmed_left trims trimmed

@@ -55,11 +55,11 @@ name_fault name =
     else None))
 
 -- what is left of tokens and their text without the `//` comments (this project's profile)
-unfoldable pub without_remarks : List Token → List ℕ → List ℕ
-without_remarks [] text = []
-without_remarks (t ∷ ts) text = elim t.kind [
-  | LineComment ↦ without_remarks ts (drop t.len text)
-  | _ ↦ take t.len text ++ without_remarks ts (drop t.len text)
+unfoldable pub text_without_line_comments : List Token → List ℕ → List ℕ
+text_without_line_comments [] text = []
+text_without_line_comments (t ∷ ts) text = elim t.kind [
+  | LineComment ↦ text_without_line_comments ts (drop t.len text)
+  | _ ↦ take t.len text ++ text_without_line_comments ts (drop t.len text)
 ]
 
 -- a text without the blanks at both ends (this project's profile)
@@ -177,7 +177,7 @@ unfoldable pub with_body : List ℕ → Option (List Formal) → List ℕ → Dr
 with_body name formals text =
     elim (lex_fault_from Plain text) [
       | Some fault ↦ Rejected (lexical fault) []
-      | None ↦ Drawn (record { name = name; formals = formals; body = trimmed (without_remarks (tokens_from Plain 0 text) text) })
+      | None ↦ Drawn (record { name = name; formals = formals; body = trimmed (text_without_line_comments (tokens_from Plain 0 text) text) })
     ]
 
 -- the word of a refusal: a reserved name, else nothing

@@ -11,7 +11,7 @@ use Rattle.rdlpp_scan.specs.declared.token.Kind.TheVariants.{Closer, Opener}
 use Rattle.rdlpp_scan.specs.declared.token.Mode.{Mode}
 use Rattle.rdlpp_scan.specs.declared.token.Mode.TheVariants.{Plain}
 use Rattle.rdlpp_scan.specs.declared.token.Token.{Token}
-use Rattle.rdlpp_meaning.specs.Actuals.{Down, Dropped, End, Ends, Halt, Lacking, Remark, Role, Space, Start, Stops, Up, kept_size, kind_role, level_behind, not_kept, token_role}
+use Rattle.rdlpp_meaning.specs.Actuals.{Down, Dropped, End, Ends, Halt, Lacking, KeptComment, Role, Space, Start, Stops, Up, kept_size, kind_role, level_behind, not_kept, token_role}
 use Rattle.rdlpp_meaning.specs.CallScan.{Before, Closed, Closes, Inside, Keeps, Passes, Refused, Scanned, CallState, Turn, call_of, call_of_scan, fault_at_end, is_call_text, is_kept, room_behind, scan, scan_onto, scanned, call_state_behind, call_state_behind_lead, turn, turn_before, turn_fitting, turn_inside}
 use Rattle.rdlpp_meaning.specs.Expansion.{bytes_of}
 use Rattle.rdlpp_meaning.specs.Substitution.{body_tokens, spelled}
@@ -71,7 +71,7 @@ none_by : (r : Role) (t : SourceToken) (here : ℕ) (found : Option ℕ) (s : Ca
 unfolding opener_by scanned turn_before call_state_behind_lead is_call_text scan_onto
 none_by Space t here found s text rest e = ap (scan_onto []) (rest e)
 none_by Dropped t here found s text rest e = ap (scan_onto []) (rest e)
-none_by Remark t here found s text rest e = ap (scan_onto []) (rest e)
+none_by KeptComment t here found s text rest e = ap (scan_onto []) (rest e)
 none_by Start t here found s text rest e = absurd (cc)
 none_by (Stops f line) t here found s text rest e = absurd (false≢true text)
 none_by r t here found s text rest e = refl
@@ -114,7 +114,7 @@ led_by : (r : Role) (t : SourceToken) (ts : List SourceToken) (at n : ℕ) (foun
 unfolding opener_by passing turn_before call_state_behind_lead scanned
 led_by Space t ts at n found is rest e = led t ts at n (λ room. scan_before room t ts Space is) (rest e)
 led_by Dropped t ts at n found is rest e = led t ts at n (λ room. scan_before room t ts Dropped is) (rest e)
-led_by Remark t ts at n found is rest e = led t ts at n (λ room. scan_before room t ts Remark is) (rest e)
+led_by KeptComment t ts at n found is rest e = led t ts at n (λ room. scan_before room t ts KeptComment is) (rest e)
 led_by Start t ts at n found is rest e =
     let here : at + length t.bytes ≡ n = cc in
     record {

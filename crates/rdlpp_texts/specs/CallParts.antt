@@ -3,7 +3,7 @@
 use Rattle.std.specs.Prelude.{◌≡◌, ℕ, zero, ◌+◌, ◌<◌, ◌≤◌, ◌||◌, Bool, true, false, nat_lt, List, [], ◌∷◌, map, length, drop, slice_range, Option, None, Some, if◌then◌else◌}
 use Rattle.rdlpp_scan.specs.Bytes.{is_blank, is_line_end}
 use Rattle.rdlpp_scan.specs.SourceTokens.{SourceToken}
-use Rattle.rdlpp_meaning.specs.Actuals.{Role, Space, Dropped, Remark, Start, End, Cut, level_behind, is_space, trimmed, token_role}
+use Rattle.rdlpp_meaning.specs.Actuals.{Role, Space, Dropped, KeptComment, Start, End, Cut, level_behind, is_space, trimmed, token_role}
 use Rattle.rdlpp_meaning.specs.CallScan.{Split, split, all_parts}
 use Rattle.rdlpp_meaning.specs.Expansion.{bytes_of}
 use Rattle.rdlpp_meaning.specs.Substitution.{body_tokens}
@@ -15,7 +15,7 @@ use Rattle.rdlpp_texts.specs.declared.parts.PartEnd.TheVariants.{Comma, Last}
 unfoldable pub opener_by : Role → ℕ → Option ℕ → Option ℕ
 opener_by Space here rest = rest
 opener_by Dropped here rest = rest
-opener_by Remark here rest = rest
+opener_by KeptComment here rest = rest
 opener_by Start here rest = Some here
 opener_by r here rest = None
 

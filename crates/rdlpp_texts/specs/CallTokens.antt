@@ -16,7 +16,7 @@ use Rattle.rdlpp_texts.specs.declared.tokens.CallToken.{CallToken}
 unfoldable pub role_meant : CallRole → Role
 role_meant Space = role.Space
 role_meant LineComment = role.Dropped
-role_meant BlockComment = role.Remark
+role_meant BlockComment = role.KeptComment
 role_meant Start = role.Start
 role_meant Opener = role.Up
 role_meant End = role.End

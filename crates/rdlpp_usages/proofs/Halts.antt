@@ -21,7 +21,7 @@ use Rattle.rdlpp_scan.proofs.StopKinds.{block_token-kind, Row, AtPerl, AtLineCom
 use Rattle.rdlpp_scan.proofs.TokenLens.{token_of-part}
 use Rattle.rdlpp_scan.proofs.TokenSteps.{is_kept_kind, back_held, next_held}
 use Rattle.rdlpp_meaning.specs.declared.fault.FaultKind.TheVariants.{ArgumentsMissing, EmbeddedPerl}
-use Rattle.rdlpp_meaning.specs.Actuals.{Role, Remark, Text, kind_role, kept_size, level_behind, token_role, Halt, broken_role}
+use Rattle.rdlpp_meaning.specs.Actuals.{Role, KeptComment, Text, kind_role, kept_size, level_behind, token_role, Halt, broken_role}
 use Rattle.rdlpp_meaning.specs.CallReading.{Reading, ReadRefused, is_part_sort, part_kept, read, read_by, rest_role, role_in, ReadStopped, is_part_breach}
 use Rattle.rdlpp_meaning.specs.CallScan.{CallState, Before, Inside, Keeps, turn, turn_before, turn_inside, turn_fitting, call_state_behind, call_state_behind_lead, room_behind, source_role, fault_at_end}
 use Rattle.rdlpp_meaning.specs.Expansion.{bytes_of, usage_token}
@@ -275,13 +275,13 @@ string_by Before m room held t a some long inside lead quote mode e =
 comment_by : (at : CallState) (m : Mode) (room : ℕ) (held : List ℕ) (t : Token) (a : Around) → 0 < length held → 0 < t.len → t.len ≤ length held
     → (is_open m ≡ false → (slice_index held 0 == 34) ≡ false) → t.next_mode ≡ InBlock
     → tokens_at a m held ≡ onto_tokens (take t.len held) a.line (tokens_behind a m held t.len t.next_mode)
-    → IsFirst at m room held t Remark a
+    → IsFirst at m room held t KeptComment a
 unfolding turn turn_before turn_inside read_by level_behind kept_size is_open call_state_behind call_state_behind_lead room_behind
 comment_by (Inside k) m room held t a some long inside slash mode e =
     let rest : IsRest BlockComment (tokens_behind a m held t.len t.next_mode) =
     subst (λ (d : Mode). IsRest BlockComment (tokens_behind a m held t.len d)) (sym mode)
     (comment_remains a.most (opening m a.opened a.line) (a.line + line_ends (take t.len held)) (drop t.len held) a.left a.rest) in
-    open_inside k m room held t Remark a inside (λ fits. refl) refl refl (ap is_open mode) (comment_head (tokens_behind a m held t.len t.next_mode) rest) e
+    open_inside k m room held t KeptComment a inside (λ fits. refl) refl refl (ap is_open mode) (comment_head (tokens_behind a m held t.len t.next_mode) rest) e
 comment_by Before m room held t a some long inside slash mode e =
     let own = take t.len held in
     let us = tokens_behind a m held t.len t.next_mode in
@@ -321,7 +321,7 @@ string_role : (k : Kind) (bytes : List ℕ) → k ≡ Str → Text ≡ kind_role
 unfolding kind_role
 string_role k bytes is = sym (ap (λ (x : Kind). kind_role x bytes) is)
 
-comment_role : (k : Kind) (bytes : List ℕ) → k ≡ BlockComment → Remark ≡ kind_role k bytes
+comment_role : (k : Kind) (bytes : List ℕ) → k ≡ BlockComment → KeptComment ≡ kind_role k bytes
 unfolding kind_role
 comment_role k bytes is = sym (ap (λ (x : Kind). kind_role x bytes) is)
 

@@ -22,7 +22,7 @@ use Rattle.rdlpp_scan.proofs.Seams.{BeforePerl, Closed, OpenComment, OpenString,
 use Rattle.rdlpp_scan.proofs.TokenLens.{token_of-part}
 use Rattle.rdlpp_scan.proofs.TokenSteps.{is_kept_kind}
 use Rattle.rdlpp_meaning.specs.Actuals as role
-use Rattle.rdlpp_meaning.specs.Actuals.{Dropped, End, Ends, Halt, Remark, Role, Space, Start, Stops, Text, kept_size, kind_role, level_behind}
+use Rattle.rdlpp_meaning.specs.Actuals.{Dropped, End, Ends, Halt, KeptComment, Role, Space, Start, Stops, Text, kept_size, kind_role, level_behind}
 use Rattle.rdlpp_meaning.specs.CallReading.{ReadClosed, Reading, ReadRefused, ReadStopped, onto_kept, read, read_by, role_in}
 use Rattle.rdlpp_meaning.specs.CallScan.{Before, Breaks, Closes, Inside, Keeps, Passes, Refuses, CallState, Turn, fault_at_end, room_behind, call_state_behind, call_state_behind_lead, turn, turn_before, turn_fitting, turn_inside}
 use Rattle.rdlpp_meaning.specs.Expansion.{bytes_of}
@@ -153,7 +153,7 @@ closes_end Before Start fits e = absurd (cc)
 closes_end Before (Stops f line) fits e = absurd (cc)
 closes_end Before Space fits e = absurd (cc)
 closes_end Before Dropped fits e = absurd (cc)
-closes_end Before Remark fits e = absurd (cc)
+closes_end Before KeptComment fits e = absurd (cc)
 closes_end Before r fits e = absurd (cc)
 closes_end (Inside k) End fits e = refl
 closes_end (Inside k) Dropped fits e = absurd (cc)
@@ -555,7 +555,7 @@ before : (r : Role) → RefusesCall (turn_before r)
 unfolding turn_before is_read_fault
 before Space = tt
 before Dropped = tt
-before Remark = tt
+before KeptComment = tt
 before Start = tt
 before (Stops f line) = tt
 before r = refl
