@@ -3,7 +3,7 @@ use Rattle.std.proofs.Common.{◌≡◌, ℕ, ◌+◌, ◌<◌, ◌≤◌, lengt
 use Rattle.std.specs.Io.KnownBytes.{Appends}
 use Rattle.std.specs.List.{concat}
 use Rattle.std.proofs.lemmas.List.{drop_all, drop_more}
-use Rattle.rdlpp_table.specs.Define.{Accepted, Defined, Refused, observed, set_of}
+use Rattle.rdlpp_table.specs.Define.{Accepted, Defined, DefinedFault, observed, set_of}
 use Rattle.rdlpp_table.specs.Table.{Macro}
 use Rattle.rdlpp_table.specs.declared.fault.DefineFault.{DefineFault}
 use Rattle.rdlpp_table.specs.declared.limits.LimitFault.{LimitFault}
@@ -24,7 +24,7 @@ use Rattle.rdlpp_expand.specs.Run.{Begins, Runs, count_of, fault_of, is_fresh}
 use Rattle.rdlpp_expand.specs.declared.writing.RunFault.{RunFault}
 use Rattle.rdlpp_expand.proofs.RunFacts.{appends_none}
 use Rattle.rdlpp_reports.specs.Writes.{Writes}
-use Rattle.rdlpp.specs.Definitions.{Declined, Given, Pair, Taken, given, given_in, refused_definition, with_macros}
+use Rattle.rdlpp.specs.Definitions.{GivenFault, Given, Pair, Taken, given, given_in, refused_definition, with_macros}
 use Rattle.rdlpp.specs.Opening.{OpensGiven}
 use Rattle.rdlpp.specs.Preprocess.{Follows, Preprocesses, RunsFresh, Tells, WritesOutput, engine_with, given_by, is_failure, output_given}
 use Rattle.rdlpp.specs.Report.{Reports, fault_line, limit_name, line_end, report_line}
@@ -47,13 +47,13 @@ given_first : (mb mm i : ℕ) (macros : List Macro) (d : Pair) (ds : List Pair) 
     → set_of mb mm macros (string_bytes d.0) (string_bytes d.1) ≡ what
     → given mb mm i macros (d ∷ ds) ≡ elim what [
       | Accepted more ↦ given mb mm (i + 1) more ds
-      | Refused kind word ↦ Declined (refused_definition kind word (i + 1))
+      | DefinedFault kind word ↦ GivenFault (refused_definition kind word (i + 1))
     ]
 unfolding given
 given_first mb mm i macros d ds what e =
     ap (λ w. elim w [
       | Accepted more ↦ given mb mm (i + 1) more ds
-      | Refused kind word ↦ Declined (refused_definition kind word (i + 1))
+      | DefinedFault kind word ↦ GivenFault (refused_definition kind word (i + 1))
     ]) e
 
 set_bytes : (mb mm : ℕ) (macros : List Macro) (name text : List ℕ) (d : Pair) → name ≡ string_bytes d.0 → text ≡ string_bytes d.1
@@ -79,11 +79,11 @@ pub declined : {S R : Type 0} (start now : EngineView S R) (macros : List Macro)
     → AreTaken start now i ds → i < length ds → d ≡ slice_index_or ds i d
     → observed result macros ≡ set_of now.table.most_bytes now.table.most_macros now.table.macros name text
     → name ≡ string_bytes d.0 → text ≡ string_bytes d.1 → result ≡ Err fault
-    → given_in start ds ≡ Declined (refused_definition fault.kind fault.word.bytes (i + 1))
+    → given_in start ds ≡ GivenFault (refused_definition fault.kind fault.word.bytes (i + 1))
 unfolding observed
 declined start now macros i ds d name text result fault (is, gives) inside at outcome n t err =
     gives ∙ ap (given_behind now i) (drop_more ds i d inside ∙ ap (λ x. x ∷ drop (i + 1) ds) (sym at))
-    ∙ given_first now.table.most_bytes now.table.most_macros i now.table.macros d (drop (i + 1) ds) (Refused fault.kind fault.word.bytes)
+    ∙ given_first now.table.most_bytes now.table.most_macros i now.table.macros d (drop (i + 1) ds) (DefinedFault fault.kind fault.word.bytes)
     (sym (set_bytes now.table.most_bytes now.table.most_macros now.table.macros name text d n t) ∙ sym outcome ∙ ap (λ r. observed r macros) err)
 
 pub taken_all : {S R : Type 0} (start now : EngineView S R) (i : ℕ) (ds : List Pair)
@@ -113,8 +113,8 @@ opens_given {S} {R} g limits defines origins sources path fresh given_to started
 
 -- a definition was refused
 pub declines : {S R : Type 0} (limits : Limits) (defines : List Pair) (origins : Bool) (sources : S) (fresh : EngineView S R) (f : Report)
-    → fresh ≡ fresh_engine limits sources origins → given_in fresh defines ≡ Declined f
-    → given limits.definition_bytes limits.definitions 0 [] defines ≡ Declined f
+    → fresh ≡ fresh_engine limits sources origins → given_in fresh defines ≡ GivenFault f
+    → given limits.definition_bytes limits.definitions 0 [] defines ≡ GivenFault f
 unfolding fresh_engine
 declines limits defines origins sources fresh f e d = ap (λ x. given_in x defines) (sym e) ∙ d
 
@@ -127,7 +127,7 @@ unfolding fresh_engine looked_up_output reading_left
 opens_output g limits (Taken macros) origins sources path reading o tells device memory =
     ap (λ (xs : List ℕ). and_then (gives xs) (left_of g reading.engine)) o.whole ∙ and_then-gives_nil (left_of g reading.engine)
     ∙ o.starts.remains_output (ap is_device_fault (sym o.starts.keeps) ∙ device) (ap is_memory_fault (sym o.starts.keeps) ∙ memory) tells
-opens_output g limits (Declined f) origins sources path reading o tells device memory = absurd o
+opens_output g limits (GivenFault f) origins sources path reading o tells device memory = absurd o
 
 -- What the run of a fresh engine says of the output.
 
@@ -222,7 +222,7 @@ pub follows_output : {S R W : Type 0} (g : Ghosts S R) (h : SinkGhosts W) (limit
 unfolding fresh_engine looked_up_output
 follows_output g h limits (Taken macros) origins sources path before after count fault r tells =
     writes_output g h (engine_with limits origins sources macros) path before after count fault r tells
-follows_output g h limits (Declined f) origins sources path before after count fault (e, c, a) tells =
+follows_output g h limits (GivenFault f) origins sources path before after count fault (e, c, a) tells =
     writes_nothing (h.taken before) (h.taken after) count f fault e c (ap h.taken a)
 
 -- What an engine that stays comes to, and what it says of the output.
@@ -263,7 +263,7 @@ follows_from g h options path before after fresh given_to started ended opening 
 pub refused_from : {S R W : Type 0} (g : Ghosts S R) (h : SinkGhosts W) (options : Options)
     (path : List ℕ) (writer : W) (fresh new : EngineView S R) (count : ℕ) (f : Report)
     → IsFreshOf options fresh
-    → given_in fresh options.defines.items ≡ Declined f → count ≡ 0
+    → given_in fresh options.defines.items ≡ GivenFault f → count ≡ 0
     → FollowsFrom g h options (given_by options) fresh new path writer writer count (Some f)
 unfolding fresh_engine
 refused_from g h options path writer fresh new count f e d c =
@@ -276,7 +276,7 @@ pub follows_of : {S R W : Type 0} (g : Ghosts S R) (h : SinkGhosts W) (options :
     → FollowsFrom g h options what old new path before after count fault
     → Follows g h options.limits what options.origins old.sources path before after count fault
 follows_of g h options (Taken macros) old new path before after count fault r = r.0
-follows_of g h options (Declined f) old new path before after count fault r = r
+follows_of g h options (GivenFault f) old new path before after count fault r = r
 
 -- the run of an engine that was made is what preprocessing comes to
 pub preprocesses_of : {S R W : Type 0} (g : Ghosts S R) (h : SinkGhosts W) (options : Options) (sources : S) (old new : EngineView S R)

@@ -4,7 +4,7 @@ use Rattle.std.specs.Prelude.{◌≡◌, ℕ, ◌+◌, List, [], ◌∷◌, Stri
 use Rattle.std.specs.String.{string_bytes}
 use Rattle.std.specs.declared.alloc.Global.{Global}
 use Rattle.rdlpp_table.specs.Table.{Macro}
-use Rattle.rdlpp_table.specs.Define.{Accepted, Refused, set_of}
+use Rattle.rdlpp_table.specs.Define.{Accepted, DefinedFault, set_of}
 use Rattle.rdlpp_table.specs.declared.fault.DefineKind.{DefineKind}
 use Rattle.rdlpp_meaning.specs.Outcome.{Report, report_of}
 use Rattle.rdlpp_state.specs.Engine.{EngineView}
@@ -18,7 +18,7 @@ Pair = String Global × String Global
 -- what definitions come to: macros, or the fault of the first one that is refused
 pub data Given : Type 0 where
   Taken : List Macro → Given
-  Declined : Report → Given
+  GivenFault : Report → Given
 
 -- the fault of a refused definition: its place from 1 as the line, under the name `-D` (source: this project's profile)
 unfoldable pub refused_definition : DefineKind → List ℕ → ℕ → Report
@@ -30,7 +30,7 @@ unfoldable pub given : ℕ → ℕ → ℕ → List Macro → List Pair → Give
 given most_bytes most_macros before macros [] = Taken macros
 given most_bytes most_macros before macros (d ∷ ds) = elim (set_of most_bytes most_macros macros (string_bytes d.0) (string_bytes d.1)) [
   | Accepted more ↦ given most_bytes most_macros (before + 1) more ds
-  | Refused kind word ↦ Declined (refused_definition kind word (before + 1))
+  | DefinedFault kind word ↦ GivenFault (refused_definition kind word (before + 1))
 ]
 
 -- what the definitions come to in the table of an engine
@@ -44,4 +44,4 @@ with_macros e macros = record e { table = record e.table { macros = macros } }
 -- the definitions were taken, or the first refused one is told, with nothing written
 abbrev pub AreGiven : {S R : Type 0} → EngineView S R → EngineView S R → List Pair → Result (Unit {0}) RunFault → Type 0
 AreGiven old new defines (Ok done) = (given_in old defines ≡ Taken new.table.macros) × (new ≡ with_macros old new.table.macros)
-AreGiven old new defines (Err f) = (given_in old defines ≡ Declined (report_of f.fault)) × (f.written ≡ 0)
+AreGiven old new defines (Err f) = (given_in old defines ≡ GivenFault (report_of f.fault)) × (f.written ≡ 0)

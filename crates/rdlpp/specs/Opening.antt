@@ -8,7 +8,7 @@ use Rattle.rdlpp_meaning.specs.Outcome.{Report, report_of, Outcome}
 use Rattle.rdlpp_state.specs.Engine.{EngineView}
 use Rattle.rdlpp_state.specs.Opening.{Starts, is_device_fault, is_memory_fault}
 use Rattle.rdlpp_expand.specs.Reading.{ReadingView, reading_left}
-use Rattle.rdlpp.specs.Definitions.{Given, Taken, Declined}
+use Rattle.rdlpp.specs.Definitions.{Given, Taken, GivenFault}
 use Rattle.rdlpp.specs.Preprocess.{engine_with, given_by}
 use Rattle.rdlpp.specs.declared.options.Options.{Options}
 use Rattle.rdlpp.specs.declared.fault.PrepFault.{PrepFault}
@@ -23,7 +23,7 @@ pub record OpensFresh {S R : Type 0} (g : Ghosts S R) (fresh : EngineView S R) (
 -- a reading of an engine with definitions; none where one is refused
 abbrev pub OpensGiven : {S R : Type 0} → Ghosts S R → Limits → Given → Bool → S → List ℕ → ReadingView S R → Type 0
 OpensGiven g limits (Taken macros) origins sources path reading = OpensFresh g (engine_with limits origins sources macros) path reading
-OpensGiven g limits (Declined f) origins sources path reading = ⊥
+OpensGiven g limits (GivenFault f) origins sources path reading = ⊥
 
 -- the answer of an opening: the fault of the limits exactly where one is out of its range; want of memory; the first definition that is
 -- refused; and else the reading of a fresh engine with the definitions that was started (source: this project's profile)
@@ -31,7 +31,7 @@ abbrev pub Opens : {S R : Type 0} → Ghosts S R → Options → S → List ℕ 
 Opens g options sources path (Ok reading) = (limit_fault options.limits ≡ None) × OpensGiven g options.limits (given_by options) options.origins sources path reading
 Opens g options sources path (Err (BadLimits fault)) = limit_fault options.limits ≡ Some fault
 Opens g options sources path (Err NoMemory) = limit_fault options.limits ≡ None
-Opens g options sources path (Err (Run f)) = (limit_fault options.limits ≡ None) × (given_by options ≡ Declined (report_of f.fault)) × (f.written ≡ 0)
+Opens g options sources path (Err (Run f)) = (limit_fault options.limits ≡ None) × (given_by options ≡ GivenFault (report_of f.fault)) × (f.written ≡ 0)
 
 -- what remains of a reading is the output, unless a device failed or memory was refused where it was opened (source: this project's profile)
 abbrev pub OpensOutput : {S R : Type 0} → Ghosts S R → Outcome → Result (ReadingView S R) PrepFault → Type 0

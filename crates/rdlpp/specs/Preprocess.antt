@@ -13,7 +13,7 @@ use Rattle.rdlpp_state.specs.Engine.{EngineView}
 use Rattle.rdlpp_state.specs.Opening.{Starts, fresh_engine, searches_of, is_device_fault, is_memory_fault}
 use Rattle.rdlpp_expand.specs.Run.{Runs, Begins}
 use Rattle.rdlpp_state.specs.Steps.{is_write_failed}
-use Rattle.rdlpp.specs.Definitions.{Given, Taken, Declined, given, with_macros}
+use Rattle.rdlpp.specs.Definitions.{Given, Taken, GivenFault, given, with_macros}
 use Rattle.rdlpp.specs.declared.options.Options.{Options}
 use Rattle.rdlpp.specs.declared.fault.PrepFault.{PrepFault}
 use Rattle.rdlpp.specs.declared.fault.PrepFault.TheVariants.{BadLimits, NoMemory, Run}
@@ -37,7 +37,7 @@ given_by options = given options.limits.definition_bytes options.limits.definiti
 -- what comes of options whose limits are in range and of an engine that was made: the fault of the first definition that is refused, with nothing opened or written, and else what the run of a fresh engine with the definitions comes to (source: this project's profile)
 abbrev pub Follows : {S R W : Type 0} → Ghosts S R → SinkGhosts W → Limits → Given → Bool → S → List ℕ → W → W → ℕ → Option Report → Type 0
 Follows g h limits (Taken macros) origins sources path before after count fault = RunsFresh g h (engine_with limits origins sources macros) path before after count fault
-Follows g h limits (Declined f) origins sources path before after count fault = (fault ≡ Some f) × (count ≡ 0) × (after ≡ before)
+Follows g h limits (GivenFault f) origins sources path before after count fault = (fault ≡ Some f) × (count ≡ 0) × (after ≡ before)
 
 -- the answer of preprocessing: the fault of the limits exactly where one is out of its range, with nothing written; want of memory, with nothing written; and else what follows (source: this project's profile)
 abbrev pub Preprocesses : {S R W : Type 0} → Ghosts S R → SinkGhosts W → Options → S → List ℕ → W → W → Result ℕ PrepFault → Type 0
@@ -53,7 +53,7 @@ Preprocesses g h options sources path before after (Err (Run f)) =
 -- the output of a main text, by what the definitions come to
 abbrev pub output_given : {S R : Type 0} → Ghosts S R → Limits → Bool → S → List ℕ → Given → Outcome
 output_given g limits origins sources path (Taken macros) = limited_output limits (searches_of (g.catalog sources)) origins macros path
-output_given g limits origins sources path (Declined f) = fails f
+output_given g limits origins sources path (GivenFault f) = fails f
 
 -- the output of a main text, where no opening fails (source: this project's profile)
 abbrev pub output_of : {S R : Type 0} → Ghosts S R → Options → S → List ℕ → Outcome

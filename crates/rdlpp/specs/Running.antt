@@ -7,7 +7,7 @@ use Rattle.rdlpp_table.specs.Limits.{limit_fault}
 use Rattle.rdlpp_meaning.specs.Outcome.{Report, report_of}
 use Rattle.rdlpp_state.specs.Engine.{EngineView}
 use Rattle.rdlpp_state.specs.Opening.{fresh_engine}
-use Rattle.rdlpp.specs.Definitions.{Given, Taken, Declined}
+use Rattle.rdlpp.specs.Definitions.{Given, Taken, GivenFault}
 use Rattle.rdlpp.specs.Preprocess.{RunsFresh, engine_with, given_by}
 use Rattle.rdlpp.specs.declared.options.Options.{Options}
 use Rattle.rdlpp.specs.declared.fault.PrepFault.{PrepFault}
@@ -28,7 +28,7 @@ MakesEngine options sources (Err (Run f)) = ⊥
 abbrev pub FollowsFrom : {S R W : Type 0} → Ghosts S R → SinkGhosts W → Options → Given → EngineView S R → EngineView S R → List ℕ → W → W → ℕ → Option Report → Type 0
 FollowsFrom g h options (Taken macros) old new path before after count fault =
     (run : RunsFresh g h (engine_with options.limits options.origins old.sources macros) path before after count fault) × (run.ended ≡ new)
-FollowsFrom g h options (Declined f) old new path before after count fault = (fault ≡ Some f) × (count ≡ 0) × (after ≡ before)
+FollowsFrom g h options (GivenFault f) old new path before after count fault = (fault ≡ Some f) × (count ≡ 0) × (after ≡ before)
 
 -- the answer of a run from an engine that was made: what follows, as of preprocessing (source: this project's profile)
 abbrev pub RunsFrom : {S R W : Type 0} → Ghosts S R → SinkGhosts W → Options → EngineView S R → EngineView S R → List ℕ → W → W → Result ℕ PrepFault → Type 0

@@ -17,7 +17,7 @@ use Rattle.rdlpp_expand.specs.Run.{is_fresh}
 use Rattle.rdlpp_expand.specs.declared.reading.ReadEnd.{ReadEnd}
 use Rattle.rdlpp_expand.specs.declared.reading.ReadEnd.TheVariants.{Finished, Stopped as StoppedRead}
 use Rattle.rdlpp_expand.specs.declared.writing.RunFault.{RunFault}
-use Rattle.rdlpp.specs.Definitions.{Declined, Given, Taken}
+use Rattle.rdlpp.specs.Definitions.{GivenFault, Given, Taken}
 use Rattle.rdlpp.specs.Opening.{Opens, OpensGiven, OpensOutput}
 use Rattle.rdlpp.specs.Preprocess.{given_by, output_given, output_of}
 use Rattle.rdlpp.specs.declared.fault.PrepFault.{PrepFault}
@@ -62,7 +62,7 @@ opening_unfailed limits (Taken macros) origins sources path reading o = (
   ap is_device_fault o.starts.keeps ∙ stays (is_device_fault o.opening) o.starts.call.failures,
   ap is_memory_fault o.starts.keeps ∙ stays (is_memory_fault o.opening) o.starts.call.refusals,
 )
-opening_unfailed limits (Declined f) origins sources path reading o = absurd o
+opening_unfailed limits (GivenFault f) origins sources path reading o = absurd o
 
 -- bytes and then a fault
 stopped : (bytes : List ℕ) (fault : Report) → and_then (gives bytes) (fails fault) ≡ record { bytes = bytes; fault = Some fault }
@@ -303,7 +303,7 @@ streams a owned reading stream are in_range opens asks quiet same path pieces = 
 }
 
 -- a definition that is refused is the output
-pub declined : (a : Asked) (owned : Owned) (f : Report) → AreOwned a owned → limit_fault a.limits ≡ None → given_by owned.options ≡ Declined f → IsStreamed a (fails f)
+pub declined : (a : Asked) (owned : Owned) (f : Report) → AreOwned a owned → limit_fault a.limits ≡ None → given_by owned.options ≡ GivenFault f → IsStreamed a (fails f)
 declined a owned f are in_range refused = record {
   options = owned.options;
   sources = owned.sources;

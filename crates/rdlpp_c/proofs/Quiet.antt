@@ -24,7 +24,7 @@ use Rattle.rdlpp_expand.specs.Run.{Stops, is_fresh}
 use Rattle.rdlpp_expand.specs.declared.reading.ReadEnd.{ReadEnd}
 use Rattle.rdlpp_expand.specs.declared.reading.ReadEnd.TheVariants.{Finished, Stopped}
 use Rattle.rdlpp_expand.proofs.Readings.{IsGiven, fills_ended, fills_part, fills_paused, given_more, given_turned, leaves}
-use Rattle.rdlpp.specs.Definitions.{Declined, Given, Taken}
+use Rattle.rdlpp.specs.Definitions.{GivenFault, Given, Taken}
 use Rattle.rdlpp.specs.Opening.{OpensGiven}
 use Rattle.rdlpp_c.specs.Faults.{IsNoFault, fault_text, found_text, kind_numbered, kind_text, kinds}
 use Rattle.rdlpp_c.specs.Mapping.{MapsOpen, MapsStream, ReadsLines, ReadsMapped, ReadsPart}
@@ -144,7 +144,7 @@ unfolding fresh_engine
 quiet_opening limits (Taken macros) origins sources path reading o e =
     let c = called (is_device_fault o.opening) (is_memory_fault o.opening) sources reading.engine.sources o.starts.call e in
     record { asks = c.1; kept = ap is_device_fault o.starts.keeps ∙ c.0 }
-quiet_opening limits (Declined f) origins sources path reading o e = absurd o
+quiet_opening limits (GivenFault f) origins sources path reading o e = absurd o
 
 -- sources that are opened ask where they did
 pub opening_asks : (limits : Limits) (given : Given) (origins : Bool) (sources : AskedTexts) (path : List ℕ) (reading : ReadingView AskedTexts (List ℕ))
@@ -152,7 +152,7 @@ pub opening_asks : (limits : Limits) (given : Given) (origins : Bool) (sources :
 unfolding fresh_engine
 opening_asks limits (Taken macros) origins sources path reading o =
     still_asked sources.asks reading.engine.sources.asks (is_device_fault o.opening) sources.failures reading.engine.sources.failures o.starts.call.failures
-opening_asks limits (Declined f) origins sources path reading o = absurd o
+opening_asks limits (GivenFault f) origins sources path reading o = absurd o
 
 -- A step.
 

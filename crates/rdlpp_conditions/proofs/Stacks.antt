@@ -8,7 +8,7 @@ use Rattle.rdlpp_scan.specs.declared.token.Mode.{Mode}
 use Rattle.rdlpp_scan.specs.declared.token.Mode.TheVariants.{Plain}
 use Rattle.rdlpp_scan.specs.declared.token.Token.{Token}
 use Rattle.rdlpp_scan.proofs.SourceLaws.{line_ends-part}
-use Rattle.rdlpp_meaning.specs.Meaning.{Holds, Progress, Stopped, is_else, opening_within, turn}
+use Rattle.rdlpp_meaning.specs.Meaning.{Holds, Progress, TestFault, is_else, opening_within, turn}
 use Rattle.rdlpp_meaning.specs.Resumed.{Live, Place}
 use Rattle.rdlpp_meaning.specs.declared.fault.FaultKind.TheVariants.{BranchAfterElse, TooManyConditionals}
 use Rattle.rdlpp_conditions.specs.Conditions.{ConditionsView, conditions_left, own_conditions, place_by, place_of, progress_of, seen_of}
@@ -181,7 +181,7 @@ unfolding turn
 turn_named o word closing other taken = (other, λ c s w. rw (closing, w, other, taken) refl)
 
 -- where no more may be opened
-pub opens_none : (v : ConditionsView) (holds : Bool) → length v.open_now ≡ v.limit → opening_within (conditions_left v) (Holds holds) ≡ Stopped TooManyConditionals []
+pub opens_none : (v : ConditionsView) (holds : Bool) → length v.open_now ≡ v.limit → opening_within (conditions_left v) (Holds holds) ≡ TestFault TooManyConditionals []
 unfolding conditions_left opening_within
 opens_none v holds full =
     let none : v.limit - length v.open_now ≡ 0 = omega arith in

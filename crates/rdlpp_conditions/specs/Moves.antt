@@ -6,7 +6,7 @@ use Rattle.rdlpp_meaning.specs.declared.fault.FaultKind.{FaultKind}
 use Rattle.rdlpp_meaning.specs.declared.fault.FaultKind.TheVariants.{BranchAfterElse, StrayBranch}
 use Rattle.rdlpp_meaning.specs.State.{State}
 use Rattle.rdlpp_meaning.specs.Parts.{Command}
-use Rattle.rdlpp_meaning.specs.Meaning.{Progress, Test, Stopped, Holds, is_else, macro_name, name_test, opening_within, turn}
+use Rattle.rdlpp_meaning.specs.Meaning.{Progress, Test, TestFault, Holds, is_else, macro_name, name_test, opening_within, turn}
 use Rattle.rdlpp_meaning.specs.Resumed.{Place, Live, Skipped}
 use Rattle.rdlpp_conditions.specs.declared.conditions.Branch.{Branch}
 use Rattle.rdlpp_conditions.specs.declared.conditions.Branch.TheVariants.{Inner, Refused, Decided, Named}
@@ -27,7 +27,7 @@ opened_with line holds v = record v {
 -- what a conditional whose test was answered comes to (this project's profile)
 abbrev pub opening_answer : {A : Type 0} → Result A FaultKind → Bool → Test
 opening_answer (Ok x) holds = Holds holds
-opening_answer (Err kind) holds = Stopped kind []
+opening_answer (Err kind) holds = TestFault kind []
 
 -- the conditionals behind one that opens: one more, or the same where it is refused
 abbrev pub after_opening : {A : Type 0} → Result A FaultKind → ℕ → Bool → ConditionsView → ConditionsView
@@ -47,7 +47,7 @@ HasTest o word test = (c : Command) (s : State) → c.word ≡ word → turn o c
 -- it isn't an `else` (IEEE 1364-2001, `elsif`, `else`)
 abbrev pub IsTurn : Progress → Directive → Branch → Type 0
 IsTurn o word Inner = ⊥
-IsTurn o word (Refused kind) = (kind ≡ BranchAfterElse) × HasTest o word (λ c s. Stopped kind [])
+IsTurn o word (Refused kind) = (kind ≡ BranchAfterElse) × HasTest o word (λ c s. TestFault kind [])
 IsTurn o word (Decided holds) = HasTest o word (λ c s. Holds holds)
 IsTurn o word Named = (is_else word ≡ false) × HasTest o word (λ c s. name_test true (macro_name c) s)
 

@@ -23,7 +23,7 @@ use Rattle.rdlpp_scan.proofs.Seams.{BeforePerl, Closed, OpenComment, OpenString,
 use Rattle.rdlpp_scan.proofs.TokenLens.{token_of-part}
 use Rattle.rdlpp_scan.proofs.TokenSteps.{is_kept_kind}
 use Rattle.rdlpp_meaning.specs.Expansion.{usage_token}
-use Rattle.rdlpp_meaning.specs.Meaning.{Checked, Holds, Passage, Progress, Stopped, Test, added_end, at_start_of, begun, behind_bytes, by_test, in_conditional, is_else, leaves, macro_name, name_test, opening, opening_within, origin_line, past_conditional, refusal, turn, turned, unclosed, wants_defined}
+use Rattle.rdlpp_meaning.specs.Meaning.{Checked, Holds, Passage, Progress, TestFault, Test, added_end, at_start_of, begun, behind_bytes, by_test, in_conditional, is_else, leaves, macro_name, name_test, opening, opening_within, origin_line, past_conditional, refusal, turn, turned, unclosed, wants_defined}
 use Rattle.rdlpp_meaning.specs.Opened.{Waiting, all_resumed, waiting}
 use Rattle.rdlpp_meaning.specs.Outcome.{fails}
 use Rattle.rdlpp_meaning.specs.Parts.{Command, argument_of, behind_blanks, behind_directive, command_in_front, command_of, line_ends_of, no_argument, only_blanks, past_blanks, string_in_front}
@@ -64,7 +64,7 @@ Turns o d test = (c : Command) (t : State) → c.word ≡ d → turn o c t ≡ t
 
 -- what remains by a test: its fault, or what remains by whether it holds
 unfoldable pub tested : Test → ℕ → State → (Bool → Passage) → Passage
-tested (Stopped kind word) line s next = leaves (fails (fault_at kind line word s)) s
+tested (TestFault kind word) line s next = leaves (fails (fault_at kind line word s)) s
 tested (Holds live) line s next = next live
 
 -- a directive that opens a conditional wants a name
@@ -140,7 +140,7 @@ module _ {R : Type 0} (rules : Rules) (unread : R → List ℕ) (ws : List Waiti
         → live s ≡ behind_it (new true) t → skipped s ≡ behind_it (new false) t
         → source_left rules unread ws place f s ≡ tested x f.buffer.line s (λ b. source_left rules unread ws (new b) (consumed_file len 0 f) t)
     unfolding by_test tested
-    tested_left place new t (Stopped kind word) live skipped e holding failing = refused_move rules unread ws f s d front.tokens place kind word front.all e
+    tested_left place new t (TestFault kind word) live skipped e holding failing = refused_move rules unread ws f s d front.tokens place kind word front.all e
     tested_left place new t (Holds true) live skipped e holding failing = directive_move rules unread ws f s d given len front place (new true) t (e ∙ holding)
     tested_left place new t (Holds false) live skipped e holding failing = directive_move rules unread ws f s d given len front place (new false) t (e ∙ failing)
 

@@ -28,7 +28,7 @@ use Rattle.rdlpp_meaning.specs.Opened.{Waiting, all_resumed, unwound}
 use Rattle.rdlpp_meaning.specs.Outcome.{Report, fails}
 use Rattle.rdlpp_meaning.specs.Parts.{Command, directive_of, line_ends_of, only_blanks}
 use Rattle.rdlpp_meaning.specs.Resumed.{Live, Place, Skipped, resumed}
-use Rattle.rdlpp_meaning.specs.State.{Accepted, Refused, Rules, State, breach_kind, fault_at}
+use Rattle.rdlpp_meaning.specs.State.{Accepted, DefinitionFault, Rules, State, breach_kind, fault_at}
 use Rattle.rdlpp_meaning.specs.declared.fault.FaultKind.{FaultKind}
 use Rattle.rdlpp_meaning.specs.declared.fault.FaultKind.TheVariants.{BareBackquote as LoneBackquote, UndefinedMacro}
 use Rattle.rdlpp_meaning.proofs.Directives.{all_resumed_behind, all_resumed_fails, behind_bytes-goes_on}
@@ -502,7 +502,7 @@ module _ (rules : Rules) (ws : List Waiting) (os : List Progress) (first : Bool)
 
   -- a `define` that is refused is a fault
   pub all_resumed_bad_define : (bytes : List ℕ) (line : ℕ) (more : List SourceToken) (s : State) (kind : FaultKind) (word : List ℕ)
-      → rules.define s.macros (drop 7 bytes) ≡ Refused kind word
+      → rules.define s.macros (drop 7 bytes) ≡ DefinitionFault kind word
       → all_resumed rules ws (Live os) first (record { sort = Definition; bytes = bytes; line = line } ∷ more) s
       ≡ leaves (fails (fault_at kind line word s)) s
   all_resumed_bad_define bytes line more s kind word e =

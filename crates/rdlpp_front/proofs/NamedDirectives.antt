@@ -31,7 +31,7 @@ use Rattle.rdlpp_read.proofs.BufferTokens.{ends_line}
 use Rattle.rdlpp_front.proofs.TextLeft.{back_tokens}
 use Rattle.rdlpp_meaning.specs.declared.fault.FaultKind.{FaultKind}
 use Rattle.rdlpp_meaning.specs.Outcome.{fails}
-use Rattle.rdlpp_meaning.specs.Meaning.{leaves, refusal, Faulty, Fine, Progress, macro_name}
+use Rattle.rdlpp_meaning.specs.Meaning.{leaves, refusal, NameFault, Fine, Progress, macro_name}
 use Rattle.rdlpp_read.specs.declared.files.File.{File}
 use Rattle.rdlpp_read.specs.Files.{consumed_file}
 use Rattle.rdlpp_table.specs.Table.{without}
@@ -463,7 +463,7 @@ module _ {R : Type 0} (rules : Rules) (unread : R → List ℕ) (ws : List Waiti
       (name_of_front rules unread ws f s Undef given len front ∙ fine))
 
   -- an `undef` without a name, or of a reserved one, is a fault
-  pub undef_refused_left : (kind : FaultKind) (word : List ℕ) → given_name given ≡ Faulty kind word
+  pub undef_refused_left : (kind : FaultKind) (word : List ℕ) → given_name given ≡ NameFault kind word
       → source_left rules unread ws (Live os) f s ≡ leaves (fails (fault_at kind f.buffer.line word s)) s
   undef_refused_left kind word faulty =
       refused_move rules unread ws f s Undef front.tokens (Live os) kind word front.all

@@ -30,7 +30,7 @@ use Rattle.rdlpp_meaning.specs.Opened.{Waiting, all_resumed, unwound}
 use Rattle.rdlpp_meaning.specs.Outcome.{fails}
 use Rattle.rdlpp_meaning.specs.Parts.{line_ends_of, only_blanks, pieces}
 use Rattle.rdlpp_meaning.specs.Resumed.{Live, Place, Skipped, resume, resumed}
-use Rattle.rdlpp_meaning.specs.State.{Accepted, Refused, Rules, State, breach_kind, fault_at}
+use Rattle.rdlpp_meaning.specs.State.{Accepted, DefinitionFault, Rules, State, breach_kind, fault_at}
 use Rattle.rdlpp_meaning.specs.declared.fault.FaultKind.{FaultKind}
 use Rattle.rdlpp_meaning.specs.declared.fault.FaultKind.TheVariants.{BadLine, LineTooLong, OpenConditional, SourceTooLong, UndefinedMacro}
 use Rattle.rdlpp_meaning.proofs.Directives.{all_resumed_behind, all_resumed_fails, line_token, renumbered_state, resumed_bad_line, resumed_late_line, resumed_renumbered}
@@ -391,7 +391,7 @@ module _ {R : Type 0} (rules : Rules) (unread : R → List ℕ) (ws : List Waiti
   -- a `define` that is refused is a fault
   pub define_refused_left : (len : ℕ) (kind : FaultKind) (word : List ℕ) → HoldsLine tells unread (Whole len) f.buffer new → tells → f.buffer.mode ≡ Plain
       → HoldsDefine (held_of f.buffer) (rest_of unread f.buffer)
-      → rules.define s.macros (drop 7 (take len (held_of new))) ≡ Refused kind word
+      → rules.define s.macros (drop 7 (take len (held_of new))) ≡ DefinitionFault kind word
       → source_left rules unread ws (Live os) f s ≡ leaves (fails (fault_at kind f.buffer.line word s)) s
   unfolding source_left
   define_refused_left len kind word line t mode holds e =

@@ -11,7 +11,7 @@ use Rattle.rdlpp_scan.specs.Tokens.{token_of, plain_len}
 use Rattle.rdlpp_scan.specs.Reserved.{is_reserved}
 use Rattle.rdlpp_meaning.specs.declared.fault.FaultKind.{FaultKind}
 use Rattle.rdlpp_meaning.specs.declared.fault.FaultKind.TheVariants as fault
-use Rattle.rdlpp_meaning.specs.Meaning.{Checked, Faulty, Fine, unquoted}
+use Rattle.rdlpp_meaning.specs.Meaning.{Checked, NameFault, Fine, unquoted}
 use Rattle.rdlpp_read.specs.Arguments.{NameGiven, NoName, NoString, StringGiven}
 use Rattle.rdlpp_front.specs.declared.item.Argument.{Argument}
 use Rattle.rdlpp_front.specs.declared.item.SourceItem.{SourceItem}
@@ -133,8 +133,8 @@ given_len d (Some a) = a.stop
 -- the name of a macro that it is given, or its fault (IEEE 1364-2001, compiler directives)
 unfoldable pub given_name : Option (List ℕ) → Checked
 given_name given = elim given [
-  | None ↦ Faulty fault.NameExpected []
-  | Some name ↦ if is_reserved name then Faulty fault.ReservedName name else Fine name
+  | None ↦ NameFault fault.NameExpected []
+  | Some name ↦ if is_reserved name then NameFault fault.ReservedName name else Fine name
 ]
 
 -- the name that is given to an `include` whose string stands from a place up to another (this project's profile)

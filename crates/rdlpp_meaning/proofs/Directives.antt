@@ -9,12 +9,12 @@ use Rattle.rdlpp_scan.specs.declared.token.Directive.TheVariants.{Define, Else, 
 use Rattle.rdlpp_scan.specs.declared.token.Kind.TheVariants.{Blank, Name, Str}
 use Rattle.rdlpp_table.specs.Table.{without}
 use Rattle.rdlpp_meaning.specs.Expansion.{bytes_of}
-use Rattle.rdlpp_meaning.specs.Meaning.{Checked, Faulty, Fine, Holds, IncludedMeaning, Passage, Progress, Renumbered, Stopped, Test, added_end, at_start_of, back_in, begun, behind_bytes, by_test, defines, goes_on, in_conditional, includes, includes_found, includes_given, includes_named, leaves, macro_name, mean, included_meaning_of, opening, origin_line, refusal, renumbered, renumbers, single, text_meaning, turn, turned, undefines, unquoted}
+use Rattle.rdlpp_meaning.specs.Meaning.{Checked, NameFault, Fine, Holds, IncludedMeaning, Passage, Progress, Renumbered, TestFault, Test, added_end, at_start_of, back_in, begun, behind_bytes, by_test, defines, goes_on, in_conditional, includes, includes_found, includes_given, includes_named, leaves, macro_name, mean, included_meaning_of, opening, origin_line, refusal, renumbered, renumbers, single, text_meaning, turn, turned, undefines, unquoted}
 use Rattle.rdlpp_meaning.specs.Opened.{Waiting, all_resumed, ending_of, unwound, waiting}
 use Rattle.rdlpp_meaning.specs.Outcome.{Outcome, Report, fails, gives}
 use Rattle.rdlpp_meaning.specs.Parts.{Argument, Branching, Closing, Command, Opening, Piece, Single, argument_of, behind_blanks, behind_directive, command_in_front, command_of, directive_of, line_ends_of, name_in_front, no_argument, one_argument, only_blanks, parts_of, past_blanks, piece_of, pieces, string_in_front}
 use Rattle.rdlpp_meaning.specs.Resumed.{Live, Place, Skipped, behind, resume, resumed}
-use Rattle.rdlpp_meaning.specs.State.{Accepted, Defined, LongPath, Lookup, NoSource, Refused, Rules, Source, State, fault_at, shown_line}
+use Rattle.rdlpp_meaning.specs.State.{Accepted, Defined, LongPath, Lookup, NoSource, DefinitionFault, Rules, Source, State, fault_at, shown_line}
 use Rattle.rdlpp_meaning.specs.declared.fault.FaultKind.{FaultKind}
 use Rattle.rdlpp_meaning.specs.declared.fault.FaultKind.TheVariants.{BadLine, IncludeName, PathTooLong, SourceNotFound, TooManyIncludes}
 use Rattle.rdlpp_meaning.proofs.Outcomes.{fails-goes_on, goes_on-assoc, goes_on-gives, goes_on-nil, goes_on-same, refusal-goes_on, resumed_start}
@@ -155,13 +155,13 @@ choice_keeps false s p q h k = k
 defines_keeps : (d : Defined) (c : Command) (s : State) → Keeps s (defines d c s)
 unfolding Keeps defines refusal leaves
 defines_keeps (Accepted macros) c s e = refl
-defines_keeps (Refused kind word) c s e = refl
+defines_keeps (DefinitionFault kind word) c s e = refl
 
 -- an `undef` keeps it
 undefines_keeps : (n : Checked) (c : Command) (s : State) → Keeps s (undefines n c s)
 unfolding Keeps undefines refusal leaves
 undefines_keeps (Fine name) c s e = refl
-undefines_keeps (Faulty kind word) c s e = refl
+undefines_keeps (NameFault kind word) c s e = refl
 
 -- an included text keeps it, by its fault
 within_keeps : (x y : List ℕ) (bytes : List ℕ) (f : Option Report) (after s : State)
@@ -241,7 +241,7 @@ on_after p g h e = on_after_by p.bytes p.fault p.after g h e
 by_test-same : (t : Test) (c : Command) (s : State) (live skipped live' skipped' : State → Passage)
     → live s ≡ live' s → skipped s ≡ skipped' s → by_test t c s live skipped ≡ by_test t c s live' skipped'
 unfolding by_test
-by_test-same (Stopped kind word) c s live skipped live' skipped' e f = refl
+by_test-same (TestFault kind word) c s live skipped live' skipped' e f = refl
 by_test-same (Holds true) c s live skipped live' skipped' e f = e
 by_test-same (Holds false) c s live skipped live' skipped' e f = f
 
@@ -320,11 +320,11 @@ resumed_undef rules os first t ts s name d e =
 
 -- an `undef` without a name, or of a reserved one, ends the output
 pub resumed_bad_undef : (rules : Rules) (os : List Progress) (first : Bool) (t : SourceToken) (ts : List SourceToken) (s : State) (kind : FaultKind) (word : List ℕ)
-    → directive_of t ≡ Some Undef → macro_name (command_in_front Undef first t ts) ≡ Faulty kind word
+    → directive_of t ≡ Some Undef → macro_name (command_in_front Undef first t ts) ≡ NameFault kind word
     → resumed rules (Live os) first (t ∷ ts) s ≡ refusal kind word (command_in_front Undef first t ts) s
 unfolding undefines
 resumed_bad_undef rules os first t ts s kind word d e =
-    undef_in_front rules os first t ts s (Faulty kind word) d e
+    undef_in_front rules os first t ts s (NameFault kind word) d e
     ∙ sym (refusal-goes_on kind word (command_in_front Undef first t ts) s (λ after. behind rules (Live os) Undef first t ts after))
 
 -- whether a directive wants the name of a macro

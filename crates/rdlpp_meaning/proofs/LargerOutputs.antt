@@ -8,15 +8,15 @@ use Rattle.rdlpp_table.specs.Table.{Macro, macro_size, table_size, without}
 use Rattle.rdlpp_meaning.specs.declared.fault.FaultKind.{FaultKind}
 use Rattle.rdlpp_meaning.specs.declared.fault.FaultKind.TheVariants.{BranchAfterElse, TooManyConditionals, TooManyIncludes, IncludeName, SourceNotFound, PathTooLong, BadLine, StrayBranch, OutputBytes}
 use Rattle.rdlpp_meaning.specs.Outcome.{Report, Outcome, gives, fails, and_then}
-use Rattle.rdlpp_meaning.specs.State.{Defined, Accepted, Refused, Lookup, NoSource, LongPath, Source, Rules, State, fault_at, shown_line, breach_kind}
+use Rattle.rdlpp_meaning.specs.State.{Defined, Accepted, DefinitionFault, Lookup, NoSource, LongPath, Source, Rules, State, fault_at, shown_line, breach_kind}
 use Rattle.rdlpp_meaning.specs.Parts.{Command, line_ends_of, Piece, Run, Single, Opening, Branching, Closing, pieces, parts_of}
-use Rattle.rdlpp_meaning.specs.Meaning.{Passage, leaves, behind_bytes, goes_on, refusal, IncludedMeaning, skipped_run, Checked, Fine, Faulty, macro_name, defines, undefines, origin_line, at_start_of, back_in, added_end, includes, includes_found, unquoted, includes_named, includes_given, Renumbered, renumbered, renumbers, single, Progress, Test, Stopped, Holds, by_test, is_defined, name_test, wants_defined, opening_within, opening, in_conditional, past_conditional, is_else, turn, outcome, skipped_command, begun, turned, unclosed, mean, included_meaning_of, text_meaning}
+use Rattle.rdlpp_meaning.specs.Meaning.{Passage, leaves, behind_bytes, goes_on, refusal, IncludedMeaning, skipped_run, Checked, Fine, NameFault, macro_name, defines, undefines, origin_line, at_start_of, back_in, added_end, includes, includes_found, unquoted, includes_named, includes_given, Renumbered, renumbered, renumbers, single, Progress, Test, TestFault, Holds, by_test, is_defined, name_test, wants_defined, opening_within, opening, in_conditional, past_conditional, is_else, turn, outcome, skipped_command, begun, turned, unclosed, mean, included_meaning_of, text_meaning}
 use Rattle.rdlpp_meaning.specs.LimitLaws.{is_limit, NamesNoLimit, IsLarger}
 use Rattle.rdlpp_meaning.proofs.LargerRuns.{Agrees, IsFault, TornAgrees, run-agrees, run-torn, skip-agrees, skip-torn, sources-torn}
 use Rattle.rdlpp_scan.specs.Front.{Breach}
 use Rattle.rdlpp_table.specs.declared.limits.Limits.{Limits}
 use Rattle.rdlpp_table.specs.declared.fault.DefineKind.TheVariants as kind
-use Rattle.rdlpp_table.specs.Define.{Accepted as TableAccepted, Refused as TableRefused, Draft, Drawn, Rejected, macro_of, stored, stored_draft, define_of}
+use Rattle.rdlpp_table.specs.Define.{Accepted as TableAccepted, DefinedFault as TableRefused, Draft, Drawn, DraftFault, macro_of, stored, stored_draft, define_of}
 use Rattle.rdlpp_meaning.specs.declared.fault.FaultKind.TheVariants as fault
 use Rattle.rdlpp_meaning.specs.Expansion.{walk, run_outcome}
 use Rattle.rdlpp_meaning.specs.Resumed.{Place, Live, Skipped, resume}
@@ -94,7 +94,7 @@ refusal-agrees sources more kind word c s = lifted-agrees sources more (refusal 
 -- what a `define` comes to is the same as what no limit refuses
 unfoldable pub DefinedAgrees : Defined → Defined → Type 0
 DefinedAgrees (Accepted macros) v = v ≡ Accepted macros
-DefinedAgrees (Refused kind word) v = is_limit kind ≡ false → v ≡ Refused kind word
+DefinedAgrees (DefinitionFault kind word) v = is_limit kind ≡ false → v ≡ DefinitionFault kind word
 
 -- a `define`
 define-agrees : (sources more : ℕ) (c : Command) (s : State) (u v : Defined) → DefinedAgrees u v
@@ -102,7 +102,7 @@ define-agrees : (sources more : ℕ) (c : Command) (s : State) (u v : Defined) �
 unfolding PassageAgrees DefinedAgrees defines refusal leaves fails fault_at gives
 define-agrees sources more c s (Accepted macros) v h =
     λ n. (sources, ap (λ (d : Defined). defines d c (roomier sources more s)) h)
-define-agrees sources more c s (Refused kind word) v h =
+define-agrees sources more c s (DefinitionFault kind word) v h =
     λ n. (sources, ap (λ (d : Defined). defines d c (roomier sources more s)) (h n))
 
 -- an `undef`
@@ -110,7 +110,7 @@ undef-agrees : (sources more : ℕ) (c : Command) (s : State) (name : Checked)
     → PassageAgrees more (undefines name c s) (undefines name c (roomier sources more s))
 unfolding undefines refusal leaves fails fault_at
 undef-agrees sources more c s (Fine name) = lifted-agrees sources more (undefines (Fine name) c s)
-undef-agrees sources more c s (Faulty kind word) = lifted-agrees sources more (undefines (Faulty kind word) c s)
+undef-agrees sources more c s (NameFault kind word) = lifted-agrees sources more (undefines (NameFault kind word) c s)
 
 -- a choice of passages
 choice-passage : (more : ℕ) (test : Bool) (p q p' q' : Passage) → PassageAgrees more p q → PassageAgrees more p' q'
@@ -133,13 +133,13 @@ AllDefined rules define = (macros : List Macro) (rest : List ℕ) → DefinedAgr
 name-room : (sources more : ℕ) (defined : Bool) (name : Checked) (s : State) → name_test defined name (roomier sources more s) ≡ name_test defined name s
 unfolding name_test is_defined
 name-room sources more defined (Fine name) s = refl
-name-room sources more defined (Faulty kind word) s = refl
+name-room sources more defined (NameFault kind word) s = refl
 
 -- and so is that of a branch
 turn-room : (sources more : ℕ) (o : Progress) (c : Command) (s : State) → turn o c (roomier sources more s) ≡ turn o c s
 unfolding turn
 turn-room sources more o c s =
-    ap (λ (t : Test). if o.closing then Stopped BranchAfterElse []
+    ap (λ (t : Test). if o.closing then TestFault BranchAfterElse []
     else (if is_else c.word then Holds (not o.taken)
     else (if o.taken then Holds false else t))) (name-room sources more true (macro_name c) s)
 
@@ -148,7 +148,7 @@ tested-agrees : (sources more : ℕ) (t : Test) (c : Command) (s : State) (live 
     → PassageAgrees more (live s) (live' (roomier sources more s)) → PassageAgrees more (skipped s) (skipped' (roomier sources more s))
     → PassageAgrees more (by_test t c s live skipped) (by_test t c (roomier sources more s) live' skipped')
 unfolding by_test
-tested-agrees sources more (Stopped kind word) c s live skipped live' skipped' h k = refusal-agrees sources more kind word c s
+tested-agrees sources more (TestFault kind word) c s live skipped live' skipped' h k = refusal-agrees sources more kind word c s
 tested-agrees sources more (Holds true) c s live skipped live' skipped' h k = h
 tested-agrees sources more (Holds false) c s live skipped live' skipped' h k = k
 
@@ -168,7 +168,7 @@ within-agrees : (sources more k : ℕ) (t : Test) (c : Command) (s : State) (liv
     → PassageAgrees more (by_test (opening_within k t) c s live skipped)
     (by_test (opening_within (more + k) t) c (roomier sources more s) live' skipped')
 unfolding opening_within by_test is_limit
-within-agrees sources more k (Stopped kind word) c s live skipped live' skipped' h j = refusal-agrees sources more kind word c s
+within-agrees sources more k (TestFault kind word) c s live skipped live' skipped' h j = refusal-agrees sources more kind word c s
 within-agrees sources more zero (Holds v) c s live skipped live' skipped' h j = limit-passage more TooManyConditionals [] c s _ refl
 within-agrees sources more (suc m) (Holds v) c s live skipped live' skipped' h j =
     let e : more + suc m ≡ suc (more + m) = omega arith in
@@ -511,16 +511,16 @@ module _ (rules : Rules) (depth most : ℕ) (define : List Macro → List ℕ �
 -- a choice of what a `define` comes to, where a first fault is of a limit
 limited-agrees : (kind : FaultKind) (word : List ℕ) (small large : Bool) (u v : Defined) → is_limit kind ≡ true
     → (small ≡ false → large ≡ false) → DefinedAgrees u v
-    → DefinedAgrees (if small then Refused kind word else u) (if large then Refused kind word else v)
+    → DefinedAgrees (if small then DefinitionFault kind word else u) (if large then DefinitionFault kind word else v)
 unfolding DefinedAgrees
 limited-agrees kind word true large u v l imp h = λ n. absurd (true≢false (sym l ∙ n))
 limited-agrees kind word false large u v l imp h =
-    subst (λ (b : Bool). DefinedAgrees u (if b then Refused kind word else v)) (sym (imp refl)) h
+    subst (λ (b : Bool). DefinedAgrees u (if b then DefinitionFault kind word else v)) (sym (imp refl)) h
 
 -- what a macro's storing comes to, with its fault
 stored_by : Bool → Bool → List Macro → Defined
 stored_by bytes count macros =
-    if bytes then Refused fault.DefinitionBytes [] else (if count then Refused fault.TooManyDefinitions [] else Accepted macros)
+    if bytes then DefinitionFault fault.DefinitionBytes [] else (if count then DefinitionFault fault.TooManyDefinitions [] else Accepted macros)
 
 -- it is that
 stored_is : (most_bytes most_macros : ℕ) (macros : List Macro) (m : Macro)
@@ -551,8 +551,8 @@ store-agrees bytes count bytes' count' macros m h k =
     (subst (λ (v : Defined). DefinedAgrees (stored_by (nat_lt bytes size) (nat_lt count number) (others ++ m ∷ [])) v)
     (sym (stored_is bytes' count' macros m))
     (limited-agrees fault.DefinitionBytes [] (nat_lt bytes size) (nat_lt bytes' size)
-    (if nat_lt count number then Refused fault.TooManyDefinitions [] else Accepted (others ++ m ∷ []))
-    (if nat_lt count' number then Refused fault.TooManyDefinitions [] else Accepted (others ++ m ∷ [])) refl
+    (if nat_lt count number then DefinitionFault fault.TooManyDefinitions [] else Accepted (others ++ m ∷ []))
+    (if nat_lt count' number then DefinitionFault fault.TooManyDefinitions [] else Accepted (others ++ m ∷ [])) refl
     (unpassed bytes bytes' size h)
     (limited-agrees fault.TooManyDefinitions [] (nat_lt count number) (nat_lt count' number) (Accepted (others ++ m ∷ [])) (Accepted (others ++ m ∷ [])) refl
     (unpassed count count' number k) refl)))
@@ -562,7 +562,7 @@ draft-agrees : (bytes count bytes' count' : ℕ) (macros : List Macro) (draft : 
     → DefinedAgrees (with_fault (stored_draft bytes count macros draft)) (with_fault (stored_draft bytes' count' macros draft))
 unfolding stored_draft with_fault DefinedAgrees
 draft-agrees bytes count bytes' count' macros (Drawn m) h k = store-agrees bytes count bytes' count' macros m h k
-draft-agrees bytes count bytes' count' macros (Rejected kind word) h k = λ n. refl
+draft-agrees bytes count bytes' count' macros (DraftFault kind word) h k = λ n. refl
 
 -- what a `define` does agrees with larger limits
 all-defined : (bytes count bytes' count' : ℕ) → bytes ≤ bytes' → count ≤ count' → (macros : List Macro) (rest : List ℕ)

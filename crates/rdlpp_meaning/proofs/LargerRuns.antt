@@ -21,7 +21,7 @@ use Rattle.rdlpp_scan.proofs.StopKinds.{AtBack, AtBare, AtBlockComment, AtLineCo
 use Rattle.rdlpp_scan.proofs.TokenLens.{token_of-part}
 use Rattle.rdlpp_scan.proofs.TokenSteps.{next_held}
 use Rattle.rdlpp_meaning.specs.Actuals.{Role, item_reads, item_role, token_role}
-use Rattle.rdlpp_meaning.specs.Expansion.{Opens, Refuses, Usage, expand, run_outcome, usage_of, walk}
+use Rattle.rdlpp_meaning.specs.Expansion.{Opens, UsageFault, Usage, expand, run_outcome, usage_of, walk}
 use Rattle.rdlpp_meaning.specs.Items.{Arg, Item, Written, listed}
 use Rattle.rdlpp_meaning.specs.LimitLaws.{NamesNoLimit, is_limit}
 use Rattle.rdlpp_meaning.specs.Meaning.{skipped_run}
@@ -570,9 +570,9 @@ module _ (rules large : Rules) (s : State) (sources more : ℕ) (bytes : rules.a
     usage-agrees : (line : ℕ) (xs : List Item) (u v : Usage Item) → Walks xs → UsageTorn (length xs) u v
         → TornAgrees torn (usage_walk rules s deeper line_or_text o line (xs ++ ys) u) (usage_walk large (roomier sources more s) deeper' line_or_text o line (xs ++ zs) v)
     unfolding usage_walk Opening UsageTorn IsLimitedUsage UsesUpTo fault_at fails Agrees IsFault
-    usage-agrees line xs (Refuses f word at) v rest (inl h) = record { faulty = λ p. tt; agrees = λ n. absurd (true≢false (sym h ∙ n)) }
+    usage-agrees line xs (UsageFault f word at) v rest (inl h) = record { faulty = λ p. tt; agrees = λ n. absurd (true≢false (sym h ∙ n)) }
     usage-agrees line xs (Opens m actuals used) v rest (inl h) = absurd h
-    usage-agrees line xs (Refuses f word at) v rest (inr h) =
+    usage-agrees line xs (UsageFault f word at) v rest (inr h) =
         record { faulty = λ p. tt; agrees = λ n. ap (usage_walk large (roomier sources more s) deeper' line_or_text o line (xs ++ zs)) h.0 }
     usage-agrees line xs (Opens m actuals used) v rest (inr h) =
         torn-along torn _ _ _ _ refl (ap (usage_walk large (roomier sources more s) deeper' line_or_text o line (xs ++ zs)) h.0)

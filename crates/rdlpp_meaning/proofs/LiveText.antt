@@ -14,14 +14,14 @@ use Rattle.rdlpp_scan.specs.declared.token.Kind.{Kind}
 use Rattle.rdlpp_scan.specs.declared.token.Kind.TheVariants.{Back, BareBackquote}
 use Rattle.rdlpp_table.specs.Table.{Macro, macro_named}
 use Rattle.rdlpp_meaning.specs.Actuals.{Halt, Role, item_reads, token_role}
-use Rattle.rdlpp_meaning.specs.CallScan.{Before, Inside, Refused as RefusedCall, Scanned, CallState, call_of, call_of_scan, fault_at_end, room_behind, scan, scanned, source_role, call_state_behind, turn, turn_before, turn_inside}
-use Rattle.rdlpp_meaning.specs.Expansion.{Opens, Refuses, Usage, bytes_of, expand, is_copied, name_of, run_outcome, usage_of, usage_token, walk}
+use Rattle.rdlpp_meaning.specs.CallScan.{Before, Inside, ScanFault as RefusedCall, Scanned, CallState, call_of, call_of_scan, fault_at_end, room_behind, scan, scanned, source_role, call_state_behind, turn, turn_before, turn_inside}
+use Rattle.rdlpp_meaning.specs.Expansion.{Opens, UsageFault, Usage, bytes_of, expand, is_copied, name_of, run_outcome, usage_of, usage_token, walk}
 use Rattle.rdlpp_meaning.specs.Items.{Item, Written}
 use Rattle.rdlpp_meaning.specs.Meaning.{IncludedMeaning, Passage, Progress, behind_bytes, defines, goes_on, leaves, included_meaning_of, refusal, single}
 use Rattle.rdlpp_meaning.specs.Outcome.{Outcome, Report, and_then, fails, gives}
 use Rattle.rdlpp_meaning.specs.Parts.{Branching, Closing, Command, Opening, Piece, Run, Single, argument_of, command_of, directive_named, directive_of, joined, line_ends_of, no_argument, only_blanks, piece_of, pieces}
 use Rattle.rdlpp_meaning.specs.Resumed.{Live, leading, resume, resumed, trailing}
-use Rattle.rdlpp_meaning.specs.State.{Accepted, Defined, Refused, Rules, State, breach_kind, fault_at}
+use Rattle.rdlpp_meaning.specs.State.{Accepted, Defined, DefinitionFault, Rules, State, breach_kind, fault_at}
 use Rattle.rdlpp_meaning.specs.Substitution.{substituted}
 use Rattle.rdlpp_meaning.specs.declared.fault.FaultKind.{FaultKind}
 use Rattle.rdlpp_meaning.specs.declared.fault.FaultKind.TheVariants.{BareBackquote as NoName, DepthPassed, UndefinedMacro}
@@ -122,13 +122,13 @@ resumed_token rules os first t ts s o e w =
 -- a usage of a name that isn't defined
 pub usage_none : (rules : Rules) (s : State) (line_or_text : Option ℕ) (line : ℕ) (o : List (List ℕ)) (name : List ℕ) (xs : List Item)
     → is_reserved name ≡ false → macro_named s.macros name ≡ None
-    → usage_of rules s (item_reads line_or_text) line o name xs ≡ Refuses UndefinedMacro name line
+    → usage_of rules s (item_reads line_or_text) line o name xs ≡ UsageFault UndefinedMacro name line
 unfolding usage_of
 usage_none rules s line_or_text line o name xs r e = rw (r, e) refl
 
 -- what a usage writes in front of further items, by what it comes to
 unfoldable pub usage_walk : Rules → State → (ℕ → List (List ℕ) → List Item → Outcome) → Option ℕ → List (List ℕ) → ℕ → List Item → Usage Item → Outcome
-usage_walk rules s deeper line_or_text o line xs (Refuses f word at) = fails (fault_at f at word s)
+usage_walk rules s deeper line_or_text o line xs (UsageFault f word at) = fails (fault_at f at word s)
 usage_walk rules s deeper line_or_text o line xs (Opens m actuals used) =
     and_then (deeper line (m.name ∷ o) (substituted m actuals o)) (walk rules s deeper line_or_text o used xs)
 
@@ -138,17 +138,17 @@ pub usage_walks : (rules : Rules) (s : State) (deeper : ℕ → List (List ℕ) 
     → walk rules s deeper line_or_text o 0 (Written (record { sort = Ordinary Back; bytes = bytes; line = line }) ∷ xs)
     ≡ usage_walk rules s deeper line_or_text o (unwrap_or line_or_text line) xs u
 unfolding walk usage_walk name_of
-usage_walks rules s deeper line_or_text o bytes line xs (Refuses f word at) e = rw (e, walk) refl
+usage_walks rules s deeper line_or_text o bytes line xs (UsageFault f word at) e = rw (e, walk) refl
 usage_walks rules s deeper line_or_text o bytes line xs (Opens m actuals used) e = rw (e, walk) refl
 
 -- a run that begins with a usage that is refused fails with its fault
 pub run_refused : (rules : Rules) (s : State) (name : List ℕ) (line : ℕ) (us : List SourceToken) (f : FaultKind) (word : List ℕ) (at : ℕ)
-    → usage_of rules s (item_reads None) line [] name (map Written us) ≡ Refuses f word at
+    → usage_of rules s (item_reads None) line [] name (map Written us) ≡ UsageFault f word at
     → run_outcome rules s (usage_token name line ∷ us) ≡ fails (fault_at f at word s)
 unfolding run_outcome usage_walk
 run_refused rules s name line us f word at e =
     expand_walk rules s rules.depth None [] (map Written (usage_token name line ∷ us))
-    ∙ usage_walks rules s (deeper_of rules s rules.depth) None [] (96 ∷ name) line (map Written us) (Refuses f word at) e
+    ∙ usage_walks rules s (deeper_of rules s rules.depth) None [] (96 ∷ name) line (map Written us) (UsageFault f word at) e
 
 -- What a token of a run writes in front of the run behind it, and the directives that tokens begin.
 
@@ -588,11 +588,11 @@ resumed_defined rules os first bytes line more s macros e =
 
 -- a `define` that is refused ends its source
 pub resumed_refused : (rules : Rules) (os : List Progress) (first : Bool) (bytes : List ℕ) (line : ℕ) (more : List SourceToken) (s : State) (kind : FaultKind) (word : List ℕ)
-    → rules.define s.macros (drop 7 bytes) ≡ Refused kind word
+    → rules.define s.macros (drop 7 bytes) ≡ DefinitionFault kind word
     → resumed rules (Live os) first (record { sort = Definition; bytes = bytes; line = line } ∷ more) s
     ≡ leaves (fails (fault_at kind line word s)) s
 unfolding defines refusal
 resumed_refused rules os first bytes line more s kind word e =
-    resumed_define rules os first bytes line more s (Refused kind word) e
+    resumed_define rules os first bytes line more s (DefinitionFault kind word) e
     ∙ fails-goes_on (fault_at kind line word s) s
     (λ after. resume rules (included_meaning_of rules s.sources_left) (Live os) (pieces (only_blanks first bytes) 0 more) after)

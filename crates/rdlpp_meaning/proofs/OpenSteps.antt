@@ -11,7 +11,7 @@ use Rattle.rdlpp_scan.proofs.TokenLens.{token_of-part}
 use Rattle.rdlpp_table.specs.Table.{Formal, Macro}
 use Rattle.rdlpp_table.specs.View.{formal_named, formals_of, macro_at}
 use Rattle.rdlpp_meaning.specs.Actuals.{item_reads, item_role, item_size, kind_role, not_kept, text_reads, token_role}
-use Rattle.rdlpp_meaning.specs.Expansion.{Opens, Refuses, Usage, expand, is_copied, usage_of, walk}
+use Rattle.rdlpp_meaning.specs.Expansion.{Opens, UsageFault, Usage, expand, is_copied, usage_of, walk}
 use Rattle.rdlpp_meaning.specs.Items.{Arg, Item, Written, listed, packed, unlined, unlined_item}
 use Rattle.rdlpp_meaning.specs.OpenItems.{item_at, open_items, open_left, open_hide_set, own_item, part_items}
 use Rattle.rdlpp_meaning.specs.Opens.{AreOpen, Open, OpenActual, OpenBody, OpenDefault, OpenKind, Part, Texts, found_standing, open_behind, open_body, open_bytes, open_scope, own_text, own_hide_set, part_tokens, scope_formals, scope_open, scope_text, text_around, hide_set}
@@ -519,11 +519,11 @@ usage-walks-on rules s line depth texts x below u some back comes =
 
 -- (4, 5) a usage that is refused is its fault
 pub step-refused : (rules : Rules) (s : State) (line depth : ℕ) (texts : Texts) (x : Open) (below : List Open) (f : FaultKind) (word : List ℕ) (at : ℕ)
-    → 0 < length (open_bytes texts x below) → first_kind texts x below ≡ Back → first_usage rules s line texts x below ≡ Refuses f word at
+    → 0 < length (open_bytes texts x below) → first_kind texts x below ≡ Back → first_usage rules s line texts x below ≡ UsageFault f word at
     → open_left rules s line depth texts (x ∷ below) ≡ fails (fault_at f at word s)
 unfolding usage_walk map_usage
 step-refused rules s line depth texts x below f word at some back comes =
-    usage-walks-on rules s line depth texts x below (Refuses f word at) some back comes
+    usage-walks-on rules s line depth texts x below (UsageFault f word at) some back comes
     ∙ and_then-fails (fault_at f at word s) (open_left rules s line depth texts below)
 
 -- a usage that opens a body where no further text may be open is a fault

@@ -11,7 +11,7 @@ use Rattle.rdlpp_scan.specs.declared.token.Kind.{Kind}
 use Rattle.rdlpp_scan.specs.declared.token.Kind.TheVariants.{Back, BareBackquote, BlockComment, LineComment, Perl, Str}
 use Rattle.rdlpp_table.specs.Table.{Macro}
 use Rattle.rdlpp_meaning.specs.Expansion.{is_copied}
-use Rattle.rdlpp_meaning.specs.Meaning.{Holds, IncludedMeaning, Passage, Progress, Stopped, Test, begun, behind_bytes, by_test, goes_on, in_conditional, leaves, mean, mean_branches, mean_part, included_meaning_of, opening, origin_line, outcome, past_conditional, refusal, skip, skip_branches, skip_part, skipped_command, text_meaning, turn, turned, unclosed}
+use Rattle.rdlpp_meaning.specs.Meaning.{Holds, IncludedMeaning, Passage, Progress, TestFault, Test, begun, behind_bytes, by_test, goes_on, in_conditional, leaves, mean, mean_branches, mean_part, included_meaning_of, opening, origin_line, outcome, past_conditional, refusal, skip, skip_branches, skip_part, skipped_command, text_meaning, turn, turned, unclosed}
 use Rattle.rdlpp_meaning.specs.Outcome.{Outcome, Report, and_then, fails, gives}
 use Rattle.rdlpp_meaning.specs.Output.{opening_fault, output, start_state}
 use Rattle.rdlpp_meaning.specs.OutputLimit.{limited}
@@ -342,7 +342,7 @@ by_test-goes_on : (t : Test) (c : Command) (s : State) (live skipped live' skipp
     → live s ≡ goes_on (live' s) next → skipped s ≡ goes_on (skipped' s) next
     → by_test t c s live skipped ≡ goes_on (by_test t c s live' skipped') next
 unfolding by_test
-by_test-goes_on (Stopped kind word) c s live skipped live' skipped' next e f = refusal-goes_on kind word c s next
+by_test-goes_on (TestFault kind word) c s live skipped live' skipped' next e f = refusal-goes_on kind word c s next
 by_test-goes_on (Holds true) c s live skipped live' skipped' next e f = e
 by_test-goes_on (Holds false) c s live skipped live' skipped' next e f = f
 

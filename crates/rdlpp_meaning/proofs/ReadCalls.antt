@@ -15,9 +15,9 @@ use Rattle.rdlpp_scan.specs.declared.token.Mode.TheVariants.{InBlock, InStr, Pla
 use Rattle.rdlpp_scan.proofs.RemainingLaws.{after_step, course, step-end_of, tokens_step}
 use Rattle.rdlpp_scan.proofs.StopKinds.{block_token-kind, string_token-kind}
 use Rattle.rdlpp_scan.proofs.TokenSteps.{comment_rest, end_of, string_rest}
-use Rattle.rdlpp_meaning.specs.Actuals.{Broke, Cut, Down, Dropped, End, Ends, Halt, Lacking, KeptComment, Role, Space, Start, Stops, Text, Up, broken_role, kept, kept_size, kind_role, level_behind, map_call, token_role}
+use Rattle.rdlpp_meaning.specs.Actuals.{CallBreakFault, Cut, Down, Dropped, End, Ends, Halt, CallFault, KeptComment, Role, Space, Start, Stops, Text, Up, broken_role, kept, kept_size, kind_role, level_behind, map_call, token_role}
 use Rattle.rdlpp_meaning.specs.CallReading.{ReadClosed, Reading, ReadRefused, ReadStopped, is_part_breach, is_part_sort, onto_kept, part_kept, read, read_by, reading_of, rest_role, role_in}
-use Rattle.rdlpp_meaning.specs.CallScan.{Before, Breaks, Closed, Closes, Inside, IsClosed, Keeps, Passes, Refused, Refuses, Scanned, CallState, Stopped, Turn, call_of, call_of_scan, is_call_text, is_kept, level_of_things, room_behind, scan, scan_onto, scanned, source_role, call_state_behind, call_state_behind_lead, turn, turn_before, turn_fitting, turn_inside}
+use Rattle.rdlpp_meaning.specs.CallScan.{Before, Breaks, Closed, Closes, Inside, IsClosed, Keeps, Passes, ScanFault, TurnFault, Scanned, CallState, ScanBreakFault, Turn, call_of, call_of_scan, is_call_text, is_kept, level_of_things, room_behind, scan, scan_onto, scanned, source_role, call_state_behind, call_state_behind_lead, turn, turn_before, turn_fitting, turn_inside}
 use Rattle.rdlpp_meaning.specs.Expansion.{bytes_of}
 use Rattle.rdlpp_meaning.specs.Items.{unlined}
 use Rattle.rdlpp_meaning.specs.Parts.{directive_of}
@@ -37,7 +37,7 @@ unfoldable TurnFacts : Role → ℕ → Turn → Type 0
 TurnFacts r k Passes = (is_kept r ≡ false) × (is_call_text r ≡ true)
 TurnFacts r k Keeps = (is_kept r ≡ true) × (is_call_text r ≡ true)
 TurnFacts r k Closes = (r ≡ End) × (k ≡ 0)
-TurnFacts r k (Refuses f) = Unit {0}
+TurnFacts r k (TurnFault f) = Unit {0}
 TurnFacts r k (Breaks f line) = Unit {0}
 
 -- text that fits or not
@@ -85,8 +85,8 @@ pub record IsClosedInside {A : Type 0} (role : A → Role) (k : ℕ) (xs kept : 
 onto_closed : {A : Type 0} (front : List A) (s : Scanned A) (kept : List A) (used : ℕ) → scan_onto front s ≡ Closed kept used
     → (ks : List A) × ((n : ℕ) × ((s ≡ Closed ks n) × ((kept ≡ front ++ ks) × (used ≡ suc n))))
 unfolding scan_onto
-onto_closed front (Refused f) kept used e = absurd (cc)
-onto_closed front (Stopped f line) kept used e = absurd (cc)
+onto_closed front (ScanFault f) kept used e = absurd (cc)
+onto_closed front (ScanBreakFault f line) kept used e = absurd (cc)
 onto_closed front (Closed ks n) kept used e = (ks, (n, (refl, (cc, cc))))
 
 -- two scans that close are one in what they keep and take
@@ -184,7 +184,7 @@ inside_by {A = A} role k x xs kept used Closes s facts rest e =
       keeps = sym (closed_kept [] kept 1 used e).0;
       takes = sym (closed_kept [] kept 1 used e).1;
     }
-inside_by role k x xs kept used (Refuses f) s facts rest e = absurd (cc)
+inside_by role k x xs kept used (TurnFault f) s facts rest e = absurd (cc)
 inside_by role k x xs kept used (Breaks f line) s facts rest e = absurd (cc)
 
 -- how a scan from behind the `(` that closes lies in its things
@@ -259,14 +259,14 @@ onto_kept-append x y (ReadClosed bytes behind) = ap (λ z. ReadClosed z behind) 
 reading_front : (t : SourceToken) (ts : List SourceToken) (at : Turn) (s : Scanned SourceToken)
     → read_by at t ts (reading_of ts s) ≡ reading_of (t ∷ ts) (scanned at t s)
 unfolding read_by reading_of scanned scan_onto onto_kept
-reading_front t ts Passes (Refused f) = refl
-reading_front t ts Passes (Stopped f line) = refl
+reading_front t ts Passes (ScanFault f) = refl
+reading_front t ts Passes (ScanBreakFault f line) = refl
 reading_front t ts Passes (Closed kept used) = refl
-reading_front t ts Keeps (Refused f) = refl
-reading_front t ts Keeps (Stopped f line) = refl
+reading_front t ts Keeps (ScanFault f) = refl
+reading_front t ts Keeps (ScanBreakFault f line) = refl
 reading_front t ts Keeps (Closed kept used) = refl
 reading_front t ts Closes s = refl
-reading_front t ts (Refuses f) s = refl
+reading_front t ts (TurnFault f) s = refl
 reading_front t ts (Breaks f line) s = refl
 
 -- reading whole tokens is their scan
@@ -533,35 +533,35 @@ comment_remains most o l held room rest =
 closed_reading : (ts : List SourceToken) (s : Scanned SourceToken) (bytes : List ℕ) (behind : List SourceToken) → reading_of ts s ≡ ReadClosed bytes behind
     → (ks : List SourceToken) × ((used : ℕ) × ((s ≡ Closed ks used) × ((bytes_of ks ≡ bytes) × (drop used ts ≡ behind))))
 unfolding reading_of
-closed_reading ts (Refused f) bytes behind e = absurd (cc)
-closed_reading ts (Stopped f line) bytes behind e = absurd (cc)
+closed_reading ts (ScanFault f) bytes behind e = absurd (cc)
+closed_reading ts (ScanBreakFault f line) bytes behind e = absurd (cc)
 closed_reading ts (Closed ks used) bytes behind e = (ks, (used, (refl, (cc, cc))))
 
 -- a reading that is refused is a call that lacks something
-refused_reading : (ts : List SourceToken) (s : Scanned SourceToken) (f : FaultKind) → reading_of ts s ≡ ReadRefused f → call_of_scan token_role 0 s ≡ Lacking f
+refused_reading : (ts : List SourceToken) (s : Scanned SourceToken) (f : FaultKind) → reading_of ts s ≡ ReadRefused f → call_of_scan token_role 0 s ≡ CallFault f
 unfolding reading_of call_of_scan
-refused_reading ts (Refused g) f e = cc
-refused_reading ts (Stopped g line) f e = absurd (cc)
+refused_reading ts (ScanFault g) f e = cc
+refused_reading ts (ScanBreakFault g line) f e = absurd (cc)
 refused_reading ts (Closed ks used) f e = absurd (cc)
 
 -- a reading that stops is a call that breaks
 stopped_reading : (ts : List SourceToken) (s : Scanned SourceToken) (f : FaultKind) (line : ℕ) → reading_of ts s ≡ ReadStopped f line
-    → call_of_scan token_role 0 s ≡ Broke f line
+    → call_of_scan token_role 0 s ≡ CallBreakFault f line
 unfolding reading_of call_of_scan
-stopped_reading ts (Refused g) f line e = absurd (cc)
-stopped_reading ts (Stopped g at) f line e = cc
+stopped_reading ts (ScanFault g) f line e = absurd (cc)
+stopped_reading ts (ScanBreakFault g at) f line e = cc
 stopped_reading ts (Closed ks used) f line e = absurd (cc)
 
 -- where reading is refused, the call lacks that
 pub read_refused : (room : ℕ) (ts : List SourceToken) (f : FaultKind) → read Before false room ts ≡ ReadRefused f
-    → call_of token_role kept room (leading ts) ≡ Lacking f
+    → call_of token_role kept room (leading ts) ≡ CallFault f
 read_refused room ts f e =
     call_of_source kept room ts
     ∙ refused_reading ts (scan source_role kept Before room ts) f (sym (read_is_scan ts Before room) ∙ e)
 
 -- where reading stops at a broken token, the call breaks there
 pub read_stopped : (room : ℕ) (ts : List SourceToken) (f : FaultKind) (line : ℕ) → read Before false room ts ≡ ReadStopped f line
-    → call_of token_role kept room (leading ts) ≡ Broke f line
+    → call_of token_role kept room (leading ts) ≡ CallBreakFault f line
 read_stopped room ts f line e =
     call_of_source kept room ts
     ∙ stopped_reading ts (scan source_role kept Before room ts) f line (sym (read_is_scan ts Before room) ∙ e)

@@ -10,9 +10,9 @@ use Rattle.rdlpp_scan.specs.declared.token.Kind.TheVariants.{Back}
 use Rattle.rdlpp_scan.specs.declared.token.Mode.TheVariants.{Plain}
 use Rattle.rdlpp_scan.specs.declared.token.Token.{Token}
 use Rattle.rdlpp_table.specs.Table.{Formal, Macro, macro_named}
-use Rattle.rdlpp_meaning.specs.Actuals.{Bound, Broke, Call, Cut, Halt, Lacking, Reads, Role, Text, actual_of, behind_space, is_space, item_reads, item_role, item_size, kept, kind_role, level_behind, map_call, source_reads, text_reads, token_role, trimmed}
-use Rattle.rdlpp_meaning.specs.CallScan.{Before, Breaks, Closed, Closes, Keeps as KeepsThing, Passes, Refused, Refuses as RefusesThing, Scanned, Split, CallState, Stopped, Turn, all_parts, call_of, call_of_scan, is_kept, room_behind, scan, scan_onto, scanned, source_role, split, split_by, call_state_behind, turn}
-use Rattle.rdlpp_meaning.specs.Expansion.{Opens, Refuses, Usage, bound_parts, bytes_of, expand, is_count, run_outcome, usage_of, usage_of_call, usage_of_formals, usage_of_macro, usage_token, walk}
+use Rattle.rdlpp_meaning.specs.Actuals.{Bound, CallBreakFault, Call, Cut, Halt, CallFault, Reads, Role, Text, actual_of, behind_space, is_space, item_reads, item_role, item_size, kept, kind_role, level_behind, map_call, source_reads, text_reads, token_role, trimmed}
+use Rattle.rdlpp_meaning.specs.CallScan.{Before, Breaks, Closed, Closes, Keeps as KeepsThing, Passes, ScanFault, TurnFault as RefusesThing, Scanned, Split, CallState, ScanBreakFault, Turn, all_parts, call_of, call_of_scan, is_kept, room_behind, scan, scan_onto, scanned, source_role, split, split_by, call_state_behind, turn}
+use Rattle.rdlpp_meaning.specs.Expansion.{Opens, UsageFault, Usage, bound_parts, bytes_of, expand, is_count, run_outcome, usage_of, usage_of_call, usage_of_formals, usage_of_macro, usage_token, walk}
 use Rattle.rdlpp_meaning.specs.Items.{Arg, Item, Written, broken_line, unlined, unlined_item}
 use Rattle.rdlpp_meaning.specs.Meaning.{Passage, Progress, goes_on, leaves}
 use Rattle.rdlpp_meaning.specs.Outcome.{Outcome, and_then, fails}
@@ -73,7 +73,7 @@ resumed_usage rules os first name line ts s m actuals used r e =
 pub resumed_refused : (rules : Rules) (os : List Progress) (first : Bool) (name : List ℕ) (line : ℕ) (ts : List SourceToken) (s : State)
     (f : FaultKind) (word : List ℕ) (at : ℕ)
     → is_reserved name ≡ false
-    → usage_of rules s (item_reads None) line [] name (map Written (leading ts)) ≡ Refuses f word at
+    → usage_of rules s (item_reads None) line [] name (map Written (leading ts)) ≡ UsageFault f word at
     → resumed rules (Live os) first (usage_token name line ∷ ts) s ≡ leaves (fails (fault_at f at word s)) s
 resumed_refused rules os first name line ts s f word at r e =
     let t = usage_token name line in
@@ -88,18 +88,18 @@ resumed_refused rules os first name line ts s f word at r e =
 
 -- a scan of what things become
 unfoldable map_scan : {A B : Type 0} → (A → B) → Scanned A → Scanned B
-map_scan f (Refused k) = Refused k
-map_scan f (Stopped k line) = Stopped k line
+map_scan f (ScanFault k) = ScanFault k
+map_scan f (ScanBreakFault k line) = ScanBreakFault k line
 map_scan f (Closed kept used) = Closed (map f kept) used
 
 -- a thing of a scan
 scanned-map : {A B : Type 0} (f : A → B) (t : Turn) (x : A) (s : Scanned A) → scanned t (f x) (map_scan f s) ≡ map_scan f (scanned t x s)
 unfolding scanned scan_onto map_scan
-scanned-map f Passes x (Refused k) = refl
-scanned-map f Passes x (Stopped k line) = refl
+scanned-map f Passes x (ScanFault k) = refl
+scanned-map f Passes x (ScanBreakFault k line) = refl
 scanned-map f Passes x (Closed kept used) = refl
-scanned-map f KeepsThing x (Refused k) = refl
-scanned-map f KeepsThing x (Stopped k line) = refl
+scanned-map f KeepsThing x (ScanFault k) = refl
+scanned-map f KeepsThing x (ScanBreakFault k line) = refl
 scanned-map f KeepsThing x (Closed kept used) = refl
 scanned-map f Closes x s = refl
 scanned-map f (RefusesThing k) x s = refl
@@ -147,8 +147,8 @@ split-map {B = B} role role' f keeps k (x ∷ xs) =
 scan_call-map : {A B : Type 0} (role : A → Role) (role' : B → Role) (f : A → B) → ((x : A) → role' (f x) ≡ role x) → (k : ℕ) (s : Scanned A)
     → call_of_scan role' k (map_scan f s) ≡ map_call f (call_of_scan role k s)
 unfolding call_of_scan map_call map_scan
-scan_call-map role role' f keeps k (Refused e) = refl
-scan_call-map role role' f keeps k (Stopped e line) = refl
+scan_call-map role role' f keeps k (ScanFault e) = refl
+scan_call-map role role' f keeps k (ScanBreakFault e line) = refl
 scan_call-map role role' f keeps k (Closed kept used) = rw (split-map role role' f keeps k kept) refl
 
 -- and so does that of one which closed
@@ -202,7 +202,7 @@ trimmed-map {B = B} role role' f keeps xs =
 
 -- a usage with its actuals as what they become
 unfoldable pub map_usage : {A B : Type 0} → (A → B) → Usage A → Usage B
-map_usage f (Refuses k word line) = Refuses k word line
+map_usage f (UsageFault k word line) = UsageFault k word line
 map_usage f (Opens m actuals used) = Opens m (map (map f) actuals) used
 
 -- a choice of usages
@@ -251,14 +251,14 @@ module _ {A B : Type 0} (reads : Reads A) (reads' : Reads B) (f : A → B) (k : 
   call-usage : (m : Macro) (formals : List Formal) (line : ℕ) (name : List ℕ) (c : Call A)
       → usage_of_call reads' m formals line name (map_call f c) ≡ map_usage f (usage_of_call reads m formals line name c)
   unfolding usage_of_call map_call map_usage
-  call-usage m formals line name (Lacking f) = refl
-  call-usage m formals line name (Broke f own) = refl
+  call-usage m formals line name (CallFault f) = refl
+  call-usage m formals line name (CallBreakFault f own) = refl
   call-usage m formals line name (Bound first further used) =
       let parts = map (actual_of reads) (first ∷ further) in
-      ap (λ (xs : List (List B)). if is_count formals xs then Opens m (bound_parts formals xs) used else Refuses ArgumentCount name line) (actuals-map (first ∷ further))
-      ∙ ap (λ (b : Bool). if b then Opens m (bound_parts formals (map (map f) parts)) used else Refuses ArgumentCount name line) (count-parts formals f parts)
-      ∙ ap (λ (xs : List (List B)). if is_count formals parts then Opens m xs used else Refuses ArgumentCount name line) (bound-map (map f) formals parts)
-      ∙ choice-usage f (is_count formals parts) (Opens m (bound_parts formals parts) used) (Refuses ArgumentCount name line)
+      ap (λ (xs : List (List B)). if is_count formals xs then Opens m (bound_parts formals xs) used else UsageFault ArgumentCount name line) (actuals-map (first ∷ further))
+      ∙ ap (λ (b : Bool). if b then Opens m (bound_parts formals (map (map f) parts)) used else UsageFault ArgumentCount name line) (count-parts formals f parts)
+      ∙ ap (λ (xs : List (List B)). if is_count formals parts then Opens m xs used else UsageFault ArgumentCount name line) (bound-map (map f) formals parts)
+      ∙ choice-usage f (is_count formals parts) (Opens m (bound_parts formals parts) used) (UsageFault ArgumentCount name line)
 
   -- a usage by its macro's formals
   formals-usage : (rules : Rules) (line : ℕ) (name : List ℕ) (xs : List A) (m : Macro) (formals : Option (List Formal))
@@ -274,13 +274,13 @@ module _ {A B : Type 0} (reads : Reads A) (reads' : Reads B) (f : A → B) (k : 
       → usage_of_macro rules reads' line o name (map f xs) m ≡ map_usage f (usage_of_macro rules reads line o name xs m)
   unfolding usage_of_macro map_usage
   macro-usage rules line o name xs m =
-      ap (λ (u : Usage B). if list_any (bytes_eq name) o then Refuses RecursiveMacro name line else u) (formals-usage rules line name xs m m.formals)
-      ∙ choice-usage f (list_any (bytes_eq name) o) (Refuses RecursiveMacro name line) (usage_of_formals rules reads line name xs m m.formals)
+      ap (λ (u : Usage B). if list_any (bytes_eq name) o then UsageFault RecursiveMacro name line else u) (formals-usage rules line name xs m m.formals)
+      ∙ choice-usage f (list_any (bytes_eq name) o) (UsageFault RecursiveMacro name line) (usage_of_formals rules reads line name xs m m.formals)
 
   -- a usage by what its name is
   found-usage : (rules : Rules) (line : ℕ) (o : List (List ℕ)) (name : List ℕ) (xs : List A) (found : Option Macro)
-      → (elim found [ None ↦ Refuses UndefinedMacro name line | Some m ↦ usage_of_macro rules reads' line o name (map f xs) m ])
-      ≡ map_usage f (elim found [ None ↦ Refuses UndefinedMacro name line | Some m ↦ usage_of_macro rules reads line o name xs m ])
+      → (elim found [ None ↦ UsageFault UndefinedMacro name line | Some m ↦ usage_of_macro rules reads' line o name (map f xs) m ])
+      ≡ map_usage f (elim found [ None ↦ UsageFault UndefinedMacro name line | Some m ↦ usage_of_macro rules reads line o name xs m ])
   unfolding map_usage
   found-usage rules line o name xs None = refl
   found-usage rules line o name xs (Some m) = macro-usage rules line o name xs m
@@ -290,9 +290,9 @@ module _ {A B : Type 0} (reads : Reads A) (reads' : Reads B) (f : A → B) (k : 
       → usage_of rules s reads' line o name (map f xs) ≡ map_usage f (usage_of rules s reads line o name xs)
   unfolding usage_of map_usage
   usage-map rules s line o name xs =
-      ap (λ (u : Usage B). if is_reserved name then Refuses DirectiveInText name line else u) (found-usage rules line o name xs (macro_named s.macros name))
-      ∙ choice-usage f (is_reserved name) (Refuses DirectiveInText name line)
-      (elim (macro_named s.macros name) [ None ↦ Refuses UndefinedMacro name line | Some m ↦ usage_of_macro rules reads line o name xs m ])
+      ap (λ (u : Usage B). if is_reserved name then UsageFault DirectiveInText name line else u) (found-usage rules line o name xs (macro_named s.macros name))
+      ∙ choice-usage f (is_reserved name) (UsageFault DirectiveInText name line)
+      (elim (macro_named s.macros name) [ None ↦ UsageFault UndefinedMacro name line | Some m ↦ usage_of_macro rules reads line o name xs m ])
 
 -- tokens of a source as they are written
 source-keeps : KeepsReads source_reads (item_reads None) Written
@@ -327,7 +327,7 @@ resumed_opens rules os first name line ts s d m actuals used r depth e =
 pub resumed_refuses : (rules : Rules) (os : List Progress) (first : Bool) (name : List ℕ) (line : ℕ) (ts : List SourceToken) (s : State)
     (f : FaultKind) (word : List ℕ) (at : ℕ)
     → is_reserved name ≡ false
-    → usage_of rules s source_reads line [] name (leading ts) ≡ Refuses f word at
+    → usage_of rules s source_reads line [] name (leading ts) ≡ UsageFault f word at
     → resumed rules (Live os) first (usage_token name line ∷ ts) s ≡ leaves (fails (fault_at f at word s)) s
 unfolding map_usage
 resumed_refuses rules os first name line ts s f word at r e =

@@ -9,8 +9,8 @@ use Rattle.rdlpp_scan.specs.declared.token.Directive.TheVariants.{Define, Else, 
 use Rattle.rdlpp_scan.specs.declared.token.Kind.TheVariants.{Back, Blank}
 use Rattle.rdlpp_table.specs.Table.{Formal, Macro, macro_named}
 use Rattle.rdlpp_meaning.specs.Actuals.{Dropped, End, Ends, Halt, Reads, Role, Space, Stops, Text, item_role, token_role}
-use Rattle.rdlpp_meaning.specs.CallScan.{Before, Breaks, Closed, Closes, Inside, Keeps, Passes, Refused, Refuses as RefusesThing, Scanned, CallState, Stopped, Turn, call_of_scan, fault_at_end, room_behind, scan, scan_onto, scanned, call_state_behind, turn, turn_before, turn_fitting, turn_inside}
-use Rattle.rdlpp_meaning.specs.Expansion.{Opens, Refuses, Usage, usage_of, usage_of_call, usage_of_formals, usage_of_macro}
+use Rattle.rdlpp_meaning.specs.CallScan.{Before, Breaks, Closed, Closes, Inside, Keeps, Passes, ScanFault, TurnFault as RefusesThing, Scanned, CallState, ScanBreakFault, Turn, call_of_scan, fault_at_end, room_behind, scan, scan_onto, scanned, call_state_behind, turn, turn_before, turn_fitting, turn_inside}
+use Rattle.rdlpp_meaning.specs.Expansion.{Opens, UsageFault, Usage, usage_of, usage_of_call, usage_of_formals, usage_of_macro}
 use Rattle.rdlpp_meaning.specs.Items.{Written}
 use Rattle.rdlpp_meaning.specs.LimitLaws.{is_limit}
 use Rattle.rdlpp_meaning.specs.Parts.{Argument, Branching, Closing, Command, Opening, Piece, Run, Single, argument_of, behind_blanks, command_of, directive_named, directive_of, joined, name_in_front, no_argument, one_argument, only_blanks, past_blanks, piece_of, pieces, string_in_front}
@@ -57,14 +57,14 @@ IsTail role (t ∷ ts) zs = TornBy role (role t) zs
 
 -- a scan that a limit ends
 unfoldable IsLimited : {A : Type 0} → Scanned A → Type 0
-IsLimited (Refused f) = is_limit f ≡ true
-IsLimited (Stopped f line) = is_limit f ≡ true
+IsLimited (ScanFault f) = is_limit f ≡ true
+IsLimited (ScanBreakFault f line) = is_limit f ≡ true
 IsLimited (Closed kept used) = ⊥
 
 -- a scan takes at most so many things
 unfoldable TakesUpTo : {A : Type 0} → ℕ → Scanned A → Type 0
-TakesUpTo n (Refused f) = Unit
-TakesUpTo n (Stopped f line) = Unit
+TakesUpTo n (ScanFault f) = Unit
+TakesUpTo n (ScanBreakFault f line) = Unit
 TakesUpTo n (Closed kept used) = used ≤ n
 
 -- a scan that a limit ends, or the same, of at most so many things
@@ -74,11 +74,11 @@ ScanTorn n c d = IsLimited c ⊎ ((d ≡ c) × TakesUpTo n c)
 -- with a thing in front
 onto-torn : {A : Type 0} (n : ℕ) (front : List A) (c d : Scanned A) → ScanTorn n c d → ScanTorn (suc n) (scan_onto front c) (scan_onto front d)
 unfolding ScanTorn IsLimited TakesUpTo scan_onto
-onto-torn n front (Refused f) d (inl h) = inl h
-onto-torn n front (Stopped f line) d (inl h) = inl h
+onto-torn n front (ScanFault f) d (inl h) = inl h
+onto-torn n front (ScanBreakFault f line) d (inl h) = inl h
 onto-torn n front (Closed kept used) d (inl h) = absurd h
-onto-torn n front (Refused f) d (inr h) = inr (ap (scan_onto front) h.0, tt)
-onto-torn n front (Stopped f line) d (inr h) = inr (ap (scan_onto front) h.0, tt)
+onto-torn n front (ScanFault f) d (inr h) = inr (ap (scan_onto front) h.0, tt)
+onto-torn n front (ScanBreakFault f line) d (inr h) = inr (ap (scan_onto front) h.0, tt)
 onto-torn n front (Closed kept used) d (inr h) = inr (ap (scan_onto front) h.0, (let le = h.1 in omega (arith, le)))
 
 -- by what the scan does at it
@@ -119,7 +119,7 @@ step-torn {A} at r fits more x n c d imp h =
     (fitting at r fits more imp)
 
 -- a string behind the name of a macro isn't passed
-string-missing : {A : Type 0} (r : Role) (x : A) (rest : Scanned A) → IsStringRole r → scanned (turn_before r) x rest ≡ Refused ArgumentsMissing
+string-missing : {A : Type 0} (r : Role) (x : A) (rest : Scanned A) → IsStringRole r → scanned (turn_before r) x rest ≡ ScanFault ArgumentsMissing
 unfolding IsStringRole turn_before scanned
 string-missing Text x rest h = refl
 string-missing (Ends f line) x rest h = refl
@@ -128,7 +128,7 @@ string-missing r x rest h = absurd h
 
 -- where the run ends, the scan does as nothing more does
 scan-halts : {A : Type 0} (role : A → Role) (size : A → ℕ) (at : CallState) (room : ℕ) (us : List A) → FollowsHalt role us
-    → scan role size at room us ≡ Refused (fault_at_end at)
+    → scan role size at room us ≡ ScanFault (fault_at_end at)
 unfolding FollowsHalt scan
 scan-halts role size at room [] h = refl
 scan-halts role size at room (u ∷ us) h =
@@ -174,12 +174,12 @@ scan-torn role size at room most (x ∷ xs) ys zs h tail =
 
 -- a usage that a limit refuses
 unfoldable pub IsLimitedUsage : {A : Type 0} → Usage A → Type 0
-IsLimitedUsage (Refuses f word line) = is_limit f ≡ true
+IsLimitedUsage (UsageFault f word line) = is_limit f ≡ true
 IsLimitedUsage (Opens m actuals used) = ⊥
 
 -- a usage takes at most so many things
 unfoldable pub UsesUpTo : {A : Type 0} → ℕ → Usage A → Type 0
-UsesUpTo n (Refuses f word line) = Unit
+UsesUpTo n (UsageFault f word line) = Unit
 UsesUpTo n (Opens m actuals used) = used ≤ n
 
 -- a usage that a limit refuses, or the same, of at most so many things
@@ -193,14 +193,14 @@ choice-torn n true u v u' v' h k = h
 choice-torn n false u v u' v' h k = k
 
 -- one that is refused alike
-refused-torn : (A : Type 0) (n : ℕ) (f : FaultKind) (word : List ℕ) (line : ℕ) → UsageTorn {A = A} n (Refuses f word line) (Refuses f word line)
+refused-torn : (A : Type 0) (n : ℕ) (f : FaultKind) (word : List ℕ) (line : ℕ) → UsageTorn {A = A} n (UsageFault f word line) (UsageFault f word line)
 unfolding UsageTorn UsesUpTo
 refused-torn A n f word line = inr (refl, tt)
 
 module _ {A : Type 0} (reads : Reads A) (line : ℕ) (name : List ℕ) where
   -- a usage uses what its call takes
   counted-uses : (n : ℕ) (test : Bool) (m : Macro) (actuals : List (List A)) (used : ℕ) → used ≤ n
-      → UsesUpTo n (if test then Opens m actuals used else Refuses ArgumentCount name line)
+      → UsesUpTo n (if test then Opens m actuals used else UsageFault ArgumentCount name line)
   unfolding UsesUpTo
   counted-uses n true m actuals used h = h
   counted-uses n false m actuals used h = tt
@@ -209,11 +209,11 @@ module _ {A : Type 0} (reads : Reads A) (line : ℕ) (name : List ℕ) where
   scan-usage : (m : Macro) (formals : List Formal) (n : ℕ) (c d : Scanned A) → ScanTorn n c d
       → UsageTorn n (usage_of_call reads m formals line name (call_of_scan reads.role 0 c)) (usage_of_call reads m formals line name (call_of_scan reads.role 0 d))
   unfolding ScanTorn IsLimited TakesUpTo UsageTorn IsLimitedUsage UsesUpTo usage_of_call call_of_scan
-  scan-usage m formals n (Refused f) d (inl h) = inl h
-  scan-usage m formals n (Stopped f own) d (inl h) = inl h
+  scan-usage m formals n (ScanFault f) d (inl h) = inl h
+  scan-usage m formals n (ScanBreakFault f own) d (inl h) = inl h
   scan-usage m formals n (Closed kept used) d (inl h) = absurd h
-  scan-usage m formals n (Refused f) d (inr h) = inr (ap (λ (s : Scanned A). usage_of_call reads m formals line name (call_of_scan reads.role 0 s)) h.0, tt)
-  scan-usage m formals n (Stopped f own) d (inr h) = inr (ap (λ (s : Scanned A). usage_of_call reads m formals line name (call_of_scan reads.role 0 s)) h.0, tt)
+  scan-usage m formals n (ScanFault f) d (inr h) = inr (ap (λ (s : Scanned A). usage_of_call reads m formals line name (call_of_scan reads.role 0 s)) h.0, tt)
+  scan-usage m formals n (ScanBreakFault f own) d (inr h) = inr (ap (λ (s : Scanned A). usage_of_call reads m formals line name (call_of_scan reads.role 0 s)) h.0, tt)
   scan-usage m formals n (Closed kept used) d (inr h) =
       inr (ap (λ (s : Scanned A). usage_of_call reads m formals line name (call_of_scan reads.role 0 s)) h.0, counted-uses n _ m _ used h.1)
 
@@ -229,8 +229,8 @@ module _ {A : Type 0} (reads : Reads A) (line : ℕ) (name : List ℕ) where
     -- a usage by what its name is
     found-torn : (o : List (List ℕ)) (found : Option Macro)
         → UsageTorn (length xs)
-        (elim found [ None ↦ Refuses UndefinedMacro name line | Some m ↦ usage_of_macro rules reads line o name (xs ++ ys) m ])
-        (elim found [ None ↦ Refuses UndefinedMacro name line | Some m ↦ usage_of_macro large reads line o name (xs ++ zs) m ])
+        (elim found [ None ↦ UsageFault UndefinedMacro name line | Some m ↦ usage_of_macro rules reads line o name (xs ++ ys) m ])
+        (elim found [ None ↦ UsageFault UndefinedMacro name line | Some m ↦ usage_of_macro large reads line o name (xs ++ zs) m ])
     unfolding usage_of_macro
     found-torn o None = refused-torn A (length xs) UndefinedMacro name line
     found-torn o (Some m) =

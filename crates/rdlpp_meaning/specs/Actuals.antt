@@ -20,14 +20,14 @@ pub data Role : Type 0 where
 -- what a call comes to: its own fault, that of a broken token at its line, or the first part between its parentheses,
 -- the further parts, and how many things it took (source: this project's profile)
 pub data Call (A : Type 0) : Type 0 where
-  Lacking : FaultKind → Call A
-  Broke : FaultKind → ℕ → Call A
+  CallFault : FaultKind → Call A
+  CallBreakFault : FaultKind → ℕ → Call A
   Bound : List A → List (List A) → ℕ → Call A
 
 -- a call of what things become (source: this project's profile)
 unfoldable pub map_call : {A B : Type 0} → (A → B) → Call A → Call B
-map_call f (Lacking k) = Lacking k
-map_call f (Broke k line) = Broke k line
+map_call f (CallFault k) = CallFault k
+map_call f (CallBreakFault k line) = CallBreakFault k line
 map_call f (Bound first further used) = Bound (map f first) (map (map f) further) used
 
 -- the level of openers behind a thing (source: this project's profile)

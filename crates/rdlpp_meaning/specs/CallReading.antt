@@ -9,7 +9,7 @@ use Rattle.rdlpp_meaning.specs.declared.fault.FaultKind.{FaultKind}
 use Rattle.rdlpp_meaning.specs.declared.fault.FaultKind.TheVariants.{ArgumentBytes}
 use Rattle.rdlpp_meaning.specs.State.{breach_kind}
 use Rattle.rdlpp_meaning.specs.Actuals.{Role, Stops, Text, kind_role}
-use Rattle.rdlpp_meaning.specs.CallScan.{CallState, Turn, Passes, Keeps, Closes, Refuses, Breaks, turn, call_state_behind, room_behind, fault_at_end, Scanned, Refused, Stopped, Closed, source_role}
+use Rattle.rdlpp_meaning.specs.CallScan.{CallState, Turn, Passes, Keeps, Closes, TurnFault, Breaks, turn, call_state_behind, room_behind, fault_at_end, Scanned, ScanFault, ScanBreakFault, Closed, source_role}
 use Rattle.rdlpp_meaning.specs.Expansion.{bytes_of}
 
 -- what reading a call comes to: a fault of its own, that of a broken token at its line, or the bytes that it keeps and the
@@ -43,7 +43,7 @@ unfoldable pub read_by : Turn → SourceToken → List SourceToken → Reading �
 read_by Passes t ts rest = rest
 read_by Keeps t ts rest = onto_kept t.bytes rest
 read_by Closes t ts rest = ReadClosed [] ts
-read_by (Refuses f) t ts rest = ReadRefused f
+read_by (TurnFault f) t ts rest = ReadRefused f
 read_by (Breaks f line) t ts rest = ReadStopped f line
 
 -- what a call keeps of tokens of a source, from where its scan stands, with room for so many kept bytes; the flag says that
@@ -57,8 +57,8 @@ read at part room (t ∷ ts) =
 
 -- a scan of tokens as reading: the bytes of what it keeps, and the tokens behind what it takes
 unfoldable pub reading_of : List SourceToken → Scanned SourceToken → Reading
-reading_of ts (Refused f) = ReadRefused f
-reading_of ts (Stopped f line) = ReadStopped f line
+reading_of ts (ScanFault f) = ReadRefused f
+reading_of ts (ScanBreakFault f line) = ReadStopped f line
 reading_of ts (Closed kept used) = ReadClosed (bytes_of kept) (drop used ts)
 
 -- whether a breach can break a string or a comment

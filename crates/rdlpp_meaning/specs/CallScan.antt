@@ -4,7 +4,7 @@ use Rattle.std.specs.Prelude.{◌≡◌, ℕ, zero, suc, ◌+◌, ◌-◌, Bool,
 use Rattle.rdlpp_scan.specs.SourceTokens.{SourceToken}
 use Rattle.rdlpp_meaning.specs.declared.fault.FaultKind.{FaultKind}
 use Rattle.rdlpp_meaning.specs.declared.fault.FaultKind.TheVariants.{ArgumentsMissing, ArgumentsOpen, ArgumentBytes}
-use Rattle.rdlpp_meaning.specs.Actuals.{Role, Space, Dropped, KeptComment, Start, End, Cut, Halt, Ends, Stops, Call, Lacking, Broke, Bound, level_behind, kept_size, token_role}
+use Rattle.rdlpp_meaning.specs.Actuals.{Role, Space, Dropped, KeptComment, Start, End, Cut, Halt, Ends, Stops, Call, CallFault, CallBreakFault, Bound, level_behind, kept_size, token_role}
 use Rattle.rdlpp_meaning.specs.Parts.{directive_of}
 
 -- where the scan of a call stands: before its `(`, or behind it at a level of openers (source: this project's profile)
@@ -16,7 +16,7 @@ pub data CallState : Type 0 where
 -- at its line (source: this project's profile)
 pub data Turn : Type 0 where
   Passes Keeps Closes : Turn
-  Refuses : FaultKind → Turn
+  TurnFault : FaultKind → Turn
   Breaks : FaultKind → ℕ → Turn
 
 -- what the scan does before the `(` at a thing of a role (source: this project's profile)
@@ -26,19 +26,19 @@ turn_before Dropped = Passes
 turn_before KeptComment = Passes
 turn_before Start = Passes
 turn_before (Stops f line) = Breaks f line
-turn_before r = Refuses ArgumentsMissing
+turn_before r = TurnFault ArgumentsMissing
 
 -- what the scan does with a thing that is text of a call, which fits what may be kept or not (source: this project's profile)
 unfoldable pub turn_fitting : Bool → Turn → Turn
 turn_fitting true t = t
-turn_fitting false t = Refuses ArgumentBytes
+turn_fitting false t = TurnFault ArgumentBytes
 
 -- what the scan does behind the `(`, at a level of openers, at a thing of a role that fits what may be kept or not (source:
 -- this project's profile)
 unfoldable pub turn_inside : Role → ℕ → Bool → Turn
 turn_inside End zero fits = Closes
 turn_inside Dropped k fits = Passes
-turn_inside Halt k fits = Refuses ArgumentsOpen
+turn_inside Halt k fits = TurnFault ArgumentsOpen
 turn_inside (Ends f line) k fits = turn_fitting fits (Breaks f line)
 turn_inside (Stops f line) k fits = turn_fitting fits (Breaks f line)
 turn_inside r k fits = turn_fitting fits Keeps
@@ -71,14 +71,14 @@ fault_at_end (Inside k) = ArgumentsOpen
 -- what a scan comes to: a fault of its own, that of a broken token at its line, or the things between the parentheses that
 -- it kept, and how many things it took in all (source: this project's profile)
 pub data Scanned (A : Type 0) : Type 0 where
-  Refused : FaultKind → Scanned A
-  Stopped : FaultKind → ℕ → Scanned A
+  ScanFault : FaultKind → Scanned A
+  ScanBreakFault : FaultKind → ℕ → Scanned A
   Closed : List A → ℕ → Scanned A
 
 -- a scan with things in front that it keeps, of one more that it took
 unfoldable pub scan_onto : {A : Type 0} → List A → Scanned A → Scanned A
-scan_onto front (Refused f) = Refused f
-scan_onto front (Stopped f line) = Stopped f line
+scan_onto front (ScanFault f) = ScanFault f
+scan_onto front (ScanBreakFault f line) = ScanBreakFault f line
 scan_onto front (Closed kept used) = Closed (front ++ kept) (suc used)
 
 -- a scan by what it does at the first thing, in front of the scan of the rest
@@ -86,12 +86,12 @@ unfoldable pub scanned : {A : Type 0} → Turn → A → Scanned A → Scanned A
 scanned Passes x rest = scan_onto [] rest
 scanned Keeps x rest = scan_onto (x ∷ []) rest
 scanned Closes x rest = Closed [] 1
-scanned (Refuses f) x rest = Refused f
-scanned (Breaks f line) x rest = Stopped f line
+scanned (TurnFault f) x rest = ScanFault f
+scanned (Breaks f line) x rest = ScanBreakFault f line
 
 -- the scan of a call from the left, from where it stands, with room for so many kept bytes (source: this project's profile)
 unfoldable pub scan : {A : Type 0} → (A → Role) → (A → ℕ) → CallState → ℕ → List A → Scanned A
-scan role size at room [] = Refused (fault_at_end at)
+scan role size at room [] = ScanFault (fault_at_end at)
 scan role size at room (x ∷ xs) =
     scanned (turn at (role x) (nat_le (size x) room)) x
     (scan role size (call_state_behind at (role x)) (room_behind at room (role x) (size x)) xs)
@@ -118,8 +118,8 @@ all_parts s = s.first ∷ s.further
 
 -- a call by its scan: what the scan kept, from a level of openers on, in parts (source: this project's profile)
 unfoldable pub call_of_scan : {A : Type 0} → (A → Role) → ℕ → Scanned A → Call A
-call_of_scan role k (Refused f) = Lacking f
-call_of_scan role k (Stopped f line) = Broke f line
+call_of_scan role k (ScanFault f) = CallFault f
+call_of_scan role k (ScanBreakFault f line) = CallBreakFault f line
 call_of_scan role k (Closed kept used) = Bound (split role k kept).first (split role k kept).further used
 
 -- a call behind the name of its macro, with room for so many kept bytes (source: this project's profile)

@@ -11,14 +11,14 @@ use Rattle.rdlpp_meaning.specs.declared.fault.FaultKind.TheVariants.{BareBackquo
 use Rattle.rdlpp_meaning.specs.Outcome.{Outcome, gives, fails, and_then}
 use Rattle.rdlpp_meaning.specs.State.{Rules, State, fault_at, breach_kind}
 use Rattle.rdlpp_meaning.specs.Items.{Item, Written, Arg, listed}
-use Rattle.rdlpp_meaning.specs.Actuals.{Call, Lacking, Broke, Bound, Reads, item_reads, actual_of}
+use Rattle.rdlpp_meaning.specs.Actuals.{Call, CallFault, CallBreakFault, Bound, Reads, item_reads, actual_of}
 use Rattle.rdlpp_meaning.specs.Substitution.{substituted}
 use Rattle.rdlpp_meaning.specs.CallScan.{call_of}
 
 -- what a usage comes to: a fault with its word and line, or a macro whose body is opened, its actuals, and how many things
 -- the usage took behind its name (source: this project's profile)
 pub data Usage (A : Type 0) : Type 0 where
-  Refuses : FaultKind → List ℕ → ℕ → Usage A
+  UsageFault : FaultKind → List ℕ → ℕ → Usage A
   Opens : Macro → List (List A) → ℕ → Usage A
 
 -- the name behind a backquote
@@ -37,11 +37,11 @@ bound_parts (f ∷ fs) parts = parts
 
 -- a call of a macro with these formals, by what it comes to (source: this project's profile)
 unfoldable pub usage_of_call : {A : Type 0} → Reads A → Macro → List Formal → ℕ → List ℕ → Call A → Usage A
-usage_of_call reads m formals line name (Lacking f) = Refuses f name line
-usage_of_call reads m formals line name (Broke f own) = Refuses f [] own
+usage_of_call reads m formals line name (CallFault f) = UsageFault f name line
+usage_of_call reads m formals line name (CallBreakFault f own) = UsageFault f [] own
 usage_of_call reads m formals line name (Bound first further used) =
     let parts = map (actual_of reads) (first ∷ further) in
-    if is_count formals parts then Opens m (bound_parts formals parts) used else Refuses ArgumentCount name line
+    if is_count formals parts then Opens m (bound_parts formals parts) used else UsageFault ArgumentCount name line
 
 -- a usage of a macro by the list of formals that it has, if it has one (source: IEEE 1364-2001, `define`)
 unfoldable pub usage_of_formals : {A : Type 0} → Rules → Reads A → ℕ → List ℕ → List A → Macro → Option (List Formal) → Usage A
@@ -52,15 +52,15 @@ usage_of_formals rules reads line name xs m (Some formals) =
 -- a usage of a macro that is defined, in the text of the macros o (source: this project's profile)
 unfoldable pub usage_of_macro : {A : Type 0} → Rules → Reads A → ℕ → List (List ℕ) → List ℕ → List A → Macro → Usage A
 usage_of_macro rules reads line o name xs m =
-    if list_any (bytes_eq name) o then Refuses RecursiveMacro name line
+    if list_any (bytes_eq name) o then UsageFault RecursiveMacro name line
     else usage_of_formals rules reads line name xs m m.formals
 
 -- a usage of a name, with the things behind it (source: this project's profile)
 unfoldable pub usage_of : {A : Type 0} → Rules → State → Reads A → ℕ → List (List ℕ) → List ℕ → List A → Usage A
 usage_of rules s reads line o name xs =
-    if is_reserved name then Refuses DirectiveInText name line
+    if is_reserved name then UsageFault DirectiveInText name line
     else elim (macro_named s.macros name) [
-      | None ↦ Refuses UndefinedMacro name line
+      | None ↦ UsageFault UndefinedMacro name line
       | Some m ↦ usage_of_macro rules reads line o name xs m
     ]
 
@@ -75,7 +75,7 @@ walk rules s deeper line_or_text o zero (Arg p g ∷ xs) =
 walk rules s deeper line_or_text o zero (Written t ∷ xs) = elim t.sort [
   | Ordinary k ↦ elim k [
     | Back ↦ elim (usage_of rules s (item_reads line_or_text) (unwrap_or line_or_text t.line) o (name_of t) xs) [
-      | Refuses f word line ↦ fails (fault_at f line word s)
+      | UsageFault f word line ↦ fails (fault_at f line word s)
       | Opens m actuals used ↦ and_then
           (deeper (unwrap_or line_or_text t.line) (m.name ∷ o) (substituted m actuals o))
           (walk rules s deeper line_or_text o used xs)

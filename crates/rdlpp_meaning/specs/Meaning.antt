@@ -12,7 +12,7 @@ use Rattle.rdlpp_table.specs.Table.{macro_named, without}
 use Rattle.rdlpp_meaning.specs.declared.fault.FaultKind.{FaultKind}
 use Rattle.rdlpp_meaning.specs.declared.fault.FaultKind.TheVariants.{NameExpected, ReservedName, StrayBranch, BranchAfterElse, OpenConditional, TooManyConditionals, IncludeName, SourceNotFound, TooManyIncludes, BadLine, PathTooLong}
 use Rattle.rdlpp_meaning.specs.Outcome.{Report, Outcome, gives, fails, and_then}
-use Rattle.rdlpp_meaning.specs.State.{Defined, Accepted, Refused, Lookup, NoSource, LongPath, Source, Rules, no_shift, shown_line, State, fault_at, breach_kind}
+use Rattle.rdlpp_meaning.specs.State.{Defined, Accepted, DefinitionFault, Lookup, NoSource, LongPath, Source, Rules, no_shift, shown_line, State, fault_at, breach_kind}
 use Rattle.rdlpp_meaning.specs.Expansion.{run_outcome}
 use Rattle.rdlpp_meaning.specs.Parts.{Command, Parts, Nothing, More, Part, Text, Alone, Stray, Conditional, Branches, Unclosed, Closed, Branch, line_ends_of, parts_of}
 
@@ -84,24 +84,24 @@ unfoldable mutual
 -- the name that a directive is given, or its fault
 pub data Checked : Type 0 where
   Fine : List ℕ → Checked
-  Faulty : FaultKind → List ℕ → Checked
+  NameFault : FaultKind → List ℕ → Checked
 
 -- the name of a macro that a directive is given (source: IEEE 1364-2001, compiler directives)
 unfoldable pub macro_name : Command → Checked
 macro_name c = elim c.given [
-  | None ↦ Faulty NameExpected []
-  | Some name ↦ if is_reserved name then Faulty ReservedName name else Fine name
+  | None ↦ NameFault NameExpected []
+  | Some name ↦ if is_reserved name then NameFault ReservedName name else Fine name
 ]
 
 -- a `define`, by what it does to the macros (source: IEEE 1364-2001, `define`)
 unfoldable pub defines : Defined → Command → State → Passage
 defines (Accepted macros) c s = leaves (gives (line_ends_of c.text)) (record s { macros = macros })
-defines (Refused kind word) c s = refusal kind word c s
+defines (DefinitionFault kind word) c s = refusal kind word c s
 
 -- an `undef` (source: IEEE 1364-2001, `undef`)
 unfoldable pub undefines : Checked → Command → State → Passage
 undefines (Fine name) c s = leaves (gives []) (record s { macros = without name s.macros })
-undefines (Faulty kind word) c s = refusal kind word c s
+undefines (NameFault kind word) c s = refusal kind word c s
 
 -- an origin line, where asked for (source: this project's profile)
 unfoldable pub origin_line : Rules → List ℕ → ℕ → List ℕ
@@ -227,12 +227,12 @@ pub record Progress : Type 0 where
 
 -- a test: its fault, or whether what follows is live
 pub data Test : Type 0 where
-  Stopped : FaultKind → List ℕ → Test
+  TestFault : FaultKind → List ℕ → Test
   Holds : Bool → Test
 
 -- what a directive with a test comes to: its fault, or what goes on in live or in skipped text
 unfoldable pub by_test : Test → Command → State → (State → Passage) → (State → Passage) → Passage
-by_test (Stopped kind word) c s live skipped = refusal kind word c s
+by_test (TestFault kind word) c s live skipped = refusal kind word c s
 by_test (Holds true) c s live skipped = live s
 by_test (Holds false) c s live skipped = skipped s
 
@@ -243,7 +243,7 @@ is_defined s name = is_some (macro_named s.macros name)
 -- the test of a directive that is given a name, where its name is to be defined or not
 unfoldable pub name_test : Bool → Checked → State → Test
 name_test defined (Fine name) s = Holds (if defined then is_defined s name else not (is_defined s name))
-name_test defined (Faulty kind word) s = Stopped kind word
+name_test defined (NameFault kind word) s = TestFault kind word
 
 -- whether the first branch of a conditional is to have its name defined: not after `ifndef` (source: IEEE 1364-2001, `ifdef`)
 unfoldable pub wants_defined : Directive → Bool
@@ -252,8 +252,8 @@ wants_defined d = true
 
 -- a test that opens a conditional, where so many more may be opened
 unfoldable pub opening_within : ℕ → Test → Test
-opening_within k (Stopped kind word) = Stopped kind word
-opening_within zero (Holds live) = Stopped TooManyConditionals []
+opening_within k (TestFault kind word) = TestFault kind word
+opening_within zero (Holds live) = TestFault TooManyConditionals []
 opening_within (suc k) (Holds live) = Holds live
 
 -- the test of an `ifdef` or `ifndef` (source: IEEE 1364-2001, `ifdef`)
@@ -280,7 +280,7 @@ is_else d = false
 -- the test of a branch of an open conditional (source: IEEE 1364-2001, `elsif`, `else`)
 unfoldable pub turn : Progress → Command → State → Test
 turn o c s =
-    if o.closing then Stopped BranchAfterElse []
+    if o.closing then TestFault BranchAfterElse []
     else (if is_else c.word then Holds (not o.taken)
     else (if o.taken then Holds false else name_test true (macro_name c) s))
 

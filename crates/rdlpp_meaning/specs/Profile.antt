@@ -5,10 +5,10 @@ use Rattle.rdlpp_scan.specs.SourceTokens.{whole_tokens}
 use Rattle.rdlpp_table.specs.declared.limits.Limits.{Limits}
 use Rattle.rdlpp_table.specs.declared.fault.DefineKind.{DefineKind}
 use Rattle.rdlpp_table.specs.declared.fault.DefineKind.TheVariants as kind
-use Rattle.rdlpp_table.specs.Define.{Defined as TableDefined, Accepted as TableAccepted, Refused as TableRefused, define_of}
+use Rattle.rdlpp_table.specs.Define.{Defined as TableDefined, Accepted as TableAccepted, DefinedFault as TableRefused, define_of}
 use Rattle.rdlpp_meaning.specs.declared.fault.FaultKind.{FaultKind}
 use Rattle.rdlpp_meaning.specs.declared.fault.FaultKind.TheVariants as fault
-use Rattle.rdlpp_meaning.specs.State.{Defined, Accepted, Refused, Lookup, Rules}
+use Rattle.rdlpp_meaning.specs.State.{Defined, Accepted, DefinitionFault, Lookup, Rules}
 
 -- the fault of a `define` that is refused (source: this project's profile)
 unfoldable pub define_fault : DefineKind → FaultKind
@@ -27,7 +27,7 @@ define_fault kind.TooManyDefinitions = fault.TooManyDefinitions
 -- what a `define` gives, with its fault (source: IEEE 1364-2001, `define`)
 unfoldable pub with_fault : TableDefined → Defined
 with_fault (TableAccepted macros) = Accepted macros
-with_fault (TableRefused kind word) = Refused (define_fault kind) word
+with_fault (TableRefused kind word) = DefinitionFault (define_fault kind) word
 
 -- the rules by limits, by what an `include` from a path finds, and by whether origin lines are asked for
 -- (source: this project's profile)

@@ -11,7 +11,7 @@ use Rattle.rdlpp_meaning.specs.Outcome.{Report}
 -- what a `define` comes to: the macros after it, or a kind of fault and its word (source: IEEE 1364-2001, `define`)
 pub data Defined : Type 0 where
   Accepted : List Macro → Defined
-  Refused : FaultKind → List ℕ → Defined
+  DefinitionFault : FaultKind → List ℕ → Defined
 
 -- what a search for a source comes to: none, a path that is too long, or the path and the text (source: this project's profile)
 pub data Lookup : Type 0 where

@@ -8,7 +8,7 @@ use Rattle.std.proofs.lemmas.Bool.{or_right}
 use Rattle.std.proofs.lemmas.List.Elements.{All-from_get_or}
 use Rattle.std.proofs.lemmas.List.Folds.{list_any_none}
 use Rattle.std.proofs.lemmas.Str.Pattern.{NoCharPasses-char, drop_at_char}
-use Rattle.rdlpp_source.specs.Asked.{Answered, Answers, Comes, Ends, Refused, Search, Wanted, asked_catalog, failed_search, first_search, folders_of, is_found, known_search, search_at, search_of, search_or, seen_failures, standing_at, standing_text, text_at, unread_of}
+use Rattle.rdlpp_source.specs.Asked.{Answered, Answers, Comes, Ends, SearchFault, Search, Wanted, asked_catalog, failed_search, first_search, folders_of, is_found, known_search, search_at, search_of, search_or, seen_failures, standing_at, standing_text, text_at, unread_of}
 use Rattle.rdlpp_source.specs.Counts.{Counts}
 use Rattle.rdlpp_source.specs.Search.{answer_at, answer_or, at_path, candidates, first_answer, folder_of}
 use Rattle.rdlpp_source.specs.Sources.{Answer, Finds, Gives, Missing, Overlong, Present, is_device, is_no_memory}
@@ -96,7 +96,7 @@ failures-from_Ok r k n h = let P : Result ℕ SourceFault → Type 0 = λ t. Cou
 -- what a search says of an answer: where it came to one, it is this
 abbrev Says : Search → Answer → Type 0
 Says (Answered found) answer = answer ≡ found
-Says Refused answer = ⊤
+Says SearchFault answer = ⊤
 Says (Wanted path) answer = ⊤
 
 known_says : (asks : Bool) (path : List ℕ) (s : Option Standing) → Says (known_search asks path s) (at_path path (standing_text s))
@@ -122,7 +122,7 @@ or_says : (s t : Search) (x y : Answer) → Says s x → Says t y → Says (sear
 or_says (Answered Missing) t x y p q = subst (λ (a : Answer). Says t (answer_or a y)) (sym p) q
 or_says (Answered Overlong) t x y p q = ap (λ (a : Answer). answer_or a y) p
 or_says (Answered (Present path text)) t x y p q = ap (λ (a : Answer). answer_or a y) p
-or_says Refused t x y p q = tt
+or_says SearchFault t x y p q = tt
 or_says (Wanted path) t x y p q = tt
 
 first_says : (texts : AskedTexts) (paths : List (List ℕ)) → Says (first_search texts paths) (first_answer (text_at texts) paths)
@@ -142,7 +142,7 @@ pub found_or : (s next : Search) → is_found s ≡ true → is_found (search_or
 found_or (Answered Missing) next e = cc e
 found_or (Answered Overlong) next e = cc e
 found_or (Answered (Present path text)) next e = refl
-found_or Refused next e = cc e
+found_or SearchFault next e = cc e
 found_or (Wanted path) next e = cc e
 
 -- a search that is told as it ended within answers so
@@ -176,7 +176,7 @@ finds_named texts from name r wanted a =
 -- whether a search came to an answer
 is_answered : Search → Bool
 is_answered (Answered found) = true
-is_answered Refused = false
+is_answered SearchFault = false
 is_answered (Wanted path) = false
 
 known_answered : (path : List ℕ) (s : Option Standing) → is_answered (known_search false path s) ≡ true
@@ -203,7 +203,7 @@ unfolding is_answered
 or_answered (Answered Missing) t p q = q
 or_answered (Answered Overlong) t p q = refl
 or_answered (Answered (Present path text)) t p q = refl
-or_answered Refused t p q = p
+or_answered SearchFault t p q = p
 or_answered (Wanted path) t p q = p
 
 first_answered : (texts : AskedTexts) (paths : List (List ℕ)) → texts.asks ≡ false → is_answered (first_search texts paths) ≡ true

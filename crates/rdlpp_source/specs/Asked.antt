@@ -50,7 +50,7 @@ unread_of left = left
 -- what a search comes to: an answer, a candidate that can't be opened, or one of which nothing is known yet (source: this project's profile)
 pub data Search : Type 0 where
   Answered : Answer → Search
-  Refused : Search
+  SearchFault : Search
   Wanted : List ℕ → Search
 
 -- what a candidate comes to of which this is known: where nothing is, it is wanted by sources that ask, and isn't there in others; nor is it there in others
@@ -58,7 +58,7 @@ pub data Search : Type 0 where
 abbrev pub known_search : Bool → List ℕ → Option Standing → Search
 known_search asks path (Some (Text text)) = Answered (Present path text.value.items)
 known_search asks path (Some Gone) = Answered Missing
-known_search true path (Some Failed) = Refused
+known_search true path (Some Failed) = SearchFault
 known_search false path (Some Failed) = Answered Missing
 known_search true path None = Wanted path
 known_search false path None = Answered Missing
@@ -74,7 +74,7 @@ abbrev pub search_or : Search → Search → Search
 search_or (Answered Missing) next = next
 search_or (Answered Overlong) next = Answered Overlong
 search_or (Answered (Present path text)) next = Answered (Present path text)
-search_or Refused next = Refused
+search_or SearchFault next = SearchFault
 search_or (Wanted path) next = Wanted path
 
 -- what candidates come to, in order (source: this project's profile)
@@ -91,7 +91,7 @@ abbrev pub is_found : Search → Bool
 is_found (Answered Missing) = false
 is_found (Answered Overlong) = false
 is_found (Answered (Present path text)) = true
-is_found Refused = false
+is_found SearchFault = false
 is_found (Wanted path) = false
 
 -- a search came to this within, or the text that it found had no room for a further reader (source: this project's profile)
@@ -99,13 +99,13 @@ abbrev pub Comes : Search → Result (Found (List ℕ)) Stop → Type 0
 Comes search (Ok found) = search ≡ Answered (Present found.path.bytes found.reader)
 Comes search (Err NotThere) = search ≡ Answered Missing
 Comes search (Err TooLong) = search ≡ Answered Overlong
-Comes search (Err NotOpened) = search ≡ Refused
+Comes search (Err NotOpened) = search ≡ SearchFault
 Comes search (Err NoRoom) = is_found search ≡ true
 Comes search (Err (NotKnown path)) = search ≡ Wanted path.bytes
 
 -- a search that failed at a device: a candidate can't be opened, or one is wanted (source: this project's profile)
 abbrev pub failed_search : Option (List ℕ) → Search
-failed_search None = Refused
+failed_search None = SearchFault
 failed_search (Some path) = Wanted path
 
 -- a search answered so, with the whole text unread; or it failed, with the path that is wanted, where one is; or the text that it found had no room for a further reader (source: this project's profile)

@@ -10,7 +10,7 @@ use Rattle.rdlpp_scan.specs.declared.token.Mode.{Mode}
 use Rattle.rdlpp_scan.specs.declared.token.Mode.TheVariants.{Plain}
 use Rattle.rdlpp_table.specs.Table.{Macro, macro_named, without}
 use Rattle.rdlpp_table.specs.declared.limits.Limits.{Limits}
-use Rattle.rdlpp_meaning.specs.Meaning.{Checked, Faulty, Fine, Holds, Passage, Progress, Renumbered, Stopped, Test, behind_bytes, is_defined, is_else, leaves, name_test, opening_within, origin_line, renumbered, wants_defined}
+use Rattle.rdlpp_meaning.specs.Meaning.{Checked, NameFault, Fine, Holds, Passage, Progress, Renumbered, TestFault, Test, behind_bytes, is_defined, is_else, leaves, name_test, opening_within, origin_line, renumbered, wants_defined}
 use Rattle.rdlpp_meaning.specs.Outcome.{fails}
 use Rattle.rdlpp_meaning.specs.Parts.{line_ends_of}
 use Rattle.rdlpp_meaning.specs.Resumed.{Live}
@@ -150,7 +150,7 @@ unopened_by {S} {R} kind holds len line old new v place opens is becomes =
 
 -- the fault of a test is the text's own
 abbrev IsOwnTest : Test → Type 0
-IsOwnTest (Stopped kind word) = IsOwn kind
+IsOwnTest (TestFault kind word) = IsOwn kind
 IsOwnTest (Holds live) = Unit {0}
 
 opening_own : (k : ℕ) (holds : Bool) → IsOwnTest (opening_within k (Holds holds))
@@ -210,13 +210,13 @@ module _ {S R : Type 0} (g : Ghosts S R) (old new : EngineView S R) (ready : IsR
   -- a test is done
   does_by : (x : Test) (next : Bool → ConditionsView) (len : ℕ) (result : Option PieceLocation) → (0 < len) × (len ≤ length held) → IsOwnTest x
       → DecidesHere x next len → DoesByTest x next len old new result → UncutStep g old new (step_answer new result)
-  does_by (Stopped kind word) next len result within own law does = subst (λ (r : Option PieceLocation). UncutStep g old new (step_answer new r)) (sym does.0) (faults Fault kind word refl does.1 own law)
+  does_by (TestFault kind word) next len result within own law does = subst (λ (r : Option PieceLocation). UncutStep g old new (step_answer new r)) (sym does.0) (faults Fault kind word refl does.1 own law)
   does_by (Holds t) next len result within own law does =
       subst (λ (r : Option PieceLocation). UncutStep g old new (step_answer new r)) (sym does.0) (goes_on g old new (next t) len ready bounded within.0 within.1 does.1 law)
 
   -- the name that a directive is given is refused
   unnamed : (a : Option Argument) (place : PieceLocation) → LooksAtName a old new (Err place)
-      → ((kind : FaultKind) (word : List ℕ) → name_of a ≡ Faulty kind word → FaultsHere kind word) → UncutStep g old new (lent_answer new place)
+      → ((kind : FaultKind) (word : List ℕ) → name_of a ≡ NameFault kind word → FaultsHere kind word) → UncutStep g old new (lent_answer new place)
   unnamed a place looks law = let r = looks.1 in faults place r.kind r.word looks.0 r.becomes r.own (law r.kind r.word r.faulty)
 
   module _ (live : old.conditions.skipped ≡ None) where
@@ -311,7 +311,7 @@ module _ {S R : Type 0} (g : Ghosts S R) (old new : EngineView S R) (ready : IsR
         refused_by place kind fault.StrayBranch is (cc) (own_kind _ refl) becomes
         (stray_at old.limits (run_rules g old) g.unread old.table.macros old.conditions old.files.include_stack d front (given_strays d held a given) alone branch_word)
     refused_steps place kind (MeetsOwn own) is becomes =
-        faults place kind [] is becomes (subst IsOwn (sym own.turns.0) (own_kind fault.BranchAfterElse refl)) (turn_decides (Refused kind) own (λ n s. Stopped kind []) own.turns.1)
+        faults place kind [] is becomes (subst IsOwn (sym own.turns.0) (own_kind fault.BranchAfterElse refl)) (turn_decides (Refused kind) own (λ n s. TestFault kind []) own.turns.1)
     refused_steps place kind (MeetsInner n o os is_open below skips wrong) is becomes = absurd (cc)
 
     -- it is decided

@@ -410,7 +410,7 @@ module _ {S R : Type 0} (g : Ghosts S R) (old mid new : EngineView S R) (len : �
       let b = inner_buffer mid.files.include_stack in
       let table : mid.table ≡ old.table = ap (λ e. e.table) r.becomes in
       let here : b.line ≡ (inner_buffer old.files.include_stack).line = holds.extends.line in
-      let refused : define_of old.limits.definition_bytes old.limits.definitions old.table.macros (drop 7 (take len (held_of b))) ≡ table_define.Refused d.kind d.word =
+      let refused : define_of old.limits.definition_bytes old.limits.definitions old.table.macros (drop 7 (take len (held_of b))) ≡ table_define.DefinedFault d.kind d.word =
       rw (← ready.sound.definition_bytes, ← ready.sound.definitions) (rw table at d.refused) in
       refuses g old mid new place (define_fault d.kind) b.line d.word ready r bounded is d.becomes (define_kind d.kind) call
       (λ t. include_stack_refused_define old.limits (run_rules g old) g.unread old.table.macros old.conditions live (g.tells old.sources) t old.files.include_stack b len (define_fault d.kind) d.word

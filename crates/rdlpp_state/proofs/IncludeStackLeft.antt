@@ -11,12 +11,12 @@ use Rattle.rdlpp_scan.specs.declared.token.Mode.{Mode}
 use Rattle.rdlpp_scan.specs.declared.token.Mode.TheVariants.{Plain}
 use Rattle.rdlpp_table.specs.Table.{Macro, macro_named, without}
 use Rattle.rdlpp_table.specs.declared.limits.Limits.{Limits}
-use Rattle.rdlpp_meaning.specs.Meaning.{Checked, Faulty, Fine, Holds, Passage, Progress, Stopped, Test, behind_bytes, in_conditional, is_else, leaves, name_test, opening_within, past_conditional, wants_defined}
+use Rattle.rdlpp_meaning.specs.Meaning.{Checked, NameFault, Fine, Holds, Passage, Progress, TestFault, Test, behind_bytes, in_conditional, is_else, leaves, name_test, opening_within, past_conditional, wants_defined}
 use Rattle.rdlpp_meaning.specs.Opened.{Waiting, unwound}
 use Rattle.rdlpp_meaning.specs.Outcome.{fails, gives}
 use Rattle.rdlpp_meaning.specs.Parts.{line_ends_of}
 use Rattle.rdlpp_meaning.specs.Resumed.{Live, Place, Skipped}
-use Rattle.rdlpp_meaning.specs.State.{Accepted, Refused, Rules, State, breach_kind, fault_at, shown_line}
+use Rattle.rdlpp_meaning.specs.State.{Accepted, DefinitionFault, Rules, State, breach_kind, fault_at, shown_line}
 use Rattle.rdlpp_meaning.specs.declared.fault.FaultKind.{FaultKind}
 use Rattle.rdlpp_meaning.specs.declared.fault.FaultKind.TheVariants as fault
 use Rattle.rdlpp_meaning.proofs.Directives.{branches_conditional, in_branch, opens_conditional}
@@ -340,7 +340,7 @@ module _ {R : Type 0} (limits : Limits) (rules : Rules) (unread : R → List ℕ
 
       -- one that is refused for its name
       pub include_stack_refused_undef : (include_stack : List (File R)) (given : Option (List ℕ)) (len : ℕ) → 0 < length (held_of (inner_buffer include_stack)) → EndsHeld (inner_buffer include_stack)
-          → (inner_buffer include_stack).mode ≡ Plain → Begins Undef (held_of (inner_buffer include_stack)) given len → (kind : FaultKind) (word : List ℕ) → given_name given ≡ Faulty kind word
+          → (inner_buffer include_stack).mode ≡ Plain → Begins Undef (held_of (inner_buffer include_stack)) given len → (kind : FaultKind) (word : List ℕ) → given_name given ≡ NameFault kind word
           → include_stack_left limits rules unread macros v include_stack ≡ leaves (fails (fault_at kind (inner_buffer include_stack).line word (include_stack_state limits macros v include_stack))) (include_stack_state limits macros v include_stack)
       unfolding include_stack_left
       include_stack_refused_undef [] given len some ends plain begins kind word faulty = absurd (none_held R some)
@@ -368,7 +368,7 @@ module _ {R : Type 0} (limits : Limits) (rules : Rules) (unread : R → List ℕ
         -- a `define` that is refused
         pub include_stack_refused_define : (include_stack : List (File R)) (new : BufferView R) (len : ℕ) (kind : FaultKind) (word : List ℕ) → 0 < length (held_of (inner_buffer include_stack)) → EndsHeld (inner_buffer include_stack)
             → (inner_buffer include_stack).mode ≡ Plain → IsDirective Define (held_of (inner_buffer include_stack)) → HoldsLine tells unread (line.Whole len) (inner_buffer include_stack) new
-            → rules.define macros (drop 7 (take len (held_of new))) ≡ Refused kind word
+            → rules.define macros (drop 7 (take len (held_of new))) ≡ DefinitionFault kind word
             → include_stack_left limits rules unread macros v include_stack ≡ leaves (fails (fault_at kind (inner_buffer include_stack).line word (include_stack_state limits macros v include_stack))) (include_stack_state limits macros v include_stack)
         unfolding include_stack_left include_stack_state file_state
         include_stack_refused_define [] new len kind word some ends plain define holds refused = absurd (none_held R some)
@@ -473,7 +473,7 @@ module _ {R : Type 0} (limits : Limits) (rules : Rules) (unread : R → List ℕ
 
   -- the one or the other, by a test
   abbrev pub Decides : Test → (Bool → ConditionsView) → ℕ → Type 0
-  Decides (Stopped kind word) next len = Faults kind word
+  Decides (TestFault kind word) next len = Faults kind word
   Decides (Holds t) next len = Continues (next t) len
 
 module _ {R : Type 0} (limits : Limits) (rules : Rules) (unread : R → List ℕ) (macros : List Macro) (outer : List (File R)) where
@@ -571,7 +571,7 @@ module _ {R : Type 0} (limits : Limits) (rules : Rules) (unread : R → List ℕ
         → source_left rules unread (around_by v f) place f here ≡ tested x f.buffer.line here (λ t. source_left rules unread (around_by v f) (new t) (consumed_file len 0 f) s)
         → ByTest x next len
     unfolding tested
-    tested_at next len place new s (Stopped kind word) is becomes state same law = fails_include_stack v f place _ is law
+    tested_at next len place new s (TestFault kind word) is becomes state same law = fails_include_stack v f place _ is law
     tested_at next len place new s (Holds t) is becomes state same law = goes_on_at (next t) len place (new t) s is (becomes t) (state t) (same t) law
 
     -- a conditional opens, where one more may be open

@@ -43,7 +43,7 @@ use Rattle.rdlpp_state.specs.Calls.{SourcesCalled}
 use Rattle.rdlpp_state.specs.Conditionals.{unclosed_fault}
 use Rattle.rdlpp_state.specs.Engine.{AreIncluded, EngineView}
 use Rattle.rdlpp_state.specs.Held.{IsBounded}
-use Rattle.rdlpp_state.specs.Includes.{BadName, Denies, Full, IsSearch, Refuses, Searches, included_engine, inner_path, is_bad_name, kind_of_source, left_engine, marks_behind, pending_behind}
+use Rattle.rdlpp_state.specs.Includes.{BadName, Denies, Full, IsSearch, SearchFault, Searches, included_engine, inner_path, is_bad_name, kind_of_source, left_engine, marks_behind, pending_behind}
 use Rattle.rdlpp_state.specs.Marks.{MarksView, ends_line}
 use Rattle.rdlpp_state.specs.Moves.{Closes, Ends, IsReady, Returns, StopsOpen, StopsUnclosed}
 use Rattle.rdlpp_state.specs.OpenConditionals.{inner_below, outer_open}
@@ -419,7 +419,7 @@ module _ {S R : Type 0} (g : Ghosts S R) (old mid new : EngineView S R) (start s
       let slots = ready.sound.slots in
       refuse_steps place is TooManyIncludes (own_kind _ refl) (subst (λ (s : S). SourcesCalled g false false old.sources s) (sym same) (not_called g old.sources)) (subst KeepsKind named kept)
       (λ t. refused_full old.limits (run_rules g old) g.unread old.table.macros old.conditions live old.files.include_stack start stop some (inner_facts old.files ready.include_stack ready.files).ends plain has good (omega arith))
-  denied_steps place kind is (Refuses fault named s) kept = finds_as fault s place is (subst KeepsKind named kept)
+  denied_steps place kind is (SearchFault fault named s) kept = finds_as fault s place is (subst KeepsKind named kept)
 
   -- a source is opened
   pub entered_steps : (found : Found R) → Searches g old name_of mid.sources (Ok found) → new ≡ included_engine found stop mid → UncutStep g old new (step_answer new None)

@@ -7,7 +7,7 @@ use Rattle.rdlpp_scan.specs.declared.token.Kind.TheVariants.{BareBackquote}
 use Rattle.rdlpp_scan.specs.declared.token.Mode.TheVariants.{Plain}
 use Rattle.rdlpp_scan.specs.Tokens.{token_of}
 use Rattle.rdlpp_meaning.specs.declared.fault.FaultKind.TheVariants.{OpenConditional}
-use Rattle.rdlpp_meaning.specs.Meaning.{Holds, Stopped, Test, opening_within}
+use Rattle.rdlpp_meaning.specs.Meaning.{Holds, TestFault, Test, opening_within}
 use Rattle.rdlpp_meaning.specs.Outcome.{Report}
 use Rattle.rdlpp_meaning.specs.State.{State, fault_at}
 use Rattle.rdlpp_conditions.specs.Conditions.{ConditionsView, conditions_left}
@@ -59,7 +59,7 @@ goes_past v len e = record e { conditions = v; files = record e.files { include_
 
 -- what an engine does by a test: its fault is kept, or so many bytes are used, with other conditionals open (this project's profile)
 abbrev pub DoesByTest : {S R : Type 0} → Test → (Bool → ConditionsView) → ℕ → EngineView S R → EngineView S R → Option PieceLocation → Type 0
-DoesByTest (Stopped kind word) next len old new result = (result ≡ Some Fault) × (new ≡ record old { kept = Some (fault_at kind (inner_buffer old.files.include_stack).line word (state_of old)) })
+DoesByTest (TestFault kind word) next len old new result = (result ≡ Some Fault) × (new ≡ record old { kept = Some (fault_at kind (inner_buffer old.files.include_stack).line word (state_of old)) })
 DoesByTest (Holds live) next len old new result = (result ≡ None) × (new ≡ goes_past (next live) len old)
 
 -- what a conditional whose test was answered comes to: it is opened, at the line that its directive shows, or too many are open

@@ -58,7 +58,7 @@ pub record Searches {S R : Type 0} (g : Ghosts S R) (e : EngineView S R) (name :
 pub data Denies {S R : Type 0} (g : Ghosts S R) (e : EngineView S R) (name : List ℕ) (new : S) (kind : FaultKind) : Type 0 where
   BadName : is_bad_name name ≡ true → kind ≡ IncludeName → new ≡ e.sources → Denies g e name new kind
   Full : is_bad_name name ≡ false → e.files.slots ≤ length e.files.include_stack → kind ≡ TooManyIncludes → new ≡ e.sources → Denies g e name new kind
-  Refuses : (fault : SourceFault) → kind ≡ kind_of_source fault → Searches g e name new (Err fault) → Denies g e name new kind
+  SearchFault : (fault : SourceFault) → kind ≡ kind_of_source fault → Searches g e name new (Err fault) → Denies g e name new kind
 
 -- what the search of an `include` comes to
 abbrev pub Sought : {S R : Type 0} → Ghosts S R → EngineView S R → List ℕ → S → Result (Found R) FaultKind → Type 0

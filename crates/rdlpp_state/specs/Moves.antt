@@ -4,11 +4,11 @@ use Rattle.std.specs.Prelude.{◌≡◌, ◌<◌, ◌≤◌, ◌⊎◌, ℕ, Lis
 use Rattle.rdlpp_scan.specs.Front.{Breach}
 use Rattle.rdlpp_scan.specs.SourceTokens.{line_ends}
 use Rattle.rdlpp_scan.specs.declared.token.Mode.TheVariants.{Plain}
-use Rattle.rdlpp_table.specs.Define.{Accepted, Refused, define_of}
+use Rattle.rdlpp_table.specs.Define.{Accepted, DefinedFault, define_of}
 use Rattle.rdlpp_table.specs.Table.{Macro}
 use Rattle.rdlpp_table.specs.declared.fault.DefineKind.{DefineKind}
 use Rattle.rdlpp_meaning.specs.declared.fault.FaultKind.{FaultKind}
-use Rattle.rdlpp_meaning.specs.Meaning.{Faulty, Fine, Progress}
+use Rattle.rdlpp_meaning.specs.Meaning.{NameFault, Fine, Progress}
 use Rattle.rdlpp_meaning.specs.Profile.{define_fault}
 use Rattle.rdlpp_meaning.specs.State.{breach_kind, fault_at}
 use Rattle.rdlpp_read.specs.Buffer.{held_of}
@@ -104,7 +104,7 @@ pub record Defines {S R : Type 0} (len : ℕ) (old new : EngineView S R) : Type 
 pub record RefusesDefine {S R : Type 0} (len : ℕ) (old new : EngineView S R) : Type 0 where
   pub kind : DefineKind
   pub word : List ℕ
-  pub refused : define_of old.table.most_bytes old.table.most_macros old.table.macros (define_rest old len) ≡ Refused kind word
+  pub refused : define_of old.table.most_bytes old.table.most_macros old.table.macros (define_rest old len) ≡ DefinedFault kind word
   pub becomes : new ≡ record old { kept = Some (fault_at (define_fault kind) (inner_buffer old.files.include_stack).line word (state_of old)) }
 
 -- what a `define` comes to whose logical line is held
@@ -121,7 +121,7 @@ pub record RefusesName {S R : Type 0} (given : Option (List ℕ)) (old new : Eng
   pub kind : FaultKind
   pub word : List ℕ
   pub own : IsOwn kind
-  pub faulty : given_name given ≡ Faulty kind word
+  pub faulty : given_name given ≡ NameFault kind word
   pub becomes : new ≡ record old { kept = Some (fault_at kind (inner_buffer old.files.include_stack).line word (state_of old)) }
 
 -- what a look at the name that a directive is given comes to: a name that it may have, or a fault that is kept

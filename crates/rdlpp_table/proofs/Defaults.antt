@@ -25,7 +25,7 @@ use Rattle.rdlpp_table.specs.Store.{fills, is_clean, is_default}
 use Rattle.rdlpp_scan.specs.TokenKinds.{opens_mode}
 use Rattle.rdlpp_table.specs.Table.{Formal, Macro, default_size}
 use Rattle.rdlpp_table.specs.Formals.{default_behind, IsDefault, default_left}
-use Rattle.rdlpp_table.specs.Define.{DefaultText, Drawn, Rejected, default_in, default_of_tokens, is_space, lexical, onto_default, onto_trimmed, trimmed, trimmed_default, trimmed_of, with_body, without_end, text_without_line_comments}
+use Rattle.rdlpp_table.specs.Define.{DefaultText, Drawn, DraftFault, default_in, default_of_tokens, is_space, lexical, onto_default, onto_trimmed, trimmed, trimmed_default, trimmed_of, with_body, without_end, text_without_line_comments}
 
 -- Default texts as they are read back from a table's bytes: the levels of their tokens, without `//` comments and without spaces at
 
@@ -300,7 +300,7 @@ drawn_is m n e = cc
 
 -- the body of a definition is clean
 body_by : (name : List ℕ) (formals : Option (List Formal)) (text : List ℕ) (m : Macro) (fault : Option LexFault) → lex_fault_from Plain text ≡ fault
-    → (elim fault [ Some f ↦ Rejected (lexical f) [] | None ↦ Drawn (record { name = name; formals = formals; body = trimmed (text_without_line_comments (tokens_from Plain 0 text) text) }) ]) ≡ Drawn m → IsCleanText m.body
+    → (elim fault [ Some f ↦ DraftFault (lexical f) [] | None ↦ Drawn (record { name = name; formals = formals; body = trimmed (text_without_line_comments (tokens_from Plain 0 text) text) }) ]) ≡ Drawn m → IsCleanText m.body
 unfolding trimmed without_line_comments
 body_by name formals text m (Some f) is e = absurd (cc)
 body_by name formals text m None is e =

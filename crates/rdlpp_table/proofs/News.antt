@@ -20,7 +20,7 @@ use Rattle.rdlpp_table.specs.declared.fault.DefineFault.{DefineFault}
 use Rattle.rdlpp_table.specs.Table.{Formal, Macro, formal_bytes, formal_size, macro_bytes, macro_size}
 use Rattle.rdlpp_lines.specs.Continuations.{joined}
 use Rattle.rdlpp_lines.specs.Texts.{Cleared, Sound, Unsound, onto, trimmed_left, trimmed_len, trims, cleared, told, read_by, left_in, kept_bytes, start_level}
-use Rattle.rdlpp_table.specs.Define.{Draft, Drawn, Rejected, lexical, observed, macro_set, name_fault, refused_word, set_of, stored, stored_draft, trimmed, with_body, without_list, text_without_line_comments, Bad, DefaultText, Good, Listed, Unlisted, after_space, behind_name, default_in, formal_fault, formal_in, formal_name, formals_in, formals_of_list, is_nothing, with_default, FormalList}
+use Rattle.rdlpp_table.specs.Define.{Draft, Drawn, DraftFault, lexical, observed, macro_set, name_fault, refused_word, set_of, stored, stored_draft, trimmed, with_body, without_list, text_without_line_comments, FormalFault, DefaultText, Good, Listed, FormalListFault, after_space, behind_name, default_in, formal_fault, formal_in, formal_name, formals_in, formals_of_list, is_nothing, with_default, FormalList}
 use Rattle.rdlpp_table.proofs.Taken.{between_parts}
 use Rattle.rdlpp_table.proofs.RoundTrip.{refused_is, read_list}
 use Rattle.rdlpp_table.specs.View.{AreSoundFormals, IsSoundMacro, formals_of}
@@ -45,9 +45,9 @@ use Rattle.rdlpp_table.specs.declared.fault.DefineKind.TheVariants as kind
 -- the draft of what is left
 abbrev drafted_by : List ℕ → Option (List Formal) → Cleared → Draft
 drafted_by name formals (Sound rest last) = Drawn (record { name = name; formals = formals; body = trimmed rest })
-drafted_by name formals (Unsound fault) = Rejected (lexical fault) []
+drafted_by name formals (Unsound fault) = DraftFault (lexical fault) []
 
-by_fault : (name : List ℕ) (formals : Option (List Formal)) (fault : Option LexFault) (rest : List ℕ) → (elim fault [ Some f ↦ Rejected (lexical f) [] | None ↦ Drawn (record { name = name; formals = formals; body = trimmed rest }) ]) ≡ drafted_by name formals (told fault rest)
+by_fault : (name : List ℕ) (formals : Option (List Formal)) (fault : Option LexFault) (rest : List ℕ) → (elim fault [ Some f ↦ DraftFault (lexical f) [] | None ↦ Drawn (record { name = name; formals = formals; body = trimmed rest }) ]) ≡ drafted_by name formals (told fault rest)
 by_fault name formals None rest = refl
 by_fault name formals (Some f) rest = refl
 
@@ -109,10 +109,10 @@ unfolding trimmed_len trimmed_left trims trimmed
 drawn_by name formals (Sound rest last) len e = refl
 drawn_by name formals (Unsound fault) len e = absurd (cc)
 
-rejected_by : (name : List ℕ) (formals : Option (List Formal)) (c : Cleared) (fault : LexFault) → Err fault ≡ trimmed_len (trims false) c → drafted_by name formals c ≡ Rejected (lexical fault) []
+rejected_by : (name : List ℕ) (formals : Option (List Formal)) (c : Cleared) (fault : LexFault) → Err fault ≡ trimmed_len (trims false) c → drafted_by name formals c ≡ DraftFault (lexical fault) []
 unfolding trimmed_len
 rejected_by name formals (Sound rest last) fault e = absurd (cc)
-rejected_by name formals (Unsound other) fault e = let same : other ≡ fault = cc in ap (λ (f : LexFault). Rejected (lexical f) []) same
+rejected_by name formals (Unsound other) fault e = let same : other ≡ fault = cc in ap (λ (f : LexFault). DraftFault (lexical f) []) same
 
 -- a body without a fault gives the macro
 pub body_drawn : (name : List ℕ) (formals : Option (List Formal)) (text : List ℕ) (len : ℕ) → Ok len ≡ trimmed_len (trims false) (cleared None text) → with_body name formals text ≡ Drawn (record { name = name; formals = formals; body = trimmed_left (trims false) (cleared None text) })
@@ -137,15 +137,15 @@ unfolding set_of macro_set without_list stored_draft observed
 set_refuses a b ms name text fault e why word =
     sym (ap (stored_draft a b ms)
     (cond-true _ _ _ e
-    ∙ (ap (λ (f : Option DefineKind). elim f [ Some k ↦ Rejected k (refused_word k name) | None ↦ with_body name None text ]) why
-    ∙ ap (Rejected fault.kind) (sym word))))
+    ∙ (ap (λ (f : Option DefineKind). elim f [ Some k ↦ DraftFault k (refused_word k name) | None ↦ with_body name None text ]) why
+    ∙ ap (DraftFault fault.kind) (sym word))))
 
 pub set_stores : (a b : ℕ) (ms : List Macro) (name text : List ℕ) → is_name name ≡ true → name_fault name ≡ None → stored_draft a b ms (with_body name None (joined false text)) ≡ set_of a b ms name text
 unfolding set_of macro_set without_list joined
 set_stores a b ms name text e ok =
     sym (ap (stored_draft a b ms)
     (cond-true _ _ _ e
-    ∙ ap (λ (f : Option DefineKind). elim f [ Some k ↦ Rejected k (refused_word k name) | None ↦ with_body name None text ]) ok))
+    ∙ ap (λ (f : Option DefineKind). elim f [ Some k ↦ DraftFault k (refused_word k name) | None ↦ with_body name None text ]) ok))
 
 -- The formals that a list gives are sound.
 
@@ -214,15 +214,15 @@ behind_sound room before f behind fs after s next e =
       | inl c ↦ next (sym (cond-true _ _ _ c) ∙ e)
       | inr c ↦ elim (cases_Bool (eqb (get_or behind 0 0) 41)) [
         | inl k ↦ subst AreSoundFormals (listed_same (before ++ f ∷ []) fs (drop 1 behind) after (sym (cond-true _ _ _ k) ∙ (sym (cond-false _ _ _ c) ∙ e))) s
-        | inr k ↦ let h : Unlisted kind.BadFormals ≡ Listed (Some fs) after = sym (cond-false _ _ _ k) ∙ (sym (cond-false _ _ _ c) ∙ e) in absurd (cc)
+        | inr k ↦ let h : FormalListFault kind.BadFormals ≡ Listed (Some fs) after = sym (cond-false _ _ _ k) ∙ (sym (cond-false _ _ _ c) ∙ e) in absurd (cc)
       ]
     ]
 
 in_sound : (room : ℕ) (before : List Formal) (text : List ℕ) (fs : List Formal) (after : List ℕ) → AreSoundFormals before → length before + room ≤ 255 → formals_in room before text ≡ Listed (Some fs) after → AreSoundFormals fs
-in_sound zero before text fs after s n e = let h : Unlisted (unwrap_or (formal_fault before (formal_name text)) kind.TooManyFormals) ≡ Listed (Some fs) after = sym (list_full before text) ∙ e in absurd (cc)
+in_sound zero before text fs after s n e = let h : FormalListFault (unwrap_or (formal_fault before (formal_name text)) kind.TooManyFormals) ≡ Listed (Some fs) after = sym (list_full before text) ∙ e in absurd (cc)
 in_sound (suc room) before text fs after s n e =
     (elim (formal_in before text) as (λ o. formal_in before text ≡ o → list_by room before o ≡ Listed (Some fs) after → AreSoundFormals fs) [
-      | Bad k ↦ λ q h. absurd (cc)
+      | FormalFault k ↦ λ q h. absurd (cc)
       | Good f behind ↦ λ q h.
           behind_sound room before f behind fs after (one_more_sound before f s (next_formal before text f behind (omega arith) q))
           (λ i. in_sound room (before ++ f ∷ []) (drop 1 behind) fs after (one_more_sound before f s (next_formal before text f behind (omega arith) q)) (omega (arith, length-append before (f ∷ []))) i) h

@@ -8,7 +8,7 @@ use Rattle.std.proofs.lemmas.List.Sums.{sum_by-append}
 use Rattle.std.proofs.lemmas.Grind.{flat_map-append}
 use Rattle.rdlpp_scan.specs.Bytes.{is_letter, is_digit, is_word}
 use Rattle.rdlpp_table.specs.Table.{Formal, default_size, formal_size, default_bytes, formal_bytes}
-use Rattle.rdlpp_table.specs.Define.{FormalList, Listed, Unlisted, OneFormal, Good, Bad, DefaultText, after_space, behind_name, default_in, formal_fault, formal_in, formal_name, formals_in, formals_of_list, is_nothing, leading_name, with_default}
+use Rattle.rdlpp_table.specs.Define.{FormalList, Listed, FormalListFault, OneFormal, Good, FormalFault, DefaultText, after_space, behind_name, default_in, formal_fault, formal_in, formal_name, formals_in, formals_of_list, is_nothing, leading_name, with_default}
 use Rattle.rdlpp_table.specs.Store.{is_default, is_name_byte, is_plain_formal}
 use Rattle.rdlpp_table.specs.Formals.{IsDefault, IsPart, IsRead, default_left, fault_behind, behind_told, formal_told, is_told, listed}
 use Rattle.rdlpp_table.specs.declared.fault.DefineKind.{DefineKind}
@@ -20,15 +20,15 @@ use Rattle.rdlpp_table.specs.declared.fault.DefineKind.TheVariants as kind
 -- A formal list as it is read, one formal after another.
 
 -- a list by its first formal
-pub list_full : (before : List Formal) (text : List ℕ) → formals_in 0 before text ≡ Unlisted (unwrap_or (formal_fault before (formal_name text)) kind.TooManyFormals)
+pub list_full : (before : List Formal) (text : List ℕ) → formals_in 0 before text ≡ FormalListFault (unwrap_or (formal_fault before (formal_name text)) kind.TooManyFormals)
 unfolding formals_in
 list_full before text = refl
 
 abbrev pub list_by : ℕ → List Formal → OneFormal → FormalList
 list_by room before o = elim o [
-  | Bad k ↦ Unlisted k
+  | FormalFault k ↦ FormalListFault k
   | Good f behind ↦ cond (eqb (get_or behind 0 0) 44) (formals_in room (before ++ f ∷ []) (drop 1 behind))
-      (cond (eqb (get_or behind 0 0) 41) (Listed (Some (before ++ f ∷ [])) (drop 1 behind)) (Unlisted kind.BadFormals))
+      (cond (eqb (get_or behind 0 0) 41) (Listed (Some (before ++ f ∷ [])) (drop 1 behind)) (FormalListFault kind.BadFormals))
 ]
 
 pub list_step : (room : ℕ) (before : List Formal) (text : List ℕ) → formals_in (suc room) before text ≡ list_by room before (formal_in before text)
@@ -36,7 +36,7 @@ unfolding formals_in
 list_step room before text = refl
 
 abbrev pub formal_by : Option DefineKind → List ℕ → Option DefaultText → OneFormal
-formal_by o name d = elim o [ Some k ↦ Bad k | None ↦ with_default name d ]
+formal_by o name d = elim o [ Some k ↦ FormalFault k | None ↦ with_default name d ]
 
 pub in_by : (before : List Formal) (text : List ℕ) → formal_in before text ≡ formal_by (formal_fault before (formal_name text)) (formal_name text) (default_in (behind_name text))
 unfolding formal_in
@@ -102,24 +102,24 @@ faultless before name e =
     record { fault = fault_three before name ∙ f.0; few = leb-false _ _ f.1 }
 
 -- a list whose next formal has a fault in its name
-refused_at : (room : ℕ) (before : List Formal) (text name behind : List ℕ) (k : DefineKind) → IsPart text name behind → formal_fault before name ≡ Some k → formals_in room before text ≡ Unlisted k
+refused_at : (room : ℕ) (before : List Formal) (text name behind : List ℕ) (k : DefineKind) → IsPart text name behind → formal_fault before name ≡ Some k → formals_in room before text ≡ FormalListFault k
 refused_at zero before text name behind k p e =
-    list_full before text ∙ (ap (λ (n : List ℕ). Unlisted (unwrap_or (formal_fault before n) kind.TooManyFormals)) (name_of text name behind p) ∙ ap (λ (o : Option DefineKind). Unlisted (unwrap_or o kind.TooManyFormals)) e)
+    list_full before text ∙ (ap (λ (n : List ℕ). FormalListFault (unwrap_or (formal_fault before n) kind.TooManyFormals)) (name_of text name behind p) ∙ ap (λ (o : Option DefineKind). FormalListFault (unwrap_or o kind.TooManyFormals)) e)
 refused_at (suc room) before text name behind k p e =
     list_step room before text ∙ ap (list_by room before) (part_by before text name behind p ∙ ap (λ (o : Option DefineKind). formal_by o name (default_in behind)) e)
 
-full_at : (room : ℕ) (before : List Formal) (text name behind : List ℕ) → room ≡ 0 → IsPart text name behind → formal_fault before name ≡ None → formals_in room before text ≡ Unlisted kind.TooManyFormals
+full_at : (room : ℕ) (before : List Formal) (text name behind : List ℕ) → room ≡ 0 → IsPart text name behind → formal_fault before name ≡ None → formals_in room before text ≡ FormalListFault kind.TooManyFormals
 full_at room before text name behind z p e =
     ap (λ (n : ℕ). formals_in n before text) z
-    ∙ (list_full before text ∙ (ap (λ (n : List ℕ). Unlisted (unwrap_or (formal_fault before n) kind.TooManyFormals)) (name_of text name behind p) ∙ ap (λ (o : Option DefineKind). Unlisted (unwrap_or o kind.TooManyFormals)) e))
+    ∙ (list_full before text ∙ (ap (λ (n : List ℕ). FormalListFault (unwrap_or (formal_fault before n) kind.TooManyFormals)) (name_of text name behind p) ∙ ap (λ (o : Option DefineKind). FormalListFault (unwrap_or o kind.TooManyFormals)) e))
 
-fault_at : (before : List Formal) (text name behind : List ℕ) (k : DefineKind) → IsPart text name behind → fault_behind (map (λ (f : Formal). f.name) before) name ≡ Some k → formals_in (255 - length before) before text ≡ Unlisted k
+fault_at : (before : List Formal) (text name behind : List ℕ) (k : DefineKind) → IsPart text name behind → fault_behind (map (λ (f : Formal). f.name) before) name ≡ Some k → formals_in (255 - length before) before text ≡ FormalListFault k
 fault_at before text name behind k p e =
     elim (four_some (is_nothing name) (ltb 128 (length name)) (list_any (λ (f : Formal). bytes_eq f.name name) before) (leb 255 (length before)) k (sym (fault_four before name) ∙ e)) [
       | inl f ↦ refused_at (255 - length before) before text name behind k p (fault_three before name ∙ f)
       | inr f ↦
           let z : 255 - length before ≡ 0 = omega (arith, leb-true 255 (length before) f.1) in
-          full_at (255 - length before) before text name behind z p (fault_three before name ∙ f.0) ∙ ap Unlisted (sym f.2)
+          full_at (255 - length before) before text name behind z p (fault_three before name ∙ f.0) ∙ ap FormalListFault (sym f.2)
     ]
 
 -- a formal with its default text
@@ -130,7 +130,7 @@ good_by : (name from behind : List ℕ) (size : ℕ) (d : Option DefaultText) �
 unfolding with_default
 good_by name from behind size d i = ap (with_default name) i.is
 
-none_by : (name : List ℕ) → with_default name None ≡ Bad kind.BadFormals
+none_by : (name : List ℕ) → with_default name None ≡ FormalFault kind.BadFormals
 unfolding with_default
 none_by name = refl
 
@@ -139,7 +139,7 @@ good_at before text name tail from behind size p e d =
     part_by before text name tail p
     ∙ (ap (λ (o : Option DefineKind). formal_by o name (default_in tail)) e ∙ good_by name from behind size (default_in tail) d)
 
-pub bad_at : (before : List Formal) (text name tail : List ℕ) → IsPart text name tail → formal_fault before name ≡ None → default_in tail ≡ None → formal_in before text ≡ Bad kind.BadFormals
+pub bad_at : (before : List Formal) (text name tail : List ℕ) → IsPart text name tail → formal_fault before name ≡ None → default_in tail ≡ None → formal_in before text ≡ FormalFault kind.BadFormals
 bad_at before text name tail p e d =
     part_by before text name tail p
     ∙ (ap (λ (o : Option DefineKind). formal_by o name (default_in tail)) e ∙ (ap (with_default name) d ∙ none_by name))
@@ -160,7 +160,7 @@ pub record IsFound (text rest : List ℕ) (names : List (List ℕ)) (size : ℕ)
   pub read : IsReading text rest names size
   pub part : IsPart rest name tail
 
-pub read_fault : (text rest : List ℕ) (names slice : List (List ℕ)) (size : ℕ) (name tail : List ℕ) (k : DefineKind) → IsFound text rest names size name tail → slice ≡ names → Some k ≡ fault_behind slice name → formals_in 255 [] text ≡ Unlisted k
+pub read_fault : (text rest : List ℕ) (names slice : List (List ℕ)) (size : ℕ) (name tail : List ℕ) (k : DefineKind) → IsFound text rest names size name tail → slice ≡ names → Some k ≡ fault_behind slice name → formals_in 255 [] text ≡ FormalListFault k
 read_fault text rest names slice size name tail k f s e =
     sym f.read.same
     ∙ fault_at f.read.before rest name tail k f.part (ap (λ (ns : List (List ℕ)). fault_behind ns name) (f.read.names_are ∙ sym s) ∙ sym e)
@@ -180,7 +180,7 @@ next_by text rest names size name tail f g =
     let n : 255 - length f.read.before ≡ suc (254 - length f.read.before) = omega (arith, g.few) in
     sym f.read.same ∙ (ap (λ (k : ℕ). formals_in k f.read.before rest) n ∙ list_step (254 - length f.read.before) f.read.before rest)
 
-pub read_bad : (text rest : List ℕ) (names slice : List (List ℕ)) (size : ℕ) (name tail : List ℕ) → IsFound text rest names size name tail → slice ≡ names → None ≡ fault_behind slice name → default_in tail ≡ None → formals_in 255 [] text ≡ Unlisted kind.BadFormals
+pub read_bad : (text rest : List ℕ) (names slice : List (List ℕ)) (size : ℕ) (name tail : List ℕ) → IsFound text rest names size name tail → slice ≡ names → None ≡ fault_behind slice name → default_in tail ≡ None → formals_in 255 [] text ≡ FormalListFault kind.BadFormals
 read_bad text rest names slice size name tail f s e d =
     let g = sound_name text rest names slice size name tail f s e in
     next_by text rest names size name tail f g ∙ ap (list_by (254 - length f.read.before) f.read.before) (bad_at f.read.before rest name tail f.part g.fault d)
@@ -198,7 +198,7 @@ taken_by text rest names slice size name tail from behind counted t =
     let g = sound_name text rest names slice size name tail f t.slice_is t.sound in
     next_by text rest names size name tail f g ∙ ap (list_by (254 - length f.read.before) f.read.before) (good_at f.read.before rest name tail from behind counted f.part g.fault t.default)
 
-pub read_other : (text rest : List ℕ) (names slice : List (List ℕ)) (size : ℕ) (name tail from behind : List ℕ) (counted : ℕ) → IsTaken text rest names slice size name tail from behind counted → eqb (get_or behind 0 0) 44 ≡ false → eqb (get_or behind 0 0) 41 ≡ false → formals_in 255 [] text ≡ Unlisted kind.BadFormals
+pub read_other : (text rest : List ℕ) (names slice : List (List ℕ)) (size : ℕ) (name tail from behind : List ℕ) (counted : ℕ) → IsTaken text rest names slice size name tail from behind counted → eqb (get_or behind 0 0) 44 ≡ false → eqb (get_or behind 0 0) 41 ≡ false → formals_in 255 [] text ≡ FormalListFault kind.BadFormals
 read_other text rest names slice size name tail from behind counted t a b =
     taken_by text rest names slice size name tail from behind counted t ∙ (cond-false _ _ _ a ∙ cond-false _ _ _ b)
 
@@ -332,14 +332,14 @@ no_names f xs e = ap (map f) e
 told_good : (text : List ℕ) (f : Formal) (behind : List ℕ) → formal_in [] text ≡ Good f behind → (formal_told text ≡ f) × (behind_told text ≡ behind) × (is_told text ≡ true)
 unfolding formal_told behind_told is_told
 told_good text f behind e = (
-  ap (λ (o : OneFormal). elim o [ Good g x ↦ g | Bad k ↦ (let n : Formal = record { name = []; text = [] } in n) ]) e,
-  ap (λ (o : OneFormal). elim o [ Good g x ↦ x | Bad k ↦ [] ]) e,
-  ap (λ (o : OneFormal). elim o [ Good g x ↦ true | Bad k ↦ false ]) e,
+  ap (λ (o : OneFormal). elim o [ Good g x ↦ g | FormalFault k ↦ (let n : Formal = record { name = []; text = [] } in n) ]) e,
+  ap (λ (o : OneFormal). elim o [ Good g x ↦ x | FormalFault k ↦ [] ]) e,
+  ap (λ (o : OneFormal). elim o [ Good g x ↦ true | FormalFault k ↦ false ]) e,
 )
 
-told_bad : (text : List ℕ) (k : DefineKind) → formal_in [] text ≡ Bad k → is_told text ≡ false
+told_bad : (text : List ℕ) (k : DefineKind) → formal_in [] text ≡ FormalFault k → is_told text ≡ false
 unfolding is_told
-told_bad text k e = ap (λ (o : OneFormal). elim o [ Good g x ↦ true | Bad j ↦ false ]) e
+told_bad text k e = ap (λ (o : OneFormal). elim o [ Good g x ↦ true | FormalFault j ↦ false ]) e
 
 -- a told formal's name has no fault
 sound_by : (o : Option DefineKind) (text name tail : List ℕ) → IsPart text name tail → formal_fault [] name ≡ o → is_told text ≡ true → formal_fault [] name ≡ None
@@ -403,7 +403,7 @@ good_name : (before : List Formal) (text : List ℕ) (o : Option DefineKind) (f 
 unfolding formal_in
 good_name before text None f behind e g = refl
 good_name before text (Some k) f behind e g =
-    let b : Bad k ≡ Good f behind = sym (ap (λ (x : Option DefineKind). formal_by x (formal_name text) (default_in (behind_name text))) e) ∙ g in
+    let b : FormalFault k ≡ Good f behind = sym (ap (λ (x : Option DefineKind). formal_by x (formal_name text) (default_in (behind_name text))) e) ∙ g in
     absurd (cc)
 
 good_alone : (before : List Formal) (text : List ℕ) (f : Formal) (behind : List ℕ) → formal_in before text ≡ Good f behind → formal_in [] text ≡ Good f behind
@@ -429,17 +429,17 @@ pub record IsFirst (room : ℕ) (before : List Formal) (text : List ℕ) : Type 
   pub next : eqb (get_or (behind_told text) 0 0) 44 ≡ true → formals_in room before text ≡ formals_in left (before ++ formal_told text ∷ []) (drop 1 (behind_told text))
   pub last : eqb (get_or (behind_told text) 0 0) 44 ≡ false → formals_in room before text ≡ Listed (Some (before ++ formal_told text ∷ [])) (drop 1 (behind_told text))
 
-closed_by : (c : Bool) (fs : List Formal) (after : List ℕ) (k : DefineKind) → is_listed (cond c (Listed (Some fs) after) (Unlisted k)) ≡ true → cond c (Listed (Some fs) after) (Unlisted k) ≡ Listed (Some fs) after
+closed_by : (c : Bool) (fs : List Formal) (after : List ℕ) (k : DefineKind) → is_listed (cond c (Listed (Some fs) after) (FormalListFault k)) ≡ true → cond c (Listed (Some fs) after) (FormalListFault k) ≡ Listed (Some fs) after
 unfolding listed
 closed_by true fs after k e = refl
 closed_by false fs after k e = absurd (false≢true e)
 
-not_listed : (k : DefineKind) → is_listed (Unlisted k) ≡ false
+not_listed : (k : DefineKind) → is_listed (FormalListFault k) ≡ false
 unfolding listed
 not_listed k = refl
 
 first_by : (left : ℕ) (before : List Formal) (text : List ℕ) (o : OneFormal) → formal_in before text ≡ o → is_listed (list_by left before o) ≡ true → IsFirst (suc left) before text
-first_by left before text (Bad k) e h = absurd (false≢true (sym (not_listed k) ∙ h))
+first_by left before text (FormalFault k) e h = absurd (false≢true (sym (not_listed k) ∙ h))
 first_by left before text (Good f behind) e h =
     let g = told_good text f behind (good_alone before text f behind e) in
     let step : formals_in (suc left) before text ≡ list_by left before (Good (formal_told text) (behind_told text)) =
@@ -452,7 +452,7 @@ first_by left before text (Good f behind) e h =
       told = g.2;
       next = λ c. step ∙ cond-true _ _ _ c;
       last = λ c.
-          let closed : is_listed (cond (eqb (get_or (behind_told text) 0 0) 41) (Listed (Some (before ++ formal_told text ∷ [])) (drop 1 (behind_told text))) (Unlisted kind.BadFormals)) ≡ true =
+          let closed : is_listed (cond (eqb (get_or (behind_told text) 0 0) 41) (Listed (Some (before ++ formal_told text ∷ [])) (drop 1 (behind_told text))) (FormalListFault kind.BadFormals)) ≡ true =
           sym (ap is_listed (cond-false _ _ _ c)) ∙ here in
           step ∙ (cond-false _ _ _ c ∙ closed_by _ _ _ _ closed);
     }

@@ -15,7 +15,7 @@ use Rattle.rdlpp_scan.proofs.Seams.{word_ten}
 use Rattle.rdlpp_lines.specs.Continuations.{joined}
 use Rattle.rdlpp_lines.specs.Texts.{text_behind}
 use Rattle.rdlpp_lines.proofs.Joins.{SameRun, first_in, first_out, joined_none, same_run, word_back}
-use Rattle.rdlpp_table.specs.Define.{Accepted, Draft, FormalList, Listed, Refused, Rejected, Unlisted, after_space, define_of, formal_list, formals_of_list, is_space, leading_name, logical_text, macro_from, macro_of, name_fault, observed, refused_word, stored, stored_draft, unended, with_body, with_list}
+use Rattle.rdlpp_table.specs.Define.{Accepted, Draft, FormalList, Listed, DefinedFault, DraftFault, FormalListFault, after_space, define_of, formal_list, formals_of_list, is_space, leading_name, logical_text, macro_from, macro_of, name_fault, observed, refused_word, stored, stored_draft, unended, with_body, with_list}
 use Rattle.rdlpp_table.specs.Entries.{offsets_len}
 use Rattle.rdlpp_table.specs.Formals.{IsPart}
 use Rattle.rdlpp_table.specs.Layout.{IsHeld, view_of}
@@ -367,11 +367,11 @@ stored_nowhere {from = from} {ahead = ahead} ms name bytes entries at s =
     subst P (sym (without_nowhere name ms at)) s
 
 -- what a definition gives a table, by the three cases
-pub too_large : (a b : ℕ) (ms : List Macro) (m : Macro) → a < table_size (without m.name ms) + macro_size m → stored a b ms m ≡ Refused kind.DefinitionBytes []
+pub too_large : (a b : ℕ) (ms : List Macro) (m : Macro) → a < table_size (without m.name ms) + macro_size m → stored a b ms m ≡ DefinedFault kind.DefinitionBytes []
 unfolding stored
 too_large a b ms m h = cond-true _ _ _ (lt-ltb _ _ h)
 
-pub too_many : (a b : ℕ) (ms : List Macro) (m : Macro) → table_size (without m.name ms) + macro_size m ≤ a → b < length (without m.name ms) + 1 → stored a b ms m ≡ Refused kind.TooManyDefinitions []
+pub too_many : (a b : ℕ) (ms : List Macro) (m : Macro) → table_size (without m.name ms) + macro_size m ≤ a → b < length (without m.name ms) + 1 → stored a b ms m ≡ DefinedFault kind.TooManyDefinitions []
 unfolding stored
 too_many a b ms m h k = cond-false _ _ _ (le-ltb _ _ h) ∙ cond-true _ _ _ (lt-ltb _ _ k)
 
@@ -379,9 +379,9 @@ pub fits : (a b : ℕ) (ms : List Macro) (m : Macro) → table_size (without m.n
 unfolding stored
 fits a b ms m h k = cond-false _ _ _ (le-ltb _ _ h) ∙ cond-false _ _ _ (le-ltb _ _ k)
 
-pub refused_is : (e : DefineFault) (k : DefineKind) (ms : List Macro) → e.kind ≡ k → e.word.bytes ≡ [] → observed (Err e) ms ≡ Refused k []
+pub refused_is : (e : DefineFault) (k : DefineKind) (ms : List Macro) → e.kind ≡ k → e.word.bytes ≡ [] → observed (Err e) ms ≡ DefinedFault k []
 unfolding observed
-refused_is e k ms p q = ap (λ (x : DefineKind). Refused x e.word.bytes) p ∙ ap (Refused k) q
+refused_is e k ms p q = ap (λ (x : DefineKind). DefinedFault x e.word.bytes) p ∙ ap (DefinedFault k) q
 
 pub accepted_is : (ms : List Macro) → observed (Ok tt) ms ≡ Accepted ms
 unfolding observed
@@ -544,7 +544,7 @@ good_name name found e at is h = cond-false _ _ _ e ∙ (cond-false _ _ _ (sym i
 
 -- the draft of a text by what is wrong with its name
 abbrev named_draft : List ℕ → List ℕ → Option DefineKind → Draft
-named_draft name after fault = elim fault [ Some k ↦ Rejected k (refused_word k name) | None ↦ with_list name after ]
+named_draft name after fault = elim fault [ Some k ↦ DraftFault k (refused_word k name) | None ↦ with_list name after ]
 
 macro_by_name : (rest line text name after : List ℕ) → line ≡ unended rest → joined true text ≡ after_space (joined true line) → name ≡ leading_name text → after ≡ drop (length name) text → macro_of rest ≡ named_draft name (joined true after) (name_fault name)
 unfolding macro_of logical_text macro_from joined
@@ -566,21 +566,21 @@ define_stores a b ms rest line text name after e f g h ok =
 pub define_refuses : (a b : ℕ) (ms : List Macro) (rest line text name : List ℕ) (fault : DefineFault) → line ≡ unended rest → joined true text ≡ after_space (joined true line) → name ≡ leading_name text → name_fault name ≡ Some fault.kind → fault.word.bytes ≡ refused_word fault.kind name → observed (Err fault) ms ≡ define_of a b ms rest
 unfolding define_of stored_draft observed
 define_refuses a b ms rest line text name fault e f g why word =
-    let draft : macro_of rest ≡ Rejected fault.kind fault.word.bytes =
+    let draft : macro_of rest ≡ DraftFault fault.kind fault.word.bytes =
     macro_by_name rest line text name (drop (length name) text) e f g refl
     ∙ (ap (named_draft name (joined true (drop (length name) text))) why
-    ∙ ap (Rejected fault.kind) (sym word)) in
+    ∙ ap (DraftFault fault.kind) (sym word)) in
     sym (ap (stored_draft a b ms) draft)
 
 -- the draft of a list that was read
 abbrev listed_draft : List ℕ → FormalList → Draft
-listed_draft name l = elim l [ Unlisted k ↦ Rejected k [] | Listed formals text ↦ with_body name formals text ]
+listed_draft name l = elim l [ FormalListFault k ↦ DraftFault k [] | Listed formals text ↦ with_body name formals text ]
 
 pub list_stores : (a b : ℕ) (ms : List Macro) (name after : List ℕ) (formals : Option (List Formal)) (text : List ℕ) → formal_list after ≡ Listed formals text → stored_draft a b ms (with_body name formals text) ≡ stored_draft a b ms (with_list name after)
 unfolding with_list
 list_stores a b ms name after formals text e = sym (ap (λ (l : FormalList). stored_draft a b ms (listed_draft name l)) e)
 
-pub list_refuses : (a b : ℕ) (ms : List Macro) (name after : List ℕ) (k : DefineKind) (fault : DefineFault) → formal_list after ≡ Unlisted k → fault.kind ≡ k → fault.word.bytes ≡ [] → observed (Err fault) ms ≡ stored_draft a b ms (with_list name after)
+pub list_refuses : (a b : ℕ) (ms : List Macro) (name after : List ℕ) (k : DefineKind) (fault : DefineFault) → formal_list after ≡ FormalListFault k → fault.kind ≡ k → fault.word.bytes ≡ [] → observed (Err fault) ms ≡ stored_draft a b ms (with_list name after)
 unfolding with_list stored_draft
 list_refuses a b ms name after k fault e is word =
     refused_is fault k ms is word ∙ sym (ap (λ (l : FormalList). stored_draft a b ms (listed_draft name l)) e)

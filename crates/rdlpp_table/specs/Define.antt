@@ -24,7 +24,7 @@ use Rattle.rdlpp_table.specs.declared.fault.DefineKind.TheVariants as kind
 -- the macros with the new one, or why there is none, and for a reserved name that name
 pub data Defined : Type 0 where
   Accepted : List Macro → Defined
-  Refused : DefineKind → List ℕ → Defined
+  DefinedFault : DefineKind → List ℕ → Defined
 
 -- a logical line without the LF that ends it, where one does (this project's profile)
 unfoldable pub unended : List ℕ → List ℕ
@@ -108,12 +108,12 @@ default_in behind =
 -- a formal that was read and what stands behind it, or what is wrong with it
 pub data OneFormal : Type 0 where
   Good : Formal → List ℕ → OneFormal
-  Bad : DefineKind → OneFormal
+  FormalFault : DefineKind → OneFormal
 
 -- the formals of a list and the text behind it, or what is wrong with them
 pub data FormalList : Type 0 where
   Listed : Option (List Formal) → List ℕ → FormalList
-  Unlisted : DefineKind → FormalList
+  FormalListFault : DefineKind → FormalList
 
 -- the name of the formal with which a list's text begins, or nothing (IEEE 1364-2001, `define`)
 unfoldable pub formal_name : List ℕ → List ℕ
@@ -134,25 +134,25 @@ formal_fault before name =
 
 -- a formal of a name with its default text, where that has no fault (this project's profile)
 unfoldable pub with_default : List ℕ → Option DefaultText → OneFormal
-with_default name None = Bad kind.BadFormals
+with_default name None = FormalFault kind.BadFormals
 with_default name (Some d) = Good (record { name = name; text = d.text }) d.behind
 
 -- the formal with which a list's text begins, behind other formals (this project's profile)
 unfoldable pub formal_in : List Formal → List ℕ → OneFormal
 formal_in before text = elim (formal_fault before (formal_name text)) [
-  | Some k ↦ Bad k
+  | Some k ↦ FormalFault k
   | None ↦ with_default (formal_name text) (default_in (behind_name text))
 ]
 
 -- the formals of a list's text, behind other formals, up to the first fault, where so many more may follow; `,` stands between two
 -- of them, and `)` behind the last (IEEE 1364-2001, `define`; the faults are this project's profile)
 unfoldable pub formals_in : ℕ → List Formal → List ℕ → FormalList
-formals_in zero before text = Unlisted (unwrap_or (formal_fault before (formal_name text)) kind.TooManyFormals)
+formals_in zero before text = FormalListFault (unwrap_or (formal_fault before (formal_name text)) kind.TooManyFormals)
 formals_in (suc room) before text = elim (formal_in before text) [
-  | Bad k ↦ Unlisted k
+  | FormalFault k ↦ FormalListFault k
   | Good f behind ↦ if slice_index behind 0 == 44 then formals_in room (before ++ f ∷ []) (drop 1 behind)
       else (if slice_index behind 0 == 41 then Listed (Some (before ++ f ∷ [])) (drop 1 behind)
-      else Unlisted kind.BadFormals)
+      else FormalListFault kind.BadFormals)
 ]
 
 -- the formals of a list, after its `(`, and the text behind it: none where all is white space up to its `)`, else at most 255
@@ -170,13 +170,13 @@ formal_list after =
 -- a macro that isn't stored yet, or why there is none, and for a reserved name that name
 pub data Draft : Type 0 where
   Drawn : Macro → Draft
-  Rejected : DefineKind → List ℕ → Draft
+  DraftFault : DefineKind → List ℕ → Draft
 
 -- a macro with a body, or the first lexical fault of the body's text (this project's profile)
 unfoldable pub with_body : List ℕ → Option (List Formal) → List ℕ → Draft
 with_body name formals text =
     elim (lex_fault_from Plain text) [
-      | Some fault ↦ Rejected (lexical fault) []
+      | Some fault ↦ DraftFault (lexical fault) []
       | None ↦ Drawn (record { name = name; formals = formals; body = trimmed (text_without_line_comments (tokens_from Plain 0 text) text) })
     ]
 
@@ -188,7 +188,7 @@ refused_word _ name = []
 -- a macro of a name with what stands behind the name (this project's profile)
 unfoldable pub with_list : List ℕ → List ℕ → Draft
 with_list name after = elim (formal_list after) [
-  | Unlisted k ↦ Rejected k []
+  | FormalListFault k ↦ DraftFault k []
   | Listed formals text ↦ with_body name formals text
 ]
 
@@ -197,7 +197,7 @@ unfoldable pub macro_from : List ℕ → Draft
 macro_from text =
     let name = leading_name text in
     elim (name_fault name) [
-      | Some k ↦ Rejected k (refused_word k name)
+      | Some k ↦ DraftFault k (refused_word k name)
       | None ↦ with_list name (drop (length name) text)
     ]
 
@@ -208,26 +208,26 @@ macro_of rest = macro_from (after_space (logical_text rest))
 -- a macro of a name without a formal list (this project's profile)
 unfoldable pub without_list : List ℕ → List ℕ → Draft
 without_list name text = elim (name_fault name) [
-  | Some k ↦ Rejected k (refused_word k name)
+  | Some k ↦ DraftFault k (refused_word k name)
   | None ↦ with_body name None text
 ]
 
 -- the macro without a formal list of a text that is one name, and of a body's text without continuations (this project's profile)
 unfoldable pub macro_set : List ℕ → List ℕ → Draft
-macro_set name text = if is_name name then without_list name text else Rejected kind.NameExpected []
+macro_set name text = if is_name name then without_list name text else DraftFault kind.NameExpected []
 
 -- a macro as the newest of a table, in the place of one of its name (this project's profile)
 unfoldable pub stored : ℕ → ℕ → List Macro → Macro → Defined
 stored most_bytes most_macros macros m =
     let others = without m.name macros in
-    if nat_lt most_bytes (table_size others + macro_size m) then Refused kind.DefinitionBytes []
-    else (if nat_lt most_macros (length others + 1) then Refused kind.TooManyDefinitions []
+    if nat_lt most_bytes (table_size others + macro_size m) then DefinedFault kind.DefinitionBytes []
+    else (if nat_lt most_macros (length others + 1) then DefinedFault kind.TooManyDefinitions []
     else Accepted (others ++ m ∷ []))
 
 -- a draft in a table
 unfoldable pub stored_draft : ℕ → ℕ → List Macro → Draft → Defined
 stored_draft most_bytes most_macros macros (Drawn m) = stored most_bytes most_macros macros m
-stored_draft most_bytes most_macros macros (Rejected k word) = Refused k word
+stored_draft most_bytes most_macros macros (DraftFault k word) = DefinedFault k word
 
 -- what a `define` gives, from what follows that word, in a table that takes so many bytes and so many macros (this project's profile)
 unfoldable pub define_of : ℕ → ℕ → List Macro → List ℕ → Defined
@@ -240,4 +240,4 @@ set_of most_bytes most_macros macros name text = stored_draft most_bytes most_ma
 -- what a call tells of the definitions behind it: the macros, or why it was refused
 unfoldable pub observed : Result (Unit {0}) DefineFault → List Macro → Defined
 observed (Ok done) macros = Accepted macros
-observed (Err fault) macros = Refused fault.kind fault.word.bytes
+observed (Err fault) macros = DefinedFault fault.kind fault.word.bytes

@@ -6,7 +6,7 @@ use Rattle.std.specs.Option.{option_map}
 use Rattle.rdlpp_scan.specs.declared.token.Mode.TheVariants.{Plain}
 use Rattle.rdlpp_scan.specs.Tokens.{tokens_from}
 use Rattle.rdlpp_table.specs.Table.{Formal, default_size, formal_size}
-use Rattle.rdlpp_table.specs.Define.{DefaultText, FormalList, Listed, Unlisted, Good, Bad, after_space, default_of_tokens, formal_in, is_nothing, leading_name, trimmed_default}
+use Rattle.rdlpp_table.specs.Define.{DefaultText, FormalList, Listed, FormalListFault, Good, FormalFault, after_space, default_of_tokens, formal_in, is_nothing, leading_name, trimmed_default}
 use Rattle.rdlpp_lines.specs.Texts.{cleared, start_level, trimmed_left, trimmed_len, trims}
 use Rattle.rdlpp_table.specs.Store.{is_default, is_plain_formal}
 use Rattle.rdlpp_table.specs.declared.fault.DefineKind.{DefineKind}
@@ -45,20 +45,20 @@ pub record IsRead (list : FormalList) (behind : List ℕ) (count size : ℕ) (fo
 
 -- the formal with which a list's text begins, where it has no fault
 unfoldable pub formal_told : List ℕ → Formal
-formal_told text = elim (formal_in [] text) [ Good f behind ↦ f | Bad k ↦ record { name = []; text = [] } ]
+formal_told text = elim (formal_in [] text) [ Good f behind ↦ f | FormalFault k ↦ record { name = []; text = [] } ]
 
 -- what stands behind it
 unfoldable pub behind_told : List ℕ → List ℕ
-behind_told text = elim (formal_in [] text) [ Good f behind ↦ behind | Bad k ↦ [] ]
+behind_told text = elim (formal_in [] text) [ Good f behind ↦ behind | FormalFault k ↦ [] ]
 
 -- whether it has no fault
 unfoldable pub is_told : List ℕ → Bool
-is_told text = elim (formal_in [] text) [ Good f behind ↦ true | Bad k ↦ false ]
+is_told text = elim (formal_in [] text) [ Good f behind ↦ true | FormalFault k ↦ false ]
 
 -- the formals of a list that was read
 unfoldable pub listed : FormalList → Option (List Formal)
 listed (Listed formals behind) = formals
-listed (Unlisted k) = None
+listed (FormalListFault k) = None
 
 -- what a list's text begins with: white space, a name or nothing, white space, and what stands behind them
 pub record IsPart (text name behind : List ℕ) : Type 0 where

@@ -26,7 +26,7 @@ ghost use Rattle.std.specs.Prelude.{
 };
 ghost use Rattle.std.specs.List.{flat_map, list_any};
 ghost use Rattle.rdlpp_lines.specs.Continuations.{joined};
-ghost use Rattle.rdlpp_table.specs.Define.{default_in, formals_in, formals_of_list, Unlisted};
+ghost use Rattle.rdlpp_table.specs.Define.{default_in, formals_in, formals_of_list, FormalListFault};
 ghost use Rattle.rdlpp_table.specs.Formals.{behind_told, default_behind, fault_behind, formal_told, is_told, listed, IsDefault, IsPart, IsRead};
 ghost use Rattle.rdlpp_table.specs.Table.{formal_bytes, formal_size, Formal};
 
@@ -144,7 +144,7 @@ pub(crate) struct ReadList<'a> {
 
 // Reads the formals of a list that has some.
 fn read_some(text: &[u8]) -> Result<ReadList<'_>, DefineKind>
-    ensures read { MatchResult result (λ read. (formals : List Formal) × IsRead (formals_in 255 [] (joined true text.now)) (joined true read.behind.now) read.count read.size formals) (λ kind. formals_in 255 [] (joined true text.now) ≡ Unlisted kind) }
+    ensures read { MatchResult result (λ read. (formals : List Formal) × IsRead (formals_in 255 [] (joined true text.now)) (joined true read.behind.now) read.count read.size formals) (λ kind. formals_in 255 [] (joined true text.now) ≡ FormalListFault kind) }
 {
     let mut names: ArrayVec<&[u8], MOST_FORMALS> = ArrayVec::new();
     let mut rest = text;
@@ -178,7 +178,7 @@ fn read_some(text: &[u8]) -> Result<ReadList<'_>, DefineKind>
 
 // Reads a formal list, behind its `(`.
 pub(crate) fn read_list(text: &[u8]) -> Result<ReadList<'_>, DefineKind>
-    ensures read { MatchResult result (λ read. (formals : List Formal) × IsRead (formals_of_list (joined true text.now)) (joined true read.behind.now) read.count read.size formals) (λ kind. formals_of_list (joined true text.now) ≡ Unlisted kind) }
+    ensures read { MatchResult result (λ read. (formals : List Formal) × IsRead (formals_of_list (joined true text.now)) (joined true read.behind.now) read.count read.size formals) (λ kind. formals_of_list (joined true text.now) ≡ FormalListFault kind) }
 {
     if let Some((b, behind)) = split_first(after_space(text), true) {
         if b == b')' {

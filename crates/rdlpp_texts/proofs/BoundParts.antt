@@ -9,9 +9,9 @@ use Rattle.std.proofs.lemmas.List.Elements.{All-cons, All-drop, All-head, All-ni
 use Rattle.std.proofs.lemmas.Slice.{between_to_end}
 use Rattle.rdlpp_scan.specs.SourceTokens.{SourceToken}
 use Rattle.rdlpp_table.specs.Table.{Formal, Macro}
-use Rattle.rdlpp_meaning.specs.Actuals.{Bound as CallBound, Call, Cut, Lacking, Role, actual_of, behind_space, is_space, level_behind, not_kept, text_reads, token_role, trimmed}
+use Rattle.rdlpp_meaning.specs.Actuals.{Bound as CallBound, Call, Cut, CallFault, Role, actual_of, behind_space, is_space, level_behind, not_kept, text_reads, token_role, trimmed}
 use Rattle.rdlpp_meaning.specs.CallScan.{Closed, Split, all_parts, call_of, call_of_scan, is_kept, split, split_by}
-use Rattle.rdlpp_meaning.specs.Expansion.{Opens, Refuses, bound_parts, bytes_of, is_count, usage_of_call, usage_of_formals}
+use Rattle.rdlpp_meaning.specs.Expansion.{Opens, UsageFault, bound_parts, bytes_of, is_count, usage_of_call, usage_of_formals}
 use Rattle.rdlpp_meaning.specs.Opens.{part_tokens}
 use Rattle.rdlpp_meaning.specs.State.{Rules}
 use Rattle.rdlpp_meaning.specs.Substitution.{body_tokens}
@@ -410,7 +410,7 @@ usage_by_call rules line name m fs text at end call e = ap (usage_of_call text_r
 usage_closed : (rules : Rules) (line : ℕ) (name : List ℕ) (m : Macro) (fs : List Formal) (text : List ℕ) (at end len : ℕ) (c : IsClosedAt (slice_range text at end) len) (right : Bool)
     → KeepsAll (body_tokens (slice_range text at end)) → right ≡ is_count fs (actuals_in true (drop len (slice_range text at end)))
     → usage_in rules line name m fs text at end
-    ≡ cond right (Opens m (bound_parts fs (actuals_in true (drop len (slice_range text at end)))) c.used) (Refuses ArgumentCount name line)
+    ≡ cond right (Opens m (bound_parts fs (actuals_in true (drop len (slice_range text at end)))) c.used) (UsageFault ArgumentCount name line)
 unfolding usage_of_call actuals_in all_parts call_of_scan
 usage_closed rules line name m fs text at end len c right all e =
     let W = slice_range text at end in
@@ -419,10 +419,10 @@ usage_closed rules line name m fs text at end len c right all e =
     let xs = actuals_in true (drop len W) in
     usage_by_call rules line name m fs text at end (CallBound s.first s.further c.used)
     (λ room. c.call room ∙ ap (λ (ts : List SourceToken). call_of_scan token_role 0 (Closed ts c.used)) (c.keeps (filter_all (λ t. is_kept (token_role t)) (body_tokens W) all)))
-    ∙ ap (λ (parts : List (List SourceToken)). cond (is_count fs parts) (Opens m (bound_parts fs parts) c.used) (Refuses ArgumentCount name line))
+    ∙ ap (λ (parts : List (List SourceToken)). cond (is_count fs parts) (Opens m (bound_parts fs parts) c.used) (UsageFault ArgumentCount name line))
     (subst (λ (ts : List SourceToken). map (actual_of text_reads) (all_parts (split token_role 0 ts)) ≡ map (trimmed token_role) (all_parts (split token_role 0 ts))) c.own
     (actuals-body (bytes_of inner)))
-    ∙ ap (λ (b : Bool). cond b (Opens m (bound_parts fs xs) c.used) (Refuses ArgumentCount name line)) (sym e)
+    ∙ ap (λ (b : Bool). cond b (Opens m (bound_parts fs xs) c.used) (UsageFault ArgumentCount name line)) (sym e)
 
 -- a range of the front of a text
 front_range : (text : List ℕ) (end i j : ℕ) → i ≤ j → j ≤ end → slice_range (take end text) i j ≡ slice_range text i j
@@ -481,7 +481,7 @@ pub missing : (text : List ℕ) (at end formals : ℕ) (ranges : List Range) →
     → IsBoundCall text at end formals ranges (Err ArgumentsMissing)
 unfolding IsBoundCall usage_of_call
 missing text at end formals ranges e = λ rules line name m fs is.
-    usage_by_call rules line name m fs text at end (Lacking ArgumentsMissing) (missing_call (slice_range text at end) e)
+    usage_by_call rules line name m fs text at end (CallFault ArgumentsMissing) (missing_call (slice_range text at end) e)
 
 -- a call without a `)`
 pub unclosed : (text : List ℕ) (at end formals len : ℕ) (old new ranges : List Range) → IsOpenedAt text at end len → IsOpen true (take end text) (at + len) old new
@@ -491,7 +491,7 @@ unclosed text at end formals len old new ranges o b = λ rules line name m fs is
     let h = behind_opener text at end len o in
     let full = b.end ∙ h.front in
     let same = ap (inner_size true) h.rest in
-    ⊎_elim (λ u. usage_by_call rules line name m fs text at end (Lacking ArgumentsOpen) u.call)
+    ⊎_elim (λ u. usage_by_call rules line name m fs text at end (CallFault ArgumentsOpen) u.call)
     (λ c. absurd (let less = c.size in let size = h.size in let fits = h.fits in omega (arith, less, size, full, same, fits))) (call_at (slice_range text at end) len o.opens)
 
 -- a call with more or fewer parts

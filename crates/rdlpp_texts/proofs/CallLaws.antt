@@ -11,8 +11,8 @@ use Rattle.rdlpp_scan.specs.declared.token.Kind.TheVariants.{Closer, Opener}
 use Rattle.rdlpp_scan.specs.declared.token.Mode.{Mode}
 use Rattle.rdlpp_scan.specs.declared.token.Mode.TheVariants.{Plain}
 use Rattle.rdlpp_scan.specs.declared.token.Token.{Token}
-use Rattle.rdlpp_meaning.specs.Actuals.{Down, Dropped, End, Ends, Halt, Lacking, KeptComment, Role, Space, Start, Stops, Up, kept_size, kind_role, level_behind, not_kept, token_role}
-use Rattle.rdlpp_meaning.specs.CallScan.{Before, Closed, Closes, Inside, Keeps, Passes, Refused, Scanned, CallState, Turn, call_of, call_of_scan, fault_at_end, is_call_text, is_kept, room_behind, scan, scan_onto, scanned, call_state_behind, call_state_behind_lead, turn, turn_before, turn_fitting, turn_inside}
+use Rattle.rdlpp_meaning.specs.Actuals.{Down, Dropped, End, Ends, Halt, CallFault, KeptComment, Role, Space, Start, Stops, Up, kept_size, kind_role, level_behind, not_kept, token_role}
+use Rattle.rdlpp_meaning.specs.CallScan.{Before, Closed, Closes, Inside, Keeps, Passes, ScanFault, Scanned, CallState, Turn, call_of, call_of_scan, fault_at_end, is_call_text, is_kept, room_behind, scan, scan_onto, scanned, call_state_behind, call_state_behind_lead, turn, turn_before, turn_fitting, turn_inside}
 use Rattle.rdlpp_meaning.specs.Expansion.{bytes_of}
 use Rattle.rdlpp_meaning.specs.Substitution.{body_tokens, spelled}
 use Rattle.rdlpp_meaning.specs.TextTokens.{text_tokens}
@@ -66,8 +66,8 @@ pub record IsLed (at n : ℕ) (ts : List SourceToken) : Type 0 where
 
 -- where no `(` follows, by the role of the first token
 none_by : (r : Role) (t : SourceToken) (here : ℕ) (found : Option ℕ) (s : CallState → Scanned SourceToken) → is_call_text r ≡ true
-    → (found ≡ None → s Before ≡ Refused ArgumentsMissing) → opener_by r here found ≡ None
-    → scanned (turn_before r) t (s (call_state_behind_lead r)) ≡ Refused ArgumentsMissing
+    → (found ≡ None → s Before ≡ ScanFault ArgumentsMissing) → opener_by r here found ≡ None
+    → scanned (turn_before r) t (s (call_state_behind_lead r)) ≡ ScanFault ArgumentsMissing
 unfolding opener_by scanned turn_before call_state_behind_lead is_call_text scan_onto
 none_by Space t here found s text rest e = ap (scan_onto []) (rest e)
 none_by Dropped t here found s text rest e = ap (scan_onto []) (rest e)
@@ -78,7 +78,7 @@ none_by r t here found s text rest e = refl
 
 -- where no `(` follows, arguments are missing
 pub opener_none : (ts : List SourceToken) (at room : ℕ) → All (λ t. is_call_text (token_role t) ≡ true) ts → opener_from at ts ≡ None
-    → scan token_role not_kept Before room ts ≡ Refused ArgumentsMissing
+    → scan token_role not_kept Before room ts ≡ ScanFault ArgumentsMissing
 unfolding opener_from scan fault_at_end turn call_state_behind room_behind
 opener_none [] at room all e = refl
 opener_none (t ∷ ts) at room all e =
@@ -168,7 +168,7 @@ ends_is r k e = absurd (false≢true e)
 -- a call that isn't closed has all its tokens, and its scan is refused
 pub record IsUnclosed (level : ℕ) (ts : List SourceToken) : Type 0 where
   pub all : inner_tokens true level ts ≡ ts
-  pub scans : (room : ℕ) → scan token_role not_kept (Inside level) room ts ≡ Refused ArgumentsOpen
+  pub scans : (room : ℕ) → scan token_role not_kept (Inside level) room ts ≡ ScanFault ArgumentsOpen
 
 -- one that is closed has those in front of its `)`, and its scan keeps what is kept of them
 pub record IsEnded (level : ℕ) (ts : List SourceToken) : Type 0 where
@@ -180,7 +180,7 @@ pub record IsEnded (level : ℕ) (ts : List SourceToken) : Type 0 where
       ≡ Closed (filter (λ t. is_kept (token_role t)) (inner_tokens true level ts)) (length (inner_tokens true level ts) + 1)
 
 -- a scan that is refused is so with a thing in front
-refused_front : (kept : Bool) (t : SourceToken) → scanned (cond kept Keeps Passes) t (Refused ArgumentsOpen) ≡ Refused ArgumentsOpen
+refused_front : (kept : Bool) (t : SourceToken) → scanned (cond kept Keeps Passes) t (ScanFault ArgumentsOpen) ≡ ScanFault ArgumentsOpen
 unfolding scanned scan_onto
 refused_front true t = refl
 refused_front false t = refl
@@ -288,7 +288,7 @@ passing_closed (suc n) ks used =
     ap (scan_onto []) (passing_closed n ks used) ∙ ap (λ i. Closed ks i) e
 
 -- a scan that lacks something behind things that it passes
-passing_refused : {A : Type 0} (n : ℕ) (f : FaultKind) → passing {A = A} n (Refused f) ≡ Refused f
+passing_refused : {A : Type 0} (n : ℕ) (f : FaultKind) → passing {A = A} n (ScanFault f) ≡ ScanFault f
 unfolding passing scan_onto
 passing_refused zero f = refl
 passing_refused (suc n) f = ap (scan_onto []) (passing_refused n f)
@@ -320,7 +320,7 @@ inner_kept ts lead inner rest opener whole e =
     filter_all p inner (front_all P inner rest (All-tail P opener (inner ++ rest) (back_all P lead (opener ∷ (inner ++ rest)) all)))
 
 -- where there is no `(`, arguments are missing
-pub missing_call : (text : List ℕ) → opener_from 0 (body_tokens text) ≡ None → (room : ℕ) → call_of token_role not_kept room (body_tokens text) ≡ Lacking ArgumentsMissing
+pub missing_call : (text : List ℕ) → opener_from 0 (body_tokens text) ≡ None → (room : ℕ) → call_of token_role not_kept room (body_tokens text) ≡ CallFault ArgumentsMissing
 unfolding call_of_scan
 missing_call text e room =
     let all = body_is_text text in
@@ -329,7 +329,7 @@ missing_call text e room =
 -- a call in a text, behind its `(`, that isn't closed: it has all bytes of the text
 pub record IsUnclosedAt (text : List ℕ) (from : ℕ) : Type 0 where
   pub size : inner_size true (drop from text) ≡ length (drop from text)
-  pub call : (room : ℕ) → call_of token_role not_kept room (body_tokens text) ≡ Lacking ArgumentsOpen
+  pub call : (room : ℕ) → call_of token_role not_kept room (body_tokens text) ≡ CallFault ArgumentsOpen
 
 -- one that is closed: the call is that of the definition, with what is kept of its tokens, and behind its `)` stand those of the
 -- text; where the text keeps all, so does the call

@@ -10,9 +10,9 @@ use Rattle.rdlpp_scan.specs.declared.token.Mode.{Mode}
 use Rattle.rdlpp_scan.specs.declared.token.Mode.TheVariants.{Plain}
 use Rattle.rdlpp_table.specs.Table.{Formal, Macro, macro_named}
 use Rattle.rdlpp_table.specs.View.{IsSound, TableView, formals_of, macro_at}
-use Rattle.rdlpp_meaning.specs.Actuals.{Bound, Broke, Call, Lacking, Reads, Role, actual_of, kept, map_call, source_reads, text_reads, token_role, trimmed}
+use Rattle.rdlpp_meaning.specs.Actuals.{Bound, CallBreakFault, Call, CallFault, Reads, Role, actual_of, kept, map_call, source_reads, text_reads, token_role, trimmed}
 use Rattle.rdlpp_meaning.specs.CallScan.{all_parts, call_of, call_of_scan, is_kept, split}
-use Rattle.rdlpp_meaning.specs.Expansion.{Opens, Refuses, Usage, bound_parts, bytes_of, is_count, usage_of, usage_of_call, usage_of_formals, usage_of_macro, usage_token}
+use Rattle.rdlpp_meaning.specs.Expansion.{Opens, UsageFault, Usage, bound_parts, bytes_of, is_count, usage_of, usage_of_call, usage_of_formals, usage_of_macro, usage_token}
 use Rattle.rdlpp_meaning.specs.Items.{unlined}
 use Rattle.rdlpp_meaning.specs.Meaning.{Passage, Progress, goes_on, leaves}
 use Rattle.rdlpp_meaning.specs.OpenItems.{open_left}
@@ -71,11 +71,11 @@ pub usage_with_list : (reads : Reads SourceToken) (rules : Rules) (s : State) (l
     → usage_of_formals rules reads line name ts m (Some fs) ≡ u → usage_of rules s reads line o name ts ≡ u
 unfolding usage_of usage_of_macro
 usage_with_list reads rules s line o name ts m fs u reserved found once formals e =
-    let named : Option Macro → Usage SourceToken = λ x. elim x [ None ↦ Refuses UndefinedMacro name line | Some y ↦ usage_of_macro rules reads line o name ts y ] in
+    let named : Option Macro → Usage SourceToken = λ x. elim x [ None ↦ UsageFault UndefinedMacro name line | Some y ↦ usage_of_macro rules reads line o name ts y ] in
     let own : Usage SourceToken = usage_of_formals rules reads line name ts m m.formals in
-    ap (λ (b : Bool). if b then Refuses DirectiveInText name line else named (macro_named s.macros name)) reserved
+    ap (λ (b : Bool). if b then UsageFault DirectiveInText name line else named (macro_named s.macros name)) reserved
     ∙ ap named found
-    ∙ ap (λ (b : Bool). if b then Refuses RecursiveMacro name line else own) once
+    ∙ ap (λ (b : Bool). if b then UsageFault RecursiveMacro name line else own) once
     ∙ ap (usage_of_formals rules reads line name ts m) formals
     ∙ e
 
@@ -106,8 +106,8 @@ record HasParts (c : Call SourceToken) (first : List SourceToken) (further : Lis
 has_parts : (c : Call SourceToken) (first : List SourceToken) (further : List (List SourceToken)) (used : ℕ) → map_call unlined c ≡ Bound first further used
     → HasParts c first further used
 unfolding map_call
-has_parts (Lacking f) first further used e = absurd (cc)
-has_parts (Broke f line) first further used e = absurd (cc)
+has_parts (CallFault f) first further used e = absurd (cc)
+has_parts (CallBreakFault f line) first further used e = absurd (cc)
 has_parts (Bound own others n) first further used e = record {
   own = own;
   others = others;
@@ -143,11 +143,11 @@ usage_counted : (m : Macro) (fs : List Formal) (line : ℕ) (name : List ℕ) (f
     → map (actual_of source_reads) (first ∷ further) ≡ parts
     → right ≡ is_count fs parts
     → usage_of_call source_reads m fs line name (Bound first further used)
-    ≡ cond right (Opens m (bound_parts fs parts) used) (Refuses ArgumentCount name line)
+    ≡ cond right (Opens m (bound_parts fs parts) used) (UsageFault ArgumentCount name line)
 unfolding usage_of_call
 usage_counted m fs line name first further used right parts same e =
-    ap (λ (xs : List (List SourceToken)). cond (is_count fs xs) (Opens m (bound_parts fs xs) used) (Refuses ArgumentCount name line)) same
-    ∙ ap (λ (b : Bool). cond b (Opens m (bound_parts fs parts) used) (Refuses ArgumentCount name line)) (sym e)
+    ap (λ (xs : List (List SourceToken)). cond (is_count fs xs) (Opens m (bound_parts fs xs) used) (UsageFault ArgumentCount name line)) same
+    ∙ ap (λ (b : Bool). cond b (Opens m (bound_parts fs parts) used) (UsageFault ArgumentCount name line)) (sym e)
 
 -- a call that was read and bound opens its macro so
 pub source_bound : (rules : Rules) (line : ℕ) (name : List ℕ) (ts : List SourceToken) (m : Macro) (fs : List Formal) (bytes : List ℕ) (ranges : List Range) (behind : List SourceToken)
@@ -167,7 +167,7 @@ source_bound rules line name ts m fs bytes ranges behind c count tokens =
 -- one with more or fewer parts than formals is refused for that
 pub source_counted : (rules : Rules) (line : ℕ) (name : List ℕ) (ts : List SourceToken) (m : Macro) (fs : List Formal) (bytes : List ℕ) (behind : List SourceToken)
     → IsReadCall rules.argument_bytes ts bytes behind → false ≡ is_count fs (actuals_of bytes)
-    → usage_of_formals rules source_reads line name (leading ts) m (Some fs) ≡ Refuses ArgumentCount name line
+    → usage_of_formals rules source_reads line name (leading ts) m (Some fs) ≡ UsageFault ArgumentCount name line
 unfolding usage_of_formals
 source_counted rules line name ts m fs bytes behind c count =
     let h = has_actuals rules.argument_bytes ts bytes behind c in
@@ -176,13 +176,13 @@ source_counted rules line name ts m fs bytes behind c count =
 
 -- one that lacks something is refused for it
 pub source_lacks : (rules : Rules) (line : ℕ) (name : List ℕ) (ts : List SourceToken) (m : Macro) (fs : List Formal) (f : FaultKind)
-    → call_of token_role kept rules.argument_bytes (leading ts) ≡ Lacking f → usage_of_formals rules source_reads line name (leading ts) m (Some fs) ≡ Refuses f name line
+    → call_of token_role kept rules.argument_bytes (leading ts) ≡ CallFault f → usage_of_formals rules source_reads line name (leading ts) m (Some fs) ≡ UsageFault f name line
 unfolding usage_of_formals usage_of_call
 source_lacks rules line name ts m fs f e = ap (usage_of_call source_reads m fs line name) e
 
 -- one with a broken token is refused for that, at its line
 pub source_breaks : (rules : Rules) (line : ℕ) (name : List ℕ) (ts : List SourceToken) (m : Macro) (fs : List Formal) (f : FaultKind) (own : ℕ)
-    → call_of token_role kept rules.argument_bytes (leading ts) ≡ Broke f own → usage_of_formals rules source_reads line name (leading ts) m (Some fs) ≡ Refuses f [] own
+    → call_of token_role kept rules.argument_bytes (leading ts) ≡ CallBreakFault f own → usage_of_formals rules source_reads line name (leading ts) m (Some fs) ≡ UsageFault f [] own
 unfolding usage_of_formals usage_of_call
 source_breaks rules line name ts m fs f own e = ap (usage_of_call source_reads m fs line name) e
 

@@ -15,7 +15,7 @@ use Rattle.rdlpp_table.specs.Table.{Formal, Macro, macro_named}
 use Rattle.rdlpp_table.specs.View.{IsSound, IsSoundMacro, TableView, macro_at, no_macro, place_named}
 use Rattle.rdlpp_table.proofs.Orders.{place_of_name}
 use Rattle.rdlpp_meaning.specs.Actuals.{Reads, text_reads}
-use Rattle.rdlpp_meaning.specs.Expansion.{Opens, Refuses, usage_of, usage_of_formals, usage_of_macro}
+use Rattle.rdlpp_meaning.specs.Expansion.{Opens, UsageFault, usage_of, usage_of_formals, usage_of_macro}
 use Rattle.rdlpp_meaning.specs.Opens.{AreOpen, Open, OpenActual, OpenBody, OpenDefault, OpenKind, Texts, open_behind, open_body, open_bytes, open_scope, own_text, own_hide_set, part_tokens, scope_open, text_around, hide_set}
 use Rattle.rdlpp_meaning.specs.State.{Rules, State}
 use Rattle.rdlpp_meaning.specs.declared.fault.FaultKind.{FaultKind}
@@ -261,20 +261,20 @@ first-is rules s line texts x below len m e =
 
 -- the name of a directive is refused
 reserved-is : (reads : Reads SourceToken) (rules : Rules) (s : State) (line : ℕ) (o : List (List ℕ)) (name : List ℕ) (ts : List SourceToken) → is_reserved name ≡ true
-    → usage_of rules s reads line o name ts ≡ Refuses DirectiveInText name line
+    → usage_of rules s reads line o name ts ≡ UsageFault DirectiveInText name line
 unfolding usage_of
 reserved-is reads rules s line o name ts e = rw e refl
 
 -- another name is that of a macro, or it is refused
 unreserved-is : (reads : Reads SourceToken) (rules : Rules) (s : State) (line : ℕ) (o : List (List ℕ)) (name : List ℕ) (ts : List SourceToken) (found : Option Macro)
     → is_reserved name ≡ false → macro_named s.macros name ≡ found
-    → usage_of rules s reads line o name ts ≡ elim found [ None ↦ Refuses UndefinedMacro name line | Some m ↦ usage_of_macro rules reads line o name ts m ]
+    → usage_of rules s reads line o name ts ≡ elim found [ None ↦ UsageFault UndefinedMacro name line | Some m ↦ usage_of_macro rules reads line o name ts m ]
 unfolding usage_of
 unreserved-is reads rules s line o name ts found e f = rw (e, f) refl
 
 -- a macro in whose text its name stands is refused
 recursive-is : (reads : Reads SourceToken) (rules : Rules) (line : ℕ) (o : List (List ℕ)) (name : List ℕ) (ts : List SourceToken) (m : Macro)
-    → list_any (bytes_eq name) o ≡ true → usage_of_macro rules reads line o name ts m ≡ Refuses RecursiveMacro name line
+    → list_any (bytes_eq name) o ≡ true → usage_of_macro rules reads line o name ts m ≡ UsageFault RecursiveMacro name line
 unfolding usage_of_macro
 recursive-is reads rules line o name ts m e = rw e refl
 

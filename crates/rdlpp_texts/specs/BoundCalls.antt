@@ -1,6 +1,6 @@
 -- The actuals of a call as ranges of the text in which the call stands.
 -- A definition that names no source is this project's own.
-use Rattle.rdlpp_meaning.specs.Expansion.{Usage, Refuses, Opens, bound_parts, is_count, usage_of_formals}
+use Rattle.rdlpp_meaning.specs.Expansion.{Usage, UsageFault, Opens, bound_parts, is_count, usage_of_formals}
 use Rattle.std.specs.Prelude.{◌≡◌, ℕ, ◌+◌, ◌++◌, ◌<◌, ◌≤◌, Bool, true, false, List, Vec, map, length, drop, slice_range, vec_len, vec_capacity, All, Some, Result, Ok, Err}
 use Rattle.std.specs.List.{AllByRecursion}
 use Rattle.rdlpp_scan.specs.declared.token.Mode.TheVariants.{Plain}
@@ -97,7 +97,7 @@ unfoldable pub IsBoundCall : List ℕ → ℕ → ℕ → ℕ → List Range →
 IsBoundCall text at end formals ranges (Ok behind) = IsBoundAt text at end formals ranges behind
 IsBoundCall text at end formals ranges (Err kind) =
     (rules : Rules) (line : ℕ) (name : List ℕ) (m : Macro) (fs : List Formal) → length fs ≡ formals
-    → usage_in rules line name m fs text at end ≡ Refuses kind name line
+    → usage_in rules line name m fs text at end ≡ UsageFault kind name line
 
 -- whether a call is refused for a fault: for its arguments, or how many they are (source: this project's profile)
 unfoldable pub is_call_fault : FaultKind → Bool

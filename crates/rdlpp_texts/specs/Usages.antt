@@ -1,7 +1,7 @@
 -- Usages in open texts: the name that stands there, and the macro that is used.
 -- A definition that names no source is this project's own.
 use Rattle.rdlpp_meaning.specs.Actuals.{text_reads}
-use Rattle.rdlpp_meaning.specs.Expansion.{Refuses, usage_of}
+use Rattle.rdlpp_meaning.specs.Expansion.{UsageFault, usage_of}
 use Rattle.std.specs.Prelude.{◌≡◌, ℕ, ◌<◌, Bool, true, false, List, [], ◌∷◌, length, take, drop, bytes_eq, Some, if◌then◌else◌}
 use Rattle.std.specs.List.{list_any}
 use Rattle.rdlpp_scan.specs.SourceTokens.{SourceToken}
@@ -38,7 +38,7 @@ unknown_kind reserved = if reserved then DirectiveInText else UndefinedMacro
 unfoldable pub IsRefused : Texts → List Open → List ℕ → FaultKind → Type 0
 IsRefused texts opens name kind =
     (rules : Rules) (s : State) (line : ℕ) (ts : List SourceToken) → s.macros ≡ texts.macros
-    → usage_of rules s text_reads line (hide_set texts opens (front_scope opens)) name ts ≡ Refuses kind name line
+    → usage_of rules s text_reads line (hide_set texts opens (front_scope opens)) name ts ≡ UsageFault kind name line
 
 -- whether open texts end with a fault: for what stands in them, or since no further text may be open (source: this project's profile)
 unfoldable pub is_text_fault : FaultKind → Bool

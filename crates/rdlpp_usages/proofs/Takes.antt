@@ -24,7 +24,7 @@ use Rattle.rdlpp_scan.proofs.TokenSteps.{is_kept_kind}
 use Rattle.rdlpp_meaning.specs.Actuals as role
 use Rattle.rdlpp_meaning.specs.Actuals.{Dropped, End, Ends, Halt, KeptComment, Role, Space, Start, Stops, Text, kept_size, kind_role, level_behind}
 use Rattle.rdlpp_meaning.specs.CallReading.{ReadClosed, Reading, ReadRefused, ReadStopped, onto_kept, read, read_by, role_in}
-use Rattle.rdlpp_meaning.specs.CallScan.{Before, Breaks, Closes, Inside, Keeps, Passes, Refuses, CallState, Turn, fault_at_end, room_behind, call_state_behind, call_state_behind_lead, turn, turn_before, turn_fitting, turn_inside}
+use Rattle.rdlpp_meaning.specs.CallScan.{Before, Breaks, Closes, Inside, Keeps, Passes, TurnFault, CallState, Turn, fault_at_end, room_behind, call_state_behind, call_state_behind_lead, turn, turn_before, turn_fitting, turn_inside}
 use Rattle.rdlpp_meaning.specs.Expansion.{bytes_of}
 use Rattle.rdlpp_meaning.specs.declared.fault.FaultKind.{FaultKind}
 use Rattle.rdlpp_meaning.specs.declared.fault.FaultKind.TheVariants as fault
@@ -66,7 +66,7 @@ kept_at LineComment k e other = absurd (other refl)
 kept_at r k e other = record { turns = λ fits. refl; size = λ n. refl }
 
 -- it is refused where it doesn't fit
-pub passes_room : (r : Role) (k room n : ℕ) → IsKeptAt r k → room < n → turn (Inside k) r (nat_le n room) ≡ Refuses ArgumentBytes
+pub passes_room : (r : Role) (k room n : ℕ) → IsKeptAt r k → room < n → turn (Inside k) r (nat_le n room) ≡ TurnFault ArgumentBytes
 unfolding turn turn_fitting
 passes_room r k room n kept more = kept.turns (nat_le n room) ∙ ap (λ b. turn_fitting b Keeps) (lt-leb n room more)
 
@@ -189,7 +189,7 @@ closes_taken at m room held t r one plain first closes =
 
 -- a token at which the call is refused
 refused_taken : (at : CallState) (m : Mode) (room : ℕ) (held : List ℕ) (t : Token) (r : Role) (f : FaultKind)
-    → ((a : Around) → IsAround held a → IsFirst at m room held t r a) → turn at r (nat_le t.len room) ≡ Refuses f
+    → ((a : Around) → IsAround held a → IsFirst at m room held t r a) → turn at r (nat_le t.len room) ≡ TurnFault f
     → (a : Around) → IsAround held a → read at (is_open m) room (tokens_at a m held) ≡ ReadRefused f
 unfolding read_by
 refused_taken at m room held t r f first refuses a around =
@@ -547,7 +547,7 @@ plain_argument_used k room n held is some fits =
 
 -- what a turn refuses a call for
 abbrev RefusesCall : Turn → Type 0
-RefusesCall (Refuses f) = is_read_fault f ≡ true
+RefusesCall (TurnFault f) = is_read_fault f ≡ true
 RefusesCall t = Unit
 
 -- before the `(`
@@ -607,7 +607,7 @@ unfolding read_by
 by_turn Passes t ts rest f own further e = further e
 by_turn Keeps t ts rest f own further e = further (without_kept t.bytes rest f e)
 by_turn Closes t ts rest f own further e = cc
-by_turn (Refuses g) t ts rest f own further e = subst (λ (k : FaultKind). is_read_fault k ≡ true) (same_fault g f e) own
+by_turn (TurnFault g) t ts rest f own further e = subst (λ (k : FaultKind). is_read_fault k ≡ true) (same_fault g f e) own
 by_turn (Breaks g line) t ts rest f own further e = cc
 
 -- a reading that is refused is so for a fault of a call

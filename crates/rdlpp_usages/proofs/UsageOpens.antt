@@ -10,7 +10,7 @@ use Rattle.rdlpp_table.specs.Table.{Formal, Macro, macro_named}
 use Rattle.rdlpp_table.specs.View.{formals_of, macro_at}
 use Rattle.rdlpp_meaning.specs.Actuals.{kept, source_reads, token_role}
 use Rattle.rdlpp_meaning.specs.CallScan.{Before, call_of}
-use Rattle.rdlpp_meaning.specs.Expansion.{Opens, Refuses, Usage, bound_parts, bytes_of, expand, usage_of, usage_of_formals, usage_of_macro, usage_token}
+use Rattle.rdlpp_meaning.specs.Expansion.{Opens, UsageFault, Usage, bound_parts, bytes_of, expand, usage_of, usage_of_formals, usage_of_macro, usage_token}
 use Rattle.rdlpp_meaning.specs.Meaning.{Passage, Progress, goes_on, leaves}
 use Rattle.rdlpp_meaning.specs.OpenItems.{open_left}
 use Rattle.rdlpp_meaning.specs.Opened.{Waiting, all_resumed, unwound}
@@ -80,9 +80,9 @@ usage_without_list : (rules : Rules) (s : State) (line : ℕ) (name : List ℕ) 
     → usage_of rules s source_reads line [] name ts ≡ Opens m [] 0
 unfolding usage_of usage_of_macro usage_of_formals
 usage_without_list rules s line name ts m reserved found formals =
-    let named : Option Macro → Usage SourceToken = λ x. elim x [ None ↦ Refuses UndefinedMacro name line | Some y ↦ usage_of_macro rules source_reads line [] name ts y ] in
+    let named : Option Macro → Usage SourceToken = λ x. elim x [ None ↦ UsageFault UndefinedMacro name line | Some y ↦ usage_of_macro rules source_reads line [] name ts y ] in
     let own : Usage SourceToken = usage_of_formals rules source_reads line name ts m m.formals in
-    ap (λ (b : Bool). if b then Refuses DirectiveInText name line else named (macro_named s.macros name)) reserved
+    ap (λ (b : Bool). if b then UsageFault DirectiveInText name line else named (macro_named s.macros name)) reserved
     ∙ ap named found
     ∙ ap (usage_of_formals rules source_reads line name ts m) formals
 
@@ -105,7 +105,7 @@ module _ {R : Type 0} (rules : Rules) (unread : R → List ℕ) (ws : List Waiti
   -- a usage that is refused by its tokens is a fault
   token_refused : HoldsFront f.buffer → f.buffer.mode ≡ Plain → IsUsage (held_of f.buffer) len
       → (kind : FaultKind) (word : List ℕ) (at : ℕ)
-      → usage_of rules s source_reads f.buffer.line [] (usage_name (held_of f.buffer) len) (leading (tokens_left unread (consumed_file len 0 f).buffer)) ≡ Refuses kind word at
+      → usage_of rules s source_reads f.buffer.line [] (usage_name (held_of f.buffer) len) (leading (tokens_left unread (consumed_file len 0 f).buffer)) ≡ UsageFault kind word at
       → source_left rules unread ws (Live os) f s ≡ leaves (fails (fault_at kind at word s)) s
   token_refused holds plain usage kind word at e =
       let name = usage_name (held_of f.buffer) len in
@@ -118,13 +118,13 @@ module _ {R : Type 0} (rules : Rules) (unread : R → List ℕ) (ws : List Waiti
   pub call_refused : HoldsFront f.buffer → f.buffer.mode ≡ Plain → IsUsage (held_of f.buffer) len
       → (m : Macro) (fs : List Formal) (kind : FaultKind) (word : List ℕ) (at : ℕ)
       → macro_named s.macros (usage_name (held_of f.buffer) len) ≡ Some m → m.formals ≡ Some fs
-      → usage_of_formals rules source_reads f.buffer.line (usage_name (held_of f.buffer) len) (leading (tokens_left unread (consumed_file len 0 f).buffer)) m (Some fs) ≡ Refuses kind word at
+      → usage_of_formals rules source_reads f.buffer.line (usage_name (held_of f.buffer) len) (leading (tokens_left unread (consumed_file len 0 f).buffer)) m (Some fs) ≡ UsageFault kind word at
       → source_left rules unread ws (Live os) f s ≡ leaves (fails (fault_at kind at word s)) s
   call_refused holds plain usage m fs kind word at found formals e =
       let name = usage_name (held_of f.buffer) len in
       let ts = tokens_left unread (consumed_file len 0 f).buffer in
       token_refused holds plain usage kind word at
-      (usage_with_list source_reads rules s f.buffer.line [] name (leading ts) m fs (Refuses kind word at) usage.free found refl formals e)
+      (usage_with_list source_reads rules s f.buffer.line [] name (leading ts) m fs (UsageFault kind word at) usage.free found refl formals e)
 
   -- a call that is bound opens its body, and the source goes on behind it
   pub call_opens : HoldsFront f.buffer → f.buffer.mode ≡ Plain → IsUsage (held_of f.buffer) len
@@ -214,7 +214,7 @@ kept_unbound tells unread most macros id line bytes now kind c old new means bin
     let m = macro_at macros id in
     let read = means t in
     source_counted rules at name ts m fs bytes behind (read_call rules most ts bytes behind limit read) (sym (binds.count read.keeps fs formals))
-    ∙ ap (λ (k : FaultKind). Refuses k name at) (sym binds.kind_is)
+    ∙ ap (λ (k : FaultKind). UsageFault k name at) (sym binds.kind_is)
 
 -- one that lacks something is refused
 pub call_lacks : {R : Type 0} (tells : Type 0) (unread : R → List ℕ) (most : ℕ) (macros : List Macro) (id : ℕ) (bytes now : List ℕ) (kind : FaultKind) (opens : List Open) (old new : BufferView R)

@@ -76,7 +76,7 @@ pub record IsStep (at : scan.CallState) (r : Role) (room : ℕ) (t : Token) (u :
 abbrev pub Answers : scan.CallState → Role → ℕ → Token → CallAction → Type 0
 Answers at r room t (Consumes u) = IsStep at r room t u
 Answers at r room t Closes = turn at r (nat_le t.len room) ≡ scan.Closes
-Answers at r room t (Refused f) = turn at r (nat_le t.len room) ≡ scan.Refuses f
+Answers at r room t (Refused f) = turn at r (nat_le t.len room) ≡ scan.TurnFault f
 Answers at r room t Perl = ⊥
 
 -- held bytes are used, and kept or not, and the reading of the call goes on behind them

@@ -7,7 +7,7 @@ use Rattle.rdlpp_scan.specs.SourceTokens.{SourceToken, line_ends}
 use Rattle.rdlpp_scan.specs.Pieces.{is_open}
 use Rattle.rdlpp_meaning.specs.declared.fault.FaultKind.{FaultKind}
 use Rattle.rdlpp_meaning.specs.declared.fault.FaultKind.TheVariants.{ArgumentsMissing, ArgumentsOpen, ArgumentBytes, EmbeddedPerl, OpenString, OpenComment, LineTooLong, SourceTooLong}
-use Rattle.rdlpp_meaning.specs.Actuals.{Broke, Lacking, map_call, token_role, kept as kept_token}
+use Rattle.rdlpp_meaning.specs.Actuals.{CallBreakFault, CallFault, map_call, token_role, kept as kept_token}
 use Rattle.rdlpp_meaning.specs.CallReading.{ReadRefused, ReadStopped, read}
 use Rattle.rdlpp_meaning.specs.CallScan as scan
 use Rattle.rdlpp_meaning.specs.CallScan.{Before, CallState, call_of_scan, is_kept, call_of}
@@ -122,9 +122,9 @@ pub record IsCallOf (room : ℕ) (ts : List SourceToken) (bytes : List ℕ) (beh
 abbrev pub MeansCall : {R : Type 0} → Type 0 → (R → List ℕ) → ℕ → List ℕ → BufferView R → BufferView R → CallRead → Type 0
 MeansCall tells unread room bytes old new Closed =
     tells → IsCallOf room (tokens_left unread old) bytes (tokens_left unread new)
-MeansCall tells unread room bytes old new (Refused f) = tells → call_of token_role kept_token room (leading (tokens_left unread old)) ≡ Lacking f
+MeansCall tells unread room bytes old new (Refused f) = tells → call_of token_role kept_token room (leading (tokens_left unread old)) ≡ CallFault f
 MeansCall tells unread room bytes old new (Broken f line) =
-    tells → call_of token_role kept_token room (leading (tokens_left unread old)) ≡ Broke f line
+    tells → call_of token_role kept_token room (leading (tokens_left unread old)) ≡ CallBreakFault f line
 MeansCall tells unread room bytes old new Failed = Unit
 
 -- whether reading a call ends with a fault: what the call lacks, too many kept bytes, or a broken token (source: this project's

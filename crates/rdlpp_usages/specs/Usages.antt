@@ -10,7 +10,7 @@ use Rattle.rdlpp_texts.specs.declared.bindings.Range.{Range}
 use Rattle.rdlpp_meaning.specs.Actuals.{source_reads}
 use Rattle.rdlpp_meaning.specs.CallReading.{ReadClosed}
 use Rattle.rdlpp_meaning.specs.CallScan.{Before}
-use Rattle.rdlpp_meaning.specs.Expansion.{bytes_of, Refuses, bound_parts, is_count, usage_of_formals}
+use Rattle.rdlpp_meaning.specs.Expansion.{bytes_of, UsageFault, bound_parts, is_count, usage_of_formals}
 use Rattle.rdlpp_meaning.specs.Meaning.{Passage, Progress, goes_on, leaves}
 use Rattle.rdlpp_meaning.specs.Opened.{Waiting}
 use Rattle.rdlpp_meaning.specs.Opens.{Open, Part, open_body}
@@ -110,7 +110,7 @@ pub record UsesSource {R : Type 0} (tells : Type 0) (unread : R → List ℕ) (o
 abbrev pub RefusesCall : {R : Type 0} → Type 0 → (R → List ℕ) → ℕ → List Macro → ℕ → FaultKind → (List ℕ → List ℕ) → (ℕ → ℕ) → BufferView R → Type 0
 RefusesCall tells unread most macros id kind word at old =
     (rules : Rules) (line : ℕ) (name : List ℕ) (fs : List Formal) → rules.argument_bytes ≡ most → (macro_at macros id).formals ≡ Some fs → tells
-    → usage_of_formals rules source_reads line name (leading (tokens_left unread old)) (macro_at macros id) (Some fs) ≡ Refuses kind (word name) (at line)
+    → usage_of_formals rules source_reads line name (leading (tokens_left unread old)) (macro_at macros id) (Some fs) ≡ UsageFault kind (word name) (at line)
 
 -- a call opens the body of its macro with ranges of the kept bytes as actuals, in each run with that limit on kept bytes
 pub record OpensCall {R : Type 0} (tells : Type 0) (unread : R → List ℕ) (most : ℕ) (macros : List Macro) (id : ℕ) (opens : List Open) (bytes : List ℕ) (old new : BufferView R) : Type 0 where

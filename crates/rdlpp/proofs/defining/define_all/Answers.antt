@@ -1,5 +1,5 @@
 use Rattle.std.proofs.Common.{◌∙◌, arith, ap, refl, sym}
-use Rattle.rdlpp.specs.Definitions.{Declined}
+use Rattle.rdlpp.specs.Definitions.{GivenFault}
 use Rattle.rdlpp.proofs.Runs.{declined, taken_all, taken_more}
 use Rattle.rdlpp.proofs.defining.define_all.Goals as goal
 
@@ -14,7 +14,7 @@ returns-in-Err g c = (
   declined c.args.engine.now c.loop-index.engine c.define.new.self.table.macros c.loop-index.index c.args.defines.now c.index-defines-index.result _ _
       c.define.result c.in-Err.fault c.loop-index.invariant c.loop-index-test.true c.index-defines-index.is
       c.define.ensures.outcome c.as_bytes.ensures.value c.as_bytes-in-loop-index.ensures.value c.in-Err.is
-      ∙ ap Declined (sym c.refused.ensures.fault),
+      ∙ ap GivenFault (sym c.refused.ensures.fault),
   c.refused.ensures.written,
 )
 

@@ -1,7 +1,7 @@
 use Rattle.std.proofs.Common.{◌≡◌, ℕ, List, get_or, eqb, false, true, ap, sym, ◌∙◌, subst, ne_eqb, MatchResult}
 use Rattle.rdlpp_lines.specs.Continuations.{joined}
 use Rattle.rdlpp_table.specs.Table.{Formal}
-use Rattle.rdlpp_table.specs.Define.{FormalList, Unlisted, after_space}
+use Rattle.rdlpp_table.specs.Define.{FormalList, FormalListFault, after_space}
 use Rattle.rdlpp_table.specs.Formals.{IsRead}
 use Rattle.rdlpp_table.proofs.Reading.{read_empty, read_formals}
 use Rattle.rdlpp_table.proofs.formals.read_list.Goals as goal
@@ -18,5 +18,5 @@ returns c =
       | in-Some+else-b-eq41 w ↦ ap (λ (x : List ℕ). eqb (get_or x 0 0) 41) w.in-Some.ensures.0 ∙ ne_eqb _ _ w.if-b-eq41.false
       | in_default w ↦ ap (λ (x : List ℕ). eqb (get_or x 0 0) 41) w.in_default.ensures
     ] in e) in
-    let P : FormalList → Type 0 = λ l. MatchResult c.read_some.result (λ read. (formals : List Formal) × IsRead l (joined true read.behind.now) read.count read.size formals) (λ kind. l ≡ Unlisted kind) in
+    let P : FormalList → Type 0 = λ l. MatchResult c.read_some.result (λ read. (formals : List Formal) × IsRead l (joined true read.behind.now) read.count read.size formals) (λ kind. l ≡ FormalListFault kind) in
     record { read = subst P (read_formals _ other) c.read_some.ensures.read }

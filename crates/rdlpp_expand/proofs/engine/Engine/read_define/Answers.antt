@@ -1,6 +1,6 @@
 use Rattle.std.proofs.Common.{◌≡◌, ◌+◌, length, take, drop, ap, ◌∙◌, arith, length-take-le}
 use Rattle.rdlpp_scan.specs.SourceTokens.{line_ends}
-use Rattle.rdlpp_table.specs.Define.{Accepted, Refused, define_of, observed}
+use Rattle.rdlpp_table.specs.Define.{Accepted, DefinedFault, define_of, observed}
 use Rattle.rdlpp_read.specs.Buffer.{held_of}
 use Rattle.rdlpp_read.specs.Files.{inner_buffer}
 use Rattle.rdlpp_read.proofs.Growing.{line_ends_le}
@@ -33,7 +33,7 @@ returns-in-Err-clause-reads g c =
     let inside : c.held.result.now ≡ held_of (inner_buffer c.self.inside.files.include_stack) = c.held.ensures.value ∙ ap held_of c.file-file.ensures.buffer in
     let wide : length (take c.args.len c.held.result.now) ≡ c.args.len = length-take-le c.args.len c.held.result.now (rw held c.requires.inside) in
     let rest = behind_word (take c.args.len c.held.result.now) c.args.len c.min.result wide c.min.ensures in
-    let refused : define_of e.table.most_bytes e.table.most_macros e.table.macros (define_rest e c.args.len) ≡ Refused c.in-Err.fault.kind c.in-Err.fault.word.bytes =
+    let refused : define_of e.table.most_bytes e.table.most_macros e.table.macros (define_rest e c.args.len) ≡ DefinedFault c.in-Err.fault.kind c.in-Err.fault.word.bytes =
     rw (← c.self.view_is) (defined_same _ _ _ _ _ _ c.in-Err.ensures.outcome (rest ∙ ap (λ h. drop 7 (take c.args.len h)) inside)) in
     reads_refused c.args.len e c.record_fault.new.self c.record_fault.result c.record_fault.ensures.place (record {
       kind = c.in-Err.fault.kind;

@@ -2,7 +2,7 @@ use Rattle.std.proofs.Common.{◌≡◌, ◌<◌, Ok, Err, false, length, sym, a
 use Rattle.rdlpp_front.specs.SourceItems.{include_name}
 use Rattle.rdlpp_read.specs.Buffer.{held_of}
 use Rattle.rdlpp_read.specs.Files.{inner_buffer}
-use Rattle.rdlpp_state.specs.Includes.{Refuses, inner_path, is_bad_name}
+use Rattle.rdlpp_state.specs.Includes.{SearchFault, inner_path, is_bad_name}
 use Rattle.rdlpp_state.proofs.IncludeSteps.{searches_by}
 use Rattle.rdlpp_expand.proofs.engine.Engine.seek.Goals as goal
 use Rattle.rdlpp_expand.proofs.engine.Engine.seek.Goals.{in-Ok, in-Err}
@@ -24,6 +24,6 @@ returns-clause-sought g c =
       | in-Err w ↦
           let e = w.in-Err.ensures in
           rw (w.result-is, ← c.self.view_is)
-          (Refuses w.in-Err.fault w.source_kind.ensures
+          (SearchFault w.in-Err.fault w.source_kind.ensures
           (searches_by g.S.Sources _ c.as_str.result.now c.in-Some.name.now name c.find.new.self (Err w.in-Err.fault) same path good room e.answer e.failures e.refusals e.tells e.catalog))
     ]
