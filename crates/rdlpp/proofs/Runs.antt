@@ -120,14 +120,14 @@ declines limits defines origins sources fresh f e d = ap (λ x. given_in x defin
 
 -- what remains after an opening is the output
 pub opens_output : {S R : Type 0} (g : Ghosts S R) (limits : Limits) (what : Given) (origins : Bool) (sources : S) (path : List ℕ) (reading : ReadingView S R)
-    → OpensGiven g limits what origins sources path reading → g.tells sources
+    → OpensGiven g limits what origins sources path reading → g.has_known_texts sources
     → is_device_fault reading.engine.kept ≡ false → is_memory_fault reading.engine.kept ≡ false
     → reading_left g reading ≡ output_given g limits origins sources path what
 unfolding fresh_engine looked_up_output reading_left
-opens_output g limits (Taken macros) origins sources path reading o tells device memory =
+opens_output g limits (Taken macros) origins sources path reading o has_known_texts device memory =
     ap (λ (xs : List ℕ). and_then (gives xs) (left_of g reading.engine)) o.whole ∙ and_then-gives_nil (left_of g reading.engine)
-    ∙ o.starts.remains_output (ap is_device_fault (sym o.starts.keeps) ∙ device) (ap is_memory_fault (sym o.starts.keeps) ∙ memory) tells
-opens_output g limits (GivenFault f) origins sources path reading o tells device memory = absurd o
+    ∙ o.starts.remains_output (ap is_device_fault (sym o.starts.keeps) ∙ device) (ap is_memory_fault (sym o.starts.keeps) ∙ memory) has_known_texts
+opens_output g limits (GivenFault f) origins sources path reading o has_known_texts device memory = absurd o
 
 -- What the run of a fresh engine says of the output.
 
@@ -183,14 +183,14 @@ begins_output bytes (Some f) left output h k b = begins_empty bytes output (h f 
 
 writes_output : {S R W : Type 0} (g : Ghosts S R) (h : SinkGhosts W) (fresh : EngineView S R) (path : List ℕ)
     (before after : W) (count : ℕ) (fault : Option Report)
-    → RunsFresh g h fresh path before after count fault → g.tells fresh.sources
+    → RunsFresh g h fresh path before after count fault → g.has_known_texts fresh.sources
     → WritesOutput (h.taken before) (h.taken after) (looked_up_output g fresh path) count fault
 unfolding is_device_fault is_memory_fault
-writes_output g h fresh path before after count fault r tells =
+writes_output g h fresh path before after count fault r has_known_texts =
     let again : (f : Report) → r.opening ≡ Some f → fault ≡ Some f = λ f e. (r.runs.again f (r.starts.keeps ∙ e)).0 in
     let none : (f : Report) → r.opening ≡ Some f → r.runs.bytes ≡ [] = λ f e. (r.runs.again f (r.starts.keeps ∙ e)).1 in
-    let shown : g.tells r.started.sources = r.starts.call.tells tells in
-    let remains : is_device_fault r.opening ≡ false → is_memory_fault r.opening ≡ false → left_of g r.started ≡ looked_up_output g fresh path = λ d m. r.starts.remains_output d m tells in
+    let shown : g.has_known_texts r.started.sources = r.starts.call.has_known_texts has_known_texts in
+    let remains : is_device_fault r.opening ≡ false → is_memory_fault r.opening ≡ false → left_of g r.started ≡ looked_up_output g fresh path = λ d m. r.starts.remains_output d m has_known_texts in
     record {
       bytes = r.runs.bytes;
       taken = r.runs.taken;
@@ -217,12 +217,12 @@ writes_nothing before after count f fault e c a = record {
 -- what follows tells the output
 pub follows_output : {S R W : Type 0} (g : Ghosts S R) (h : SinkGhosts W) (limits : Limits) (what : Given) (origins : Bool) (sources : S)
     (path : List ℕ) (before after : W) (count : ℕ) (fault : Option Report)
-    → Follows g h limits what origins sources path before after count fault → g.tells sources
+    → Follows g h limits what origins sources path before after count fault → g.has_known_texts sources
     → WritesOutput (h.taken before) (h.taken after) (output_given g limits origins sources path what) count fault
 unfolding fresh_engine looked_up_output
-follows_output g h limits (Taken macros) origins sources path before after count fault r tells =
-    writes_output g h (engine_with limits origins sources macros) path before after count fault r tells
-follows_output g h limits (GivenFault f) origins sources path before after count fault (e, c, a) tells =
+follows_output g h limits (Taken macros) origins sources path before after count fault r has_known_texts =
+    writes_output g h (engine_with limits origins sources macros) path before after count fault r has_known_texts
+follows_output g h limits (GivenFault f) origins sources path before after count fault (e, c, a) has_known_texts =
     writes_nothing (h.taken before) (h.taken after) count f fault e c (ap h.taken a)
 
 -- What an engine that stays comes to, and what it says of the output.

@@ -256,7 +256,7 @@ impl<'r, R: Files + Input> Sources for Folders<'r, R> {
     ghost use Rattle.rdlpp_source.specs.Sources.{Missing};
     ghost use Rattle.rdlpp.specs.Folders.{include_folders, device_failures, memory_refusals, unread_bytes, IsFile, IsReaderOf, OpensPath, SearchesPaths};
 
-    ghost tells = { λ _. ⊥ };
+    ghost has_known_texts = { λ _. ⊥ };
 
     ghost catalog = { λ _. record { top = λ _. Missing; find = λ _ _. Missing } };
 

@@ -24,7 +24,7 @@ pub fn open_reading<S: Sources>(
     path: &str,
 ) -> Result<Reading<S>, PrepFault>
     ensures opens { Opens S.Sources options.now sources path.now result }
-    ensures output { S.tells sources → OpensOutput S.Sources (output_of S.Sources options.now sources path.now) result }
+    ensures output { S.has_known_texts sources → OpensOutput S.Sources (output_of S.Sources options.now sources path.now) result }
 {
     let mut engine = match Engine::new(alloc, options.limits, sources, options.origins) {
         Ok(engine) => engine,

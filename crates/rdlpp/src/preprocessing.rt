@@ -26,7 +26,7 @@ pub fn preprocess<S: Sources, W: Sink>(
     writer: &mut W,
 ) -> Result<u64, PrepFault>
     ensures outcome { Preprocesses S.Sources W.Sink options.now sources path.now writer.old writer.new result }
-    ensures output { S.tells sources →
+    ensures output { S.has_known_texts sources →
         Tells (W.taken writer.old) (W.taken writer.new) (output_of S.Sources options.now sources path.now) result }
 {
     let mut nobody = Unwatched {};

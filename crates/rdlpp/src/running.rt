@@ -45,7 +45,7 @@ pub fn run_watched_from<S: Sources, W: Sink, V: Watcher>(
 ) -> Result<u64, PrepFault>
     requires { IsFreshOf options.now engine.old }
     ensures outcome { RunsFrom S.Sources W.Sink options.now engine.old engine.new path.now writer.old writer.new result }
-    ensures output { S.tells engine.old.sources →
+    ensures output { S.has_known_texts engine.old.sources →
         Tells (W.taken writer.old) (W.taken writer.new) (output_of S.Sources options.now engine.old.sources path.now) result }
     ensures shows { Shows W.Sink V.Watcher writer.old writer.new watcher.old watcher.new }
 {

@@ -381,7 +381,7 @@ leaves_given : (old new : Reader) (before after : List ℕ) (len : ℕ) → IsGi
 unfolding reading_left
 leaves_given old new before after len w =
     let left = left_of owned_sources new.engine in
-    ap (and_then (gives old.rest)) (w.so.ends.tells tt) ∙ and_then-gives_gives old.rest w.lent left ∙ ap (λ (xs : List ℕ). and_then (gives xs) left) (sym w.given)
+    ap (and_then (gives old.rest)) (w.so.ends.answers tt) ∙ and_then-gives_gives old.rest w.lent left ∙ ap (λ (xs : List ℕ). and_then (gives xs) left) (sym w.given)
     ∙ sym (and_then-gives_gives (take len after) new.rest left)
 
 -- a read after which the output goes on

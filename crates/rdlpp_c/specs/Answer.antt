@@ -17,7 +17,7 @@ use Rattle.rdlpp_c.specs.declared.asking.Lists.{Lists}
 
 -- what sources in memory answer
 abbrev pub text_sources : Ghosts Texts TextReader
-text_sources = record { tells = λ _. ⊤; catalog = texts_catalog; unread = left_of; failures = λ _. 0; refusals = λ _. 0 }
+text_sources = record { has_known_texts = λ _. ⊤; catalog = texts_catalog; unread = left_of; failures = λ _. 0; refusals = λ _. 0 }
 
 -- the lists are what a call asks for
 pub record AreLists (a : Asked) (lists : Lists) : Type 0 where

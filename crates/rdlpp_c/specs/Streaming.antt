@@ -51,7 +51,7 @@ refused_answer (Run run) = Stopped run
 
 -- what sources in memory that own their texts answer: by what is known of each path
 abbrev pub owned_sources : Ghosts AskedTexts (List ℕ)
-owned_sources = record { tells = λ _. ⊤; catalog = asked_catalog; unread = unread_of; failures = failures_of; refusals = λ s. s.refusals }
+owned_sources = record { has_known_texts = λ _. ⊤; catalog = asked_catalog; unread = unread_of; failures = failures_of; refusals = λ s. s.refusals }
 
 -- options and sources that own their texts are what a call asks for
 pub record AsksOwned (a : Asked) (options : Options) (sources : AskedTexts) : Type 0 where

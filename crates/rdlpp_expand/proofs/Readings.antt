@@ -58,7 +58,7 @@ lent_more g old mid new xs ys None l s =
       limits = s.limits ∙ l.limits;
       origins = s.origins ∙ l.origins;
       main = s.main ∙ l.main;
-      ends = goes_on g old mid new xs ys was.tells l.ends s;
+      ends = goes_on g old mid new xs ys was.has_known_texts l.ends s;
     }
 lent_more g old mid new xs ys (Some Finished) l t =
     let s : Step g mid new (Ok None) = t.0 in
@@ -68,7 +68,7 @@ lent_more g old mid new xs ys (Some Finished) l t =
       limits = s.limits ∙ l.limits;
       origins = s.origins ∙ l.origins;
       main = s.main ∙ l.main;
-      ends = finishes g old mid new xs ys was.tells l.ends s t.1;
+      ends = finishes g old mid new xs ys was.has_known_texts l.ends s t.1;
     }
 lent_more {S} {R} g old mid new xs ys (Some Stopped) l stop =
     let s : Step g mid new (Err stop.fault) = stop.steps in
@@ -80,7 +80,7 @@ lent_more {S} {R} g old mid new xs ys (Some Stopped) l stop =
       limits = s.limits ∙ l.limits;
       origins = s.origins ∙ l.origins;
       main = s.main ∙ l.main;
-      ends = stops g old mid new xs ys was.tells l.ends stop;
+      ends = stops g old mid new xs ys was.has_known_texts l.ends stop;
     }
 
 -- the work left doesn't rise, where it falls
@@ -110,7 +110,7 @@ given_none g r out = record {
     limits = refl;
     origins = refl;
     main = refl;
-    ends = record { kept = refl; open_ = inl refl; tells = λ t. sym (and_then-gives_nil (left_of g r.engine)); again = λ f k. (refl, refl); lets_go = λ h. h; stores = λ t h. h };
+    ends = record { kept = refl; open_ = inl refl; answers = λ t. sym (and_then-gives_nil (left_of g r.engine)); again = λ f k. (refl, refl); lets_go = λ h. h; stores = λ t h. h };
   };
   work = omega arith;
 }
@@ -287,13 +287,13 @@ given_all g old new before after len e f = sym (append-nil (take len after)) ∙
 
 -- what a read leaves of the output
 pub leaves : {S R : Type 0} (g : Ghosts S R) (old new : ReadingView S R) (before after : List ℕ) (len : ℕ) (ending : Option ReadEnd) → FillsPart g old new before after len ending
-    → g.tells old.engine.sources → Leaves g old new (take len after) ending
+    → g.has_known_texts old.engine.sources → Leaves g old new (take len after) ending
 unfolding reading_left
 leaves g old new before after len None f t =
     let left = left_of g new.engine in
-    ap (and_then (gives old.rest)) (f.ends.tells t) ∙ and_then-gives_gives old.rest f.lent left ∙ ap (λ (xs : List ℕ). and_then (gives xs) left) (sym f.given) ∙ sym (and_then-gives_gives (take len after) new.rest left)
+    ap (and_then (gives old.rest)) (f.ends.answers t) ∙ and_then-gives_gives old.rest f.lent left ∙ ap (λ (xs : List ℕ). and_then (gives xs) left) (sym f.given) ∙ sym (and_then-gives_gives (take len after) new.rest left)
 leaves g old new before after len (Some Finished) f t =
-    ap (and_then (gives old.rest)) (f.ends.tells t) ∙ and_then-gives old.rest f.lent ∙ ap gives (sym (given_all g old new before after len Finished f))
+    ap (and_then (gives old.rest)) (f.ends.answers t) ∙ and_then-gives old.rest f.lent ∙ ap gives (sym (given_all g old new before after len Finished f))
 leaves g old new before after len (Some Stopped) f t =
     let all = given_all g old new before after len Stopped f in
     let part = f.ends.begins t in
@@ -301,7 +301,7 @@ leaves g old new before after len (Some Stopped) f t =
       fault = f.ends.fault;
       kept = f.ends.kept;
       begins = (part.0, bytes-and_then_gives old.rest (left_of g old.engine) ∙ ap (λ (xs : List ℕ). old.rest ++ xs) part.1 ∙ sym (append_assoc old.rest f.lent part.0) ∙ ap (λ (xs : List ℕ). xs ++ part.0) (sym all));
-      exact = λ own. ap (and_then (gives old.rest)) (f.ends.tells own t) ∙ and_then-gives_gives old.rest f.lent (fails f.ends.fault) ∙ ap (λ (xs : List ℕ). and_then (gives xs) (fails f.ends.fault)) (sym all);
+      exact = λ own. ap (and_then (gives old.rest)) (f.ends.answers own t) ∙ and_then-gives_gives old.rest f.lent (fails f.ends.fault) ∙ ap (λ (xs : List ℕ). and_then (gives xs) (fails f.ends.fault)) (sym all);
     }
 
 -- a turn, by what it answered
@@ -349,7 +349,7 @@ kept_text g e = refl
 
 -- what remained before a search that failed remains
 searched_rest : {S R : Type 0} (g : Ghosts S R) (before old : EngineView S R) (f : Report) → is_failed_search old ≡ true → before.kept ≡ None → Step g before old (Err f)
-    → g.tells before.sources → (text_of g before ≡ text_of g (record old { kept = None })) × (left_of g before ≡ left_of g (record old { kept = None }))
+    → g.has_known_texts before.sources → (text_of g before ≡ text_of g (record old { kept = None })) × (left_of g before ≡ left_of g (record old { kept = None }))
 unfolding is_failed_search is_failed_call is_call_failed is_read_failed has_met
 searched_rest {S} {R} g before old f failed free s t =
     let both = first_holds (is_failed_call old.kept) (may_follow old.phase) (begins_include (held_of (inner_buffer old.files.include_stack))) failed in

@@ -86,8 +86,8 @@ pub err_reads : {S R : Type 0} (g : Ghosts S R) (old new : EngineView S R) (f : 
 err_reads g old new f s = rw (err_met is_read_failed old.kept f, err_met is_memory_kind old.kept f) at s.call
 
 -- what a step that answers no fault tells
-pub ok_tells : {S R : Type 0} (g : Ghosts S R) (old new : EngineView S R) (lent : Option (List ℕ)) → Step g old new (Ok lent) → g.tells old.sources → Tells (Ok lent) (left_of g old) (left_of g new)
-ok_tells g old new lent s told = s.tells (ok_not_met is_call_failed old.kept lent) told
+pub ok_tells : {S R : Type 0} (g : Ghosts S R) (old new : EngineView S R) (lent : Option (List ℕ)) → Step g old new (Ok lent) → g.has_known_texts old.sources → Tells (Ok lent) (left_of g old) (left_of g new)
+ok_tells g old new lent s told = s.answers (ok_not_met is_call_failed old.kept lent) told
 
 -- a fault that wasn't kept isn't that of a write
 pub own_of : {S R : Type 0} (g : Ghosts S R) (old new : EngineView S R) (f : Report) (kept : Option Report) → old.kept ≡ kept → Step g old new (Err f) → is_fresh is_write_failed kept (Some f) ≡ false
@@ -128,7 +128,7 @@ wrote_none g h e w started = record {
   most_bytes = refl;
   most_macros = refl;
   started = started;
-  ends = record { kept = refl; open_ = inl refl; tells = λ t. sym (and_then-gives_nil (left_of g e)); again = λ f k. (refl, refl); lets_go = λ h. h; stores = λ t h. h };
+  ends = record { kept = refl; open_ = inl refl; answers = λ t. sym (and_then-gives_nil (left_of g e)); again = λ f k. (refl, refl); lets_go = λ h. h; stores = λ t h. h };
 }
 
 -- one pull more, where what it did to the engine is known
@@ -175,7 +175,7 @@ alike g at new (Itself same) = record { main = sym (ap (λ e. e.main) same); quo
 alike g at new (BeforeCall c unheld) = record { main = ap (λ e. e.main) c.becomes; quota = ap (λ e. e.quota) c.becomes; phase = ap (λ e. e.phase) c.becomes }
 
 -- where a read failed, what remains but for the fault is what remained
-pub failed_rest : {S R : Type 0} (g : Ghosts S R) (mid new : EngineView S R) (f : Report) → Step g mid new (Err f) → has_met is_call_failed mid.kept (Err f) ≡ true → (reads : StopsReading g mid new) → g.tells mid.sources
+pub failed_rest : {S R : Type 0} (g : Ghosts S R) (mid new : EngineView S R) (f : Report) → Step g mid new (Err f) → has_met is_call_failed mid.kept (Err f) ≡ true → (reads : StopsReading g mid new) → g.has_known_texts mid.sources
     → left_of g mid ≡ left_of g (record reads.at { kept = None })
 unfolding left_of lent_len
 failed_rest g mid new f s met reads t =
@@ -195,27 +195,27 @@ end_drained g mid new OverLimit phase open_ free s = absurd (let no : Ok None �
 end_drained g mid new Closed phase open_ free s = cc open_
 
 -- a piece was written whole
-pub goes_on : {S R : Type 0} (g : Ghosts S R) (old mid new : EngineView S R) (xs ys : List ℕ) → (g.tells old.sources → g.tells mid.sources) → Going g old mid xs → Step g mid new (Ok (Some ys)) → Going g old new (xs ++ ys)
+pub goes_on : {S R : Type 0} (g : Ghosts S R) (old mid new : EngineView S R) (xs ys : List ℕ) → (g.has_known_texts old.sources → g.has_known_texts mid.sources) → Going g old mid xs → Step g mid new (Ok (Some ys)) → Going g old new (xs ++ ys)
 goes_on g old mid new xs ys told w s =
     let free : old.kept ≡ None = sym w.kept ∙ free_before g (left_of g) lent_len take is_open mid new mid.kept (Some ys) refl s in
     record {
       kept = s.free ∙ sym free;
       open_ = inr (s.lends ys refl).1;
-      tells = λ t. w.tells t ∙ ap (and_then (gives xs)) (ok_tells g mid new (Some ys) s (told t)) ∙ and_then-gives_gives xs ys (left_of g new);
+      answers = λ t. w.answers t ∙ ap (and_then (gives xs)) (ok_tells g mid new (Some ys) s (told t)) ∙ and_then-gives_gives xs ys (left_of g new);
       again = λ f k. (let bad : ⊥ = cc (k, free) in absurd bad);
       lets_go = λ h. s.lets_go (w.lets_go h);
       stores = λ t h. s.stores (told t) (w.stores t h);
     }
 
 -- nothing was left
-pub finishes : {S R : Type 0} (g : Ghosts S R) (old mid new : EngineView S R) (xs ys : List ℕ) → (g.tells old.sources → g.tells mid.sources) → Going g old mid xs → Step g mid new (Ok None) → ys ≡ [] → Finishes g old new (xs ++ ys)
+pub finishes : {S R : Type 0} (g : Ghosts S R) (old mid new : EngineView S R) (xs ys : List ℕ) → (g.has_known_texts old.sources → g.has_known_texts mid.sources) → Going g old mid xs → Step g mid new (Ok None) → ys ≡ [] → Finishes g old new (xs ++ ys)
 finishes g old mid new xs ys told w s none =
     let free : old.kept ≡ None = sym w.kept ∙ free_before g (left_of g) lent_len take is_open mid new mid.kept None refl s in
     record {
       free = free;
       kept = (s.ends refl).0;
       closed = (s.ends refl).1;
-      tells = λ t. w.tells t ∙ ap (and_then (gives xs)) ((ok_tells g mid new None s (told t)).0) ∙ and_then-gives xs [] ∙ ap (λ (zs : List ℕ). gives (xs ++ zs)) (sym none);
+      answers = λ t. w.answers t ∙ ap (and_then (gives xs)) ((ok_tells g mid new None s (told t)).0) ∙ and_then-gives xs [] ∙ ap (λ (zs : List ℕ). gives (xs ++ zs)) (sym none);
       drained = λ open_. (let was : is_open mid.phase ≡ true = elim w.open_ [ inl same ↦ opened_phase mid.phase (ap (λ e. e.phase) same ∙ open_) | inr still ↦ still ] in
           end_drained g mid new mid.phase refl was (w.kept ∙ free) s);
       bounded = s.bounded;
@@ -224,7 +224,7 @@ finishes g old mid new xs ys told w s none =
     }
 
 -- a fault was answered
-pub stops : {S R : Type 0} (g : Ghosts S R) (old mid new : EngineView S R) (xs ys : List ℕ) → (g.tells old.sources → g.tells mid.sources) → Going g old mid xs → StopsAt g mid new ys → Stops g old new (xs ++ ys)
+pub stops : {S R : Type 0} (g : Ghosts S R) (old mid new : EngineView S R) (xs ys : List ℕ) → (g.has_known_texts old.sources → g.has_known_texts mid.sources) → Going g old mid xs → StopsAt g mid new ys → Stops g old new (xs ++ ys)
 stops g old mid new xs ys told w stop =
     let s = stop.steps in
     let f = stop.fault in
@@ -242,11 +242,11 @@ stops g old mid new xs ys told w stop =
           record {
             at = reads.at;
             stood = reads.stood;
-            rest = λ t. w.tells t ∙ ap (and_then (gives xs)) (failed_rest g mid new f s (met is_call_failed ∙ fresh) reads (told t))
+            rest = λ t. w.answers t ∙ ap (and_then (gives xs)) (failed_rest g mid new f s (met is_call_failed ∙ fresh) reads (told t))
                 ∙ ap (λ (zs : List ℕ). and_then (gives zs) (left_of g (record reads.at { kept = None }))) same;
           };
-      begins = λ t. begins_of (xs ++ ys) (left_of g mid) (left_of g old) (w.tells t ∙ ap (λ (zs : List ℕ). and_then (gives zs) (left_of g mid)) same);
-      tells = λ fresh t. w.tells t ∙ ap (and_then (gives xs)) (s.tells (met is_call_failed ∙ fresh) (told t)) ∙ ap (λ (zs : List ℕ). and_then (gives zs) (fails f)) same;
+      begins = λ t. begins_of (xs ++ ys) (left_of g mid) (left_of g old) (w.answers t ∙ ap (λ (zs : List ℕ). and_then (gives zs) (left_of g mid)) same);
+      answers = λ fresh t. w.answers t ∙ ap (and_then (gives xs)) (s.answers (met is_call_failed ∙ fresh) (told t)) ∙ ap (λ (zs : List ℕ). and_then (gives zs) (fails f)) same;
       again = λ k e. (let was = w.again k e in let now = s.kept k (w.kept ∙ e) in (cc (now.0), sym same ∙ was.0, now.1 ∙ was.1));
       bounded = s.bounded;
       lets_go = λ h. s.lets_go (w.lets_go h);
@@ -254,7 +254,7 @@ stops g old mid new xs ys told w stop =
     }
 
 -- a piece was written in part
-pub breaks : {S R : Type 0} (g : Ghosts S R) (old mid new : EngineView S R) (xs ys rest : List ℕ) → (g.tells old.sources → g.tells mid.sources) → Going g old mid xs → Step g mid new (Ok (Some (ys ++ rest))) → Breaks g old new (xs ++ ys)
+pub breaks : {S R : Type 0} (g : Ghosts S R) (old mid new : EngineView S R) (xs ys rest : List ℕ) → (g.has_known_texts old.sources → g.has_known_texts mid.sources) → Going g old mid xs → Step g mid new (Ok (Some (ys ++ rest))) → Breaks g old new (xs ++ ys)
 breaks g old mid new xs ys rest told w s =
     let left = left_of g new in
     let free : old.kept ≡ None = sym w.kept ∙ free_before g (left_of g) lent_len take is_open mid new mid.kept (Some (ys ++ rest)) refl s in
@@ -262,7 +262,7 @@ breaks g old mid new xs ys rest told w s =
       free = free;
       kept = s.free;
       begins = λ t. begins_of (xs ++ ys) (and_then (gives rest) left) (left_of g old)
-          (w.tells t ∙ ap (and_then (gives xs)) (ok_tells g mid new (Some (ys ++ rest)) s (told t) ∙ sym (and_then-gives_gives ys rest left)) ∙ and_then-gives_gives xs ys (and_then (gives rest) left));
+          (w.answers t ∙ ap (and_then (gives xs)) (ok_tells g mid new (Some (ys ++ rest)) s (told t) ∙ sym (and_then-gives_gives ys rest left)) ∙ and_then-gives_gives xs ys (and_then (gives rest) left));
       bounded = s.bounded;
       lets_go = λ h. s.lets_go (w.lets_go h);
       stores = λ t h. s.stores (told t) (w.stores t h);
@@ -276,13 +276,13 @@ wrote_more g h old mid new before between after n len None w p =
     let was = going_reads g old.kept _ _ w.reads in
     wrote_with g h old mid new before between after n len None w p
     (none_reads g old.kept _ _ (called_after g false false false false _ _ _ refl refl was (ok_reads g mid new (Some p.bytes) s)))
-    s.limits s.origins s.main s.most_bytes s.most_macros s.started (goes_on g old mid new w.bytes p.bytes was.tells w.ends s)
+    s.limits s.origins s.main s.most_bytes s.most_macros s.started (goes_on g old mid new w.bytes p.bytes was.has_known_texts w.ends s)
 wrote_more g h old mid new before between after n len (Some Finished) w p =
     let s : Step g mid new (Ok None) = p.ends.0 in
     let was = going_reads g old.kept _ _ w.reads in
     wrote_with g h old mid new before between after n len (Some Finished) w p
     (none_reads g old.kept _ _ (called_after g false false false false _ _ _ refl refl was (ok_reads g mid new None s)))
-    s.limits s.origins s.main s.most_bytes s.most_macros s.started (finishes g old mid new w.bytes p.bytes was.tells w.ends s p.ends.1)
+    s.limits s.origins s.main s.most_bytes s.most_macros s.started (finishes g old mid new w.bytes p.bytes was.has_known_texts w.ends s p.ends.1)
 wrote_more g h old mid new before between after n len (Some Stopped) w p =
     let stop : StopsAt g mid new p.bytes = p.ends in
     let s = stop.steps in
@@ -291,13 +291,13 @@ wrote_more g h old mid new before between after n len (Some Stopped) w p =
     let reads : P old.kept new.kept = subst (λ (f : Option Report). P old.kept f) (sym s.keeps) (subst (λ (k : Option Report). P k (Some stop.fault)) w.ends.kept (err_reads g mid new stop.fault s)) in
     wrote_with g h old mid new before between after n len (Some Stopped) w p
     (called_after g false _ false _ _ _ _ refl refl was reads)
-    s.limits s.origins s.main s.most_bytes s.most_macros s.started (stops g old mid new w.bytes p.bytes was.tells w.ends stop)
+    s.limits s.origins s.main s.most_bytes s.most_macros s.started (stops g old mid new w.bytes p.bytes was.has_known_texts w.ends stop)
 wrote_more g h old mid new before between after n len (Some Unwritten) w p =
     let s : Step g mid new (Ok (Some (p.bytes ++ p.ends.0))) = p.ends.1 in
     let was = going_reads g old.kept _ _ w.reads in
     wrote_with g h old mid new before between after n len (Some Unwritten) w p
     (none_reads g old.kept _ _ (called_after g false false false false _ _ _ refl refl was (ok_reads g mid new (Some (p.bytes ++ p.ends.0)) s)))
-    s.limits s.origins s.main s.most_bytes s.most_macros s.started (breaks g old mid new w.bytes p.bytes p.ends.0 was.tells w.ends s)
+    s.limits s.origins s.main s.most_bytes s.most_macros s.started (breaks g old mid new w.bytes p.bytes p.ends.0 was.has_known_texts w.ends s)
 
 -- a sink that wasn't asked to flush, and what a write leaves of that
 pub quiet_more : {W : Type 0} (h : SinkGhosts W) (old mid new : W) → Unflushed h old mid → h.failed_flushes new ≡ h.failed_flushes mid → h.flushes new ≡ h.flushes mid → Unflushed h old new
@@ -460,8 +460,8 @@ runs_whole g h old new before between after n w flush =
       asked = true;
       taken = appends_kept _ _ _ w.bytes w.taken flush.bytes;
       counted = w.counted;
-      begins = λ t. begins_all w.bytes _ (w.ends.tells t);
-      exact = λ r f t. gives_whole w.bytes _ (w.ends.tells t);
+      begins = λ t. begins_all w.bytes _ (w.ends.answers t);
+      exact = λ r f t. gives_whole w.bytes _ (w.ends.answers t);
       reads = w.reads;
       failed = λ e. (let bad : ⊥ = cc (e, none_fresh is_call_failed old.kept) in absurd bad);
       rest = λ e. (let bad : ⊥ = cc (e, none_fresh is_call_failed old.kept) in absurd bad);
@@ -513,7 +513,7 @@ module _ {S R W : Type 0} (g : Ghosts S R) (h : SinkGhosts W) (old new : EngineV
         taken = appends_kept _ _ _ w.bytes w.taken keeps;
         counted = w.counted;
         begins = w.ends.begins;
-        exact = λ r x t. fails_whole w.bytes f _ (w.ends.tells (sym (same is_call_failed) ∙ r) t) ∙ ap (λ (k : Option Report). record { bytes = w.bytes; fault = k }) (sym told);
+        exact = λ r x t. fails_whole w.bytes f _ (w.ends.answers (sym (same is_call_failed) ∙ r) t) ∙ ap (λ (k : Option Report). record { bytes = w.bytes; fault = k }) (sym told);
         reads = rw is stopped_reads;
         failed = λ e. subst (λ (k : Option Report). IfSome k (FailsAt new)) (sym told) (w.ends.failed (sym (same is_call_failed) ∙ e));
         rest = λ e. w.ends.rest (sym (same is_call_failed) ∙ e);
@@ -551,12 +551,12 @@ module _ {S R W : Type 0} (g : Ghosts S R) (h : SinkGhosts W) (old new : EngineV
 
 -- a write or the flush failed, and no fault came before
 pub runs_unwritten : {S R W : Type 0} (g : Ghosts S R) (h : SinkGhosts W) (old mid new : EngineView S R) (before between after : W) (n : ℕ) (fault : Option Report) (ending : Option Ending)
-    (unwritten unflushed asked : Bool) (w : Wrote g h old mid before between n ending) → answered ending mid.kept ≡ None → old.kept ≡ None → (g.tells old.sources → Begins w.bytes (left_of g old)) → IsBounded mid
+    (unwritten unflushed asked : Bool) (w : Wrote g h old mid before between n ending) → answered ending mid.kept ≡ None → old.kept ≡ None → (g.has_known_texts old.sources → Begins w.bytes (left_of g old)) → IsBounded mid
     → Keeps (h.taken between) (h.taken after) → Counts unwritten (h.failed_writes before) (h.failed_writes after)
     → Counts unflushed (h.failed_flushes between) (h.failed_flushes after) → Counts asked (h.flushes between) (h.flushes after)
     → (unwritten || unflushed) ≡ true → asked ≡ not unwritten → (unflushed ≡ true → asked ≡ true)
     → new ≡ record mid { kept = Some (write_fault mid.main) } → fault ≡ new.kept → KeepsStores g old mid
-    → (unwritten ≡ false → (mid.phase ≡ Closed) × (g.tells old.sources → left_of g old ≡ gives w.bytes)) → Runs g h old new before after n fault
+    → (unwritten ≡ false → (mid.phase ≡ Closed) × (g.has_known_texts old.sources → left_of g old ≡ gives w.bytes)) → Runs g h old new before after n fault
 runs_unwritten {S} {R} g h old mid new before between after n fault ending unwritten unflushed asked w quiet free begins bounded keeps writes failed flushes some asks first becomes is held whole =
     let f = write_fault mid.main in
     let stores : KeepsStores g mid new = subst (λ (e : EngineView S R). KeepsStores g mid e) (sym becomes) (keeps_refused g mid f (write_own mid.main)) in
@@ -601,7 +601,7 @@ runs_unwritten {S} {R} g h old mid new before between after n fault ending unwri
       started = λ e. w.started (sym (ap (λ e. e.phase) becomes) ∙ e);
       bounded = subst IsBounded (sym becomes) (bounded_kept mid _ bounded);
       lets_go = λ h. stores.lets_go (held.lets_go h);
-      stores = λ t h. stores.stores (reads.tells t) (held.stores t h);
+      stores = λ t h. stores.stores (reads.has_known_texts t) (held.stores t h);
     }
 
 -- what is known stays, where nothing happens
@@ -615,8 +615,8 @@ pub runs_unflushed : {S R W : Type 0} (g : Ghosts S R) (h : SinkGhosts W) (old m
     → new ≡ record mid { kept = Some (write_fault mid.main) } → fault ≡ new.kept → Runs g h old new before after n fault
 runs_unflushed g h old mid new before between after n fault w flush becomes is =
     runs_unwritten g h old mid new before between after n fault (Some Finished) false true true w refl w.ends.free
-    (λ t. begins_all w.bytes _ (w.ends.tells t)) w.ends.bounded flush.bytes (flush.writes ∙ w.writes) flush.failures flush.asked refl refl (λ e. refl) becomes is
-    (record { lets_go = w.ends.lets_go; stores = w.ends.stores }) (λ _. (w.ends.closed, w.ends.tells))
+    (λ t. begins_all w.bytes _ (w.ends.answers t)) w.ends.bounded flush.bytes (flush.writes ∙ w.writes) flush.failures flush.asked refl refl (λ e. refl) becomes is
+    (record { lets_go = w.ends.lets_go; stores = w.ends.stores }) (λ _. (w.ends.closed, w.ends.answers))
 
 -- a write failed
 pub runs_broken : {S R W : Type 0} (g : Ghosts S R) (h : SinkGhosts W) (old mid new : EngineView S R) (before after : W) (n : ℕ) (fault : Option Report)

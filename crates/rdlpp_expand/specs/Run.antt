@@ -94,28 +94,28 @@ pub record Pulls {S R W : Type 0} (g : Ghosts S R) (h : SinkGhosts W) (old new :
 pub record LeavesRest {S R : Type 0} (g : Ghosts S R) (old new : EngineView S R) (bytes : List ℕ) : Type 0 where
   pub at : EngineView S R
   pub stood : Stood g at new
-  pub rest : g.tells old.sources → left_of g old ≡ and_then (gives bytes) (left_of g (record at { kept = None }))
+  pub rest : g.has_known_texts old.sources → left_of g old ≡ and_then (gives bytes) (left_of g (record at { kept = None }))
 
 -- pieces were written, and the output goes on: a fault is kept only where one was kept at first, and then nothing was
 -- written (source: this project's profile)
 pub record Going {S R : Type 0} (g : Ghosts S R) (old new : EngineView S R) (bytes : List ℕ) : Type 0 where
   pub kept : new.kept ≡ old.kept
   pub open_ : (new ≡ old) ⊎ (is_open new.phase ≡ true)
-  pub tells : g.tells old.sources → left_of g old ≡ and_then (gives bytes) (left_of g new)
+  pub answers : g.has_known_texts old.sources → left_of g old ≡ and_then (gives bytes) (left_of g new)
   pub again : (f : Report) → old.kept ≡ Some f → (bytes ≡ []) × (new ≡ old)
   pub lets_go : LetsGo old → LetsGo new
-  pub stores : g.tells old.sources → HoldsStores g old → HoldsStores g new
+  pub stores : g.has_known_texts old.sources → HoldsStores g old → HoldsStores g new
 
 -- the whole output was written (source: this project's profile)
 pub record Finishes {S R : Type 0} (g : Ghosts S R) (old new : EngineView S R) (bytes : List ℕ) : Type 0 where
   pub free : old.kept ≡ None
   pub kept : new.kept ≡ None
   pub closed : new.phase ≡ Closed
-  pub tells : g.tells old.sources → left_of g old ≡ gives bytes
+  pub answers : g.has_known_texts old.sources → left_of g old ≡ gives bytes
   pub drained : old.phase ≡ Open → new.pending ≡ nothing_pending
   pub bounded : IsBounded new
   pub lets_go : LetsGo old → LetsGo new
-  pub stores : g.tells old.sources → HoldsStores g old → HoldsStores g new
+  pub stores : g.has_known_texts old.sources → HoldsStores g old → HoldsStores g new
 
 -- the output was written up to a fault (source: this project's profile)
 pub record Stops {S R : Type 0} (g : Ghosts S R) (old new : EngineView S R) (bytes : List ℕ) : Type 0 where
@@ -124,21 +124,21 @@ pub record Stops {S R : Type 0} (g : Ghosts S R) (old new : EngineView S R) (byt
   pub own : is_fresh is_write_failed old.kept (Some fault) ≡ false
   pub failed : is_fresh is_call_failed old.kept (Some fault) ≡ true → FailsAt new fault
   pub rest : is_fresh is_call_failed old.kept (Some fault) ≡ true → LeavesRest g old new bytes
-  pub begins : g.tells old.sources → Begins bytes (left_of g old)
-  pub tells : is_fresh is_call_failed old.kept (Some fault) ≡ false → g.tells old.sources → left_of g old ≡ and_then (gives bytes) (fails fault)
+  pub begins : g.has_known_texts old.sources → Begins bytes (left_of g old)
+  pub answers : is_fresh is_call_failed old.kept (Some fault) ≡ false → g.has_known_texts old.sources → left_of g old ≡ and_then (gives bytes) (fails fault)
   pub again : (k : Report) → old.kept ≡ Some k → (k ≡ fault) × (bytes ≡ []) × (new ≡ old)
   pub bounded : IsBounded new
   pub lets_go : LetsGo old → LetsGo new
-  pub stores : g.tells old.sources → HoldsStores g old → HoldsStores g new
+  pub stores : g.has_known_texts old.sources → HoldsStores g old → HoldsStores g new
 
 -- the output was written up to a write that failed (source: this project's profile)
 pub record Breaks {S R : Type 0} (g : Ghosts S R) (old new : EngineView S R) (bytes : List ℕ) : Type 0 where
   pub free : old.kept ≡ None
   pub kept : new.kept ≡ None
-  pub begins : g.tells old.sources → Begins bytes (left_of g old)
+  pub begins : g.has_known_texts old.sources → Begins bytes (left_of g old)
   pub bounded : IsBounded new
   pub lets_go : LetsGo old → LetsGo new
-  pub stores : g.tells old.sources → HoldsStores g old → HoldsStores g new
+  pub stores : g.has_known_texts old.sources → HoldsStores g old → HoldsStores g new
 
 -- how far the output was written, by how it ended (source: this project's profile)
 abbrev pub WroteEnds : {S R : Type 0} → Ghosts S R → EngineView S R → EngineView S R → List ℕ → Option Ending → Type 0
@@ -193,8 +193,8 @@ pub record Runs {S R W : Type 0} (g : Ghosts S R) (h : SinkGhosts W) (old new : 
   pub asked : Bool
   pub taken : Appends (h.taken before) (h.taken after) bytes
   pub counted : count ≡ min (length bytes) (2 ^ 64 - 1)
-  pub begins : g.tells old.sources → Begins bytes (left_of g old)
-  pub exact : is_fresh is_call_failed old.kept fault ≡ false → is_fresh is_write_failed old.kept fault ≡ false → g.tells old.sources → left_of g old ≡ record { bytes = bytes; fault = fault }
+  pub begins : g.has_known_texts old.sources → Begins bytes (left_of g old)
+  pub exact : is_fresh is_call_failed old.kept fault ≡ false → is_fresh is_write_failed old.kept fault ≡ false → g.has_known_texts old.sources → left_of g old ≡ record { bytes = bytes; fault = fault }
   pub reads : SourcesCalled g (is_fresh is_read_failed old.kept fault) (is_fresh is_memory_kind old.kept fault) old.sources new.sources
   pub failed : is_fresh is_call_failed old.kept fault ≡ true → IfSome fault (FailsAt new)
   pub rest : is_fresh is_call_failed old.kept fault ≡ true → LeavesRest g old new bytes
@@ -206,7 +206,7 @@ pub record Runs {S R W : Type 0} (g : Ghosts S R) (h : SinkGhosts W) (old new : 
   pub write_failed : is_fresh is_write_failed old.kept fault ≡ true → ((unwritten || unflushed) ≡ true) × (fault ≡ Some (write_fault old.main))
   pub unwritten_told : unwritten ≡ true → is_fresh is_write_failed old.kept fault ≡ true
   pub unflushed_told : unflushed ≡ true → (is_fresh is_write_failed old.kept fault ≡ true) ⊎ IsSomeAnd fault (λ f. is_write_failed f.kind ≡ false)
-  pub flushed : is_fresh is_write_failed old.kept fault ≡ true → unwritten ≡ false → (new.phase ≡ Closed) × (g.tells old.sources → left_of g old ≡ gives bytes)
+  pub flushed : is_fresh is_write_failed old.kept fault ≡ true → unwritten ≡ false → (new.phase ≡ Closed) × (g.has_known_texts old.sources → left_of g old ≡ gives bytes)
   pub again : (f : Report) → old.kept ≡ Some f → (fault ≡ Some f) × (bytes ≡ []) × (new ≡ old)
   pub kept : new.kept ≡ fault
   pub closed : fault ≡ None → new.phase ≡ Closed
@@ -219,4 +219,4 @@ pub record Runs {S R W : Type 0} (g : Ghosts S R) (h : SinkGhosts W) (old new : 
   pub started : IsStarted new
   pub bounded : IsBounded new
   pub lets_go : LetsGo old → LetsGo new
-  pub stores : g.tells old.sources → HoldsStores g old → HoldsStores g new
+  pub stores : g.has_known_texts old.sources → HoldsStores g old → HoldsStores g new

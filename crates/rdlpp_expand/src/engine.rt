@@ -565,7 +565,7 @@ impl<S: Sources> Engine<S> {
         requires { 0 < length self.old.files.include_stack }
         ensures becomes { self.new ≡ record self.old { files = self.new.files; sources = self.new.sources } }
         ensures only { self.new.files ≡ record self.old.files { include_stack = with_buffer (inner_buffer self.new.files.include_stack) self.old.files.include_stack } }
-        ensures fills { Fills (S.tells self.old.sources) S.unread result (inner_buffer self.old.files.include_stack) (inner_buffer self.new.files.include_stack) }
+        ensures fills { Fills (S.has_known_texts self.old.sources) S.unread result (inner_buffer self.old.files.include_stack) (inner_buffer self.new.files.include_stack) }
         ensures call { SourcesRead S.Sources (is_failed result) self.old.sources self.new.sources }
     {
         self.files.fill(&mut self.sources)
@@ -576,7 +576,7 @@ impl<S: Sources> Engine<S> {
         requires { 0 < length self.old.files.include_stack }
         ensures becomes { self.new ≡ record self.old { files = self.new.files; sources = self.new.sources } }
         ensures only { self.new.files ≡ record self.old.files { include_stack = with_buffer (inner_buffer self.new.files.include_stack) self.old.files.include_stack } }
-        ensures holds { HoldsLine (S.tells self.old.sources) S.unread result (inner_buffer self.old.files.include_stack) (inner_buffer self.new.files.include_stack) }
+        ensures holds { HoldsLine (S.has_known_texts self.old.sources) S.unread result (inner_buffer self.old.files.include_stack) (inner_buffer self.new.files.include_stack) }
         ensures call { SourcesRead S.Sources (is_failed_line result) self.old.sources self.new.sources }
     {
         self.files.hold_line(&mut self.sources)

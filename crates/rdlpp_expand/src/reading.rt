@@ -137,7 +137,7 @@ impl<S: Sources> Reading<S> {
     /// same again with no bytes.
     pub fn fill(&mut self, out: &mut [u8]) -> ReadPart
         ensures fills { Fills S.Sources self.old self.new out.old out.new result.len result.ending }
-        ensures left { S.Sources.tells self.old.engine.sources → Leaves S.Sources self.old self.new (take result.len out.new) result.ending }
+        ensures left { S.Sources.has_known_texts self.old.engine.sources → Leaves S.Sources self.old self.new (take result.len out.new) result.ending }
     {
         let mut given = 0;
         loop {
@@ -167,7 +167,7 @@ impl<S: Sources> Reading<S> {
     /// same again with no bytes.
     pub fn read(&mut self, out: &mut [u8]) -> ReadPart
         ensures fills { FillsPart S.Sources self.old self.new out.old out.new result.len result.ending }
-        ensures left { S.Sources.tells self.old.engine.sources → Leaves S.Sources self.old self.new (take result.len out.new) result.ending }
+        ensures left { S.Sources.has_known_texts self.old.engine.sources → Leaves S.Sources self.old self.new (take result.len out.new) result.ending }
     {
         let mut len = 0;
         let mut left = READ_ALLOWANCE;

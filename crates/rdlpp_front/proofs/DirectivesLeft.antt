@@ -264,13 +264,13 @@ module _ {R : Type 0} (rules : Rules) (unread : R → List ℕ) (ws : List Waiti
       one_skipped (line_token w f.buffer.line) (used_buffer f.buffer (line_len (held_of f.buffer)) (line_ends w)) (line_buffer unread f.buffer holds mode is) refl
 
   -- a `define` is skipped with its logical line
-  pub skipped_define_left : (tells : Type 0) (new : BufferView R) (len lines : ℕ) → HoldsLine tells unread (Whole len) f.buffer new → tells → f.buffer.mode ≡ Plain
+  pub skipped_define_left : (has_known_texts : Type 0) (new : BufferView R) (len lines : ℕ) → HoldsLine has_known_texts unread (Whole len) f.buffer new → has_known_texts → f.buffer.mode ≡ Plain
       → HoldsDefine (held_of f.buffer) (rest_of unread f.buffer) → lines ≡ line_ends (take len (held_of new))
       → source_left rules unread ws (Skipped n p os) f s
       ≡ behind_bytes (line_ends_of (take len (held_of new)))
       (source_left rules unread ws (Skipped n p os) (consumed_file len lines (with_file_buffer new f)) s)
   unfolding source_left is_skipped
-  skipped_define_left tells new len lines line t mode holds count =
+  skipped_define_left has_known_texts new len lines line t mode holds count =
       let w = take len (held_of new) in
       one_skipped (record { sort = Definition; bytes = w; line = f.buffer.line }) (consumed new len) (line.define t mode holds) refl
       ∙ ap (λ (b : BufferView R). behind_bytes (line_ends_of w) (left_of (only_blanks f.blanks w) b)) (consumed_used new len lines count)
@@ -334,11 +334,11 @@ module _ {R : Type 0} (rules : Rules) (unread : R → List ℕ) (ws : List Waiti
       ∙ behind_bytes-nil fault
 
   -- a conditional that is open at the end of its source is a fault, where its branch is skipped
-  pub skipped_unclosed_left : (n : ℕ) (tells : Type 0) (new : BufferView R) → Fills tells unread fill.End f.buffer new → tells → f.buffer.mode ≡ Plain
+  pub skipped_unclosed_left : (n : ℕ) (has_known_texts : Type 0) (new : BufferView R) → Fills has_known_texts unread fill.End f.buffer new → has_known_texts → f.buffer.mode ≡ Plain
       → source_left rules unread ws (Skipped n p os) f s
       ≡ leaves (fails (record { kind = OpenConditional; name = s.name; line = p.line; word = [] })) s
   unfolding source_left unclosed
-  skipped_unclosed_left n tells new fills t mode =
+  skipped_unclosed_left n has_known_texts new fills t mode =
       ap (λ (ts : List SourceToken). all_resumed rules ws (Skipped n p os) f.blanks ts s)
       (fills.tokens t ∙ ap (λ (m : Mode). ended_tokens m f.buffer.open_token_line) mode)
       ∙ all_resumed_fails rules ws (Skipped n p os) f.blanks [] s s (record { kind = OpenConditional; name = s.name; line = p.line; word = [] })

@@ -371,9 +371,9 @@ unfolding consumed
 consumed_used b len lines e = ap (λ (n : ℕ). used_buffer b len n) (sym e)
 
 module _ {R : Type 0} (rules : Rules) (unread : R → List ℕ) (ws : List Waiting) (os : List Progress) (f : File R) (s : State)
-    (tells : Type 0) (new : BufferView R) where
+    (has_known_texts : Type 0) (new : BufferView R) where
   -- a `define` that is accepted gives its LF bytes and changes the macros
-  pub define_left : (len lines : ℕ) (macros : List Macro) → HoldsLine tells unread (Whole len) f.buffer new → tells → f.buffer.mode ≡ Plain
+  pub define_left : (len lines : ℕ) (macros : List Macro) → HoldsLine has_known_texts unread (Whole len) f.buffer new → has_known_texts → f.buffer.mode ≡ Plain
       → HoldsDefine (held_of f.buffer) (rest_of unread f.buffer)
       → rules.define s.macros (drop 7 (take len (held_of new))) ≡ Accepted macros → lines ≡ line_ends (take len (held_of new))
       → source_left rules unread ws (Live os) f s
@@ -389,7 +389,7 @@ module _ {R : Type 0} (rules : Rules) (unread : R → List ℕ) (ws : List Waiti
       (consumed_used new len lines count)
 
   -- a `define` that is refused is a fault
-  pub define_refused_left : (len : ℕ) (kind : FaultKind) (word : List ℕ) → HoldsLine tells unread (Whole len) f.buffer new → tells → f.buffer.mode ≡ Plain
+  pub define_refused_left : (len : ℕ) (kind : FaultKind) (word : List ℕ) → HoldsLine has_known_texts unread (Whole len) f.buffer new → has_known_texts → f.buffer.mode ≡ Plain
       → HoldsDefine (held_of f.buffer) (rest_of unread f.buffer)
       → rules.define s.macros (drop 7 (take len (held_of new))) ≡ DefinitionFault kind word
       → source_left rules unread ws (Live os) f s ≡ leaves (fails (fault_at kind f.buffer.line word s)) s
@@ -399,7 +399,7 @@ module _ {R : Type 0} (rules : Rules) (unread : R → List ℕ) (ws : List Waiti
       ∙ all_resumed_bad_define rules ws os f.blanks (take len (held_of new)) f.buffer.line (tokens_left unread (consumed new len)) s kind word e
 
   -- a `define` whose logical line has too many bytes is a fault
-  pub define_long_left : HoldsLine tells unread TooLong f.buffer new → tells → f.buffer.mode ≡ Plain
+  pub define_long_left : HoldsLine has_known_texts unread TooLong f.buffer new → has_known_texts → f.buffer.mode ≡ Plain
       → HoldsDefine (held_of f.buffer) (rest_of unread f.buffer)
       → source_left rules unread ws (Live os) f s ≡ leaves (fails (fault_at LineTooLong f.buffer.line [] s)) s
   unfolding source_left breach_kind
@@ -408,7 +408,7 @@ module _ {R : Type 0} (rules : Rules) (unread : R → List ℕ) (ws : List Waiti
       ∙ all_resumed_only_broken rules ws os f.blanks DefineLong f.buffer.line [] s
 
   -- a `define` that the limit of its source cuts is a fault
-  pub define_cut_left : HoldsLine tells unread SourceLong f.buffer new → tells → f.buffer.mode ≡ Plain
+  pub define_cut_left : HoldsLine has_known_texts unread SourceLong f.buffer new → has_known_texts → f.buffer.mode ≡ Plain
       → HoldsDefine (held_of f.buffer) (rest_of unread f.buffer)
       → source_left rules unread ws (Live os) f s ≡ leaves (fails (fault_at SourceTooLong f.buffer.line [] s)) s
   unfolding source_left breach_kind
@@ -492,9 +492,9 @@ rest_open rest len None e h size =
     (subst IsLine (sym (take-length rest)) (subst (λ (o : Option ℕ). IfSome o (λ k. k ≡ length rest)) (sym e) tt))
 
 -- the logical line of a `define`, which may go on behind what was held of it
-whole_rest : {R : Type 0} (tells : Type 0) (unread : R → List ℕ) (held more : List ℕ) (new : BufferView R) (len : ℕ) → 0 < length held → IsDirective Define held
-    → held_of new ≡ held ++ more → IsLogical tells unread new len → WholeRest (held_of new) len
-whole_rest tells unread held more new len some is e logical =
+whole_rest : {R : Type 0} (has_known_texts : Type 0) (unread : R → List ℕ) (held more : List ℕ) (new : BufferView R) (len : ℕ) → 0 < length held → IsDirective Define held
+    → held_of new ≡ held ++ more → IsLogical has_known_texts unread new len → WholeRest (held_of new) len
+whole_rest has_known_texts unread held more new len some is e logical =
     let rest = drop 7 held ++ more in
     let text : held_of new ≡ codes "`define" ++ rest =
     e ∙ ap (λ (xs : List ℕ). xs ++ more) (define_begins held some is) ∙ append_assoc (codes "`define") (drop 7 held) more in
@@ -505,15 +505,15 @@ whole_rest tells unread held more new len some is e logical =
     ])
 
 -- what stands behind the word of a `define` is a logical line
-pub define_rest_whole : {R : Type 0} (tells : Type 0) (unread : R → List ℕ) (held more : List ℕ) (new : BufferView R) (len : ℕ) → 0 < length held → IsDirective Define held
-    → held_of new ≡ held ++ more → IsLogical tells unread new len
+pub define_rest_whole : {R : Type 0} (has_known_texts : Type 0) (unread : R → List ℕ) (held more : List ℕ) (new : BufferView R) (len : ℕ) → 0 < length held → IsDirective Define held
+    → held_of new ≡ held ++ more → IsLogical has_known_texts unread new len
     → IfSome (logical_len 0 0 (drop 7 (take len (held_of new)))) (λ k. k ≡ length (drop 7 (take len (held_of new))))
-define_rest_whole tells unread held more new len some is e logical = (whole_rest tells unread held more new len some is e logical).whole
+define_rest_whole has_known_texts unread held more new len some is e logical = (whole_rest has_known_texts unread held more new len some is e logical).whole
 
 -- its logical line has at least the word
-pub define_inside : {R : Type 0} (tells : Type 0) (unread : R → List ℕ) (held more : List ℕ) (new : BufferView R) (len : ℕ) → 0 < length held → IsDirective Define held
-    → held_of new ≡ held ++ more → IsLogical tells unread new len → 7 ≤ len
-define_inside tells unread held more new len some is e logical = (whole_rest tells unread held more new len some is e logical).wide
+pub define_inside : {R : Type 0} (has_known_texts : Type 0) (unread : R → List ℕ) (held more : List ℕ) (new : BufferView R) (len : ℕ) → 0 < length held → IsDirective Define held
+    → held_of new ≡ held ++ more → IsLogical has_known_texts unread new len → 7 ≤ len
+define_inside has_known_texts unread held more new len some is e logical = (whole_rest has_known_texts unread held more new len some is e logical).wide
 
 -- a byte that is counted
 pub counted : (t : Bool) (k n : ℕ) → t ≡ true → k ≡ cond t 1 0 + n → k ≡ suc n
@@ -649,17 +649,17 @@ module _ {R : Type 0} (rules : Rules) (unread : R → List ℕ) (ws : List Waiti
       ∙ all_resumed_only_broken rules ws os f.blanks b line [] s
 
   -- the end of a text is told by its mode
-  ended_by : (tells : Type 0) (new : BufferView R) (m : Mode) → Fills tells unread fill.End f.buffer new → tells → f.buffer.mode ≡ m
+  ended_by : (has_known_texts : Type 0) (new : BufferView R) (m : Mode) → Fills has_known_texts unread fill.End f.buffer new → has_known_texts → f.buffer.mode ≡ m
       → tokens_left unread f.buffer ≡ ended_tokens m f.buffer.open_token_line
-  ended_by tells new m fills t mode = fills.tokens t ∙ ap (λ (n : Mode). ended_tokens n f.buffer.open_token_line) mode
+  ended_by has_known_texts new m fills t mode = fills.tokens t ∙ ap (λ (n : Mode). ended_tokens n f.buffer.open_token_line) mode
 
   -- an open conditional at the end of its source is a fault
-  pub unclosed_left : (o : Progress) (tells : Type 0) (new : BufferView R) → Fills tells unread fill.End f.buffer new → tells → f.buffer.mode ≡ Plain
+  pub unclosed_left : (o : Progress) (has_known_texts : Type 0) (new : BufferView R) → Fills has_known_texts unread fill.End f.buffer new → has_known_texts → f.buffer.mode ≡ Plain
       → source_left rules unread ws (Live (o ∷ os)) f s
       ≡ leaves (fails (record { kind = OpenConditional; name = s.name; line = o.line; word = [] })) s
   unfolding source_left unclosed
-  unclosed_left o tells new fills t mode =
-      ap (λ (ts : List SourceToken). all_resumed rules ws (Live (o ∷ os)) f.blanks ts s) (ended_by tells new Plain fills t mode)
+  unclosed_left o has_known_texts new fills t mode =
+      ap (λ (ts : List SourceToken). all_resumed rules ws (Live (o ∷ os)) f.blanks ts s) (ended_by has_known_texts new Plain fills t mode)
       ∙ all_resumed_fails rules ws (Live (o ∷ os)) f.blanks [] s s (record { kind = OpenConditional; name = s.name; line = o.line; word = [] })
       (live_unclosed rules o os f.blanks s)
 
@@ -670,10 +670,10 @@ nothing_left rules ws first s = goes_on-nil s (λ after. unwound rules ws after)
 
 module _ {R : Type 0} (rules : Rules) (unread : R → List ℕ) (ws : List Waiting) (f : File R) (s : State) where
   -- at the end of the innermost source, the next goes on
-  pub ended_left : (tells : Type 0) (new : BufferView R) → Fills tells unread fill.End f.buffer new → tells → f.buffer.mode ≡ Plain
+  pub ended_left : (has_known_texts : Type 0) (new : BufferView R) → Fills has_known_texts unread fill.End f.buffer new → has_known_texts → f.buffer.mode ≡ Plain
       → source_left rules unread ws (Live []) f s ≡ unwound rules ws s
   unfolding source_left
-  ended_left tells new fills t mode =
+  ended_left has_known_texts new fills t mode =
       ap (λ (ts : List SourceToken). all_resumed rules ws (Live []) f.blanks ts s)
       (fills.tokens t ∙ ap (λ (n : Mode). ended_tokens n f.buffer.open_token_line) mode)
       ∙ nothing_left rules ws f.blanks s
@@ -685,28 +685,28 @@ module _ {R : Type 0} (rules : Rules) (unread : R → List ℕ) (ws : List Waiti
   same_left place new e = ap (λ (ts : List SourceToken). all_resumed rules ws place f.blanks ts s) e
 
   -- a buffer that was filled, or where a read failed
-  pub filled_left : (tells : Type 0) (place : Place) (new : BufferView R) (answer : Fill) → Fills tells unread answer f.buffer new → tells
+  pub filled_left : (has_known_texts : Type 0) (place : Place) (new : BufferView R) (answer : Fill) → Fills has_known_texts unread answer f.buffer new → has_known_texts
       → (answer ≡ fill.Held) ⊎ (answer ≡ fill.Failed)
       → source_left rules unread ws place (with_file_buffer new f) s ≡ source_left rules unread ws place f s
-  filled_left tells place new fill.Held fills t which = same_left place new (fills.tokens t)
-  filled_left tells place new fill.Failed fills t which = same_left place new (fills.tokens t)
-  filled_left tells place new fill.End fills t (inl e) = cc
-  filled_left tells place new fill.End fills t (inr e) = cc
-  filled_left tells place new fill.SourceLong fills t (inl e) = cc
-  filled_left tells place new fill.SourceLong fills t (inr e) = cc
-  filled_left tells place new fill.LineLong fills t (inl e) = cc
-  filled_left tells place new fill.LineLong fills t (inr e) = cc
+  filled_left has_known_texts place new fill.Held fills t which = same_left place new (fills.tokens t)
+  filled_left has_known_texts place new fill.Failed fills t which = same_left place new (fills.tokens t)
+  filled_left has_known_texts place new fill.End fills t (inl e) = cc
+  filled_left has_known_texts place new fill.End fills t (inr e) = cc
+  filled_left has_known_texts place new fill.SourceLong fills t (inl e) = cc
+  filled_left has_known_texts place new fill.SourceLong fills t (inr e) = cc
+  filled_left has_known_texts place new fill.LineLong fills t (inl e) = cc
+  filled_left has_known_texts place new fill.LineLong fills t (inr e) = cc
 
   -- a buffer in which a logical line was sought, and the source is too long or a read failed
-  pub held_left : (tells : Type 0) (place : Place) (new : BufferView R) (answer : LogicalLine) → HoldsLine tells unread answer f.buffer new → tells
+  pub held_left : (has_known_texts : Type 0) (place : Place) (new : BufferView R) (answer : LogicalLine) → HoldsLine has_known_texts unread answer f.buffer new → has_known_texts
       → (answer ≡ line.SourceLong) ⊎ (answer ≡ line.Failed)
       → source_left rules unread ws place (with_file_buffer new f) s ≡ source_left rules unread ws place f s
-  held_left tells place new line.SourceLong holds t which = same_left place new (holds.has t)
-  held_left tells place new line.Failed holds t which = same_left place new (holds.has t)
-  held_left tells place new (line.Whole len) holds t (inl e) = cc
-  held_left tells place new (line.Whole len) holds t (inr e) = cc
-  held_left tells place new line.TooLong holds t (inl e) = cc
-  held_left tells place new line.TooLong holds t (inr e) = cc
+  held_left has_known_texts place new line.SourceLong holds t which = same_left place new (holds.has t)
+  held_left has_known_texts place new line.Failed holds t which = same_left place new (holds.has t)
+  held_left has_known_texts place new (line.Whole len) holds t (inl e) = cc
+  held_left has_known_texts place new (line.Whole len) holds t (inr e) = cc
+  held_left has_known_texts place new line.TooLong holds t (inl e) = cc
+  held_left has_known_texts place new line.TooLong holds t (inr e) = cc
 
 module _ {R : Type 0} (rules : Rules) (unread : R → List ℕ) (ws : List Waiting) (os : List Progress) (f : File R) (s : State) where
   -- what is refused in front is a fault

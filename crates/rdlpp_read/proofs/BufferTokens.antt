@@ -38,13 +38,13 @@ gains-told : (exact own : Type 0) (gained old new : List ℕ) → (exact → own
 gains-told exact own gained old new exactly g = record { rest = g.rest; whole = g.whole; same = λ e. g.same (exactly e) }
 
 -- a window that stays
-pub slides-same : {R : Type 0} (tells exact : Type 0) (unread : R → List ℕ) (f : BufferView R) → Slides tells exact unread f f
-slides-same tells exact unread f = record { dropped = []; gained = []; window = append-nil f.window; used = omega arith; text = λ t. gains-none exact _ _ refl }
+pub slides-same : {R : Type 0} (has_known_texts exact : Type 0) (unread : R → List ℕ) (f : BufferView R) → Slides has_known_texts exact unread f f
+slides-same has_known_texts exact unread f = record { dropped = []; gained = []; window = append-nil f.window; used = omega arith; text = λ t. gains-none exact _ _ refl }
 
 -- a window that stays, where another thing changed
-pub slides-kept : {R : Type 0} (tells exact : Type 0) (unread : R → List ℕ) (old new : BufferView R) → new.window ≡ old.window → new.at ≡ old.at →
-    (exact → tells → unread_of unread old.reader ≡ unread_of unread new.reader) → Slides tells exact unread old new
-slides-kept tells exact unread old new window at text = record {
+pub slides-kept : {R : Type 0} (has_known_texts exact : Type 0) (unread : R → List ℕ) (old new : BufferView R) → new.window ≡ old.window → new.at ≡ old.at →
+    (exact → has_known_texts → unread_of unread old.reader ≡ unread_of unread new.reader) → Slides has_known_texts exact unread old new
+slides-kept has_known_texts exact unread old new window at text = record {
   dropped = [];
   gained = [];
   window = append-nil old.window ∙ sym window;
@@ -57,9 +57,9 @@ joined : (w x y a b c d : List ℕ) → w ++ a ≡ b ++ x → x ++ c ≡ d ++ y 
 joined w x y a b c d e f = sym (append_assoc w a c) ∙ (ap (λ v. v ++ c) e ∙ (append_assoc b x c ∙ (ap (λ v. b ++ v) f ∙ sym (append_assoc b d y))))
 
 -- two moves are one, of which the first is exact
-pub slides-on : {R : Type 0} (tells one two exact then_exact : Type 0) (unread : R → List ℕ) (old mid new : BufferView R) → (tells → one) → (tells → two) → (exact → then_exact)
-    → Slides one Unit unread old mid → Slides two then_exact unread mid new → Slides tells exact unread old new
-slides-on tells one two exact then_exact unread old mid new t u exactly first then_ =
+pub slides-on : {R : Type 0} (has_known_texts one two exact then_exact : Type 0) (unread : R → List ℕ) (old mid new : BufferView R) → (has_known_texts → one) → (has_known_texts → two) → (exact → then_exact)
+    → Slides one Unit unread old mid → Slides two then_exact unread mid new → Slides has_known_texts exact unread old new
+slides-on has_known_texts one two exact then_exact unread old mid new t u exactly first then_ =
     let used = first.used in
     let more = then_.used in
     record {
@@ -71,9 +71,9 @@ slides-on tells one two exact then_exact unread old mid new t u exactly first th
     }
 
 -- the window lost used bytes in front
-pub slides-compact : {R : Type 0} (tells exact : Type 0) (unread : R → List ℕ) (old new : BufferView R) (dropped : List ℕ) → old.window ≡ dropped ++ new.window → length dropped + new.at ≡ old.at →
-    new.reader ≡ old.reader → Slides tells exact unread old new
-slides-compact tells exact unread old new dropped window used reader = record {
+pub slides-compact : {R : Type 0} (has_known_texts exact : Type 0) (unread : R → List ℕ) (old new : BufferView R) (dropped : List ℕ) → old.window ≡ dropped ++ new.window → length dropped + new.at ≡ old.at →
+    new.reader ≡ old.reader → Slides has_known_texts exact unread old new
+slides-compact has_known_texts exact unread old new dropped window used reader = record {
   dropped = dropped;
   gained = [];
   window = append-nil old.window ∙ window;
@@ -82,9 +82,9 @@ slides-compact tells exact unread old new dropped window used reader = record {
 }
 
 -- such a move where more is known, or less is asked
-pub slides-told : {R : Type 0} (tells own exact own_exact : Type 0) (unread : R → List ℕ) (old new : BufferView R) → (tells → own) → (exact → own_exact)
-    → Slides own own_exact unread old new → Slides tells exact unread old new
-slides-told tells own exact own_exact unread old new t exactly slides = record {
+pub slides-told : {R : Type 0} (has_known_texts own exact own_exact : Type 0) (unread : R → List ℕ) (old new : BufferView R) → (has_known_texts → own) → (exact → own_exact)
+    → Slides own own_exact unread old new → Slides has_known_texts exact unread old new
+slides-told has_known_texts own exact own_exact unread old new t exactly slides = record {
   dropped = slides.dropped;
   gained = slides.gained;
   window = slides.window;
@@ -93,21 +93,21 @@ slides-told tells own exact own_exact unread old new t exactly slides = record {
 }
 
 -- a window that slid, and of which nothing was used
-pub moves-slid : {R : Type 0} (tells exact : Type 0) (unread : R → List ℕ) (old new : BufferView R) → Slides tells exact unread old new → MovesOver tells exact unread [] old new
-moves-slid tells exact unread old new slides =
+pub moves-slid : {R : Type 0} (has_known_texts exact : Type 0) (unread : R → List ℕ) (old new : BufferView R) → Slides has_known_texts exact unread old new → MovesOver has_known_texts exact unread [] old new
+moves-slid has_known_texts exact unread old new slides =
     let used = slides.used in
     record { dropped = slides.dropped; gained = slides.gained; window = slides.window; used = omega arith; text = slides.text }
 
 -- a window of which bytes were used
-pub moves-past : {R : Type 0} (tells exact : Type 0) (unread : R → List ℕ) (uses : List ℕ) (old new : BufferView R) → new.window ≡ old.window → new.at ≡ old.at + length uses → new.reader ≡ old.reader
-    → MovesOver tells exact unread uses old new
-moves-past tells exact unread uses old new window at reader =
+pub moves-past : {R : Type 0} (has_known_texts exact : Type 0) (unread : R → List ℕ) (uses : List ℕ) (old new : BufferView R) → new.window ≡ old.window → new.at ≡ old.at + length uses → new.reader ≡ old.reader
+    → MovesOver has_known_texts exact unread uses old new
+moves-past has_known_texts exact unread uses old new window at reader =
     record { dropped = []; gained = []; window = append-nil old.window ∙ sym window; used = omega (arith, at); text = λ t. gains-none exact _ _ (ap (unread_of unread) (sym reader)) }
 
 -- such a move where more is known, or less is asked
-pub moves-told : {R : Type 0} (tells own exact own_exact : Type 0) (unread : R → List ℕ) (uses : List ℕ) (old new : BufferView R) → (tells → own) → (exact → own_exact)
-    → MovesOver own own_exact unread uses old new → MovesOver tells exact unread uses old new
-moves-told tells own exact own_exact unread uses old new t exactly moves = record {
+pub moves-told : {R : Type 0} (has_known_texts own exact own_exact : Type 0) (unread : R → List ℕ) (uses : List ℕ) (old new : BufferView R) → (has_known_texts → own) → (exact → own_exact)
+    → MovesOver own own_exact unread uses old new → MovesOver has_known_texts exact unread uses old new
+moves-told has_known_texts own exact own_exact unread uses old new t exactly moves = record {
   dropped = moves.dropped;
   gained = moves.gained;
   window = moves.window;
@@ -116,9 +116,9 @@ moves-told tells own exact own_exact unread uses old new t exactly moves = recor
 }
 
 -- two such moves are one, of which the first is exact
-pub moves-on : {R : Type 0} (tells one two exact then_exact : Type 0) (unread : R → List ℕ) (x y : List ℕ) (old mid new : BufferView R) → (tells → one) → (tells → two) → (exact → then_exact)
-    → MovesOver one Unit unread x old mid → MovesOver two then_exact unread y mid new → MovesOver tells exact unread (x ++ y) old new
-moves-on tells one two exact then_exact unread x y old mid new t u exactly first then_ =
+pub moves-on : {R : Type 0} (has_known_texts one two exact then_exact : Type 0) (unread : R → List ℕ) (x y : List ℕ) (old mid new : BufferView R) → (has_known_texts → one) → (has_known_texts → two) → (exact → then_exact)
+    → MovesOver one Unit unread x old mid → MovesOver two then_exact unread y mid new → MovesOver has_known_texts exact unread (x ++ y) old new
+moves-on has_known_texts one two exact then_exact unread x y old mid new t u exactly first then_ =
     let used = first.used in
     let more = then_.used in
     record {
@@ -158,10 +158,10 @@ unfolding tokens_left
 tokens-same unread old new line line_bytes mode open_token_line bytes_left held rest = cc
 
 -- lines that come behind what is held change no token
-pub lengthens-tokens : {R : Type 0} (tells : Type 0) (unread : R → List ℕ) (old new : BufferView R) → new.line ≡ old.line → new.line_bytes ≡ old.line_bytes → new.mode ≡ old.mode →
-    new.open_token_line ≡ old.open_token_line → Lengthens tells unread old new → tells → tokens_left unread new ≡ tokens_left unread old
+pub lengthens-tokens : {R : Type 0} (has_known_texts : Type 0) (unread : R → List ℕ) (old new : BufferView R) → new.line ≡ old.line → new.line_bytes ≡ old.line_bytes → new.mode ≡ old.mode →
+    new.open_token_line ≡ old.open_token_line → Lengthens has_known_texts unread old new → has_known_texts → tokens_left unread new ≡ tokens_left unread old
 unfolding tokens_left
-lengthens-tokens tells unread old new line line_bytes mode open_token_line l t =
+lengthens-tokens has_known_texts unread old new line line_bytes mode open_token_line l t =
     let size : length (held_of new) ≡ length (held_of old) + length l.lines = ap length l.held ∙ length-append (held_of old) l.lines in
     let short = l.short in
     let law = remaining-accept old.line_bytes old.mode old.open_token_line old.line (held_of old) old.bytes_left l.lines (rest_of unread new) l.ends (omega arith) l.fits in
@@ -196,30 +196,30 @@ unfolding tokens_left remaining_tokens source_tokens
 break-tokens unread f k none broken = rw (none, broken) (broken_by f.line_bytes k f.mode f.open_token_line f.line)
 
 -- what was found says what the tokens are, where nothing was held
-grows-tokens : {R : Type 0} (tells : Type 0) (unread : R → List ℕ) (fill : Fill) (old new : BufferView R) → held_of old ≡ [] → Grows tells unread fill old new →
-    tells → TellsTokens fill old (tokens_left unread old) (tokens_left unread new)
-grows-tokens tells unread Held old new none g t = lengthens-tokens tells unread old new g.line g.line_bytes g.mode g.open_token_line g.by t
-grows-tokens tells unread End old new none g t = end-tokens unread old none (g.by.1 t)
-grows-tokens tells unread SourceLong old new none g t =
+grows-tokens : {R : Type 0} (has_known_texts : Type 0) (unread : R → List ℕ) (fill : Fill) (old new : BufferView R) → held_of old ≡ [] → Grows has_known_texts unread fill old new →
+    has_known_texts → TellsTokens fill old (tokens_left unread old) (tokens_left unread new)
+grows-tokens has_known_texts unread Held old new none g t = lengthens-tokens has_known_texts unread old new g.line g.line_bytes g.mode g.open_token_line g.by t
+grows-tokens has_known_texts unread End old new none g t = end-tokens unread old none (g.by.1 t)
+grows-tokens has_known_texts unread SourceLong old new none g t =
     let short = g.by.1 t in
     break-tokens unread old _ none (front-source_long old.line_bytes old.bytes_left (rest_of unread old) (omega arith) (g.by.2 t))
-grows-tokens tells unread LineLong old new none g t =
+grows-tokens has_known_texts unread LineLong old new none g t =
     let long = g.by.1 t in
     let size : length (held_of old) ≡ 0 = ap length none in
     break-tokens unread old _ none (front-line_long old.line_bytes old.bytes_left (rest_of unread old) (omega arith))
-grows-tokens tells unread Failed old new none g t =
+grows-tokens has_known_texts unread Failed old new none g t =
     tokens-same unread old new g.line g.line_bytes g.mode g.open_token_line g.by.0.bytes_left g.by.0.held (g.by.1 t)
 
 -- bytes came, where nothing was held
-grows-bytes : {R : Type 0} (tells : Type 0) (unread : R → List ℕ) (fill : Fill) (old new : BufferView R) → held_of old ≡ [] → GrowsBy tells unread fill old new → HasBytes fill new
-grows-bytes tells unread Held old new none by =
+grows-bytes : {R : Type 0} (has_known_texts : Type 0) (unread : R → List ℕ) (fill : Fill) (old new : BufferView R) → held_of old ≡ [] → GrowsBy has_known_texts unread fill old new → HasBytes fill new
+grows-bytes has_known_texts unread Held old new none by =
     let size : length (held_of new) ≡ length (held_of old) + length by.lines = ap length by.held ∙ length-append (held_of old) by.lines in
     let some = by.some in
     omega arith
-grows-bytes tells unread End old new none by = by.0.held ∙ none
-grows-bytes tells unread SourceLong old new none by = by.0.held ∙ none
-grows-bytes tells unread LineLong old new none by = by.0.held ∙ none
-grows-bytes tells unread Failed old new none by = by.0.held ∙ none
+grows-bytes has_known_texts unread End old new none by = by.0.held ∙ none
+grows-bytes has_known_texts unread SourceLong old new none by = by.0.held ∙ none
+grows-bytes has_known_texts unread LineLong old new none by = by.0.held ∙ none
+grows-bytes has_known_texts unread Failed old new none by = by.0.held ∙ none
 
 -- what a source was before what isn't used of it moved to the front
 pub record Compacts {R : Type 0} (old new : BufferView R) : Type 0 where
@@ -274,8 +274,8 @@ stays-from : {R : Type 0} (old mid new : BufferView R) → Compacts old mid → 
 stays-from old mid new c s = record { held = s.held ∙ c.held; bytes_left = s.bytes_left ∙ c.bytes_left }
 
 -- what was found behind a move
-compacts-by : {R : Type 0} (tells : Type 0) (unread : R → List ℕ) (fill : Fill) (old mid new : BufferView R) → Compacts old mid → GrowsBy tells unread fill mid new → GrowsBy tells unread fill old new
-compacts-by tells unread Held old mid new c by =
+compacts-by : {R : Type 0} (has_known_texts : Type 0) (unread : R → List ℕ) (fill : Fill) (old mid new : BufferView R) → Compacts old mid → GrowsBy has_known_texts unread fill mid new → GrowsBy has_known_texts unread fill old new
+compacts-by has_known_texts unread Held old mid new c by =
     let left = c.bytes_left in
     let most = c.line_bytes in
     let fits = by.fits in
@@ -292,91 +292,91 @@ compacts-by tells unread Held old mid new c by =
       ends = by.ends;
       rest = λ t. sym (compacts-rest unread old mid c) ∙ by.rest t;
     }
-compacts-by tells unread End old mid new c by = (stays-from old mid new c by.0, λ t. sym (compacts-rest unread old mid c) ∙ by.1 t, by.2)
-compacts-by tells unread SourceLong old mid new c by =
+compacts-by has_known_texts unread End old mid new c by = (stays-from old mid new c by.0, λ t. sym (compacts-rest unread old mid c) ∙ by.1 t, by.2)
+compacts-by has_known_texts unread SourceLong old mid new c by =
     let rest : line_len (rest_of unread mid) ≡ line_len (rest_of unread old) = ap line_len (compacts-rest unread old mid c) in
     let held : length (held_of mid) ≡ length (held_of old) = ap length c.held in
     let left = c.bytes_left in
     let most = c.line_bytes in
     (stays-from old mid new c by.0, λ t. (let h = by.1 t in omega arith), λ t. (let h = by.2 t in omega arith), λ t. by.3 t ∙ compacts-rest unread old mid c)
-compacts-by tells unread LineLong old mid new c by =
+compacts-by has_known_texts unread LineLong old mid new c by =
     let rest : line_len (rest_of unread mid) ≡ line_len (rest_of unread old) = ap line_len (compacts-rest unread old mid c) in
     let size : length (rest_of unread mid) ≡ length (rest_of unread old) = ap length (compacts-rest unread old mid c) in
     let held : length (held_of mid) ≡ length (held_of old) = ap length c.held in
     let most = c.line_bytes in
     (stays-from old mid new c by.0, λ t. (let h = by.1 t in omega arith), λ t. (let h = by.2 t in omega arith))
-compacts-by tells unread Failed old mid new c by = (stays-from old mid new c by.0, λ t. by.1 t ∙ compacts-rest unread old mid c, by.2)
+compacts-by has_known_texts unread Failed old mid new c by = (stays-from old mid new c by.0, λ t. by.1 t ∙ compacts-rest unread old mid c, by.2)
 
 -- the same with all that goes with it
-pub compacts-grows : {R : Type 0} (tells : Type 0) (unread : R → List ℕ) (fill : Fill) (old mid new : BufferView R) → Compacts old mid → Grows tells unread fill mid new → Grows tells unread fill old new
-compacts-grows tells unread fill old mid new c g = record {
+pub compacts-grows : {R : Type 0} (has_known_texts : Type 0) (unread : R → List ℕ) (fill : Fill) (old mid new : BufferView R) → Compacts old mid → Grows has_known_texts unread fill mid new → Grows has_known_texts unread fill old new
+compacts-grows has_known_texts unread fill old mid new c g = record {
   line = g.line ∙ c.line;
   line_bytes = g.line_bytes ∙ c.line_bytes;
   mode = g.mode ∙ c.mode;
   open_token_line = g.open_token_line ∙ c.open_token_line;
   unused = g.unused ∙ c.unused;
-  slides = slides-on tells tells tells (IsExact fill) (IsExact fill) unread old mid new (λ t. t) (λ t. t) (λ e. e) (slides-compact tells Unit unread old mid c.dropped c.window c.used c.reader) g.slides;
+  slides = slides-on has_known_texts has_known_texts has_known_texts (IsExact fill) (IsExact fill) unread old mid new (λ t. t) (λ t. t) (λ e. e) (slides-compact has_known_texts Unit unread old mid c.dropped c.window c.used c.reader) g.slides;
   waits = elim g.waits [
     | inl same ↦ inl (let window = ap length c.window in let used = c.used in omega (arith, length-append c.dropped mid.window))
     | inr none ↦ inr (ap whole_lines_len (sym c.ahead) ∙ none)
   ];
-  by = compacts-by tells unread fill old mid new c g.by;
+  by = compacts-by has_known_texts unread fill old mid new c g.by;
 }
 
 -- the text that isn't used stays, but where a byte too many was read
-pub grows-text : {R : Type 0} (tells : Type 0) (unread : R → List ℕ) (fill : Fill) (old new : BufferView R) → GrowsBy tells unread fill old new → IsExact fill → tells → text_left unread new ≡ text_left unread old
+pub grows-text : {R : Type 0} (has_known_texts : Type 0) (unread : R → List ℕ) (fill : Fill) (old new : BufferView R) → GrowsBy has_known_texts unread fill old new → IsExact fill → has_known_texts → text_left unread new ≡ text_left unread old
 unfolding text_left
-grows-text tells unread Held old new by other t = let held = by.held in let rest = by.rest t in let join = append_assoc (held_of old) by.lines (rest_of unread new) in cc
-grows-text tells unread End old new by other t = let held = by.0.held in let rest = by.1 t in let none = by.2 in cc
-grows-text tells unread SourceLong old new by other t = let held = by.0.held in let rest = by.3 t in cc
-grows-text tells unread LineLong old new by other t = absurd (other refl)
-grows-text tells unread Failed old new by other t = let held = by.0.held in let rest = by.1 t in cc
+grows-text has_known_texts unread Held old new by other t = let held = by.held in let rest = by.rest t in let join = append_assoc (held_of old) by.lines (rest_of unread new) in cc
+grows-text has_known_texts unread End old new by other t = let held = by.0.held in let rest = by.1 t in let none = by.2 in cc
+grows-text has_known_texts unread SourceLong old new by other t = let held = by.0.held in let rest = by.3 t in cc
+grows-text has_known_texts unread LineLong old new by other t = absurd (other refl)
+grows-text has_known_texts unread Failed old new by other t = let held = by.0.held in let rest = by.1 t in cc
 
 -- where the end of a text was met, nothing is left of it
-grows-ended : {R : Type 0} (tells : Type 0) (unread : R → List ℕ) (fill : Fill) (old new : BufferView R) → held_of old ≡ [] → GrowsBy tells unread fill old new → fill ≡ End → text_left unread new ≡ []
+grows-ended : {R : Type 0} (has_known_texts : Type 0) (unread : R → List ℕ) (fill : Fill) (old new : BufferView R) → held_of old ≡ [] → GrowsBy has_known_texts unread fill old new → fill ≡ End → text_left unread new ≡ []
 unfolding text_left
-grows-ended tells unread Held old new none by is = cc
-grows-ended tells unread End old new none by is = let held = by.0.held in let rest = by.2 in cc
-grows-ended tells unread SourceLong old new none by is = cc
-grows-ended tells unread LineLong old new none by is = cc
-grows-ended tells unread Failed old new none by is = cc
+grows-ended has_known_texts unread Held old new none by is = cc
+grows-ended has_known_texts unread End old new none by is = let held = by.0.held in let rest = by.2 in cc
+grows-ended has_known_texts unread SourceLong old new none by is = cc
+grows-ended has_known_texts unread LineLong old new none by is = cc
+grows-ended has_known_texts unread Failed old new none by is = cc
 
 -- where a read failed, no whole line is ahead
-grows-short : {R : Type 0} (tells : Type 0) (unread : R → List ℕ) (fill : Fill) (old new : BufferView R) → GrowsBy tells unread fill old new → fill ≡ Failed → whole_lines_len (ahead_of new) ≡ 0
-grows-short tells unread Held old new by is = cc is
-grows-short tells unread End old new by is = cc is
-grows-short tells unread SourceLong old new by is = cc is
-grows-short tells unread LineLong old new by is = cc is
-grows-short tells unread Failed old new by is = by.2
+grows-short : {R : Type 0} (has_known_texts : Type 0) (unread : R → List ℕ) (fill : Fill) (old new : BufferView R) → GrowsBy has_known_texts unread fill old new → fill ≡ Failed → whole_lines_len (ahead_of new) ≡ 0
+grows-short has_known_texts unread Held old new by is = cc is
+grows-short has_known_texts unread End old new by is = cc is
+grows-short has_known_texts unread SourceLong old new by is = cc is
+grows-short has_known_texts unread LineLong old new by is = cc is
+grows-short has_known_texts unread Failed old new by is = by.2
 
 -- what a source has before its next byte, by what stood there
-pub grows-fills : {R : Type 0} (tells : Type 0) (unread : R → List ℕ) (fill : Fill) (old new : BufferView R) → held_of old ≡ [] → Grows tells unread fill old new → Fills tells unread fill old new
-grows-fills tells unread fill old new none g = record {
+pub grows-fills : {R : Type 0} (has_known_texts : Type 0) (unread : R → List ℕ) (fill : Fill) (old new : BufferView R) → held_of old ≡ [] → Grows has_known_texts unread fill old new → Fills has_known_texts unread fill old new
+grows-fills has_known_texts unread fill old new none g = record {
   line = g.line;
   line_bytes = g.line_bytes;
   mode = g.mode;
   open_token_line = g.open_token_line;
-  bytes = grows-bytes tells unread fill old new none g.by;
+  bytes = grows-bytes has_known_texts unread fill old new none g.by;
   unused = g.unused;
   slides = g.slides;
   waits = g.waits;
-  short = grows-short tells unread fill old new g.by;
-  text = grows-text tells unread fill old new g.by;
-  ended = grows-ended tells unread fill old new none g.by;
-  tokens = grows-tokens tells unread fill old new none g;
+  short = grows-short has_known_texts unread fill old new g.by;
+  text = grows-text has_known_texts unread fill old new g.by;
+  ended = grows-ended has_known_texts unread fill old new none g.by;
+  tokens = grows-tokens has_known_texts unread fill old new none g;
 }
 
 -- bytes of accepted lines are held
-pub held-fills : {R : Type 0} (tells : Type 0) (unread : R → List ℕ) (f : BufferView R) → f.at < f.accepted → f.accepted ≤ length f.window → Fills tells unread Held f f
+pub held-fills : {R : Type 0} (has_known_texts : Type 0) (unread : R → List ℕ) (f : BufferView R) → f.at < f.accepted → f.accepted ≤ length f.window → Fills has_known_texts unread Held f f
 unfolding held_of
-held-fills tells unread f some inside = record {
+held-fills has_known_texts unread f some inside = record {
   line = refl;
   line_bytes = refl;
   mode = refl;
   open_token_line = refl;
   bytes = omega (arith, length-drop f.at (take f.accepted f.window), length-take-le f.accepted f.window inside);
   unused = refl;
-  slides = slides-same tells (IsExact Held) unread f;
+  slides = slides-same has_known_texts (IsExact Held) unread f;
   waits = inl refl;
   short = λ is. cc is;
   text = λ other t. refl;
@@ -385,8 +385,8 @@ held-fills tells unread f some inside = record {
 }
 
 -- where the end of a text was met, nothing was left of it before
-pub ended-text : {R : Type 0} (tells : Type 0) (unread : R → List ℕ) (old new : BufferView R) → Fills tells unread End old new → tells → text_left unread old ≡ []
-ended-text tells unread old new fills t = let text = fills.text (λ is. cc) t in let ended = fills.ended refl in cc
+pub ended-text : {R : Type 0} (has_known_texts : Type 0) (unread : R → List ℕ) (old new : BufferView R) → Fills has_known_texts unread End old new → has_known_texts → text_left unread old ≡ []
+ended-text has_known_texts unread old new fills t = let text = fills.text (λ is. cc) t in let ended = fills.ended refl in cc
 
 -- where no line is accepted, nothing is held
 pub none_ends : {R : Type 0} (f : BufferView R) → f.accepted ≡ 0 → EndsHeld f

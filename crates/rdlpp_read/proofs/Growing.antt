@@ -182,10 +182,10 @@ line-longer bytes more none some = line-more (length bytes) (bytes ++ more) (rw 
 -- What one turn of reading does to an open source.
 
 -- the text has ended
-pub ended_turn : {R : Type 0} (tells : Type 0) (unread : R → List ℕ) (old new : BufferView R) (reader : R) →
-    old.reader ≡ Some reader → new ≡ record old { reader = None } → (tells → unread reader ≡ []) → length old.window ≤ old.line_bytes → ReadsOn tells unread old new
+pub ended_turn : {R : Type 0} (has_known_texts : Type 0) (unread : R → List ℕ) (old new : BufferView R) (reader : R) →
+    old.reader ≡ Some reader → new ≡ record old { reader = None } → (has_known_texts → unread reader ≡ []) → length old.window ≤ old.line_bytes → ReadsOn has_known_texts unread old new
 unfolding unread_of
-ended_turn tells unread old new reader was becomes text within = record {
+ended_turn has_known_texts unread old new reader was becomes text within = record {
   gained = [];
   becomes = rw (becomes, append-nil) refl;
   text = λ t. rw (was, becomes) (text t);
@@ -194,11 +194,11 @@ ended_turn tells unread old new reader was becomes text within = record {
 }
 
 -- bytes came
-pub gained_turn : {R : Type 0} (tells : Type 0) (unread : R → List ℕ) (old new : BufferView R) (reader next : R) (bytes : List ℕ) →
+pub gained_turn : {R : Type 0} (has_known_texts : Type 0) (unread : R → List ℕ) (old new : BufferView R) (reader next : R) (bytes : List ℕ) →
     old.reader ≡ Some reader → new ≡ record old { window = old.window ++ bytes; reader = Some next } → 0 < length bytes →
-    (tells → unread reader ≡ bytes ++ unread next) → length old.window + length bytes ≤ old.line_bytes → ReadsOn tells unread old new
+    (has_known_texts → unread reader ≡ bytes ++ unread next) → length old.window + length bytes ≤ old.line_bytes → ReadsOn has_known_texts unread old new
 unfolding unread_of
-gained_turn tells unread old new reader next bytes was becomes some text within = record {
+gained_turn has_known_texts unread old new reader next bytes was becomes some text within = record {
   gained = bytes;
   becomes = rw becomes refl;
   text = λ t. rw (was, becomes) (text t);
@@ -207,10 +207,10 @@ gained_turn tells unread old new reader next bytes was becomes some text within 
 }
 
 -- a read failed
-pub failed_turn : {R : Type 0} (tells : Type 0) (unread : R → List ℕ) (old new : BufferView R) (reader next : R) →
-    old.reader ≡ Some reader → new ≡ record old { reader = Some next } → (tells → unread next ≡ unread reader) → Stops tells unread Failed old new
+pub failed_turn : {R : Type 0} (has_known_texts : Type 0) (unread : R → List ℕ) (old new : BufferView R) (reader next : R) →
+    old.reader ≡ Some reader → new ≡ record old { reader = Some next } → (has_known_texts → unread next ≡ unread reader) → Stops has_known_texts unread Failed old new
 unfolding unread_of
-failed_turn tells unread old new reader next was becomes text = record {
+failed_turn has_known_texts unread old new reader next was becomes text = record {
   becomes = rw becomes refl;
   kind = inl refl;
   full = λ e. absurd (cc);
@@ -219,11 +219,11 @@ failed_turn tells unread old new reader next was becomes text = record {
 }
 
 -- a full window goes on
-pub long_turn : {R : Type 0} (tells : Type 0) (unread : R → List ℕ) (old new : BufferView R) (reader next : R) →
+pub long_turn : {R : Type 0} (has_known_texts : Type 0) (unread : R → List ℕ) (old new : BufferView R) (reader next : R) →
     old.reader ≡ Some reader → new ≡ record old { reader = Some next } → length old.window ≡ old.line_bytes →
-    (tells → 0 < length (unread reader)) → Stops tells unread LineLong old new
+    (has_known_texts → 0 < length (unread reader)) → Stops has_known_texts unread LineLong old new
 unfolding unread_of
-long_turn tells unread old new reader next was becomes full text = record {
+long_turn has_known_texts unread old new reader next was becomes full text = record {
   becomes = rw becomes refl;
   kind = inr refl;
   full = λ _. full;
@@ -256,11 +256,11 @@ window_after filled n old new kept = take-add filled n new ∙ ap (λ w. w ++ ta
 pub search-starts : {S R : Type 0} (g : Ghosts S R) (sources : S) (f : BufferView R) → f.accepted ≤ length f.window → EndsHeld f → Searches g sources sources f f 0
 unfolding whole_lines_len
 search-starts g sources f inside ends = record {
-  seeks = record { at = refl; accepted = refl; inside = inside; bytes_left = refl; line = refl; line_bytes = refl; mode = refl; open_token_line = refl; held = refl; text = λ t. refl; slides = slides-same (g.tells sources) Unit g.unread f; waits = inl refl };
+  seeks = record { at = refl; accepted = refl; inside = inside; bytes_left = refl; line = refl; line_bytes = refl; mode = refl; open_token_line = refl; held = refl; text = λ t. refl; slides = slides-same (g.has_known_texts sources) Unit g.unread f; waits = inl refl };
   place = omega arith;
   none = refl;
   ends = ends;
-  call = record { failures = refl; refusals = refl; tells = λ t. t; catalog = refl };
+  call = record { failures = refl; refusals = refl; has_known_texts = λ t. t; catalog = refl };
 }
 
 -- what a turn adds stands behind what was ahead
@@ -292,23 +292,23 @@ reads-slides told unread mid new reads = record {
 }
 
 -- where no whole line is ahead after the turns so far, none was before them
-none-before : {R : Type 0} (tells : Type 0) (unread : R → List ℕ) (old mid : BufferView R) → Seeks tells unread old mid → whole_lines_len (ahead_of mid) ≡ 0 → whole_lines_len (ahead_of old) ≡ 0
+none-before : {R : Type 0} (has_known_texts : Type 0) (unread : R → List ℕ) (old mid : BufferView R) → Seeks has_known_texts unread old mid → whole_lines_len (ahead_of mid) ≡ 0 → whole_lines_len (ahead_of old) ≡ 0
 unfolding ahead_of
-none-before tells unread old mid seeks none = elim seeks.waits [
+none-before has_known_texts unread old mid seeks none = elim seeks.waits [
   | inl same ↦ ap (λ (w : List ℕ). whole_lines_len (drop old.accepted w)) (sym same) ∙ ap (λ n. whole_lines_len (drop n mid.window)) (sym seeks.accepted) ∙ none
   | inr before ↦ before
 ]
 
 -- bytes were read only where no whole line was ahead, if what came then leaves the window
-waits-on : {R : Type 0} (tells : Type 0) (unread : R → List ℕ) (old mid new : BufferView R) → Seeks tells unread old mid → new.window ≡ mid.window → new.at ≡ mid.at → WaitsForLines old new
-waits-on tells unread old mid new seeks window at = elim seeks.waits [
+waits-on : {R : Type 0} (has_known_texts : Type 0) (unread : R → List ℕ) (old mid new : BufferView R) → Seeks has_known_texts unread old mid → new.window ≡ mid.window → new.at ≡ mid.at → WaitsForLines old new
+waits-on has_known_texts unread old mid new seeks window at = elim seeks.waits [
   | inl same ↦ inl (let size = ap length (window ∙ same) in let place = at ∙ seeks.at in omega arith)
   | inr none ↦ inr none
 ]
 
 -- a turn that reads on keeps the text that remains
-seeks-on : {R : Type 0} (tells told : Type 0) (unread : R → List ℕ) (old mid new : BufferView R) → Seeks tells unread old mid → whole_lines_len (ahead_of mid) ≡ 0 → (tells → told) → ReadsOn told unread mid new → Seeks tells unread old new
-seeks-on tells told unread old mid new seeks none tell reads =
+seeks-on : {R : Type 0} (has_known_texts told : Type 0) (unread : R → List ℕ) (old mid new : BufferView R) → Seeks has_known_texts unread old mid → whole_lines_len (ahead_of mid) ≡ 0 → (has_known_texts → told) → ReadsOn told unread mid new → Seeks has_known_texts unread old new
+seeks-on has_known_texts told unread old mid new seeks none tell reads =
     let window : new.window ≡ mid.window ++ reads.gained = ap (λ f. f.window) reads.becomes in
     let accepted : new.accepted ≡ mid.accepted = ap (λ f. f.accepted) reads.becomes in
     let size : length new.window ≡ length mid.window + length reads.gained = ap length window ∙ length-append mid.window reads.gained in
@@ -324,8 +324,8 @@ seeks-on tells told unread old mid new seeks none tell reads =
       open_token_line = ap (λ f. f.open_token_line) reads.becomes ∙ seeks.open_token_line;
       held = reads-held told unread mid new inside reads ∙ seeks.held;
       text = λ t. seeks.text t ∙ reads-text told unread mid new inside reads (tell t);
-      slides = slides-on tells tells told Unit Unit unread old mid new (λ t. t) tell (λ e. tt) seeks.slides (reads-slides told unread mid new reads);
-      waits = inr (none-before tells unread old mid seeks none);
+      slides = slides-on has_known_texts has_known_texts told Unit Unit unread old mid new (λ t. t) tell (λ e. tt) seeks.slides (reads-slides told unread mid new reads);
+      waits = inr (none-before has_known_texts unread old mid seeks none);
     }
 
 -- two calls that read without a fault are one
@@ -333,13 +333,13 @@ pub calls-on : {S R : Type 0} (g : Ghosts S R) (failed : Bool) (first before aft
 calls-on g true first before after one two = record {
   failures = rw (← one.failures) two.failures;
   refusals = two.refusals ∙ one.refusals;
-  tells = λ t. two.tells (one.tells t);
+  has_known_texts = λ t. two.has_known_texts (one.has_known_texts t);
   catalog = two.catalog ∙ one.catalog;
 }
 calls-on g false first before after one two = record {
   failures = two.failures ∙ one.failures;
   refusals = two.refusals ∙ one.refusals;
-  tells = λ t. two.tells (one.tells t);
+  has_known_texts = λ t. two.has_known_texts (one.has_known_texts t);
   catalog = two.catalog ∙ one.catalog;
 }
 
@@ -352,18 +352,18 @@ reads-ends told unread mid new inside some ends reads = elim ends [
 
 -- a turn that reads on goes on with the search
 pub search-goes-on : {S R : Type 0} (g : Ghosts S R) (first before after : S) (old mid new : BufferView R) (seen len : ℕ) →
-    Searches g first before old mid seen → whole_lines_len (ahead_of mid) ≡ 0 → IsSome mid.reader → ReadsOn (g.tells before) g.unread mid new → SourcesRead g false before after →
+    Searches g first before old mid seen → whole_lines_len (ahead_of mid) ≡ 0 → IsSome mid.reader → ReadsOn (g.has_known_texts before) g.unread mid new → SourcesRead g false before after →
     len ≡ length (ahead_of mid) → Searches g first after old new len
 search-goes-on g first before after old mid new seen len searches none some reads call whole =
     let inside = searches.seeks.inside in
-    let ahead = reads-ahead (g.tells before) g.unread mid new inside reads in
+    let ahead = reads-ahead (g.has_known_texts before) g.unread mid new inside reads in
     let size : length (ahead_of new) ≡ length (ahead_of mid) + length reads.gained = ap length ahead ∙ length-append (ahead_of mid) reads.gained in
     let front_part : take len (ahead_of new) ≡ ahead_of mid = rw (whole, ahead) (take-append_seam (ahead_of mid) reads.gained) in
     record {
-      seeks = seeks-on (g.tells first) (g.tells before) g.unread old mid new searches.seeks none searches.call.tells reads;
+      seeks = seeks-on (g.has_known_texts first) (g.has_known_texts before) g.unread old mid new searches.seeks none searches.call.has_known_texts reads;
       place = omega arith;
       none = ap whole_lines_len front_part ∙ none;
-      ends = reads-ends (g.tells before) g.unread mid new inside some searches.ends reads;
+      ends = reads-ends (g.has_known_texts before) g.unread mid new inside some searches.ends reads;
       call = calls-on g false first before after searches.call call;
     }
 
@@ -376,9 +376,9 @@ fewer most len gained (Some r) (Some s) some within (inl ended) = absurd (cc)
 fewer most len gained (Some r) (Some s) some within (inr more) = omega arith
 
 -- fewer turns remain
-pub fewer-turns : {R : Type 0} (tells : Type 0) (unread : R → List ℕ) (old new : BufferView R) → ReadsOn tells unread old new → IsSome old.reader → turns_left new < turns_left old
+pub fewer-turns : {R : Type 0} (has_known_texts : Type 0) (unread : R → List ℕ) (old new : BufferView R) → ReadsOn has_known_texts unread old new → IsSome old.reader → turns_left new < turns_left old
 unfolding turns_left
-fewer-turns tells unread old new reads some =
+fewer-turns has_known_texts unread old new reads some =
     let len : length new.window ≡ length old.window + length reads.gained = ap (λ f. length f.window) reads.becomes ∙ length-append old.window reads.gained in
     let most : new.line_bytes ≡ old.line_bytes = ap (λ f. f.line_bytes) reads.becomes in
     let within = reads.within in
@@ -443,9 +443,9 @@ unfolding held_of
 held-le f = omega (arith, length-drop f.at (take f.accepted f.window), length-take f.accepted f.window)
 
 -- lines were accepted
-accepts-grows : {R : Type 0} (tells : Type 0) (unread : R → List ℕ) (old mid new : BufferView R) → old.at ≡ 0 → Seeks tells unread old mid → EndsHeld mid → length mid.window ≤ mid.line_bytes →
-    Accepts mid new → Lengthens tells unread old new
-accepts-grows tells unread old mid new at seeks ends within a =
+accepts-grows : {R : Type 0} (has_known_texts : Type 0) (unread : R → List ℕ) (old mid new : BufferView R) → old.at ≡ 0 → Seeks has_known_texts unread old mid → EndsHeld mid → length mid.window ≤ mid.line_bytes →
+    Accepts mid new → Lengthens has_known_texts unread old new
+accepts-grows has_known_texts unread old mid new at seeks ends within a =
     let lines = take a.len (ahead_of mid) in
     let wide : length lines ≡ a.len = length-take-le a.len (ahead_of mid) a.lines.inside in
     let some = a.lines.some in
@@ -468,21 +468,21 @@ accepts-grows tells unread old mid new at seeks ends within a =
     }
 
 -- what stays where nothing was accepted
-seeks-stays : {R : Type 0} (tells : Type 0) (unread : R → List ℕ) (old mid new : BufferView R) → Seeks tells unread old mid → held_of new ≡ held_of mid → new.bytes_left ≡ mid.bytes_left → Stays old new
-seeks-stays tells unread old mid new seeks held left = record { held = held ∙ seeks.held; bytes_left = left ∙ seeks.bytes_left }
+seeks-stays : {R : Type 0} (has_known_texts : Type 0) (unread : R → List ℕ) (old mid new : BufferView R) → Seeks has_known_texts unread old mid → held_of new ≡ held_of mid → new.bytes_left ≡ mid.bytes_left → Stays old new
+seeks-stays has_known_texts unread old mid new seeks held left = record { held = held ∙ seeks.held; bytes_left = left ∙ seeks.bytes_left }
 
 -- nothing was accepted: the text has ended
-end-grows : {R : Type 0} (tells : Type 0) (unread : R → List ℕ) (old mid new : BufferView R) → Seeks tells unread old mid → new ≡ mid → ahead_of mid ≡ [] → mid.reader ≡ None → GrowsBy tells unread End old new
+end-grows : {R : Type 0} (has_known_texts : Type 0) (unread : R → List ℕ) (old mid new : BufferView R) → Seeks has_known_texts unread old mid → new ≡ mid → ahead_of mid ≡ [] → mid.reader ≡ None → GrowsBy has_known_texts unread End old new
 unfolding rest_of unread_of
-end-grows tells unread old mid new seeks same none ended =
+end-grows has_known_texts unread old mid new seeks same none ended =
     let nothing : rest_of unread mid ≡ [] = rw (none, ended) refl in
-    (seeks-stays tells unread old mid new seeks (ap held_of same) (ap (λ f. f.bytes_left) same), λ t. seeks.text t ∙ nothing, ap (rest_of unread) same ∙ nothing)
+    (seeks-stays has_known_texts unread old mid new seeks (ap held_of same) (ap (λ f. f.bytes_left) same), λ t. seeks.text t ∙ nothing, ap (rest_of unread) same ∙ nothing)
 
 -- nothing was accepted: the source is too long
-source-grows : {R : Type 0} (tells : Type 0) (unread : R → List ℕ) (old mid new : BufferView R) → old.at ≡ 0 → Seeks tells unread old mid → length mid.window ≤ mid.line_bytes → new ≡ mid →
-    IsPast (ahead_of mid) mid.bytes_left (is_none mid.reader) → GrowsBy tells unread SourceLong old new
+source-grows : {R : Type 0} (has_known_texts : Type 0) (unread : R → List ℕ) (old mid new : BufferView R) → old.at ≡ 0 → Seeks has_known_texts unread old mid → length mid.window ≤ mid.line_bytes → new ≡ mid →
+    IsPast (ahead_of mid) mid.bytes_left (is_none mid.reader) → GrowsBy has_known_texts unread SourceLong old new
 unfolding rest_of
-source-grows tells unread old mid new at seeks within same past =
+source-grows has_known_texts unread old mid new at seeks within same past =
     let more = unread_of unread mid.reader in
     let ended : is_none mid.reader ≡ true → more ≡ [] = unread-ended unread mid.reader in
     let inside = past.within more ended in
@@ -491,25 +491,25 @@ source-grows tells unread old mid new at seeks within same past =
     let left = seeks.bytes_left in
     let parts = window-parts mid (seeks.at ∙ at) seeks.inside in
     let held : length (held_of mid) ≡ length (held_of old) = ap length seeks.held in (
-      seeks-stays tells unread old mid new seeks (ap held_of same) (ap (λ f. f.bytes_left) same),
+      seeks-stays has_known_texts unread old mid new seeks (ap held_of same) (ap (λ f. f.bytes_left) same),
       λ t. (let text : line_len (rest_of unread old) ≡ line_len (ahead_of mid ++ more) = ap line_len (seeks.text t) in omega arith),
       λ t. (let text : line_len (rest_of unread old) ≡ line_len (ahead_of mid ++ more) = ap line_len (seeks.text t) in omega arith),
       λ t. ap (rest_of unread) same ∙ sym (seeks.text t),
     )
 
 -- what was found in the window
-found-by : {R : Type 0} (tells : Type 0) (unread : R → List ℕ) (fill : Fill) (old mid new : BufferView R) → old.at ≡ 0 → Seeks tells unread old mid → EndsHeld mid → length mid.window ≤ mid.line_bytes →
-    Finds fill mid new → GrowsBy tells unread fill old new
-found-by tells unread Held old mid new at seeks ends within f = accepts-grows tells unread old mid new at seeks ends within f
-found-by tells unread End old mid new at seeks ends within f = end-grows tells unread old mid new seeks f.0 f.1 f.2
-found-by tells unread SourceLong old mid new at seeks ends within f = source-grows tells unread old mid new at seeks within f.0 f.1
-found-by tells unread LineLong old mid new at seeks ends within f = absurd f
-found-by tells unread Failed old mid new at seeks ends within f = absurd f
+found-by : {R : Type 0} (has_known_texts : Type 0) (unread : R → List ℕ) (fill : Fill) (old mid new : BufferView R) → old.at ≡ 0 → Seeks has_known_texts unread old mid → EndsHeld mid → length mid.window ≤ mid.line_bytes →
+    Finds fill mid new → GrowsBy has_known_texts unread fill old new
+found-by has_known_texts unread Held old mid new at seeks ends within f = accepts-grows has_known_texts unread old mid new at seeks ends within f
+found-by has_known_texts unread End old mid new at seeks ends within f = end-grows has_known_texts unread old mid new seeks f.0 f.1 f.2
+found-by has_known_texts unread SourceLong old mid new at seeks ends within f = source-grows has_known_texts unread old mid new at seeks within f.0 f.1
+found-by has_known_texts unread LineLong old mid new at seeks ends within f = absurd f
+found-by has_known_texts unread Failed old mid new at seeks ends within f = absurd f
 
 -- what isn't used, before the search and where it has come
-seeks-unused : {R : Type 0} (tells : Type 0) (unread : R → List ℕ) (old mid : BufferView R) → Seeks tells unread old mid → unused_of mid ≡ unused_of old
+seeks-unused : {R : Type 0} (has_known_texts : Type 0) (unread : R → List ℕ) (old mid : BufferView R) → Seeks has_known_texts unread old mid → unused_of mid ≡ unused_of old
 unfolding unused_of
-seeks-unused tells unread old mid seeks = rw (seeks.bytes_left, seeks.accepted, seeks.at) refl
+seeks-unused has_known_texts unread old mid seeks = rw (seeks.bytes_left, seeks.accepted, seeks.at) refl
 
 -- what is found leaves all unused
 finds-unused : {R : Type 0} (fill : Fill) (mid new : BufferView R) → mid.at ≤ mid.accepted → Finds fill mid new → unused_of new ≡ unused_of mid
@@ -560,13 +560,13 @@ finds-window LineLong mid new f = absurd f
 finds-window Failed mid new f = absurd f
 
 -- so the window slid
-finds-slides : {R : Type 0} (tells : Type 0) (unread : R → List ℕ) (fill : Fill) (mid new : BufferView R) → Finds fill mid new → Slides tells (IsExact fill) unread mid new
-finds-slides tells unread Held mid new f =
-    slides-kept tells (IsExact Held) unread mid new (ap (λ f. f.window) f.becomes) (ap (λ f. f.at) f.becomes) (λ e t. ap (unread_of unread) (sym (ap (λ f. f.reader) f.becomes)))
-finds-slides tells unread End mid new f = subst (Slides tells (IsExact End) unread mid) (sym f.0) (slides-same tells (IsExact End) unread mid)
-finds-slides tells unread SourceLong mid new f = subst (Slides tells (IsExact SourceLong) unread mid) (sym f.0) (slides-same tells (IsExact SourceLong) unread mid)
-finds-slides tells unread LineLong mid new f = absurd f
-finds-slides tells unread Failed mid new f = absurd f
+finds-slides : {R : Type 0} (has_known_texts : Type 0) (unread : R → List ℕ) (fill : Fill) (mid new : BufferView R) → Finds fill mid new → Slides has_known_texts (IsExact fill) unread mid new
+finds-slides has_known_texts unread Held mid new f =
+    slides-kept has_known_texts (IsExact Held) unread mid new (ap (λ f. f.window) f.becomes) (ap (λ f. f.at) f.becomes) (λ e t. ap (unread_of unread) (sym (ap (λ f. f.reader) f.becomes)))
+finds-slides has_known_texts unread End mid new f = subst (Slides has_known_texts (IsExact End) unread mid) (sym f.0) (slides-same has_known_texts (IsExact End) unread mid)
+finds-slides has_known_texts unread SourceLong mid new f = subst (Slides has_known_texts (IsExact SourceLong) unread mid) (sym f.0) (slides-same has_known_texts (IsExact SourceLong) unread mid)
+finds-slides has_known_texts unread LineLong mid new f = absurd f
+finds-slides has_known_texts unread Failed mid new f = absurd f
 
 -- what stops a reading leaves the window, and a read that failed leaves what is unread
 stops-slides : {R : Type 0} (told : Type 0) (unread : R → List ℕ) (fill : Fill) (mid new : BufferView R) → Stops told unread fill mid new → Slides told (IsExact fill) unread mid new
@@ -575,19 +575,19 @@ stops-slides told unread fill mid new stops =
     (λ e t. elim stops.kind [ inl failed ↦ sym (stops.failed failed t) | inr long ↦ absurd (e long) ])
 
 -- the search came to an end in the window
-pub found-grows : {R : Type 0} (tells : Type 0) (unread : R → List ℕ) (fill : Fill) (old mid new : BufferView R) → old.at ≡ 0 → Seeks tells unread old mid → EndsHeld mid → IsBuffer mid →
-    Finds fill mid new → Grows tells unread fill old new
-found-grows tells unread fill old mid new at seeks ends sound f =
+pub found-grows : {R : Type 0} (has_known_texts : Type 0) (unread : R → List ℕ) (fill : Fill) (old mid new : BufferView R) → old.at ≡ 0 → Seeks has_known_texts unread old mid → EndsHeld mid → IsBuffer mid →
+    Finds fill mid new → Grows has_known_texts unread fill old new
+found-grows has_known_texts unread fill old mid new at seeks ends sound f =
     let same = finds-scalars fill mid new f in
     record {
       line = same.line ∙ seeks.line;
       line_bytes = same.line_bytes ∙ seeks.line_bytes;
       mode = same.mode ∙ seeks.mode;
       open_token_line = same.open_token_line ∙ seeks.open_token_line;
-      unused = finds-unused fill mid new sound.used f ∙ seeks-unused tells unread old mid seeks;
-      slides = slides-on tells tells tells (IsExact fill) (IsExact fill) unread old mid new (λ t. t) (λ t. t) (λ e. e) seeks.slides (finds-slides tells unread fill mid new f);
-      waits = (let there = finds-window fill mid new f in waits-on tells unread old mid new seeks there.0 there.1);
-      by = found-by tells unread fill old mid new at seeks ends sound.within f;
+      unused = finds-unused fill mid new sound.used f ∙ seeks-unused has_known_texts unread old mid seeks;
+      slides = slides-on has_known_texts has_known_texts has_known_texts (IsExact fill) (IsExact fill) unread old mid new (λ t. t) (λ t. t) (λ e. e) seeks.slides (finds-slides has_known_texts unread fill mid new f);
+      waits = (let there = finds-window fill mid new f in waits-on has_known_texts unread old mid new seeks there.0 there.1);
+      by = found-by has_known_texts unread fill old mid new at seeks ends sound.within f;
     }
 
 -- what stops a reading leaves the window
@@ -596,16 +596,16 @@ unfolding held_of
 stops-held told unread fill mid new stops = ap held_of stops.becomes
 
 -- a full window without a line end goes on
-line-grows : {R : Type 0} (tells told : Type 0) (unread : R → List ℕ) (old mid new : BufferView R) → old.at ≡ 0 → Seeks tells unread old mid → (tells → told) →
-    whole_lines_len (ahead_of mid) ≡ 0 → Stops told unread LineLong mid new → GrowsBy tells unread LineLong old new
+line-grows : {R : Type 0} (has_known_texts told : Type 0) (unread : R → List ℕ) (old mid new : BufferView R) → old.at ≡ 0 → Seeks has_known_texts unread old mid → (has_known_texts → told) →
+    whole_lines_len (ahead_of mid) ≡ 0 → Stops told unread LineLong mid new → GrowsBy has_known_texts unread LineLong old new
 unfolding rest_of
-line-grows tells told unread old mid new at seeks tell none stops =
+line-grows has_known_texts told unread old mid new at seeks tell none stops =
     let more = unread_of unread mid.reader in
     let most = seeks.line_bytes in
     let full = stops.full refl in
     let parts = window-parts mid (seeks.at ∙ at) seeks.inside in
     let held : length (held_of mid) ≡ length (held_of old) = ap length seeks.held in (
-      seeks-stays tells unread old mid new seeks (stops-held told unread LineLong mid new stops) (ap (λ f. f.bytes_left) stops.becomes),
+      seeks-stays has_known_texts unread old mid new seeks (stops-held told unread LineLong mid new stops) (ap (λ f. f.bytes_left) stops.becomes),
       λ t. (let text : line_len (rest_of unread old) ≡ line_len (ahead_of mid ++ more) = ap line_len (seeks.text t) in
           let longer = line-longer (ahead_of mid) more none (stops.goes_on refl (tell t)) in omega arith),
       λ t. (let text : length (rest_of unread old) ≡ length (ahead_of mid ++ more) = ap length (seeks.text t) in
@@ -613,37 +613,37 @@ line-grows tells told unread old mid new at seeks tell none stops =
     )
 
 -- a read failed
-failed-grows : {R : Type 0} (tells told : Type 0) (unread : R → List ℕ) (old mid new : BufferView R) → Seeks tells unread old mid → (tells → told) →
-    whole_lines_len (ahead_of mid) ≡ 0 → Stops told unread Failed mid new → GrowsBy tells unread Failed old new
+failed-grows : {R : Type 0} (has_known_texts told : Type 0) (unread : R → List ℕ) (old mid new : BufferView R) → Seeks has_known_texts unread old mid → (has_known_texts → told) →
+    whole_lines_len (ahead_of mid) ≡ 0 → Stops told unread Failed mid new → GrowsBy has_known_texts unread Failed old new
 unfolding rest_of ahead_of
-failed-grows tells told unread old mid new seeks tell none stops = (
-  seeks-stays tells unread old mid new seeks (stops-held told unread Failed mid new stops) (ap (λ f. f.bytes_left) stops.becomes),
+failed-grows has_known_texts told unread old mid new seeks tell none stops = (
+  seeks-stays has_known_texts unread old mid new seeks (stops-held told unread Failed mid new stops) (ap (λ f. f.bytes_left) stops.becomes),
   λ t. ap (λ f. drop f.accepted f.window ++ unread_of unread new.reader) stops.becomes ∙ (ap (λ u. drop mid.accepted mid.window ++ u) (stops.failed refl (tell t)) ∙ sym (seeks.text t)),
   ap (λ f. whole_lines_len (drop f.accepted f.window)) stops.becomes ∙ none,
 )
 
 -- what stopped a reading
-stops-by : {R : Type 0} (tells told : Type 0) (unread : R → List ℕ) (fill : Fill) (old mid new : BufferView R) → old.at ≡ 0 → Seeks tells unread old mid → (tells → told) →
-    whole_lines_len (ahead_of mid) ≡ 0 → Stops told unread fill mid new → GrowsBy tells unread fill old new
-stops-by tells told unread Held old mid new at seeks tell none stops = absurd (elim stops.kind [ inl e ↦ cc | inr e ↦ cc ])
-stops-by tells told unread End old mid new at seeks tell none stops = absurd (elim stops.kind [ inl e ↦ cc | inr e ↦ cc ])
-stops-by tells told unread SourceLong old mid new at seeks tell none stops = absurd (elim stops.kind [ inl e ↦ cc | inr e ↦ cc ])
-stops-by tells told unread LineLong old mid new at seeks tell none stops = line-grows tells told unread old mid new at seeks tell none stops
-stops-by tells told unread Failed old mid new at seeks tell none stops = failed-grows tells told unread old mid new seeks tell none stops
+stops-by : {R : Type 0} (has_known_texts told : Type 0) (unread : R → List ℕ) (fill : Fill) (old mid new : BufferView R) → old.at ≡ 0 → Seeks has_known_texts unread old mid → (has_known_texts → told) →
+    whole_lines_len (ahead_of mid) ≡ 0 → Stops told unread fill mid new → GrowsBy has_known_texts unread fill old new
+stops-by has_known_texts told unread Held old mid new at seeks tell none stops = absurd (elim stops.kind [ inl e ↦ cc | inr e ↦ cc ])
+stops-by has_known_texts told unread End old mid new at seeks tell none stops = absurd (elim stops.kind [ inl e ↦ cc | inr e ↦ cc ])
+stops-by has_known_texts told unread SourceLong old mid new at seeks tell none stops = absurd (elim stops.kind [ inl e ↦ cc | inr e ↦ cc ])
+stops-by has_known_texts told unread LineLong old mid new at seeks tell none stops = line-grows has_known_texts told unread old mid new at seeks tell none stops
+stops-by has_known_texts told unread Failed old mid new at seeks tell none stops = failed-grows has_known_texts told unread old mid new seeks tell none stops
 
 -- reading came to an end
-pub stops-grows : {R : Type 0} (tells told : Type 0) (unread : R → List ℕ) (fill : Fill) (old mid new : BufferView R) → old.at ≡ 0 → Seeks tells unread old mid → (tells → told) →
-    whole_lines_len (ahead_of mid) ≡ 0 → Stops told unread fill mid new → Grows tells unread fill old new
+pub stops-grows : {R : Type 0} (has_known_texts told : Type 0) (unread : R → List ℕ) (fill : Fill) (old mid new : BufferView R) → old.at ≡ 0 → Seeks has_known_texts unread old mid → (has_known_texts → told) →
+    whole_lines_len (ahead_of mid) ≡ 0 → Stops told unread fill mid new → Grows has_known_texts unread fill old new
 unfolding unused_of
-stops-grows tells told unread fill old mid new at seeks tell none stops = record {
+stops-grows has_known_texts told unread fill old mid new at seeks tell none stops = record {
   line = ap (λ f. f.line) stops.becomes ∙ seeks.line;
   line_bytes = ap (λ f. f.line_bytes) stops.becomes ∙ seeks.line_bytes;
   mode = ap (λ f. f.mode) stops.becomes ∙ seeks.mode;
   open_token_line = ap (λ f. f.open_token_line) stops.becomes ∙ seeks.open_token_line;
-  unused = ap unused_of stops.becomes ∙ seeks-unused tells unread old mid seeks;
-  slides = slides-on tells tells told (IsExact fill) (IsExact fill) unread old mid new (λ t. t) tell (λ e. e) seeks.slides (stops-slides told unread fill mid new stops);
-  waits = waits-on tells unread old mid new seeks (ap (λ f. f.window) stops.becomes) (ap (λ f. f.at) stops.becomes);
-  by = stops-by tells told unread fill old mid new at seeks tell none stops;
+  unused = ap unused_of stops.becomes ∙ seeks-unused has_known_texts unread old mid seeks;
+  slides = slides-on has_known_texts has_known_texts told (IsExact fill) (IsExact fill) unread old mid new (λ t. t) tell (λ e. e) seeks.slides (stops-slides told unread fill mid new stops);
+  waits = waits-on has_known_texts unread old mid new seeks (ap (λ f. f.window) stops.becomes) (ap (λ f. f.at) stops.becomes);
+  by = stops-by has_known_texts told unread fill old mid new at seeks tell none stops;
 }
 
 -- where the search came to an end in the window, what is held ends at a line end or where the text ends

@@ -41,7 +41,7 @@ pub continues-starts : {S R : Type 0} (g : Ghosts S R) (sources : S) (f : Buffer
 unfolding whole_lines_len logical_len
 continues-starts g sources f ends = record {
   extends = record { line = refl; line_bytes = refl; mode = refl; open_token_line = refl; unused = refl; more = []; held = sym (append-nil (held_of f)) };
-  slides = slides-same (g.tells sources) Unit g.unread f;
+  slides = slides-same (g.has_known_texts sources) Unit g.unread f;
   tokens = λ t. refl;
   text = λ t. refl;
   define = λ t h. h;
@@ -49,7 +49,7 @@ continues-starts g sources f ends = record {
   whole = refl;
   none = refl;
   ends = ends;
-  call = record { failures = refl; refusals = refl; tells = λ t. t; catalog = refl };
+  call = record { failures = refl; refusals = refl; has_known_texts = λ t. t; catalog = refl };
 }
 
 -- the search goes on behind the first bytes, which are whole lines
@@ -107,13 +107,13 @@ held-short f sound = let within = sound.within in omega (arith, held-le f)
 
 -- the window moved on, and then once more behind the last reading
 slides-behind : {S R : Type 0} (g : Ghosts S R) (first now : S) (fill : Fill) (answer : LogicalLine) (old mid new : BufferView R) (seen : ℕ) → Continues g first now old mid seen →
-    (IsExactLine answer → IsExact fill) → Grows (g.tells now) g.unread fill mid new → Slides (g.tells first) (IsExactLine answer) g.unread old new
+    (IsExactLine answer → IsExact fill) → Grows (g.has_known_texts now) g.unread fill mid new → Slides (g.has_known_texts first) (IsExactLine answer) g.unread old new
 slides-behind g first now fill answer old mid new seen c exact grows =
-    slides-on (g.tells first) (g.tells first) (g.tells now) (IsExactLine answer) (IsExact fill) g.unread old mid new (λ t. t) c.call.tells exact c.slides grows.slides
+    slides-on (g.has_known_texts first) (g.has_known_texts first) (g.has_known_texts now) (IsExactLine answer) (IsExact fill) g.unread old mid new (λ t. t) c.call.has_known_texts exact c.slides grows.slides
 
 -- the logical line was found
 pub found-line : {S R : Type 0} (g : Ghosts S R) (first now : S) (old mid : BufferView R) (seen len : ℕ) → Continues g first now old mid seen → IsBuffer mid →
-    logical_len 0 0 (take (length (held_of mid) - seen) (drop seen (held_of mid))) ≡ Some len → HoldsLine (g.tells first) g.unread (Whole (seen + len)) old mid
+    logical_len 0 0 (take (length (held_of mid) - seen) (drop seen (held_of mid))) ≡ Some len → HoldsLine (g.has_known_texts first) g.unread (Whole (seen + len)) old mid
 found-line g first now old mid seen len c sound some =
     let found = found-at (held_of mid) seen len c.place c.whole c.none some in
     let within = logical_len-within 0 0 (held_of mid) (seen + len) found in
@@ -121,7 +121,7 @@ found-line g first now old mid seen len c sound some =
     record {
       extends = c.extends;
       has = (within.1, inl found, c.tokens);
-      slides = slides-on (g.tells first) (g.tells first) (g.tells first) (IsExactLine (Whole (seen + len))) Unit g.unread old mid mid (λ t. t) (λ t. t) (λ e. tt) c.slides (slides-same (g.tells first) Unit g.unread mid);
+      slides = slides-on (g.has_known_texts first) (g.has_known_texts first) (g.has_known_texts first) (IsExactLine (Whole (seen + len))) Unit g.unread old mid mid (λ t. t) (λ t. t) (λ e. tt) c.slides (slides-same (g.has_known_texts first) Unit g.unread mid);
       text = λ other t. c.text t;
       define = λ t plain holds. sym (c.tokens t)
           ∙ (define-whole g.unread mid (seen + len) (c.extends.mode ∙ plain) (c.define t holds) found (held-short mid sound)
@@ -129,8 +129,8 @@ found-line g first now old mid seen len c sound some =
     }
 
 -- nothing came
-extends-stays : {R : Type 0} (tells : Type 0) (unread : R → List ℕ) (fill : Fill) (old mid new : BufferView R) → Extends old mid → Grows tells unread fill mid new → Stays mid new → Extends old new
-extends-stays tells unread fill old mid new e grows stays = record {
+extends-stays : {R : Type 0} (has_known_texts : Type 0) (unread : R → List ℕ) (fill : Fill) (old mid new : BufferView R) → Extends old mid → Grows has_known_texts unread fill mid new → Stays mid new → Extends old new
+extends-stays has_known_texts unread fill old mid new e grows stays = record {
   line = grows.line ∙ e.line;
   line_bytes = grows.line_bytes ∙ e.line_bytes;
   mode = grows.mode ∙ e.mode;
@@ -141,77 +141,77 @@ extends-stays tells unread fill old mid new e grows stays = record {
 }
 
 -- the tokens stay where nothing came and nothing was lost
-stays-tokens : {S R : Type 0} (g : Ghosts S R) (first now : S) (fill : Fill) (old mid new : BufferView R) (seen : ℕ) → Continues g first now old mid seen → Grows (g.tells now) g.unread fill mid new → Stays mid new →
-    (g.tells now → rest_of g.unread new ≡ rest_of g.unread mid) → SameTokens (g.tells first) g.unread old new
+stays-tokens : {S R : Type 0} (g : Ghosts S R) (first now : S) (fill : Fill) (old mid new : BufferView R) (seen : ℕ) → Continues g first now old mid seen → Grows (g.has_known_texts now) g.unread fill mid new → Stays mid new →
+    (g.has_known_texts now → rest_of g.unread new ≡ rest_of g.unread mid) → SameTokens (g.has_known_texts first) g.unread old new
 stays-tokens g first now fill old mid new seen c grows stays rest t =
-    tokens-same g.unread mid new grows.line grows.line_bytes grows.mode grows.open_token_line stays.bytes_left stays.held (rest (c.call.tells t)) ∙ c.tokens t
+    tokens-same g.unread mid new grows.line grows.line_bytes grows.mode grows.open_token_line stays.bytes_left stays.held (rest (c.call.has_known_texts t)) ∙ c.tokens t
 
 -- the logical line goes on up to the end of the text
 pub last-line : {S R : Type 0} (g : Ghosts S R) (first now : S) (old mid new : BufferView R) (seen len : ℕ) → Continues g first now old mid seen → IsBuffer mid → logical_len 0 0 (held_of mid) ≡ None → len ≡ length (held_of mid) →
-    Grows (g.tells now) g.unread End mid new → HoldsLine (g.tells first) g.unread (Whole len) old new
+    Grows (g.has_known_texts now) g.unread End mid new → HoldsLine (g.has_known_texts first) g.unread (Whole len) old new
 last-line g first now old mid new seen len c sound none all grows =
     let stays = grows.by.0 in
     let held = stays.held in
     let none_now : logical_len 0 0 (held_of new) ≡ None = ap (logical_len 0 0) held ∙ none in
     let size : len ≡ length (held_of new) = all ∙ ap length (sym held) in
     let tokens = stays-tokens g first now End old mid new seen c grows stays (λ t. grows.by.2 ∙ sym (grows.by.1 t)) in
-    let e = extends-stays (g.tells now) g.unread End old mid new c.extends grows stays in
+    let e = extends-stays (g.has_known_texts now) g.unread End old mid new c.extends grows stays in
     let short : length (held_of new) ≤ new.line_bytes = (let s = held-short mid sound in let most = grows.line_bytes in omega arith) in
     record {
       extends = e;
       has = (omega arith, inr (none_now, size, λ t. grows.by.2), tokens);
       slides = slides-behind g first now End (Whole len) old mid new seen c (λ x e. cc) grows;
-      text = λ other t. grows-text (g.tells now) g.unread End mid new grows.by (λ e. cc) (c.call.tells t) ∙ c.text t;
+      text = λ other t. grows-text (g.has_known_texts now) g.unread End mid new grows.by (λ e. cc) (c.call.has_known_texts t) ∙ c.text t;
       define = λ t plain holds.
-          let here : HoldsDefine (held_of new) (rest_of g.unread new) = rw (held, grows.by.2) (rw (grows.by.1 (c.call.tells t)) at (c.define t holds)) in
+          let here : HoldsDefine (held_of new) (rest_of g.unread new) = rw (held, grows.by.2) (rw (grows.by.1 (c.call.has_known_texts t)) at (c.define t holds)) in
           sym (tokens t) ∙ (define-last g.unread new (e.mode ∙ plain) here none_now grows.by.2 short
           ∙ rw (size, e.line) refl);
     }
 
 -- with its next line the logical line is too long
 pub long-line : {S R : Type 0} (g : Ghosts S R) (first now : S) (old mid new : BufferView R) (seen : ℕ) → Continues g first now old mid seen → logical_len 0 0 (held_of mid) ≡ None →
-    Grows (g.tells now) g.unread LineLong mid new → HoldsLine (g.tells first) g.unread TooLong old new
+    Grows (g.has_known_texts now) g.unread LineLong mid new → HoldsLine (g.has_known_texts first) g.unread TooLong old new
 unfolding tokens_left
 long-line g first now old mid new seen c none grows = record {
-  extends = extends-stays (g.tells now) g.unread LineLong old mid new c.extends grows grows.by.0;
+  extends = extends-stays (g.has_known_texts now) g.unread LineLong old mid new c.extends grows grows.by.0;
   has = tt;
   slides = slides-behind g first now LineLong TooLong old mid new seen c (λ x. absurd (x refl)) grows;
   text = λ other t. absurd (other refl);
   define = λ t plain holds.
       sym (c.tokens t) ∙ (ap (λ m. remaining_tokens mid.line_bytes m mid.open_token_line mid.line (held_of mid) mid.bytes_left (rest_of g.unread mid)) (c.extends.mode ∙ plain)
-      ∙ (remaining-logical_full mid.line_bytes mid.open_token_line mid.line (held_of mid) mid.bytes_left (rest_of g.unread mid) (c.define t holds) none (grows.by.2 (c.call.tells t)) (grows.by.1 (c.call.tells t))
+      ∙ (remaining-logical_full mid.line_bytes mid.open_token_line mid.line (held_of mid) mid.bytes_left (rest_of g.unread mid) (c.define t holds) none (grows.by.2 (c.call.has_known_texts t)) (grows.by.1 (c.call.has_known_texts t))
       ∙ ap (only_broken DefineLong) c.extends.line));
 }
 
 -- the next line is beyond what the source may still have
 pub cut-line : {S R : Type 0} (g : Ghosts S R) (first now : S) (old mid new : BufferView R) (seen : ℕ) → Continues g first now old mid seen → logical_len 0 0 (held_of mid) ≡ None →
-    Grows (g.tells now) g.unread SourceLong mid new → HoldsLine (g.tells first) g.unread LineCut old new
+    Grows (g.has_known_texts now) g.unread SourceLong mid new → HoldsLine (g.has_known_texts first) g.unread LineCut old new
 unfolding tokens_left
 cut-line g first now old mid new seen c none grows = record {
-  extends = extends-stays (g.tells now) g.unread SourceLong old mid new c.extends grows grows.by.0;
+  extends = extends-stays (g.has_known_texts now) g.unread SourceLong old mid new c.extends grows grows.by.0;
   has = stays-tokens g first now SourceLong old mid new seen c grows grows.by.0 grows.by.3;
   slides = slides-behind g first now SourceLong LineCut old mid new seen c (λ x e. cc) grows;
-  text = λ other t. grows-text (g.tells now) g.unread SourceLong mid new grows.by (λ e. cc) (c.call.tells t) ∙ c.text t;
+  text = λ other t. grows-text (g.has_known_texts now) g.unread SourceLong mid new grows.by (λ e. cc) (c.call.has_known_texts t) ∙ c.text t;
   define = λ t plain holds.
       sym (c.tokens t) ∙ (ap (λ m. remaining_tokens mid.line_bytes m mid.open_token_line mid.line (held_of mid) mid.bytes_left (rest_of g.unread mid)) (c.extends.mode ∙ plain)
-      ∙ (remaining-logical_source mid.line_bytes mid.open_token_line mid.line (held_of mid) mid.bytes_left (rest_of g.unread mid) (c.define t holds) none (grows.by.1 (c.call.tells t)) (grows.by.2 (c.call.tells t))
+      ∙ (remaining-logical_source mid.line_bytes mid.open_token_line mid.line (held_of mid) mid.bytes_left (rest_of g.unread mid) (c.define t holds) none (grows.by.1 (c.call.has_known_texts t)) (grows.by.2 (c.call.has_known_texts t))
       ∙ ap (only_broken DefineCut) c.extends.line));
 }
 
 -- a read failed
 pub failed-line : {S R : Type 0} (g : Ghosts S R) (first now : S) (old mid new : BufferView R) (seen : ℕ) → Continues g first now old mid seen →
-    Grows (g.tells now) g.unread Failed mid new → HoldsLine (g.tells first) g.unread LineFailed old new
+    Grows (g.has_known_texts now) g.unread Failed mid new → HoldsLine (g.has_known_texts first) g.unread LineFailed old new
 failed-line g first now old mid new seen c grows = record {
-  extends = extends-stays (g.tells now) g.unread Failed old mid new c.extends grows grows.by.0;
+  extends = extends-stays (g.has_known_texts now) g.unread Failed old mid new c.extends grows grows.by.0;
   has = stays-tokens g first now Failed old mid new seen c grows grows.by.0 grows.by.1;
   slides = slides-behind g first now Failed LineFailed old mid new seen c (λ x e. cc) grows;
-  text = λ other t. grows-text (g.tells now) g.unread Failed mid new grows.by (λ e. cc) (c.call.tells t) ∙ c.text t;
+  text = λ other t. grows-text (g.has_known_texts now) g.unread Failed mid new grows.by (λ e. cc) (c.call.has_known_texts t) ∙ c.text t;
   define = λ t plain holds. tt;
 }
 
 -- more lines came
 pub continues-on : {S R : Type 0} (g : Ghosts S R) (first now after : S) (old mid new : BufferView R) (seen len : ℕ) → Continues g first now old mid seen → logical_len 0 0 (held_of mid) ≡ None → len ≡ length (held_of mid) →
-    EndsHeld new → Grows (g.tells now) g.unread Held mid new → SourcesRead g false now after → Continues g first after old new len
+    EndsHeld new → Grows (g.has_known_texts now) g.unread Held mid new → SourcesRead g false now after → Continues g first after old new len
 continues-on g first now after old mid new seen len c none all ends grows call =
     let l = grows.by in
     let e = c.extends in
@@ -227,11 +227,11 @@ continues-on g first now after old mid new seen len c none all ends grows call =
         more = e.more ++ l.lines;
         held = l.held ∙ (ap (λ h. h ++ l.lines) e.held ∙ append_assoc (held_of old) e.more l.lines);
       };
-      slides = slides-on (g.tells first) (g.tells first) (g.tells now) Unit (IsExact Held) g.unread old mid new (λ t. t) c.call.tells (λ _ e. cc) c.slides grows.slides;
-      tokens = λ t. lengthens-tokens (g.tells now) g.unread mid new grows.line grows.line_bytes grows.mode grows.open_token_line l (c.call.tells t) ∙ c.tokens t;
-      text = λ t. grows-text (g.tells now) g.unread Held mid new grows.by (λ e. cc) (c.call.tells t) ∙ c.text t;
+      slides = slides-on (g.has_known_texts first) (g.has_known_texts first) (g.has_known_texts now) Unit (IsExact Held) g.unread old mid new (λ t. t) c.call.has_known_texts (λ _ e. cc) c.slides grows.slides;
+      tokens = λ t. lengthens-tokens (g.has_known_texts now) g.unread mid new grows.line grows.line_bytes grows.mode grows.open_token_line l (c.call.has_known_texts t) ∙ c.tokens t;
+      text = λ t. grows-text (g.has_known_texts now) g.unread Held mid new grows.by (λ e. cc) (c.call.has_known_texts t) ∙ c.text t;
       define = λ t holds.
-          let here : HoldsDefine (held_of mid) (l.lines ++ rest_of g.unread new) = rw (l.rest (c.call.tells t)) at (c.define t holds) in
+          let here : HoldsDefine (held_of mid) (l.lines ++ rest_of g.unread new) = rw (l.rest (c.call.has_known_texts t)) at (c.define t holds) in
           rw l.held (HoldsDefine-more (held_of mid) l.lines (rest_of g.unread new) here l.some l.ends);
       place = omega arith;
       whole = subst IsWholeLines (sym front_part) l.before;
@@ -241,8 +241,8 @@ continues-on g first now after old mid new seen len c none all ends grows call =
     }
 
 -- more is held
-pub fewer-lines : {R : Type 0} (tells : Type 0) (unread : R → List ℕ) (mid new : BufferView R) → Grows tells unread Held mid new → new.line_bytes - length (held_of new) < mid.line_bytes - length (held_of mid)
-fewer-lines tells unread mid new grows =
+pub fewer-lines : {R : Type 0} (has_known_texts : Type 0) (unread : R → List ℕ) (mid new : BufferView R) → Grows has_known_texts unread Held mid new → new.line_bytes - length (held_of new) < mid.line_bytes - length (held_of mid)
+fewer-lines has_known_texts unread mid new grows =
     let l = grows.by in
     let size : length (held_of new) ≡ length (held_of mid) + length l.lines = ap length l.held ∙ length-append (held_of mid) l.lines in
     let most = grows.line_bytes in

@@ -55,21 +55,21 @@ pub record Gains (exact : Type 0) (gained old new : List ℕ) : Type 0 where
 
 -- the window moved on over its text: bytes that were used went in front, and bytes that were unread came after; none was lost where
 -- the move is exact
-pub record Slides {R : Type 0} (tells exact : Type 0) (unread : R → List ℕ) (old new : BufferView R) : Type 0 where
+pub record Slides {R : Type 0} (has_known_texts exact : Type 0) (unread : R → List ℕ) (old new : BufferView R) : Type 0 where
   pub dropped : List ℕ
   pub gained : List ℕ
   pub window : old.window ++ gained ≡ dropped ++ new.window
   pub used : length dropped + new.at ≡ old.at
-  pub text : tells → Gains exact gained (unread_of unread old.reader) (unread_of unread new.reader)
+  pub text : has_known_texts → Gains exact gained (unread_of unread old.reader) (unread_of unread new.reader)
 
 -- the window moved on over its text while these bytes were used: it dropped bytes in front, which were used before or are among
 -- these, and gained bytes after; none was lost where the move is exact
-pub record MovesOver {R : Type 0} (tells exact : Type 0) (unread : R → List ℕ) (uses : List ℕ) (old new : BufferView R) : Type 0 where
+pub record MovesOver {R : Type 0} (has_known_texts exact : Type 0) (unread : R → List ℕ) (uses : List ℕ) (old new : BufferView R) : Type 0 where
   pub dropped : List ℕ
   pub gained : List ℕ
   pub window : old.window ++ gained ≡ dropped ++ new.window
   pub used : length dropped + new.at ≡ old.at + length uses
-  pub text : tells → Gains exact gained (unread_of unread old.reader) (unread_of unread new.reader)
+  pub text : has_known_texts → Gains exact gained (unread_of unread old.reader) (unread_of unread new.reader)
 
 -- the bytes that the source may still give and that aren't used
 unfoldable pub unused_of : {R : Type 0} → BufferView R → ℕ

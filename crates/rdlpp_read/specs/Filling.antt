@@ -37,25 +37,25 @@ is_failed LineLong = false
 is_failed Failed = true
 
 -- bytes came into the window, or the end of the text was met
-pub record ReadsOn {R : Type 0} (tells : Type 0) (unread : R → List ℕ) (old new : BufferView R) : Type 0 where
+pub record ReadsOn {R : Type 0} (has_known_texts : Type 0) (unread : R → List ℕ) (old new : BufferView R) : Type 0 where
   pub gained : List ℕ
   pub becomes : new ≡ record old { window = old.window ++ gained; reader = new.reader }
-  pub text : tells → unread_of unread old.reader ≡ gained ++ unread_of unread new.reader
+  pub text : has_known_texts → unread_of unread old.reader ≡ gained ++ unread_of unread new.reader
   pub moves : (new.reader ≡ None) ⊎ (0 < length gained)
   pub within : length new.window ≤ new.line_bytes
 
 -- a reading that came to an end: what is held stays; a line that is too long goes on behind a full window without a line end
-pub record Stops {R : Type 0} (tells : Type 0) (unread : R → List ℕ) (fill : Fill) (old new : BufferView R) : Type 0 where
+pub record Stops {R : Type 0} (has_known_texts : Type 0) (unread : R → List ℕ) (fill : Fill) (old new : BufferView R) : Type 0 where
   pub becomes : new ≡ record old { reader = new.reader }
   pub kind : (fill ≡ Failed) ⊎ (fill ≡ LineLong)
   pub full : fill ≡ LineLong → length old.window ≡ old.line_bytes
-  pub goes_on : fill ≡ LineLong → tells → 0 < length (unread_of unread old.reader)
-  pub failed : fill ≡ Failed → tells → unread_of unread new.reader ≡ unread_of unread old.reader
+  pub goes_on : fill ≡ LineLong → has_known_texts → 0 < length (unread_of unread old.reader)
+  pub failed : fill ≡ Failed → has_known_texts → unread_of unread new.reader ≡ unread_of unread old.reader
 
 -- what a turn of reading did
 abbrev pub Turns : {R : Type 0} → Type 0 → (R → List ℕ) → Option Fill → BufferView R → BufferView R → Type 0
-Turns tells unread None old new = ReadsOn tells unread old new
-Turns tells unread (Some fill) old new = Stops tells unread fill old new
+Turns has_known_texts unread None old new = ReadsOn has_known_texts unread old new
+Turns has_known_texts unread (Some fill) old new = Stops has_known_texts unread fill old new
 
 -- whether a turn of reading failed
 abbrev pub is_failed_turn : Option Fill → Bool
@@ -68,7 +68,7 @@ WaitsForLines old new = (length new.window + old.at ≡ length old.window + new.
 
 -- nothing but the window and the reader changed, and what is held and the text that remains are the same; bytes were read only where no whole
 -- line was ahead
-pub record Seeks {R : Type 0} (tells : Type 0) (unread : R → List ℕ) (old new : BufferView R) : Type 0 where
+pub record Seeks {R : Type 0} (has_known_texts : Type 0) (unread : R → List ℕ) (old new : BufferView R) : Type 0 where
   pub at : new.at ≡ old.at
   pub accepted : new.accepted ≡ old.accepted
   pub inside : new.accepted ≤ length new.window
@@ -78,8 +78,8 @@ pub record Seeks {R : Type 0} (tells : Type 0) (unread : R → List ℕ) (old ne
   pub mode : new.mode ≡ old.mode
   pub open_token_line : new.open_token_line ≡ old.open_token_line
   pub held : held_of new ≡ held_of old
-  pub text : tells → rest_of unread old ≡ rest_of unread new
-  pub slides : Slides tells Unit unread old new
+  pub text : has_known_texts → rest_of unread old ≡ rest_of unread new
+  pub slides : Slides has_known_texts Unit unread old new
   pub waits : (new.window ≡ old.window) ⊎ (whole_lines_len (ahead_of old) ≡ 0)
 
 -- how many turns of reading may still come
@@ -88,14 +88,14 @@ turns_left f = (f.line_bytes - length f.window) + elim f.reader [ None ↦ 0 | S
 
 -- what the turns of reading have done so far: the first `seen` bytes behind the accepted lines have no line end
 pub record Searches {S R : Type 0} (g : Ghosts S R) (sources new_sources : S) (old new : BufferView R) (seen : ℕ) : Type 0 where
-  pub seeks : Seeks (g.tells sources) g.unread old new
+  pub seeks : Seeks (g.has_known_texts sources) g.unread old new
   pub place : seen ≤ length (ahead_of new)
   pub none : whole_lines_len (take seen (ahead_of new)) ≡ 0
   pub ends : EndsHeld new
   pub call : SourcesRead g false sources new_sources
 
 -- whole lines came behind those that are held, or the last line of the text
-pub record Lengthens {R : Type 0} (tells : Type 0) (unread : R → List ℕ) (old new : BufferView R) : Type 0 where
+pub record Lengthens {R : Type 0} (has_known_texts : Type 0) (unread : R → List ℕ) (old new : BufferView R) : Type 0 where
   pub lines : List ℕ
   pub some : 0 < length lines
   pub before : IsWholeLines (held_of old)
@@ -104,7 +104,7 @@ pub record Lengthens {R : Type 0} (tells : Type 0) (unread : R → List ℕ) (ol
   pub fits : length lines ≤ old.bytes_left
   pub bytes_left : new.bytes_left ≡ old.bytes_left - length lines
   pub ends : EndsLine lines (rest_of unread new)
-  pub rest : tells → rest_of unread old ≡ lines ++ rest_of unread new
+  pub rest : has_known_texts → rest_of unread old ≡ lines ++ rest_of unread new
 
 -- nothing came behind what is held
 pub record Stays {R : Type 0} (old new : BufferView R) : Type 0 where
@@ -114,29 +114,29 @@ pub record Stays {R : Type 0} (old new : BufferView R) : Type 0 where
 -- what stood behind the lines that are held: more lines; the end of the text; a line with which the source is too long, and
 -- which fits behind what is held; a line that doesn't fit behind it; or it isn't known, since a read failed, and no whole line is ahead
 abbrev pub GrowsBy : {R : Type 0} → Type 0 → (R → List ℕ) → Fill → BufferView R → BufferView R → Type 0
-GrowsBy tells unread Held old new = Lengthens tells unread old new
-GrowsBy tells unread End old new = Stays old new × (tells → rest_of unread old ≡ []) × (rest_of unread new ≡ [])
-GrowsBy tells unread SourceLong old new =
-    Stays old new × (tells → length (held_of old) + line_len (rest_of unread old) ≤ old.line_bytes)
-    × (tells → old.bytes_left < line_len (rest_of unread old)) × (tells → rest_of unread new ≡ rest_of unread old)
-GrowsBy tells unread LineLong old new =
-    Stays old new × (tells → old.line_bytes < length (held_of old) + line_len (rest_of unread old)) × (tells → 0 < length (rest_of unread old))
-GrowsBy tells unread Failed old new = Stays old new × (tells → rest_of unread new ≡ rest_of unread old) × (whole_lines_len (ahead_of new) ≡ 0)
+GrowsBy has_known_texts unread Held old new = Lengthens has_known_texts unread old new
+GrowsBy has_known_texts unread End old new = Stays old new × (has_known_texts → rest_of unread old ≡ []) × (rest_of unread new ≡ [])
+GrowsBy has_known_texts unread SourceLong old new =
+    Stays old new × (has_known_texts → length (held_of old) + line_len (rest_of unread old) ≤ old.line_bytes)
+    × (has_known_texts → old.bytes_left < line_len (rest_of unread old)) × (has_known_texts → rest_of unread new ≡ rest_of unread old)
+GrowsBy has_known_texts unread LineLong old new =
+    Stays old new × (has_known_texts → old.line_bytes < length (held_of old) + line_len (rest_of unread old)) × (has_known_texts → 0 < length (rest_of unread old))
+GrowsBy has_known_texts unread Failed old new = Stays old new × (has_known_texts → rest_of unread new ≡ rest_of unread old) × (whole_lines_len (ahead_of new) ≡ 0)
 
 -- no byte was read beyond the window, as it is where a line is too long
 abbrev pub IsExact : Fill → Type 0
 IsExact fill = fill ≡ LineLong → ⊥
 
 -- what is held of a source grew, by what stood behind it
-pub record Grows {R : Type 0} (tells : Type 0) (unread : R → List ℕ) (fill : Fill) (old new : BufferView R) : Type 0 where
+pub record Grows {R : Type 0} (has_known_texts : Type 0) (unread : R → List ℕ) (fill : Fill) (old new : BufferView R) : Type 0 where
   pub line : new.line ≡ old.line
   pub line_bytes : new.line_bytes ≡ old.line_bytes
   pub mode : new.mode ≡ old.mode
   pub open_token_line : new.open_token_line ≡ old.open_token_line
   pub unused : unused_of new ≡ unused_of old
-  pub slides : Slides tells (IsExact fill) unread old new
+  pub slides : Slides has_known_texts (IsExact fill) unread old new
   pub waits : WaitsForLines old new
-  pub by : GrowsBy tells unread fill old new
+  pub by : GrowsBy has_known_texts unread fill old new
 
 -- a list that is one broken token without bytes
 abbrev pub only_broken : Breach → ℕ → List SourceToken
@@ -167,16 +167,16 @@ HasBytes Failed f = held_of f ≡ []
 -- what a source has before its next byte: its window moved on over its text; its text that isn't used stays the same, but where
 -- a byte too many was read, and is empty where its end was met; and its tokens stay the same, or are told. It is read only where no whole line
 -- is ahead, and where a read failed none is
-pub record Fills {R : Type 0} (tells : Type 0) (unread : R → List ℕ) (fill : Fill) (old new : BufferView R) : Type 0 where
+pub record Fills {R : Type 0} (has_known_texts : Type 0) (unread : R → List ℕ) (fill : Fill) (old new : BufferView R) : Type 0 where
   pub line : new.line ≡ old.line
   pub line_bytes : new.line_bytes ≡ old.line_bytes
   pub mode : new.mode ≡ old.mode
   pub open_token_line : new.open_token_line ≡ old.open_token_line
   pub bytes : HasBytes fill new
   pub unused : unused_of new ≡ unused_of old
-  pub slides : Slides tells (IsExact fill) unread old new
+  pub slides : Slides has_known_texts (IsExact fill) unread old new
   pub waits : WaitsForLines old new
   pub short : fill ≡ Failed → whole_lines_len (ahead_of new) ≡ 0
-  pub text : IsExact fill → tells → text_left unread new ≡ text_left unread old
+  pub text : IsExact fill → has_known_texts → text_left unread new ≡ text_left unread old
   pub ended : fill ≡ End → text_left unread new ≡ []
-  pub tokens : tells → TellsTokens fill old (tokens_left unread old) (tokens_left unread new)
+  pub tokens : has_known_texts → TellsTokens fill old (tokens_left unread old) (tokens_left unread new)

@@ -32,13 +32,13 @@ pub record Extends {R : Type 0} (old new : BufferView R) : Type 0 where
 
 -- the tokens that remain are the same
 abbrev pub SameTokens : {R : Type 0} → Type 0 → (R → List ℕ) → BufferView R → BufferView R → Type 0
-SameTokens tells unread old new = tells → tokens_left unread new ≡ tokens_left unread old
+SameTokens has_known_texts unread old new = has_known_texts → tokens_left unread new ≡ tokens_left unread old
 
 -- the first `len` bytes are the logical line: with its LF, or up to the end of the text (IEEE 1364-2001, `define`)
 abbrev pub IsLogical : {R : Type 0} → Type 0 → (R → List ℕ) → BufferView R → ℕ → Type 0
-IsLogical tells unread f len =
+IsLogical has_known_texts unread f len =
     (logical_len 0 0 (held_of f) ≡ Some len)
-    ⊎ ((logical_len 0 0 (held_of f) ≡ None) × (len ≡ length (held_of f)) × (tells → rest_of unread f ≡ []))
+    ⊎ ((logical_len 0 0 (held_of f) ≡ None) × (len ≡ length (held_of f)) × (has_known_texts → rest_of unread f ≡ []))
 
 -- what the answer says of a `define` that stands there: its token and those behind its logical line; or it is broken, as too
 -- long where it has more bytes than a line may have with its next line, and else as cut by the limit of its source (this project's profile)
@@ -52,31 +52,31 @@ TellsDefine unread Failed old new = ⊤
 
 -- what was found of the logical line; where a read failed or the source is too long nothing is lost
 abbrev pub HasLine : {R : Type 0} → Type 0 → (R → List ℕ) → LogicalLine → BufferView R → BufferView R → Type 0
-HasLine tells unread (Whole len) old new = (len ≤ length (held_of new)) × IsLogical tells unread new len × SameTokens tells unread old new
-HasLine tells unread TooLong old new = ⊤
-HasLine tells unread SourceLong old new = SameTokens tells unread old new
-HasLine tells unread Failed old new = SameTokens tells unread old new
+HasLine has_known_texts unread (Whole len) old new = (len ≤ length (held_of new)) × IsLogical has_known_texts unread new len × SameTokens has_known_texts unread old new
+HasLine has_known_texts unread TooLong old new = ⊤
+HasLine has_known_texts unread SourceLong old new = SameTokens has_known_texts unread old new
+HasLine has_known_texts unread Failed old new = SameTokens has_known_texts unread old new
 
 -- no byte was read beyond the window, as it is where a line is too long
 abbrev pub IsExactLine : LogicalLine → Type 0
 IsExactLine answer = answer ≡ TooLong → ⊥
 
 -- the logical line at the front of what is held is held whole, or the answer says why not; the window moved on over its text
-pub record HoldsLine {R : Type 0} (tells : Type 0) (unread : R → List ℕ) (answer : LogicalLine) (old new : BufferView R) : Type 0 where
+pub record HoldsLine {R : Type 0} (has_known_texts : Type 0) (unread : R → List ℕ) (answer : LogicalLine) (old new : BufferView R) : Type 0 where
   pub extends : Extends old new
-  pub has : HasLine tells unread answer old new
-  pub slides : Slides tells (IsExactLine answer) unread old new
-  pub text : IsExactLine answer → tells → text_left unread new ≡ text_left unread old
-  pub define : tells → old.mode ≡ Plain → HoldsDefine (held_of old) (rest_of unread old)
+  pub has : HasLine has_known_texts unread answer old new
+  pub slides : Slides has_known_texts (IsExactLine answer) unread old new
+  pub text : IsExactLine answer → has_known_texts → text_left unread new ≡ text_left unread old
+  pub define : has_known_texts → old.mode ≡ Plain → HoldsDefine (held_of old) (rest_of unread old)
       → TellsDefine unread answer old new
 
 -- what the search for the end of the logical line has done so far: it doesn't end in the first `seen` bytes, which are whole lines
 pub record Continues {S R : Type 0} (g : Ghosts S R) (sources new_sources : S) (old new : BufferView R) (seen : ℕ) : Type 0 where
   pub extends : Extends old new
-  pub slides : Slides (g.tells sources) Unit g.unread old new
-  pub tokens : SameTokens (g.tells sources) g.unread old new
-  pub text : g.tells sources → text_left g.unread new ≡ text_left g.unread old
-  pub define : g.tells sources → HoldsDefine (held_of old) (rest_of g.unread old)
+  pub slides : Slides (g.has_known_texts sources) Unit g.unread old new
+  pub tokens : SameTokens (g.has_known_texts sources) g.unread old new
+  pub text : g.has_known_texts sources → text_left g.unread new ≡ text_left g.unread old
+  pub define : g.has_known_texts sources → HoldsDefine (held_of old) (rest_of g.unread old)
       → HoldsDefine (held_of new) (rest_of g.unread new)
   pub place : seen ≤ length (held_of new)
   pub whole : IsWholeLines (take seen (held_of new))

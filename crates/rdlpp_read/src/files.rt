@@ -235,7 +235,7 @@ impl<R: Drop> Files<R> {
     pub fn fill<S: Sources<Reader = R>>(&mut self, sources: &mut S) -> Fill
         requires { 0 < length self.old.include_stack }
         ensures only { self.new ≡ record self.old { include_stack = with_buffer (inner_buffer self.new.include_stack) self.old.include_stack } }
-        ensures fills { Fills (S.tells sources.old) S.unread result (inner_buffer self.old.include_stack) (inner_buffer self.new.include_stack) }
+        ensures fills { Fills (S.has_known_texts sources.old) S.unread result (inner_buffer self.old.include_stack) (inner_buffer self.new.include_stack) }
         ensures call { SourcesRead S.Sources (is_failed result) sources.old sources.new }
     {
         let at = self.first;
@@ -250,7 +250,7 @@ impl<R: Drop> Files<R> {
     pub fn hold_line<S: Sources<Reader = R>>(&mut self, sources: &mut S) -> LogicalLine
         requires { 0 < length self.old.include_stack }
         ensures only { self.new ≡ record self.old { include_stack = with_buffer (inner_buffer self.new.include_stack) self.old.include_stack } }
-        ensures holds { HoldsLine (S.tells sources.old) S.unread result (inner_buffer self.old.include_stack) (inner_buffer self.new.include_stack) }
+        ensures holds { HoldsLine (S.has_known_texts sources.old) S.unread result (inner_buffer self.old.include_stack) (inner_buffer self.new.include_stack) }
         ensures call { SourcesRead S.Sources (is_failed_line result) sources.old sources.new }
     {
         let at = self.first;

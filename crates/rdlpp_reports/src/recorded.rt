@@ -163,7 +163,7 @@ impl<S: FileSources> Sources for Recorded<S> {
 
     ghost use Rattle.rdlpp_reports.specs.Recorded.{is_noting, noted_sources, noted_paths, NotesWhere};
 
-    ghost tells = { λ r. S.tells (noted_sources r) };
+    ghost has_known_texts = { λ r. S.has_known_texts (noted_sources r) };
 
     ghost catalog = { λ r. S.catalog (noted_sources r) };
 
@@ -174,10 +174,10 @@ impl<S: FileSources> Sources for Recorded<S> {
     ghost refusals = { λ r. S.refusals (noted_sources r) };
 
     fn top(&mut self, path: &str) -> Result<Found<S::Reader>, SourceFault>
-        ensures answer { S.tells (noted_sources self.old) → Finds S.unread ((S.catalog (noted_sources self.old)).top path.now) result }
+        ensures answer { S.has_known_texts (noted_sources self.old) → Finds S.unread ((S.catalog (noted_sources self.old)).top path.now) result }
         ensures failures { Counts (is_device result) (S.failures (noted_sources self.old)) (S.failures (noted_sources self.new)) }
         ensures refusals { Counts (is_no_memory result) (S.refusals (noted_sources self.old)) (S.refusals (noted_sources self.new)) }
-        ensures tells { S.tells (noted_sources self.old) → S.tells (noted_sources self.new) }
+        ensures has_known_texts { S.has_known_texts (noted_sources self.old) → S.has_known_texts (noted_sources self.new) }
         ensures catalog { S.catalog (noted_sources self.new) ≡ S.catalog (noted_sources self.old) }
         ensures notes { NotesWhere S.lies_in (is_noting self.old) (noted_paths self.old) (noted_paths self.new) result }
         ensures noting { is_noting self.new ≡ is_noting self.old }
@@ -188,10 +188,10 @@ impl<S: FileSources> Sources for Recorded<S> {
     }
 
     fn find(&mut self, from: &str, name: &str) -> Result<Found<S::Reader>, SourceFault>
-        ensures answer { S.tells (noted_sources self.old) → Finds S.unread ((S.catalog (noted_sources self.old)).find from.now name.now) result }
+        ensures answer { S.has_known_texts (noted_sources self.old) → Finds S.unread ((S.catalog (noted_sources self.old)).find from.now name.now) result }
         ensures failures { Counts (is_device result) (S.failures (noted_sources self.old)) (S.failures (noted_sources self.new)) }
         ensures refusals { Counts (is_no_memory result) (S.refusals (noted_sources self.old)) (S.refusals (noted_sources self.new)) }
-        ensures tells { S.tells (noted_sources self.old) → S.tells (noted_sources self.new) }
+        ensures has_known_texts { S.has_known_texts (noted_sources self.old) → S.has_known_texts (noted_sources self.new) }
         ensures catalog { S.catalog (noted_sources self.new) ≡ S.catalog (noted_sources self.old) }
         ensures notes { NotesWhere S.lies_in (is_noting self.old) (noted_paths self.old) (noted_paths self.new) result }
         ensures noting { is_noting self.new ≡ is_noting self.old }
@@ -204,10 +204,10 @@ impl<S: FileSources> Sources for Recorded<S> {
     fn read(&mut self, reader: &mut S::Reader, to: &mut [u8]) -> Result<usize, SourceFault>
         ensures bound { ReadsAtMost result to.new }
         ensures only { IfErr result (λ fault. fault ≡ SourceFault.Device) }
-        ensures bytes { S.tells (noted_sources self.old) → Reads (S.unread reader.old) (S.unread reader.new) result to.new }
+        ensures bytes { S.has_known_texts (noted_sources self.old) → Reads (S.unread reader.old) (S.unread reader.new) result to.new }
         ensures failures { Counts (is_device result) (S.failures (noted_sources self.old)) (S.failures (noted_sources self.new)) }
         ensures refusals { S.refusals (noted_sources self.new) ≡ S.refusals (noted_sources self.old) }
-        ensures tells { S.tells (noted_sources self.old) → S.tells (noted_sources self.new) }
+        ensures has_known_texts { S.has_known_texts (noted_sources self.old) → S.has_known_texts (noted_sources self.new) }
         ensures catalog { S.catalog (noted_sources self.new) ≡ S.catalog (noted_sources self.old) }
         ensures notes { noted_paths self.new ≡ noted_paths self.old }
         ensures noting { is_noting self.new ≡ is_noting self.old }

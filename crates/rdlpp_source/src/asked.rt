@@ -292,7 +292,7 @@ impl Sources for AskedTexts {
     ghost use Rattle.std.specs.Prelude.{⊤};
     ghost use Rattle.rdlpp_source.specs.Asked.{asked_catalog, failures_of, unread_of};
 
-    ghost tells = { λ _. ⊤ };
+    ghost has_known_texts = { λ _. ⊤ };
 
     ghost catalog = { asked_catalog };
 

@@ -44,7 +44,7 @@ pub trait Sources: Drop {
     type Reader: Drop;
 
     // whether the value tells its texts
-    ghost tells: { Self → Type 0 };
+    ghost has_known_texts: { Self → Type 0 };
 
     // what each search answers, where the value tells its texts
     ghost catalog: { Self → Catalog };
@@ -65,10 +65,10 @@ pub trait Sources: Drop {
     /// a refusal no source is open that wasn't, and the value is as good as before. The search
     /// rule is this project's.
     fn top(&mut self, path: &str) -> Result<Found<Self::Reader>, SourceFault>
-        ensures answer { tells self.old → Finds unread ((catalog self.old).top path.now) result }
+        ensures answer { has_known_texts self.old → Finds unread ((catalog self.old).top path.now) result }
         ensures failures { Counts (is_device result) (failures self.old) (failures self.new) }
         ensures refusals { Counts (is_no_memory result) (refusals self.old) (refusals self.new) }
-        ensures tells { tells self.old → tells self.new }
+        ensures has_known_texts { has_known_texts self.old → has_known_texts self.new }
         ensures catalog { catalog self.new ≡ catalog self.old };
 
     /// Opens the source that `name` names, as it stands in an include directive of the source whose
@@ -85,10 +85,10 @@ pub trait Sources: Drop {
     /// count of it rose. After a refusal no source is open that wasn't, and the value is as good as
     /// before. The search rule is this project's.
     fn find(&mut self, from: &str, name: &str) -> Result<Found<Self::Reader>, SourceFault>
-        ensures answer { tells self.old → Finds unread ((catalog self.old).find from.now name.now) result }
+        ensures answer { has_known_texts self.old → Finds unread ((catalog self.old).find from.now name.now) result }
         ensures failures { Counts (is_device result) (failures self.old) (failures self.new) }
         ensures refusals { Counts (is_no_memory result) (refusals self.old) (refusals self.new) }
-        ensures tells { tells self.old → tells self.new }
+        ensures has_known_texts { has_known_texts self.old → has_known_texts self.new }
         ensures catalog { catalog self.new ≡ catalog self.old };
 
     /// Reads the next bytes of a source into the front of `to`, and answers how many: from 0 to
@@ -100,9 +100,9 @@ pub trait Sources: Drop {
     fn read(&mut self, reader: &mut Self::Reader, to: &mut [u8]) -> Result<usize, SourceFault>
         ensures bound { ReadsAtMost result to.new }
         ensures only { IfErr result (λ fault. fault ≡ SourceFault.Device) }
-        ensures bytes { tells self.old → Reads (unread reader.old) (unread reader.new) result to.new }
+        ensures bytes { has_known_texts self.old → Reads (unread reader.old) (unread reader.new) result to.new }
         ensures failures { Counts (is_device result) (failures self.old) (failures self.new) }
         ensures refusals { refusals self.new ≡ refusals self.old }
-        ensures tells { tells self.old → tells self.new }
+        ensures has_known_texts { has_known_texts self.old → has_known_texts self.new }
         ensures catalog { catalog self.new ≡ catalog self.old };
 }

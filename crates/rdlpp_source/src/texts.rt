@@ -61,7 +61,7 @@ impl<'a> Sources for Texts<'a> {
     ghost use Rattle.std.specs.Prelude.{⊤};
     ghost use Rattle.rdlpp_source.specs.Texts.{texts_catalog, left_of};
 
-    ghost tells = { λ _. ⊤ };
+    ghost has_known_texts = { λ _. ⊤ };
 
     ghost catalog = { texts_catalog };
 

@@ -396,8 +396,8 @@ skipping e ready never = skipping_by e e.conditions.skipped e.conditions.open_no
 pub passes_text : {S R : Type 0} (g : Ghosts S R) (old new : EngineView S R) (sources : S) (w : List ℕ) (lines : ℕ) (include_stack : List (File R)) → IsReady old → IsBounded new → lines ≡ line_ends w → lines < 2 ^ 31
     → IsUsed old.files.include_stack include_stack → SourcesCalled g false false old.sources sources
     → new ≡ record old { pending = line_ends_pending lines; files = record old.files { include_stack = include_stack }; sources = sources }
-    → (g.tells old.sources → left_by g old old.table.macros old.conditions old.files.include_stack ≡ behind_bytes (line_ends_of w) (left_by g old old.table.macros old.conditions include_stack))
-    → (g.tells old.sources → KeepsParts g.unread old.files.include_stack include_stack)
+    → (g.has_known_texts old.sources → left_by g old old.table.macros old.conditions old.files.include_stack ≡ behind_bytes (line_ends_of w) (left_by g old old.table.macros old.conditions include_stack))
+    → (g.has_known_texts old.sources → KeepsParts g.unread old.files.include_stack include_stack)
     → UncutStep g old new (step_answer new None)
 unfolding behind_bytes
 passes_text {S} {R} g old new sources w lines include_stack ready bounded counted few used call becomes law parts =
@@ -567,7 +567,7 @@ module _ {S R : Type 0} (g : Ghosts S R) (old new : EngineView S R) (ready : IsR
 
     -- a `define`
     module _ (is : IsDirective Define (held_of (inner_buffer old.files.include_stack))) (mid : EngineView S R) (r : IsRead g old mid) where
-      pub define_steps : (len lines : ℕ) → HoldsLine (g.tells old.sources) g.unread (line.Whole len) (inner_buffer old.files.include_stack) (inner_buffer mid.files.include_stack) → SourcesCalled g false false old.sources mid.sources
+      pub define_steps : (len lines : ℕ) → HoldsLine (g.has_known_texts old.sources) g.unread (line.Whole len) (inner_buffer old.files.include_stack) (inner_buffer mid.files.include_stack) → SourcesCalled g false false old.sources mid.sources
           → 0 < len → len ≤ length (held_of (inner_buffer mid.files.include_stack)) → length (held_of (inner_buffer mid.files.include_stack)) < 2 ^ 31 → lines ≡ line_ends (take len (held_of (inner_buffer mid.files.include_stack)))
           → new ≡ passes_over len lines mid → UncutStep g old new (step_answer new None)
       unfolding passes_over
@@ -584,22 +584,22 @@ module _ {S R : Type 0} (g : Ghosts S R) (old new : EngineView S R) (ready : IsR
           ∙ (ap (λ (fs : FilesView R). record old { pending = line_ends_pending lines; files = record fs { include_stack = with_inner (consumed_file len lines) mid.files.include_stack }; sources = mid.sources }) r.only
           ∙ ap (λ (ns : List (File R)). makes (with_inner (consumed_file len lines) ns)) include_stack)) in
           passes_text g old new mid.sources w lines after ready bounded counted (omega arith) (used_after old.files.include_stack b len lines ready.include_stack holds.extends.unused positive inside) call exact
-          (λ t. passes_define old.limits (run_rules g old) g.unread old.table.macros old.conditions s.count s.conditional s.around s.is_open s.skips (g.tells old.sources) t old.files.include_stack b len lines front_held plain s.below is holds counted)
-          (λ t. parts_on g.unread old.files.include_stack (with_buffer b old.files.include_stack) after (parts_slid (g.tells old.sources) Unit g.unread b old.files.include_stack ready.include_stack (slides-told (g.tells old.sources) (g.tells old.sources) Unit (IsExactLine (line.Whole len)) g.unread (inner_buffer old.files.include_stack) b (λ x. x) (λ _ e. cc) holds.slides) t)
+          (λ t. passes_define old.limits (run_rules g old) g.unread old.table.macros old.conditions s.count s.conditional s.around s.is_open s.skips (g.has_known_texts old.sources) t old.files.include_stack b len lines front_held plain s.below is holds counted)
+          (λ t. parts_on g.unread old.files.include_stack (with_buffer b old.files.include_stack) after (parts_slid (g.has_known_texts old.sources) Unit g.unread b old.files.include_stack ready.include_stack (slides-told (g.has_known_texts old.sources) (g.has_known_texts old.sources) Unit (IsExactLine (line.Whole len)) g.unread (inner_buffer old.files.include_stack) b (λ x. x) (λ _ e. cc) holds.slides) t)
           (parts_used g.unread len lines (with_buffer b old.files.include_stack)))
 
-      pub left_long : HoldsLine (g.tells old.sources) g.unread line.TooLong (inner_buffer old.files.include_stack) (inner_buffer mid.files.include_stack) → g.tells old.sources
+      pub left_long : HoldsLine (g.has_known_texts old.sources) g.unread line.TooLong (inner_buffer old.files.include_stack) (inner_buffer mid.files.include_stack) → g.has_known_texts old.sources
           → left_by g old old.table.macros old.conditions old.files.include_stack ≡ leaves (fails (fault_at fault.LineTooLong (inner_buffer mid.files.include_stack).line [] (state_of old))) (state_of old)
       unfolding state_of
       left_long holds t =
-          long_at old.limits (run_rules g old) g.unread old.table.macros old.conditions (g.tells old.sources) t old.files.include_stack (inner_buffer mid.files.include_stack) front_held plain is holds
+          long_at old.limits (run_rules g old) g.unread old.table.macros old.conditions (g.has_known_texts old.sources) t old.files.include_stack (inner_buffer mid.files.include_stack) front_held plain is holds
           ∙ rw holds.extends.line refl
 
-      pub left_cut : HoldsLine (g.tells old.sources) g.unread line.SourceLong (inner_buffer old.files.include_stack) (inner_buffer mid.files.include_stack) → g.tells old.sources
+      pub left_cut : HoldsLine (g.has_known_texts old.sources) g.unread line.SourceLong (inner_buffer old.files.include_stack) (inner_buffer mid.files.include_stack) → g.has_known_texts old.sources
           → left_by g old old.table.macros old.conditions old.files.include_stack ≡ leaves (fails (fault_at fault.SourceTooLong (inner_buffer mid.files.include_stack).line [] (state_of old))) (state_of old)
       unfolding state_of
       left_cut holds t =
-          cut_at old.limits (run_rules g old) g.unread old.table.macros old.conditions (g.tells old.sources) t old.files.include_stack (inner_buffer mid.files.include_stack) front_held plain is holds
+          cut_at old.limits (run_rules g old) g.unread old.table.macros old.conditions (g.has_known_texts old.sources) t old.files.include_stack (inner_buffer mid.files.include_stack) front_held plain is holds
           ∙ rw holds.extends.line refl
 
 -- A `line` in the open sources, as a step of the engine.

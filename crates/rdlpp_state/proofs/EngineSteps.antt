@@ -32,11 +32,11 @@ use Rattle.rdlpp_state.specs.declared.place.PieceLocation.TheVariants.{Fault as 
 
 -- nothing was asked of the sources
 pub not_called : {S R : Type 0} (g : Ghosts S R) (sources : S) → SourcesCalled g false false sources sources
-not_called g sources = record { failures = refl; refusals = refl; tells = λ t. t; catalog = refl }
+not_called g sources = record { failures = refl; refusals = refl; has_known_texts = λ t. t; catalog = refl }
 
 -- a read that may have failed
 pub called : {S R : Type 0} (g : Ghosts S R) (failed : Bool) (old new : S) → SourcesRead g failed old new → SourcesCalled g failed false old new
-called g failed old new read = record { failures = read.failures; refusals = read.refusals; tells = read.tells; catalog = read.catalog }
+called g failed old new read = record { failures = read.failures; refusals = read.refusals; has_known_texts = read.has_known_texts; catalog = read.catalog }
 
 -- what remains of an engine whose main text is open
 pub left_open : {S R : Type 0} (g : Ghosts S R) (e : EngineView S R) → e.kept ≡ None → e.phase ≡ Open → uncut_of g e ≡ outcome (text_of g e)
@@ -60,7 +60,7 @@ steps_kept g e f started bounded kept = record {
   ends = λ no. absurd (cc);
   failed = λ met. absurd (let no : false ≡ true = rw kept at met in cc);
   call = rw kept (not_called g e.sources);
-  tells = λ own t. rw kept refl;
+  answers = λ own t. rw kept refl;
   text = λ none. absurd (let no : Some f ≡ None = sym kept ∙ none in cc);
   reads = λ met. absurd (let no : false ≡ true = rw kept at met in cc);
   halts = λ none. absurd (let no : Some f ≡ None = sym kept ∙ none in cc);
@@ -92,7 +92,7 @@ steps_ended g e started bounded free closed = record {
   ends = λ same. (free, closed);
   failed = λ met. absurd (let no : false ≡ true = rw free at met in cc);
   call = rw free (not_called g e.sources);
-  tells = λ own t. (rw (free, closed) refl, rw (free, closed) refl);
+  answers = λ own t. (rw (free, closed) refl, rw (free, closed) refl);
   text = λ none open_. absurd (let no : Closed ≡ Open = sym closed ∙ open_ in cc);
   reads = λ met. absurd (let no : false ≡ true = rw free at met in cc);
   halts = λ none open_. absurd (let no : Closed ≡ Open = sym closed ∙ open_ in cc);
@@ -146,7 +146,7 @@ module _ {S R : Type 0} (g : Ghosts S R) (old new : EngineView S R) (free : old.
   pub walks_lent : (bytes : List ℕ) → new ≡ record old { pending = new.pending; marks = new.marks; table = new.table; conditions = new.conditions; files = new.files; sources = new.sources; expansion = new.expansion }
       → (new.table.most_bytes ≡ old.table.most_bytes) × (new.table.most_macros ≡ old.table.most_macros)
       → SourcesCalled g false false old.sources new.sources
-      → (g.tells old.sources → text_of g old ≡ behind_bytes bytes (text_of g new))
+      → (g.has_known_texts old.sources → text_of g old ≡ behind_bytes bytes (text_of g new))
       → work_left new < work_left old → KeepsStores g old new → StandsIn g old new bytes (position_of new) → UncutStep g old new (Ok (Some bytes))
   unfolding has_met no_len all_of may_follow
   walks_lent bytes becomes room call text falls keeps from =
@@ -166,7 +166,7 @@ module _ {S R : Type 0} (g : Ghosts S R) (old new : EngineView S R) (free : old.
         ends = λ e. absurd (cc);
         failed = λ met. absurd (let no : false ≡ true = rw free at met in cc);
         call = rw free call;
-        tells = λ _ t. left_open g old free open_ ∙ (ap outcome (text t) ∙ (outcome-behind_bytes bytes (text_of g new) ∙ rw (left_open g new none still) refl));
+        answers = λ _ t. left_open g old free open_ ∙ (ap outcome (text t) ∙ (outcome-behind_bytes bytes (text_of g new) ∙ rw (left_open g new none still) refl));
         text = λ _ _ _ t. record { piece = bytes; lent = refl; text = text t };
         reads = λ met. absurd (let no : false ≡ true = rw free at met in cc);
         halts = λ _ _. tt;
@@ -183,7 +183,7 @@ module _ {S R : Type 0} (g : Ghosts S R) (old new : EngineView S R) (free : old.
 
   -- what a fault leaves, where nothing is pending
   halts_at : (f : Report) → new ≡ record old { kept = Some f; files = new.files; sources = new.sources }
-      → new.files ≡ record old.files { include_stack = with_buffer (inner_buffer new.files.include_stack) old.files.include_stack } → Slides (g.tells old.sources) ⊥ g.unread (inner_buffer old.files.include_stack) (inner_buffer new.files.include_stack) → old.pending ≡ nothing_pending → HaltsAt g 0 old new
+      → new.files ≡ record old.files { include_stack = with_buffer (inner_buffer new.files.include_stack) old.files.include_stack } → Slides (g.has_known_texts old.sources) ⊥ g.unread (inner_buffer old.files.include_stack) (inner_buffer new.files.include_stack) → old.pending ≡ nothing_pending → HaltsAt g 0 old new
   halts_at f becomes only moves drained =
       let keeps : Option Report → EngineView S R = λ k. record old { kept = k; files = new.files; sources = new.sources } in
       record {
@@ -208,7 +208,7 @@ module _ {S R : Type 0} (g : Ghosts S R) (old new : EngineView S R) (free : old.
   -- the text has a fault, which is kept, wherever that came
   pub walks_kept : (f : Report) → IsOwn f.kind → new ≡ record old { kept = Some f; files = new.files; sources = new.sources; expansion = new.expansion } → HaltsAt g 0 old new
       → SourcesCalled g false false old.sources new.sources
-      → (g.tells old.sources → text_of g old ≡ leaves (fails f) (state_of new)) → KeepsStores g old new → UncutStep g old new (Err f)
+      → (g.has_known_texts old.sources → text_of g old ≡ leaves (fails f) (state_of new)) → KeepsStores g old new → UncutStep g old new (Err f)
   unfolding has_met no_len is_call_failed
   walks_kept f own becomes halts call text stores =
       let still : new.phase ≡ Open = ap (λ e. e.phase) becomes ∙ open_ in
@@ -226,7 +226,7 @@ module _ {S R : Type 0} (g : Ghosts S R) (old new : EngineView S R) (free : old.
         ends = λ e. absurd (cc);
         failed = λ met. absurd (let no : false ≡ true = rw (free, own.read, own.memory) at met in cc);
         call = rw (free, own.read, own.memory) call;
-        tells = λ _ t. left_open g old free open_ ∙ (ap outcome (text t) ∙ outcome-leaves (fails f) (state_of new));
+        answers = λ _ t. left_open g old free open_ ∙ (ap outcome (text t) ∙ outcome-leaves (fails f) (state_of new));
         text = λ _ _ _ t. text t;
         reads = λ met. absurd (let no : false ≡ true = rw (free, own.read, own.memory) at met in cc);
         halts = λ _ _. halts;
@@ -244,9 +244,9 @@ module _ {S R : Type 0} (g : Ghosts S R) (old new : EngineView S R) (free : old.
   -- a fault at the front of what is held
   pub walks_fault : (f : Report) → IsOwn f.kind → new ≡ record old { kept = Some f; files = new.files; sources = new.sources }
       → new.files ≡ record old.files { include_stack = with_buffer (inner_buffer new.files.include_stack) old.files.include_stack }
-      → Slides (g.tells old.sources) ⊥ g.unread (inner_buffer old.files.include_stack) (inner_buffer new.files.include_stack) → old.pending ≡ nothing_pending
+      → Slides (g.has_known_texts old.sources) ⊥ g.unread (inner_buffer old.files.include_stack) (inner_buffer new.files.include_stack) → old.pending ≡ nothing_pending
       → SourcesCalled g false false old.sources new.sources
-      → (g.tells old.sources → text_of g old ≡ leaves (fails f) (state_of new)) → KeepsStores g old new → UncutStep g old new (Err f)
+      → (g.has_known_texts old.sources → text_of g old ≡ leaves (fails f) (state_of new)) → KeepsStores g old new → UncutStep g old new (Err f)
   walks_fault f own becomes only moves drained call text stores =
       walks_kept f own (same_texts f becomes) (halts_at f becomes only moves drained) call text stores
 
@@ -271,7 +271,7 @@ module _ {S R : Type 0} (g : Ghosts S R) (old new : EngineView S R) (free : old.
         ends = λ e. absurd (cc);
         failed = λ _. fails;
         call = rw free call;
-        tells = λ own t. absurd (let no : true ≡ false = sym (rw free met) ∙ own in cc);
+        answers = λ own t. absurd (let no : true ≡ false = sym (rw free met) ∙ own in cc);
         text = λ _ _ own t. absurd (let no : true ≡ false = sym (rw free met) ∙ own in cc);
         reads = λ _. reads;
         halts = λ _ _. halts;
@@ -290,9 +290,9 @@ module _ {S R : Type 0} (g : Ghosts S R) (old new : EngineView S R) (free : old.
   pub walks_stopped : (f : Report) → FailsAt new f → is_call_failed f.kind ≡ true → is_write_failed f.kind ≡ false
       → new ≡ record old { kept = Some f; files = new.files; sources = new.sources }
       → new.files ≡ record old.files { include_stack = with_buffer (inner_buffer new.files.include_stack) old.files.include_stack }
-      → Slides (g.tells old.sources) ⊥ g.unread (inner_buffer old.files.include_stack) (inner_buffer new.files.include_stack) → old.pending ≡ nothing_pending
+      → Slides (g.has_known_texts old.sources) ⊥ g.unread (inner_buffer old.files.include_stack) (inner_buffer new.files.include_stack) → old.pending ≡ nothing_pending
       → SourcesCalled g (is_read_failed f.kind) (is_memory_kind f.kind) old.sources new.sources
-      → (g.tells old.sources → text_of g old ≡ text_of g new) → KeepsStores g old new → UncutStep g old new (Err f)
+      → (g.has_known_texts old.sources → text_of g old ≡ text_of g new) → KeepsStores g old new → UncutStep g old new (Err f)
   walks_stopped f fails met write becomes only moves drained call text stores =
       let still : new.phase ≡ Open = ap (λ e. e.phase) becomes ∙ open_ in
       walks_ceased f fails met write (same_texts f becomes) (halts_at f becomes only moves drained)
@@ -302,9 +302,9 @@ module _ {S R : Type 0} (g : Ghosts S R) (old new : EngineView S R) (free : old.
   pub walks_failed : (f : Report) → IsReading (inner_buffer new.files.include_stack) → f ≡ fault_at fault.ReadFailed (reading_line_of (inner_buffer new.files.include_stack)) [] (state_of new)
       → new ≡ record old { kept = Some f; files = new.files; sources = new.sources }
       → new.files ≡ record old.files { include_stack = with_buffer (inner_buffer new.files.include_stack) old.files.include_stack }
-      → Slides (g.tells old.sources) ⊥ g.unread (inner_buffer old.files.include_stack) (inner_buffer new.files.include_stack) → old.pending ≡ nothing_pending
+      → Slides (g.has_known_texts old.sources) ⊥ g.unread (inner_buffer old.files.include_stack) (inner_buffer new.files.include_stack) → old.pending ≡ nothing_pending
       → SourcesCalled g true false old.sources new.sources
-      → (g.tells old.sources → text_of g old ≡ text_of g new) → KeepsStores g old new → UncutStep g old new (Err f)
+      → (g.has_known_texts old.sources → text_of g old ≡ text_of g new) → KeepsStores g old new → UncutStep g old new (Err f)
   unfolding fault_at is_read_failed is_write_failed is_memory_kind is_call_failed
   walks_failed f reading is becomes only moves drained call text stores =
       let read : is_read_failed f.kind ≡ true = ap (λ t. is_read_failed t.kind) is in
@@ -315,7 +315,7 @@ module _ {S R : Type 0} (g : Ghosts S R) (old new : EngineView S R) (free : old.
   -- the text has ended
   pub walks_end : new ≡ record old { phase = Closed; files = new.files; sources = new.sources } → old.pending ≡ nothing_pending → old.expansion.opens ≡ []
       → SourcesCalled g false false old.sources new.sources
-      → (g.tells old.sources → EndsText new (text_of g old)) → UncutStep g old new (Ok None)
+      → (g.has_known_texts old.sources → EndsText new (text_of g old)) → UncutStep g old new (Ok None)
   unfolding has_met no_len uncut_of kept_uncut phase_uncut
   walks_end becomes drained idle call text =
       let closed : new.phase ≡ Closed = ap (λ e. e.phase) becomes in
@@ -334,7 +334,7 @@ module _ {S R : Type 0} (g : Ghosts S R) (old new : EngineView S R) (free : old.
         ends = λ e. (none, closed);
         failed = λ met. absurd (let no : false ≡ true = rw free at met in cc);
         call = rw free call;
-        tells = λ _ t. (left_open g old free open_ ∙ (ap outcome ((text t).text) ∙ outcome-leaves (gives []) (text t).last), rw (none, closed) refl);
+        answers = λ _ t. (left_open g old free open_ ∙ (ap outcome ((text t).text) ∙ outcome-leaves (gives []) (text t).last), rw (none, closed) refl);
         text = λ _ _ _ t. text t;
         reads = λ met. absurd (let no : false ≡ true = rw free at met in cc);
         halts = λ _ _. ap (λ e. e.pending) becomes ∙ drained;
@@ -367,7 +367,7 @@ pub record IsSilent {S R : Type 0} (g : Ghosts S R) (n : ℕ) (old mid : EngineV
   pub open_ : old.phase ≡ Open
   pub stays : mid.phase ≡ Open
   pub call : SourcesCalled g false false old.sources mid.sources
-  pub text : g.tells old.sources → text_of g old ≡ text_of g mid
+  pub text : g.has_known_texts old.sources → text_of g old ≡ text_of g mid
   pub work : work_left mid ≤ work_left old
   pub keeps : KeepsStores g old mid
   pub reaches : Reaches g old mid
@@ -401,7 +401,7 @@ pub called_after : {S R : Type 0} (g : Ghosts S R) (a b c d : Bool) (old mid new
 called_after g a b c d old mid new e f first then_ = record {
   failures = counts_or a b _ _ _ e first.failures then_.failures;
   refusals = counts_or c d _ _ _ f first.refusals then_.refusals;
-  tells = λ t. then_.tells (first.tells t);
+  has_known_texts = λ t. then_.has_known_texts (first.has_known_texts t);
   catalog = then_.catalog ∙ first.catalog;
 }
 
@@ -409,9 +409,9 @@ called_after g a b c d old mid new e f first then_ = record {
 told_over : {S R : Type 0} (g : Ghosts S R) (answer : Result (Option (List ℕ)) Report) (a b : ℕ) (p : Passage) (new : EngineView S R)
     → TellsText (all_of a) g answer p new → TellsText (all_of b) g answer p new
 unfolding all_of
-told_over g (Ok (Some bytes)) a b p new tells = record { piece = tells.piece; lent = tells.lent; text = tells.text }
-told_over g (Ok None) a b p new tells = tells
-told_over g (Err f) a b p new tells = tells
+told_over g (Ok (Some bytes)) a b p new has_known_texts = record { piece = has_known_texts.piece; lent = has_known_texts.lent; text = has_known_texts.text }
+told_over g (Ok None) a b p new has_known_texts = has_known_texts
+told_over g (Err f) a b p new has_known_texts = has_known_texts
 
 -- where no byte was lent, the same remains
 silent_text : (quota : ℕ) (old new : Passage) → LendsText (all_of quota) [] old new → old ≡ new
@@ -427,16 +427,16 @@ halts_behind g n m (Err f) old mid new first halts = record {
   reached = reaches_on g old mid halts.at first.reaches halts.reached;
   few = parts_both _ _ _ n m (length-append first.reaches.between halts.reached.between) first.few halts.few;
   idle = λ h none. halts.idle (first.keeps.lets_go h) none;
-  text = λ t. first.text t ∙ halts.text (first.call.tells t);
+  text = λ t. first.text t ∙ halts.text (first.call.has_known_texts t);
   drained = halts.drained;
   stopped = halts.stopped;
 }
 
 -- where bytes that are lent stand, behind such a part
-lends_behind : {S R : Type 0} (g : Ghosts S R) (n m : ℕ) (old mid new : EngineView S R) (bytes : List ℕ) (a b : ℕ) → (reaches : Reaches g old mid) → length reaches.between ≤ n → (g.tells old.sources → text_of g old ≡ text_of g mid) → (g.tells old.sources → g.tells mid.sources)
+lends_behind : {S R : Type 0} (g : Ghosts S R) (n m : ℕ) (old mid new : EngineView S R) (bytes : List ℕ) (a b : ℕ) → (reaches : Reaches g old mid) → length reaches.between ≤ n → (g.has_known_texts old.sources → text_of g old ≡ text_of g mid) → (g.has_known_texts old.sources → g.has_known_texts mid.sources)
     → LendsWhere g m (all_of b) mid new bytes → LendsWhere g (n + m) (all_of a) old new bytes
 unfolding all_of
-lends_behind g n m old mid new bytes a b reaches few text tells l = record { at = l.at; reached = reaches_on g old mid l.at reaches l.reached; few = parts_both _ _ _ n m (length-append reaches.between l.reached.between) few l.few; text = λ t. text t ∙ l.text (tells t); after = l.after; becomes = l.becomes; piece = l.piece; lent = l.lent; stands = l.stands }
+lends_behind g n m old mid new bytes a b reaches few text has_known_texts l = record { at = l.at; reached = reaches_on g old mid l.at reaches l.reached; few = parts_both _ _ _ n m (length-append reaches.between l.reached.between) few l.few; text = λ t. text t ∙ l.text (has_known_texts t); after = l.after; becomes = l.becomes; piece = l.piece; lent = l.lent; stands = l.stands }
 
 -- such a part, and then a step, are one step
 pub silent_then : {S R : Type 0} (g : Ghosts S R) (n m : ℕ) (old mid new : EngineView S R) (answer : Result (Option (List ℕ)) Report) →
@@ -459,16 +459,16 @@ silent_then g n m old mid new answer first then_ =
       failed = λ met. then_.failed (sym (same is_call_failed) ∙ met);
       call = rw (same is_read_failed, same is_memory_kind)
           (called_after g false (has_failed mid.kept answer) false (has_refused mid.kept answer) _ _ _ refl refl first.call then_.call);
-      tells = λ own t.
+      answers = λ own t.
           let left : uncut_of g mid ≡ uncut_of g old =
           left_open g mid first.still first.stays ∙ (sym (ap outcome (first.text t)) ∙ sym (left_open g old first.free first.open_)) in
-          subst (λ (o : Outcome). Tells answer o (uncut_of g new)) left (then_.tells (sym (same is_call_failed) ∙ own) (first.call.tells t));
+          subst (λ (o : Outcome). Tells answer o (uncut_of g new)) left (then_.answers (sym (same is_call_failed) ∙ own) (first.call.has_known_texts t));
       text = λ _ _ own t.
           subst (λ (p : Passage). TellsText (all_of old.quota) g answer p new) (sym (first.text t))
-          (told_over g answer mid.quota old.quota (text_of g mid) new (then_.text first.still first.stays (sym (same is_call_failed) ∙ own) (first.call.tells t)));
+          (told_over g answer mid.quota old.quota (text_of g mid) new (then_.text first.still first.stays (sym (same is_call_failed) ∙ own) (first.call.has_known_texts t)));
       reads = λ met.
           let reads = then_.reads (sym (same is_call_failed) ∙ met) in
-          record { open_ = first.open_; still = reads.still; at = reads.at; stood = reads.stood; text = λ t. first.text t ∙ reads.text (first.call.tells t) };
+          record { open_ = first.open_; still = reads.still; at = reads.at; stood = reads.stood; text = λ t. first.text t ∙ reads.text (first.call.has_known_texts t) };
       halts = λ _ _. halts_behind g n m answer old mid new first (then_.halts first.still first.stays);
       falls = λ bytes is. (let less = then_.falls bytes is in let most = first.work in omega arith);
       lends = λ bytes is. (first.open_, (then_.lends bytes is).1);
@@ -476,9 +476,9 @@ silent_then g n m old mid new answer first then_ =
       most_bytes = then_.most_bytes ∙ first.most_bytes;
       most_macros = then_.most_macros ∙ first.most_macros;
       bounded = then_.bounded;
-      stands = λ _ _ bytes is. lends_behind g n m old mid new bytes old.quota mid.quota first.reaches first.few (first.text) (first.call.tells) (then_.stands first.still first.stays bytes is);
+      stands = λ _ _ bytes is. lends_behind g n m old mid new bytes old.quota mid.quota first.reaches first.few (first.text) (first.call.has_known_texts) (then_.stands first.still first.stays bytes is);
       lets_go = λ h. then_.lets_go (first.keeps.lets_go h);
-      stores = λ t h. then_.stores (first.call.tells t) (first.keeps.stores t h);
+      stores = λ t h. then_.stores (first.call.has_known_texts t) (first.keeps.stores t h);
     }
 
 -- where bytes may follow, the main text is open
@@ -544,7 +544,7 @@ wider g n m old new answer more w = record {
   ends = w.ends;
   failed = w.failed;
   call = w.call;
-  tells = w.tells;
+  answers = w.answers;
   text = w.text;
   reads = w.reads;
   halts = λ free open_. halts_wider g n m answer old new more (w.halts free open_);
@@ -633,7 +633,7 @@ steps_passed {S} {R} g old new free past bounded becomes =
       ends = λ e. absurd (cc);
       failed = λ met. absurd (let no : false ≡ true = rw free at met in cc);
       call = rw (free, becomes) (not_called g old.sources);
-      tells = λ _ t. rw (free, past) refl;
+      answers = λ _ t. rw (free, past) refl;
       text = λ none open_. absurd (let no : OverLimit ≡ Open = sym past ∙ open_ in cc);
       reads = λ met. absurd (let no : false ≡ true = rw free at met in cc);
       halts = λ none open_. absurd (let no : OverLimit ≡ Open = sym past ∙ open_ in cc);

@@ -132,8 +132,8 @@ left_by g e macros v include_stack = include_stack_left e.limits (run_rules g e)
 pub lends_by : {S R : Type 0} (g : Ghosts S R) (old : EngineView S R) (ready : IsReady old) (bytes : List ℕ) (pending : PendingView) (marks : MarksView) (macros : List Macro) (v : ConditionsView) (include_stack : List (File R)) (sources : S)
     → let after = record old { pending = pending; marks = marks; table = record old.table { macros = macros }; conditions = v; files = record old.files { include_stack = include_stack }; sources = sources } in
     IsBounded after → work_left after < work_left old → SourcesCalled g false false old.sources sources
-    → (g.tells old.sources → left_by g old old.table.macros old.conditions old.files.include_stack ≡ behind_bytes bytes (behind_bytes (pending_bytes (inner_name include_stack) pending) (left_by g old macros v include_stack)))
-    → (g.tells old.sources → AreParts g.unread (g.catalog old.sources) Unit old.files.include_stack → AreParts g.unread (g.catalog old.sources) Unit include_stack)
+    → (g.has_known_texts old.sources → left_by g old old.table.macros old.conditions old.files.include_stack ≡ behind_bytes bytes (behind_bytes (pending_bytes (inner_name include_stack) pending) (left_by g old macros v include_stack)))
+    → (g.has_known_texts old.sources → AreParts g.unread (g.catalog old.sources) Unit old.files.include_stack → AreParts g.unread (g.catalog old.sources) Unit include_stack)
     → StandsIn g old after bytes (position_of after) → UncutStep g old after (Ok (Some bytes))
 lends_by g old ready bytes pending marks macros v include_stack sources bounded falls call law parts from =
     let after = record old { pending = pending; marks = marks; table = record old.table { macros = macros }; conditions = v; files = record old.files { include_stack = include_stack }; sources = sources } in
@@ -147,8 +147,8 @@ lends_by g old ready bytes pending marks macros v include_stack sources bounded 
 pub lends_piece : {S R : Type 0} (g : Ghosts S R) (old : EngineView S R) (ready : IsReady old) (bytes : List ℕ) (pending : PendingView) (marks : MarksView) (macros : List Macro) (v : ConditionsView) (include_stack : List (File R)) (sources : S)
     → let after = record old { pending = pending; marks = marks; table = record old.table { macros = macros }; conditions = v; files = record old.files { include_stack = include_stack }; sources = sources } in
     IsBounded after → pending_pieces pending < 2 ^ 31 → IsUsed old.files.include_stack include_stack → SourcesCalled g false false old.sources sources
-    → (g.tells old.sources → left_by g old old.table.macros old.conditions old.files.include_stack ≡ behind_bytes bytes (behind_bytes (pending_bytes (inner_name include_stack) pending) (left_by g old macros v include_stack)))
-    → (g.tells old.sources → KeepsParts g.unread old.files.include_stack include_stack)
+    → (g.has_known_texts old.sources → left_by g old old.table.macros old.conditions old.files.include_stack ≡ behind_bytes bytes (behind_bytes (pending_bytes (inner_name include_stack) pending) (left_by g old macros v include_stack)))
+    → (g.has_known_texts old.sources → KeepsParts g.unread old.files.include_stack include_stack)
     → StandsIn g old after bytes (position_of after) → UncutStep g old after (Ok (Some bytes))
 lends_piece g old ready bytes pending marks macros v include_stack sources bounded few used call law parts from =
     let after = record old { pending = pending; marks = marks; table = record old.table { macros = macros }; conditions = v; files = record old.files { include_stack = include_stack }; sources = sources } in
@@ -204,11 +204,11 @@ kept_cut {S} {R} old new kind line word name s becomes cut =
 pub record IsRead {S R : Type 0} (g : Ghosts S R) (old mid : EngineView S R) : Type 0 where
   pub becomes : mid ≡ record old { files = mid.files; sources = mid.sources }
   pub only : mid.files ≡ record old.files { include_stack = with_buffer (inner_buffer mid.files.include_stack) old.files.include_stack }
-  pub moves : Slides (g.tells old.sources) ⊥ g.unread (inner_buffer old.files.include_stack) (inner_buffer mid.files.include_stack)
+  pub moves : Slides (g.has_known_texts old.sources) ⊥ g.unread (inner_buffer old.files.include_stack) (inner_buffer mid.files.include_stack)
 
 -- a window that moved on over its text, wherever bytes were lost
-pub slid : {R : Type 0} (tells exact : Type 0) (unread : R → List ℕ) (old new : BufferView R) → Slides tells exact unread old new → Slides tells ⊥ unread old new
-slid tells exact unread old new slides = slides-told tells tells ⊥ exact unread old new (λ t. t) (λ no. absurd no) slides
+pub slid : {R : Type 0} (has_known_texts exact : Type 0) (unread : R → List ℕ) (old new : BufferView R) → Slides has_known_texts exact unread old new → Slides has_known_texts ⊥ unread old new
+slid has_known_texts exact unread old new slides = slides-told has_known_texts has_known_texts ⊥ exact unread old new (λ t. t) (λ no. absurd no) slides
 
 -- the state is the same then
 pub read_state : {S R : Type 0} {g : Ghosts S R} (old mid : EngineView S R) → IsRead g old mid → state_of mid ≡ state_of old
@@ -240,9 +240,9 @@ keeps_files {S} {R} old mid new f r becomes =
 
 -- whose window moved on
 pub keeps_moves : {S R : Type 0} {g : Ghosts S R} (old mid new : EngineView S R) (f : Report) → IsRead g old mid → new ≡ record mid { kept = Some f }
-    → Slides (g.tells old.sources) ⊥ g.unread (inner_buffer old.files.include_stack) (inner_buffer new.files.include_stack)
+    → Slides (g.has_known_texts old.sources) ⊥ g.unread (inner_buffer old.files.include_stack) (inner_buffer new.files.include_stack)
 keeps_moves {S} {R} {g} old mid new f r becomes =
-    subst (λ (fs : FilesView R). Slides (g.tells old.sources) ⊥ g.unread (inner_buffer old.files.include_stack) (inner_buffer fs.include_stack)) (sym (ap (λ e. e.files) becomes)) r.moves
+    subst (λ (fs : FilesView R). Slides (g.has_known_texts old.sources) ⊥ g.unread (inner_buffer old.files.include_stack) (inner_buffer fs.include_stack)) (sym (ap (λ e. e.files) becomes)) r.moves
 
 -- and what is held stays
 pub keeps_read : {S R : Type 0} (g : Ghosts S R) (old mid new : EngineView S R) (f : Report) → IsReady old → IsRead g old mid → new ≡ record mid { kept = Some f } → g.catalog mid.sources ≡ g.catalog old.sources → (MayGoOn new → ⊥)
@@ -281,7 +281,7 @@ told_kind kind line word s own = own
 -- a fault of the text is kept, as it is told in the state that the text goes on from
 pub refuses_by : {S R : Type 0} (g : Ghosts S R) (old mid new : EngineView S R) (place : PieceLocation) (tell : State → Report) → ((s : State) → IsOwn (tell s).kind) → IsReady old → IsRead g old mid → IsBounded new
     → place ≡ Fault → new ≡ record mid { kept = Some (tell (state_of mid)) } → SourcesCalled g false false old.sources mid.sources
-    → (g.tells old.sources → left_by g old old.table.macros old.conditions old.files.include_stack ≡ leaves (fails (tell (state_of old))) (state_of old))
+    → (g.has_known_texts old.sources → left_by g old old.table.macros old.conditions old.files.include_stack ≡ leaves (fails (tell (state_of old))) (state_of old))
     → UncutStep g old new (lent_answer new place)
 unfolding state_of
 refuses_by {S} {R} g old mid new place tell own ready r bounded is becomes call law =
@@ -298,7 +298,7 @@ refuses_by {S} {R} g old mid new place tell own ready r bounded is becomes call 
 -- a fault at a line of the source is kept
 pub refuses : {S R : Type 0} (g : Ghosts S R) (old mid new : EngineView S R) (place : PieceLocation) (kind : FaultKind) (line : ℕ) (word : List ℕ) → IsReady old → IsRead g old mid → IsBounded new
     → place ≡ Fault → new ≡ record mid { kept = Some (fault_at kind line word (state_of mid)) } → IsOwn kind → SourcesCalled g false false old.sources mid.sources
-    → (g.tells old.sources → left_by g old old.table.macros old.conditions old.files.include_stack ≡ leaves (fails (fault_at kind line word (state_of old))) (state_of old))
+    → (g.has_known_texts old.sources → left_by g old old.table.macros old.conditions old.files.include_stack ≡ leaves (fails (fault_at kind line word (state_of old))) (state_of old))
     → UncutStep g old new (lent_answer new place)
 refuses g old mid new place kind line word ready r bounded is becomes own call law =
     refuses_by g old mid new place (λ s. fault_at kind line word s) (λ s. told_kind kind line word s own) ready r bounded is becomes call law
@@ -306,7 +306,7 @@ refuses g old mid new place kind line word ready r bounded is becomes own call l
 -- a failed read is kept
 pub fails_reading : {S R : Type 0} (g : Ghosts S R) (old mid new : EngineView S R) (place : PieceLocation) → IsReady old → IsRead g old mid → IsReading (inner_buffer mid.files.include_stack) → IsBounded new
     → place ≡ Fault → new ≡ record mid { kept = Some (fault_at fault.ReadFailed (reading_line_of (inner_buffer mid.files.include_stack)) [] (state_of mid)) } → SourcesCalled g true false old.sources mid.sources
-    → (g.tells old.sources → left_by g old old.table.macros old.conditions old.files.include_stack ≡ left_by g old old.table.macros old.conditions (with_buffer (inner_buffer mid.files.include_stack) old.files.include_stack))
+    → (g.has_known_texts old.sources → left_by g old old.table.macros old.conditions old.files.include_stack ≡ left_by g old old.table.macros old.conditions (with_buffer (inner_buffer mid.files.include_stack) old.files.include_stack))
     → UncutStep g old new (lent_answer new place)
 unfolding state_of
 fails_reading {S} {R} g old mid new place ready r reading bounded is becomes call law =
@@ -336,7 +336,7 @@ read_nothing {S} {R} {g} e =
     record {
       becomes = refl;
       only = ap (λ ns. record e.files { include_stack = ns }) (same_include_stack e.files.include_stack);
-      moves = slides-same (g.tells e.sources) ⊥ g.unread b;
+      moves = slides-same (g.has_known_texts e.sources) ⊥ g.unread b;
     }
 
 -- text that is copied is lent
@@ -367,7 +367,7 @@ take_text {S} {R} g old mid new len lines from to next ready live bounded some t
 -- a `define` whose logical line is held, and what it comes to
 module _ {S R : Type 0} (g : Ghosts S R) (old mid new : EngineView S R) (len : ℕ) (ready : IsReady old) (live : old.conditions.skipped ≡ None) (r : IsRead g old mid) (bounded : IsBounded new)
     (some : 0 < length (held_of (inner_buffer old.files.include_stack))) (plain : (inner_buffer old.files.include_stack).mode ≡ Plain) (define : IsDirective Define (held_of (inner_buffer old.files.include_stack)))
-    (holds : HoldsLine (g.tells old.sources) g.unread (line.Whole len) (inner_buffer old.files.include_stack) (inner_buffer mid.files.include_stack))
+    (holds : HoldsLine (g.has_known_texts old.sources) g.unread (line.Whole len) (inner_buffer old.files.include_stack) (inner_buffer mid.files.include_stack))
     (call : SourcesCalled g false false old.sources mid.sources) where
   -- it is accepted
   accepted_steps : 7 ≤ len → len ≤ length (held_of (inner_buffer mid.files.include_stack)) → length (held_of (inner_buffer mid.files.include_stack)) < 2 ^ 31 → Defines len mid new → UncutStep g old new (step_answer new None)
@@ -396,10 +396,10 @@ module _ {S R : Type 0} (g : Ghosts S R) (old mid new : EngineView S R) (len : �
       subst (λ (e : EngineView S R). UncutStep g old e (Ok (Some []))) (sym becomes)
       (lends_piece g old ready [] (line_ends_pending d.lines) old.marks d.macros old.conditions after mid.sources (subst IsBounded becomes bounded) (lines_few d.lines _ (omega arith))
       (used_after old.files.include_stack b len d.lines ready.include_stack holds.extends.unused (omega arith) inside) call
-      (λ t. include_stack_defined old.limits (run_rules g old) g.unread old.table.macros old.conditions live (g.tells old.sources) t old.files.include_stack b len d.lines d.macros
+      (λ t. include_stack_defined old.limits (run_rules g old) g.unread old.table.macros old.conditions live (g.has_known_texts old.sources) t old.files.include_stack b len d.lines d.macros
       some inner.ends plain define holds (ap with_fault accepted) counted
       ∙ ap (λ (x : List ℕ). behind_bytes x (left_by g old d.macros old.conditions after)) pending)
-      (λ t. parts_on g.unread old.files.include_stack (with_buffer b old.files.include_stack) after (parts_slid (g.tells old.sources) Unit g.unread b old.files.include_stack ready.include_stack (slides-told (g.tells old.sources) (g.tells old.sources) Unit (IsExactLine (line.Whole len)) g.unread (inner_buffer old.files.include_stack) b (λ x. x) (λ _ e. cc) holds.slides) t)
+      (λ t. parts_on g.unread old.files.include_stack (with_buffer b old.files.include_stack) after (parts_slid (g.has_known_texts old.sources) Unit g.unread b old.files.include_stack ready.include_stack (slides-told (g.has_known_texts old.sources) (g.has_known_texts old.sources) Unit (IsExactLine (line.Whole len)) g.unread (inner_buffer old.files.include_stack) b (λ x. x) (λ _ e. cc) holds.slides) t)
       (parts_used g.unread len d.lines (with_buffer b old.files.include_stack))) (Nowhere refl (InSources ready.idle refl (Unmarked refl))))
 
   -- it is refused
@@ -413,7 +413,7 @@ module _ {S R : Type 0} (g : Ghosts S R) (old mid new : EngineView S R) (len : �
       let refused : define_of old.limits.definition_bytes old.limits.definitions old.table.macros (drop 7 (take len (held_of b))) ≡ table_define.DefinedFault d.kind d.word =
       rw (← ready.sound.definition_bytes, ← ready.sound.definitions) (rw table at d.refused) in
       refuses g old mid new place (define_fault d.kind) b.line d.word ready r bounded is d.becomes (define_kind d.kind) call
-      (λ t. include_stack_refused_define old.limits (run_rules g old) g.unread old.table.macros old.conditions live (g.tells old.sources) t old.files.include_stack b len (define_fault d.kind) d.word
+      (λ t. include_stack_refused_define old.limits (run_rules g old) g.unread old.table.macros old.conditions live (g.has_known_texts old.sources) t old.files.include_stack b len (define_fault d.kind) d.word
       some inner.ends plain define holds (ap with_fault refused)
       ∙ rw here refl)
 
@@ -462,7 +462,7 @@ pending_is_placed {S} {R} old new piece pending some marks takes becomes =
 
 -- what is held stays so
 filled_stores : {S R : Type 0} (g : Ghosts S R) (old mid : EngineView S R) → IsReady old → IsRead g old mid
-    → Fills (g.tells old.sources) g.unread fill.Held (inner_buffer old.files.include_stack) (inner_buffer mid.files.include_stack) → SourcesCalled g false false old.sources mid.sources → KeepsStores g old mid
+    → Fills (g.has_known_texts old.sources) g.unread fill.Held (inner_buffer old.files.include_stack) (inner_buffer mid.files.include_stack) → SourcesCalled g false false old.sources mid.sources → KeepsStores g old mid
 filled_stores {S} {R} g old mid ready r fills call =
     let b = inner_buffer mid.files.include_stack in
     let include_stack = with_buffer b old.files.include_stack in
@@ -470,11 +470,11 @@ filled_stores {S} {R} g old mid ready r fills call =
     r.becomes ∙ ap (λ (fs : FilesView R). record old { files = fs; sources = mid.sources }) r.only in
     subst (λ (e : EngineView S R). KeepsStores g old e) (sym is)
     (keeps_sources g old old.pending old.marks old.table.macros old.conditions include_stack mid.sources ready.free ready.idle call.catalog
-    (λ t. parts_slid (g.tells old.sources) Unit g.unread b old.files.include_stack ready.include_stack (slides-told (g.tells old.sources) (g.tells old.sources) Unit (IsExact fill.Held) g.unread (inner_buffer old.files.include_stack) b (λ x. x) (λ _ e. cc) fills.slides) t (g.catalog old.sources)))
+    (λ t. parts_slid (g.has_known_texts old.sources) Unit g.unread b old.files.include_stack ready.include_stack (slides-told (g.has_known_texts old.sources) (g.has_known_texts old.sources) Unit (IsExact fill.Held) g.unread (inner_buffer old.files.include_stack) b (λ x. x) (λ _ e. cc) fills.slides) t (g.catalog old.sources)))
 
 -- bytes are held that weren't, and nothing else changed
 pub silent_fill : {S R : Type 0} (g : Ghosts S R) (old mid : EngineView S R) → IsReady old → IsRead g old mid
-    → Fills (g.tells old.sources) g.unread fill.Held (inner_buffer old.files.include_stack) (inner_buffer mid.files.include_stack) → SourcesCalled g false false old.sources mid.sources → IsSilent g 1 old mid
+    → Fills (g.has_known_texts old.sources) g.unread fill.Held (inner_buffer old.files.include_stack) (inner_buffer mid.files.include_stack) → SourcesCalled g false false old.sources mid.sources → IsSilent g 1 old mid
 silent_fill {S} {R} g old mid ready r fills call =
     let b = inner_buffer mid.files.include_stack in
     let limits : mid.limits ≡ old.limits = ap (λ e. e.limits) r.becomes in
@@ -496,7 +496,7 @@ silent_fill {S} {R} g old mid ready r fills call =
       stays = ap (λ e. e.phase) r.becomes ∙ ready.open_;
       call = call;
       text = λ t. read_text g old mid ready.pending ready.idle r call.catalog
-          (include_stack_filled old.limits (run_rules g old) g.unread old.table.macros old.conditions (g.tells old.sources) t old.files.include_stack b fills);
+          (include_stack_filled old.limits (run_rules g old) g.unread old.table.macros old.conditions (g.has_known_texts old.sources) t old.files.include_stack b fills);
       work = (let same : work_left mid ≡ work_left old = work_same old mid b limits pending (ap (λ e. e.expansion) r.becomes) include_stack fills.unused in omega arith);
       keeps = filled_stores g old mid ready r fills call;
       reaches = reaches_one g old mid (record { after = mid; place = None; stands = Nowhere refl (InSources ready.idle (ap (λ e. e.expansion) r.becomes) (Unmarked (ap (λ e. e.marks) r.becomes))); becomes = refl });
@@ -539,45 +539,45 @@ module _ {S R : Type 0} (g : Ghosts S R) (e : EngineView S R) where
       include_stack_refused e.limits (run_rules g e) g.unread e.table.macros e.conditions live e.files.include_stack kind some (inner_facts e.files ready.include_stack ready.files).ends refused
 
 -- what remains where a line breaks the source
-module _ {S R : Type 0} (g : Ghosts S R) (old mid : EngineView S R) (ready : IsReady old) (t : g.tells old.sources) where
-  pub left_long_line : Fills (g.tells old.sources) g.unread fill.LineLong (inner_buffer old.files.include_stack) (inner_buffer mid.files.include_stack)
+module _ {S R : Type 0} (g : Ghosts S R) (old mid : EngineView S R) (ready : IsReady old) (t : g.has_known_texts old.sources) where
+  pub left_long_line : Fills (g.has_known_texts old.sources) g.unread fill.LineLong (inner_buffer old.files.include_stack) (inner_buffer mid.files.include_stack)
       → left_by g old old.table.macros old.conditions old.files.include_stack ≡ leaves (fails (fault_at fault.LineTooLong (inner_buffer mid.files.include_stack).line [] (state_of old))) (state_of old)
   unfolding state_of
   left_long_line fills =
-      include_stack_long_line old.limits (run_rules g old) g.unread old.table.macros old.conditions (g.tells old.sources) t old.files.include_stack (inner_buffer mid.files.include_stack) ready.include_stack fills
+      include_stack_long_line old.limits (run_rules g old) g.unread old.table.macros old.conditions (g.has_known_texts old.sources) t old.files.include_stack (inner_buffer mid.files.include_stack) ready.include_stack fills
       ∙ rw fills.line refl
 
-  pub left_long_source : Fills (g.tells old.sources) g.unread fill.SourceLong (inner_buffer old.files.include_stack) (inner_buffer mid.files.include_stack)
+  pub left_long_source : Fills (g.has_known_texts old.sources) g.unread fill.SourceLong (inner_buffer old.files.include_stack) (inner_buffer mid.files.include_stack)
       → left_by g old old.table.macros old.conditions old.files.include_stack ≡ leaves (fails (fault_at fault.SourceTooLong (inner_buffer mid.files.include_stack).line [] (state_of old))) (state_of old)
   unfolding state_of
   left_long_source fills =
-      include_stack_long_source old.limits (run_rules g old) g.unread old.table.macros old.conditions (g.tells old.sources) t old.files.include_stack (inner_buffer mid.files.include_stack) ready.include_stack fills
+      include_stack_long_source old.limits (run_rules g old) g.unread old.table.macros old.conditions (g.has_known_texts old.sources) t old.files.include_stack (inner_buffer mid.files.include_stack) ready.include_stack fills
       ∙ rw fills.line refl
 
   -- where a read fails the same remains
-  pub left_unfilled : Fills (g.tells old.sources) g.unread fill.Failed (inner_buffer old.files.include_stack) (inner_buffer mid.files.include_stack)
+  pub left_unfilled : Fills (g.has_known_texts old.sources) g.unread fill.Failed (inner_buffer old.files.include_stack) (inner_buffer mid.files.include_stack)
       → left_by g old old.table.macros old.conditions old.files.include_stack ≡ left_by g old old.table.macros old.conditions (with_buffer (inner_buffer mid.files.include_stack) old.files.include_stack)
-  left_unfilled fills = include_stack_unfilled old.limits (run_rules g old) g.unread old.table.macros old.conditions (g.tells old.sources) t old.files.include_stack (inner_buffer mid.files.include_stack) fills
+  left_unfilled fills = include_stack_unfilled old.limits (run_rules g old) g.unread old.table.macros old.conditions (g.has_known_texts old.sources) t old.files.include_stack (inner_buffer mid.files.include_stack) fills
 
-  pub left_unheld : HoldsLine (g.tells old.sources) g.unread line.Failed (inner_buffer old.files.include_stack) (inner_buffer mid.files.include_stack)
+  pub left_unheld : HoldsLine (g.has_known_texts old.sources) g.unread line.Failed (inner_buffer old.files.include_stack) (inner_buffer mid.files.include_stack)
       → left_by g old old.table.macros old.conditions old.files.include_stack ≡ left_by g old old.table.macros old.conditions (with_buffer (inner_buffer mid.files.include_stack) old.files.include_stack)
-  left_unheld holds = include_stack_unheld old.limits (run_rules g old) g.unread old.table.macros old.conditions (g.tells old.sources) t old.files.include_stack (inner_buffer mid.files.include_stack) holds
+  left_unheld holds = include_stack_unheld old.limits (run_rules g old) g.unread old.table.macros old.conditions (g.has_known_texts old.sources) t old.files.include_stack (inner_buffer mid.files.include_stack) holds
 
   -- or the logical line of a `define` does
   module _ (live : old.conditions.skipped ≡ None) (some : 0 < length (held_of (inner_buffer old.files.include_stack))) (plain : (inner_buffer old.files.include_stack).mode ≡ Plain) (define : IsDirective Define (held_of (inner_buffer old.files.include_stack))) where
-    pub left_long_define : HoldsLine (g.tells old.sources) g.unread line.TooLong (inner_buffer old.files.include_stack) (inner_buffer mid.files.include_stack)
+    pub left_long_define : HoldsLine (g.has_known_texts old.sources) g.unread line.TooLong (inner_buffer old.files.include_stack) (inner_buffer mid.files.include_stack)
         → left_by g old old.table.macros old.conditions old.files.include_stack ≡ leaves (fails (fault_at fault.LineTooLong (inner_buffer mid.files.include_stack).line [] (state_of old))) (state_of old)
     unfolding state_of
     left_long_define holds =
-        include_stack_long_define old.limits (run_rules g old) g.unread old.table.macros old.conditions live (g.tells old.sources) t old.files.include_stack (inner_buffer mid.files.include_stack)
+        include_stack_long_define old.limits (run_rules g old) g.unread old.table.macros old.conditions live (g.has_known_texts old.sources) t old.files.include_stack (inner_buffer mid.files.include_stack)
         some (inner_facts old.files ready.include_stack ready.files).ends plain define holds
         ∙ rw holds.extends.line refl
 
-    pub left_cut_define : HoldsLine (g.tells old.sources) g.unread line.SourceLong (inner_buffer old.files.include_stack) (inner_buffer mid.files.include_stack)
+    pub left_cut_define : HoldsLine (g.has_known_texts old.sources) g.unread line.SourceLong (inner_buffer old.files.include_stack) (inner_buffer mid.files.include_stack)
         → left_by g old old.table.macros old.conditions old.files.include_stack ≡ leaves (fails (fault_at fault.SourceTooLong (inner_buffer mid.files.include_stack).line [] (state_of old))) (state_of old)
     unfolding state_of
     left_cut_define holds =
-        include_stack_cut_define old.limits (run_rules g old) g.unread old.table.macros old.conditions live (g.tells old.sources) t old.files.include_stack (inner_buffer mid.files.include_stack)
+        include_stack_cut_define old.limits (run_rules g old) g.unread old.table.macros old.conditions live (g.has_known_texts old.sources) t old.files.include_stack (inner_buffer mid.files.include_stack)
         some (inner_facts old.files ready.include_stack ready.files).ends plain define holds
         ∙ rw holds.extends.line refl
 

@@ -348,10 +348,10 @@ module _ {R : Type 0} (limits : Limits) (rules : Rules) (unread : R → List ℕ
           at_live f outer _ (undef_refused_left rules unread (around f outer) (own_conditions f.conditions_below v) f (include_stack_state limits macros v (f ∷ outer)) given len
           (record { some = some; ends = ends }) plain begins kind word faulty)
 
-      module _ (tells : Type 0) (t : tells) where
+      module _ (has_known_texts : Type 0) (t : has_known_texts) where
         -- a `define` that is accepted
         pub include_stack_defined : (include_stack : List (File R)) (new : BufferView R) (len lines : ℕ) (now : List Macro) → 0 < length (held_of (inner_buffer include_stack)) → EndsHeld (inner_buffer include_stack)
-            → (inner_buffer include_stack).mode ≡ Plain → IsDirective Define (held_of (inner_buffer include_stack)) → HoldsLine tells unread (line.Whole len) (inner_buffer include_stack) new
+            → (inner_buffer include_stack).mode ≡ Plain → IsDirective Define (held_of (inner_buffer include_stack)) → HoldsLine has_known_texts unread (line.Whole len) (inner_buffer include_stack) new
             → rules.define macros (drop 7 (take len (held_of new))) ≡ Accepted now → lines ≡ line_ends (take len (held_of new))
             → include_stack_left limits rules unread macros v include_stack
             ≡ behind_bytes (line_ends_of (take len (held_of new))) (include_stack_left limits rules unread now v (with_inner (consumed_file len lines) (with_buffer new include_stack)))
@@ -361,101 +361,101 @@ module _ {R : Type 0} (limits : Limits) (rules : Rules) (unread : R → List ℕ
             let h : HoldsFront f.buffer = record { some = some; ends = ends } in
             let held = with_file_buffer new f in
             moved_live f (consumed_file len lines held) outer now _
-            (define_left rules unread (around f outer) (own_conditions f.conditions_below v) f (include_stack_state limits macros v (f ∷ outer)) tells new len lines now
+            (define_left rules unread (around f outer) (own_conditions f.conditions_below v) f (include_stack_state limits macros v (f ∷ outer)) has_known_texts new len lines now
             holds t plain (holds_define unread f h define) accepted counted)
             (ends_mid_line_consumed unread held len lines ∙ ap (ends_mid_line_after f.ends_mid_line) (holds.text (λ e. cc) t)) refl refl
 
         -- a `define` that is refused
         pub include_stack_refused_define : (include_stack : List (File R)) (new : BufferView R) (len : ℕ) (kind : FaultKind) (word : List ℕ) → 0 < length (held_of (inner_buffer include_stack)) → EndsHeld (inner_buffer include_stack)
-            → (inner_buffer include_stack).mode ≡ Plain → IsDirective Define (held_of (inner_buffer include_stack)) → HoldsLine tells unread (line.Whole len) (inner_buffer include_stack) new
+            → (inner_buffer include_stack).mode ≡ Plain → IsDirective Define (held_of (inner_buffer include_stack)) → HoldsLine has_known_texts unread (line.Whole len) (inner_buffer include_stack) new
             → rules.define macros (drop 7 (take len (held_of new))) ≡ DefinitionFault kind word
             → include_stack_left limits rules unread macros v include_stack ≡ leaves (fails (fault_at kind (inner_buffer include_stack).line word (include_stack_state limits macros v include_stack))) (include_stack_state limits macros v include_stack)
         unfolding include_stack_left include_stack_state file_state
         include_stack_refused_define [] new len kind word some ends plain define holds refused = absurd (none_held R some)
         include_stack_refused_define (f ∷ outer) new len kind word some ends plain define holds refused =
             let h : HoldsFront f.buffer = record { some = some; ends = ends } in
-            at_live f outer _ (define_refused_left rules unread (around f outer) (own_conditions f.conditions_below v) f (include_stack_state limits macros v (f ∷ outer)) tells new len kind word
+            at_live f outer _ (define_refused_left rules unread (around f outer) (own_conditions f.conditions_below v) f (include_stack_state limits macros v (f ∷ outer)) has_known_texts new len kind word
             holds t plain (holds_define unread f h define) refused)
 
         -- a `define` that is too long
         pub include_stack_long_define : (include_stack : List (File R)) (new : BufferView R) → 0 < length (held_of (inner_buffer include_stack)) → EndsHeld (inner_buffer include_stack)
-            → (inner_buffer include_stack).mode ≡ Plain → IsDirective Define (held_of (inner_buffer include_stack)) → HoldsLine tells unread line.TooLong (inner_buffer include_stack) new
+            → (inner_buffer include_stack).mode ≡ Plain → IsDirective Define (held_of (inner_buffer include_stack)) → HoldsLine has_known_texts unread line.TooLong (inner_buffer include_stack) new
             → include_stack_left limits rules unread macros v include_stack ≡ leaves (fails (fault_at fault.LineTooLong (inner_buffer include_stack).line [] (include_stack_state limits macros v include_stack))) (include_stack_state limits macros v include_stack)
         unfolding include_stack_left
         include_stack_long_define [] new some ends plain define holds = absurd (none_held R some)
         include_stack_long_define (f ∷ outer) new some ends plain define holds =
             let h : HoldsFront f.buffer = record { some = some; ends = ends } in
-            at_live f outer _ (define_long_left rules unread (around f outer) (own_conditions f.conditions_below v) f (include_stack_state limits macros v (f ∷ outer)) tells new
+            at_live f outer _ (define_long_left rules unread (around f outer) (own_conditions f.conditions_below v) f (include_stack_state limits macros v (f ∷ outer)) has_known_texts new
             holds t plain (holds_define unread f h define))
 
         -- a `define` that its source's limit cuts
         pub include_stack_cut_define : (include_stack : List (File R)) (new : BufferView R) → 0 < length (held_of (inner_buffer include_stack)) → EndsHeld (inner_buffer include_stack)
-            → (inner_buffer include_stack).mode ≡ Plain → IsDirective Define (held_of (inner_buffer include_stack)) → HoldsLine tells unread line.SourceLong (inner_buffer include_stack) new
+            → (inner_buffer include_stack).mode ≡ Plain → IsDirective Define (held_of (inner_buffer include_stack)) → HoldsLine has_known_texts unread line.SourceLong (inner_buffer include_stack) new
             → include_stack_left limits rules unread macros v include_stack ≡ leaves (fails (fault_at fault.SourceTooLong (inner_buffer include_stack).line [] (include_stack_state limits macros v include_stack))) (include_stack_state limits macros v include_stack)
         unfolding include_stack_left
         include_stack_cut_define [] new some ends plain define holds = absurd (none_held R some)
         include_stack_cut_define (f ∷ outer) new some ends plain define holds =
             let h : HoldsFront f.buffer = record { some = some; ends = ends } in
-            at_live f outer _ (define_cut_left rules unread (around f outer) (own_conditions f.conditions_below v) f (include_stack_state limits macros v (f ∷ outer)) tells new
+            at_live f outer _ (define_cut_left rules unread (around f outer) (own_conditions f.conditions_below v) f (include_stack_state limits macros v (f ∷ outer)) has_known_texts new
             holds t plain (holds_define unread f h define))
 
-    module _ (tells : Type 0) (t : tells) where
+    module _ (has_known_texts : Type 0) (t : has_known_texts) where
       -- bytes are held that weren't
-      pub include_stack_filled : (include_stack : List (File R)) (new : BufferView R) → Fills tells unread fill.Held (inner_buffer include_stack) new
+      pub include_stack_filled : (include_stack : List (File R)) (new : BufferView R) → Fills has_known_texts unread fill.Held (inner_buffer include_stack) new
           → include_stack_left limits rules unread macros v include_stack ≡ include_stack_left limits rules unread macros v (with_buffer new include_stack)
       unfolding include_stack_state file_state behind_bytes
       include_stack_filled [] new fills = refl
       include_stack_filled (f ∷ outer) new fills =
           moved f (with_file_buffer new f) outer macros []
-          (sym (filled_left rules unread (around f outer) f (include_stack_state limits macros v (f ∷ outer)) tells (place_of f.conditions_below v) new fill.Held fills t (inl refl)))
+          (sym (filled_left rules unread (around f outer) f (include_stack_state limits macros v (f ∷ outer)) has_known_texts (place_of f.conditions_below v) new fill.Held fills t (inl refl)))
           (ap (ends_mid_line_after f.ends_mid_line) (fills.text (λ e. cc) t)) refl refl
 
       -- a read failed where bytes were to be filled in
-      pub include_stack_unfilled : (include_stack : List (File R)) (new : BufferView R) → Fills tells unread fill.Failed (inner_buffer include_stack) new
+      pub include_stack_unfilled : (include_stack : List (File R)) (new : BufferView R) → Fills has_known_texts unread fill.Failed (inner_buffer include_stack) new
           → include_stack_left limits rules unread macros v include_stack ≡ include_stack_left limits rules unread macros v (with_buffer new include_stack)
       unfolding include_stack_state file_state behind_bytes
       include_stack_unfilled [] new fills = refl
       include_stack_unfilled (f ∷ outer) new fills =
           moved f (with_file_buffer new f) outer macros []
-          (sym (filled_left rules unread (around f outer) f (include_stack_state limits macros v (f ∷ outer)) tells (place_of f.conditions_below v) new fill.Failed fills t (inr refl)))
+          (sym (filled_left rules unread (around f outer) f (include_stack_state limits macros v (f ∷ outer)) has_known_texts (place_of f.conditions_below v) new fill.Failed fills t (inr refl)))
           (ap (ends_mid_line_after f.ends_mid_line) (fills.text (λ e. cc) t)) refl refl
 
       -- or where a logical line was to be taken in
-      pub include_stack_unheld : (include_stack : List (File R)) (new : BufferView R) → HoldsLine tells unread line.Failed (inner_buffer include_stack) new
+      pub include_stack_unheld : (include_stack : List (File R)) (new : BufferView R) → HoldsLine has_known_texts unread line.Failed (inner_buffer include_stack) new
           → include_stack_left limits rules unread macros v include_stack ≡ include_stack_left limits rules unread macros v (with_buffer new include_stack)
       unfolding include_stack_state file_state behind_bytes
       include_stack_unheld [] new holds = refl
       include_stack_unheld (f ∷ outer) new holds =
           moved f (with_file_buffer new f) outer macros []
-          (sym (held_left rules unread (around f outer) f (include_stack_state limits macros v (f ∷ outer)) tells (place_of f.conditions_below v) new line.Failed holds t (inr refl)))
+          (sym (held_left rules unread (around f outer) f (include_stack_state limits macros v (f ∷ outer)) has_known_texts (place_of f.conditions_below v) new line.Failed holds t (inr refl)))
           (ap (ends_mid_line_after f.ends_mid_line) (holds.text (λ e. cc) t)) refl refl
 
       -- a line that is too long
-      pub include_stack_long_line : (include_stack : List (File R)) (new : BufferView R) → 0 < length include_stack → Fills tells unread fill.LineLong (inner_buffer include_stack) new
+      pub include_stack_long_line : (include_stack : List (File R)) (new : BufferView R) → 0 < length include_stack → Fills has_known_texts unread fill.LineLong (inner_buffer include_stack) new
           → include_stack_left limits rules unread macros v include_stack ≡ leaves (fails (fault_at fault.LineTooLong (inner_buffer include_stack).line [] (include_stack_state limits macros v include_stack))) (include_stack_state limits macros v include_stack)
       unfolding breach_kind
       include_stack_long_line include_stack new some fills = include_stack_broken include_stack breach.LineLong (inner_buffer include_stack).line some (fills.tokens t)
 
       -- a line with which the source is too long
-      pub include_stack_long_source : (include_stack : List (File R)) (new : BufferView R) → 0 < length include_stack → Fills tells unread fill.SourceLong (inner_buffer include_stack) new
+      pub include_stack_long_source : (include_stack : List (File R)) (new : BufferView R) → 0 < length include_stack → Fills has_known_texts unread fill.SourceLong (inner_buffer include_stack) new
           → include_stack_left limits rules unread macros v include_stack ≡ leaves (fails (fault_at fault.SourceTooLong (inner_buffer include_stack).line [] (include_stack_state limits macros v include_stack))) (include_stack_state limits macros v include_stack)
       unfolding breach_kind
       include_stack_long_source include_stack new some fills = include_stack_broken include_stack breach.SourceLong (inner_buffer include_stack).line some (fills.tokens t)
 
       -- a string or a comment that isn't closed where the text ends
-      pub include_stack_open : (include_stack : List (File R)) (new : BufferView R) (b : Breach) → 0 < length include_stack → Fills tells unread fill.End (inner_buffer include_stack) new
+      pub include_stack_open : (include_stack : List (File R)) (new : BufferView R) (b : Breach) → 0 < length include_stack → Fills has_known_texts unread fill.End (inner_buffer include_stack) new
           → ended_tokens (inner_buffer include_stack).mode (inner_buffer include_stack).open_token_line ≡ only_broken b (inner_buffer include_stack).open_token_line
           → include_stack_left limits rules unread macros v include_stack ≡ leaves (fails (fault_at (breach_kind b) (inner_buffer include_stack).open_token_line [] (include_stack_state limits macros v include_stack))) (include_stack_state limits macros v include_stack)
       include_stack_open include_stack new b some fills tokens = include_stack_broken include_stack b (inner_buffer include_stack).open_token_line some (fills.tokens t ∙ tokens)
 
       -- the end of the only open source, in which no conditional is open
-      pub include_stack_ended : (include_stack : List (File R)) (new : BufferView R) → 0 < length include_stack → length include_stack ≤ 1 → length v.open_now ≡ inner_below include_stack → Fills tells unread fill.End (inner_buffer include_stack) new → (inner_buffer include_stack).mode ≡ Plain
+      pub include_stack_ended : (include_stack : List (File R)) (new : BufferView R) → 0 < length include_stack → length include_stack ≤ 1 → length v.open_now ≡ inner_below include_stack → Fills has_known_texts unread fill.End (inner_buffer include_stack) new → (inner_buffer include_stack).mode ≡ Plain
           → include_stack_left limits rules unread macros v include_stack ≡ leaves (gives []) (include_stack_state limits macros v include_stack)
       unfolding include_stack_left waiting_around unwound
       include_stack_ended [] new some alone none fills plain = absurd (omega arith)
       include_stack_ended (f ∷ []) new some alone none fills plain =
           ap (λ (place : Place). source_left rules unread [] place f (include_stack_state limits macros v (f ∷ []))) (place_outside f.conditions_below v none)
-          ∙ ended_left rules unread [] f (include_stack_state limits macros v (f ∷ [])) tells new fills t plain
+          ∙ ended_left rules unread [] f (include_stack_state limits macros v (f ∷ [])) has_known_texts new fills t plain
       include_stack_ended (f ∷ g ∷ outer) new some alone none fills plain = absurd (omega arith)
 
 -- What remains of the open sources, as a directive of the innermost one opens, branches or closes a conditional.

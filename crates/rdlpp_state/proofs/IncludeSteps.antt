@@ -107,17 +107,17 @@ module _ {R : Type 0} (limits : Limits) (rules : Rules) (unread : R → List ℕ
       rw e (ap next (sym (live_place g.conditions_below v live)))
 
   -- an included source has ended: what is written behind it, and then what remains of the one around it, where it has no open conditional of its own
-  pub include_stack_returned : (tells : Type 0) (t : tells) (f g : File R) (outer : List (File R)) (new : BufferView R) → Fills tells unread fill.End f.buffer new → f.buffer.mode ≡ Plain
+  pub include_stack_returned : (has_known_texts : Type 0) (t : has_known_texts) (f g : File R) (outer : List (File R)) (new : BufferView R) → Fills has_known_texts unread fill.End f.buffer new → f.buffer.mode ≡ Plain
       → f.conditions_below ≡ length v.open_now
       → include_stack_left limits rules unread macros v (f ∷ g ∷ outer) ≡ behind_bytes (ending_behind rules unread f g) (include_stack_left limits rules unread macros v (g ∷ outer))
   unfolding include_stack_left
-  include_stack_returned tells t f g outer new fills plain own =
+  include_stack_returned has_known_texts t f g outer new fills plain own =
       let s = include_stack_state limits macros v (f ∷ g ∷ outer) in
       let os = outer_open f.conditions_below v.open_now in
       let ws = waiting_around limits rules unread os f (g ∷ outer) in
       let place : place_of f.conditions_below v ≡ Live [] = live_place f.conditions_below v live ∙ ap Live (none_own v f.conditions_below own) in
       ap (λ (here : OwnPlace). source_left rules unread ws here f s) place
-      ∙ (ended_left rules unread ws f s tells new fills t plain
+      ∙ (ended_left rules unread ws f s has_known_texts new fills t plain
       ∙ unwinds f g outer os (all_own v.open_now f.conditions_below own))
 
   -- a source as it is included: nothing of it is read, and the conditionals that are open are around it
@@ -334,7 +334,7 @@ read_sources {S} {R} g old mid becomes =
     record {
       becomes = becomes ∙ ap (λ (fs : FilesView R). record old { files = fs; sources = mid.sources }) (sym files);
       only = subst (λ (fs : FilesView R). fs ≡ record old.files { include_stack = with_buffer (inner_buffer fs.include_stack) old.files.include_stack }) (sym files) nothing.only;
-      moves = subst (λ (fs : FilesView R). Slides (g.tells old.sources) ⊥ g.unread (inner_buffer old.files.include_stack) (inner_buffer fs.include_stack)) (sym files) nothing.moves;
+      moves = subst (λ (fs : FilesView R). Slides (g.has_known_texts old.sources) ⊥ g.unread (inner_buffer old.files.include_stack) (inner_buffer fs.include_stack)) (sym files) nothing.moves;
     }
 
 -- an `include` behind which no string stands that closes on its line
@@ -360,7 +360,7 @@ module _ {S R : Type 0} (g : Ghosts S R) (old mid new : EngineView S R) (start s
 
   -- the text has a fault
   refuse_steps : (place : PieceLocation) → place ≡ Fault → (kind : FaultKind) → IsOwn kind → SourcesCalled g false false old.sources mid.sources → KeepsKind kind
-      → (g.tells old.sources → Fails g old kind (inner_buffer old.files.include_stack).line []) → UncutStep g old new (lent_answer new place)
+      → (g.has_known_texts old.sources → Fails g old kind (inner_buffer old.files.include_stack).line []) → UncutStep g old new (lent_answer new place)
   refuse_steps place is kind own call kept law =
       let keeps : FilesView R → EngineView S R = λ fs. record mid { kept = Some (fault_at kind (inner_buffer fs.include_stack).line [] (state_of mid)) } in
       refuses g old mid new place kind (inner_buffer old.files.include_stack).line [] ready (read_sources g old mid becomes) bounded is (kept ∙ ap keeps same_files) own call law
@@ -452,14 +452,14 @@ module _ {S R : Type 0} (g : Ghosts S R) (old mid new : EngineView S R) (start s
 
 -- a search that was made
 pub searches_by : {S R : Type 0} (g : Ghosts S R) (e : EngineView S R) (from given name : List ℕ) (new : S) (answer : Result (Found R) SourceFault) → given ≡ name → from ≡ inner_path e.files.include_stack
-    → is_bad_name name ≡ false → length e.files.include_stack < e.files.slots → (g.tells e.sources → Finds g.unread ((g.catalog e.sources).find from given) answer)
-    → Counts (is_device answer) (g.failures e.sources) (g.failures new) → Counts (is_no_memory answer) (g.refusals e.sources) (g.refusals new) → (g.tells e.sources → g.tells new) → g.catalog new ≡ g.catalog e.sources
+    → is_bad_name name ≡ false → length e.files.include_stack < e.files.slots → (g.has_known_texts e.sources → Finds g.unread ((g.catalog e.sources).find from given) answer)
+    → Counts (is_device answer) (g.failures e.sources) (g.failures new) → Counts (is_no_memory answer) (g.refusals e.sources) (g.refusals new) → (g.has_known_texts e.sources → g.has_known_texts new) → g.catalog new ≡ g.catalog e.sources
     → Searches g e name new answer
-searches_by {S} {R} g e from given name new answer same path good room answers failures refusals tells catalog = record {
+searches_by {S} {R} g e from given name new answer same path good room answers failures refusals has_known_texts catalog = record {
   name_good = good;
   room = room;
   answers = λ t. rw (← same, ← path) (answers t);
-  call = record { failures = failures; refusals = refusals; tells = tells; catalog = catalog };
+  call = record { failures = failures; refusals = refusals; has_known_texts = has_known_texts; catalog = catalog };
 }
 
 -- a source that was opened behind an `include` that was used
@@ -510,16 +510,16 @@ ending_of rules (f ∷ []) = []
 ending_of rules (f ∷ around ∷ outer) = (if f.ends_mid_line then 10 ∷ [] else []) ++ origin_line rules around.name.bytes (shown_line (shift_of around.shift) f.include_line)
 
 -- where an included source has ended, the one around it goes on
-include_stack_back : {R : Type 0} (limits : Limits) (rules : Rules) (unread : R → List ℕ) (macros : List Macro) (v : ConditionsView) (live : v.skipped ≡ None) (tells : Type 0) (t : tells)
-    (include_stack : List (File R)) (new : BufferView R) → 1 < length include_stack → length v.open_now ≡ inner_below include_stack → Fills tells unread fill.End (inner_buffer include_stack) new → (inner_buffer include_stack).mode ≡ Plain
+include_stack_back : {R : Type 0} (limits : Limits) (rules : Rules) (unread : R → List ℕ) (macros : List Macro) (v : ConditionsView) (live : v.skipped ≡ None) (has_known_texts : Type 0) (t : has_known_texts)
+    (include_stack : List (File R)) (new : BufferView R) → 1 < length include_stack → length v.open_now ≡ inner_below include_stack → Fills has_known_texts unread fill.End (inner_buffer include_stack) new → (inner_buffer include_stack).mode ≡ Plain
     → include_stack_left limits rules unread macros v include_stack ≡ behind_bytes (ending_of rules include_stack) (include_stack_left limits rules unread macros v (drop 1 include_stack))
 unfolding ending_behind ending_of ends_mid_line_after
-include_stack_back limits rules unread macros v live tells t [] new inner ended fills plain = absurd (omega arith)
-include_stack_back limits rules unread macros v live tells t (f ∷ []) new inner ended fills plain = absurd (omega arith)
-include_stack_back limits rules unread macros v live tells t (f ∷ around ∷ outer) new inner ended fills plain =
-    include_stack_returned limits rules unread macros v live tells t f around outer new fills plain (sym ended)
+include_stack_back limits rules unread macros v live has_known_texts t [] new inner ended fills plain = absurd (omega arith)
+include_stack_back limits rules unread macros v live has_known_texts t (f ∷ []) new inner ended fills plain = absurd (omega arith)
+include_stack_back limits rules unread macros v live has_known_texts t (f ∷ around ∷ outer) new inner ended fills plain =
+    include_stack_returned limits rules unread macros v live has_known_texts t f around outer new fills plain (sym ended)
     ∙ ap (λ (x : List ℕ). behind_bytes ((if ends_mid_line_after f.ends_mid_line x then 10 ∷ [] else []) ++ origin_line rules around.name.bytes (shown_line (shift_of around.shift) f.include_line))
-    (include_stack_left limits rules unread macros v (around ∷ outer))) (ended-text tells unread f.buffer new fills t)
+    (include_stack_left limits rules unread macros v (around ∷ outer))) (ended-text has_known_texts unread f.buffer new fills t)
 
 -- what is pending is that
 pending_ending : {R : Type 0} (c : Catalog) (limits : Limits) (origins : Bool) (include_stack : List (File R)) → 1 < length include_stack
@@ -561,7 +561,7 @@ drop_same b (f ∷ outer) = refl
 
 -- the end of the innermost source
 module _ {S R : Type 0} (g : Ghosts S R) (old mid new : EngineView S R) (ready : IsReady old) (r : IsRead g old mid) (bounded : IsBounded new)
-    (fills : Fills (g.tells old.sources) g.unread fill.End (inner_buffer old.files.include_stack) (inner_buffer mid.files.include_stack))
+    (fills : Fills (g.has_known_texts old.sources) g.unread fill.End (inner_buffer old.files.include_stack) (inner_buffer mid.files.include_stack))
     (call : SourcesCalled g false false old.sources mid.sources) where
   -- the same conditionals are open, and around the innermost source
   same_below : inner_below mid.files.include_stack ≡ inner_below old.files.include_stack
@@ -597,7 +597,7 @@ module _ {S R : Type 0} (g : Ghosts S R) (old mid new : EngineView S R) (ready :
       (λ t. record {
         last = include_stack_state old.limits old.table.macros old.conditions old.files.include_stack;
         text = text_drained g old ready.pending ready.idle
-            ∙ include_stack_ended old.limits (run_rules g old) g.unread old.table.macros old.conditions (g.tells old.sources) t old.files.include_stack (inner_buffer mid.files.include_stack)
+            ∙ include_stack_ended old.limits (run_rules g old) g.unread old.table.macros old.conditions (g.has_known_texts old.sources) t old.files.include_stack (inner_buffer mid.files.include_stack)
             ready.include_stack one (same_ended c.ended) fills (sym fills.mode ∙ plain);
         macros = include_stack_macros old.limits old.table.macros old.conditions old.files.include_stack ∙ ap (λ t. t.macros) (sym table);
         closed = ap (λ e. e.files.include_stack) becomes;
@@ -611,7 +611,7 @@ module _ {S R : Type 0} (g : Ghosts S R) (old mid new : EngineView S R) (ready :
       let tokens : ended_tokens before.mode before.open_token_line ≡ ended_tokens b.mode b.open_token_line =
       rw (fills.mode, fills.open_token_line) refl in
       refuses g old mid new Fault (breach_kind stops.breach) b.open_token_line [] ready r bounded refl stops.kept stops.own call
-      (λ t. include_stack_open old.limits (run_rules g old) g.unread old.table.macros old.conditions (g.tells old.sources) t old.files.include_stack b stops.breach ready.include_stack fills
+      (λ t. include_stack_open old.limits (run_rules g old) g.unread old.table.macros old.conditions (g.has_known_texts old.sources) t old.files.include_stack b stops.breach ready.include_stack fills
       (tokens ∙ (stops.tokens ∙ ap (only_broken stops.breach) fills.open_token_line))
       ∙ rw fills.open_token_line refl)
 
@@ -622,7 +622,7 @@ module _ {S R : Type 0} (g : Ghosts S R) (old mid new : EngineView S R) (ready :
       let below = stops.below in
       let same = same_below in
       refuses_by g old mid new Fault (unclosed_fault o.line) (λ s. (own_kind _ refl)) ready r bounded refl stops.kept call
-      (λ t. unclosed_at old.limits (run_rules g old) g.unread old.table.macros old.conditions (g.tells old.sources) t old.files.include_stack (inner_buffer mid.files.include_stack) o stops.around ready.include_stack
+      (λ t. unclosed_at old.limits (run_rules g old) g.unread old.table.macros old.conditions (g.has_known_texts old.sources) t old.files.include_stack (inner_buffer mid.files.include_stack) o stops.around ready.include_stack
       (sym (ap (λ (v : ConditionsView). v.open_now) same_open) ∙ stops.is_open) (omega arith) fills (sym fills.mode ∙ stops.plain))
 
   -- an included source has ended: the one around it goes on
@@ -647,7 +647,7 @@ module _ {S R : Type 0} (g : Ghosts S R) (old mid new : EngineView S R) (ready :
       subst (λ (e : EngineView S R). UncutStep g old e (Ok (Some []))) (sym becomes)
       (lends_by g old ready [] pending marks old.table.macros old.conditions (drop 1 before) mid.sources (subst IsBounded becomes bounded)
       (left_falls old (by pending marks (drop 1 before)) refl ready.idle ready.idle refl ready.include_stack (omega arith) (pending_behind-few old.origins before)) call
-      (λ t. include_stack_back old.limits (run_rules g old) g.unread old.table.macros old.conditions live (g.tells old.sources) t before b inner ended fills (sym fills.mode ∙ back.mode)
+      (λ t. include_stack_back old.limits (run_rules g old) g.unread old.table.macros old.conditions live (g.has_known_texts old.sources) t before b inner ended fills (sym fills.mode ∙ back.mode)
       ∙ ap (λ (x : List ℕ). behind_bytes x (left_by g old old.table.macros old.conditions (drop 1 before))) (sym (pending_ending (g.catalog old.sources) old.limits old.origins before inner)))
       (λ t. parts_around g.unread before (g.catalog old.sources)) (Nowhere refl (InSources ready.idle refl (BehindSource refl))))
 

@@ -358,7 +358,7 @@ module _ {S R : Type 0} (g : Ghosts S R) (old new : EngineView S R) where
     ends = w.ends;
     failed = w.failed;
     call = w.call;
-    tells = λ own t. (let told = w.tells own t in (tells_end _ _ _ told.0, tells_end _ _ _ told.1));
+    answers = λ own t. (let told = w.answers own t in (tells_end _ _ _ told.0, tells_end _ _ _ told.1));
     text = w.text;
     reads = w.reads;
     halts = w.halts;
@@ -389,7 +389,7 @@ module _ {S R : Type 0} (g : Ghosts S R) (old new : EngineView S R) where
     ends = w.ends;
     failed = w.failed;
     call = w.call;
-    tells = λ own t. ap (limited (output_fault old.main) old.quota) (w.tells own t) ∙ limited-fails (output_fault old.main) old.quota f;
+    answers = λ own t. ap (limited (output_fault old.main) old.quota) (w.answers own t) ∙ limited-fails (output_fault old.main) old.quota f;
     text = w.text;
     reads = w.reads;
     halts = w.halts;
@@ -448,15 +448,15 @@ module _ {S R : Type 0} (g : Ghosts S R) (old mid new : EngineView S R) (xs : Li
   free_old : old.kept ≡ None
   free_old = free_before g (uncut_of g) no_len all_of may_follow old mid old.kept (Some xs) refl w
 
-  uncut_tells : g.tells old.sources → uncut_of g old ≡ and_then (gives xs) (uncut_of g mid)
-  uncut_tells t = w.tells (ok_not_met is_call_failed old.kept (Some xs)) t
+  uncut_tells : g.has_known_texts old.sources → uncut_of g old ≡ and_then (gives xs) (uncut_of g mid)
+  uncut_tells t = w.answers (ok_not_met is_call_failed old.kept (Some xs)) t
 
   -- a walk that lent bytes, and then only what may be lent and how far the engine is changed
   lent_step : (ys : List ℕ) → new ≡ record mid { phase = new.phase; quota = new.quota } → (new.phase ≡ Fresh → ⊥) → is_open new.phase ≡ true
-      → (g.tells old.sources → left_of g old ≡ and_then (gives ys) (left_of g new)) → ys ≡ take old.quota xs → new.quota + length ys ≡ old.quota
+      → (g.has_known_texts old.sources → left_of g old ≡ and_then (gives ys) (left_of g new)) → ys ≡ take old.quota xs → new.quota + length ys ≡ old.quota
       → Step g old new (Ok (Some ys))
   unfolding has_met lent_len all_of
-  lent_step ys becomes started opens tells part quota =
+  lent_step ys becomes started opens has_known_texts part quota =
       let limits : new.limits ≡ mid.limits = ap (λ e. e.limits) becomes in
       let sources : new.sources ≡ mid.sources = ap (λ e. e.sources) becomes in
       let none : has_met is_call_failed old.kept (Ok (Some xs)) ≡ false = ok_not_met is_call_failed old.kept (Some xs) in
@@ -474,7 +474,7 @@ module _ {S R : Type 0} (g : Ghosts S R) (old mid new : EngineView S R) (xs : Li
         ends = λ e. absurd (cc);
         failed = λ met. absurd (let no : false ≡ _ = rw free_old at met in cc);
         call = rw (free_old, sources) (rw free_old at w.call);
-        tells = λ own t. tells t;
+        answers = λ own t. has_known_texts t;
         text = λ free open_ own t.
             let piece = w.text free open_ none t in
             record {
@@ -505,7 +505,7 @@ module _ {S R : Type 0} (g : Ghosts S R) (old mid new : EngineView S R) (xs : Li
               stands = subst (λ (p : Option PlaceView). StandsIn g l.at l.after l.piece p) (sym (position_kept mid new becomes w.free (follows_open mid.phase (w.lends xs refl).1) opens)) l.stands;
             };
         lets_go = λ h. subst LetsGo (sym becomes) ((keeps_phase g mid new.phase new.quota w.free).lets_go (w.lets_go h));
-        stores = λ t h. subst (HoldsStores g) (sym becomes) ((keeps_phase g mid new.phase new.quota w.free).stores (w.call.tells t) (w.stores t h));
+        stores = λ t h. subst (HoldsStores g) (sym becomes) ((keeps_phase g mid new.phase new.quota w.free).stores (w.call.has_known_texts t) (w.stores t h));
       }
 
   -- the whole piece may be lent

@@ -341,14 +341,14 @@ pub starts_open : {S R : Type 0} (g : Ghosts S R) (e : EngineView S R) (s : S) (
     → e.conditions.open_now ≡ []
     → e.expansion.opens ≡ []
     → IsBounded (opened_engine (record e { sources = s }) path found)
-    → (g.tells e.sources → (g.catalog e.sources).top path ≡ Present found.path.bytes (g.unread found.reader))
+    → (g.has_known_texts e.sources → (g.catalog e.sources).top path ≡ Present found.path.bytes (g.unread found.reader))
     → g.failures s ≡ g.failures e.sources
     → g.refusals s ≡ g.refusals e.sources
-    → (g.tells e.sources → g.tells s)
+    → (g.has_known_texts e.sources → g.has_known_texts s)
     → g.catalog s ≡ g.catalog e.sources
     → Starts g e (opened_engine (record e { sources = s }) path found) path None
 unfolding opened_engine is_device_fault is_memory_fault lookup_of looked_up
-starts_open {S} {R} g e s found path most none unopened idle bounded answer failures refusals tells catalog = record {
+starts_open {S} {R} g e s found path most none unopened idle bounded answer failures refusals has_known_texts catalog = record {
   limits = refl;
   origins = refl;
   table = refl;
@@ -356,7 +356,7 @@ starts_open {S} {R} g e s found path most none unopened idle bounded answer fail
   keeps = refl;
   opens = λ _. record { found = found; becomes = refl; text = answer };
   refused = λ f is. absurd (cc is);
-  call = record { failures = failures; refusals = refusals; tells = tells; catalog = catalog };
+  call = record { failures = failures; refusals = refusals; has_known_texts = has_known_texts; catalog = catalog };
   remains_output = λ _ _ telling.
       left_opened g e s path found most none unopened idle catalog
       ∙ sym (found_output g e path _ (answer telling)
@@ -387,13 +387,13 @@ starts_refused : {S R : Type 0} (g : Ghosts S R) (e : EngineView S R) (s : S) (k
     → IsBounded e
     → Counts (is_read_failed kind) (g.failures e.sources) (g.failures s)
     → Counts (is_memory_kind kind) (g.refusals e.sources) (g.refusals s)
-    → (g.tells e.sources → g.tells s)
+    → (g.has_known_texts e.sources → g.has_known_texts s)
     → g.catalog s ≡ g.catalog e.sources
-    → (is_read_failed kind ≡ false → is_memory_kind kind ≡ false → g.tells e.sources
+    → (is_read_failed kind ≡ false → is_memory_kind kind ≡ false → g.has_known_texts e.sources
     → fails (opening_fault kind path) ≡ looked_up_output g e path)
     → Starts g e (unopened_engine (record e { sources = s }) (opening_fault kind path)) path (Some (opening_fault kind path))
 unfolding unopened_engine is_device_fault is_memory_fault opening_fault stores_of
-starts_refused {S} {R} g e s kind path own none idle bounded failures refusals tells catalog told = record {
+starts_refused {S} {R} g e s kind path own none idle bounded failures refusals has_known_texts catalog told = record {
   limits = refl;
   origins = refl;
   table = refl;
@@ -403,7 +403,7 @@ starts_refused {S} {R} g e s kind path own none idle bounded failures refusals t
   refused = λ f is.
       let same : opening_fault kind path ≡ f = cc is in
       (sym same ∙ ap (λ (t : Report). opening_fault t.kind path) same, ap (unopened_engine (record e { sources = s })) same);
-  call = record { failures = failures; refusals = refusals; tells = tells; catalog = catalog };
+  call = record { failures = failures; refusals = refusals; has_known_texts = has_known_texts; catalog = catalog };
   remains_output = λ device memory telling. left_unopened g e s kind path ∙ told device memory telling;
   bounded = record {
     bytes = bounded.bytes;
@@ -429,21 +429,21 @@ pub starts_not_found : {S R : Type 0} (g : Ghosts S R) (e : EngineView S R) (s :
     → e.files.include_stack ≡ []
     → e.expansion.opens ≡ []
     → IsBounded e
-    → (g.tells e.sources → Finds {R = R} g.unread ((g.catalog e.sources).top path) (Err fault))
+    → (g.has_known_texts e.sources → Finds {R = R} g.unread ((g.catalog e.sources).top path) (Err fault))
     → Counts (is_device {A = Found R} (Err fault)) (g.failures e.sources) (g.failures s)
     → Counts (is_no_memory {A = Found R} (Err fault)) (g.refusals e.sources) (g.refusals s)
-    → (g.tells e.sources → g.tells s)
+    → (g.has_known_texts e.sources → g.has_known_texts s)
     → g.catalog s ≡ g.catalog e.sources
     → Starts g e (unopened_engine (record e { sources = s }) (opening_fault (kind_of_source fault) path)) path
     (Some (opening_fault (kind_of_source fault) path))
 unfolding kind_of_source is_read_failed is_memory_kind is_opening_kind lookup_of
-starts_not_found g e s source.Absent path none idle bounded answer failures refusals tells catalog =
-    starts_refused g e s SourceNotFound path refl none idle bounded failures refusals tells catalog
+starts_not_found g e s source.Absent path none idle bounded answer failures refusals has_known_texts catalog =
+    starts_refused g e s SourceNotFound path refl none idle bounded failures refusals has_known_texts catalog
     (λ _ _ telling. sym (found_output g e path _ (answer telling) ∙ looked_up-fails g e path NoSource _ (output_missing _ _ _ _ _)))
-starts_not_found g e s source.PathTooLong path none idle bounded answer failures refusals tells catalog =
-    starts_refused g e s PathTooLong path refl none idle bounded failures refusals tells catalog
+starts_not_found g e s source.PathTooLong path none idle bounded answer failures refusals has_known_texts catalog =
+    starts_refused g e s PathTooLong path refl none idle bounded failures refusals has_known_texts catalog
     (λ _ _ telling. sym (found_output g e path _ (answer telling) ∙ looked_up-fails g e path LongPath _ (output_overlong _ _ _ _ _)))
-starts_not_found g e s source.Device path none idle bounded answer failures refusals tells catalog =
-    starts_refused g e s ReadFailed path refl none idle bounded failures refusals tells catalog (λ device _ _. cc)
-starts_not_found g e s source.NoMemory path none idle bounded answer failures refusals tells catalog =
-    starts_refused g e s SourceMemory path refl none idle bounded failures refusals tells catalog (λ _ memory _. cc)
+starts_not_found g e s source.Device path none idle bounded answer failures refusals has_known_texts catalog =
+    starts_refused g e s ReadFailed path refl none idle bounded failures refusals has_known_texts catalog (λ device _ _. cc)
+starts_not_found g e s source.NoMemory path none idle bounded answer failures refusals has_known_texts catalog =
+    starts_refused g e s SourceMemory path refl none idle bounded failures refusals has_known_texts catalog (λ _ memory _. cc)

@@ -394,24 +394,24 @@ module _ {R : Type 0} (limits : Limits) (rules : Rules) (unread : R → List ℕ
         (sym (waiting_same limits rules unread (outer_open f.conditions_below v.open_now) f g outer
         (ends_mid_line_consumed unread entered len (line_ends w) ∙ ap (ends_mid_line_after f.ends_mid_line) (text_entered unread f.buffer Plain)) refl))
 
-    module _ (tells : Type 0) (t : tells) (new : BufferView R) (fills : Fills tells unread fill.End f.buffer new) (plain : f.buffer.mode ≡ Plain) where
+    module _ (has_known_texts : Type 0) (t : has_known_texts) (new : BufferView R) (fills : Fills has_known_texts unread fill.End f.buffer new) (plain : f.buffer.mode ≡ Plain) where
       -- the source ends in a branch of a conditional of its own
       pub include_stack_unclosed : (live : Bool) → v.skipped ≡ skipped_by live
           → include_stack_left limits rules unread macros v (f ∷ outer) ≡ leaves (fails (fault_of_unclosed o)) here
       unfolding in_branch
       include_stack_unclosed true skips =
           fails_include_stack limits rules unread macros outer v f (in_branch true o own_conditionals) _ (place_inside f.conditions_below v true o os is_open below skips)
-          (unclosed_left rules unread waiting own_conditionals f here o tells new fills t plain)
+          (unclosed_left rules unread waiting own_conditionals f here o has_known_texts new fills t plain)
       include_stack_unclosed false skips =
           fails_include_stack limits rules unread macros outer v f (in_branch false o own_conditionals) _ (place_inside f.conditions_below v false o os is_open below skips)
-          (skipped_unclosed_left rules unread waiting o own_conditionals f here 0 tells new fills t plain)
+          (skipped_unclosed_left rules unread waiting o own_conditionals f here 0 has_known_texts new fills t plain)
 
       -- and so it is where more conditionals opened in skipped text
       pub include_stack_unclosed_inner : (n : ℕ) → v.skipped ≡ Some n
           → include_stack_left limits rules unread macros v (f ∷ outer) ≡ leaves (fails (fault_of_unclosed o)) here
       include_stack_unclosed_inner n skips =
           fails_include_stack limits rules unread macros outer v f (Skipped n o own_conditionals) _ (place_skipped f.conditions_below v n o os is_open below skips)
-          (skipped_unclosed_left rules unread waiting o own_conditionals f here n tells new fills t plain)
+          (skipped_unclosed_left rules unread waiting o own_conditionals f here n has_known_texts new fills t plain)
 
 -- What remains of the open sources behind skipped text that is passed in the innermost one, and where a conditional of its own is open
 -- at its end.
@@ -531,16 +531,16 @@ module _ {R : Type 0} (limits : Limits) (rules : Rules) (unread : R → List ℕ
       (subst (λ (m : ℕ). IncludeStackPasses (f ∷ outer) (take m held) (consumed_file m (line_ends (line_text held)) f ∷ outer)) (sym whole) all)
 
   -- a `define`
-  module _ (tells : Type 0) (t : tells) where
+  module _ (has_known_texts : Type 0) (t : has_known_texts) where
     pub passes_define : (include_stack : List (File R)) (new : BufferView R) (len lines : ℕ) → IsHeldFront include_stack → (inner_buffer include_stack).mode ≡ Plain → inner_below include_stack ≤ length os
-        → IsDirective Define (held_of (inner_buffer include_stack)) → HoldsLine tells unread (line.Whole len) (inner_buffer include_stack) new → lines ≡ line_ends (take len (held_of new))
+        → IsDirective Define (held_of (inner_buffer include_stack)) → HoldsLine has_known_texts unread (line.Whole len) (inner_buffer include_stack) new → lines ≡ line_ends (take len (held_of new))
         → IncludeStackPasses include_stack (take len (held_of new)) (with_inner (consumed_file len lines) (with_buffer new include_stack))
     unfolding include_stack_state file_state
     passes_define [] new len lines h plain below is holds counted = absurd (none_held R h.some)
     passes_define (f ∷ outer) new len lines h plain below is holds counted =
         let held = with_file_buffer new f in
         moved_skipped f (consumed_file len lines held) outer (line_ends_of (take len (held_of new))) below refl
-        (skipped_define_left rules unread (around f outer) n o (own f) f (include_stack_state limits macros v (f ∷ outer)) tells new len lines holds t plain
+        (skipped_define_left rules unread (around f outer) n o (own f) f (include_stack_state limits macros v (f ∷ outer)) has_known_texts new len lines holds t plain
         (holds_define unread f (holds_front f outer h) is) counted)
         (ends_mid_line_consumed unread held len lines ∙ ap (ends_mid_line_after f.ends_mid_line) (holds.text (λ e. cc) t)) refl refl
 
@@ -555,8 +555,8 @@ module _ {R : Type 0} (limits : Limits) (rules : Rules) (unread : R → List ℕ
       include_stack_broken limits rules unread macros v (f ∷ outer) PerlFound f.buffer.line (omega arith) (perl_tokens unread f.buffer (holds_front f outer h) is)
 
   -- a `define` that is too long, or that its source's limit cuts
-  module _ (tells : Type 0) (t : tells) where
-    pub long_at : (include_stack : List (File R)) (new : BufferView R) → IsHeldFront include_stack → (inner_buffer include_stack).mode ≡ Plain → IsDirective Define (held_of (inner_buffer include_stack)) → HoldsLine tells unread line.TooLong (inner_buffer include_stack) new
+  module _ (has_known_texts : Type 0) (t : has_known_texts) where
+    pub long_at : (include_stack : List (File R)) (new : BufferView R) → IsHeldFront include_stack → (inner_buffer include_stack).mode ≡ Plain → IsDirective Define (held_of (inner_buffer include_stack)) → HoldsLine has_known_texts unread line.TooLong (inner_buffer include_stack) new
         → include_stack_left limits rules unread macros v include_stack ≡ leaves (fails (fault_at fault.LineTooLong (inner_buffer include_stack).line [] (include_stack_state limits macros v include_stack))) (include_stack_state limits macros v include_stack)
     unfolding breach_kind
     long_at [] new h plain is holds = absurd (none_held R h.some)
@@ -564,7 +564,7 @@ module _ {R : Type 0} (limits : Limits) (rules : Rules) (unread : R → List ℕ
         include_stack_broken limits rules unread macros v (f ∷ outer) breach.DefineLong f.buffer.line (omega arith)
         (holds.define t plain (holds_define unread f (holds_front f outer h) is))
 
-    pub cut_at : (include_stack : List (File R)) (new : BufferView R) → IsHeldFront include_stack → (inner_buffer include_stack).mode ≡ Plain → IsDirective Define (held_of (inner_buffer include_stack)) → HoldsLine tells unread line.SourceLong (inner_buffer include_stack) new
+    pub cut_at : (include_stack : List (File R)) (new : BufferView R) → IsHeldFront include_stack → (inner_buffer include_stack).mode ≡ Plain → IsDirective Define (held_of (inner_buffer include_stack)) → HoldsLine has_known_texts unread line.SourceLong (inner_buffer include_stack) new
         → include_stack_left limits rules unread macros v include_stack ≡ leaves (fails (fault_at fault.SourceTooLong (inner_buffer include_stack).line [] (include_stack_state limits macros v include_stack))) (include_stack_state limits macros v include_stack)
     unfolding breach_kind
     cut_at [] new h plain is holds = absurd (none_held R h.some)
@@ -574,14 +574,14 @@ module _ {R : Type 0} (limits : Limits) (rules : Rules) (unread : R → List ℕ
 
     -- the end of a source in which a conditional of its own is open
     unclosed_by : (f : File R) (outer : List (File R)) (new : BufferView R) (skipped : Option ℕ) (o : Progress) (os : List Progress) → v.skipped ≡ skipped → v.open_now ≡ o ∷ os → f.conditions_below ≤ length os
-        → Fills tells unread fill.End f.buffer new → f.buffer.mode ≡ Plain
+        → Fills has_known_texts unread fill.End f.buffer new → f.buffer.mode ≡ Plain
         → include_stack_left limits rules unread macros v (f ∷ outer) ≡ leaves (fails (unclosed_fault o.line (include_stack_state limits macros v (f ∷ outer)))) (include_stack_state limits macros v (f ∷ outer))
     unfolding skipped_by
-    unclosed_by f outer new None o os skips is_open below fills plain = include_stack_unclosed limits rules unread macros outer v f o os is_open below tells t new fills plain true skips
-    unclosed_by f outer new (Some n) o os skips is_open below fills plain = include_stack_unclosed_inner limits rules unread macros outer v f o os is_open below tells t new fills plain n skips
+    unclosed_by f outer new None o os skips is_open below fills plain = include_stack_unclosed limits rules unread macros outer v f o os is_open below has_known_texts t new fills plain true skips
+    unclosed_by f outer new (Some n) o os skips is_open below fills plain = include_stack_unclosed_inner limits rules unread macros outer v f o os is_open below has_known_texts t new fills plain n skips
 
     pub unclosed_at : (include_stack : List (File R)) (new : BufferView R) (o : Progress) (os : List Progress) → 0 < length include_stack → v.open_now ≡ o ∷ os → inner_below include_stack ≤ length os
-        → Fills tells unread fill.End (inner_buffer include_stack) new → (inner_buffer include_stack).mode ≡ Plain
+        → Fills has_known_texts unread fill.End (inner_buffer include_stack) new → (inner_buffer include_stack).mode ≡ Plain
         → include_stack_left limits rules unread macros v include_stack ≡ leaves (fails (unclosed_fault o.line (include_stack_state limits macros v include_stack))) (include_stack_state limits macros v include_stack)
     unclosed_at [] new o os some is_open below fills plain = absurd (omega arith)
     unclosed_at (f ∷ outer) new o os some is_open below fills plain = unclosed_by f outer new v.skipped o os refl is_open below fills plain

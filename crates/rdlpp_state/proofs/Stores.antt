@@ -140,10 +140,10 @@ parts_used unread len lines (f ∷ outer) = λ catalog parts.
     (record { text = parts.0.text; told = parts.0.told; front = parts.0.front; rest = parts.0.rest; whole = parts.0.whole; same = parts.0.same }, parts.1)
 
 -- where the window of the innermost slid
-pub parts_slid : {R : Type 0} (tells exact : Type 0) (unread : R → List ℕ) (b : BufferView R) (include_stack : List (File R)) → 0 < length include_stack → Slides tells exact unread (inner_buffer include_stack) b → tells
+pub parts_slid : {R : Type 0} (has_known_texts exact : Type 0) (unread : R → List ℕ) (b : BufferView R) (include_stack : List (File R)) → 0 < length include_stack → Slides has_known_texts exact unread (inner_buffer include_stack) b → has_known_texts
     → MovesParts unread exact include_stack (with_buffer b include_stack)
-parts_slid tells exact unread b [] some slides t = λ catalog parts. tt
-parts_slid tells exact unread b (f ∷ outer) some slides t = λ catalog parts. (
+parts_slid has_known_texts exact unread b [] some slides t = λ catalog parts. tt
+parts_slid has_known_texts exact unread b (f ∷ outer) some slides t = λ catalog parts. (
   part_moves unread catalog Unit exact f.path.bytes f.buffer b outer slides.dropped slides.gained slides.window (slides.text t) tt parts.0,
   parts_told unread catalog Unit exact outer (λ _. tt) parts.1,
 )
@@ -184,10 +184,10 @@ parts_around unread [] = λ catalog parts. parts
 parts_around unread (f ∷ outer) = λ catalog parts. parts.1
 
 -- the sources of which bytes are used, whose window moved on
-pub parts_moved : {R : Type 0} (tells exact : Type 0) (unread : R → List ℕ) (used : List ℕ) (old new : List (File R)) → 0 < length old → new ≡ with_used (inner_buffer new) used old
-    → MovesOver tells exact unread used (inner_buffer old) (inner_buffer new) → tells → MovesParts unread exact old new
-parts_moved tells exact unread used [] new some inner moves t = λ catalog parts. absurd (omega (arith, some))
-parts_moved {R} tells exact unread used (f ∷ outer) new some inner moves t = λ catalog parts.
+pub parts_moved : {R : Type 0} (has_known_texts exact : Type 0) (unread : R → List ℕ) (used : List ℕ) (old new : List (File R)) → 0 < length old → new ≡ with_used (inner_buffer new) used old
+    → MovesOver has_known_texts exact unread used (inner_buffer old) (inner_buffer new) → has_known_texts → MovesParts unread exact old new
+parts_moved has_known_texts exact unread used [] new some inner moves t = λ catalog parts. absurd (omega (arith, some))
+parts_moved {R} has_known_texts exact unread used (f ∷ outer) new some inner moves t = λ catalog parts.
     let b = inner_buffer new in
     let changed : File R = record f { buffer = b; blanks = only_blanks f.blanks used; ends_mid_line = ends_mid_line_after f.ends_mid_line used } in
     let now : AreParts unread catalog exact (changed ∷ outer) = (
@@ -268,9 +268,9 @@ call_kept unread catalog most arguments path mid now outer used p keeps =
     }
 
 -- one in which a fault came
-call_begun : {R : Type 0} (unread : R → List ℕ) (catalog : Catalog) (most : ℕ) (tells : Type 0) (arguments path : List ℕ) (mid now : BufferView R) (outer : List (File R)) → mid.at ≤ mid.accepted → mid.mode ≡ Plain
-    → IsPartOf unread catalog Unit path mid outer → tells → ReadsUpTo tells unread Before most arguments mid now → IsBegunIn unread catalog most arguments path now outer
-call_begun unread catalog most tells arguments path mid now outer used plain p t reads =
+call_begun : {R : Type 0} (unread : R → List ℕ) (catalog : Catalog) (most : ℕ) (has_known_texts : Type 0) (arguments path : List ℕ) (mid now : BufferView R) (outer : List (File R)) → mid.at ≤ mid.accepted → mid.mode ≡ Plain
+    → IsPartOf unread catalog Unit path mid outer → has_known_texts → ReadsUpTo has_known_texts unread Before most arguments mid now → IsBegunIn unread catalog most arguments path now outer
+call_begun unread catalog most has_known_texts arguments path mid now outer used plain p t reads =
     let on = reads.goes_on in
     record {
       text = p.text;
@@ -289,11 +289,11 @@ call_begun unread catalog most tells arguments path mid now outer used plain p t
     }
 
 -- so it is among the open sources
-pub holds_call : {R : Type 0} (unread : R → List ℕ) (catalog : Catalog) (most len : ℕ) (tells : Type 0) (arguments used : List ℕ) (include_stack new : List (File R)) → 0 < length include_stack
+pub holds_call : {R : Type 0} (unread : R → List ℕ) (catalog : Catalog) (most len : ℕ) (has_known_texts : Type 0) (arguments used : List ℕ) (include_stack new : List (File R)) → 0 < length include_stack
     → (inner_buffer (with_inner (consumed_file len 0) include_stack)).at ≤ (inner_buffer include_stack).accepted → new ≡ with_used (inner_buffer new) used include_stack → AreParts unread catalog Unit include_stack
-    → KeepsOpening tells unread most Opened arguments (inner_buffer (with_inner (consumed_file len 0) include_stack)) (inner_buffer new) → tells → HoldsCall unread catalog most arguments new
-holds_call unread catalog most len tells arguments used [] new some inside inner parts keeps t = absurd (omega (arith, some))
-holds_call {R} unread catalog most len tells arguments used (f ∷ outer) new some inside inner parts keeps t =
+    → KeepsOpening has_known_texts unread most Opened arguments (inner_buffer (with_inner (consumed_file len 0) include_stack)) (inner_buffer new) → has_known_texts → HoldsCall unread catalog most arguments new
+holds_call unread catalog most len has_known_texts arguments used [] new some inside inner parts keeps t = absurd (omega (arith, some))
+holds_call {R} unread catalog most len has_known_texts arguments used (f ∷ outer) new some inside inner parts keeps t =
     let b = inner_buffer new in
     let mid = consumed_file len 0 f in
     let changed : File R = record f { buffer = b; blanks = only_blanks f.blanks used; ends_mid_line = ends_mid_line_after f.ends_mid_line used } in
@@ -302,42 +302,42 @@ holds_call {R} unread catalog most len tells arguments used (f ∷ outer) new so
     (call_kept unread catalog most arguments f.path.bytes mid.buffer b outer inside own (keeps t))
 
 -- and where a fault came in it
-begins_call : {R : Type 0} (unread : R → List ℕ) (catalog : Catalog) (most len : ℕ) (tells : Type 0) (arguments used : List ℕ) (include_stack new : List (File R)) → 0 < length include_stack
+begins_call : {R : Type 0} (unread : R → List ℕ) (catalog : Catalog) (most len : ℕ) (has_known_texts : Type 0) (arguments used : List ℕ) (include_stack new : List (File R)) → 0 < length include_stack
     → (inner_buffer (with_inner (consumed_file len 0) include_stack)).at ≤ (inner_buffer include_stack).accepted → (inner_buffer include_stack).mode ≡ Plain → new ≡ with_used (inner_buffer new) used include_stack → AreParts unread catalog Unit include_stack
-    → tells → ReadsUpTo tells unread Before most arguments (inner_buffer (with_inner (consumed_file len 0) include_stack)) (inner_buffer new) → BeginsCall unread catalog most arguments new
-begins_call unread catalog most len tells arguments used [] new some inside plain inner parts t reads = absurd (omega (arith, some))
-begins_call {R} unread catalog most len tells arguments used (f ∷ outer) new some inside plain inner parts t reads =
+    → has_known_texts → ReadsUpTo has_known_texts unread Before most arguments (inner_buffer (with_inner (consumed_file len 0) include_stack)) (inner_buffer new) → BeginsCall unread catalog most arguments new
+begins_call unread catalog most len has_known_texts arguments used [] new some inside plain inner parts t reads = absurd (omega (arith, some))
+begins_call {R} unread catalog most len has_known_texts arguments used (f ∷ outer) new some inside plain inner parts t reads =
     let b = inner_buffer new in
     let mid = consumed_file len 0 f in
     let changed : File R = record f { buffer = b; blanks = only_blanks f.blanks used; ends_mid_line = ends_mid_line_after f.ends_mid_line used } in
     let own : IsPartOf unread catalog Unit f.path.bytes mid.buffer outer = (parts_used unread len 0 (f ∷ outer) catalog parts).0 in
     subst (λ (ns : List (File R)). BeginsCall unread catalog most arguments ns) (sym inner)
-    (call_begun unread catalog most tells arguments f.path.bytes mid.buffer b outer inside plain own t reads)
+    (call_begun unread catalog most has_known_texts arguments f.path.bytes mid.buffer b outer inside plain own t reads)
 
 -- what is kept of a usage without a list, and of one with a list
-usage_none : {R : Type 0} (formals : Option (List Formal)) (tells : Type 0) (unread : R → List ℕ) (most : ℕ) (arguments : List ℕ) (from now : BufferView R) → KeepsUsage formals tells unread most Opened arguments from now
+usage_none : {R : Type 0} (formals : Option (List Formal)) (has_known_texts : Type 0) (unread : R → List ℕ) (most : ℕ) (arguments : List ℕ) (from now : BufferView R) → KeepsUsage formals has_known_texts unread most Opened arguments from now
     → formals ≡ None → arguments ≡ []
-usage_none None tells unread most arguments from now keeps e = keeps
-usage_none (Some fs) tells unread most arguments from now keeps e = cc e
+usage_none None has_known_texts unread most arguments from now keeps e = keeps
+usage_none (Some fs) has_known_texts unread most arguments from now keeps e = cc e
 
-usage_some : {R : Type 0} (formals : Option (List Formal)) (fs : List Formal) (tells : Type 0) (unread : R → List ℕ) (most : ℕ) (arguments : List ℕ) (from now : BufferView R)
-    → KeepsUsage formals tells unread most Opened arguments from now → formals ≡ Some fs → KeepsOpening tells unread most Opened arguments from now
-usage_some None fs tells unread most arguments from now keeps e = cc e
-usage_some (Some own) fs tells unread most arguments from now keeps e = keeps
+usage_some : {R : Type 0} (formals : Option (List Formal)) (fs : List Formal) (has_known_texts : Type 0) (unread : R → List ℕ) (most : ℕ) (arguments : List ℕ) (from now : BufferView R)
+    → KeepsUsage formals has_known_texts unread most Opened arguments from now → formals ≡ Some fs → KeepsOpening has_known_texts unread most Opened arguments from now
+usage_some None fs has_known_texts unread most arguments from now keeps e = cc e
+usage_some (Some own) fs has_known_texts unread most arguments from now keeps e = keeps
 
 -- what is kept of a usage in which a fault came: nothing, or what was kept so far
-usage_begun : {R : Type 0} (formals : Option (List Formal)) (tells : Type 0) (unread : R → List ℕ) (most : ℕ) (opening : Opening) (arguments : List ℕ) (from now : BufferView R) → is_opened opening ≡ false
-    → KeepsUsage formals tells unread most opening arguments from now → (arguments ≡ []) ⊎ ReadsUpTo tells unread Before most arguments from now
-usage_begun None tells unread most opening arguments from now none keeps = inl keeps
-usage_begun (Some fs) tells unread most Opened arguments from now none keeps = cc none
-usage_begun (Some fs) tells unread most (Refused kind) arguments from now none keeps = inr keeps
-usage_begun (Some fs) tells unread most (Broken kind own) arguments from now none keeps = inr keeps
-usage_begun (Some fs) tells unread most Failed arguments from now none keeps = inr keeps
+usage_begun : {R : Type 0} (formals : Option (List Formal)) (has_known_texts : Type 0) (unread : R → List ℕ) (most : ℕ) (opening : Opening) (arguments : List ℕ) (from now : BufferView R) → is_opened opening ≡ false
+    → KeepsUsage formals has_known_texts unread most opening arguments from now → (arguments ≡ []) ⊎ ReadsUpTo has_known_texts unread Before most arguments from now
+usage_begun None has_known_texts unread most opening arguments from now none keeps = inl keeps
+usage_begun (Some fs) has_known_texts unread most Opened arguments from now none keeps = cc none
+usage_begun (Some fs) has_known_texts unread most (Refused kind) arguments from now none keeps = inr keeps
+usage_begun (Some fs) has_known_texts unread most (Broken kind own) arguments from now none keeps = inr keeps
+usage_begun (Some fs) has_known_texts unread most Failed arguments from now none keeps = inr keeps
 
 -- what is held as an engine goes on
 pub record KeepsStores {S R : Type 0} (g : Ghosts S R) (old new : EngineView S R) : Type 0 where
   pub lets_go : LetsGo old → LetsGo new
-  pub stores : g.tells old.sources → HoldsStores g old → HoldsStores g new
+  pub stores : g.has_known_texts old.sources → HoldsStores g old → HoldsStores g new
 
 -- the parts of an engine's texts, of which no byte was lost
 free_parts : {S R : Type 0} (g : Ghosts S R) (e : EngineView S R) → e.kept ≡ None → HoldsStores g e → AreParts g.unread (g.catalog e.sources) Unit e.files.include_stack
@@ -345,7 +345,7 @@ free_parts g e free h = parts_told g.unread (g.catalog e.sources) (MayGoOn e) Un
 
 -- where the sources changed, no fault is kept, and no text of a usage is open
 pub keeps_sources : {S R : Type 0} (g : Ghosts S R) (old : EngineView S R) (pending : PendingView) (marks : MarksView) (macros : List Macro) (v : ConditionsView) (include_stack : List (File R)) (sources : S) → old.kept ≡ None → old.expansion.opens ≡ []
-    → g.catalog sources ≡ g.catalog old.sources → (g.tells old.sources → AreParts g.unread (g.catalog old.sources) Unit old.files.include_stack → AreParts g.unread (g.catalog old.sources) Unit include_stack)
+    → g.catalog sources ≡ g.catalog old.sources → (g.has_known_texts old.sources → AreParts g.unread (g.catalog old.sources) Unit old.files.include_stack → AreParts g.unread (g.catalog old.sources) Unit include_stack)
     → KeepsStores g old (record old { pending = pending; marks = marks; table = record old.table { macros = macros }; conditions = v; files = record old.files { include_stack = include_stack }; sources = sources })
 keeps_sources g old pending marks macros v include_stack sources free idle catalog parts =
     let none = none_called macros old.expansion.opens idle in
@@ -415,7 +415,7 @@ keeps_searched g old f sources free idle catalog =
 -- where a fault is kept that came at the front of what is held, and after which the engine can't go on: the innermost window moved on, and
 -- bytes may be lost after it
 pub keeps_stopped : {S R : Type 0} (g : Ghosts S R) (old : EngineView S R) (f : Report) (b : BufferView R) (sources : S) → old.kept ≡ None → old.expansion.opens ≡ [] → 0 < length old.files.include_stack
-    → g.catalog sources ≡ g.catalog old.sources → Slides (g.tells old.sources) ⊥ g.unread (inner_buffer old.files.include_stack) b
+    → g.catalog sources ≡ g.catalog old.sources → Slides (g.has_known_texts old.sources) ⊥ g.unread (inner_buffer old.files.include_stack) b
     → (MayGoOn (record old { kept = Some f; files = record old.files { include_stack = with_buffer b old.files.include_stack }; sources = sources }) → ⊥)
     → KeepsStores g old (record old { kept = Some f; files = record old.files { include_stack = with_buffer b old.files.include_stack }; sources = sources })
 keeps_stopped {S} {R} g old f b sources free idle some catalog slides stops =
@@ -427,7 +427,7 @@ keeps_stopped {S} {R} g old f b sources free idle some catalog slides stops =
         lets_go = stopped_lets_go new stops;
         parts = parts_told g.unread (g.catalog sources) ⊥ (MayGoOn new) (with_buffer b old.files.include_stack) stops
             (subst (λ (c : Catalog). AreParts g.unread c ⊥ (with_buffer b old.files.include_stack)) (sym catalog)
-            (parts_slid (g.tells old.sources) ⊥ g.unread b old.files.include_stack some slides t (g.catalog old.sources) (free_parts g old free h)));
+            (parts_slid (g.has_known_texts old.sources) ⊥ g.unread b old.files.include_stack some slides t (g.catalog old.sources) (free_parts g old free h)));
         call = λ fs called. absurd (let no : None ≡ Some fs = sym none ∙ called in cc);
         begun = λ _. inl (h.lets_go.idle (inl free) none);
       };
@@ -436,9 +436,9 @@ keeps_stopped {S} {R} g old f b sources free idle some catalog slides stops =
 -- where a fault is kept that came in the call of a usage, and after which the engine can't go on
 pub keeps_broken : {S R : Type 0} (g : Ghosts S R) (old : EngineView S R) (f : Report) (include_stack : List (File R)) (s : S) (opening : Opening) (arguments used : List ℕ) (len : ℕ) (exact : Type 0) (formals : Option (List Formal))
     → old.kept ≡ None → old.expansion.opens ≡ [] → 0 < length old.files.include_stack → g.catalog s ≡ g.catalog old.sources → include_stack ≡ with_used (inner_buffer include_stack) used old.files.include_stack
-    → MovesOver (g.tells old.sources) exact g.unread used (inner_buffer old.files.include_stack) (inner_buffer include_stack)
+    → MovesOver (g.has_known_texts old.sources) exact g.unread used (inner_buffer old.files.include_stack) (inner_buffer include_stack)
     → (inner_buffer (with_inner (consumed_file len 0) old.files.include_stack)).at ≤ (inner_buffer old.files.include_stack).accepted → (inner_buffer old.files.include_stack).mode ≡ Plain → is_opened opening ≡ false
-    → KeepsUsage formals (g.tells old.sources) g.unread old.expansion.most opening arguments (inner_buffer (with_inner (consumed_file len 0) old.files.include_stack)) (inner_buffer include_stack)
+    → KeepsUsage formals (g.has_known_texts old.sources) g.unread old.expansion.most opening arguments (inner_buffer (with_inner (consumed_file len 0) old.files.include_stack)) (inner_buffer include_stack)
     → (MayGoOn (record old { kept = Some f; files = record old.files { include_stack = include_stack }; sources = s; expansion = record old.expansion { arguments = arguments } }) → ⊥)
     → KeepsStores g old (record old { kept = Some f; files = record old.files { include_stack = include_stack }; sources = s; expansion = record old.expansion { arguments = arguments } })
 keeps_broken {S} {R} g old f include_stack s opening arguments used len exact formals free idle some catalog inner moves inside plain unopened keeps stops =
@@ -450,13 +450,13 @@ keeps_broken {S} {R} g old f include_stack s opening arguments used len exact fo
         lets_go = stopped_lets_go new stops;
         parts = parts_told g.unread (g.catalog s) exact (MayGoOn new) include_stack (λ on. absurd (stops on))
             (subst (λ (c : Catalog). AreParts g.unread c exact include_stack) (sym catalog)
-            (parts_moved (g.tells old.sources) exact g.unread used old.files.include_stack include_stack some inner moves t (g.catalog old.sources) (free_parts g old free h)));
+            (parts_moved (g.has_known_texts old.sources) exact g.unread used old.files.include_stack include_stack some inner moves t (g.catalog old.sources) (free_parts g old free h)));
         call = λ fs called. absurd (let no : None ≡ Some fs = sym none ∙ called in cc);
-        begun = λ _. elim (usage_begun formals (g.tells old.sources) g.unread old.expansion.most opening arguments _ _ unopened keeps) [
+        begun = λ _. elim (usage_begun formals (g.has_known_texts old.sources) g.unread old.expansion.most opening arguments _ _ unopened keeps) [
           | inl nothing ↦ inl nothing
           | inr reads ↦
               inr (subst (λ (c : Catalog). BeginsCall g.unread c old.expansion.most arguments include_stack) (sym catalog)
-              (begins_call g.unread (g.catalog old.sources) old.expansion.most len (g.tells old.sources) arguments used old.files.include_stack include_stack some inside plain inner (free_parts g old free h) t reads))
+              (begins_call g.unread (g.catalog old.sources) old.expansion.most len (g.has_known_texts old.sources) arguments used old.files.include_stack include_stack some inside plain inner (free_parts g old free h) t reads))
         ];
       };
     }
@@ -491,13 +491,13 @@ keeps_texts g old x marks free stays outer lets_go = record {
 
 -- where a usage is opened
 pub keeps_opened : {S R : Type 0} (g : Ghosts S R) (old : EngineView S R) (include_stack : List (File R)) (s : S) (x : ExpansionView) (used : List ℕ) (len : ℕ) (formals : Option (List Formal)) → old.kept ≡ None → 0 < length old.files.include_stack
-    → g.catalog s ≡ g.catalog old.sources → include_stack ≡ with_used (inner_buffer include_stack) used old.files.include_stack → (g.tells old.sources → KeepsParts g.unread old.files.include_stack include_stack)
+    → g.catalog s ≡ g.catalog old.sources → include_stack ≡ with_used (inner_buffer include_stack) used old.files.include_stack → (g.has_known_texts old.sources → KeepsParts g.unread old.files.include_stack include_stack)
     → (inner_buffer (with_inner (consumed_file len 0) old.files.include_stack)).at ≤ (inner_buffer old.files.include_stack).accepted → called_formals old.table.macros x.opens ≡ formals → x.most ≡ old.expansion.most
-    → KeepsUsage formals (g.tells old.sources) g.unread old.expansion.most Opened x.arguments (inner_buffer (with_inner (consumed_file len 0) old.files.include_stack)) (inner_buffer include_stack)
+    → KeepsUsage formals (g.has_known_texts old.sources) g.unread old.expansion.most Opened x.arguments (inner_buffer (with_inner (consumed_file len 0) old.files.include_stack)) (inner_buffer include_stack)
     → KeepsStores g old (record old { files = record old.files { include_stack = include_stack }; sources = s; expansion = x })
 keeps_opened g old include_stack s x used len formals free some catalog inner parts inside called most keeps =
     let nothing : called_formals old.table.macros x.opens ≡ None → x.arguments ≡ [] =
-    λ none. usage_none formals (g.tells old.sources) g.unread old.expansion.most x.arguments _ _ keeps (sym called ∙ none) in
+    λ none. usage_none formals (g.has_known_texts old.sources) g.unread old.expansion.most x.arguments _ _ keeps (sym called ∙ none) in
     record {
       lets_go = λ h. record { idle = λ _ none. nothing none };
       stores = λ t h. record {
@@ -507,8 +507,8 @@ keeps_opened g old include_stack s x used len formals free some catalog inner pa
         call = λ fs own.
             subst (λ (n : ℕ). HoldsCall g.unread (g.catalog s) n x.arguments include_stack) (sym most)
             (subst (λ (c : Catalog). HoldsCall g.unread c old.expansion.most x.arguments include_stack) (sym catalog)
-            (holds_call g.unread (g.catalog old.sources) old.expansion.most len (g.tells old.sources) x.arguments used old.files.include_stack include_stack some inside inner (free_parts g old free h)
-            (usage_some formals fs (g.tells old.sources) g.unread old.expansion.most x.arguments _ _ keeps (sym called ∙ own)) t));
+            (holds_call g.unread (g.catalog old.sources) old.expansion.most len (g.has_known_texts old.sources) x.arguments used old.files.include_stack include_stack some inside inner (free_parts g old free h)
+            (usage_some formals fs (g.has_known_texts old.sources) g.unread old.expansion.most x.arguments _ _ keeps (sym called ∙ own)) t));
         begun = λ none. inl (nothing none);
       };
     }

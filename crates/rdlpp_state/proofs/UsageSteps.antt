@@ -447,7 +447,7 @@ module _ {S R : Type 0} (old mid : EngineView S R) (becomes : mid ≡ record old
 
 -- an engine that stands before a usage, of whose innermost source bytes are used: its sources and its open texts are these now
 module _ {S R : Type 0} (g : Ghosts S R) (old : EngineView S R) (ready : IsReady old) (live : old.conditions.skipped ≡ None)
-    (include_stack : List (File R)) (s : S) (x : ExpansionView) (opening : Opening) (uses : UsesSource (g.tells old.sources) g.unread opening old.files.include_stack include_stack) where
+    (include_stack : List (File R)) (s : S) (x : ExpansionView) (opening : Opening) (uses : UsesSource (g.has_known_texts old.sources) g.unread opening old.files.include_stack include_stack) where
   -- the one in which its texts are open
   abbrev pub opened_engine_at : EngineView S R
   opened_engine_at = record old { files = record old.files { include_stack = include_stack }; sources = s; expansion = x }
@@ -478,8 +478,8 @@ module _ {S R : Type 0} (g : Ghosts S R) (old : EngineView S R) (ready : IsReady
 
   -- its texts are open: nothing is lent yet
   pub usage_opens : (line : ℕ) (name : List ℕ) → IsBounded opened_engine_at → SourcesCalled g false false old.sources s → work_left opened_engine_at < work_left old
-      → (g.tells old.sources → text_left g.unread (inner_buffer old.files.include_stack) ≡ uses.used ++ text_left g.unread (inner_buffer include_stack))
-      → (g.tells old.sources → TellsAt Opened line name) → KeepsStores g old opened_engine_at → Turns g old opened_engine_at → UncutStep g old opened_engine_at (Ok (Some []))
+      → (g.has_known_texts old.sources → text_left g.unread (inner_buffer old.files.include_stack) ≡ uses.used ++ text_left g.unread (inner_buffer include_stack))
+      → (g.has_known_texts old.sources → TellsAt Opened line name) → KeepsStores g old opened_engine_at → Turns g old opened_engine_at → UncutStep g old opened_engine_at (Ok (Some []))
   unfolding behind_bytes
   usage_opens line name bounded call falls text means keeps turn =
       let catalog : source_rules (g.catalog s) old.limits old.origins ≡ run_rules g old = ap (λ (c : Catalog). source_rules c old.limits old.origins) call.catalog in
@@ -496,7 +496,7 @@ module _ {S R : Type 0} (g : Ghosts S R) (old : EngineView S R) (ready : IsReady
 
   module _ (len : ℕ) (mode : (inner_buffer old.files.include_stack).mode ≡ Plain) (usage : IsUsage (held_of (inner_buffer old.files.include_stack)) len) (unopened : is_opened opening ≡ false)
       (macro : Macro) (named : macro_named old.table.macros (usage_name (held_of (inner_buffer old.files.include_stack)) len) ≡ Some macro)
-      (kept : KeepsUsage macro.formals (g.tells old.sources) g.unread old.expansion.most opening x.arguments (inner_buffer (with_inner (consumed_file len 0) old.files.include_stack)) (inner_buffer include_stack))
+      (kept : KeepsUsage macro.formals (g.has_known_texts old.sources) g.unread old.expansion.most opening x.arguments (inner_buffer (with_inner (consumed_file len 0) old.files.include_stack)) (inner_buffer include_stack))
       (inside : (inner_buffer (with_inner (consumed_file len 0) old.files.include_stack)).at ≤ (inner_buffer old.files.include_stack).accepted) where
     -- it stopped in the call
     stops_in : (f : Report) → StopsInCall g old (stopped_engine f)
@@ -519,21 +519,21 @@ module _ {S R : Type 0} (g : Ghosts S R) (old : EngineView S R) (ready : IsReady
 
     -- a fault of the text
     usage_faults : (f : Report) → IsOwn f.kind → IsBounded (stopped_engine f) → SourcesCalled g false false old.sources s
-        → (g.tells old.sources → text_by (run_rules g old) g old ≡ leaves (fails f) (state_of old)) → UncutStep g old (stopped_engine f) (Err f)
+        → (g.has_known_texts old.sources → text_by (run_rules g old) g old ≡ leaves (fails f) (state_of old)) → UncutStep g old (stopped_engine f) (Err f)
     usage_faults f own bounded call law =
         walks_kept g old (stopped_engine f) ready.free ready.open_ bounded f own refl (halts_in f) call
         (λ t. by_run g old ∙ (law t ∙ ap (leaves (fails f)) (sym (same_here f)))) (stores_in f call.catalog (own_stops (stopped_engine f) f refl (own_failed f.kind own)))
 
     -- the usage is refused, at its line about its name
     pub usage_refuses : (kind : FaultKind) (line : ℕ) (name : List ℕ) → is_usage_fault kind ≡ true → let f = fault_at kind line name (state_of old) in IsBounded (stopped_engine f)
-        → SourcesCalled g false false old.sources s → (g.tells old.sources → TellsAt (Refused kind) line name) → UncutStep g old (stopped_engine f) (Err f)
+        → SourcesCalled g false false old.sources s → (g.has_known_texts old.sources → TellsAt (Refused kind) line name) → UncutStep g old (stopped_engine f) (Err f)
     usage_refuses kind line name own bounded call means =
         usage_faults (fault_at kind line name (state_of old)) (told_kind kind line name (state_of old) (usage_kind kind own)) bounded call
         (λ t. refused_text g (run_rules g old) old ready.pending ready.idle live ready.include_stack include_stack x kind line name (means t))
 
     -- its call is broken, at a line of its own about no word
     pub usage_breaks : (kind : FaultKind) (own line : ℕ) (name : List ℕ) → is_usage_fault kind ≡ true → let f = fault_at kind own [] (state_of old) in IsBounded (stopped_engine f)
-        → SourcesCalled g false false old.sources s → (g.tells old.sources → TellsAt (Broken kind own) line name) → UncutStep g old (stopped_engine f) (Err f)
+        → SourcesCalled g false false old.sources s → (g.has_known_texts old.sources → TellsAt (Broken kind own) line name) → UncutStep g old (stopped_engine f) (Err f)
     usage_breaks kind own line name is bounded call means =
         usage_faults (fault_at kind own [] (state_of old)) (told_kind kind own [] (state_of old) (usage_kind kind is)) bounded call
         (λ t. broken_text g (run_rules g old) old ready.pending ready.idle live ready.include_stack include_stack x kind own line name (means t))
@@ -571,8 +571,8 @@ module _ {S R : Type 0} (g : Ghosts S R) (old mid : EngineView S R) (len : ℕ) 
       (usage_work g old ready live mid.files.include_stack mid.sources mid.expansion Opened o.uses texts o.now_room o.depth o.most o.sound)
       (λ t. o.uses.text (λ own e. cc e) t) (λ t s ws os macros. o.means (run_rules g old) s ws os (run_is s macros) t)
       (keeps_opened g old mid.files.include_stack mid.sources mid.expansion o.uses.used len o.macro.formals ready.free ready.include_stack o.call.catalog o.uses.inner
-      (λ t. parts_moved (g.tells old.sources) Unit g.unread o.uses.used old.files.include_stack mid.files.include_stack ready.include_stack o.uses.inner
-      (moves-told (g.tells old.sources) (g.tells old.sources) Unit (IsExactOpening Opened) g.unread o.uses.used (inner_buffer old.files.include_stack) (inner_buffer mid.files.include_stack) (λ x. x) (λ _ own e. cc e) o.uses.moves) t)
+      (λ t. parts_moved (g.has_known_texts old.sources) Unit g.unread o.uses.used old.files.include_stack mid.files.include_stack ready.include_stack o.uses.inner
+      (moves-told (g.has_known_texts old.sources) (g.has_known_texts old.sources) Unit (IsExactOpening Opened) g.unread o.uses.used (inner_buffer old.files.include_stack) (inner_buffer mid.files.include_stack) (λ x. x) (λ _ own e. cc e) o.uses.moves) t)
       (inside_of o.some) (o.called refl) o.most o.keeps)
       (OpensText len (subst (λ (e : EngineView S R). OpensUsage g len old e Opened) is o)))
 

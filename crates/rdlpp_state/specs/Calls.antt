@@ -9,5 +9,5 @@ use Rattle.rdlpp_source.specs.declared.sources.Sources.{Ghosts}
 pub record SourcesCalled {S R : Type 0} (g : Ghosts S R) (failed refused : Bool) (old new : S) : Type 0 where
   pub failures : Counts failed (g.failures old) (g.failures new)
   pub refusals : Counts refused (g.refusals old) (g.refusals new)
-  pub tells : g.tells old → g.tells new
+  pub has_known_texts : g.has_known_texts old → g.has_known_texts new
   pub catalog : g.catalog new ≡ g.catalog old

@@ -50,7 +50,7 @@ pub record IsSearch {S R : Type 0} (e : EngineView S R) : Type 0 where
 pub record Searches {S R : Type 0} (g : Ghosts S R) (e : EngineView S R) (name : List ℕ) (new : S) (answer : Result (Found R) SourceFault) : Type 0 where
   pub name_good : is_bad_name name ≡ false
   pub room : length e.files.include_stack < e.files.slots
-  pub answers : g.tells e.sources → Finds g.unread ((g.catalog e.sources).find (inner_path e.files.include_stack) name) answer
+  pub answers : g.has_known_texts e.sources → Finds g.unread ((g.catalog e.sources).find (inner_path e.files.include_stack) name) answer
   pub call : SourcesCalled g (is_device answer) (is_no_memory answer) e.sources new
 
 -- why an `include` of a name opens nothing: the name is bad; too many sources are open, and nothing is searched for; or the search

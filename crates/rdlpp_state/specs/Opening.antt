@@ -101,7 +101,7 @@ is_opening_kind kind = false
 pub record Opens {S R : Type 0} (g : Ghosts S R) (old new : EngineView S R) (path : List ℕ) : Type 0 where
   pub found : Found R
   pub becomes : new ≡ opened_engine (record old { sources = new.sources }) path found
-  pub text : g.tells old.sources → (g.catalog old.sources).top path ≡ Present found.path.bytes (g.unread found.reader)
+  pub text : g.has_known_texts old.sources → (g.catalog old.sources).top path ≡ Present found.path.bytes (g.unread found.reader)
 
 -- what a start does: it keeps what it answers; the counts of failures; the text that was opened, or the fault of the opening
 -- for that path, of one of the four kinds that an opening has, where nothing else changed; the output that remains is that of the main path (this project's profile)
@@ -115,8 +115,8 @@ pub record Starts {S R : Type 0} (g : Ghosts S R) (old new : EngineView S R) (pa
   pub kinds : IfSome answer (λ f. is_opening_kind f.kind ≡ true)
   pub refused : (f : Report) → answer ≡ Some f → (f ≡ opening_fault f.kind path) × (new ≡ unopened_engine (record old { sources = new.sources }) f)
   pub call : SourcesCalled g (is_device_fault answer) (is_memory_fault answer) old.sources new.sources
-  pub remains_output : is_device_fault answer ≡ false → is_memory_fault answer ≡ false → g.tells old.sources
+  pub remains_output : is_device_fault answer ≡ false → is_memory_fault answer ≡ false → g.has_known_texts old.sources
       → left_of g new ≡ looked_up_output g old path
   pub bounded : IsBounded new
   pub lets_go : old.expansion.arguments ≡ [] → LetsGo new
-  pub stores : old.expansion.arguments ≡ [] → g.tells old.sources → HoldsStores g new
+  pub stores : old.expansion.arguments ≡ [] → g.has_known_texts old.sources → HoldsStores g new

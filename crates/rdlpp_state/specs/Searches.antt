@@ -24,7 +24,7 @@ pub record Retries {S R : Type 0} (g : Ghosts S R) (old new : EngineView S R) : 
   pub search : (f : Report) → old.kept ≡ Some f → is_call_failed f.kind ≡ true → old.phase ≡ Open → IsSearch old → is_failed_search old ≡ true
   pub read : IsReading (inner_buffer old.files.include_stack) → is_failed_search old ≡ false
   pub remains : is_failed_search old ≡ true → (before : EngineView S R) (f : Report) → before.kept ≡ None → Step g before old (Err f)
-      → g.tells before.sources → (text_of g before ≡ text_of g new) × (left_of g before ≡ left_of g new)
+      → g.has_known_texts before.sources → (text_of g before ≡ text_of g new) × (left_of g before ≡ left_of g new)
   pub lets_go : LetsGo old → LetsGo new
   pub stores : HoldsStores g old → HoldsStores g new
 
@@ -34,4 +34,4 @@ pub record StartsAgain {S R : Type 0} (g : Ghosts S R) (old new : EngineView S R
   pub again : is_failed_start old ≡ true → Starts g (record old { phase = Fresh; kept = None }) new path answer
   pub same : is_failed_start old ≡ false → (new ≡ old) × (answer ≡ old.kept)
   pub lets_go : LetsGo old → LetsGo new
-  pub stores : g.tells old.sources → HoldsStores g old → HoldsStores g new
+  pub stores : g.has_known_texts old.sources → HoldsStores g old → HoldsStores g new

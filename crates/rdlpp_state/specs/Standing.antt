@@ -36,7 +36,7 @@ pub record OpensUsage {S R : Type 0} (g : Ghosts S R) (len : ℕ) (old new : Eng
   pub becomes : new ≡ record old { files = new.files; sources = new.sources; expansion = new.expansion }
   pub only : new.files ≡ record old.files { include_stack = new.files.include_stack }
   pub call : SourcesRead g (is_failed_opening opening) old.sources new.sources
-  pub uses : UsesSource (g.tells old.sources) g.unread opening old.files.include_stack new.files.include_stack
+  pub uses : UsesSource (g.has_known_texts old.sources) g.unread opening old.files.include_stack new.files.include_stack
   pub depth : new.expansion.depth ≡ old.expansion.depth
   pub most : new.expansion.most ≡ old.expansion.most
   pub line : new.expansion.line ≡ (if is_opened opening then (inner_buffer old.files.include_stack).line else old.expansion.line)
@@ -50,11 +50,11 @@ pub record OpensUsage {S R : Type 0} (g : Ghosts S R) (len : ℕ) (old new : Eng
   pub called : is_opened opening ≡ true → called_formals old.table.macros new.expansion.opens ≡ macro.formals
   pub bindings : is_opened opening ≡ true → bound_by new.expansion.opens ≡ length (formals_of macro)
   pub alone : is_opened opening ≡ true → (id : ℕ) × ((macro_at old.table.macros id ≡ macro) × IsOpenAlone old.table.macros id new.expansion.opens)
-  pub keeps : KeepsUsage macro.formals (g.tells old.sources) g.unread old.expansion.most opening new.expansion.arguments (inner_buffer (with_inner (consumed_file len 0) old.files.include_stack)) (inner_buffer new.files.include_stack)
+  pub keeps : KeepsUsage macro.formals (g.has_known_texts old.sources) g.unread old.expansion.most opening new.expansion.arguments (inner_buffer (with_inner (consumed_file len 0) old.files.include_stack)) (inner_buffer new.files.include_stack)
   pub fault : IsUsageFault opening
   pub own : IsOwnLine opening
   pub unheld : is_failed_opening opening ≡ true → held_of (inner_buffer new.files.include_stack) ≡ []
-  pub means : (rules : Rules) (s : State) (ws : List Waiting) (os : List Progress) → IsRun rules s old.table.macros old.expansion.depth old.expansion.most → g.tells old.sources
+  pub means : (rules : Rules) (s : State) (ws : List Waiting) (os : List Progress) → IsRun rules s old.table.macros old.expansion.depth old.expansion.most → g.has_known_texts old.sources
       → TellsUsage rules s g.unread ws os old.table.macros (inner_buffer old.files.include_stack).line (usage_name (held_of (inner_buffer old.files.include_stack)) len) opening new.expansion old.files.include_stack new.files.include_stack
 
 -- what a step does that lends no bytes: it goes on over the open sources, while no text of a usage is open, and marks the place of
@@ -109,7 +109,7 @@ pub record LendsWhere {S R : Type 0} (g : Ghosts S R) (silent : ℕ) (most : Lis
   pub at : EngineView S R
   pub reached : Reaches g old at
   pub few : length reached.between ≤ silent
-  pub text : g.tells old.sources → text_of g old ≡ text_of g at
+  pub text : g.has_known_texts old.sources → text_of g old ≡ text_of g at
   pub after : EngineView S R
   pub becomes : new ≡ record after { phase = new.phase; quota = new.quota }
   pub piece : List ℕ

@@ -100,8 +100,8 @@ pub record StopsInCall {S R : Type 0} (g : Ghosts S R) (at new : EngineView S R)
   pub unopened : is_opened opening ≡ false
   pub macro : Macro
   pub named : macro_named at.table.macros (usage_name (held_of (inner_buffer at.files.include_stack)) len) ≡ Some macro
-  pub kept : KeepsUsage macro.formals (g.tells at.sources) g.unread at.expansion.most opening new.expansion.arguments (inner_buffer (with_inner (consumed_file len 0) at.files.include_stack)) (inner_buffer new.files.include_stack)
-  pub uses : UsesSource (g.tells at.sources) g.unread opening at.files.include_stack new.files.include_stack
+  pub kept : KeepsUsage macro.formals (g.has_known_texts at.sources) g.unread at.expansion.most opening new.expansion.arguments (inner_buffer (with_inner (consumed_file len 0) at.files.include_stack)) (inner_buffer new.files.include_stack)
+  pub uses : UsesSource (g.has_known_texts at.sources) g.unread opening at.files.include_stack new.files.include_stack
 
 -- which engine it is whose text remains where a read or a search failed: the one that stopped, or the one before the usage in whose call that is, of
 -- whose source no byte is held any more
@@ -115,14 +115,14 @@ pub record StopsReading {S R : Type 0} (g : Ghosts S R) (old new : EngineView S 
   pub still : new.phase ≡ Open
   pub at : EngineView S R
   pub stood : Stood g at new
-  pub text : g.tells old.sources → text_of g old ≡ text_of g at
+  pub text : g.has_known_texts old.sources → text_of g old ≡ text_of g at
 
 -- an engine that stopped at the front of what is held: nothing changed but the fault that is kept and what is read of the innermost source, whose window
 -- moved on over its text, and no source was closed; a byte after a line that is too long may be lost
 pub record StopsAtFront {S R : Type 0} (g : Ghosts S R) (at new : EngineView S R) : Type 0 where
   pub becomes : new ≡ record at { kept = new.kept; files = new.files; sources = new.sources }
   pub only : new.files ≡ record at.files { include_stack = with_buffer (inner_buffer new.files.include_stack) at.files.include_stack }
-  pub moves : Slides (g.tells at.sources) ⊥ g.unread (inner_buffer at.files.include_stack) (inner_buffer new.files.include_stack)
+  pub moves : Slides (g.has_known_texts at.sources) ⊥ g.unread (inner_buffer at.files.include_stack) (inner_buffer new.files.include_stack)
 
 -- where a fault comes: at the front of what is held, or in the call of a usage that stands there
 pub data Halted {S R : Type 0} (g : Ghosts S R) (at new : EngineView S R) : Type 0 where
@@ -136,7 +136,7 @@ pub record HaltsAt {S R : Type 0} (g : Ghosts S R) (silent : ℕ) (old new : Eng
   pub reached : Reaches g old at
   pub few : length reached.between ≤ silent
   pub idle : LetsGo old → called_formals at.table.macros at.expansion.opens ≡ None → at.expansion.arguments ≡ []
-  pub text : g.tells old.sources → text_of g old ≡ text_of g at
+  pub text : g.has_known_texts old.sources → text_of g old ≡ text_of g at
   pub drained : at.pending ≡ nothing_pending
   pub stopped : Halted g at new
 
@@ -170,8 +170,8 @@ pub record StepSpec {S R : Type 0} (g : Ghosts S R) (silent : ℕ) (left : Engin
   pub ends : answer ≡ Ok None → (new.kept ≡ None) × (new.phase ≡ Closed)
   pub failed : has_stopped old.kept answer ≡ true → IfErr answer (FailsAt new)
   pub call : SourcesCalled g (has_failed old.kept answer) (has_refused old.kept answer) old.sources new.sources
-  pub tells : has_stopped old.kept answer ≡ false → g.tells old.sources → Tells answer (left old) (left new)
-  pub text : old.kept ≡ None → old.phase ≡ Open → has_stopped old.kept answer ≡ false → g.tells old.sources
+  pub answers : has_stopped old.kept answer ≡ false → g.has_known_texts old.sources → Tells answer (left old) (left new)
+  pub text : old.kept ≡ None → old.phase ≡ Open → has_stopped old.kept answer ≡ false → g.has_known_texts old.sources
       → TellsText (most old.quota) g answer (text_of g old) new
   pub reads : has_stopped old.kept answer ≡ true → StopsReading g old new
   pub halts : old.kept ≡ None → old.phase ≡ Open → Halts g silent answer old new
@@ -183,7 +183,7 @@ pub record StepSpec {S R : Type 0} (g : Ghosts S R) (silent : ℕ) (left : Engin
   pub bounded : IsBounded new
   pub stands : old.kept ≡ None → old.phase ≡ Open → (bytes : List ℕ) → answer ≡ Ok (Some bytes) → LendsWhere g silent (most old.quota) old new bytes
   pub lets_go : LetsGo old → LetsGo new
-  pub stores : g.tells old.sources → HoldsStores g old → HoldsStores g new
+  pub stores : g.has_known_texts old.sources → HoldsStores g old → HoldsStores g new
 
 -- how many bytes an answer lends
 unfoldable pub lent_len : Result (Option (List ℕ)) Report → ℕ

@@ -36,7 +36,7 @@ impl<'a> Sources for DealtText<'a> {
     ghost use Rattle.std.specs.Prelude.{[]};
     ghost use Rattle.rdlpp_source.specs.Sources.{Missing};
 
-    ghost tells = { λ _. ⊥ };
+    ghost has_known_texts = { λ _. ⊥ };
 
     ghost catalog = { λ _. record { top = λ _. Missing; find = λ _ _. Missing } };
 
@@ -131,7 +131,7 @@ impl<'a> Sources for AskedTexts<'a> {
     ghost use Rattle.std.specs.Prelude.{[]};
     ghost use Rattle.rdlpp_source.specs.Sources.{Missing};
 
-    ghost tells = { λ _. ⊥ };
+    ghost has_known_texts = { λ _. ⊥ };
 
     ghost catalog = { λ _. record { top = λ _. Missing; find = λ _ _. Missing } };
 

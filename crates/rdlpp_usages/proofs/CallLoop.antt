@@ -67,10 +67,10 @@ less_unused f len next inside =
     omega (arith, size, length-drop f.at (take f.accepted f.window), length-take f.accepted f.window)
 
 -- a window of which the first held bytes are used
-pub used_moves : {R : Type 0} (tells exact : Type 0) (unread : R → List ℕ) (f : BufferView R) (len : ℕ) (next : Mode) → len ≤ length (held_of f) → MovesOver tells exact unread (take len (held_of f)) f (used_buffer f len next)
+pub used_moves : {R : Type 0} (has_known_texts exact : Type 0) (unread : R → List ℕ) (f : BufferView R) (len : ℕ) (next : Mode) → len ≤ length (held_of f) → MovesOver has_known_texts exact unread (take len (held_of f)) f (used_buffer f len next)
 unfolding entered_mode
-used_moves tells exact unread f len next inside =
-    moves-past tells exact unread (take len (held_of f)) f (used_buffer f len next) refl (ap (λ n. f.at + n) (sym (length-take-le len (held_of f) inside))) refl
+used_moves has_known_texts exact unread f len next inside =
+    moves-past has_known_texts exact unread (take len (held_of f)) f (used_buffer f len next) refl (ap (λ n. f.at + n) (sym (length-take-le len (held_of f) inside))) refl
 
 -- the text behind them
 pub used_text : {R : Type 0} (unread : R → List ℕ) (f : BufferView R) (len : ℕ) (next : Mode) → text_left unread f ≡ take len (held_of f) ++ text_left unread (used_buffer f len next)
@@ -124,11 +124,11 @@ unfolding reading tokens_left
 action_broken unread at room f kind ends law = law (around_of unread f) (is_around unread f ends)
 
 -- nothing was used, and the tokens stay
-pub fill_goes_on : {R : Type 0} (tells : Type 0) (unread : R → List ℕ) (at : CallState) (room : ℕ) (old new : BufferView R)
-    → unused_of new ≡ unused_of old → new.mode ≡ old.mode → (tells → tokens_left unread new ≡ tokens_left unread old)
-    → GoesOn tells unread at at room [] [] old new
+pub fill_goes_on : {R : Type 0} (has_known_texts : Type 0) (unread : R → List ℕ) (at : CallState) (room : ℕ) (old new : BufferView R)
+    → unused_of new ≡ unused_of old → new.mode ≡ old.mode → (has_known_texts → tokens_left unread new ≡ tokens_left unread old)
+    → GoesOn has_known_texts unread at at room [] [] old new
 unfolding reading
-fill_goes_on tells unread at room old new unused mode tokens =
+fill_goes_on has_known_texts unread at room old new unused mode tokens =
     record {
       unused = omega (arith, unused);
       fits = omega arith;
@@ -145,10 +145,10 @@ less_room : (room a b c : ℕ) → c ≡ a + b → (room - a) - b ≡ room - c
 less_room room a b c e = omega (arith, e)
 
 -- reading went on, and went on again
-pub goes_on_twice : {R : Type 0} (tells : Type 0) (unread : R → List ℕ) (at to last : CallState) (room : ℕ) (k l u v : List ℕ) (f g h : BufferView R)
-    → GoesOn tells unread at to room k u f g → GoesOn tells unread to last (room - length k) l v g h → GoesOn tells unread at last room (k ++ l) (u ++ v) f h
+pub goes_on_twice : {R : Type 0} (has_known_texts : Type 0) (unread : R → List ℕ) (at to last : CallState) (room : ℕ) (k l u v : List ℕ) (f g h : BufferView R)
+    → GoesOn has_known_texts unread at to room k u f g → GoesOn has_known_texts unread to last (room - length k) l v g h → GoesOn has_known_texts unread at last room (k ++ l) (u ++ v) f h
 unfolding reading
-goes_on_twice tells unread at to last room k l u v f g h a b =
+goes_on_twice has_known_texts unread at to last room k l u v f g h a b =
     let size : length (k ++ l) ≡ length k + length l = length-append k l in
     record {
       unused = omega (arith, a.unused, b.unused, length-append u v);
@@ -162,10 +162,10 @@ goes_on_twice tells unread at to last room k l u v f g h a b =
     }
 
 -- reading went on, and then came to an answer
-pub tells_behind : {R : Type 0} (tells : Type 0) (unread : R → List ℕ) (at to : CallState) (room : ℕ) (k l u v : List ℕ) (f g h : BufferView R) (result : CallRead)
-    → GoesOn tells unread at to room k u f g → TellsCall tells unread to (room - length k) l v g h result → TellsCall tells unread at room (k ++ l) (u ++ v) f h result
+pub tells_behind : {R : Type 0} (has_known_texts : Type 0) (unread : R → List ℕ) (at to : CallState) (room : ℕ) (k l u v : List ℕ) (f g h : BufferView R) (result : CallRead)
+    → GoesOn has_known_texts unread at to room k u f g → TellsCall has_known_texts unread to (room - length k) l v g h result → TellsCall has_known_texts unread at room (k ++ l) (u ++ v) f h result
 unfolding onto_kept
-tells_behind tells unread at to room k l u v f g h Closed a b =
+tells_behind has_known_texts unread at to room k l u v f g h Closed a b =
     record {
       unused = omega (arith, a.unused, b.unused, length-append u v);
       fits = omega (arith, a.fits, b.fits, length-append k l);
@@ -174,24 +174,24 @@ tells_behind tells unread at to room k l u v f g h Closed a b =
       bytes = λ t.
           a.bytes t ∙ ap (λ z. u ++ z) (b.bytes t) ∙ sym (append_assoc u v (bytes_of (tokens_left unread h)));
     }
-tells_behind tells unread at to room k l u v f g h (Refused kind) a b = λ t. a.reads t ∙ ap (onto_kept k) (b t)
-tells_behind tells unread at to room k l u v f g h (BrokenCall kind line) a b = λ t. a.reads t ∙ ap (onto_kept k) (b t)
-tells_behind tells unread at to room k l u v f g h Failed a b =
-    record { to = b.to; goes_on = goes_on_twice tells unread at to b.to room k l u v f g h a b.goes_on }
+tells_behind has_known_texts unread at to room k l u v f g h (Refused kind) a b = λ t. a.reads t ∙ ap (onto_kept k) (b t)
+tells_behind has_known_texts unread at to room k l u v f g h (BrokenCall kind line) a b = λ t. a.reads t ∙ ap (onto_kept k) (b t)
+tells_behind has_known_texts unread at to room k l u v f g h Failed a b =
+    record { to = b.to; goes_on = goes_on_twice has_known_texts unread at to b.to room k l u v f g h a b.goes_on }
 
 -- what needs no word of the sources holds with it
-pub goes_on_told : {R : Type 0} (tells : Type 0) (unread : R → List ℕ) (at to : CallState) (room : ℕ) (k u : List ℕ) (f g : BufferView R)
-    → GoesOn Unit unread at to room k u f g → GoesOn tells unread at to room k u f g
-goes_on_told tells unread at to room k u f g a =
+pub goes_on_told : {R : Type 0} (has_known_texts : Type 0) (unread : R → List ℕ) (at to : CallState) (room : ℕ) (k u : List ℕ) (f g : BufferView R)
+    → GoesOn Unit unread at to room k u f g → GoesOn has_known_texts unread at to room k u f g
+goes_on_told has_known_texts unread at to room k u f g a =
     record { unused = a.unused; fits = a.fits; reads = λ t. a.reads tt; bytes = λ t. a.bytes tt }
 
-pub tells_told : {R : Type 0} (tells : Type 0) (unread : R → List ℕ) (at : CallState) (room : ℕ) (k u : List ℕ) (f g : BufferView R) (result : CallRead)
-    → TellsCall Unit unread at room k u f g result → TellsCall tells unread at room k u f g result
-tells_told tells unread at room k u f g Closed a =
+pub tells_told : {R : Type 0} (has_known_texts : Type 0) (unread : R → List ℕ) (at : CallState) (room : ℕ) (k u : List ℕ) (f g : BufferView R) (result : CallRead)
+    → TellsCall Unit unread at room k u f g result → TellsCall has_known_texts unread at room k u f g result
+tells_told has_known_texts unread at room k u f g Closed a =
     record { unused = a.unused; fits = a.fits; plain = a.plain; reads = λ t. a.reads tt; bytes = λ t. a.bytes tt }
-tells_told tells unread at room k u f g (Refused kind) a = λ t. a tt
-tells_told tells unread at room k u f g (BrokenCall kind line) a = λ t. a tt
-tells_told tells unread at room k u f g Failed a = record { to = a.to; goes_on = goes_on_told tells unread at a.to room k u f g a.goes_on }
+tells_told has_known_texts unread at room k u f g (Refused kind) a = λ t. a tt
+tells_told has_known_texts unread at room k u f g (BrokenCall kind line) a = λ t. a tt
+tells_told has_known_texts unread at room k u f g Failed a = record { to = a.to; goes_on = goes_on_told has_known_texts unread at a.to room k u f g a.goes_on }
 
 -- bytes that were used, and bytes behind them
 pub used_twice : {R : Type 0} (f g : BufferView R) (x y : List ℕ) (include_stack : List (File R)) → with_used g y (with_used f x include_stack) ≡ with_used g (x ++ y) include_stack
@@ -239,12 +239,12 @@ pub record IsReading {S R : Type 0} (g : Ghosts S R) (failed : Bool) (first now 
   pub used : List ℕ
   pub only : new ≡ record old { include_stack = new.include_stack }
   pub inner : new.include_stack ≡ with_used (inner_buffer new.include_stack) used old.include_stack
-  pub goes_on : GoesOn (g.tells first) g.unread Before at most store.bytes used (inner_buffer old.include_stack) (inner_buffer new.include_stack)
+  pub goes_on : GoesOn (g.has_known_texts first) g.unread Before at most store.bytes used (inner_buffer old.include_stack) (inner_buffer new.include_stack)
   pub room : store.most ≡ most
   pub level : level_in at ≤ length store.bytes
   pub lead : at ≡ Before → (inner_buffer new.include_stack).mode ≢ InStr
-  pub moves : MovesOver (g.tells first) Unit g.unread used (inner_buffer old.include_stack) (inner_buffer new.include_stack)
-  pub text : g.tells first → text_left g.unread (inner_buffer old.include_stack) ≡ used ++ text_left g.unread (inner_buffer new.include_stack)
+  pub moves : MovesOver (g.has_known_texts first) Unit g.unread used (inner_buffer old.include_stack) (inner_buffer new.include_stack)
+  pub text : g.has_known_texts first → text_left g.unread (inner_buffer old.include_stack) ≡ used ++ text_left g.unread (inner_buffer new.include_stack)
   pub call : SourcesRead g failed first now
 
 -- sources of which nothing was used
@@ -254,17 +254,17 @@ same_used [] = refl
 same_used (f ∷ outer) = refl
 
 -- a window that stays
-same_moves : {R : Type 0} (tells exact : Type 0) (unread : R → List ℕ) (f : BufferView R) → MovesOver tells exact unread [] f f
-same_moves tells exact unread f = moves-past tells exact unread [] f f refl (omega arith) refl
+same_moves : {R : Type 0} (has_known_texts exact : Type 0) (unread : R → List ℕ) (f : BufferView R) → MovesOver has_known_texts exact unread [] f f
+same_moves has_known_texts exact unread f = moves-past has_known_texts exact unread [] f f refl (omega arith) refl
 
 -- nothing was kept yet
-reads_nothing : {R : Type 0} (tells : Type 0) (unread : R → List ℕ) (at : CallState) (room : ℕ) (f new : BufferView R) → unused_of f ≤ unused_of new + 1 → ReadsUpTo tells unread at room [] f new
-reads_nothing tells unread at room f new most =
-    record { to = at; used = []; there = f; goes_on = fill_goes_on tells unread at room f f refl refl (λ t. refl); whole = omega (arith, most) }
+reads_nothing : {R : Type 0} (has_known_texts : Type 0) (unread : R → List ℕ) (at : CallState) (room : ℕ) (f new : BufferView R) → unused_of f ≤ unused_of new + 1 → ReadsUpTo has_known_texts unread at room [] f new
+reads_nothing has_known_texts unread at room f new most =
+    record { to = at; used = []; there = f; goes_on = fill_goes_on has_known_texts unread at room f f refl refl (λ t. refl); whole = omega (arith, most) }
 
 -- sources that weren't asked
 not_asked : {S R : Type 0} (g : Ghosts S R) (s : S) → SourcesRead g false s s
-not_asked g s = record { failures = refl; refusals = refl; tells = λ t. t; catalog = refl }
+not_asked g s = record { failures = refl; refusals = refl; has_known_texts = λ t. t; catalog = refl }
 
 -- nothing was read yet
 pub reading_starts : {S R : Type 0} (g : Ghosts S R) (s : S) (files : FilesView R) (most : ℕ) (store : StoreView) → store.bytes ≡ [] → store.most ≡ most
@@ -275,12 +275,12 @@ reading_starts g s files most store none room plain =
       used = [];
       only = refl;
       inner = same_used files.include_stack;
-      goes_on = subst (λ (k : List ℕ). GoesOn (g.tells s) g.unread Before Before most k [] (inner_buffer files.include_stack) (inner_buffer files.include_stack)) (sym none)
-          (fill_goes_on (g.tells s) g.unread Before most (inner_buffer files.include_stack) (inner_buffer files.include_stack) refl refl (λ t. refl));
+      goes_on = subst (λ (k : List ℕ). GoesOn (g.has_known_texts s) g.unread Before Before most k [] (inner_buffer files.include_stack) (inner_buffer files.include_stack)) (sym none)
+          (fill_goes_on (g.has_known_texts s) g.unread Before most (inner_buffer files.include_stack) (inner_buffer files.include_stack) refl refl (λ t. refl));
       room = room;
       level = omega arith;
       lead = λ _ open_. (let no : Plain ≡ InStr = sym plain ∙ open_ in cc);
-      moves = same_moves (g.tells s) Unit g.unread (inner_buffer files.include_stack);
+      moves = same_moves (g.has_known_texts s) Unit g.unread (inner_buffer files.include_stack);
       text = λ t. refl;
       call = not_asked g s;
     }
@@ -296,9 +296,9 @@ pub filled : {S R : Type 0} (g : Ghosts S R) (failed : Bool) (first now after : 
     → IsReading g false first now old mid most store at
     → new ≡ record mid { include_stack = with_buffer (inner_buffer new.include_stack) mid.include_stack }
     → unused_of (inner_buffer new.include_stack) ≡ unused_of (inner_buffer mid.include_stack) → (inner_buffer new.include_stack).mode ≡ (inner_buffer mid.include_stack).mode
-    → (g.tells now → tokens_left g.unread (inner_buffer new.include_stack) ≡ tokens_left g.unread (inner_buffer mid.include_stack))
-    → MovesOver (g.tells now) Unit g.unread [] (inner_buffer mid.include_stack) (inner_buffer new.include_stack)
-    → (g.tells now → text_left g.unread (inner_buffer new.include_stack) ≡ text_left g.unread (inner_buffer mid.include_stack))
+    → (g.has_known_texts now → tokens_left g.unread (inner_buffer new.include_stack) ≡ tokens_left g.unread (inner_buffer mid.include_stack))
+    → MovesOver (g.has_known_texts now) Unit g.unread [] (inner_buffer mid.include_stack) (inner_buffer new.include_stack)
+    → (g.has_known_texts now → text_left g.unread (inner_buffer new.include_stack) ≡ text_left g.unread (inner_buffer mid.include_stack))
     → SourcesRead g failed now after
     → IsReading g failed first after old new most store at
 filled g failed first now after old mid new most store at r only unused mode tokens moves text call =
@@ -307,16 +307,16 @@ filled g failed first now after old mid new most store at r only unused mode tok
       used = r.used ++ [];
       only = (let o = r.only in cc);
       inner = used_on old.include_stack mid.include_stack new.include_stack r.used [] r.inner include_stack;
-      goes_on = subst (λ (k : List ℕ). GoesOn (g.tells first) g.unread Before at most k (r.used ++ []) (inner_buffer old.include_stack) (inner_buffer new.include_stack)) (append-nil store.bytes)
-          (goes_on_twice (g.tells first) g.unread Before at at most store.bytes [] r.used [] (inner_buffer old.include_stack) (inner_buffer mid.include_stack) (inner_buffer new.include_stack) r.goes_on
-          (fill_goes_on (g.tells first) g.unread at (most - length store.bytes) (inner_buffer mid.include_stack) (inner_buffer new.include_stack) unused mode (λ t. tokens (r.call.tells t))));
+      goes_on = subst (λ (k : List ℕ). GoesOn (g.has_known_texts first) g.unread Before at most k (r.used ++ []) (inner_buffer old.include_stack) (inner_buffer new.include_stack)) (append-nil store.bytes)
+          (goes_on_twice (g.has_known_texts first) g.unread Before at at most store.bytes [] r.used [] (inner_buffer old.include_stack) (inner_buffer mid.include_stack) (inner_buffer new.include_stack) r.goes_on
+          (fill_goes_on (g.has_known_texts first) g.unread at (most - length store.bytes) (inner_buffer mid.include_stack) (inner_buffer new.include_stack) unused mode (λ t. tokens (r.call.has_known_texts t))));
       room = r.room;
       level = r.level;
       lead = λ before open_. r.lead before (sym mode ∙ open_);
-      moves = moves-on (g.tells first) (g.tells first) (g.tells now) Unit Unit g.unread r.used [] (inner_buffer old.include_stack) (inner_buffer mid.include_stack) (inner_buffer new.include_stack) (λ t. t) r.call.tells (λ e. e) r.moves moves;
+      moves = moves-on (g.has_known_texts first) (g.has_known_texts first) (g.has_known_texts now) Unit Unit g.unread r.used [] (inner_buffer old.include_stack) (inner_buffer mid.include_stack) (inner_buffer new.include_stack) (λ t. t) r.call.has_known_texts (λ e. e) r.moves moves;
       text = λ t.
           text-on r.used [] (text_left g.unread (inner_buffer old.include_stack)) (text_left g.unread (inner_buffer mid.include_stack)) (text_left g.unread (inner_buffer new.include_stack))
-          (r.text t) (sym (text (r.call.tells t)));
+          (r.text t) (sym (text (r.call.has_known_texts t)));
       call = calls-on g failed first now after r.call call;
     }
 
@@ -334,14 +334,14 @@ taken {R = R} g first now old mid new most store after at to r only room t =
       used = r.used ++ t.used;
       only = (let o = r.only in cc);
       inner = used_on old.include_stack mid.include_stack new.include_stack r.used t.used r.inner t.inner;
-      goes_on = subst (λ (k : List ℕ). GoesOn (g.tells first) g.unread Before to most k (r.used ++ t.used) (inner_buffer old.include_stack) (inner_buffer new.include_stack)) (sym t.bytes)
-          (goes_on_twice (g.tells first) g.unread Before at to most store.bytes t.kept r.used t.used (inner_buffer old.include_stack) (inner_buffer mid.include_stack) (inner_buffer new.include_stack) r.goes_on
-          (goes_on_told (g.tells first) g.unread at to (most - length store.bytes) t.kept t.used (inner_buffer mid.include_stack) (inner_buffer new.include_stack)
+      goes_on = subst (λ (k : List ℕ). GoesOn (g.has_known_texts first) g.unread Before to most k (r.used ++ t.used) (inner_buffer old.include_stack) (inner_buffer new.include_stack)) (sym t.bytes)
+          (goes_on_twice (g.has_known_texts first) g.unread Before at to most store.bytes t.kept r.used t.used (inner_buffer old.include_stack) (inner_buffer mid.include_stack) (inner_buffer new.include_stack) r.goes_on
+          (goes_on_told (g.has_known_texts first) g.unread at to (most - length store.bytes) t.kept t.used (inner_buffer mid.include_stack) (inner_buffer new.include_stack)
           (subst (λ n. GoesOn Unit g.unread at to (n - length store.bytes) t.kept t.used (inner_buffer mid.include_stack) (inner_buffer new.include_stack)) r.room (t.goes_on g.unread))));
       room = room ∙ r.room;
       level = omega arith;
       lead = t.lead;
-      moves = moves-on (g.tells first) (g.tells first) Unit Unit Unit g.unread r.used t.used (inner_buffer old.include_stack) (inner_buffer mid.include_stack) (inner_buffer new.include_stack) (λ t. t) (λ _. tt) (λ e. e) r.moves (t.moves g.unread);
+      moves = moves-on (g.has_known_texts first) (g.has_known_texts first) Unit Unit Unit g.unread r.used t.used (inner_buffer old.include_stack) (inner_buffer mid.include_stack) (inner_buffer new.include_stack) (λ t. t) (λ _. tt) (λ e. e) r.moves (t.moves g.unread);
       text = λ told.
           text-on r.used t.used (text_left g.unread (inner_buffer old.include_stack)) (text_left g.unread (inner_buffer mid.include_stack)) (text_left g.unread (inner_buffer new.include_stack))
           (r.text told) (t.text g.unread);
@@ -352,51 +352,51 @@ taken {R = R} g first now old mid new most store after at to r only room t =
 pub answered : {S R : Type 0} (g : Ghosts S R) (first now : S) (old mid : FilesView R) (new : List (File R)) (most : ℕ) (store : StoreView) (at : CallState) (used : List ℕ) (result : CallRead)
     → IsReading g false first now old mid most store at
     → new ≡ with_used (inner_buffer new) used mid.include_stack → unused_of (inner_buffer new) + length used ≡ unused_of (inner_buffer mid.include_stack)
-    → MovesOver (g.tells first) (IsExactCall result) g.unread used (inner_buffer mid.include_stack) (inner_buffer new)
-    → (IsExactCall result → g.tells first → text_left g.unread (inner_buffer mid.include_stack) ≡ used ++ text_left g.unread (inner_buffer new))
-    → TellsCall (g.tells first) g.unread at (most - length store.bytes) [] used (inner_buffer mid.include_stack) (inner_buffer new) result
-    → ReadsUpTo (g.tells first) g.unread at (most - length store.bytes) [] (inner_buffer mid.include_stack) (inner_buffer new)
-    → ReadsCall (g.tells first) g.unread Before most store.bytes result old.include_stack new
-answered g first now old mid new most store at used result r inner unused moves text tells so =
+    → MovesOver (g.has_known_texts first) (IsExactCall result) g.unread used (inner_buffer mid.include_stack) (inner_buffer new)
+    → (IsExactCall result → g.has_known_texts first → text_left g.unread (inner_buffer mid.include_stack) ≡ used ++ text_left g.unread (inner_buffer new))
+    → TellsCall (g.has_known_texts first) g.unread at (most - length store.bytes) [] used (inner_buffer mid.include_stack) (inner_buffer new) result
+    → ReadsUpTo (g.has_known_texts first) g.unread at (most - length store.bytes) [] (inner_buffer mid.include_stack) (inner_buffer new)
+    → ReadsCall (g.has_known_texts first) g.unread Before most store.bytes result old.include_stack new
+answered g first now old mid new most store at used result r inner unused moves text has_known_texts so =
     let on = r.goes_on.unused in
     record {
       used = r.used ++ used;
       inner = used_on old.include_stack mid.include_stack new r.used used r.inner inner;
       unused = omega (arith, length-append r.used used);
-      moves = moves-on (g.tells first) (g.tells first) (g.tells first) (IsExactCall result) (IsExactCall result) g.unread r.used used (inner_buffer old.include_stack) (inner_buffer mid.include_stack) (inner_buffer new)
+      moves = moves-on (g.has_known_texts first) (g.has_known_texts first) (g.has_known_texts first) (IsExactCall result) (IsExactCall result) g.unread r.used used (inner_buffer old.include_stack) (inner_buffer mid.include_stack) (inner_buffer new)
           (λ t. t) (λ t. t) (λ e. e) r.moves moves;
       so_far = record {
         to = so.to;
         used = r.used ++ so.used;
         there = so.there;
-        goes_on = subst (λ (k : List ℕ). GoesOn (g.tells first) g.unread Before so.to most k (r.used ++ so.used) (inner_buffer old.include_stack) so.there) (append-nil store.bytes)
-            (goes_on_twice (g.tells first) g.unread Before at so.to most store.bytes [] r.used so.used (inner_buffer old.include_stack) (inner_buffer mid.include_stack) so.there r.goes_on so.goes_on);
+        goes_on = subst (λ (k : List ℕ). GoesOn (g.has_known_texts first) g.unread Before so.to most k (r.used ++ so.used) (inner_buffer old.include_stack) so.there) (append-nil store.bytes)
+            (goes_on_twice (g.has_known_texts first) g.unread Before at so.to most store.bytes [] r.used so.used (inner_buffer old.include_stack) (inner_buffer mid.include_stack) so.there r.goes_on so.goes_on);
         whole = (let more = so.whole in omega (arith, length-append r.used so.used, on, more));
       };
       text = λ exact t.
           text-on r.used used (text_left g.unread (inner_buffer old.include_stack)) (text_left g.unread (inner_buffer mid.include_stack)) (text_left g.unread (inner_buffer new))
           (r.text t) (text exact t);
-      answer = subst (λ (k : List ℕ). TellsCall (g.tells first) g.unread Before most k (r.used ++ used) (inner_buffer old.include_stack) (inner_buffer new) result) (append-nil store.bytes)
-          (tells_behind (g.tells first) g.unread Before at most store.bytes [] r.used used (inner_buffer old.include_stack) (inner_buffer mid.include_stack) (inner_buffer new) result r.goes_on tells);
+      answer = subst (λ (k : List ℕ). TellsCall (g.has_known_texts first) g.unread Before most k (r.used ++ used) (inner_buffer old.include_stack) (inner_buffer new) result) (append-nil store.bytes)
+          (tells_behind (g.has_known_texts first) g.unread Before at most store.bytes [] r.used used (inner_buffer old.include_stack) (inner_buffer mid.include_stack) (inner_buffer new) result r.goes_on has_known_texts);
     }
 
 -- an answer at a token
 pub answered_token : {S R : Type 0} (g : Ghosts S R) (first now : S) (old mid : FilesView R) (new : List (File R)) (most : ℕ) (store after : StoreView) (at : CallState) (result : CallRead)
     → IsReading g false first now old mid most store at
     → IsEnded at (store.most - length store.bytes) store.bytes after.bytes mid.include_stack new result
-    → ReadsCall (g.tells first) g.unread Before most after.bytes result old.include_stack new
+    → ReadsCall (g.has_known_texts first) g.unread Before most after.bytes result old.include_stack new
 answered_token g first now old mid new most store after at result r e =
     let c = e.reads g.unread in
-    subst (λ (k : List ℕ). ReadsCall (g.tells first) g.unread Before most k result old.include_stack new) (sym e.bytes)
-    (answered g first now old mid new most store at c.used result r c.inner c.unused (moves-told (g.tells first) Unit (IsExactCall result) (IsExactCall result) g.unread c.used (inner_buffer mid.include_stack) (inner_buffer new) (λ t. tt) (λ e. e) c.moves)
+    subst (λ (k : List ℕ). ReadsCall (g.has_known_texts first) g.unread Before most k result old.include_stack new) (sym e.bytes)
+    (answered g first now old mid new most store at c.used result r c.inner c.unused (moves-told (g.has_known_texts first) Unit (IsExactCall result) (IsExactCall result) g.unread c.used (inner_buffer mid.include_stack) (inner_buffer new) (λ t. tt) (λ e. e) c.moves)
     (λ exact t. c.text exact tt)
-    (tells_told (g.tells first) g.unread at (most - length store.bytes) [] c.used (inner_buffer mid.include_stack) (inner_buffer new) result
+    (tells_told (g.has_known_texts first) g.unread at (most - length store.bytes) [] c.used (inner_buffer mid.include_stack) (inner_buffer new) result
     (subst (λ n. TellsCall Unit g.unread at (n - length store.bytes) [] c.used (inner_buffer mid.include_stack) (inner_buffer new) result) r.room c.answer))
     (let so = subst (λ n. ReadsUpTo Unit g.unread at (n - length store.bytes) [] (inner_buffer mid.include_stack) (inner_buffer new)) r.room c.so_far in record {
       to = so.to;
       used = so.used;
       there = so.there;
-      goes_on = goes_on_told (g.tells first) g.unread at so.to (most - length store.bytes) [] so.used (inner_buffer mid.include_stack) so.there so.goes_on;
+      goes_on = goes_on_told (g.has_known_texts first) g.unread at so.to (most - length store.bytes) [] so.used (inner_buffer mid.include_stack) so.there so.goes_on;
       whole = so.whole;
     }))
 
@@ -404,50 +404,50 @@ answered_token g first now old mid new most store after at result r e =
 pub answered_unfilled : {S R : Type 0} (g : Ghosts S R) (first now : S) (old mid new : FilesView R) (most : ℕ) (store : StoreView) (at : CallState) (result : CallRead)
     → IsReading g false first now old mid most store at
     → new ≡ record mid { include_stack = with_buffer (inner_buffer new.include_stack) mid.include_stack } → unused_of (inner_buffer new.include_stack) ≡ unused_of (inner_buffer mid.include_stack)
-    → MovesOver (g.tells now) (IsExactCall result) g.unread [] (inner_buffer mid.include_stack) (inner_buffer new.include_stack)
-    → (IsExactCall result → g.tells now → text_left g.unread (inner_buffer new.include_stack) ≡ text_left g.unread (inner_buffer mid.include_stack))
-    → TellsCall (g.tells first) g.unread at (most - length store.bytes) [] [] (inner_buffer mid.include_stack) (inner_buffer new.include_stack) result
-    → ReadsCall (g.tells first) g.unread Before most store.bytes result old.include_stack new.include_stack
-answered_unfilled g first now old mid new most store at result r only unused moves text tells =
+    → MovesOver (g.has_known_texts now) (IsExactCall result) g.unread [] (inner_buffer mid.include_stack) (inner_buffer new.include_stack)
+    → (IsExactCall result → g.has_known_texts now → text_left g.unread (inner_buffer new.include_stack) ≡ text_left g.unread (inner_buffer mid.include_stack))
+    → TellsCall (g.has_known_texts first) g.unread at (most - length store.bytes) [] [] (inner_buffer mid.include_stack) (inner_buffer new.include_stack) result
+    → ReadsCall (g.has_known_texts first) g.unread Before most store.bytes result old.include_stack new.include_stack
+answered_unfilled g first now old mid new most store at result r only unused moves text has_known_texts =
     answered g first now old mid new.include_stack most store at [] result r
     (ap (λ f. f.include_stack) only ∙ used_none (inner_buffer new.include_stack) mid.include_stack) (omega (arith, unused))
-    (moves-told (g.tells first) (g.tells now) (IsExactCall result) (IsExactCall result) g.unread [] (inner_buffer mid.include_stack) (inner_buffer new.include_stack) r.call.tells (λ e. e) moves)
-    (λ exact t. sym (text exact (r.call.tells t))) tells
-    (reads_nothing (g.tells first) g.unread at (most - length store.bytes) (inner_buffer mid.include_stack) (inner_buffer new.include_stack) (omega (arith, unused)))
+    (moves-told (g.has_known_texts first) (g.has_known_texts now) (IsExactCall result) (IsExactCall result) g.unread [] (inner_buffer mid.include_stack) (inner_buffer new.include_stack) r.call.has_known_texts (λ e. e) moves)
+    (λ exact t. sym (text exact (r.call.has_known_texts t))) has_known_texts
+    (reads_nothing (g.has_known_texts first) g.unread at (most - length store.bytes) (inner_buffer mid.include_stack) (inner_buffer new.include_stack) (omega (arith, unused)))
 
 -- a read failed behind what was read
 pub answered_failed : {S R : Type 0} (g : Ghosts S R) (first now : S) (old new : FilesView R) (most : ℕ) (store : StoreView) (at : CallState)
     → IsReading g true first now old new most store at
-    → ReadsCall (g.tells first) g.unread Before most store.bytes Failed old.include_stack new.include_stack
+    → ReadsCall (g.has_known_texts first) g.unread Before most store.bytes Failed old.include_stack new.include_stack
 answered_failed g first now old new most store at r =
     record {
       used = r.used;
       inner = r.inner;
       unused = r.goes_on.unused;
-      moves = moves-told (g.tells first) (g.tells first) (IsExactCall Failed) Unit g.unread r.used (inner_buffer old.include_stack) (inner_buffer new.include_stack) (λ t. t) (λ _. tt) r.moves;
+      moves = moves-told (g.has_known_texts first) (g.has_known_texts first) (IsExactCall Failed) Unit g.unread r.used (inner_buffer old.include_stack) (inner_buffer new.include_stack) (λ t. t) (λ _. tt) r.moves;
       so_far = record { to = at; used = r.used; there = inner_buffer new.include_stack; goes_on = r.goes_on; whole = (let on = r.goes_on.unused in omega (arith, on)) };
       text = λ exact t. r.text t;
       answer = record { to = at; goes_on = r.goes_on };
     }
 
 -- what an answer at the end of a text tells
-pub end_tells : {R : Type 0} (tells : Type 0) (unread : R → List ℕ) (at : CallState) (room : ℕ) (old new : BufferView R) (result : CallRead)
+pub end_tells : {R : Type 0} (has_known_texts : Type 0) (unread : R → List ℕ) (at : CallState) (room : ℕ) (old new : BufferView R) (result : CallRead)
     → IsEndOfText at room new result → new.mode ≡ old.mode → new.open_token_line ≡ old.open_token_line
-    → (tells → tokens_left unread old ≡ ended_tokens old.mode old.open_token_line)
-    → TellsCall tells unread at room [] [] old new result
+    → (has_known_texts → tokens_left unread old ≡ ended_tokens old.mode old.open_token_line)
+    → TellsCall has_known_texts unread at room [] [] old new result
 unfolding reading
-end_tells tells unread at room old new (Refused kind) e mode opened tokens =
+end_tells has_known_texts unread at room old new (Refused kind) e mode opened tokens =
     λ t. ap (read at (is_open old.mode) room) (tokens t)
     ∙ sym (ap (λ (m : Mode). read at (is_open m) room (ended_tokens m old.open_token_line)) mode)
     ∙ sym (ap (λ n. read at (is_open new.mode) room (ended_tokens new.mode n)) opened)
     ∙ e
-end_tells tells unread at room old new (Broken kind line) e mode opened tokens =
+end_tells has_known_texts unread at room old new (Broken kind line) e mode opened tokens =
     λ t. ap (read at (is_open old.mode) room) (tokens t)
     ∙ sym (ap (λ (m : Mode). read at (is_open m) room (ended_tokens m old.open_token_line)) mode)
     ∙ sym (ap (λ n. read at (is_open new.mode) room (ended_tokens new.mode n)) opened)
     ∙ e
-end_tells tells unread at room old new Closed e mode opened tokens = absurd e
-end_tells tells unread at room old new Failed e mode opened tokens = absurd e
+end_tells has_known_texts unread at room old new Closed e mode opened tokens = absurd e
+end_tells has_known_texts unread at room old new Failed e mode opened tokens = absurd e
 
 pub end_read : {R : Type 0} (at : CallState) (room : ℕ) (f : BufferView R) (result : CallRead) → IsEndOfText at room f result → is_failed_call result ≡ false
 end_read at room f (Refused kind) e = refl
@@ -456,11 +456,11 @@ end_read at room f Closed e = absurd e
 end_read at room f Failed e = absurd e
 
 -- what a line that breaks the text tells
-pub break_tells : {R : Type 0} (tells : Type 0) (unread : R → List ℕ) (at : CallState) (room : ℕ) (old new : BufferView R) (b : Breach) (line : ℕ)
-    → is_part_breach b ≡ true → line ≡ old.line → (tells → tokens_left unread old ≡ only_broken b old.line)
-    → TellsCall tells unread at room [] [] old new (Broken (breach_kind b) line)
+pub break_tells : {R : Type 0} (has_known_texts : Type 0) (unread : R → List ℕ) (at : CallState) (room : ℕ) (old new : BufferView R) (b : Breach) (line : ℕ)
+    → is_part_breach b ≡ true → line ≡ old.line → (has_known_texts → tokens_left unread old ≡ only_broken b old.line)
+    → TellsCall has_known_texts unread at room [] [] old new (Broken (breach_kind b) line)
 unfolding reading
-break_tells tells unread at room old new b line part same tokens t =
+break_tells has_known_texts unread at room old new b line part same tokens t =
     ap (read at (is_open old.mode) room) (tokens t) ∙ broken_reads at (is_open old.mode) room b old.line part ∙ ap (ReadStopped (breach_kind b)) (sym same)
 
 -- what stands at the end of a text, in plain text, in a string and in a comment
@@ -541,7 +541,7 @@ token_closed {R = R} at m room most held bytes old new some ends there mode text
 -- nothing was used
 nothing_used : {R : Type 0} (unread : R → List ℕ) (at : CallState) (room : ℕ) (include_stack : List (File R)) (result : CallRead)
     → TellsCall Unit unread at room [] [] (inner_buffer include_stack) (inner_buffer include_stack) result → ReadsCall Unit unread at room [] result include_stack include_stack
-nothing_used unread at room include_stack result tells = record { used = []; inner = same_used include_stack; unused = omega arith; moves = same_moves Unit (IsExactCall result) unread (inner_buffer include_stack); so_far = reads_nothing Unit unread at room (inner_buffer include_stack) (inner_buffer include_stack) (omega arith); text = λ exact t. refl; answer = tells }
+nothing_used unread at room include_stack result has_known_texts = record { used = []; inner = same_used include_stack; unused = omega arith; moves = same_moves Unit (IsExactCall result) unread (inner_buffer include_stack); so_far = reads_nothing Unit unread at room (inner_buffer include_stack) (inner_buffer include_stack) (omega arith); text = λ exact t. refl; answer = has_known_texts }
 
 -- a call that is refused at a token
 pub token_refused : {R : Type 0} (at : CallState) (m : Mode) (room most : ℕ) (held bytes : List ℕ) (include_stack : List (File R)) (kind : FaultKind)
@@ -602,12 +602,12 @@ closed_call unread room f bytes behind e =
     record { used = c.used; call = c.call; rest = c.rest; keeps = c.keeps }
 
 -- each answer
-pub means : {R : Type 0} (tells : Type 0) (unread : R → List ℕ) (room : ℕ) (bytes used : List ℕ) (old new : BufferView R) (result : CallRead) → old.mode ≡ Plain
-    → TellsCall tells unread Before room bytes used old new result → MeansCall tells unread room bytes old new result
-means tells unread room bytes used old new Closed plain h = λ t.
+pub means : {R : Type 0} (has_known_texts : Type 0) (unread : R → List ℕ) (room : ℕ) (bytes used : List ℕ) (old new : BufferView R) (result : CallRead) → old.mode ≡ Plain
+    → TellsCall has_known_texts unread Before room bytes used old new result → MeansCall has_known_texts unread room bytes old new result
+means has_known_texts unread room bytes used old new Closed plain h = λ t.
     closed_call unread room old bytes (tokens_left unread new) (plain_reading unread room old _ plain (h.reads t))
-means tells unread room bytes used old new (Refused f) plain h = λ t.
+means has_known_texts unread room bytes used old new (Refused f) plain h = λ t.
     read_refused room (tokens_left unread old) f (plain_reading unread room old _ plain (h t))
-means tells unread room bytes used old new (Broken f line) plain h = λ t.
+means has_known_texts unread room bytes used old new (Broken f line) plain h = λ t.
     read_stopped room (tokens_left unread old) f line (plain_reading unread room old _ plain (h t))
-means tells unread room bytes used old new Failed plain h = tt
+means has_known_texts unread room bytes used old new Failed plain h = tt

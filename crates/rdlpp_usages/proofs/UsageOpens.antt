@@ -188,10 +188,10 @@ read_call rules most ts bytes behind limit c =
     subst (λ (n : ℕ). IsReadCall n ts bytes behind) (sym limit) (record { used = c.used; call = c.call; rest = c.rest; keeps = c.keeps })
 
 -- a call that was read and bound opens its body
-pub kept_bound : {R : Type 0} (tells : Type 0) (unread : R → List ℕ) (most : ℕ) (macros : List Macro) (id line : ℕ) (bytes now : List ℕ) (c : CursorsView) (old new : BufferView R)
-    → MeansCall tells unread most bytes old new call.Closed → BindsKept macros id line bytes now Opened c
-    → TellsCallUsage tells unread most macros id Opened c.opens now old new
-kept_bound tells unread most macros id line bytes now c old new means binds =
+pub kept_bound : {R : Type 0} (has_known_texts : Type 0) (unread : R → List ℕ) (most : ℕ) (macros : List Macro) (id line : ℕ) (bytes now : List ℕ) (c : CursorsView) (old new : BufferView R)
+    → MeansCall has_known_texts unread most bytes old new call.Closed → BindsKept macros id line bytes now Opened c
+    → TellsCallUsage has_known_texts unread most macros id Opened c.opens now old new
+kept_bound has_known_texts unread most macros id line bytes now c old new means binds =
     record {
       ranges = binds.ranges;
       body = subst (λ (bs : List ℕ). c.opens ≡ open_body (texts_of macros bs) id (map range_part binds.ranges) 0 ∷ []) (sym binds.stays) binds.body;
@@ -204,10 +204,10 @@ kept_bound tells unread most macros id line bytes now c old new means binds =
     }
 
 -- one that was read and isn't bound is refused
-pub kept_unbound : {R : Type 0} (tells : Type 0) (unread : R → List ℕ) (most : ℕ) (macros : List Macro) (id line : ℕ) (bytes now : List ℕ) (kind : FaultKind) (c : CursorsView) (old new : BufferView R)
-    → MeansCall tells unread most bytes old new call.Closed → BindsKept macros id line bytes now (Refused kind) c
-    → TellsCallUsage tells unread most macros id (Refused kind) c.opens now old new
-kept_unbound tells unread most macros id line bytes now kind c old new means binds =
+pub kept_unbound : {R : Type 0} (has_known_texts : Type 0) (unread : R → List ℕ) (most : ℕ) (macros : List Macro) (id line : ℕ) (bytes now : List ℕ) (kind : FaultKind) (c : CursorsView) (old new : BufferView R)
+    → MeansCall has_known_texts unread most bytes old new call.Closed → BindsKept macros id line bytes now (Refused kind) c
+    → TellsCallUsage has_known_texts unread most macros id (Refused kind) c.opens now old new
+kept_unbound has_known_texts unread most macros id line bytes now kind c old new means binds =
     λ rules at name fs limit formals t.
     let ts = tokens_left unread old in
     let behind = tokens_left unread new in
@@ -217,18 +217,18 @@ kept_unbound tells unread most macros id line bytes now kind c old new means bin
     ∙ ap (λ (k : FaultKind). UsageFault k name at) (sym binds.kind_is)
 
 -- one that lacks something is refused
-pub call_lacks : {R : Type 0} (tells : Type 0) (unread : R → List ℕ) (most : ℕ) (macros : List Macro) (id : ℕ) (bytes now : List ℕ) (kind : FaultKind) (opens : List Open) (old new : BufferView R)
-    → MeansCall tells unread most bytes old new (call.Refused kind) → TellsCallUsage tells unread most macros id (Refused kind) opens now old new
-call_lacks tells unread most macros id bytes now kind opens old new means =
+pub call_lacks : {R : Type 0} (has_known_texts : Type 0) (unread : R → List ℕ) (most : ℕ) (macros : List Macro) (id : ℕ) (bytes now : List ℕ) (kind : FaultKind) (opens : List Open) (old new : BufferView R)
+    → MeansCall has_known_texts unread most bytes old new (call.Refused kind) → TellsCallUsage has_known_texts unread most macros id (Refused kind) opens now old new
+call_lacks has_known_texts unread most macros id bytes now kind opens old new means =
     λ rules at name fs limit formals t.
     let ts = tokens_left unread old in
     source_lacks rules at name ts (macro_at macros id) fs kind
     (ap (λ (n : ℕ). call_of token_role kept n (leading ts)) limit ∙ means t)
 
 -- one with a broken token is refused for that
-pub call_breaks : {R : Type 0} (tells : Type 0) (unread : R → List ℕ) (most : ℕ) (macros : List Macro) (id : ℕ) (bytes now : List ℕ) (kind : FaultKind) (own : ℕ) (opens : List Open) (old new : BufferView R)
-    → MeansCall tells unread most bytes old new (call.Broken kind own) → TellsCallUsage tells unread most macros id (Broken kind own) opens now old new
-call_breaks tells unread most macros id bytes now kind own opens old new means =
+pub call_breaks : {R : Type 0} (has_known_texts : Type 0) (unread : R → List ℕ) (most : ℕ) (macros : List Macro) (id : ℕ) (bytes now : List ℕ) (kind : FaultKind) (own : ℕ) (opens : List Open) (old new : BufferView R)
+    → MeansCall has_known_texts unread most bytes old new (call.Broken kind own) → TellsCallUsage has_known_texts unread most macros id (Broken kind own) opens now old new
+call_breaks has_known_texts unread most macros id bytes now kind own opens old new means =
     λ rules at name fs limit formals t.
     let ts = tokens_left unread old in
     source_breaks rules at name ts (macro_at macros id) fs kind own
@@ -269,14 +269,14 @@ module _ {R : Type 0} (rules : Rules) (unread : R → List ℕ) (ws : List Waiti
       ∙ texts_same rules s macros e (open_body texts id [] 0 ∷ []) f.buffer.line d.0 depth _ opens line same d.1
 
   -- a call that is bound opens its body
-  pub usage_opens_call : (new : File R) (used : List ℕ) (e : ExpansionView) (tells : Type 0) (name : List ℕ) (fs : List Formal)
+  pub usage_opens_call : (new : File R) (used : List ℕ) (e : ExpansionView) (has_known_texts : Type 0) (name : List ℕ) (fs : List Formal)
       → HoldsFront f.buffer → f.buffer.mode ≡ Plain → IsUsage (held_of f.buffer) len → IsRun rules s macros depth most → 0 < depth
       → macro_named macros (usage_name (held_of f.buffer) len) ≡ Some (macro_at macros id) → (macro_at macros id).formals ≡ Some fs
-      → TellsCallUsage tells unread most macros id Opened e.opens e.arguments (consumed_file len 0 f).buffer new.buffer → IsBehind unread f new len used → tells
+      → TellsCallUsage has_known_texts unread most macros id Opened e.opens e.arguments (consumed_file len 0 f).buffer new.buffer → IsBehind unread f new len used → has_known_texts
       → e.line ≡ f.buffer.line → e.depth ≡ depth
       → TellsUsage rules s unread ws os macros f.buffer.line name Opened e (f ∷ outer) (new ∷ outer)
   unfolding inner_left
-  usage_opens_call new used e tells name fs holds plain usage run some found formals opens behind t line same =
+  usage_opens_call new used e has_known_texts name fs holds plain usage run some found formals opens behind t line same =
       let d = deeper depth some in
       let texts = texts_of macros e.arguments in
       let own = usage_name (held_of f.buffer) len in
@@ -286,13 +286,13 @@ module _ {R : Type 0} (rules : Rules) (unread : R → List ℕ) (ws : List Waiti
       ∙ texts_same rules s macros e (open_body texts id (map range_part opens.ranges) 0 ∷ []) f.buffer.line d.0 depth _ opens.body line same d.1
 
   -- a call that isn't is a fault
-  pub usage_refused : (kind : FaultKind) (word : List ℕ → List ℕ) (at : ℕ → ℕ) (tells : Type 0) (fs : List Formal)
+  pub usage_refused : (kind : FaultKind) (word : List ℕ → List ℕ) (at : ℕ → ℕ) (has_known_texts : Type 0) (fs : List Formal)
       → HoldsFront f.buffer → f.buffer.mode ≡ Plain → IsUsage (held_of f.buffer) len → IsRun rules s macros depth most
       → macro_named macros (usage_name (held_of f.buffer) len) ≡ Some (macro_at macros id) → (macro_at macros id).formals ≡ Some fs
-      → RefusesCall tells unread most macros id kind word at (consumed_file len 0 f).buffer → tells
+      → RefusesCall has_known_texts unread most macros id kind word at (consumed_file len 0 f).buffer → has_known_texts
       → inner_left rules unread ws os (f ∷ outer) s ≡ leaves (fails (fault_at kind (at f.buffer.line) (word (usage_name (held_of f.buffer) len)) s)) s
   unfolding inner_left
-  usage_refused kind word at tells fs holds plain usage run found formals refuses t =
+  usage_refused kind word at has_known_texts fs holds plain usage run found formals refuses t =
       let own = usage_name (held_of f.buffer) len in
       call_refused rules unread ws os f s len holds plain usage (macro_at macros id) fs kind (word own) (at f.buffer.line)
       (run_named rules s macros depth most own (macro_at macros id) run found) formals
@@ -404,21 +404,21 @@ count_usage kind e = ap (λ (k : FaultKind). is_usage_fault k) e
 -- A usage that is taken from the innermost source, over the list of open sources.
 
 -- a kept call, by what binding it comes to
-pub kept_tells : {R : Type 0} (tells : Type 0) (unread : R → List ℕ) (most : ℕ) (macros : List Macro) (id line : ℕ) (bytes now : List ℕ) (opening : Opening) (c : CursorsView) (old new : BufferView R)
-    → MeansCall tells unread most bytes old new call.Closed → BindsKept macros id line bytes now opening c → TellsCallUsage tells unread most macros id opening c.opens now old new
-kept_tells tells unread most macros id line bytes now Opened c old new means binds = kept_bound tells unread most macros id line bytes now c old new means binds
-kept_tells tells unread most macros id line bytes now (Refused kind) c old new means binds = kept_unbound tells unread most macros id line bytes now kind c old new means binds
-kept_tells tells unread most macros id line bytes now (Broken kind own) c old new means binds = absurd binds
-kept_tells tells unread most macros id line bytes now Failed c old new means binds = absurd binds
+pub kept_tells : {R : Type 0} (has_known_texts : Type 0) (unread : R → List ℕ) (most : ℕ) (macros : List Macro) (id line : ℕ) (bytes now : List ℕ) (opening : Opening) (c : CursorsView) (old new : BufferView R)
+    → MeansCall has_known_texts unread most bytes old new call.Closed → BindsKept macros id line bytes now opening c → TellsCallUsage has_known_texts unread most macros id opening c.opens now old new
+kept_tells has_known_texts unread most macros id line bytes now Opened c old new means binds = kept_bound has_known_texts unread most macros id line bytes now c old new means binds
+kept_tells has_known_texts unread most macros id line bytes now (Refused kind) c old new means binds = kept_unbound has_known_texts unread most macros id line bytes now kind c old new means binds
+kept_tells has_known_texts unread most macros id line bytes now (Broken kind own) c old new means binds = absurd binds
+kept_tells has_known_texts unread most macros id line bytes now Failed c old new means binds = absurd binds
 
 -- what is kept of a call that was read, by what binding it comes to
-pub kept_call : {R : Type 0} (tells : Type 0) (unread : R → List ℕ) (most : ℕ) (macros : List Macro) (id line : ℕ) (bytes now : List ℕ) (opening : Opening) (c : CursorsView) (old new : List (File R))
-    → (inner_buffer old).mode ≡ Plain → ReadsCall tells unread Before most bytes call.Closed old new → BindsKept macros id line bytes now opening c → KeepsOpening tells unread most opening bytes (inner_buffer old) (inner_buffer new)
-kept_call tells unread most macros id line bytes now Opened c old new plain r binds =
+pub kept_call : {R : Type 0} (has_known_texts : Type 0) (unread : R → List ℕ) (most : ℕ) (macros : List Macro) (id line : ℕ) (bytes now : List ℕ) (opening : Opening) (c : CursorsView) (old new : List (File R))
+    → (inner_buffer old).mode ≡ Plain → ReadsCall has_known_texts unread Before most bytes call.Closed old new → BindsKept macros id line bytes now opening c → KeepsOpening has_known_texts unread most opening bytes (inner_buffer old) (inner_buffer new)
+kept_call has_known_texts unread most macros id line bytes now Opened c old new plain r binds =
     λ t. record { call = r.used; plain = plain; text = r.text (λ own e. cc e) t; kept = r.answer.reads t }
-kept_call tells unread most macros id line bytes now (Refused kind) c old new plain r binds = r.so_far
-kept_call tells unread most macros id line bytes now (Broken kind own) c old new plain r binds = absurd binds
-kept_call tells unread most macros id line bytes now Failed c old new plain r binds = absurd binds
+kept_call has_known_texts unread most macros id line bytes now (Refused kind) c old new plain r binds = r.so_far
+kept_call has_known_texts unread most macros id line bytes now (Broken kind own) c old new plain r binds = absurd binds
+kept_call has_known_texts unread most macros id line bytes now Failed c old new plain r binds = absurd binds
 
 -- so it is with a body that is opened
 pub body_usage : (texts : Texts) (id : ℕ) (parts : List Part) (opens : List Open) → opens ≡ open_body texts id parts 0 ∷ [] → usage_id opens ≡ Some id
@@ -457,25 +457,25 @@ unfolding bound_by open_body
 bindings_plain texts id opens none is = ap bound_by is ∙ sym (ap (λ (o : Option (List Formal)). length (unwrap_or o [])) none)
 
 -- what is kept of a usage with a list
-pub keeps_listed : {R : Type 0} (formals : Option (List Formal)) (tells : Type 0) (unread : R → List ℕ) (most : ℕ) (opening : Opening) (arguments : List ℕ) (from now : BufferView R) → is_some formals ≡ true
-    → KeepsOpening tells unread most opening arguments from now → KeepsUsage formals tells unread most opening arguments from now
-keeps_listed None tells unread most opening arguments from now e keeps = cc e
-keeps_listed (Some fs) tells unread most opening arguments from now e keeps = keeps
+pub keeps_listed : {R : Type 0} (formals : Option (List Formal)) (has_known_texts : Type 0) (unread : R → List ℕ) (most : ℕ) (opening : Opening) (arguments : List ℕ) (from now : BufferView R) → is_some formals ≡ true
+    → KeepsOpening has_known_texts unread most opening arguments from now → KeepsUsage formals has_known_texts unread most opening arguments from now
+keeps_listed None has_known_texts unread most opening arguments from now e keeps = cc e
+keeps_listed (Some fs) has_known_texts unread most opening arguments from now e keeps = keeps
 
 -- the same over sources of which the name was used, with a store of its own limit
-pub keeps_listed_by : {R : Type 0} (macros : List Macro) (id : ℕ) (tells : Type 0) (unread : R → List ℕ) (own most : ℕ) (opening : Opening) (arguments : List ℕ) (mid include_stack new : List (File R)) → own ≡ most → mid ≡ include_stack
+pub keeps_listed_by : {R : Type 0} (macros : List Macro) (id : ℕ) (has_known_texts : Type 0) (unread : R → List ℕ) (own most : ℕ) (opening : Opening) (arguments : List ℕ) (mid include_stack new : List (File R)) → own ≡ most → mid ≡ include_stack
     → is_some (macro_at macros id).formals ≡ true
-    → KeepsOpening tells unread own opening arguments (inner_buffer mid) (inner_buffer new) → KeepsUsage (macro_at macros id).formals tells unread most opening arguments (inner_buffer include_stack) (inner_buffer new)
-keeps_listed_by {R} macros id tells unread own most opening arguments mid include_stack new same is listed keeps =
-    keeps_listed (macro_at macros id).formals tells unread most opening arguments (inner_buffer include_stack) (inner_buffer new) listed
-    (subst (λ (ns : List (File R)). KeepsOpening tells unread most opening arguments (inner_buffer ns) (inner_buffer new)) is
-    (subst (λ (n : ℕ). KeepsOpening tells unread n opening arguments (inner_buffer mid) (inner_buffer new)) same keeps))
+    → KeepsOpening has_known_texts unread own opening arguments (inner_buffer mid) (inner_buffer new) → KeepsUsage (macro_at macros id).formals has_known_texts unread most opening arguments (inner_buffer include_stack) (inner_buffer new)
+keeps_listed_by {R} macros id has_known_texts unread own most opening arguments mid include_stack new same is listed keeps =
+    keeps_listed (macro_at macros id).formals has_known_texts unread most opening arguments (inner_buffer include_stack) (inner_buffer new) listed
+    (subst (λ (ns : List (File R)). KeepsOpening has_known_texts unread most opening arguments (inner_buffer ns) (inner_buffer new)) is
+    (subst (λ (n : ℕ). KeepsOpening has_known_texts unread n opening arguments (inner_buffer mid) (inner_buffer new)) same keeps))
 
 -- of one without a list
-pub keeps_plain : {R : Type 0} (formals : Option (List Formal)) (tells : Type 0) (unread : R → List ℕ) (most : ℕ) (opening : Opening) (arguments : List ℕ) (from now : BufferView R) → formals ≡ None
-    → arguments ≡ [] → KeepsUsage formals tells unread most opening arguments from now
-keeps_plain None tells unread most opening arguments from now e none = none
-keeps_plain (Some fs) tells unread most opening arguments from now e none = cc e
+pub keeps_plain : {R : Type 0} (formals : Option (List Formal)) (has_known_texts : Type 0) (unread : R → List ℕ) (most : ℕ) (opening : Opening) (arguments : List ℕ) (from now : BufferView R) → formals ≡ None
+    → arguments ≡ [] → KeepsUsage formals has_known_texts unread most opening arguments from now
+keeps_plain None has_known_texts unread most opening arguments from now e none = none
+keeps_plain (Some fs) has_known_texts unread most opening arguments from now e none = cc e
 
 -- a list that isn't there
 pub no_list : (o : Option (List Formal)) → is_some (option_map length o) ≡ false → o ≡ None
@@ -492,9 +492,9 @@ pub opened_line : (opening : Opening) (now line old : ℕ) → now ≡ (if is_op
 opened_line opening now line old e o = e ∙ ap (λ (x : Opening). if is_opened x then line else old) o
 
 -- the window behind the bytes of a usage
-name_moves : {R : Type 0} (tells exact : Type 0) (unread : R → List ℕ) (f : File R) (len : ℕ) → len ≤ length (held_of f.buffer) → MovesOver tells exact unread (take len (held_of f.buffer)) f.buffer (consumed_file len 0 f).buffer
-name_moves tells exact unread f len inside =
-    moves-past tells exact unread (take len (held_of f.buffer)) f.buffer (consumed_file len 0 f).buffer refl (ap (λ (n : ℕ). f.buffer.at + n) (sym (length-take-le len (held_of f.buffer) inside))) refl
+name_moves : {R : Type 0} (has_known_texts exact : Type 0) (unread : R → List ℕ) (f : File R) (len : ℕ) → len ≤ length (held_of f.buffer) → MovesOver has_known_texts exact unread (take len (held_of f.buffer)) f.buffer (consumed_file len 0 f).buffer
+name_moves has_known_texts exact unread f len inside =
+    moves-past has_known_texts exact unread (take len (held_of f.buffer)) f.buffer (consumed_file len 0 f).buffer refl (ap (λ (n : ℕ). f.buffer.at + n) (sym (length-take-le len (held_of f.buffer) inside))) refl
 
 -- what is held behind them
 name_held : {R : Type 0} (f : File R) (len : ℕ) → held_of (consumed_file len 0 f).buffer ≡ drop len (held_of f.buffer)
@@ -511,11 +511,11 @@ name_text : {R : Type 0} (unread : R → List ℕ) (f : File R) (len : ℕ) → 
 name_text unread f len = text-past unread f.buffer (consumed_file len 0 f).buffer len (name_held f len) (name_rest unread f len)
 
 -- the bytes of a usage are used
-pub uses_name : {R : Type 0} (tells : Type 0) (unread : R → List ℕ) (opening : Opening) (include_stack : List (File R)) (len : ℕ) → 0 < length include_stack → 0 < len → len ≤ length (held_of (inner_buffer include_stack))
-    → UsesSource tells unread opening include_stack (with_inner (consumed_file len 0) include_stack)
+pub uses_name : {R : Type 0} (has_known_texts : Type 0) (unread : R → List ℕ) (opening : Opening) (include_stack : List (File R)) (len : ℕ) → 0 < length include_stack → 0 < len → len ≤ length (held_of (inner_buffer include_stack))
+    → UsesSource has_known_texts unread opening include_stack (with_inner (consumed_file len 0) include_stack)
 unfolding unused_of held_of
-uses_name tells unread opening [] len some has inside = absurd (omega arith)
-uses_name tells unread opening (f ∷ outer) len some has inside =
+uses_name has_known_texts unread opening [] len some has inside = absurd (omega arith)
+uses_name has_known_texts unread opening (f ∷ outer) len some has inside =
     let held = held_of f.buffer in
     let room : length held ≤ f.buffer.accepted - f.buffer.at = omega (arith, length-drop f.buffer.at (take f.buffer.accepted f.buffer.window), length-take f.buffer.accepted f.buffer.window) in
     let size = length-take len held in
@@ -524,28 +524,28 @@ uses_name tells unread opening (f ∷ outer) len some has inside =
       some = omega arith;
       inner = refl;
       unused = omega arith;
-      moves = name_moves tells (IsExactOpening opening) unread f len inside;
+      moves = name_moves has_known_texts (IsExactOpening opening) unread f len inside;
       text = λ exact t. name_text unread f len;
     }
 
 -- those of a call that was read are used, where its answer is that of the reading
-pub uses_call : {R : Type 0} (tells : Type 0) (unread : R → List ℕ) (most : ℕ) (kept : List ℕ) (read : CallRead) (opening : Opening) (old new : List (File R))
-    → ReadsCall tells unread Before most kept read old new → (opening ≡ Opened → read ≡ call.Closed)
-    → ((own : ℕ) → read ≡ call.Broken LineTooLong own → opening ≡ Broken LineTooLong own) → UsesCall tells unread opening old new
-uses_call tells unread most kept read opening old new r closed broken =
+pub uses_call : {R : Type 0} (has_known_texts : Type 0) (unread : R → List ℕ) (most : ℕ) (kept : List ℕ) (read : CallRead) (opening : Opening) (old new : List (File R))
+    → ReadsCall has_known_texts unread Before most kept read old new → (opening ≡ Opened → read ≡ call.Closed)
+    → ((own : ℕ) → read ≡ call.Broken LineTooLong own → opening ≡ Broken LineTooLong own) → UsesCall has_known_texts unread opening old new
+uses_call has_known_texts unread most kept read opening old new r closed broken =
     record {
       used = r.used;
       inner = r.inner;
       unused = r.unused;
-      moves = moves-told tells tells (IsExactOpening opening) (IsExactCall read) unread r.used (inner_buffer old) (inner_buffer new) (λ t. t) (λ exact own e. exact own (broken own e)) r.moves;
+      moves = moves-told has_known_texts has_known_texts (IsExactOpening opening) (IsExactCall read) unread r.used (inner_buffer old) (inner_buffer new) (λ t. t) (λ exact own e. exact own (broken own e)) r.moves;
       text = λ exact t. r.text (λ own e. exact own (broken own e)) t;
-      bytes = λ o t. (subst (λ (c : CallRead). TellsCall tells unread Before most kept r.used (inner_buffer old) (inner_buffer new) c) (closed o) r.answer).bytes t;
+      bytes = λ o t. (subst (λ (c : CallRead). TellsCall has_known_texts unread Before most kept r.used (inner_buffer old) (inner_buffer new) c) (closed o) r.answer).bytes t;
     }
 
 -- and then those of its call
-pub uses_more : {R : Type 0} (tells : Type 0) (unread : R → List ℕ) (opening : Opening) (old mid new : List (File R)) → UsesSource tells unread Opened old mid → UsesCall tells unread opening mid new
-    → UsesSource tells unread opening old new
-uses_more {R} tells unread opening old mid new name c =
+pub uses_more : {R : Type 0} (has_known_texts : Type 0) (unread : R → List ℕ) (opening : Opening) (old mid new : List (File R)) → UsesSource has_known_texts unread Opened old mid → UsesCall has_known_texts unread opening mid new
+    → UsesSource has_known_texts unread opening old new
+uses_more {R} has_known_texts unread opening old mid new name c =
     let size = length-append name.used c.used in
     let one = name.unused in
     let two = c.unused in
@@ -555,8 +555,8 @@ uses_more {R} tells unread opening old mid new name c =
       some = omega arith;
       inner = c.inner ∙ ap (λ (include_stack : List (File R)). with_used (inner_buffer new) c.used include_stack) name.inner ∙ used_twice (inner_buffer mid) (inner_buffer new) name.used c.used old;
       unused = omega arith;
-      moves = moves-on tells tells tells (IsExactOpening opening) (IsExactOpening opening) unread name.used c.used (inner_buffer old) (inner_buffer mid) (inner_buffer new) (λ t. t) (λ t. t) (λ e. e)
-          (moves-told tells tells Unit (IsExactOpening Opened) unread name.used (inner_buffer old) (inner_buffer mid) (λ t. t) (λ _ own e. cc) name.moves) c.moves;
+      moves = moves-on has_known_texts has_known_texts has_known_texts (IsExactOpening opening) (IsExactOpening opening) unread name.used c.used (inner_buffer old) (inner_buffer mid) (inner_buffer new) (λ t. t) (λ t. t) (λ e. e)
+          (moves-told has_known_texts has_known_texts Unit (IsExactOpening Opened) unread name.used (inner_buffer old) (inner_buffer mid) (λ t. t) (λ _ own e. cc) name.moves) c.moves;
       text = λ exact t.
           text-on name.used c.used (text_left unread (inner_buffer old)) (text_left unread (inner_buffer mid)) (text_left unread (inner_buffer new))
           (name.text (λ own e. cc) t) (c.text exact t);
@@ -580,43 +580,43 @@ module _ {R : Type 0} (rules : Rules) (unread : R → List ℕ) (ws : List Waiti
   some_list (Some fs) e = (fs, refl)
 
   -- a usage of one with a list, by what its call comes to
-  pub call_means : (tells : Type 0) (opening : Opening) (include_stack new : List (File R)) (e : ExpansionView) → 0 < length include_stack → EndsHeld (inner_buffer include_stack) → 0 < length (held_of (inner_buffer include_stack))
+  pub call_means : (has_known_texts : Type 0) (opening : Opening) (include_stack new : List (File R)) (e : ExpansionView) → 0 < length include_stack → EndsHeld (inner_buffer include_stack) → 0 < length (held_of (inner_buffer include_stack))
       → (inner_buffer include_stack).mode ≡ Plain → IsUsage (held_of (inner_buffer include_stack)) len → IsRun rules s macros depth most → 0 < depth
       → macro_named macros (usage_name (held_of (inner_buffer include_stack)) len) ≡ Some (macro_at macros id) → is_some (macro_at macros id).formals ≡ true
-      → TellsCallUsage tells unread most macros id opening e.opens e.arguments (inner_buffer (with_inner (consumed_file len 0) include_stack)) (inner_buffer new)
-      → UsesCall tells unread opening (with_inner (consumed_file len 0) include_stack) new → tells
+      → TellsCallUsage has_known_texts unread most macros id opening e.opens e.arguments (inner_buffer (with_inner (consumed_file len 0) include_stack)) (inner_buffer new)
+      → UsesCall has_known_texts unread opening (with_inner (consumed_file len 0) include_stack) new → has_known_texts
       → (opening ≡ Opened → e.line ≡ (inner_buffer include_stack).line) → e.depth ≡ depth
       → TellsUsage rules s unread ws os macros (inner_buffer include_stack).line (usage_name (held_of (inner_buffer include_stack)) len) opening e include_stack new
-  call_means tells opening [] new e some ends held plain usage run room found listed t uses told line same = absurd (omega arith)
-  call_means tells Opened (f ∷ outer) new e some ends held plain usage run room found listed t uses told line same =
+  call_means has_known_texts opening [] new e some ends held plain usage run room found listed t uses told line same = absurd (omega arith)
+  call_means has_known_texts Opened (f ∷ outer) new e some ends held plain usage run room found listed t uses told line same =
       let fs = some_list (macro_at macros id).formals listed in
       let b = inner_buffer new in
       let mid = consumed_file len 0 f in
       let changed : File R = record mid { buffer = b; blanks = only_blanks mid.blanks uses.used; ends_mid_line = ends_mid_line_after mid.ends_mid_line uses.used } in
       subst (λ (ns : List (File R)). TellsUsage rules s unread ws os macros f.buffer.line (usage_name (held_of f.buffer) len) Opened e (f ∷ outer) ns) (sym uses.inner)
-      (usage_opens_call rules unread ws os s macros depth most id len f outer changed uses.used e tells (usage_name (held_of f.buffer) len) fs.0
+      (usage_opens_call rules unread ws os s macros depth most id len f outer changed uses.used e has_known_texts (usage_name (held_of f.buffer) len) fs.0
       (record { some = held; ends = ends }) plain usage run room found fs.1 t
       (record { blanks = refl; bytes = uses.bytes refl told }) told (line refl) same)
-  call_means tells (Refused kind) (f ∷ outer) new e some ends held plain usage run room found listed t uses told line same =
+  call_means has_known_texts (Refused kind) (f ∷ outer) new e some ends held plain usage run room found listed t uses told line same =
       let fs = some_list (macro_at macros id).formals listed in
-      usage_refused rules unread ws os s macros depth most id len f outer kind (λ name. name) (λ at. at) tells fs.0
+      usage_refused rules unread ws os s macros depth most id len f outer kind (λ name. name) (λ at. at) has_known_texts fs.0
       (record { some = held; ends = ends }) plain usage run found fs.1 t told
-  call_means tells (Broken kind own) (f ∷ outer) new e some ends held plain usage run room found listed t uses told line same =
+  call_means has_known_texts (Broken kind own) (f ∷ outer) new e some ends held plain usage run room found listed t uses told line same =
       let fs = some_list (macro_at macros id).formals listed in
-      usage_refused rules unread ws os s macros depth most id len f outer kind (λ name. []) (λ at. own) tells fs.0
+      usage_refused rules unread ws os s macros depth most id len f outer kind (λ name. []) (λ at. own) has_known_texts fs.0
       (record { some = held; ends = ends }) plain usage run found fs.1 t told
-  call_means tells Failed (f ∷ outer) new e some ends held plain usage run room found listed t uses told line same = tt
+  call_means has_known_texts Failed (f ∷ outer) new e some ends held plain usage run room found listed t uses told line same = tt
 
   -- the same over sources of which the name was used, with a store of its own limit
-  pub call_means_by : (tells : Type 0) (opening : Opening) (include_stack mid new : List (File R)) (e : ExpansionView) (own : ℕ) → own ≡ most → mid ≡ with_inner (consumed_file len 0) include_stack
+  pub call_means_by : (has_known_texts : Type 0) (opening : Opening) (include_stack mid new : List (File R)) (e : ExpansionView) (own : ℕ) → own ≡ most → mid ≡ with_inner (consumed_file len 0) include_stack
       → 0 < length include_stack → EndsHeld (inner_buffer include_stack) → 0 < length (held_of (inner_buffer include_stack))
       → (inner_buffer include_stack).mode ≡ Plain → IsUsage (held_of (inner_buffer include_stack)) len → IsRun rules s macros depth most → 0 < depth
       → macro_named macros (usage_name (held_of (inner_buffer include_stack)) len) ≡ Some (macro_at macros id) → is_some (macro_at macros id).formals ≡ true
-      → TellsCallUsage tells unread own macros id opening e.opens e.arguments (inner_buffer mid) (inner_buffer new) → UsesCall tells unread opening mid new → tells
+      → TellsCallUsage has_known_texts unread own macros id opening e.opens e.arguments (inner_buffer mid) (inner_buffer new) → UsesCall has_known_texts unread opening mid new → has_known_texts
       → (opening ≡ Opened → e.line ≡ (inner_buffer include_stack).line) → e.depth ≡ depth
       → TellsUsage rules s unread ws os macros (inner_buffer include_stack).line (usage_name (held_of (inner_buffer include_stack)) len) opening e include_stack new
-  call_means_by tells opening include_stack mid new e own same_most is some ends held plain usage run room found listed t uses told line same =
-      call_means tells opening include_stack new e some ends held plain usage run room found listed
-      (subst (λ (ns : List (File R)). TellsCallUsage tells unread most macros id opening e.opens e.arguments (inner_buffer ns) (inner_buffer new)) is
-      (subst (λ (n : ℕ). TellsCallUsage tells unread n macros id opening e.opens e.arguments (inner_buffer mid) (inner_buffer new)) same_most t))
-      (subst (λ (ns : List (File R)). UsesCall tells unread opening ns new) is uses) told line same
+  call_means_by has_known_texts opening include_stack mid new e own same_most is some ends held plain usage run room found listed t uses told line same =
+      call_means has_known_texts opening include_stack new e some ends held plain usage run room found listed
+      (subst (λ (ns : List (File R)). TellsCallUsage has_known_texts unread most macros id opening e.opens e.arguments (inner_buffer ns) (inner_buffer new)) is
+      (subst (λ (n : ℕ). TellsCallUsage has_known_texts unread n macros id opening e.opens e.arguments (inner_buffer mid) (inner_buffer new)) same_most t))
+      (subst (λ (ns : List (File R)). UsesCall has_known_texts unread opening ns new) is uses) told line same

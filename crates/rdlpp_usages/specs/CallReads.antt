@@ -37,17 +37,17 @@ with_used buffer used include_stack =
 
 -- a read failed inside a call: from where the reading stands on, what remains comes to what it would have come to, with the kept
 -- bytes in front
-pub record Pauses {R : Type 0} (tells : Type 0) (unread : R → List ℕ) (at : CallState) (room : ℕ) (kept used : List ℕ) (old new : BufferView R) : Type 0 where
+pub record Pauses {R : Type 0} (has_known_texts : Type 0) (unread : R → List ℕ) (at : CallState) (room : ℕ) (kept used : List ℕ) (old new : BufferView R) : Type 0 where
   pub to : CallState
-  pub goes_on : GoesOn tells unread at to room kept used old new
+  pub goes_on : GoesOn has_known_texts unread at to room kept used old new
 
 -- what the answer says of the call, from where its reading stands (source: this project's profile)
 abbrev pub TellsCall : {R : Type 0} → Type 0 → (R → List ℕ) → CallState → ℕ → List ℕ → List ℕ → BufferView R → BufferView R → CallRead → Type 0
-TellsCall tells unread at room kept used old new Closed = Closes tells unread at room kept used old new
-TellsCall tells unread at room kept used old new (Refused f) = tells → reading unread at room old ≡ ReadRefused f
-TellsCall tells unread at room kept used old new (Broken f line) =
-    tells → reading unread at room old ≡ ReadStopped f line
-TellsCall tells unread at room kept used old new Failed = Pauses tells unread at room kept used old new
+TellsCall has_known_texts unread at room kept used old new Closed = Closes has_known_texts unread at room kept used old new
+TellsCall has_known_texts unread at room kept used old new (Refused f) = has_known_texts → reading unread at room old ≡ ReadRefused f
+TellsCall has_known_texts unread at room kept used old new (Broken f line) =
+    has_known_texts → reading unread at room old ≡ ReadStopped f line
+TellsCall has_known_texts unread at room kept used old new Failed = Pauses has_known_texts unread at room kept used old new
 
 -- whether a read failed
 abbrev pub is_failed_call : CallRead → Bool
@@ -61,23 +61,23 @@ abbrev pub IsExactCall : CallRead → Type 0
 IsExactCall result = (line : ℕ) → result ≡ Broken LineTooLong line → ⊥
 
 -- what was kept of a call so far: that of all its bytes that were used, but for a `)` behind them
-pub record ReadsUpTo {R : Type 0} (tells : Type 0) (unread : R → List ℕ) (at : CallState) (room : ℕ) (kept : List ℕ) (old new : BufferView R) : Type 0 where
+pub record ReadsUpTo {R : Type 0} (has_known_texts : Type 0) (unread : R → List ℕ) (at : CallState) (room : ℕ) (kept : List ℕ) (old new : BufferView R) : Type 0 where
   pub to : CallState
   pub used : List ℕ
   pub there : BufferView R
-  pub goes_on : GoesOn tells unread at to room kept used old there
+  pub goes_on : GoesOn has_known_texts unread at to room kept used old there
   pub whole : unused_of old ≤ unused_of new + length used + 1
 
 -- a call was read: bytes of the innermost source were used, and nothing else of the sources changed; its window moved on over its
 -- text, which is what was used and what remains
-pub record ReadsCall {R : Type 0} (tells : Type 0) (unread : R → List ℕ) (at : CallState) (room : ℕ) (kept : List ℕ) (result : CallRead) (old new : List (File R)) : Type 0 where
+pub record ReadsCall {R : Type 0} (has_known_texts : Type 0) (unread : R → List ℕ) (at : CallState) (room : ℕ) (kept : List ℕ) (result : CallRead) (old new : List (File R)) : Type 0 where
   pub used : List ℕ
   pub inner : new ≡ with_used (inner_buffer new) used old
   pub unused : unused_of (inner_buffer new) + length used ≡ unused_of (inner_buffer old)
-  pub moves : MovesOver tells (IsExactCall result) unread used (inner_buffer old) (inner_buffer new)
-  pub so_far : ReadsUpTo tells unread at room kept (inner_buffer old) (inner_buffer new)
-  pub text : IsExactCall result → tells → text_left unread (inner_buffer old) ≡ used ++ text_left unread (inner_buffer new)
-  pub answer : TellsCall tells unread at room kept used (inner_buffer old) (inner_buffer new) result
+  pub moves : MovesOver has_known_texts (IsExactCall result) unread used (inner_buffer old) (inner_buffer new)
+  pub so_far : ReadsUpTo has_known_texts unread at room kept (inner_buffer old) (inner_buffer new)
+  pub text : IsExactCall result → has_known_texts → text_left unread (inner_buffer old) ≡ used ++ text_left unread (inner_buffer new)
+  pub answer : TellsCall has_known_texts unread at room kept used (inner_buffer old) (inner_buffer new) result
 
 -- a token was taken, or the part of it that was held, and the call goes on
 pub record IsTaken {R : Type 0} (at to : CallState) (room : ℕ) (old_bytes new_bytes : List ℕ) (old new : List (File R)) : Type 0 where
@@ -120,12 +120,12 @@ pub record IsCallOf (room : ℕ) (ts : List SourceToken) (bytes : List ℕ) (beh
 
 -- the call that the definition has there (source: this project's profile)
 abbrev pub MeansCall : {R : Type 0} → Type 0 → (R → List ℕ) → ℕ → List ℕ → BufferView R → BufferView R → CallRead → Type 0
-MeansCall tells unread room bytes old new Closed =
-    tells → IsCallOf room (tokens_left unread old) bytes (tokens_left unread new)
-MeansCall tells unread room bytes old new (Refused f) = tells → call_of token_role kept_token room (leading (tokens_left unread old)) ≡ CallFault f
-MeansCall tells unread room bytes old new (Broken f line) =
-    tells → call_of token_role kept_token room (leading (tokens_left unread old)) ≡ CallBreakFault f line
-MeansCall tells unread room bytes old new Failed = Unit
+MeansCall has_known_texts unread room bytes old new Closed =
+    has_known_texts → IsCallOf room (tokens_left unread old) bytes (tokens_left unread new)
+MeansCall has_known_texts unread room bytes old new (Refused f) = has_known_texts → call_of token_role kept_token room (leading (tokens_left unread old)) ≡ CallFault f
+MeansCall has_known_texts unread room bytes old new (Broken f line) =
+    has_known_texts → call_of token_role kept_token room (leading (tokens_left unread old)) ≡ CallBreakFault f line
+MeansCall has_known_texts unread room bytes old new Failed = Unit
 
 -- whether reading a call ends with a fault: what the call lacks, too many kept bytes, or a broken token (source: this project's
 -- profile)

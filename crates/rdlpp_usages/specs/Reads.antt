@@ -15,20 +15,20 @@ reading unread at room f = read at (is_open f.mode) room (tokens_left unread f)
 
 -- reading went on over bytes that are used, of which some are kept: what it comes to is what it comes to from here on, with the
 -- kept bytes in front
-pub record GoesOn {R : Type 0} (tells : Type 0) (unread : R → List ℕ) (at to : CallState) (room : ℕ) (kept used : List ℕ) (old new : BufferView R) : Type 0 where
+pub record GoesOn {R : Type 0} (has_known_texts : Type 0) (unread : R → List ℕ) (at to : CallState) (room : ℕ) (kept used : List ℕ) (old new : BufferView R) : Type 0 where
   pub unused : unused_of new + length used ≡ unused_of old
   pub fits : length kept ≤ room
-  pub reads : tells
+  pub reads : has_known_texts
       → reading unread at room old ≡ onto_kept kept (reading unread to (room - length kept) new)
-  pub bytes : tells
+  pub bytes : has_known_texts
       → bytes_of (tokens_left unread old) ≡ used ++ bytes_of (tokens_left unread new)
 
 -- the call was closed: it keeps these bytes, and what remains of the source are the tokens behind its `)`
-pub record Closes {R : Type 0} (tells : Type 0) (unread : R → List ℕ) (at : CallState) (room : ℕ) (kept used : List ℕ) (old new : BufferView R) : Type 0 where
+pub record Closes {R : Type 0} (has_known_texts : Type 0) (unread : R → List ℕ) (at : CallState) (room : ℕ) (kept used : List ℕ) (old new : BufferView R) : Type 0 where
   pub unused : unused_of new + length used ≡ unused_of old
   pub fits : length kept ≤ room
   pub plain : new.mode ≡ Plain
-  pub reads : tells
+  pub reads : has_known_texts
       → reading unread at room old ≡ ReadClosed kept (tokens_left unread new)
-  pub bytes : tells
+  pub bytes : has_known_texts
       → bytes_of (tokens_left unread old) ≡ used ++ bytes_of (tokens_left unread new)

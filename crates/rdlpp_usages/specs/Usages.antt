@@ -98,43 +98,43 @@ IsExactOpening opening = (own : ℕ) → opening ≡ Broken LineTooLong own → 
 
 -- bytes of the innermost source were used, and nothing else of the sources changed; its window moved on over its text, which is
 -- what was used and what remains
-pub record UsesSource {R : Type 0} (tells : Type 0) (unread : R → List ℕ) (opening : Opening) (old new : List (File R)) : Type 0 where
+pub record UsesSource {R : Type 0} (has_known_texts : Type 0) (unread : R → List ℕ) (opening : Opening) (old new : List (File R)) : Type 0 where
   pub used : List ℕ
   pub some : 0 < length used
   pub inner : new ≡ with_used (inner_buffer new) used old
   pub unused : unused_of (inner_buffer new) + length used ≡ unused_of (inner_buffer old)
-  pub moves : MovesOver tells (IsExactOpening opening) unread used (inner_buffer old) (inner_buffer new)
-  pub text : IsExactOpening opening → tells → text_left unread (inner_buffer old) ≡ used ++ text_left unread (inner_buffer new)
+  pub moves : MovesOver has_known_texts (IsExactOpening opening) unread used (inner_buffer old) (inner_buffer new)
+  pub text : IsExactOpening opening → has_known_texts → text_left unread (inner_buffer old) ≡ used ++ text_left unread (inner_buffer new)
 
 -- a call is refused by the tokens in front of it, about a name or none, in each run with that limit on kept bytes
 abbrev pub RefusesCall : {R : Type 0} → Type 0 → (R → List ℕ) → ℕ → List Macro → ℕ → FaultKind → (List ℕ → List ℕ) → (ℕ → ℕ) → BufferView R → Type 0
-RefusesCall tells unread most macros id kind word at old =
-    (rules : Rules) (line : ℕ) (name : List ℕ) (fs : List Formal) → rules.argument_bytes ≡ most → (macro_at macros id).formals ≡ Some fs → tells
+RefusesCall has_known_texts unread most macros id kind word at old =
+    (rules : Rules) (line : ℕ) (name : List ℕ) (fs : List Formal) → rules.argument_bytes ≡ most → (macro_at macros id).formals ≡ Some fs → has_known_texts
     → usage_of_formals rules source_reads line name (leading (tokens_left unread old)) (macro_at macros id) (Some fs) ≡ UsageFault kind (word name) (at line)
 
 -- a call opens the body of its macro with ranges of the kept bytes as actuals, in each run with that limit on kept bytes
-pub record OpensCall {R : Type 0} (tells : Type 0) (unread : R → List ℕ) (most : ℕ) (macros : List Macro) (id : ℕ) (opens : List Open) (bytes : List ℕ) (old new : BufferView R) : Type 0 where
+pub record OpensCall {R : Type 0} (has_known_texts : Type 0) (unread : R → List ℕ) (most : ℕ) (macros : List Macro) (id : ℕ) (opens : List Open) (bytes : List ℕ) (old new : BufferView R) : Type 0 where
   pub ranges : List Range
   pub body : opens ≡ open_body (texts_of macros bytes) id (map range_part ranges) 0 ∷ []
-  pub bound : (rules : Rules) (line : ℕ) (name : List ℕ) (fs : List Formal) → rules.argument_bytes ≡ most → (macro_at macros id).formals ≡ Some fs → tells
+  pub bound : (rules : Rules) (line : ℕ) (name : List ℕ) (fs : List Formal) → rules.argument_bytes ≡ most → (macro_at macros id).formals ≡ Some fs → has_known_texts
       → OpensBound rules line name (tokens_left unread old) (macro_at macros id) fs bytes ranges (tokens_left unread new)
 
 -- what the call behind the name of a macro comes to, by the tokens that remain of the source in front of it and behind it (IEEE 1364-2001, `define`)
 abbrev pub TellsCallUsage : {R : Type 0} → Type 0 → (R → List ℕ) → ℕ → List Macro → ℕ → Opening → List Open → List ℕ → BufferView R → BufferView R → Type 0
-TellsCallUsage tells unread most macros id Opened opens bytes old new = OpensCall tells unread most macros id opens bytes old new
-TellsCallUsage tells unread most macros id (Refused kind) opens bytes old new = RefusesCall tells unread most macros id kind (λ name. name) (λ line. line) old
-TellsCallUsage tells unread most macros id (Broken kind own) opens bytes old new = RefusesCall tells unread most macros id kind (λ name. []) (λ line. own) old
-TellsCallUsage tells unread most macros id Failed opens bytes old new = Unit
+TellsCallUsage has_known_texts unread most macros id Opened opens bytes old new = OpensCall has_known_texts unread most macros id opens bytes old new
+TellsCallUsage has_known_texts unread most macros id (Refused kind) opens bytes old new = RefusesCall has_known_texts unread most macros id kind (λ name. name) (λ line. line) old
+TellsCallUsage has_known_texts unread most macros id (Broken kind own) opens bytes old new = RefusesCall has_known_texts unread most macros id kind (λ name. []) (λ line. own) old
+TellsCallUsage has_known_texts unread most macros id Failed opens bytes old new = Unit
 
 -- bytes behind the name were used, and nothing else of the sources changed; its window moved on over its text, which is what was used
 -- and what remains; where texts are open, so it is with the bytes of its tokens
-pub record UsesCall {R : Type 0} (tells : Type 0) (unread : R → List ℕ) (opening : Opening) (old new : List (File R)) : Type 0 where
+pub record UsesCall {R : Type 0} (has_known_texts : Type 0) (unread : R → List ℕ) (opening : Opening) (old new : List (File R)) : Type 0 where
   pub used : List ℕ
   pub inner : new ≡ with_used (inner_buffer new) used old
   pub unused : unused_of (inner_buffer new) + length used ≡ unused_of (inner_buffer old)
-  pub moves : MovesOver tells (IsExactOpening opening) unread used (inner_buffer old) (inner_buffer new)
-  pub text : IsExactOpening opening → tells → text_left unread (inner_buffer old) ≡ used ++ text_left unread (inner_buffer new)
-  pub bytes : opening ≡ Opened → tells
+  pub moves : MovesOver has_known_texts (IsExactOpening opening) unread used (inner_buffer old) (inner_buffer new)
+  pub text : IsExactOpening opening → has_known_texts → text_left unread (inner_buffer old) ≡ used ++ text_left unread (inner_buffer new)
+  pub bytes : opening ≡ Opened → has_known_texts
       → bytes_of (tokens_left unread (inner_buffer old)) ≡ used ++ bytes_of (tokens_left unread (inner_buffer new))
 
 -- a kept call was bound: the body of its macro is open with ranges of the kept bytes as actuals, which are as many as it wants
@@ -175,15 +175,15 @@ pub record KeepsCall {R : Type 0} (unread : R → List ℕ) (most : ℕ) (argume
 
 -- what is kept of the call of a usage: all of it where its body is open, and what was kept so far where a fault came in it
 abbrev pub KeepsOpening : {R : Type 0} → Type 0 → (R → List ℕ) → ℕ → Opening → List ℕ → BufferView R → BufferView R → Type 0
-KeepsOpening tells unread most Opened arguments from now = tells → KeepsCall unread most arguments from now
-KeepsOpening tells unread most (Refused kind) arguments from now = ReadsUpTo tells unread Before most arguments from now
-KeepsOpening tells unread most (Broken kind own) arguments from now = ReadsUpTo tells unread Before most arguments from now
-KeepsOpening tells unread most Failed arguments from now = ReadsUpTo tells unread Before most arguments from now
+KeepsOpening has_known_texts unread most Opened arguments from now = has_known_texts → KeepsCall unread most arguments from now
+KeepsOpening has_known_texts unread most (Refused kind) arguments from now = ReadsUpTo has_known_texts unread Before most arguments from now
+KeepsOpening has_known_texts unread most (Broken kind own) arguments from now = ReadsUpTo has_known_texts unread Before most arguments from now
+KeepsOpening has_known_texts unread most Failed arguments from now = ReadsUpTo has_known_texts unread Before most arguments from now
 
 -- what is kept of a usage: nothing where its macro has no list, and else of its call
 abbrev pub KeepsUsage : {R : Type 0} → Option (List Formal) → Type 0 → (R → List ℕ) → ℕ → Opening → List ℕ → BufferView R → BufferView R → Type 0
-KeepsUsage None tells unread most opening arguments from now = arguments ≡ []
-KeepsUsage (Some fs) tells unread most opening arguments from now = KeepsOpening tells unread most opening arguments from now
+KeepsUsage None has_known_texts unread most opening arguments from now = arguments ≡ []
+KeepsUsage (Some fs) has_known_texts unread most opening arguments from now = KeepsOpening has_known_texts unread most opening arguments from now
 
 -- open texts went on: the line and the limits stay, and so do the kept bytes, until no text is open
 pub record StaysOpen (old new : ExpansionView) : Type 0 where

@@ -199,18 +199,18 @@ impl Expansion {
         ensures line { self.new.line ≡ (if is_opened result then (inner_buffer files.old.include_stack).line else self.old.line) }
         ensures only { files.new ≡ record files.old { include_stack = files.new.include_stack } }
         ensures call { SourcesRead S.Sources (is_failed_opening result) sources.old sources.new }
-        ensures uses { UsesSource (S.tells sources.old) S.unread result files.old.include_stack files.new.include_stack }
+        ensures uses { UsesSource (S.has_known_texts sources.old) S.unread result files.old.include_stack files.new.include_stack }
         ensures sound { AreSound (texts_of table.now.macros self.new.arguments) self.new.opens }
         ensures lets_go { is_opened result ≡ false → self.new.opens ≡ [] }
         ensures opens { is_opened result ≡ true → 0 < length self.new.opens }
         ensures usage { is_opened result ≡ true → usage_id self.new.opens ≡ Some id }
         ensures bindings { is_opened result ≡ true → bound_by self.new.opens ≡ length (formals_of (macro_at table.now.macros id)) }
         ensures alone { is_opened result ≡ true → IsOpenAlone table.now.macros id self.new.opens }
-        ensures keeps { KeepsUsage (macro_at table.now.macros id).formals (S.tells sources.old) S.unread self.old.most result self.new.arguments (inner_buffer (with_inner (consumed_file len 0) files.old.include_stack)) (inner_buffer files.new.include_stack) }
+        ensures keeps { KeepsUsage (macro_at table.now.macros id).formals (S.has_known_texts sources.old) S.unread self.old.most result self.new.arguments (inner_buffer (with_inner (consumed_file len 0) files.old.include_stack)) (inner_buffer files.new.include_stack) }
         ensures fault { IsUsageFault result }
         ensures own { IsOwnLine result }
         ensures unheld { is_failed_opening result ≡ true → held_of (inner_buffer files.new.include_stack) ≡ [] }
-        ensures means { (rules : Rules) (s : State) (ws : List Waiting) (os : List Progress) → IsRun rules s table.now.macros self.old.depth self.old.most → S.tells sources.old → TellsUsage rules s S.unread ws os table.now.macros (inner_buffer files.old.include_stack).line (usage_name (held_of (inner_buffer files.old.include_stack)) len) result self.new files.old.include_stack files.new.include_stack }
+        ensures means { (rules : Rules) (s : State) (ws : List Waiting) (os : List Progress) → IsRun rules s table.now.macros self.old.depth self.old.most → S.has_known_texts sources.old → TellsUsage rules s S.unread ws os table.now.macros (inner_buffer files.old.include_stack).line (usage_name (held_of (inner_buffer files.old.include_stack)) len) result self.new files.old.include_stack files.new.include_stack }
     {
         let line = files.file().buffer.line();
         files.consume(len, 0);
@@ -280,7 +280,7 @@ fn open_call<S: Sources>(
     ensures limits { (texts.new.depth ≡ texts.old.depth) × (arguments.new.most ≡ arguments.old.most) }
     ensures only { files.new ≡ record files.old { include_stack = files.new.include_stack } }
     ensures call { SourcesRead S.Sources (is_failed_opening result) sources.old sources.new }
-    ensures uses { UsesCall (S.tells sources.old) S.unread result files.old.include_stack files.new.include_stack }
+    ensures uses { UsesCall (S.has_known_texts sources.old) S.unread result files.old.include_stack files.new.include_stack }
     ensures sound { AreSound (texts_of table.now.macros arguments.new.bytes) texts.new.opens }
     ensures line { texts.new.line ≡ (if is_opened result then usage.line else texts.old.line) }
     ensures lets_go { is_opened result ≡ false → texts.new.opens ≡ [] }
@@ -288,11 +288,11 @@ fn open_call<S: Sources>(
     ensures usage { is_opened result ≡ true → usage_id texts.new.opens ≡ Some usage.id }
     ensures bindings { is_opened result ≡ true → bound_by texts.new.opens ≡ length (formals_of (macro_at table.now.macros usage.id)) }
     ensures alone { is_opened result ≡ true → IsOpenAlone table.now.macros usage.id texts.new.opens }
-    ensures keeps { KeepsOpening (S.tells sources.old) S.unread arguments.old.most result arguments.new.bytes (inner_buffer files.old.include_stack) (inner_buffer files.new.include_stack) }
+    ensures keeps { KeepsOpening (S.has_known_texts sources.old) S.unread arguments.old.most result arguments.new.bytes (inner_buffer files.old.include_stack) (inner_buffer files.new.include_stack) }
     ensures fault { IsUsageFault result }
     ensures own { IsOwnLine result }
     ensures unheld { is_failed_opening result ≡ true → held_of (inner_buffer files.new.include_stack) ≡ [] }
-    ensures tells { TellsCallUsage (S.tells sources.old) S.unread arguments.old.most table.now.macros usage.id result texts.new.opens arguments.new.bytes (inner_buffer files.old.include_stack) (inner_buffer files.new.include_stack) }
+    ensures comes_to { TellsCallUsage (S.has_known_texts sources.old) S.unread arguments.old.most table.now.macros usage.id result texts.new.opens arguments.new.bytes (inner_buffer files.old.include_stack) (inner_buffer files.new.include_stack) }
 {
     match read_call(files, sources, arguments) {
         CallRead::Closed => bind_kept(table, arguments, texts, usage),

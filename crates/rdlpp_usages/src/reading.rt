@@ -74,11 +74,11 @@ pub fn read_call<S: Sources>(
     ensures only { files.new ≡ record files.old { include_stack = files.new.include_stack } }
     ensures room { store.new.most ≡ store.old.most }
     ensures call { SourcesRead S.Sources (is_failed_call result) sources.old sources.new }
-    ensures reads { ReadsCall (S.tells sources.old) S.unread Before store.old.most store.new.bytes result files.old.include_stack files.new.include_stack }
+    ensures reads { ReadsCall (S.has_known_texts sources.old) S.unread Before store.old.most store.new.bytes result files.old.include_stack files.new.include_stack }
     ensures unheld { is_failed_call result ≡ true → held_of (inner_buffer files.new.include_stack) ≡ [] }
     ensures fault { IsReadFault result }
     ensures line { IsReadLine result }
-    ensures means { MeansCall (S.tells sources.old) S.unread store.old.most store.new.bytes (inner_buffer files.old.include_stack) (inner_buffer files.new.include_stack) result }
+    ensures means { MeansCall (S.has_known_texts sources.old) S.unread store.old.most store.new.bytes (inner_buffer files.old.include_stack) (inner_buffer files.new.include_stack) result }
 {
     read_tokens(files, sources, store)
 }
@@ -173,7 +173,7 @@ fn read_tokens<S: Sources>(
     ensures only { files.new ≡ record files.old { include_stack = files.new.include_stack } }
     ensures room { store.new.most ≡ store.old.most }
     ensures call { SourcesRead S.Sources (is_failed_call result) sources.old sources.new }
-    ensures reads { ReadsCall (S.tells sources.old) S.unread Before store.old.most store.new.bytes result files.old.include_stack files.new.include_stack }
+    ensures reads { ReadsCall (S.has_known_texts sources.old) S.unread Before store.old.most store.new.bytes result files.old.include_stack files.new.include_stack }
     ensures unheld { is_failed_call result ≡ true → held_of (inner_buffer files.new.include_stack) ≡ [] }
     ensures fault { IsReadFault result }
     ensures line { IsReadLine result }

@@ -38,7 +38,7 @@ pub fn hold_logical_line<S: Sources>(
 ) -> LogicalLine
     requires { EndsHeld buffer.old }
     ensures ends { EndsHeld buffer.new }
-    ensures holds { HoldsLine (S.tells sources.old) S.unread result buffer.old buffer.new }
+    ensures holds { HoldsLine (S.has_known_texts sources.old) S.unread result buffer.old buffer.new }
     ensures call { SourcesRead S.Sources (is_failed_line result) sources.old sources.new }
 {
     let mut seen = 0;

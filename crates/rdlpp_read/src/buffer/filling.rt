@@ -72,7 +72,7 @@ impl<R: Drop> SourceBuffer<R> {
 pub fn fill_buffer<S: Sources>(buffer: &mut SourceBuffer<S::Reader>, sources: &mut S) -> Fill
     requires { EndsHeld buffer.old }
     ensures ends { EndsHeld buffer.new }
-    ensures fills { Fills (S.tells sources.old) S.unread result buffer.old buffer.new }
+    ensures fills { Fills (S.has_known_texts sources.old) S.unread result buffer.old buffer.new }
     ensures call { SourcesRead S.Sources (is_failed result) sources.old sources.new }
 {
     if buffer.at < buffer.accepted {
@@ -127,10 +127,10 @@ fn read_into<S: Sources>(
     ensures kept { take filled buffer.new.items ≡ take filled buffer.old.items }
     ensures bound { IfOk result (λ n. filled + n ≤ vec_len buffer.old) }
     ensures only { IfErr result (λ fault. fault ≡ SourceFault.Device) }
-    ensures bytes { S.tells sources.old → Reads (S.unread reader.old) (S.unread reader.new) result (drop filled buffer.new.items) }
+    ensures bytes { S.has_known_texts sources.old → Reads (S.unread reader.old) (S.unread reader.new) result (drop filled buffer.new.items) }
     ensures failures { Counts (is_device result) (S.failures sources.old) (S.failures sources.new) }
     ensures refusals { S.refusals sources.new ≡ S.refusals sources.old }
-    ensures tells { S.tells sources.old → S.tells sources.new }
+    ensures has_known_texts { S.has_known_texts sources.old → S.has_known_texts sources.new }
     ensures catalog { S.catalog sources.new ≡ S.catalog sources.old }
 {
     sources.read(reader, &mut buffer[filled..])
@@ -140,7 +140,7 @@ fn read_into<S: Sources>(
 fn read_on<S: Sources>(buffer: &mut SourceBuffer<S::Reader>, sources: &mut S) -> Option<Fill>
     requires open { IsSome buffer.old.reader }
     requires bytes_left { length buffer.old.window < buffer.old.line_bytes }
-    ensures turn { Turns (S.tells sources.old) S.unread result buffer.old buffer.new }
+    ensures turn { Turns (S.has_known_texts sources.old) S.unread result buffer.old buffer.new }
     ensures call { SourcesRead S.Sources (is_failed_turn result) sources.old sources.new }
 {
     let mut reader = buffer.reader.take().unwrap();
@@ -164,7 +164,7 @@ fn read_on<S: Sources>(buffer: &mut SourceBuffer<S::Reader>, sources: &mut S) ->
 fn probe_end<S: Sources>(buffer: &mut SourceBuffer<S::Reader>, sources: &mut S) -> Option<Fill>
     requires open { IsSome buffer.old.reader }
     requires full { length buffer.old.window ≡ buffer.old.line_bytes }
-    ensures turn { Turns (S.tells sources.old) S.unread result buffer.old buffer.new }
+    ensures turn { Turns (S.has_known_texts sources.old) S.unread result buffer.old buffer.new }
     ensures call { SourcesRead S.Sources (is_failed_turn result) sources.old sources.new }
 {
     let mut reader = buffer.reader.take().unwrap();
@@ -185,7 +185,7 @@ fn probe_end<S: Sources>(buffer: &mut SourceBuffer<S::Reader>, sources: &mut S) 
 // Reads on, or tells that the line is too long.
 fn read_more<S: Sources>(buffer: &mut SourceBuffer<S::Reader>, sources: &mut S) -> Option<Fill>
     requires { IsSome buffer.old.reader }
-    ensures turn { Turns (S.tells sources.old) S.unread result buffer.old buffer.new }
+    ensures turn { Turns (S.has_known_texts sources.old) S.unread result buffer.old buffer.new }
     ensures call { SourcesRead S.Sources (is_failed_turn result) sources.old sources.new }
 {
     if buffer.filled < buffer.line_bytes {
@@ -201,7 +201,7 @@ pub(super) fn take_lines<S: Sources>(buffer: &mut SourceBuffer<S::Reader>, sourc
     requires sound { IsBuffer buffer.old }
     requires ends { EndsHeld buffer.old }
     ensures ends { EndsHeld buffer.new }
-    ensures grows { Grows (S.tells sources.old) S.unread result buffer.old buffer.new }
+    ensures grows { Grows (S.has_known_texts sources.old) S.unread result buffer.old buffer.new }
     ensures call { SourcesRead S.Sources (is_failed result) sources.old sources.new }
 {
     let mut seen = 0;

@@ -5,8 +5,8 @@ use Rattle.rdlpp_usages.specs.declared.expansion.Opening.TheVariants.{Refused, B
 use Rattle.rdlpp_usages.proofs.UsageOpens.{call_breaks, call_lacks, kept_call, kept_tells, read_usage, uses_call}
 use Rattle.rdlpp_usages.proofs.expansion.open_call.Goals as goal
 
-pub returns-in-Closed-clause-tells : goal.returns-in-Closed-clause-tells
-returns-in-Closed-clause-tells g c =
+pub returns-in-Closed-clause-comes_to : goal.returns-in-Closed-clause-comes_to
+returns-in-Closed-clause-comes_to g c =
     kept_tells _ _ _ c.args.table.now.macros c.args.usage.id c.args.usage.line _ c.read_call.new.store.bytes c.bind_kept.result c.bind_kept.new.texts _ _
     c.in-Closed.ensures.means c.bind_kept.ensures.binds
 
@@ -15,13 +15,13 @@ returns-in-Closed-clause-keeps g c =
     kept_call _ _ _ c.args.table.now.macros c.args.usage.id c.args.usage.line _ c.read_call.new.store.bytes c.bind_kept.result c.bind_kept.new.texts _ _
     c.requires.plain c.in-Closed.ensures.reads c.bind_kept.ensures.binds
 
-pub returns-in-Refused-clause-tells : goal.returns-in-Refused-clause-tells
-returns-in-Refused-clause-tells g c =
+pub returns-in-Refused-clause-comes_to : goal.returns-in-Refused-clause-comes_to
+returns-in-Refused-clause-comes_to g c =
     call_lacks _ _ _ c.args.table.now.macros c.args.usage.id c.read_call.new.store.bytes c.read_call.new.store.bytes c.in-Refused.kind c.args.texts.now.opens
     (inner_buffer c.args.files.now.include_stack) (inner_buffer c.read_call.new.files.include_stack) c.in-Refused.ensures.means
 
-pub returns-in-Broken-clause-tells : goal.returns-in-Broken-clause-tells
-returns-in-Broken-clause-tells g c =
+pub returns-in-Broken-clause-comes_to : goal.returns-in-Broken-clause-comes_to
+returns-in-Broken-clause-comes_to g c =
     call_breaks _ _ _ c.args.table.now.macros c.args.usage.id c.read_call.new.store.bytes c.read_call.new.store.bytes c.in-Broken.kind c.in-Broken.own
     c.args.texts.now.opens (inner_buffer c.args.files.now.include_stack) (inner_buffer c.read_call.new.files.include_stack) c.in-Broken.ensures.means
 

@@ -54,8 +54,8 @@ returns-in-End-clause-reads g c =
     let fills = c.in-End.ensures.fills in
     answered_unfilled g.S.Sources c.args.sources.now c.tokens.sources c.args.files.now c.tokens.files c.fill.new.self c.args.store.now.most c.tokens.store at c.end_of_text.result
     c.tokens.invariant c.in-End.ensures.only fills.unused (moves-told _ _ _ _ _ [] _ _ (λ t. t) (λ _ e. cc) (moves-slid _ _ _ _ _ fills.slides)) (λ exact. fills.text (λ e. cc))
-    (end_tells (g.S.Sources.tells c.args.sources.now) g.S.Sources.unread at room (inner_buffer c.tokens.files.include_stack) (inner_buffer c.fill.new.self.include_stack) c.end_of_text.result
-    (c.end_of_text.ensures.text room) fills.mode fills.open_token_line (λ t. fills.tokens (c.tokens.invariant.call.tells t)))
+    (end_tells (g.S.Sources.has_known_texts c.args.sources.now) g.S.Sources.unread at room (inner_buffer c.tokens.files.include_stack) (inner_buffer c.fill.new.self.include_stack) c.end_of_text.result
+    (c.end_of_text.ensures.text room) fills.mode fills.open_token_line (λ t. fills.tokens (c.tokens.invariant.call.has_known_texts t)))
 
 pub returns-in-SourceLong-clause-reads : goal.returns-in-SourceLong-clause-reads
 unfolding breach_kind is_part_breach
@@ -65,8 +65,8 @@ returns-in-SourceLong-clause-reads g c =
     let fills = c.in-SourceLong.ensures.fills in
     answered_unfilled g.S.Sources c.args.sources.now c.tokens.sources c.args.files.now c.tokens.files c.fill.new.self c.args.store.now.most c.tokens.store at _
     c.tokens.invariant c.in-SourceLong.ensures.only fills.unused (moves-told _ _ _ _ _ [] _ _ (λ t. t) (λ _ e. cc) (moves-slid _ _ _ _ _ fills.slides)) (λ exact. fills.text (λ e. cc))
-    (break_tells (g.S.Sources.tells c.args.sources.now) g.S.Sources.unread at room (inner_buffer c.tokens.files.include_stack) (inner_buffer c.fill.new.self.include_stack) SourceLong c.inner_line.result refl
-    (c.inner_line.ensures.line ∙ fills.line) (λ t. fills.tokens (c.tokens.invariant.call.tells t)))
+    (break_tells (g.S.Sources.has_known_texts c.args.sources.now) g.S.Sources.unread at room (inner_buffer c.tokens.files.include_stack) (inner_buffer c.fill.new.self.include_stack) SourceLong c.inner_line.result refl
+    (c.inner_line.ensures.line ∙ fills.line) (λ t. fills.tokens (c.tokens.invariant.call.has_known_texts t)))
 
 pub returns-in-LineLong-clause-reads : goal.returns-in-LineLong-clause-reads
 unfolding breach_kind is_part_breach
@@ -76,8 +76,8 @@ returns-in-LineLong-clause-reads g c =
     let fills = c.in-LineLong.ensures.fills in
     answered_unfilled g.S.Sources c.args.sources.now c.tokens.sources c.args.files.now c.tokens.files c.fill.new.self c.args.store.now.most c.tokens.store at _
     c.tokens.invariant c.in-LineLong.ensures.only fills.unused (moves-told _ _ _ _ _ [] _ _ (λ t. t) (λ exact e. exact _ refl) (moves-slid _ _ _ _ _ fills.slides)) (λ exact t. absurd (exact _ refl))
-    (break_tells (g.S.Sources.tells c.args.sources.now) g.S.Sources.unread at room (inner_buffer c.tokens.files.include_stack) (inner_buffer c.fill.new.self.include_stack) LineLong c.inner_line-in-LineLong.result refl
-    (c.inner_line-in-LineLong.ensures.line ∙ fills.line) (λ t. fills.tokens (c.tokens.invariant.call.tells t)))
+    (break_tells (g.S.Sources.has_known_texts c.args.sources.now) g.S.Sources.unread at room (inner_buffer c.tokens.files.include_stack) (inner_buffer c.fill.new.self.include_stack) LineLong c.inner_line-in-LineLong.result refl
+    (c.inner_line-in-LineLong.ensures.line ∙ fills.line) (λ t. fills.tokens (c.tokens.invariant.call.has_known_texts t)))
 
 pub returns-in-Failed-clause-reads : goal.returns-in-Failed-clause-reads
 returns-in-Failed-clause-reads g c =

@@ -7,7 +7,7 @@ top-tells g x x' c = record {
   answer = λ told. absurd told;
   failures = c.ensures.failures;
   refusals = c.ensures.refusals;
-  tells = λ told. told;
+  has_known_texts = λ told. told;
   catalog = refl;
 }
 
@@ -16,7 +16,7 @@ find-tells g x x' c = record {
   answer = λ told. absurd told;
   failures = c.ensures.failures;
   refusals = c.ensures.refusals;
-  tells = λ told. told;
+  has_known_texts = λ told. told;
   catalog = refl;
 }
 
@@ -27,6 +27,6 @@ read-tells g x x' c = record {
   bytes = λ told. absurd told;
   failures = c.ensures.failures;
   refusals = c.ensures.refusals;
-  tells = λ told. told;
+  has_known_texts = λ told. told;
   catalog = refl;
 }

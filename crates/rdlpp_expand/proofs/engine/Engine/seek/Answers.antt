@@ -20,10 +20,10 @@ returns-clause-sought g c =
       | in-Ok w ↦
           let e = w.in-Ok.ensures in
           rw (w.result-is, ← c.self.view_is)
-          (searches_by g.S.Sources _ c.as_str.result.now c.in-Some.name.now name c.find.new.self (Ok w.in-Ok.found) same path good room e.answer e.failures e.refusals e.tells e.catalog)
+          (searches_by g.S.Sources _ c.as_str.result.now c.in-Some.name.now name c.find.new.self (Ok w.in-Ok.found) same path good room e.answer e.failures e.refusals e.has_known_texts e.catalog)
       | in-Err w ↦
           let e = w.in-Err.ensures in
           rw (w.result-is, ← c.self.view_is)
           (SearchFault w.in-Err.fault w.source_kind.ensures
-          (searches_by g.S.Sources _ c.as_str.result.now c.in-Some.name.now name c.find.new.self (Err w.in-Err.fault) same path good room e.answer e.failures e.refusals e.tells e.catalog))
+          (searches_by g.S.Sources _ c.as_str.result.now c.in-Some.name.now name c.find.new.self (Err w.in-Err.fault) same path good room e.answer e.failures e.refusals e.has_known_texts e.catalog))
     ]

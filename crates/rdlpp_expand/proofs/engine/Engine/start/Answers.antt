@@ -11,7 +11,7 @@ returns-in-Ok g c =
     rw (c.open_main.ensures, ← c.self.view_is)
     (starts_open g.S.Sources _ c.top.new.self c.in-Ok.found c.args.path.now c.self.invariant.sources.line_bytes
     (fresh_include_stack _ _ _ _ _ c.self.invariant.sources (rw (← c.self.view_is) at c.requires)) (fresh_open _ _ _ _ _ c.self.invariant.sources (rw (← c.self.view_is) at c.requires)) (fresh_texts _ _ _ _ c.self.invariant.texts (rw (← c.self.view_is) at c.requires)) bounded
-    e.answer e.failures e.refusals e.tells e.catalog)
+    e.answer e.failures e.refusals e.has_known_texts e.catalog)
 
 pub returns-in-Err : goal.returns-in-Err
 unfolding start_fault
@@ -21,4 +21,4 @@ returns-in-Err g c =
     rw (kept.fault, kept.kept, c.source_kind.ensures, ← c.self.view_is)
     (starts_not_found g.S.Sources _ c.top.new.self c.in-Err.fault c.args.path.now
     (fresh_include_stack _ _ _ _ _ c.self.invariant.sources (rw (← c.self.view_is) at c.requires)) (fresh_texts _ _ _ _ c.self.invariant.texts (rw (← c.self.view_is) at c.requires)) (rw (← c.self.view_is) at c.facts.ensures.bounded)
-    e.answer e.failures e.refusals e.tells e.catalog)
+    e.answer e.failures e.refusals e.has_known_texts e.catalog)

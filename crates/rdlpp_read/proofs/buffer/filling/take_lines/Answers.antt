@@ -18,7 +18,7 @@ pub returns-in-Some-read_more-clause-grows : goal.returns-in-Some-read_more-clau
 returns-in-Some-read_more-clause-grows g c =
     let more = c.in_default.ensures.more in
     let stops = rw more.0 at c.in-Some-read_more.ensures.turn in
-    stops-grows _ _ g.S.Sources.unread c.in-Some-read_more.fill c.args.buffer.now c.reading.buffer c.read_more.new.buffer c.requires.compact c.reading.invariant.seeks c.reading.invariant.call.tells more.1 stops
+    stops-grows _ _ g.S.Sources.unread c.in-Some-read_more.fill c.args.buffer.now c.reading.buffer c.read_more.new.buffer c.requires.compact c.reading.invariant.seeks c.reading.invariant.call.has_known_texts more.1 stops
 
 pub returns-in-Some-read_more-clause-ends : goal.returns-in-Some-read_more-clause-ends
 returns-in-Some-read_more-clause-ends g c =

@@ -11,7 +11,7 @@ top-tells x x' c = record {
   answer = λ _. c.ensures.finds;
   failures = failures_rise _ _ _ _ _ (ap (λ (s : AskedTexts). s.asks) c.ensures.only) c.ensures.unasked c.ensures.failures;
   refusals = c.ensures.refusals;
-  tells = λ t. t;
+  has_known_texts = λ t. t;
   catalog = ap asked_catalog c.ensures.only;
 }
 
@@ -21,6 +21,6 @@ find-tells x x' c = record {
   answer = λ _. c.ensures.finds;
   failures = failures_rise _ _ _ _ _ (ap (λ (s : AskedTexts). s.asks) c.ensures.only) c.ensures.unasked c.ensures.failures;
   refusals = c.ensures.refusals;
-  tells = λ t. t;
+  has_known_texts = λ t. t;
   catalog = ap asked_catalog c.ensures.only;
 }

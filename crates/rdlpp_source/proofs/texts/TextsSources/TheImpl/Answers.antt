@@ -11,7 +11,7 @@ top-tells g x x' c = record {
   answer = λ _. Finds-from_Gives left_of ((texts_catalog c.args.self.now).top c.args.path.now) c.result c.ensures.answer;
   failures = failures-from_Gives left_of ((texts_catalog c.args.self.now).top c.args.path.now) c.result 0 c.ensures.answer;
   refusals = refusals-from_Gives left_of ((texts_catalog c.args.self.now).top c.args.path.now) c.result 0 c.ensures.answer;
-  tells = λ _. tt;
+  has_known_texts = λ _. tt;
   catalog = ap texts_catalog c.ensures.unchanged;
 }
 
@@ -20,7 +20,7 @@ find-tells g x x' c = record {
   answer = λ _. Finds-from_Gives left_of ((texts_catalog c.args.self.now).find c.args.from.now c.args.name.now) c.result c.ensures.answer;
   failures = failures-from_Gives left_of ((texts_catalog c.args.self.now).find c.args.from.now c.args.name.now) c.result 0 c.ensures.answer;
   refusals = refusals-from_Gives left_of ((texts_catalog c.args.self.now).find c.args.from.now c.args.name.now) c.result 0 c.ensures.answer;
-  tells = λ _. tt;
+  has_known_texts = λ _. tt;
   catalog = ap texts_catalog c.ensures.unchanged;
 }
 
@@ -31,6 +31,6 @@ read-tells g x x' c = record {
   bytes = λ _. c.ensures.bytes;
   failures = failures-from_Ok c.result _ 0 c.ensures.count;
   refusals = refl;
-  tells = λ _. tt;
+  has_known_texts = λ _. tt;
   catalog = ap texts_catalog c.ensures.unchanged;
 }

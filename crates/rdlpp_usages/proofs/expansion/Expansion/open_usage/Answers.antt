@@ -12,7 +12,7 @@ consume-requires-clause-inside g c = (usage_inside _ _ c.requires.held c.require
 pub returns-then-is_none-clause-uses : goal.returns-then-is_none-clause-uses
 returns-then-is_none-clause-uses g c =
     let inside = usage_inside _ _ c.requires.held c.requires.usage in
-    rw c.consume.ensures.used (uses_name (g.S.Sources.tells c.args.sources.now) g.S.Sources.unread Opened c.args.files.now.include_stack c.args.len c.requires.some inside.0 inside.1)
+    rw c.consume.ensures.used (uses_name (g.S.Sources.has_known_texts c.args.sources.now) g.S.Sources.unread Opened c.args.files.now.include_stack c.args.len c.requires.some inside.0 inside.1)
 
 pub returns-then-is_none-clause-sound : goal.returns-then-is_none-clause-sound
 returns-then-is_none-clause-sound g c = c.open_body.ensures.sound _
@@ -31,7 +31,7 @@ pub returns-clause-uses : goal.returns-clause-uses
 returns-clause-uses g c =
     let inside = usage_inside _ _ c.requires.held c.requires.usage in
     uses_more _ _ c.open_call.result c.args.files.now.include_stack c.consume.new.self.include_stack c.open_call.new.files.include_stack
-    (rw c.consume.ensures.used (uses_name (g.S.Sources.tells c.args.sources.now) g.S.Sources.unread Opened c.args.files.now.include_stack c.args.len c.requires.some inside.0 inside.1)) c.open_call.ensures.uses
+    (rw c.consume.ensures.used (uses_name (g.S.Sources.has_known_texts c.args.sources.now) g.S.Sources.unread Opened c.args.files.now.include_stack c.args.len c.requires.some inside.0 inside.1)) c.open_call.ensures.uses
 
 pub returns-clause-means : goal.returns-clause-means
 returns-clause-means g c =
@@ -40,18 +40,18 @@ returns-clause-means g c =
     c.args.files.now.include_stack c.consume.new.self.include_stack c.open_call.new.files.include_stack _ c.self.inside.arguments.most (ap (λ e. e.most) c.self.view_is) (ap (λ fs. fs.include_stack) c.consume.ensures.used) c.requires.some
     (subst EndsHeld c.file.ensures.buffer c.file.ensures.ends) c.requires.held c.requires.plain c.requires.usage run c.requires.room c.requires.named
     (is_list _ (ap is_some (sym c.arity.ensures) ∙ c.is_none.ensures ∙ ap (λ (b : Bool). not b) c.if-is_none.false))
-    c.open_call.ensures.tells c.open_call.ensures.uses t
+    c.open_call.ensures.comes_to c.open_call.ensures.uses t
     (λ o. opened_line c.open_call.result _ c.line-line.result _ c.open_call.ensures.line o ∙ c.line-line.ensures ∙ ap (λ b. b.line) c.file.ensures.buffer)
     (c.open_call.ensures.limits.0 ∙ ap (λ e. e.depth) c.self.view_is)
 
 pub returns-then-is_none-clause-keeps : goal.returns-then-is_none-clause-keeps
 returns-then-is_none-clause-keeps g c =
-    keeps_plain (macro_at c.args.table.now.macros c.args.id).formals (g.S.Sources.tells c.args.sources.now) g.S.Sources.unread c.args.self.now.most Opened c.clear.new.self.bytes _ _
+    keeps_plain (macro_at c.args.table.now.macros c.args.id).formals (g.S.Sources.has_known_texts c.args.sources.now) g.S.Sources.unread c.args.self.now.most Opened c.clear.new.self.bytes _ _
     (no_list _ (ap is_some (sym c.arity.ensures) ∙ c.is_none.ensures ∙ ap (λ (b : Bool). not b) c.if-is_none.true)) (ap (λ s. s.bytes) c.clear.ensures)
 
 pub returns-clause-keeps : goal.returns-clause-keeps
 returns-clause-keeps g c =
-    keeps_listed_by c.args.table.now.macros c.args.id (g.S.Sources.tells c.args.sources.now) g.S.Sources.unread c.self.inside.arguments.most c.args.self.now.most c.open_call.result c.open_call.new.arguments.bytes
+    keeps_listed_by c.args.table.now.macros c.args.id (g.S.Sources.has_known_texts c.args.sources.now) g.S.Sources.unread c.self.inside.arguments.most c.args.self.now.most c.open_call.result c.open_call.new.arguments.bytes
     c.consume.new.self.include_stack _ c.open_call.new.files.include_stack (ap (λ e. e.most) c.self.view_is) (ap (λ fs. fs.include_stack) c.consume.ensures.used)
     (is_list _ (ap is_some (sym c.arity.ensures) ∙ c.is_none.ensures ∙ ap (λ (b : Bool). not b) c.if-is_none.false)) c.open_call.ensures.keeps
 
