@@ -36,12 +36,12 @@ use Rattle.rdlpp.specs.declared.options.Options.{Options}
 -- One definition after another is given to a table.
 
 -- what definitions come to in the table of an engine, where so many stand before them
-abbrev pub given_behind : {S R : Type 0} → EngineView S R → ℕ → List Pair → Given
-given_behind e before ds = given e.table.most_bytes e.table.most_macros before e.table.macros ds
+abbrev pub given_after : {S R : Type 0} → EngineView S R → ℕ → List Pair → Given
+given_after e before ds = given e.table.most_bytes e.table.most_macros before e.table.macros ds
 
 -- so many of the definitions were taken
 abbrev pub AreTaken : {S R : Type 0} → EngineView S R → EngineView S R → ℕ → List Pair → Type 0
-AreTaken start now i ds = (now ≡ with_macros start now.table.macros) × (given_in start ds ≡ given_behind now i (drop i ds))
+AreTaken start now i ds = (now ≡ with_macros start now.table.macros) × (given_in start ds ≡ given_after now i (drop i ds))
 
 given_first : (mb mm i : ℕ) (macros : List Macro) (d : Pair) (ds : List Pair) (what : Defined)
     → set_of mb mm macros (string_bytes d.0) (string_bytes d.1) ≡ what
@@ -70,7 +70,7 @@ taken_more start now new i ds d name text result (is, gives) inside at outcome n
     let accepted : set_of now.table.most_bytes now.table.most_macros now.table.macros (string_bytes d.0) (string_bytes d.1) ≡ Accepted new.table.macros =
     sym (set_bytes now.table.most_bytes now.table.most_macros now.table.macros name text d n t) ∙ sym outcome ∙ ap (λ r. observed r new.table.macros) ok in (
       only ∙ ap (λ e. with_macros e new.table.macros) is,
-      gives ∙ ap (given_behind now i) (drop_more ds i d inside ∙ ap (λ x. x ∷ drop (i + 1) ds) (sym at))
+      gives ∙ ap (given_after now i) (drop_more ds i d inside ∙ ap (λ x. x ∷ drop (i + 1) ds) (sym at))
           ∙ given_first now.table.most_bytes now.table.most_macros i now.table.macros d (drop (i + 1) ds) (Accepted new.table.macros) accepted
           ∙ ap (λ e. given e.table.most_bytes e.table.most_macros (i + 1) new.table.macros (drop (i + 1) ds)) (sym only),
     )
@@ -82,14 +82,14 @@ pub declined : {S R : Type 0} (start now : EngineView S R) (macros : List Macro)
     → given_in start ds ≡ GivenFault (refused_definition fault.kind fault.word.bytes (i + 1))
 unfolding observed
 declined start now macros i ds d name text result fault (is, gives) inside at outcome n t err =
-    gives ∙ ap (given_behind now i) (drop_more ds i d inside ∙ ap (λ x. x ∷ drop (i + 1) ds) (sym at))
+    gives ∙ ap (given_after now i) (drop_more ds i d inside ∙ ap (λ x. x ∷ drop (i + 1) ds) (sym at))
     ∙ given_first now.table.most_bytes now.table.most_macros i now.table.macros d (drop (i + 1) ds) (DefinedFault fault.kind fault.word.bytes)
     (sym (set_bytes now.table.most_bytes now.table.most_macros now.table.macros name text d n t) ∙ sym outcome ∙ ap (λ r. observed r macros) err)
 
 pub taken_all : {S R : Type 0} (start now : EngineView S R) (i : ℕ) (ds : List Pair)
     → AreTaken start now i ds → length ds ≤ i → given_in start ds ≡ Taken now.table.macros
 unfolding given
-taken_all start now i ds (is, gives) all = gives ∙ ap (given_behind now i) (drop_all i ds all)
+taken_all start now i ds (is, gives) all = gives ∙ ap (given_after now i) (drop_all i ds all)
 
 -- What opening a fresh engine says of the output.
 

@@ -83,14 +83,14 @@ ends old new before after len StoppedRead f l =
     }
 
 -- bytes in front of an output that ended
-ended_behind : (xs ys : List ℕ) (fault : Option Report) → and_then (gives xs) (record { bytes = ys; fault = fault }) ≡ record { bytes = xs ++ ys; fault = fault }
+ended_after : (xs ys : List ℕ) (fault : Option Report) → and_then (gives xs) (record { bytes = ys; fault = fault }) ≡ record { bytes = xs ++ ys; fault = fault }
 unfolding and_then gives
-ended_behind xs ys fault = refl
+ended_after xs ys fault = refl
 
-pub ends_behind : (old mid new : View) (xs ys : List ℕ) (e : ReadEnd) → Leaves text_sources old mid xs None → Ends text_sources mid new ys e
+pub ends_after : (old mid new : View) (xs ys : List ℕ) (e : ReadEnd) → Leaves text_sources old mid xs None → Ends text_sources mid new ys e
     → Ends text_sources old new (xs ++ ys) e
-ends_behind old mid new xs ys e l is = record {
-  is = l ∙ ap (and_then (gives xs)) is.is ∙ ended_behind xs ys (ended_with (Some e) new.engine.kept);
+ends_after old mid new xs ys e l is = record {
+  is = l ∙ ap (and_then (gives xs)) is.is ∙ ended_after xs ys (ended_with (Some e) new.engine.kept);
 }
 
 -- what was read so far, and the count of its bytes behind so many
@@ -107,8 +107,8 @@ passed_none r count least = record { bytes = []; leaves = refl; count = grind ar
 counted_twice : (a n b k c : ℕ) → n ≡ min (a + b) (2 ^ 64 - 1) → c ≡ min (n + k) (2 ^ 64 - 1) → c ≡ min (a + (b + k)) (2 ^ 64 - 1)
 counted_twice a n b k c p q = grind arith
 
-behind_both : (a n : ℕ) (xs ys : List ℕ) (c : ℕ) → n ≡ min (a + length xs) (2 ^ 64 - 1) → c ≡ min (n + length ys) (2 ^ 64 - 1) → c ≡ min (a + length (xs ++ ys)) (2 ^ 64 - 1)
-behind_both a n xs ys c p q = counted_twice a n (length xs) (length ys) c p q ∙ ap (λ k. min (a + k) (2 ^ 64 - 1)) (sym (length-append xs ys))
+after_both : (a n : ℕ) (xs ys : List ℕ) (c : ℕ) → n ≡ min (a + length xs) (2 ^ 64 - 1) → c ≡ min (n + length ys) (2 ^ 64 - 1) → c ≡ min (a + length (xs ++ ys)) (2 ^ 64 - 1)
+after_both a n xs ys c p q = counted_twice a n (length xs) (length ys) c p q ∙ ap (λ k. min (a + k) (2 ^ 64 - 1)) (sym (length-append xs ys))
 
 -- the length of what a read wrote
 written : (old new : View) (before after : List ℕ) (len : ℕ) (ending : Option ReadEnd) → Fills text_sources old new before after len ending → length (take len after) ≡ len
@@ -121,7 +121,7 @@ passed_more old mid new a n c before after len p f l is =
     record {
       bytes = p.bytes ++ ys;
       leaves = p.leaves ∙ ap (and_then (gives p.bytes)) l ∙ and_then-gives_gives p.bytes ys (reading_left text_sources new);
-      count = behind_both a n p.bytes ys c p.count (is ∙ ap (λ k. min (n + k) (2 ^ 64 - 1)) (sym (written mid new before after len None f)));
+      count = after_both a n p.bytes ys c p.count (is ∙ ap (λ k. min (n + k) (2 ^ 64 - 1)) (sym (written mid new before after len None f)));
     }
 
 -- a read that filled a buffer with room leaves less
@@ -141,8 +141,8 @@ counted_end old mid new a n c before after len e p f l is =
     let ys = take len after in
     record {
       bytes = p.bytes ++ ys;
-      ends = ends_behind old mid new p.bytes ys e p.leaves (ends mid new before after len e f l);
-      count = behind_both a n p.bytes ys c p.count (is ∙ ap (λ k. min (n + k) (2 ^ 64 - 1)) (sym (written mid new before after len (Some e) f)));
+      ends = ends_after old mid new p.bytes ys e p.leaves (ends mid new before after len e f l);
+      count = after_both a n p.bytes ys c p.count (is ∙ ap (λ k. min (n + k) (2 ^ 64 - 1)) (sym (written mid new before after len (Some e) f)));
     }
 
 -- no bytes are written over none
@@ -153,9 +153,9 @@ overwritten_none (b ∷ buffer) = refl
 -- the first bytes of a buffer were written, and no others are due
 overwritten_part : (before after : List ℕ) (len : ℕ) → len ≤ length before → length after ≡ length before → drop len after ≡ drop len before
     → length (take len after) ≡ len → after ≡ overwritten (take len after) before
-overwritten_part before after len inside size behind exact =
+overwritten_part before after len inside size following exact =
     let xs = take len after in
-    sym (take-append-drop len after) ∙ ap (λ (ys : List ℕ). xs ++ ys) behind
+    sym (take-append-drop len after) ∙ ap (λ (ys : List ℕ). xs ++ ys) following
     ∙ ap (λ (k : ℕ). xs ++ drop k before) (sym exact)
     ∙ ap (λ (ys : List ℕ). ys ++ drop (length xs) before) (sym (take_all (length before) xs (omega (arith, inside, exact))))
 
@@ -180,7 +180,7 @@ read_whole old new before after len count e fault same_count fits f l same =
       bytes = take len after;
       is = (ends old new before after len e f l).is ∙ ap (λ (k : Option Report). record { bytes = take len after; fault = k }) (sym same);
       counted = least count len (length (take len after)) same_count fits size;
-      front = overwritten_part before after len f.inside f.size f.behind size;
+      front = overwritten_part before after len f.inside f.size f.following size;
     }
 
 -- an output that went on behind a full buffer
@@ -193,7 +193,7 @@ read_rest old mid new before after len all count e fault same_count f l c same =
     let size = written old mid before after len None f in
     record {
       bytes = xs ++ c.bytes;
-      is = (ends_behind old mid new xs c.bytes e l c.ends).is ∙ ap (λ (k : Option Report). record { bytes = xs ++ c.bytes; fault = k }) (sym same);
+      is = (ends_after old mid new xs c.bytes e l c.ends).is ∙ ap (λ (k : Option Report). record { bytes = xs ++ c.bytes; fault = k }) (sym same);
       counted = same_count ∙ c.count ∙ ap (λ k. min k (2 ^ 64 - 1)) (ap (λ k. k + length c.bytes) (sym size) ∙ sym (length-append xs c.bytes));
       front = overwritten_full before after c.bytes f.size ∙ ap (λ (ys : List ℕ). overwritten (ys ++ c.bytes) before) (sym whole);
     }

@@ -392,7 +392,7 @@ lines_going old new before after len room w full only = record {
   lent = w.lent;
   inside = (let i = w.inside in let s = w.size in omega arith);
   given = w.given;
-  behind = w.behind;
+  following = w.following;
   full = λ _. full;
   used = λ e bad. (let no : ⊥ = cc bad in absurd no);
   ends = w.so.ends;
@@ -408,7 +408,7 @@ lines_ended old new before after len room e f only = record {
   lent = f.lent;
   inside = f.inside;
   given = f.given;
-  behind = f.behind;
+  following = f.following;
   full = λ bad. (let no : ⊥ = cc bad in absurd no);
   used = f.used;
   ends = f.ends;

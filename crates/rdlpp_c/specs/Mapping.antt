@@ -22,7 +22,7 @@ pub record ReadsLines (old new : Stream) (before after : List ℕ) (len : ℕ) (
   pub lent : List ℕ
   pub inside : len ≤ length before
   pub given : take len after ++ new.reading.rest ≡ old.reading.rest ++ lent
-  pub behind : drop len after ≡ drop len before
+  pub following : drop len after ≡ drop len before
   pub full : ending ≡ None → (len ≡ length before) ⊎ ((room < 1100) ⊎ Pauses owned_sources old.reading new.reading)
   pub used : (e : ReadEnd) → ending ≡ Some e → new.reading.rest ≡ []
   pub ends : LentEnds owned_sources old.reading.engine new.reading.engine lent ending

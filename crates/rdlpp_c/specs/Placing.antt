@@ -12,19 +12,19 @@ use Rattle.rdlpp_c.specs.declared.stream.Stream.{Stream}
 use Rattle.rdlpp_c.specs.declared.telling.Outcome.{Outcome}
 
 -- the line behind so many LF bytes of a piece
-abbrev pub line_behind : LineStep → ℕ → ℕ → ℕ
-line_behind Next line passed = min (line + passed) (2 ^ 64 - 1)
-line_behind Same line passed = line
+abbrev pub line_right_after : LineStep → ℕ → ℕ → ℕ
+line_right_after Next line passed = min (line + passed) (2 ^ 64 - 1)
+line_right_after Same line passed = line
 
 -- the place behind so many LF bytes of a piece, by the place of its first byte
-abbrev pub place_behind : ℕ → Option PlaceView → Option PlaceView
-place_behind passed None = None
-place_behind passed (Some p) = Some (record { name = p.name; line = line_behind p.step p.line passed; step = p.step })
+abbrev pub place_after : ℕ → Option PlaceView → Option PlaceView
+place_after passed None = None
+place_after passed (Some p) = Some (record { name = p.name; line = line_right_after p.step p.line passed; step = p.step })
 
 -- the place of the first byte of a part of a piece; none where it has no bytes
 abbrev pub part_position : Bool → ℕ → Option PlaceView → Option PlaceView
 part_position true passed place = None
-part_position false passed place = place_behind passed place
+part_position false passed place = place_after passed place
 
 -- the place of what the last read gave; none where reads don't end with their pieces
 abbrev pub placed : Bool → Part → Option PlaceView → Option PlaceView

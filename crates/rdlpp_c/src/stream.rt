@@ -143,7 +143,7 @@ impl Stream {
         ensures { option_map (λ path. path.bytes) result ≡ read_wanted (ended_with ending self.now.reading.engine.kept) self.now.reading.engine.sources }
     {
         match ended_fault(&self.reading, ending) {
-            Some(fault) => wanted_behind(fault.kind, self.reading.engine().sources()),
+            Some(fault) => wanted_after(fault.kind, self.reading.engine().sources()),
             None => None,
         }
     }
@@ -161,7 +161,7 @@ impl Stream {
 
 // The path that is asked for, where the kind of a fault is that of a device.
 #[tactic(auto, unfolding(rdlpp_state::specs::Steps::is_read_failed))]
-fn wanted_behind(kind: FaultKind, sources: &AskedTexts) -> Option<ArrayString<1024>>
+fn wanted_after(kind: FaultKind, sources: &AskedTexts) -> Option<ArrayString<1024>>
     ensures { option_map (λ path. path.bytes) result ≡ wanted_by kind sources.now }
 {
     if kind == FaultKind::ReadFailed {

@@ -97,7 +97,7 @@ impl RunFiles {
     ///
     /// # Errors
     /// As of `open`; also `Source` where one of `opened` lies in the file, and `Failed` where memory was refused for one of them.
-    pub fn open_behind(
+    pub fn open_after(
         &mut self,
         rt: &HostRuntime,
         path: &str,

@@ -142,7 +142,7 @@ fn write_deps(
     target: &String,
     opened: &OpenedPaths,
 ) -> Result<(), WriteFault> {
-    let file = files.open_behind(rt, path.as_str(), opened)?;
+    let file = files.open_after(rt, path.as_str(), opened)?;
     let mut writer = BufWriter::with_capacity(rt.alloc(), OUTPUT_BYTES, file)?;
     write_dependencies(target.as_str(), opened, &mut writer)?;
     writer.flush()?;
@@ -157,7 +157,7 @@ fn write_macros(
     table: &Table,
     opened: &OpenedPaths,
 ) -> Result<(), WriteFault> {
-    let file = files.open_behind(rt, path.as_str(), opened)?;
+    let file = files.open_after(rt, path.as_str(), opened)?;
     let mut writer = BufWriter::with_capacity(rt.alloc(), OUTPUT_BYTES, file)?;
     write_definitions(table, &mut writer)?;
     writer.flush()?;

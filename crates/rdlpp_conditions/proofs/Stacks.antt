@@ -218,5 +218,5 @@ pub lines_onward : (held : List ℕ) (len step lines more : ℕ) → lines ≡ l
 lines_onward held len step lines more e f =
     let same : len + step - len ≡ step = omega arith in
     let rest : take (length held - len) (drop len held) ≡ drop len held = take_rest held len in
-    let behind : more ≡ line_ends (take (len + step - len) (drop len held)) = f ∙ (ap (λ (l : List ℕ). line_ends (take step l)) rest ∙ ap (λ (n : ℕ). line_ends (take n (drop len held))) (sym same)) in
-    ap (λ (n : ℕ). n + more) e ∙ (ap (λ (n : ℕ). line_ends (take len held) + n) behind ∙ line_ends-part held len step)
+    let following : more ≡ line_ends (take (len + step - len) (drop len held)) = f ∙ (ap (λ (l : List ℕ). line_ends (take step l)) rest ∙ ap (λ (n : ℕ). line_ends (take n (drop len held))) (sym same)) in
+    ap (λ (n : ℕ). n + more) e ∙ (ap (λ (n : ℕ). line_ends (take len held) + n) following ∙ line_ends-part held len step)

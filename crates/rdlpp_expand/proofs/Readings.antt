@@ -84,8 +84,8 @@ lent_more {S} {R} g old mid new xs ys (Some Stopped) l stop =
     }
 
 -- the work left doesn't rise, where it falls
-work_behind : (a b c : ℕ) → b ≤ a → c < b → c ≤ a
-work_behind a b c most less = omega (arith, most, less)
+work_after : (a b c : ℕ) → b ≤ a → c < b → c ≤ a
+work_after a b c most less = omega (arith, most, less)
 
 -- what a read has given so far: the output hasn't ended
 pub record IsGiven {S R : Type 0} (g : Ghosts S R) (old new : ReadingView S R) (before after : List ℕ) (len : ℕ) : Type 0 where
@@ -93,7 +93,7 @@ pub record IsGiven {S R : Type 0} (g : Ghosts S R) (old new : ReadingView S R) (
   pub inside : len ≤ length after
   pub size : length after ≡ length before
   pub given : take len after ++ new.rest ≡ old.rest ++ lent
-  pub behind : drop len after ≡ drop len before
+  pub following : drop len after ≡ drop len before
   pub so : Lent g old.engine new.engine lent None
   pub work : work_left new.engine ≤ work_left old.engine
 
@@ -104,7 +104,7 @@ given_none g r out = record {
   inside = omega arith;
   size = refl;
   given = sym (append-nil r.rest);
-  behind = refl;
+  following = refl;
   so = record {
     reads = none_reads g r.engine.kept _ _ (not_called g r.engine.sources);
     limits = refl;
@@ -163,7 +163,7 @@ given_more {S} {R} g old mid new before after out len n w becomes is over =
       inside = (let s = size in let i = inside in omega arith);
       size = size ∙ w.size;
       given = ap (λ (t : List ℕ). t ++ new.rest) front ∙ ap (λ (r : List ℕ). (xs ++ ys) ++ r) rest ∙ append_assoc xs ys (drop n mid.rest) ∙ ap (λ (t : List ℕ). xs ++ t) (take-append-drop n mid.rest) ∙ w.given;
-      behind = back ∙ sym (drop-drop n len after) ∙ ap (drop n) w.behind ∙ drop-drop n len before;
+      following = back ∙ sym (drop-drop n len after) ∙ ap (drop n) w.following ∙ drop-drop n len before;
       so = subst (λ (e : EngineView S R). Lent g old.engine e w.lent None) (sym engine) w.so;
       work = subst (λ (e : EngineView S R). work_left e ≤ work_left old.engine) (sym engine) w.work;
     }
@@ -184,9 +184,9 @@ given_turned g old mid new before after len w none t = record {
   inside = w.inside;
   size = w.size;
   given = ap (λ (xs : List ℕ). xs ++ new.rest) (sym (append-nil (take len after)) ∙ ap (λ (r : List ℕ). take len after ++ r) (sym none) ∙ w.given) ∙ append_assoc old.rest w.lent new.rest;
-  behind = w.behind;
+  following = w.following;
   so = lent_more g old.engine mid.engine new.engine w.lent new.rest None w.so t;
-  work = (let steps : Step g mid.engine new.engine (Ok (Some new.rest)) = t in work_behind _ _ _ w.work (steps.falls new.rest refl));
+  work = (let steps : Step g mid.engine new.engine (Ok (Some new.rest)) = t in work_after _ _ _ w.work (steps.falls new.rest refl));
 }
 
 -- the work left fell, where it does again
@@ -201,7 +201,7 @@ fills_full g old new before after len w is = record {
   inside = (let i = w.inside in let s = w.size in omega arith);
   size = w.size;
   given = w.given;
-  behind = w.behind;
+  following = w.following;
   full = λ e. is ∙ w.size;
   used = λ e bad. (let no : ⊥ = cc bad in absurd no);
   ends = w.so.ends;
@@ -226,7 +226,7 @@ fills_ended g old mid new before after len e w none t =
       inside = (let i = w.inside in let s = w.size in omega arith);
       size = w.size;
       given = ap (λ (xs : List ℕ). xs ++ new.rest) (sym (append-nil (take len after)) ∙ ap (λ (r : List ℕ). take len after ++ r) (sym none) ∙ w.given) ∙ append_assoc old.rest w.lent new.rest;
-      behind = w.behind;
+      following = w.following;
       full = λ bad. (let no : ⊥ = cc bad in absurd no);
       used = λ f same. turned_rest g mid.engine new.engine new.rest e t;
       ends = so.ends;
@@ -244,7 +244,7 @@ fills_part g old new before after len ending f = record {
   inside = f.inside;
   size = f.size;
   given = f.given;
-  behind = f.behind;
+  following = f.following;
   full = λ e. inl (f.full e);
   used = f.used;
   ends = f.ends;
@@ -266,7 +266,7 @@ fills_paused g old mid new before after len w used t none =
       inside = (let i = v.inside in let s = v.size in omega arith);
       size = v.size;
       given = v.given;
-      behind = v.behind;
+      following = v.following;
       full = λ _. inr (record {
         none = empty;
         before = mid.engine;

@@ -96,12 +96,12 @@ own_of g old new f None e s = s.own e
 own_of g old new f (Some k) e s = refl
 
 -- a first part, and what is left of the first part's outcome
-pub begins_behind : (xs : List ℕ) (o : Outcome) → Begins xs (and_then (gives xs) o)
-begins_behind xs o = (o.bytes, bytes-and_then_gives xs o)
+pub begins_after : (xs : List ℕ) (o : Outcome) → Begins xs (and_then (gives xs) o)
+begins_after xs o = (o.bytes, bytes-and_then_gives xs o)
 
 -- a first part, where the outcome is known otherwise
 pub begins_of : (xs : List ℕ) (o p : Outcome) → p ≡ and_then (gives xs) o → Begins xs p
-begins_of xs o p e = let P : Outcome → Type 0 = λ q. Begins xs q in subst P (sym e) (begins_behind xs o)
+begins_of xs o p e = let P : Outcome → Type 0 = λ q. Begins xs q in subst P (sym e) (begins_after xs o)
 
 -- a call in which nothing failed, where no fault was answered
 pub none_reads : {S R : Type 0} (g : Ghosts S R) (kept : Option Report) (old new : S) → SourcesCalled g false false old new

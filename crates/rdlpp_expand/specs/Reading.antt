@@ -63,7 +63,7 @@ pub record Fills {S R : Type 0} (g : Ghosts S R) (old new : ReadingView S R) (be
   pub inside : len ≤ length before
   pub size : length after ≡ length before
   pub given : take len after ++ new.rest ≡ old.rest ++ lent
-  pub behind : drop len after ≡ drop len before
+  pub following : drop len after ≡ drop len before
   pub full : ending ≡ None → len ≡ length before
   pub used : (e : ReadEnd) → ending ≡ Some e → new.rest ≡ []
   pub ends : LentEnds g old.engine new.engine lent ending
@@ -85,7 +85,7 @@ pub record FillsPart {S R : Type 0} (g : Ghosts S R) (old new : ReadingView S R)
   pub inside : len ≤ length before
   pub size : length after ≡ length before
   pub given : take len after ++ new.rest ≡ old.rest ++ lent
-  pub behind : drop len after ≡ drop len before
+  pub following : drop len after ≡ drop len before
   pub full : ending ≡ None → (len ≡ length before) ⊎ Pauses g old new
   pub used : (e : ReadEnd) → ending ≡ Some e → new.rest ≡ []
   pub ends : LentEnds g old.engine new.engine lent ending

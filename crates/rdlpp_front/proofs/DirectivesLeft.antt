@@ -23,16 +23,16 @@ use Rattle.rdlpp_scan.proofs.Seams.{BeforePerl, Closed, OpenComment, OpenString,
 use Rattle.rdlpp_scan.proofs.TokenLens.{token_of-part}
 use Rattle.rdlpp_scan.proofs.TokenSteps.{is_kept_kind}
 use Rattle.rdlpp_meaning.specs.Expansion.{usage_token}
-use Rattle.rdlpp_meaning.specs.Meaning.{Checked, Holds, Passage, Progress, TestFault, Test, added_end, at_start_of, begun, behind_bytes, by_test, in_conditional, is_else, leaves, macro_name, name_test, opening, opening_within, origin_line, past_conditional, refusal, turn, turned, unclosed, wants_defined}
+use Rattle.rdlpp_meaning.specs.Meaning.{Checked, Holds, Passage, Progress, TestFault, Test, added_end, at_start_of, begun, after_bytes, by_test, in_conditional, is_else, leaves, macro_name, name_test, opening, opening_within, origin_line, past_conditional, refusal, turn, turned, unclosed, wants_defined}
 use Rattle.rdlpp_meaning.specs.Opened.{Waiting, all_resumed, waiting}
 use Rattle.rdlpp_meaning.specs.Outcome.{fails}
-use Rattle.rdlpp_meaning.specs.Parts.{Command, argument_of, behind_blanks, behind_directive, command_in_front, command_of, line_ends_of, no_argument, only_blanks, past_blanks, string_in_front}
-use Rattle.rdlpp_meaning.specs.Resumed.{Live, Place, Skipped, behind, resume, resumed}
+use Rattle.rdlpp_meaning.specs.Parts.{Command, argument_of, after_blanks, after_directive, command_in_front, command_of, line_ends_of, no_argument, only_blanks, past_blanks, string_in_front}
+use Rattle.rdlpp_meaning.specs.Resumed.{Live, Place, Skipped, following, resume, resumed}
 use Rattle.rdlpp_meaning.specs.State.{LongPath, NoSource, Rules, Source, State, breach_kind, fault_at, shown_line}
 use Rattle.rdlpp_meaning.specs.declared.fault.FaultKind.TheVariants.{IncludeName, OpenConditional, PathTooLong, SourceNotFound, StrayBranch, TooManyIncludes}
-use Rattle.rdlpp_meaning.proofs.Directives.{all_resumed_behind, all_resumed_fails, all_resumed_include, blank_token, branches_conditional, branching_piece, closing_piece, directive_piece, in_branch, include_bad_name, include_long_path, include_nameless, include_not_found, include_too_deep, line_token, live_branching, live_opening, opening_piece, opens_conditional, skipped_branching, string_token, takes_string_at_once, takes_string_behind_blanks, wants_name}
+use Rattle.rdlpp_meaning.proofs.Directives.{all_resumed_after, all_resumed_fails, all_resumed_include, blank_token, branches_conditional, branching_piece, closing_piece, directive_piece, in_branch, include_bad_name, include_long_path, include_nameless, include_not_found, include_too_deep, line_token, live_branching, live_opening, opening_piece, opens_conditional, skipped_branching, string_token, takes_string_at_once, takes_string_after_blanks, wants_name}
 use Rattle.rdlpp_meaning.proofs.Skipping.{bare_skipped, branching_word, directive_word, has_own_token, is_skipped, resumed_inner_branch, resumed_inner_end, resumed_skipped, resumed_skipped_broken, resumed_skipped_opening, skipped_unclosed, stands_by_itself, usage_skipped}
-use Rattle.rdlpp_meaning.proofs.Outcomes.{behind_bytes-nil}
+use Rattle.rdlpp_meaning.proofs.Outcomes.{after_bytes-nil}
 use Rattle.rdlpp_read.specs.Arguments.{Closes, ClosesString, IsClosedString, IsLead, Lacks, Leads, Opens as OpensString}
 use Rattle.rdlpp_read.specs.Buffer.{BufferView, consumed, held_of, rest_of, tokens_left}
 use Rattle.rdlpp_read.specs.Files.{consumed_file}
@@ -46,7 +46,7 @@ use Rattle.rdlpp_front.specs.SourceItems.{HasString, IsDirective, IsUsage, Lacks
 use Rattle.rdlpp_front.specs.SourceLeft.{HoldsFront, source_left, with_file_buffer}
 use Rattle.rdlpp_front.proofs.TextLeft.{consumed_used, counted, line_buffer, line_text, not_counted, usage_text, usage_tokens}
 use Rattle.rdlpp_front.proofs.NamedDirectives.{Bare, Begins, GivenInFront, IsGiven, blank_lead, directive_move, given_in_front_of, given_of, gone_blanks, gone_word, in_front_of, name_of_front, nothing_in_front_of, nothing_tokens, refused_move, stands_bare, wants_word, word_at, word_directive, word_token, word_tokens}
-use Rattle.rdlpp_front.proofs.Insides.{all_resumed_behind_fails, tokens_plain, tokens_used, used_buffer}
+use Rattle.rdlpp_front.proofs.Insides.{all_resumed_after_fails, tokens_plain, tokens_used, used_buffer}
 
 -- What the directives of conditionals in front do to what remains, in live text and at the end of a branch that is skipped.
 
@@ -102,7 +102,7 @@ resumed_branch : (rules : Rules) (live : Bool) (o : Progress) (os : List Progres
     → let tok = word_token d line in
     let c = command_in_front d first tok ts in
     resumed rules (in_branch live o os) first (tok ∷ ts) s
-    ≡ by_test (turn o c s) c s (λ u. behind rules (Live (turned o c true ∷ os)) d first tok ts u) (λ u. behind rules (Skipped 0 (turned o c false) os) d first tok ts u)
+    ≡ by_test (turn o c s) c s (λ u. following rules (Live (turned o c true ∷ os)) d first tok ts u) (λ u. following rules (Skipped 0 (turned o c false) os) d first tok ts u)
 unfolding in_branch
 resumed_branch rules true o os d line first ts s b =
     live_branching rules o os d first (word_token d line) ts s (word_directive d line (branching_word d b)) (branching_piece d first (word_token d line) ts b)
@@ -111,7 +111,7 @@ resumed_branch rules false o os d line first ts s b =
 
 -- an `endif`
 resumed_closed : (rules : Rules) (live : Bool) (o : Progress) (os : List Progress) (line : ℕ) (first : Bool) (ts : List SourceToken) (s : State)
-    → resumed rules (in_branch live o os) first (word_token Endif line ∷ ts) s ≡ behind rules (Live os) Endif first (word_token Endif line) ts (past_conditional s)
+    → resumed rules (in_branch live o os) first (word_token Endif line ∷ ts) s ≡ following rules (Live os) Endif first (word_token Endif line) ts (past_conditional s)
 unfolding in_branch has_own_token resume resumed past_conditional
 resumed_closed rules true o os line first ts s =
     directive_piece rules (Live (o ∷ os)) Endif first (word_token Endif line) ts s _ (word_directive Endif line refl) (closing_piece first (word_token Endif line) ts)
@@ -132,12 +132,12 @@ module _ {R : Type 0} (rules : Rules) (unread : R → List ℕ) (ws : List Waiti
     command = command_in_front d f.blanks (word_token d f.buffer.line) front.tokens
 
     -- what remains behind it, at a place
-    abbrev behind_it : Place → State → Passage
-    behind_it place t = behind rules place d f.blanks (word_token d f.buffer.line) front.tokens t
+    abbrev after_it : Place → State → Passage
+    after_it place t = following rules place d f.blanks (word_token d f.buffer.line) front.tokens t
 
     tested_left : (place : Place) (new : Bool → Place) (t : State) (x : Test) (live skipped : State → Passage)
         → resumed rules place f.blanks (word_token d f.buffer.line ∷ front.tokens) s ≡ by_test x command s live skipped
-        → live s ≡ behind_it (new true) t → skipped s ≡ behind_it (new false) t
+        → live s ≡ after_it (new true) t → skipped s ≡ after_it (new false) t
         → source_left rules unread ws place f s ≡ tested x f.buffer.line s (λ b. source_left rules unread ws (new b) (consumed_file len 0 f) t)
     unfolding by_test tested
     tested_left place new t (TestFault kind word) live skipped e holding failing = refused_move rules unread ws f s d front.tokens place kind word front.all e
@@ -153,8 +153,8 @@ module _ {R : Type 0} (rules : Rules) (unread : R → List ℕ) (ws : List Waiti
     opening_left os o =
         let tok = word_token d f.buffer.line in
         let x : Checked → Test = λ n. opening_within s.conditions_left (name_test (wants_defined d) n s) in
-        let live : State → Passage = λ u. behind_it (Live (begun command u true ∷ os)) (in_conditional u) in
-        let skipped : State → Passage = λ u. behind_it (Skipped 0 (begun command u false) os) (in_conditional u) in
+        let live : State → Passage = λ u. after_it (Live (begun command u true ∷ os)) (in_conditional u) in
+        let skipped : State → Passage = λ u. after_it (Skipped 0 (begun command u false) os) (in_conditional u) in
         tested_left (Live os) (λ t. in_branch t (opened_at s f.buffer.line t) os) (in_conditional s) (x (given_name given)) live skipped
         (live_opening rules os d f.blanks tok front.tokens s (word_directive d f.buffer.line (wants_word d (opening_wants d o))) (opening_piece d f.blanks tok front.tokens o)
         ∙ ap (λ (n : Checked). by_test (x n) command s live skipped) (name_of_front rules unread ws f s d given len front))
@@ -166,8 +166,8 @@ module _ {R : Type 0} (rules : Rules) (unread : R → List ℕ) (ws : List Waiti
         ≡ tested (test (given_name given) s) f.buffer.line s (λ t. source_left rules unread ws (in_branch t (branched o t (is_else d)) os) (consumed_file len 0 f) s)
     unfolding turned in_branch command_of
     turned_left live o os test b turns =
-        let taken : State → Passage = λ u. behind_it (Live (turned o command true ∷ os)) u in
-        let skipped : State → Passage = λ u. behind_it (Skipped 0 (turned o command false) os) u in
+        let taken : State → Passage = λ u. after_it (Live (turned o command true ∷ os)) u in
+        let skipped : State → Passage = λ u. after_it (Skipped 0 (turned o command false) os) u in
         tested_left (in_branch live o os) (λ t. in_branch t (branched o t (is_else d)) os) s (test (given_name given) s) taken skipped
         (resumed_branch rules live o os d f.buffer.line f.blanks front.tokens s b
         ∙ ap (λ (x : Test). by_test x command s taken skipped) (turns command s refl ∙ ap (λ (n : Checked). test n s) (name_of_front rules unread ws f s d given len front)))
@@ -203,31 +203,31 @@ module _ {R : Type 0} (rules : Rules) (unread : R → List ℕ) (ws : List Waiti
 
   -- one token that is skipped gives its LF bytes
   one_skipped : (t : SourceToken) (b : BufferView R) → tokens_left unread f.buffer ≡ t ∷ tokens_left unread b → is_skipped t ≡ true
-      → source_left rules unread ws (Skipped n p os) f s ≡ behind_bytes (line_ends_of t.bytes) (left_of (only_blanks f.blanks t.bytes) b)
+      → source_left rules unread ws (Skipped n p os) f s ≡ after_bytes (line_ends_of t.bytes) (left_of (only_blanks f.blanks t.bytes) b)
   unfolding source_left
   one_skipped t b all e =
       let ts = tokens_left unread b in
       let here = Skipped n p os in
       ap (λ (us : List SourceToken). all_resumed rules ws here f.blanks us s) all
-      ∙ all_resumed_behind rules ws here here f.blanks (only_blanks f.blanks (t.bytes ++ [])) (t ∷ ts) ts s s (line_ends_of (t.bytes ++ []))
+      ∙ all_resumed_after rules ws here here f.blanks (only_blanks f.blanks (t.bytes ++ [])) (t ∷ ts) ts s s (line_ends_of (t.bytes ++ []))
       (resumed_skipped rules n p os f.blanks (t ∷ []) ts s (rw e refl))
-      ∙ ap (λ (x : List ℕ). behind_bytes (line_ends_of x) (left_of (only_blanks f.blanks x) b)) (append-nil t.bytes)
+      ∙ ap (λ (x : List ℕ). after_bytes (line_ends_of x) (left_of (only_blanks f.blanks x) b)) (append-nil t.bytes)
 
   -- a usage is skipped, defined or not
   pub skipped_usage_left : (len : ℕ) → HoldsFront f.buffer → f.buffer.mode ≡ Plain → IsUsage (held_of f.buffer) len
       → source_left rules unread ws (Skipped n p os) f s
-      ≡ behind_bytes (line_ends_of (take len (held_of f.buffer))) (source_left rules unread ws (Skipped n p os) (consumed_file len 0 f) s)
+      ≡ after_bytes (line_ends_of (take len (held_of f.buffer))) (source_left rules unread ws (Skipped n p os) (consumed_file len 0 f) s)
   unfolding source_left
   skipped_usage_left len holds mode usage =
       let name = usage_name (held_of f.buffer) len in
       let b = used_buffer f.buffer len 0 in
       one_skipped (usage_token name f.buffer.line) b (usage_tokens unread f len holds mode usage) (usage_skipped name f.buffer.line usage.free)
-      ∙ ap (λ (x : List ℕ). behind_bytes (line_ends_of x) (left_of (only_blanks f.blanks x) b)) (sym (usage_text (held_of f.buffer) len usage))
+      ∙ ap (λ (x : List ℕ). after_bytes (line_ends_of x) (left_of (only_blanks f.blanks x) b)) (sym (usage_text (held_of f.buffer) len usage))
 
   -- a lone backquote is skipped
   pub skipped_bare_left : HoldsFront f.buffer → f.buffer.mode ≡ Plain → (token_of Plain (held_of f.buffer)).kind ≡ BareBackquote
       → source_left rules unread ws (Skipped n p os) f s
-      ≡ behind_bytes (line_ends_of (take 1 (held_of f.buffer))) (source_left rules unread ws (Skipped n p os) (consumed_file 1 0 f) s)
+      ≡ after_bytes (line_ends_of (take 1 (held_of f.buffer))) (source_left rules unread ws (Skipped n p os) (consumed_file 1 0 f) s)
   unfolding source_left
   skipped_bare_left holds mode is =
       let b = f.buffer in
@@ -245,18 +245,18 @@ module _ {R : Type 0} (rules : Rules) (unread : R → List ℕ) (ws : List Waiti
   -- the word of an `undef` or of an `include` is skipped, and what it would take is text
   pub skipped_word_left : (d : Directive) → has_own_token d ≡ false → stands_by_itself d ≡ true
       → HoldsFront f.buffer → f.buffer.mode ≡ Plain → IsDirective d (held_of f.buffer) → source_left rules unread ws (Skipped n p os) f s
-      ≡ behind_bytes (line_ends_of (take (length (word_of d)) (held_of f.buffer)))
+      ≡ after_bytes (line_ends_of (take (length (word_of d)) (held_of f.buffer)))
       (source_left rules unread ws (Skipped n p os) (consumed_file (length (word_of d)) 0 f) s)
   unfolding source_left
   skipped_word_left d word alone holds mode is =
       let b = used_buffer f.buffer (length (word_of d)) 0 in
       one_skipped (word_token d f.buffer.line) b (word_tokens d unread f.buffer word holds mode is) (word_skipped d f.buffer.line word alone)
-      ∙ ap (λ (x : List ℕ). behind_bytes (line_ends_of x) (left_of (only_blanks f.blanks x) b))
+      ∙ ap (λ (x : List ℕ). after_bytes (line_ends_of x) (left_of (only_blanks f.blanks x) b))
       (sym (word_at d (held_of f.buffer) (rest_of unread f.buffer) holds.some (ends_line unread f.buffer holds.ends) is))
 
   -- a `line` is skipped with its line
   pub skipped_line_left : HoldsFront f.buffer → f.buffer.mode ≡ Plain → IsDirective Line (held_of f.buffer) → source_left rules unread ws (Skipped n p os) f s
-      ≡ behind_bytes (line_ends_of (line_text (held_of f.buffer)))
+      ≡ after_bytes (line_ends_of (line_text (held_of f.buffer)))
       (source_left rules unread ws (Skipped n p os) (consumed_file (line_len (held_of f.buffer)) (line_ends (line_text (held_of f.buffer))) f) s)
   unfolding source_left is_skipped
   skipped_line_left holds mode is =
@@ -267,13 +267,13 @@ module _ {R : Type 0} (rules : Rules) (unread : R → List ℕ) (ws : List Waiti
   pub skipped_define_left : (has_known_texts : Type 0) (new : BufferView R) (len lines : ℕ) → HoldsLine has_known_texts unread (Whole len) f.buffer new → has_known_texts → f.buffer.mode ≡ Plain
       → HoldsDefine (held_of f.buffer) (rest_of unread f.buffer) → lines ≡ line_ends (take len (held_of new))
       → source_left rules unread ws (Skipped n p os) f s
-      ≡ behind_bytes (line_ends_of (take len (held_of new)))
+      ≡ after_bytes (line_ends_of (take len (held_of new)))
       (source_left rules unread ws (Skipped n p os) (consumed_file len lines (with_file_buffer new f)) s)
   unfolding source_left is_skipped
   skipped_define_left has_known_texts new len lines line t mode holds count =
       let w = take len (held_of new) in
       one_skipped (record { sort = Definition; bytes = w; line = f.buffer.line }) (consumed new len) (line.define t mode holds) refl
-      ∙ ap (λ (b : BufferView R). behind_bytes (line_ends_of w) (left_of (only_blanks f.blanks w) b)) (consumed_used new len lines count)
+      ∙ ap (λ (b : BufferView R). after_bytes (line_ends_of w) (left_of (only_blanks f.blanks w) b)) (consumed_used new len lines count)
 
 -- What the words of conditionals in front do in skipped text, where they open, branch or close a conditional that is skipped whole,
 
@@ -292,7 +292,7 @@ module _ {R : Type 0} (rules : Rules) (unread : R → List ℕ) (ws : List Waiti
   -- a word that is skipped writes nothing, and changes at most how many conditionals opened there
   word_move : (d : Directive) (n m : ℕ) → has_own_token d ≡ false
       → HoldsFront f.buffer → f.buffer.mode ≡ Plain → IsDirective d (held_of f.buffer) → ((ts : List SourceToken) → resumed rules (Skipped n p os) f.blanks (word_token d f.buffer.line ∷ ts) s
-      ≡ behind_bytes (line_ends_of (word_of d)) (resumed rules (Skipped m p os) (only_blanks f.blanks (word_of d)) ts s))
+      ≡ after_bytes (line_ends_of (word_of d)) (resumed rules (Skipped m p os) (only_blanks f.blanks (word_of d)) ts s))
       → source_left rules unread ws (Skipped n p os) f s
       ≡ source_left rules unread ws (Skipped m p os) (consumed_file (length (word_of d)) 0 f) s
   unfolding source_left
@@ -304,9 +304,9 @@ module _ {R : Type 0} (rules : Rules) (unread : R → List ℕ) (ws : List Waiti
       sym (word_at d (held_of b) (rest_of unread b) holds.some (ends_line unread b holds.ends) is) in
       let left = all_resumed rules ws (Skipped m p os) (only_blanks f.blanks (word_of d)) ts s in
       ap (λ (us : List SourceToken). all_resumed rules ws (Skipped n p os) f.blanks us s) (word_tokens d unread b word holds mode is)
-      ∙ all_resumed_behind rules ws (Skipped n p os) (Skipped m p os) f.blanks (only_blanks f.blanks (word_of d)) (tok ∷ ts) ts s s (line_ends_of (word_of d)) (e ts)
-      ∙ ap (λ (x : List ℕ). behind_bytes x left) (directive_word tok d (word_directive d b.line word) word).no_line_end
-      ∙ behind_bytes-nil left
+      ∙ all_resumed_after rules ws (Skipped n p os) (Skipped m p os) f.blanks (only_blanks f.blanks (word_of d)) (tok ∷ ts) ts s s (line_ends_of (word_of d)) (e ts)
+      ∙ ap (λ (x : List ℕ). after_bytes x left) (directive_word tok d (word_directive d b.line word) word).no_line_end
+      ∙ after_bytes-nil left
       ∙ ap (λ (x : List ℕ). all_resumed rules ws (Skipped m p os) (only_blanks f.blanks x) ts s) text
 
   -- a word that counts there
@@ -329,9 +329,9 @@ module _ {R : Type 0} (rules : Rules) (unread : R → List ℕ) (ws : List Waiti
   skipped_broken_left n b line e =
       let fault = leaves (fails (fault_at (breach_kind b) line [] s)) s in
       ap (λ (ts : List SourceToken). all_resumed rules ws (Skipped n p os) f.blanks ts s) e
-      ∙ all_resumed_behind_fails rules ws (Skipped n p os) f.blanks (only_broken b line) s s [] (fault_at (breach_kind b) line [] s)
+      ∙ all_resumed_after_fails rules ws (Skipped n p os) f.blanks (only_broken b line) s s [] (fault_at (breach_kind b) line [] s)
       (resumed_skipped_broken rules n p os f.blanks b [] line [] s)
-      ∙ behind_bytes-nil fault
+      ∙ after_bytes-nil fault
 
   -- a conditional that is open at the end of its source is a fault, where its branch is skipped
   pub skipped_unclosed_left : (n : ℕ) (has_known_texts : Type 0) (new : BufferView R) → Fills has_known_texts unread fill.End f.buffer new → has_known_texts → f.buffer.mode ≡ Plain
@@ -396,7 +396,7 @@ module _ (most l room : ℕ) (rest : List ℕ) where
       blank_lead most l room rest r bl ends some is len ∙ ap (λ (ts : List SourceToken). blank_token (take bl r) l ∷ ts) (string_lead z n (EndsLine-drop bl r rest ends) c) in
       subst (λ (ts : List SourceToken). IsGiven Include ts (take n z) (take bl r ++ take n z) (tokens_of (drop n z))) (sym e)
       (given_of Include _ (take n z) (take bl r ++ take n z) (tokens_of (drop n z)) 2
-      (takes_string_behind_blanks (take bl r) (take n z) l l (tokens_of (drop n z)) (no_line_end (take n z) c.line).1) refl)
+      (takes_string_after_blanks (take bl r) (take n z) l l (tokens_of (drop n z)) (no_line_end (take n z) c.line).1) refl)
   string_given r bl n ends (Lacks other zero_is) c =
       let P : ℕ → Type 0 = λ m. ClosesString (drop m r) n → IsGiven Include (tokens_of r) (take n (drop m r)) (take m r ++ take n (drop m r)) (tokens_of (drop n (drop m r))) in
       let at_zero : P 0 = λ own.
@@ -444,22 +444,22 @@ module _ {R : Type 0} (rules : Rules) (unread : R → List ℕ) (ws : List Waiti
         state = s;
         ending = added_end text ++ origin_line rules s.name (shown_line s.shift f.buffer.line);
       } in
-      ap (λ (z : List ℕ). w (only_blanks f.blanks z) (behind_directive Include i.tokens)) i.text
-      ∙ ap (λ (ts : List SourceToken). w (only_blanks f.blanks (take stop (held_of f.buffer))) ts) i.behind
+      ap (λ (z : List ℕ). w (only_blanks f.blanks z) (after_directive Include i.tokens)) i.text
+      ∙ ap (λ (ts : List SourceToken). w (only_blanks f.blanks (take stop (held_of f.buffer))) ts) i.following
 
   -- an `include` that finds a source opens it, and the source that stood innermost waits
   pub include_left : (k : ℕ) (path text : List ℕ)
       → (length (include_name (held_of f.buffer) start stop) == 0 || not (is_utf8 (include_name (held_of f.buffer) start stop))) ≡ false → s.sources_left ≡ suc k
       → rules.find s.path (include_name (held_of f.buffer) start stop) ≡ Source path text
       → source_left rules unread ws (Live os) f s
-      ≡ behind_bytes (origin_line rules path 1)
+      ≡ after_bytes (origin_line rules path 1)
       (all_resumed rules (waiting_file rules unread os stop f s text ∷ ws) (Live []) true (rules.tokens text) (at_start_of path s))
   unfolding source_left
   include_left k path text name left found =
       ap (λ (ts : List SourceToken). all_resumed rules ws (Live os) f.blanks ts s) string_front.all
       ∙ all_resumed_include rules ws os f.blanks (word_token Include f.buffer.line) string_front.tokens s (argument_name (held_of f.buffer) start stop) k path text
       (word_directive Include f.buffer.line include_word) string_front.given name left found
-      ∙ ap (λ (w : Waiting). behind_bytes (origin_line rules path 1) (all_resumed rules (w ∷ ws) (Live []) true (rules.tokens text) (at_start_of path s))) (waits string_front text)
+      ∙ ap (λ (w : Waiting). after_bytes (origin_line rules path 1) (all_resumed rules (w ∷ ws) (Live []) true (rules.tokens text) (at_start_of path s))) (waits string_front text)
 
   -- an `include` of an empty name, or of one that isn't UTF-8, is a fault
   pub include_bad_left : (length (include_name (held_of f.buffer) start stop) == 0 || not (is_utf8 (include_name (held_of f.buffer) start stop))) ≡ true
@@ -579,12 +579,12 @@ resumed_string part l ts o h (Breaks k bytes line is) =
 
 module _ (most l room : ℕ) (rest : List ℕ) where
   -- the tokens of what is held and behind it, on the line of the directive
-  abbrev tokens_behind : List ℕ → List SourceToken
-  tokens_behind z = remaining_tokens most Plain l l z room rest
+  abbrev tokens_after : List ℕ → List SourceToken
+  tokens_after z = remaining_tokens most Plain l l z room rest
 
   -- a string that closes, but not on its line
   closed_long : (z : List ℕ) → EndsLine z rest → 0 < length z → (token_of Plain z).kind ≡ Str → (token_of Plain z).next_mode ≡ Plain
-      → ((n : ℕ) → ClosesString z n → ⊥) → string_in_front (tokens_behind z) ≡ no_argument
+      → ((n : ℕ) → ClosesString z n → ⊥) → string_in_front (tokens_after z) ≡ no_argument
   unfolding is_kept_kind
   closed_long z ends some is closed none =
       let t = token_of Plain z in
@@ -593,14 +593,14 @@ module _ (most l room : ℕ) (rest : List ℕ) where
       let at_none : P None = λ e. absurd (none t.len (record { some = some; kind = is; closed = closed; whole = refl; line = e })) in
       let at_some : (n : ℕ) → P (Some n) = λ n e. ended_some w n e in
       let has : 0 < line_ends w = elim (ended_line_len w) as P [ None ↦ at_none | Some n ↦ at_some n ] refl in
-      let behind = remaining_tokens most Plain l (l + line_ends w) (drop t.len z) room rest in
+      let following = remaining_tokens most Plain l (l + line_ends w) (drop t.len z) room rest in
       ap string_in_front (remaining-closed most Plain l l z room rest some ends (ap is_kept_kind is) closed)
-      ∙ ap (λ (k : Kind). string_in_front (record { sort = Ordinary k; bytes = w; line = l } ∷ behind)) is
-      ∙ long_string w l behind has
+      ∙ ap (λ (k : Kind). string_in_front (record { sort = Ordinary k; bytes = w; line = l } ∷ following)) is
+      ∙ long_string w l following has
 
   -- a string that doesn't close on its line, by what is held of it
   string_by_seam : (z : List ℕ) (v : Token) → Seam z [] (token_of Plain z) v → EndsLine z rest → 0 < length z → (token_of Plain z).kind ≡ Str
-      → ((n : ℕ) → ClosesString z n → ⊥) → string_in_front (tokens_behind z) ≡ no_argument
+      → ((n : ℕ) → ClosesString z n → ⊥) → string_in_front (tokens_after z) ≡ no_argument
   unfolding string_in_front opening_token
   string_by_seam z v (Closed e closed) ends some is none = closed_long z ends some is closed none
   string_by_seam z v (BeforePerl e at lt perl) ends some is none =
@@ -615,37 +615,37 @@ module _ (most l room : ℕ) (rest : List ℕ) where
   string_by_seam z v (OpenComment at e) ends some is none = absurd (let block = ap (λ (t : Token). t.kind) at in cc)
 
   -- no string in front that closes on its line
-  no_string : (z : List ℕ) → EndsLine z rest → (z ≡ [] → rest ≡ []) → ((n : ℕ) → ClosesString z n → ⊥) → string_in_front (tokens_behind z) ≡ no_argument
+  no_string : (z : List ℕ) → EndsLine z rest → (z ≡ [] → rest ≡ []) → ((n : ℕ) → ClosesString z n → ⊥) → string_in_front (tokens_after z) ≡ no_argument
   unfolding string_in_front
   no_string [] ends gone none = ap string_in_front (nothing_tokens most l room rest (gone refl))
   no_string (b ∷ w) ends gone none =
       let z = b ∷ w in
       let some : 0 < length z = omega arith in
-      let f : FirstToken (token_of Plain z).kind (tokens_behind z) = remaining-first most l l z room rest some ends in
+      let f : FirstToken (token_of Plain z).kind (tokens_after z) = remaining-first most l l z room rest some ends in
       ⊎_elim (λ is. string_by_seam z (token_of Plain (z ++ [])) (token_of-seam Plain z [] some (inl refl)) ends some is none)
       (λ other. ap string_in_front f.is ∙ no_string_by f.first.sort f.first.bytes f.first.line f.more (token_of Plain z).kind f.kind other)
       (kind_case (token_of Plain z).kind)
 
   -- so it is where none closes
-  lacks_string : (z : List ℕ) → EndsLine z rest → (z ≡ [] → rest ≡ []) → IsClosedString z 0 → string_in_front (tokens_behind z) ≡ no_argument
+  lacks_string : (z : List ℕ) → EndsLine z rest → (z ≡ [] → rest ≡ []) → IsClosedString z 0 → string_in_front (tokens_after z) ≡ no_argument
   lacks_string z ends gone (Closes c) = absurd (omega (arith, c.whole, (token_of-part Plain z c.some).not_empty))
   lacks_string z ends gone (OpensString none zero_is) = no_string z ends gone none
 
   -- no blanks in front
-  lacks_blank : (z : List ℕ) → EndsLine z rest → (z ≡ [] → rest ≡ []) → (0 < length z → (token_of Plain z).kind ≡ Blank → ⊥) → past_blanks string_in_front (tokens_behind z) ≡ string_in_front (tokens_behind z)
+  lacks_blank : (z : List ℕ) → EndsLine z rest → (z ≡ [] → rest ≡ []) → (0 < length z → (token_of Plain z).kind ≡ Blank → ⊥) → past_blanks string_in_front (tokens_after z) ≡ string_in_front (tokens_after z)
   unfolding string_in_front past_blanks
   lacks_blank [] ends none other = let e = nothing_tokens most l room rest (none refl) in ap (past_blanks string_in_front) e ∙ sym (ap string_in_front e)
   lacks_blank (b ∷ w) ends none other =
-      let f : FirstToken (token_of Plain (b ∷ w)).kind (tokens_behind (b ∷ w)) = remaining-first most l l (b ∷ w) room rest (omega arith) ends in
+      let f : FirstToken (token_of Plain (b ∷ w)).kind (tokens_after (b ∷ w)) = remaining-first most l l (b ∷ w) room rest (omega arith) ends in
       ap (past_blanks string_in_front) f.is ∙ no_blank_by f.first.sort f.first.bytes f.first.line f.more (token_of Plain (b ∷ w)).kind f.kind (other (omega arith)) ∙ sym (ap string_in_front f.is)
 
   -- behind the word: no string
   string_missing : (r : List ℕ) (bl : ℕ) → EndsLine r rest → (r ≡ [] → rest ≡ []) → (drop bl r ≡ [] → rest ≡ []) → IsLead Blank r bl → IsClosedString (drop bl r) 0
-      → argument_of Include (tokens_behind r) ≡ no_argument
-  unfolding argument_of past_blanks behind_blanks no_argument
+      → argument_of Include (tokens_after r) ≡ no_argument
+  unfolding argument_of past_blanks after_blanks no_argument
   string_missing r bl ends none gone (Leads some is len) closed =
       ap (past_blanks string_in_front) (blank_lead most l room rest r bl ends some is len)
-      ∙ ap (behind_blanks (blank_token (take bl r) l)) (lacks_string (drop bl r) (EndsLine-drop bl r rest ends) gone closed)
+      ∙ ap (after_blanks (blank_token (take bl r) l)) (lacks_string (drop bl r) (EndsLine-drop bl r rest ends) gone closed)
   string_missing r bl ends none gone (Lacks lacks zero_is) closed =
       let at_zero : IsClosedString r 0 = subst (λ (m : ℕ). IsClosedString (drop m r) 0) zero_is closed in
       lacks_blank r ends none lacks ∙ lacks_string r ends none at_zero

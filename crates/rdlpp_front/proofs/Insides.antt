@@ -23,7 +23,7 @@ use Rattle.rdlpp_scan.proofs.SourceLaws.{line_ends-cons}
 use Rattle.rdlpp_scan.proofs.StopKinds.{AtBack, AtBare, AtBlockComment, AtLineComment, AtPerl, AtPlain, AtString, Row, block_token-kind, string_token-kind, token_of-row}
 use Rattle.rdlpp_table.specs.Table.{Macro, macro_named}
 use Rattle.rdlpp_meaning.specs.Expansion.{bytes_of, is_copied, usage_token}
-use Rattle.rdlpp_meaning.specs.Meaning.{Passage, Progress, behind_bytes, goes_on, leaves, refusal}
+use Rattle.rdlpp_meaning.specs.Meaning.{Passage, Progress, after_bytes, goes_on, leaves, refusal}
 use Rattle.rdlpp_meaning.specs.Opened.{Waiting, all_resumed, unwound}
 use Rattle.rdlpp_meaning.specs.Outcome.{Report, fails}
 use Rattle.rdlpp_meaning.specs.Parts.{Command, directive_of, line_ends_of, only_blanks}
@@ -31,13 +31,13 @@ use Rattle.rdlpp_meaning.specs.Resumed.{Live, Place, Skipped, resumed}
 use Rattle.rdlpp_meaning.specs.State.{Accepted, DefinitionFault, Rules, State, breach_kind, fault_at}
 use Rattle.rdlpp_meaning.specs.declared.fault.FaultKind.{FaultKind}
 use Rattle.rdlpp_meaning.specs.declared.fault.FaultKind.TheVariants.{BareBackquote as LoneBackquote, UndefinedMacro}
-use Rattle.rdlpp_meaning.proofs.Directives.{all_resumed_behind, all_resumed_fails, behind_bytes-goes_on}
+use Rattle.rdlpp_meaning.proofs.Directives.{all_resumed_after, all_resumed_fails, after_bytes-goes_on}
 use Rattle.rdlpp_meaning.proofs.LiveText.{resumed_bare, resumed_broken, resumed_broken_parts, resumed_copied, resumed_copied_parts, resumed_defined, resumed_refused, resumed_undefined}
-use Rattle.rdlpp_meaning.proofs.Outcomes.{behind_bytes-nil, fails-goes_on}
+use Rattle.rdlpp_meaning.proofs.Outcomes.{after_bytes-nil, fails-goes_on}
 use Rattle.rdlpp_meaning.proofs.Skipping.{all_copied_skipped, resumed_skipped, resumed_skipped_broken, resumed_skipped_broken_parts, resumed_skipped_parts}
 use Rattle.rdlpp_read.specs.Arguments.{IsLead, Lacks, Leads, NoName, NoString}
 use Rattle.rdlpp_read.specs.Buffer.{BufferView, ahead_of, entered_mode, held_of, rest_of, tokens_left}
-use Rattle.rdlpp_front.specs.SourceItems.{AtOrdinary, AtToken, HasName, IsDirective, IsGivenString, IsNameBehind, IsNamed, IsStringBehind, IsText, IsUsage, NameBehind, StringBehind, argument_name, is_text_kind, usage_name, word_of}
+use Rattle.rdlpp_front.specs.SourceItems.{AtOrdinary, AtToken, HasName, IsDirective, IsGivenString, IsNameAfter, IsNamed, IsStringAfter, IsText, IsUsage, NameAfter, StringAfter, argument_name, is_text_kind, usage_name, word_of}
 use Rattle.rdlpp_front.specs.Names.{IsWordBytes}
 use Rattle.rdlpp_front.specs.declared.item.Argument.{Argument}
 
@@ -203,32 +203,32 @@ word_len d held some is =
 
 -- what stands behind the word of a directive is what it is given
 pub named_here : (own d : Directive) (held : List ℕ) (len : ℕ) (a : Option Argument) → own ≡ d → 0 < length held → IsDirective own held
-    → len ≡ (token_of Plain held).len → IsNameBehind len held a → IsNamed d held a
+    → len ≡ (token_of Plain held).len → IsNameAfter len held a → IsNamed d held a
 named_here own d held len None same some is whole h =
     let word : IsDirective d held = subst (λ (x : Directive). IsDirective x held) same is in
     record { word = word; none = subst (λ (n : ℕ). NoName (drop n held)) (whole ∙ word_len d held some word) h }
 named_here own d held len (Some a) same some is whole h =
     let word : IsDirective d held = subst (λ (x : Directive). IsDirective x held) same is in
-    record { word = word; name = subst (λ (n : ℕ). NameBehind n held a.start a.stop) (whole ∙ word_len d held some word) h }
+    record { word = word; name = subst (λ (n : ℕ). NameAfter n held a.start a.stop) (whole ∙ word_len d held some word) h }
 
 -- the string that stands behind the word of an `include` is what it is given
 pub string_here : (own : Directive) (held : List ℕ) (len : ℕ) (a : Option Argument) → own ≡ Include → 0 < length held → IsDirective own held
-    → len ≡ (token_of Plain held).len → IsStringBehind len held a → IsGivenString held a
+    → len ≡ (token_of Plain held).len → IsStringAfter len held a → IsGivenString held a
 string_here own held len None same some is whole h =
     let word : IsDirective Include held = subst (λ (x : Directive). IsDirective x held) same is in
     record { word = word; none = subst (λ (n : ℕ). NoString (drop n held)) (whole ∙ word_len Include held some word) h }
 string_here own held len (Some a) same some is whole h =
     let word : IsDirective Include held = subst (λ (x : Directive). IsDirective x held) same is in
-    let behind : StringBehind (length (word_of Include)) held a.start a.stop = subst (λ (n : ℕ). StringBehind n held a.start a.stop) (whole ∙ word_len Include held some word) h in
-    record { word = word; from = behind.from; to = behind.to; given = behind.given; starts = behind.starts; stops = behind.stops }
+    let following : StringAfter (length (word_of Include)) held a.start a.stop = subst (λ (n : ℕ). StringAfter n held a.start a.stop) (whole ∙ word_len Include held some word) h in
+    record { word = word; from = following.from; to = following.to; given = following.given; starts = following.starts; stops = following.stops }
 
 -- Where fronts lie in what is held: their bounds, their line ends, and the bytes of their names.
 
 -- text that is copied at the front of what is held
 pub text_inside : (mode : Mode) (held : List ℕ) (len : ℕ) (next : Mode) → 0 < length held → IsText mode held len next → (0 < len) × (len ≤ length held)
 unfolding plain_len
-text_inside mode held len next some (AtOrdinary plain behind has whole) = (has, omega (arith, whole, first_place-le stops_plain_text held))
-text_inside mode held len next some (AtToken kind behind whole) =
+text_inside mode held len next some (AtOrdinary plain following has whole) = (has, omega (arith, whole, first_place-le stops_plain_text held))
+text_inside mode held len next some (AtToken kind following whole) =
     let part = token_of-part mode held some in
     (omega (arith, whole, part.not_empty), omega (arith, whole, part.inside))
 
@@ -307,9 +307,9 @@ perl_kind = refl
 -- no text is copied where a token of another kind stops ordinary text
 pub no_text : (mode : Mode) (held : List ℕ) → 0 < length held → (mode ≡ Plain → stops_plain_text held ≡ true) → is_text_kind (token_of mode held).kind ≡ false
     → (len : ℕ) (next : Mode) → IsText mode held len next → ⊥
-no_text mode held some stops other len next (AtOrdinary plain behind has long) =
+no_text mode held some stops other len next (AtOrdinary plain following has long) =
     let none = stopped_front held some (stops plain) in absurd (omega (arith, none, has, long))
-no_text mode held some stops other len next (AtToken kind behind long) = absurd (false≢true (sym other ∙ kind))
+no_text mode held some stops other len next (AtToken kind following long) = absurd (false≢true (sym other ∙ kind))
 
 -- ordinary text stops at a backquote
 backquote_stops : (held : List ℕ) → slice_index held 0 ≡ 96 → stops_plain_text held ≡ true
@@ -414,15 +414,15 @@ tokens_entered unread b n l next =
 -- What remains of an include stack of open sources in live text, with the state behind it, for each kind of token in front of the innermost.
 
 -- bytes and then a fault of the innermost source end the include stack
-pub all_resumed_behind_fails : (rules : Rules) (ws : List Waiting) (place : Place) (first : Bool) (ts : List SourceToken) (s t : State) (x : List ℕ) (f : Report)
-    → resumed rules place first ts s ≡ behind_bytes x (leaves (fails f) t)
-    → all_resumed rules ws place first ts s ≡ behind_bytes x (leaves (fails f) t)
+pub all_resumed_after_fails : (rules : Rules) (ws : List Waiting) (place : Place) (first : Bool) (ts : List SourceToken) (s t : State) (x : List ℕ) (f : Report)
+    → resumed rules place first ts s ≡ after_bytes x (leaves (fails f) t)
+    → all_resumed rules ws place first ts s ≡ after_bytes x (leaves (fails f) t)
 unfolding all_resumed
-all_resumed_behind_fails rules ws place first ts s t x f e =
+all_resumed_after_fails rules ws place first ts s t x f e =
     let next : State → Passage = λ after. unwound rules ws after in
     ap (λ (p : Passage). goes_on p next) e
-    ∙ behind_bytes-goes_on x (leaves (fails f) t) next
-    ∙ ap (λ (p : Passage). behind_bytes x p) (fails-goes_on f t next)
+    ∙ after_bytes-goes_on x (leaves (fails f) t) next
+    ∙ ap (λ (p : Passage). after_bytes x p) (fails-goes_on f t next)
 
 -- a refusal in the innermost source ends the include stack with its fault
 pub all_resumed_refused : (rules : Rules) (ws : List Waiting) (place : Place) (first : Bool) (ts : List SourceToken) (s : State) (kind : FaultKind) (word : List ℕ) (c : Command)
@@ -436,36 +436,36 @@ module _ (rules : Rules) (ws : List Waiting) (os : List Progress) (first : Bool)
   -- tokens that are copied give their bytes
   pub all_resumed_copied : (ts more : List SourceToken) (s : State) → list_all is_copied ts ≡ true
       → all_resumed rules ws (Live os) first (ts ++ more) s
-      ≡ behind_bytes (bytes_of ts) (all_resumed rules ws (Live os) (only_blanks first (bytes_of ts)) more s)
+      ≡ after_bytes (bytes_of ts) (all_resumed rules ws (Live os) (only_blanks first (bytes_of ts)) more s)
   all_resumed_copied ts more s e =
-      all_resumed_behind rules ws (Live os) (Live os) first (only_blanks first (bytes_of ts)) (ts ++ more) more s s (bytes_of ts)
+      all_resumed_after rules ws (Live os) (Live os) first (only_blanks first (bytes_of ts)) (ts ++ more) more s s (bytes_of ts)
       (resumed_copied rules os first ts more s e)
 
   -- a token that is copied may be written in two parts
   pub all_resumed_copied_parts : (k : Kind) (x y : List ℕ) (line : ℕ) (more : List SourceToken) (s : State)
       → is_copied (record { sort = Ordinary k; bytes = x ++ y; line = line }) ≡ true
       → all_resumed rules ws (Live os) first (record { sort = Ordinary k; bytes = x ++ y; line = line } ∷ more) s
-      ≡ behind_bytes x (all_resumed rules ws (Live os) (only_blanks first x) (record { sort = Ordinary k; bytes = y; line = line } ∷ more) s)
+      ≡ after_bytes x (all_resumed rules ws (Live os) (only_blanks first x) (record { sort = Ordinary k; bytes = y; line = line } ∷ more) s)
   all_resumed_copied_parts k x y line more s e =
-      all_resumed_behind rules ws (Live os) (Live os) first (only_blanks first x)
+      all_resumed_after rules ws (Live os) (Live os) first (only_blanks first x)
       (record { sort = Ordinary k; bytes = x ++ y; line = line } ∷ more) (record { sort = Ordinary k; bytes = y; line = line } ∷ more) s s x
       (resumed_copied_parts rules os first k x y line more s e)
 
   -- a broken token may be written in two parts
   pub all_resumed_broken_parts : (b : Breach) (x y : List ℕ) (line : ℕ) (more : List SourceToken) (s : State)
       → all_resumed rules ws (Live os) first (record { sort = Broken b; bytes = x ++ y; line = line } ∷ more) s
-      ≡ behind_bytes x (all_resumed rules ws (Live os) (only_blanks first x) (record { sort = Broken b; bytes = y; line = line } ∷ more) s)
+      ≡ after_bytes x (all_resumed rules ws (Live os) (only_blanks first x) (record { sort = Broken b; bytes = y; line = line } ∷ more) s)
   all_resumed_broken_parts b x y line more s =
-      all_resumed_behind rules ws (Live os) (Live os) first (only_blanks first x)
+      all_resumed_after rules ws (Live os) (Live os) first (only_blanks first x)
       (record { sort = Broken b; bytes = x ++ y; line = line } ∷ more) (record { sort = Broken b; bytes = y; line = line } ∷ more) s s x
       (resumed_broken_parts rules os first b x y line more s)
 
   -- a broken token gives its bytes and its fault
   pub all_resumed_broken : (b : Breach) (bytes : List ℕ) (line : ℕ) (more : List SourceToken) (s : State)
       → all_resumed rules ws (Live os) first (record { sort = Broken b; bytes = bytes; line = line } ∷ more) s
-      ≡ behind_bytes bytes (leaves (fails (fault_at (breach_kind b) line [] s)) s)
+      ≡ after_bytes bytes (leaves (fails (fault_at (breach_kind b) line [] s)) s)
   all_resumed_broken b bytes line more s =
-      all_resumed_behind_fails rules ws (Live os) first (record { sort = Broken b; bytes = bytes; line = line } ∷ more) s s bytes
+      all_resumed_after_fails rules ws (Live os) first (record { sort = Broken b; bytes = bytes; line = line } ∷ more) s s bytes
       (fault_at (breach_kind b) line [] s) (resumed_broken rules os first b bytes line more s)
 
   -- a broken token without bytes gives its fault alone
@@ -473,7 +473,7 @@ module _ (rules : Rules) (ws : List Waiting) (os : List Progress) (first : Bool)
       → all_resumed rules ws (Live os) first (record { sort = Broken b; bytes = []; line = line } ∷ more) s
       ≡ leaves (fails (fault_at (breach_kind b) line [] s)) s
   all_resumed_only_broken b line more s =
-      all_resumed_broken b [] line more s ∙ behind_bytes-nil (leaves (fails (fault_at (breach_kind b) line [] s)) s)
+      all_resumed_broken b [] line more s ∙ after_bytes-nil (leaves (fails (fault_at (breach_kind b) line [] s)) s)
 
   -- a lone backquote is a fault
   pub all_resumed_bare : (bytes : List ℕ) (line : ℕ) (more : List SourceToken) (s : State)
@@ -495,9 +495,9 @@ module _ (rules : Rules) (ws : List Waiting) (os : List Progress) (first : Bool)
   pub all_resumed_defined : (bytes : List ℕ) (line : ℕ) (more : List SourceToken) (s : State) (macros : List Macro)
       → rules.define s.macros (drop 7 bytes) ≡ Accepted macros
       → all_resumed rules ws (Live os) first (record { sort = Definition; bytes = bytes; line = line } ∷ more) s
-      ≡ behind_bytes (line_ends_of bytes) (all_resumed rules ws (Live os) (only_blanks first bytes) more (record s { macros = macros }))
+      ≡ after_bytes (line_ends_of bytes) (all_resumed rules ws (Live os) (only_blanks first bytes) more (record s { macros = macros }))
   all_resumed_defined bytes line more s macros e =
-      all_resumed_behind rules ws (Live os) (Live os) first (only_blanks first bytes) (record { sort = Definition; bytes = bytes; line = line } ∷ more) more s
+      all_resumed_after rules ws (Live os) (Live os) first (only_blanks first bytes) (record { sort = Definition; bytes = bytes; line = line } ∷ more) more s
       (record s { macros = macros }) (line_ends_of bytes) (resumed_defined rules os first bytes line more s macros e)
 
   -- a `define` that is refused is a fault
@@ -516,16 +516,16 @@ pub record Writes (rules : Rules) (ws : List Waiting) (place : Place) (writes : 
   pub nothing : writes [] ≡ []
   pub copied : (first : Bool) (ts more : List SourceToken) → list_all is_copied ts ≡ true
       → all_resumed rules ws place first (ts ++ more) s
-      ≡ behind_bytes (writes (bytes_of ts)) (all_resumed rules ws place (only_blanks first (bytes_of ts)) more s)
+      ≡ after_bytes (writes (bytes_of ts)) (all_resumed rules ws place (only_blanks first (bytes_of ts)) more s)
   pub parts : (first : Bool) (k : Kind) (x y : List ℕ) (line : ℕ) (more : List SourceToken) → IsOpenKind k
       → all_resumed rules ws place first (record { sort = Ordinary k; bytes = x ++ y; line = line } ∷ more) s
-      ≡ behind_bytes (writes x) (all_resumed rules ws place (only_blanks first x) (record { sort = Ordinary k; bytes = y; line = line } ∷ more) s)
+      ≡ after_bytes (writes x) (all_resumed rules ws place (only_blanks first x) (record { sort = Ordinary k; bytes = y; line = line } ∷ more) s)
   pub broken_parts : (first : Bool) (b : Breach) (x y : List ℕ) (line : ℕ) (more : List SourceToken)
       → all_resumed rules ws place first (record { sort = Broken b; bytes = x ++ y; line = line } ∷ more) s
-      ≡ behind_bytes (writes x) (all_resumed rules ws place (only_blanks first x) (record { sort = Broken b; bytes = y; line = line } ∷ more) s)
+      ≡ after_bytes (writes x) (all_resumed rules ws place (only_blanks first x) (record { sort = Broken b; bytes = y; line = line } ∷ more) s)
   pub broken : (first : Bool) (b : Breach) (bytes : List ℕ) (line : ℕ) (more : List SourceToken)
       → all_resumed rules ws place first (record { sort = Broken b; bytes = bytes; line = line } ∷ more) s
-      ≡ behind_bytes (writes bytes) (leaves (fails (fault_at (breach_kind b) line [] s)) s)
+      ≡ after_bytes (writes bytes) (leaves (fails (fault_at (breach_kind b) line [] s)) s)
 
 -- what may be open is copied
 pub open_copied : (k : Kind) (bytes : List ℕ) (line : ℕ) → IsOpenKind k → is_copied (record { sort = Ordinary k; bytes = bytes; line = line }) ≡ true
@@ -557,25 +557,25 @@ skipped_writes rules ws n p os s =
     record {
       nothing = refl;
       copied = λ first ts more e.
-          all_resumed_behind rules ws here here first (only_blanks first (bytes_of ts)) (ts ++ more) more s s (line_ends_of (bytes_of ts))
+          all_resumed_after rules ws here here first (only_blanks first (bytes_of ts)) (ts ++ more) more s s (line_ends_of (bytes_of ts))
           (resumed_skipped rules n p os first ts more s (all_copied_skipped ts e));
       parts = λ first k x y line more o.
-          all_resumed_behind rules ws here here first (only_blanks first x)
+          all_resumed_after rules ws here here first (only_blanks first x)
           (record { sort = Ordinary k; bytes = x ++ y; line = line } ∷ more) (record { sort = Ordinary k; bytes = y; line = line } ∷ more) s s (line_ends_of x)
           (resumed_skipped_parts rules n p os first k x y line more s (open_text k (x ++ y) line o) (open_text k y line o));
       broken_parts = λ first b x y line more.
-          all_resumed_behind rules ws here here first (only_blanks first x)
+          all_resumed_after rules ws here here first (only_blanks first x)
           (record { sort = Broken b; bytes = x ++ y; line = line } ∷ more) (record { sort = Broken b; bytes = y; line = line } ∷ more) s s (line_ends_of x)
           (resumed_skipped_broken_parts rules n p os first b x y line more s);
       broken = λ first b bytes line more.
-          all_resumed_behind_fails rules ws here first (record { sort = Broken b; bytes = bytes; line = line } ∷ more) s s (line_ends_of bytes)
+          all_resumed_after_fails rules ws here first (record { sort = Broken b; bytes = bytes; line = line } ∷ more) s s (line_ends_of bytes)
           (fault_at (breach_kind b) line [] s) (resumed_skipped_broken rules n p os first b bytes line more s);
     }
 
 -- one token that is copied
 pub writes_one : (rules : Rules) (ws : List Waiting) (place : Place) (writes : List ℕ → List ℕ) (s : State) → Writes rules ws place writes s
     → (first : Bool) (t : SourceToken) (more : List SourceToken) → is_copied t ≡ true
-    → all_resumed rules ws place first (t ∷ more) s ≡ behind_bytes (writes t.bytes) (all_resumed rules ws place (only_blanks first t.bytes) more s)
+    → all_resumed rules ws place first (t ∷ more) s ≡ after_bytes (writes t.bytes) (all_resumed rules ws place (only_blanks first t.bytes) more s)
 writes_one rules ws place writes s w first t more e =
     w.copied first (t ∷ []) more (rw e refl)
-    ∙ ap (λ (x : List ℕ). behind_bytes (writes x) (all_resumed rules ws place (only_blanks first x) more s)) (append-nil t.bytes)
+    ∙ ap (λ (x : List ℕ). after_bytes (writes x) (all_resumed rules ws place (only_blanks first x) more s)) (append-nil t.bytes)

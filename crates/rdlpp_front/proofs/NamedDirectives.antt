@@ -16,11 +16,11 @@ use Rattle.rdlpp_scan.proofs.SourceLaws.{EndsLine-drop, line_ends-append}
 use Rattle.rdlpp_scan.proofs.TokenLens.{token_of-part}
 use Rattle.rdlpp_scan.proofs.TokenSteps.{is_kept_kind}
 use Rattle.rdlpp_meaning.specs.State.{Rules, State, fault_at}
-use Rattle.rdlpp_meaning.specs.Parts.{Argument, argument_of, behind_blanks, behind_directive, command_in_front, command_of, directive_named, directive_of, name_in_front, no_argument, only_blanks, past_blanks}
-use Rattle.rdlpp_meaning.specs.Resumed.{Place, behind, resumed, Live}
+use Rattle.rdlpp_meaning.specs.Parts.{Argument, argument_of, after_blanks, after_directive, command_in_front, command_of, directive_named, directive_of, name_in_front, no_argument, only_blanks, past_blanks}
+use Rattle.rdlpp_meaning.specs.Resumed.{Place, following, resumed, Live}
 use Rattle.rdlpp_meaning.specs.Opened.{Waiting, all_resumed}
 use Rattle.rdlpp_meaning.proofs.Skipping.{has_own_token}
-use Rattle.rdlpp_meaning.proofs.Directives.{all_resumed_move, blank_token, name_token, resumed_bad_undef, resumed_undef, takes_name, takes_name_at_once, takes_name_behind_blanks, wants_name}
+use Rattle.rdlpp_meaning.proofs.Directives.{all_resumed_move, blank_token, name_token, resumed_bad_undef, resumed_undef, takes_name, takes_name_at_once, takes_name_after_blanks, wants_name}
 use Rattle.rdlpp_read.specs.Arguments.{IsLead, Leads, Lacks}
 use Rattle.rdlpp_read.specs.Buffer.{BufferView, held_of, rest_of, tokens_left}
 use Rattle.rdlpp_front.specs.SourceItems.{HasName, IsDirective, IsNamed, LacksName, argument_name, given_by, given_len, given_name, word_of}
@@ -127,14 +127,14 @@ no_blank : (k : Kind) (us : List SourceToken) → FirstToken k us → (k ≡ Bla
 no_blank k us f other = ap (past_blanks name_in_front) f.is ∙ no_blank_by f.first.sort f.first.bytes f.first.line f.more k f.kind other ∙ sym (ap name_in_front f.is)
 
 -- what a directive is given, and what is behind that
-pub record IsGiven (d : Directive) (ts : List SourceToken) (name text : List ℕ) (behind : List SourceToken) : Type 0 where
+pub record IsGiven (d : Directive) (ts : List SourceToken) (name text : List ℕ) (following : List SourceToken) : Type 0 where
   pub given : (argument_of d ts).given ≡ Some name
   pub taken : (argument_of d ts).text ≡ text
-  pub rest : behind_directive d ts ≡ behind
+  pub rest : after_directive d ts ≡ following
 
-pub given_of : (d : Directive) (ts : List SourceToken) (name text : List ℕ) (behind : List SourceToken) (used : ℕ)
-    → argument_of d ts ≡ record { given = Some name; text = text; used = used } → drop used ts ≡ behind → IsGiven d ts name text behind
-given_of d ts name text behind used e h = record {
+pub given_of : (d : Directive) (ts : List SourceToken) (name text : List ℕ) (following : List SourceToken) (used : ℕ)
+    → argument_of d ts ≡ record { given = Some name; text = text; used = used } → drop used ts ≡ following → IsGiven d ts name text following
+given_of d ts name text following used e h = record {
   given = ap (λ (a : Argument). a.given) e;
   taken = ap (λ (a : Argument). a.text) e;
   rest = ap (λ (a : Argument). drop a.used ts) e ∙ h;
@@ -186,16 +186,16 @@ module _ (most l room : ℕ) (rest : List ℕ) where
       no_blank (token_of Plain (b ∷ w)).kind (tokens_of (b ∷ w)) (remaining-first most l l (b ∷ w) room rest (omega arith) ends) (other (omega arith))
 
   -- behind the word: blanks, and then a name
-  behind_given : (d : Directive) → wants_name d ≡ true → (r : List ℕ) (bl n : ℕ) → EndsLine r rest → (r ≡ [] → rest ≡ []) → IsLead Blank r bl
+  after_given : (d : Directive) → wants_name d ≡ true → (r : List ℕ) (bl n : ℕ) → EndsLine r rest → (r ≡ [] → rest ≡ []) → IsLead Blank r bl
       → 0 < length (drop bl r) → (token_of Plain (drop bl r)).kind ≡ Name → n ≡ (token_of Plain (drop bl r)).len
       → IsGiven d (tokens_of r) (take n (drop bl r)) (take bl r ++ take n (drop bl r)) (tokens_of (drop n (drop bl r)))
-  behind_given d wants r bl n ends none (Leads some is len) has name whole =
+  after_given d wants r bl n ends none (Leads some is len) has name whole =
       let z = drop bl r in
       let e : tokens_of r ≡ blank_token (take bl r) l ∷ name_token (take n z) l ∷ tokens_of (drop n z) =
       blank_lead r bl ends some is len ∙ ap (λ (ts : List SourceToken). blank_token (take bl r) l ∷ ts) (name_lead z n (EndsLine-drop bl r rest ends) has name whole) in
       subst (λ (ts : List SourceToken). IsGiven d ts (take n z) (take bl r ++ take n z) (tokens_of (drop n z))) (sym e)
-      (given_of d _ (take n z) (take bl r ++ take n z) (tokens_of (drop n z)) 2 (takes_name_behind_blanks d (take bl r) (take n z) l l (tokens_of (drop n z)) wants) refl)
-  behind_given d wants r bl n ends none (Lacks other zero_is) has name whole =
+      (given_of d _ (take n z) (take bl r ++ take n z) (tokens_of (drop n z)) 2 (takes_name_after_blanks d (take bl r) (take n z) l l (tokens_of (drop n z)) wants) refl)
+  after_given d wants r bl n ends none (Lacks other zero_is) has name whole =
       let P : ℕ → Type 0 = λ m. 0 < length (drop m r) → (token_of Plain (drop m r)).kind ≡ Name → n ≡ (token_of Plain (drop m r)).len → IsGiven d (tokens_of r) (take n (drop m r)) (take m r ++ take n (drop m r)) (tokens_of (drop n (drop m r))) in
       let at_zero : P 0 = λ some is len.
       subst (λ (ts : List SourceToken). IsGiven d ts (take n r) (take n r) (tokens_of (drop n r))) (sym (name_lead r n ends some is len))
@@ -203,16 +203,16 @@ module _ (most l room : ℕ) (rest : List ℕ) where
       subst P (sym zero_is) at_zero has name whole
 
   -- or no name
-  behind_missing : (d : Directive) → wants_name d ≡ true → (r : List ℕ) (bl : ℕ) → EndsLine r rest → (r ≡ [] → rest ≡ []) → (drop bl r ≡ [] → rest ≡ []) → IsLead Blank r bl
+  after_missing : (d : Directive) → wants_name d ≡ true → (r : List ℕ) (bl : ℕ) → EndsLine r rest → (r ≡ [] → rest ≡ []) → (drop bl r ≡ [] → rest ≡ []) → IsLead Blank r bl
       → (0 < length (drop bl r) → (token_of Plain (drop bl r)).kind ≡ Name → ⊥) → argument_of d (tokens_of r) ≡ no_argument
-  unfolding past_blanks behind_blanks no_argument
-  behind_missing d wants r bl ends none gone (Leads some is len) other =
+  unfolding past_blanks after_blanks no_argument
+  after_missing d wants r bl ends none gone (Leads some is len) other =
       let z = drop bl r in
       let blank = blank_token (take bl r) l in
       takes_name d (tokens_of r) wants
       ∙ ap (past_blanks name_in_front) (blank_lead r bl ends some is len)
-      ∙ ap (behind_blanks blank) (lacks_name z (EndsLine-drop bl r rest ends) gone other)
-  behind_missing d wants r bl ends none gone (Lacks lacks zero_is) other =
+      ∙ ap (after_blanks blank) (lacks_name z (EndsLine-drop bl r rest ends) gone other)
+  after_missing d wants r bl ends none gone (Lacks lacks zero_is) other =
       let at_zero : (0 < length r → (token_of Plain r).kind ≡ Name → ⊥) = subst (λ (m : ℕ). 0 < length (drop m r) → (token_of Plain (drop m r)).kind ≡ Name → ⊥) zero_is other in
       takes_name d (tokens_of r) wants ∙ lacks_blank r ends none lacks ∙ lacks_name r ends none at_zero
 
@@ -233,8 +233,8 @@ lead_line_ends bytes n (Leads some is len) = ap (λ (m : ℕ). line_ends (take m
 lead_line_ends bytes n (Lacks other zero_is) = ap (λ (m : ℕ). line_ends (take m bytes)) zero_is
 
 -- where nothing is held behind bytes without an LF, the text has ended
-ended_behind : (held rest : List ℕ) (m : ℕ) → 0 < length held → EndsLine held rest → line_ends (take m held) ≡ 0 → drop m held ≡ [] → rest ≡ []
-ended_behind held rest m some ends none gone =
+ended_after : (held rest : List ℕ) (m : ℕ) → 0 < length held → EndsLine held rest → line_ends (take m held) ≡ 0 → drop m held ≡ [] → rest ≡ []
+ended_after held rest m some ends none gone =
     let all : take m held ≡ held = sym (append-nil (take m held)) ∙ ap (λ (z : List ℕ). take m held ++ z) (sym gone) ∙ take-append-drop m held in
     let free : line_ends held ≡ 0 = ap line_ends (sym all) ∙ none in
     ⊎_elim (λ whole. absurd (omega (arith, free, whole-line_ends held some whole))) (λ h. h) ends
@@ -251,7 +251,7 @@ module _ (d : Directive) (held rest : List ℕ) (some : 0 < length held) (ends :
 
   -- where nothing is held behind them
   pub gone_word : drop (length (word_of d)) held ≡ [] → rest ≡ []
-  gone_word gone = ended_behind held rest (length (word_of d)) some ends word_at_line_ends gone
+  gone_word gone = ended_after held rest (length (word_of d)) some ends word_at_line_ends gone
 
   -- nor behind blanks there
   pub gone_blanks : (bl : ℕ) → IsLead Blank (drop (length (word_of d)) held) bl → drop bl (drop (length (word_of d)) held) ≡ [] → rest ≡ []
@@ -259,7 +259,7 @@ module _ (d : Directive) (held rest : List ℕ) (some : 0 < length held) (ends :
       let n = length (word_of d) in
       let none : line_ends (take (n + bl) held) ≡ 0 =
       omega (arith, ap line_ends (take-add n bl held), line_ends-append (take n held) (take bl (drop n held)), word_at_line_ends, lead_line_ends (drop n held) bl space) in
-      ended_behind held rest (n + bl) some ends none (sym (drop-drop bl n held) ∙ gone)
+      ended_after held rest (n + bl) some ends none (sym (drop-drop bl n held) ∙ gone)
 
 -- a directive that takes nothing but its word
 unfoldable pub stands_bare : Directive → Bool
@@ -319,7 +319,7 @@ pub record GivenInFront {R : Type 0} (d : Directive) (unread : R → List ℕ) (
   pub all : tokens_left unread b ≡ word_token d b.line ∷ tokens
   pub given : (argument_of d tokens).given ≡ name
   pub text : word_of d ++ (argument_of d tokens).text ≡ take len (held_of b)
-  pub behind : behind_directive d tokens ≡ tokens_left unread (used_buffer b len 0)
+  pub following : after_directive d tokens ≡ tokens_left unread (used_buffer b len 0)
 
 module _ {R : Type 0} (d : Directive) (unread : R → List ℕ) (b : BufferView R) (holds : HoldsFront b) (mode : b.mode ≡ Plain) where
   -- the tokens behind a place, on the line of the directive
@@ -364,7 +364,7 @@ module _ {R : Type 0} (d : Directive) (unread : R → List ℕ) (b : BufferView 
         all = at_word word is;
         given = a.given ∙ ap Some (ap (take k) at ∙ ap (λ (i : ℕ). take i (drop start held)) size);
         text = ap (λ (z : List ℕ). word_of d ++ z) (a.taken ∙ taken) ∙ whole;
-        behind =
+        following =
             a.rest
             ∙ ap (λ (z : List ℕ). remaining_tokens b.line_bytes Plain b.line b.line z b.bytes_left rest)
             (ap (drop k) at ∙ drop-drop k start held ∙ ap (λ (i : ℕ). drop i held) end)
@@ -383,7 +383,7 @@ module _ {R : Type 0} (d : Directive) (unread : R → List ℕ) (b : BufferView 
         text =
             ap (λ (a : Argument). word_of d ++ a.text) none ∙ append-nil (word_of d)
             ∙ sym (word_at d (held_of b) (rest_of unread b) holds.some (ends_line unread b holds.ends) is);
-        behind = ap (λ (a : Argument). drop a.used ts) none ∙ at_used (length (word_of d));
+        following = ap (λ (a : Argument). drop a.used ts) none ∙ at_used (length (word_of d));
       }
 
   -- a directive with what it is given
@@ -397,7 +397,7 @@ module _ {R : Type 0} (d : Directive) (unread : R → List ℕ) (b : BufferView 
       let ends = ends_line unread b holds.ends in
       let lead = lead_name (drop from r) (has.name.to - from) g.name (omega (arith, g.some)) in
       given_in_front_of (wants_word d wants) has.word from has.name.to start stop g.some has.name.starts has.name.stops
-      (behind_given b.line_bytes b.line b.bytes_left rest d wants r from (has.name.to - from) (EndsLine-drop (length (word_of d)) held rest ends)
+      (after_given b.line_bytes b.line b.bytes_left rest d wants r from (has.name.to - from) (EndsLine-drop (length (word_of d)) held rest ends)
       (gone_word d held rest holds.some ends has.word) g.space lead.0 lead.1 lead.2)
   in_front_of _ _ (Nameless wants lacks) =
       let held = held_of b in
@@ -406,7 +406,7 @@ module _ {R : Type 0} (d : Directive) (unread : R → List ℕ) (b : BufferView 
       let r = drop n held in
       let ends = ends_line unread b holds.ends in
       nothing_in_front_of (wants_word d wants) lacks.word
-      (behind_missing b.line_bytes b.line b.bytes_left rest d wants r lacks.none.start (EndsLine-drop n held rest ends)
+      (after_missing b.line_bytes b.line b.bytes_left rest d wants r lacks.none.start (EndsLine-drop n held rest ends)
       (gone_word d held rest holds.some ends lacks.word) (gone_blanks d held rest holds.some ends lacks.word lacks.none.start lacks.none.space)
       lacks.none.space (lead_none (drop lacks.none.start r) 0 lacks.none.none refl))
   in_front_of _ _ (Bare bare is) = nothing_in_front_of (bare_word d bare) is (bare_takes d (tokens_at (length (word_of d))) bare)
@@ -427,15 +427,15 @@ module _ {R : Type 0} (rules : Rules) (unread : R → List ℕ) (ws : List Waiti
   module _ (given : Option (List ℕ)) (len : ℕ) (i : GivenInFront d unread f.buffer given len) where
     -- a directive that changes the place or the state
     pub directive_move : (place new : Place) (t : State)
-        → resumed rules place f.blanks (word_token d f.buffer.line ∷ i.tokens) s ≡ behind rules new d f.blanks (word_token d f.buffer.line) i.tokens t
+        → resumed rules place f.blanks (word_token d f.buffer.line ∷ i.tokens) s ≡ following rules new d f.blanks (word_token d f.buffer.line) i.tokens t
         → source_left rules unread ws place f s ≡ source_left rules unread ws new (consumed_file len 0 f) t
     unfolding source_left command_of
     directive_move place new t e =
         let tok = word_token d f.buffer.line in
         ap (λ (ts : List SourceToken). all_resumed rules ws place f.blanks ts s) i.all
-        ∙ all_resumed_move rules ws place new f.blanks (only_blanks f.blanks (command_in_front d f.blanks tok i.tokens).text) (tok ∷ i.tokens) (behind_directive d i.tokens) s t e
-        ∙ ap (λ (z : List ℕ). all_resumed rules ws new (only_blanks f.blanks z) (behind_directive d i.tokens) t) i.text
-        ∙ ap (λ (ts : List SourceToken). all_resumed rules ws new (only_blanks f.blanks (take len (held_of f.buffer))) ts t) i.behind
+        ∙ all_resumed_move rules ws place new f.blanks (only_blanks f.blanks (command_in_front d f.blanks tok i.tokens).text) (tok ∷ i.tokens) (after_directive d i.tokens) s t e
+        ∙ ap (λ (z : List ℕ). all_resumed rules ws new (only_blanks f.blanks z) (after_directive d i.tokens) t) i.text
+        ∙ ap (λ (ts : List SourceToken). all_resumed rules ws new (only_blanks f.blanks (take len (held_of f.buffer))) ts t) i.following
 
     -- the name of a macro that it is given
     pub name_of_front : macro_name (command_in_front d f.blanks (word_token d f.buffer.line) i.tokens) ≡ given_name given

@@ -25,7 +25,7 @@ use Rattle.rdlpp_scan.proofs.Seams.{BeforePerl, Closed, OpenComment, OpenString,
 use Rattle.rdlpp_scan.proofs.StopKinds.{block_token-kind}
 use Rattle.rdlpp_table.specs.Table.{Macro, macro_named}
 use Rattle.rdlpp_meaning.specs.Expansion.{is_copied, usage_token}
-use Rattle.rdlpp_meaning.specs.Meaning.{Passage, Progress, Renumbered, behind_bytes, leaves, origin_line, renumbered, unclosed}
+use Rattle.rdlpp_meaning.specs.Meaning.{Passage, Progress, Renumbered, after_bytes, leaves, origin_line, renumbered, unclosed}
 use Rattle.rdlpp_meaning.specs.Opened.{Waiting, all_resumed, unwound}
 use Rattle.rdlpp_meaning.specs.Outcome.{fails}
 use Rattle.rdlpp_meaning.specs.Parts.{line_ends_of, only_blanks, pieces}
@@ -33,8 +33,8 @@ use Rattle.rdlpp_meaning.specs.Resumed.{Live, Place, Skipped, resume, resumed}
 use Rattle.rdlpp_meaning.specs.State.{Accepted, DefinitionFault, Rules, State, breach_kind, fault_at}
 use Rattle.rdlpp_meaning.specs.declared.fault.FaultKind.{FaultKind}
 use Rattle.rdlpp_meaning.specs.declared.fault.FaultKind.TheVariants.{BadLine, LineTooLong, OpenConditional, SourceTooLong, UndefinedMacro}
-use Rattle.rdlpp_meaning.proofs.Directives.{all_resumed_behind, all_resumed_fails, line_token, renumbered_state, resumed_bad_line, resumed_late_line, resumed_renumbered}
-use Rattle.rdlpp_meaning.proofs.Outcomes.{all_plain_copied, behind_bytes-nil, goes_on-nil}
+use Rattle.rdlpp_meaning.proofs.Directives.{all_resumed_after, all_resumed_fails, line_token, renumbered_state, resumed_bad_line, resumed_late_line, resumed_renumbered}
+use Rattle.rdlpp_meaning.proofs.Outcomes.{all_plain_copied, after_bytes-nil, goes_on-nil}
 use Rattle.rdlpp_meaning.proofs.Skipping.{live_unclosed}
 use Rattle.rdlpp_meaning.proofs.LiveText.{none_of_words}
 use Rattle.rdlpp_read.specs.Buffer.{BufferView, consumed, entered_mode, held_of, rest_of, tokens_left}
@@ -79,21 +79,21 @@ record TextHeld (m : Mode) (held rest : List ℕ) : Type 0 where
 part_move : (rules : Rules) (ws : List Waiting) (place : Place) (writes : List ℕ → List ℕ) (s : State) → Writes rules ws place writes s
     → (b : Bool) (held : List ℕ) (l : ℕ) (ts : List SourceToken) → Resumes ts
     → all_resumed rules ws place b (onto_tokens held l ts) s
-    ≡ behind_bytes (writes held) (all_resumed rules ws place (only_blanks b held) ts s)
+    ≡ after_bytes (writes held) (all_resumed rules ws place (only_blanks b held) ts s)
 unfolding onto_tokens with_part line_with
 part_move rules ws place writes s w b held l ts (Copies k bytes line more open_ is) =
     let first = only_blanks b held in
     let rest = all_resumed rules ws place (only_blanks first bytes) more s in
-    let one : (n : ℕ) → all_resumed rules ws place first (record { sort = Ordinary k; bytes = bytes; line = n } ∷ more) s ≡ behind_bytes (writes bytes) rest =
+    let one : (n : ℕ) → all_resumed rules ws place first (record { sort = Ordinary k; bytes = bytes; line = n } ∷ more) s ≡ after_bytes (writes bytes) rest =
     λ n. writes_one rules ws place writes s w first (record { sort = Ordinary k; bytes = bytes; line = n }) more (open_copied k bytes n open_) in
     ap (λ (us : List SourceToken). all_resumed rules ws place b (onto_tokens held l us) s) is
     ∙ w.parts b k held bytes l more open_
-    ∙ ap (λ (o : Passage). behind_bytes (writes held) o) (one l ∙ sym (one line))
-    ∙ sym (ap (λ (us : List SourceToken). behind_bytes (writes held) (all_resumed rules ws place first us s)) is)
+    ∙ ap (λ (o : Passage). after_bytes (writes held) o) (one l ∙ sym (one line))
+    ∙ sym (ap (λ (us : List SourceToken). after_bytes (writes held) (all_resumed rules ws place first us s)) is)
 part_move rules ws place writes s w b held l ts (Breaks k bytes line is) =
     ap (λ (us : List SourceToken). all_resumed rules ws place b (onto_tokens held l us) s) is
     ∙ w.broken_parts b k held bytes line []
-    ∙ sym (ap (λ (us : List SourceToken). behind_bytes (writes held) (all_resumed rules ws place (only_blanks b held) us s)) is)
+    ∙ sym (ap (λ (us : List SourceToken). after_bytes (writes held) (all_resumed rules ws place (only_blanks b held) us s)) is)
 
 module _ (rules : Rules) (ws : List Waiting) (place : Place) (writes : List ℕ → List ℕ) (s : State) (written : Writes rules ws place writes s) (b : Bool) (most : ℕ) (m : Mode) (o l : ℕ) (held : List ℕ) (room : ℕ) (rest : List ℕ) (h : TextHeld m held rest) where
   -- what remains in a mode, from a line on where a token opened, behind so many bytes
@@ -106,21 +106,21 @@ module _ (rules : Rules) (ws : List Waiting) (place : Place) (writes : List ℕ 
 
   -- the token, or the part of it, is given, and then comes what remains behind it
   abbrev Moves : Token → Type 0
-  Moves t = left_here ≡ behind_bytes (writes (take t.len held)) (left_in t.next_mode (opening m o l) t.len (only_blanks b (take t.len held)))
+  Moves t = left_here ≡ after_bytes (writes (take t.len held)) (left_in t.next_mode (opening m o l) t.len (only_blanks b (take t.len held)))
 
   -- a token that is closed
   move_closed : (token_of m held).next_mode ≡ Plain → Moves (token_of m held)
   move_closed closed =
       let t = token_of m held in
       let w = take t.len held in
-      let behind = remaining_tokens most Plain l (l + line_ends w) (drop t.len held) room rest in
-      let same : behind ≡ remaining_tokens most t.next_mode (opening m o l) (l + line_ends w) (drop t.len held) room rest =
+      let following = remaining_tokens most Plain l (l + line_ends w) (drop t.len held) room rest in
+      let same : following ≡ remaining_tokens most t.next_mode (opening m o l) (l + line_ends w) (drop t.len held) room rest =
       remaining-opened most l (opening m o l) (l + line_ends w) (drop t.len held) room rest
       ∙ ap (λ (n : Mode). remaining_tokens most n (opening m o l) (l + line_ends w) (drop t.len held) room rest) (sym closed) in
       ap (λ (ts : List SourceToken). all_resumed rules ws place b ts s)
       (remaining-closed most m o l held room rest h.some h.ends (text_kept t.kind h.kind) closed)
-      ∙ writes_one rules ws place writes s written b (record { sort = Ordinary t.kind; bytes = w; line = l }) behind (text_copied t.kind w l h.kind)
-      ∙ ap (λ (ts : List SourceToken). behind_bytes (writes w) (all_resumed rules ws place (only_blanks b w) ts s)) same
+      ∙ writes_one rules ws place writes s written b (record { sort = Ordinary t.kind; bytes = w; line = l }) following (text_copied t.kind w l h.kind)
+      ∙ ap (λ (ts : List SourceToken). after_bytes (writes w) (all_resumed rules ws place (only_blanks b w) ts s)) same
 
   -- a token of which all that is held is a part
   move_part : (next : Mode) → (token_of m held).next_mode ≡ next → (token_of m held).len ≡ length held
@@ -131,7 +131,7 @@ module _ (rules : Rules) (ws : List Waiting) (place : Place) (writes : List ℕ 
       let t = token_of m held in
       let all : take t.len held ≡ held = ap (λ (n : ℕ). take n held) len ∙ take-length held in
       let gone : drop t.len held ≡ [] = drop_all t.len held (omega arith) in
-      let to : Mode → List ℕ → List ℕ → Passage = λ n w z. behind_bytes (writes w) (all_resumed rules ws place (only_blanks b w) (remaining_tokens most n (opening m o l) (l + line_ends w) z room rest) s) in
+      let to : Mode → List ℕ → List ℕ → Passage = λ n w z. after_bytes (writes w) (all_resumed rules ws place (only_blanks b w) (remaining_tokens most n (opening m o l) (l + line_ends w) z room rest) s) in
       ap (λ (ts : List SourceToken). all_resumed rules ws place b ts s) step
       ∙ part_move rules ws place writes s written b held l (remaining_tokens most next (opening m o l) (l + line_ends held) [] room rest) resumes
       ∙ ap (λ (n : Mode). to n held []) (sym is)
@@ -143,7 +143,7 @@ module _ (rules : Rules) (ws : List Waiting) (place : Place) (writes : List ℕ 
       → all_resumed rules ws place first (record { sort = Broken PerlFound; bytes = []; line = line } ∷ []) s ≡ leaves (fails (fault_at (breach_kind PerlFound) line [] s)) s
   only_broken first line =
       let fault = leaves (fails (fault_at (breach_kind PerlFound) line [] s)) s in
-      written.broken first PerlFound [] line [] ∙ ap (λ (x : List ℕ). behind_bytes x fault) written.nothing ∙ behind_bytes-nil fault
+      written.broken first PerlFound [] line [] ∙ ap (λ (x : List ℕ). after_bytes x fault) written.nothing ∙ after_bytes-nil fault
 
   -- a string that `<%` cuts
   move_cut : (token_of m held).kind ≡ Str → (token_of m held).next_mode ≡ InStr → (token_of m held).len < length held → begins_perl (drop (token_of m held).len held) ≡ true → Moves (token_of m held)
@@ -153,12 +153,12 @@ module _ (rules : Rules) (ws : List Waiting) (place : Place) (writes : List ℕ 
       let z = drop t.len held in
       let next = l + line_ends w in
       let some : 0 < length z = omega (arith, length-drop t.len held) in
-      let behind : remaining_tokens most t.next_mode (opening m o l) next z room rest ≡ record { sort = Broken PerlFound; bytes = []; line = next } ∷ [] =
+      let following : remaining_tokens most t.next_mode (opening m o l) next z room rest ≡ record { sort = Broken PerlFound; bytes = []; line = next } ∷ [] =
       ap (λ (n : Mode). remaining_tokens most n (opening m o l) next z room rest) mode ∙ remaining-perl_in_string most (opening m o l) next z room rest some perl in
       ap (λ (ts : List SourceToken). all_resumed rules ws place b ts s) (remaining-cut_string most m o l held room rest h.some h.ends kind mode lt)
       ∙ written.broken b PerlFound w next []
-      ∙ ap (λ (x : Passage). behind_bytes (writes w) x)
-      (sym (ap (λ (ts : List SourceToken). all_resumed rules ws place (only_blanks b w) ts s) behind ∙ only_broken (only_blanks b w) next))
+      ∙ ap (λ (x : Passage). after_bytes (writes w) x)
+      (sym (ap (λ (ts : List SourceToken). all_resumed rules ws place (only_blanks b w) ts s) following ∙ only_broken (only_blanks b w) next))
 
   by_seam : (v : Token) → Seam held [] (token_of m held) v → Moves (token_of m held)
   by_seam v (Closed e closed) = move_closed closed
@@ -187,7 +187,7 @@ module _ {R : Type 0} (rules : Rules) (unread : R → List ℕ) (ws : List Waiti
   -- ordinary text goes through as it is
   ordinary_left : (first : Bool) (b : BufferView R) → b.mode ≡ Plain → EndsLine (held_of b) (rest_of unread b)
       → let w = take (plain_len (held_of b)) (held_of b) in
-      left_of first b ≡ behind_bytes (writes w) (left_of (only_blanks first w) (used_buffer (entered_mode b Plain) (plain_len (held_of b)) (line_ends w)))
+      left_of first b ≡ after_bytes (writes w) (left_of (only_blanks first w) (used_buffer (entered_mode b Plain) (plain_len (held_of b)) (line_ends w)))
   ordinary_left first b mode ends =
       let held = held_of b in
       let rest = rest_of unread b in
@@ -196,17 +196,17 @@ module _ {R : Type 0} (rules : Rules) (unread : R → List ℕ) (ws : List Waiti
       let g : GoesThrough b.line_bytes b.line held w (drop n held) b.bytes_left rest =
       remaining-ordinary b.line_bytes b.line held b.bytes_left rest ends in
       let o = opening b.mode b.open_token_line b.line in
-      let behind = remaining_tokens b.line_bytes Plain o (b.line + line_ends w) (drop n held) b.bytes_left rest in
+      let following = remaining_tokens b.line_bytes Plain o (b.line + line_ends w) (drop n held) b.bytes_left rest in
       ap (λ (ts : List SourceToken). all_resumed rules ws place first ts s) (tokens_plain unread b mode ∙ g.steps b.line o)
-      ∙ written.copied first g.tokens behind (all_plain_copied g.tokens g.plain)
-      ∙ ap (λ (xs : List ℕ). behind_bytes (writes xs) (all_resumed rules ws place (only_blanks first xs) behind s)) g.spelled
-      ∙ ap (λ (ts : List SourceToken). behind_bytes (writes w) (all_resumed rules ws place (only_blanks first w) ts s)) (tokens_entered unread b n (line_ends w) Plain)
+      ∙ written.copied first g.tokens following (all_plain_copied g.tokens g.plain)
+      ∙ ap (λ (xs : List ℕ). after_bytes (writes xs) (all_resumed rules ws place (only_blanks first xs) following s)) g.spelled
+      ∙ ap (λ (ts : List SourceToken). after_bytes (writes w) (all_resumed rules ws place (only_blanks first w) ts s)) (tokens_entered unread b n (line_ends w) Plain)
 
   -- a string or a comment, or the part of one, over what is held
   token_here : (first : Bool) (b : BufferView R) → TextHeld b.mode (held_of b) (rest_of unread b)
       → let t = token_of b.mode (held_of b) in
       let w = take t.len (held_of b) in
-      left_of first b ≡ behind_bytes (writes w) (all_resumed rules ws place (only_blanks first w)
+      left_of first b ≡ after_bytes (writes w) (all_resumed rules ws place (only_blanks first w)
       (remaining_tokens b.line_bytes t.next_mode (opening b.mode b.open_token_line b.line) (b.line + line_ends w) (drop t.len (held_of b)) b.bytes_left (rest_of unread b)) s)
   unfolding tokens_left
   token_here first b text =
@@ -216,47 +216,47 @@ module _ {R : Type 0} (rules : Rules) (unread : R → List ℕ) (ws : List Waiti
   token_left : (first : Bool) (b : BufferView R) → TextHeld b.mode (held_of b) (rest_of unread b)
       → let t = token_of b.mode (held_of b) in
       let w = take t.len (held_of b) in
-      left_of first b ≡ behind_bytes (writes w) (left_of (only_blanks first w) (used_buffer (entered_mode b t.next_mode) t.len (line_ends w)))
+      left_of first b ≡ after_bytes (writes w) (left_of (only_blanks first w) (used_buffer (entered_mode b t.next_mode) t.len (line_ends w)))
   token_left first b text =
       let t = token_of b.mode (held_of b) in
       let w = take t.len (held_of b) in
       token_here first b text
-      ∙ ap (λ (ts : List SourceToken). behind_bytes (writes w) (all_resumed rules ws place (only_blanks first w) ts s)) (tokens_entered unread b t.len (line_ends w) t.next_mode)
+      ∙ ap (λ (ts : List SourceToken). after_bytes (writes w) (all_resumed rules ws place (only_blanks first w) ts s)) (tokens_entered unread b t.len (line_ends w) t.next_mode)
 
   -- what text that is copied comes to, by its length and the mode behind it
   abbrev Copied : Bool → BufferView R → ℕ → Mode → Type 0
   Copied first b n next = let w = take n (held_of b) in
-      left_of first b ≡ behind_bytes (writes w) (left_of (only_blanks first w) (used_buffer (entered_mode b next) n (line_ends w)))
+      left_of first b ≡ after_bytes (writes w) (left_of (only_blanks first w) (used_buffer (entered_mode b next) n (line_ends w)))
 
   -- text that is copied, in either form
   copied_left : (first : Bool) (b : BufferView R) (n : ℕ) (next : Mode) → HoldsFront b → IsText b.mode (held_of b) n next → Copied first b n next
-  copied_left first b n next holds (AtOrdinary plain behind has whole) =
+  copied_left first b n next holds (AtOrdinary plain following has whole) =
       subst (λ (k : ℕ). Copied first b k next) (sym whole)
-      (subst (λ (m : Mode). Copied first b (plain_len (held_of b)) m) (sym behind)
+      (subst (λ (m : Mode). Copied first b (plain_len (held_of b)) m) (sym following)
       (ordinary_left first b plain (ends_line unread b holds.ends)))
-  copied_left first b n next holds (AtToken kind behind whole) =
+  copied_left first b n next holds (AtToken kind following whole) =
       let t = token_of b.mode (held_of b) in
       subst (λ (k : ℕ). Copied first b k next) (sym whole)
-      (subst (λ (m : Mode). Copied first b t.len m) (sym behind)
+      (subst (λ (m : Mode). Copied first b t.len m) (sym following)
       (token_left first b (record { some = holds.some; ends = ends_line unread b holds.ends; kind = kind })))
 
   -- text that is copied in live text is written as the place writes it
   written_left : (f : File R) (len lines : ℕ) (next : Mode)
       → HoldsFront f.buffer → IsText f.buffer.mode (held_of f.buffer) len next → lines ≡ line_ends (take len (held_of f.buffer))
       → source_left rules unread ws place f s
-      ≡ behind_bytes (writes (take len (held_of f.buffer)))
+      ≡ after_bytes (writes (take len (held_of f.buffer)))
       (source_left rules unread ws place (consumed_file len lines (with_file_buffer (entered_mode f.buffer next) f)) s)
   unfolding source_left held_of entered_mode
   written_left f len lines next holds text e =
       let w = take len (held_of f.buffer) in
       copied_left f.blanks f.buffer len next holds text
-      ∙ ap (λ (k : ℕ). behind_bytes (writes w) (left_of (only_blanks f.blanks w) (used_buffer (entered_mode f.buffer next) len k))) (sym e)
+      ∙ ap (λ (k : ℕ). after_bytes (writes w) (left_of (only_blanks f.blanks w) (used_buffer (entered_mode f.buffer next) len k))) (sym e)
 
 -- text that is copied is written as it is
 pub text_left : {R : Type 0} (rules : Rules) (unread : R → List ℕ) (ws : List Waiting) (os : List Progress) (f : File R) (s : State) (len lines : ℕ) (next : Mode)
     → HoldsFront f.buffer → IsText f.buffer.mode (held_of f.buffer) len next → lines ≡ line_ends (take len (held_of f.buffer))
     → source_left rules unread ws (Live os) f s
-    ≡ behind_bytes (take len (held_of f.buffer))
+    ≡ after_bytes (take len (held_of f.buffer))
     (source_left rules unread ws (Live os) (consumed_file len lines (with_file_buffer (entered_mode f.buffer next) f)) s)
 text_left rules unread ws os f s len lines next holds text e =
     written_left rules unread ws (Live os) (λ (x : List ℕ). x) s (live_writes rules ws os s) f len lines next holds text e
@@ -265,7 +265,7 @@ text_left rules unread ws os f s len lines next holds text e =
 pub skipped_text_left : {R : Type 0} (rules : Rules) (unread : R → List ℕ) (ws : List Waiting) (n : ℕ) (p : Progress) (os : List Progress) (f : File R) (s : State) (len lines : ℕ) (next : Mode)
     → HoldsFront f.buffer → IsText f.buffer.mode (held_of f.buffer) len next → lines ≡ line_ends (take len (held_of f.buffer))
     → source_left rules unread ws (Skipped n p os) f s
-    ≡ behind_bytes (line_ends_of (take len (held_of f.buffer)))
+    ≡ after_bytes (line_ends_of (take len (held_of f.buffer)))
     (source_left rules unread ws (Skipped n p os) (consumed_file len lines (with_file_buffer (entered_mode f.buffer next) f)) s)
 skipped_text_left rules unread ws n p os f s len lines next holds text e =
     written_left rules unread ws (Skipped n p os) line_ends_of s (skipped_writes rules ws n p os s) f len lines next holds text e
@@ -285,13 +285,13 @@ back_tokens unread b holds mode kind other also =
     let rest = rest_of unread b in
     let len = (token_of Plain held).len in
     let line : b.line ≡ b.line + 0 = omega arith in
-    let behind : remaining_tokens b.line_bytes Plain b.line b.line (drop len held) b.bytes_left rest ≡ tokens_left unread (used_buffer b len 0) =
+    let following : remaining_tokens b.line_bytes Plain b.line b.line (drop len held) b.bytes_left rest ≡ tokens_left unread (used_buffer b len 0) =
     ap (λ (k : ℕ). remaining_tokens b.line_bytes Plain b.line k (drop len held) b.bytes_left rest) line
     ∙ tokens_used unread b len 0 b.line mode in
     tokens_plain unread b mode
     ∙ remaining-back b.line_bytes b.line b.line held b.bytes_left rest holds.some (ends_line unread b holds.ends)
     kind other also
-    ∙ ap (λ (ts : List SourceToken). record { sort = Ordinary Back; bytes = take len held; line = b.line } ∷ ts) behind
+    ∙ ap (λ (ts : List SourceToken). record { sort = Ordinary Back; bytes = take len held; line = b.line } ∷ ts) following
 
 -- a name that isn't reserved isn't `define`
 not_define : (name : List ℕ) → is_reserved name ≡ false → bytes_eq name (codes "define") ≡ false
@@ -377,7 +377,7 @@ module _ {R : Type 0} (rules : Rules) (unread : R → List ℕ) (ws : List Waiti
       → HoldsDefine (held_of f.buffer) (rest_of unread f.buffer)
       → rules.define s.macros (drop 7 (take len (held_of new))) ≡ Accepted macros → lines ≡ line_ends (take len (held_of new))
       → source_left rules unread ws (Live os) f s
-      ≡ behind_bytes (line_ends_of (take len (held_of new)))
+      ≡ after_bytes (line_ends_of (take len (held_of new)))
       (source_left rules unread ws (Live os) (consumed_file len lines (with_file_buffer new f)) (record s { macros = macros }))
   unfolding source_left
   define_left len lines macros line t mode holds e count =
@@ -385,7 +385,7 @@ module _ {R : Type 0} (rules : Rules) (unread : R → List ℕ) (ws : List Waiti
       let after = record s { macros = macros } in
       ap (λ (ts : List SourceToken). all_resumed rules ws (Live os) f.blanks ts s) (line.define t mode holds)
       ∙ all_resumed_defined rules ws os f.blanks w f.buffer.line (tokens_left unread (consumed new len)) s macros e
-      ∙ ap (λ (b : BufferView R). behind_bytes (line_ends_of w) (all_resumed rules ws (Live os) (only_blanks f.blanks w) (tokens_left unread b) after))
+      ∙ ap (λ (b : BufferView R). after_bytes (line_ends_of w) (all_resumed rules ws (Live os) (only_blanks f.blanks w) (tokens_left unread b) after))
       (consumed_used new len lines count)
 
   -- a `define` that is refused is a fault
@@ -432,11 +432,11 @@ logical_len-take x y (b ∷ bs) n h =
     elim ends as P [ true ↦ at_true | false ↦ at_false ] refl h
 
 -- two bytes that continue no line don't change where a logical line ends
-logical_len-behind : (x y : ℕ) (bs : List ℕ) → (x == 92) ≡ false → (y == 92) ≡ false → logical_len x y bs ≡ logical_len 0 0 bs
+logical_len-following : (x y : ℕ) (bs : List ℕ) → (x == 92) ≡ false → (y == 92) ≡ false → logical_len x y bs ≡ logical_len 0 0 bs
 unfolding logical_len is_continued
-logical_len-behind x y [] p q = refl
-logical_len-behind x y (b ∷ []) p q = rw (p, q) refl
-logical_len-behind x y (b ∷ c ∷ cs) p q = rw (p, q) refl
+logical_len-following x y [] p q = refl
+logical_len-following x y (b ∷ []) p q = rw (p, q) refl
+logical_len-following x y (b ∷ c ∷ cs) p q = rw (p, q) refl
 
 -- seven more
 unfoldable seven_more : Option ℕ → Option ℕ
@@ -445,7 +445,7 @@ seven_more o = option_map suc (option_map suc (option_map suc (option_map suc (o
 -- the logical line of a `define` is the word and the logical line of what stands behind it
 define_logical : (rest : List ℕ) → logical_len 0 0 (codes "`define" ++ rest) ≡ seven_more (logical_len 0 0 rest)
 unfolding logical_len is_line_end is_continued seven_more
-define_logical rest = ap seven_more (logical_len-behind 110 101 rest refl refl)
+define_logical rest = ap seven_more (logical_len-following 110 101 rest refl refl)
 
 -- a `define` begins with that word
 pub define_begins : (held : List ℕ) → 0 < length held → IsDirective Define held → held ≡ codes "`define" ++ drop 7 held
@@ -562,7 +562,7 @@ module _ {R : Type 0} (rules : Rules) (unread : R → List ℕ) (ws : List Waiti
   -- a `line` before which only blanks stand, and which gives a number and a name
   pub renumbered_left : (r : Renumbered) → f.blanks ≡ true → renumbered (drop 5 (line_text (held_of f.buffer))) ≡ Some r
       → source_left rules unread ws (Live os) f s
-      ≡ behind_bytes (line_ends_of (line_text (held_of f.buffer)) ++ origin_line rules r.name r.number)
+      ≡ after_bytes (line_ends_of (line_text (held_of f.buffer)) ++ origin_line rules r.name r.number)
       (source_left rules unread ws (Live os) (consumed_file (line_len (held_of f.buffer)) (line_ends (line_text (held_of f.buffer))) f) (renumbered_state s r f.buffer.line))
   unfolding source_left
   renumbered_left r first e =
@@ -571,9 +571,9 @@ module _ {R : Type 0} (rules : Rules) (unread : R → List ℕ) (ws : List Waiti
       let x = line_ends_of w ++ origin_line rules r.name r.number in
       line_here
       ∙ ap (λ (b : Bool). all_resumed rules ws (Live os) b (line_token w f.buffer.line ∷ more) s) first
-      ∙ all_resumed_behind rules ws (Live os) (Live os) true (only_blanks true w) (line_token w f.buffer.line ∷ more) more s after x
+      ∙ all_resumed_after rules ws (Live os) (Live os) true (only_blanks true w) (line_token w f.buffer.line ∷ more) more s after x
       (resumed_renumbered rules os w f.buffer.line more s r e)
-      ∙ ap (λ (b : Bool). behind_bytes x (all_resumed rules ws (Live os) (only_blanks b w) more after)) (sym first)
+      ∙ ap (λ (b : Bool). after_bytes x (all_resumed rules ws (Live os) (only_blanks b w) more after)) (sym first)
 
   -- a `line` that gives none is a fault
   pub bad_line_left : renumbered (drop 5 (line_text (held_of f.buffer))) ≡ None
@@ -608,13 +608,13 @@ module _ (held : List ℕ) (some : 0 < length held) (is : IsDirective Line held)
   word_held = ap length word_apart ∙ length-append (word_of Line) (drop 5 held)
 
   -- its physical line has its word and what stands behind that on the line
-  pub line_behind : line_len held ≡ 5 + line_len (drop 5 held)
+  pub line_right_after : line_len held ≡ 5 + line_len (drop 5 held)
   unfolding ended_line_len is_line_end
-  line_behind = ap line_len word_apart ∙ line_len-open (word_of Line) (drop 5 held) refl
+  line_right_after = ap line_len word_apart ∙ line_len-open (word_of Line) (drop 5 held) refl
 
   -- what it is given
   pub given_text : drop 5 (line_text held) ≡ take (line_len (drop 5 held)) (drop 5 held)
-  given_text = ap (λ (n : ℕ). drop 5 (take n held)) line_behind ∙ drop-take 5 (line_len (drop 5 held)) held
+  given_text = ap (λ (n : ℕ). drop 5 (take n held)) line_right_after ∙ drop-take 5 (line_len (drop 5 held)) held
 
 -- What ends a source, or the output: what is refused in front, a line that breaks the source, its end, and an open string or
 -- comment there; and a buffer that was filled, in which nothing is lost.

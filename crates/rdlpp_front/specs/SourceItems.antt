@@ -57,7 +57,7 @@ pub record IsDirective (d : Directive) (held : List ℕ) : Type 0 where
   pub word : take (token_of Plain held).len held ≡ word_of d
 
 -- behind the word of a directive, which has so many bytes, a name stands from a place up to another
-pub record NameBehind (word_len : ℕ) (held : List ℕ) (start stop : ℕ) : Type 0 where
+pub record NameAfter (word_len : ℕ) (held : List ℕ) (start stop : ℕ) : Type 0 where
   pub from : ℕ
   pub to : ℕ
   pub given : NameGiven (drop word_len held) from to
@@ -65,14 +65,14 @@ pub record NameBehind (word_len : ℕ) (held : List ℕ) (start stop : ℕ) : Ty
   pub stops : stop ≡ word_len + to
 
 -- the name behind the word of a directive, if one stands there
-abbrev pub IsNameBehind : ℕ → List ℕ → Option Argument → Type 0
-IsNameBehind word_len held None = NoName (drop word_len held)
-IsNameBehind word_len held (Some a) = NameBehind word_len held a.start a.stop
+abbrev pub IsNameAfter : ℕ → List ℕ → Option Argument → Type 0
+IsNameAfter word_len held None = NoName (drop word_len held)
+IsNameAfter word_len held (Some a) = NameAfter word_len held a.start a.stop
 
 -- a directive with its name, which stands from a place up to another (IEEE 1364-2001, compiler directives)
 pub record HasName (d : Directive) (held : List ℕ) (start stop : ℕ) : Type 0 where
   pub word : IsDirective d held
-  pub name : NameBehind (length (word_of d)) held start stop
+  pub name : NameAfter (length (word_of d)) held start stop
 
 -- a directive behind which no name stands
 pub record LacksName (d : Directive) (held : List ℕ) : Type 0 where
@@ -85,7 +85,7 @@ IsNamed d held None = LacksName d held
 IsNamed d held (Some a) = HasName d held a.start a.stop
 
 -- behind the word of a directive, which has so many bytes, a string stands that closes on its line, from a place up to another
-pub record StringBehind (word_len : ℕ) (held : List ℕ) (start stop : ℕ) : Type 0 where
+pub record StringAfter (word_len : ℕ) (held : List ℕ) (start stop : ℕ) : Type 0 where
   pub from : ℕ
   pub to : ℕ
   pub given : StringGiven (drop word_len held) from to
@@ -93,9 +93,9 @@ pub record StringBehind (word_len : ℕ) (held : List ℕ) (start stop : ℕ) : 
   pub stops : stop ≡ word_len + to
 
 -- the string behind the word of a directive, if one stands there
-abbrev pub IsStringBehind : ℕ → List ℕ → Option Argument → Type 0
-IsStringBehind word_len held None = NoString (drop word_len held)
-IsStringBehind word_len held (Some a) = StringBehind word_len held a.start a.stop
+abbrev pub IsStringAfter : ℕ → List ℕ → Option Argument → Type 0
+IsStringAfter word_len held None = NoString (drop word_len held)
+IsStringAfter word_len held (Some a) = StringAfter word_len held a.start a.stop
 
 -- an `include` with its string, which stands from a place up to another (IEEE 1364-2001, `include`)
 pub record HasString (held : List ℕ) (start stop : ℕ) : Type 0 where

@@ -3,7 +3,7 @@ ghost use Rattle.std.specs.Prelude.{◌≡◌, ◌≢◌, ◌<◌, ◌≤◌, le
 ghost use Rattle.rdlpp_scan.specs.Tokens.{stops_plain_text, token_of};
 ghost use Rattle.rdlpp_scan.specs.declared.token.Kind.TheVariants.{Back};
 ghost use Rattle.rdlpp_scan.specs.declared.token.Mode.TheVariants.{Plain};
-ghost use Rattle.rdlpp_front.specs.SourceItems.{IsDirective, IsSourceItem, IsNameBehind, IsStringBehind};
+ghost use Rattle.rdlpp_front.specs.SourceItems.{IsDirective, IsSourceItem, IsNameAfter, IsStringAfter};
 
 use rdlpp_meaning::FaultKind;
 use rdlpp_read::{given_name, given_string};
@@ -137,21 +137,21 @@ fn directive_item(held: &[u8], len: usize, directive: Directive) -> SourceItem
 {
     match directive {
         Directive::Define => SourceItem::Define,
-        Directive::Undef => SourceItem::Undef(name_behind(held, len)),
-        Directive::Ifdef => SourceItem::Ifdef(name_behind(held, len)),
-        Directive::Ifndef => SourceItem::Ifndef(name_behind(held, len)),
-        Directive::Elsif => SourceItem::Elsif(name_behind(held, len)),
+        Directive::Undef => SourceItem::Undef(name_after(held, len)),
+        Directive::Ifdef => SourceItem::Ifdef(name_after(held, len)),
+        Directive::Ifndef => SourceItem::Ifndef(name_after(held, len)),
+        Directive::Elsif => SourceItem::Elsif(name_after(held, len)),
         Directive::Else => SourceItem::Else,
         Directive::Endif => SourceItem::Endif,
-        Directive::Include => SourceItem::Include(string_behind(held, len)),
+        Directive::Include => SourceItem::Include(string_after(held, len)),
         Directive::Line => SourceItem::Line,
     }
 }
 
 // The name that stands behind a directive's word, which has so many bytes.
-fn name_behind(held: &[u8], len: usize) -> Option<Argument>
+fn name_after(held: &[u8], len: usize) -> Option<Argument>
     requires { len ≤ length held.now }
-    ensures { IsNameBehind len held.now result }
+    ensures { IsNameAfter len held.now result }
 {
     let given = given_name(&held[len..])?;
     Some(Argument {
@@ -161,9 +161,9 @@ fn name_behind(held: &[u8], len: usize) -> Option<Argument>
 }
 
 // The string that stands behind a directive's word, which has so many bytes, and closes on its line.
-fn string_behind(held: &[u8], len: usize) -> Option<Argument>
+fn string_after(held: &[u8], len: usize) -> Option<Argument>
     requires { len ≤ length held.now }
-    ensures { IsStringBehind len held.now result }
+    ensures { IsStringAfter len held.now result }
 {
     let string = given_string(&held[len..])?;
     Some(Argument {

@@ -268,11 +268,11 @@ pub data Reaches : ℕ → ℕ → List ℕ → List ℕ → Type 0 where
   PastReturn : (n m : ℕ) (raw text : List ℕ) → Reaches n m raw text → Reaches (suc (suc (suc n))) (suc m) (92 ∷ 13 ∷ 10 ∷ raw) (10 ∷ text)
 
 -- what stands behind
-pub reaches_behind : (n m : ℕ) (raw text : List ℕ) → Reaches n m raw text → Joins (drop n raw) (drop m text)
-reaches_behind n m raw text (Here r t j) = j
-reaches_behind n m raw text (PastByte i k b r t e p) = reaches_behind i k r t p
-reaches_behind n m raw text (PastLine i k r t p) = reaches_behind i k r t p
-reaches_behind n m raw text (PastReturn i k r t p) = reaches_behind i k r t p
+pub reaches_after : (n m : ℕ) (raw text : List ℕ) → Reaches n m raw text → Joins (drop n raw) (drop m text)
+reaches_after n m raw text (Here r t j) = j
+reaches_after n m raw text (PastByte i k b r t e p) = reaches_after i k r t p
+reaches_after n m raw text (PastLine i k r t p) = reaches_after i k r t p
+reaches_after n m raw text (PastReturn i k r t p) = reaches_after i k r t p
 
 abbrev len_by : Bool → Bool → ℕ
 len_by line return = cond line 1 (cond return 2 0)
@@ -355,10 +355,10 @@ record Alike (raw text : List ℕ) (t u : Token) : Type 0 where
   kind : t.kind ≡ u.kind
   next_mode : t.next_mode ≡ u.next_mode
   bytes : is_line_comment_kind t.kind ≡ false → Joins (take t.len raw) (take u.len text)
-  behind : Joins (drop t.len raw) (drop u.len text)
+  following : Joins (drop t.len raw) (drop u.len text)
 
 alike_token : (k : Kind) (mode : Mode) (n m : ℕ) (raw text : List ℕ) → Reaches n m raw text → Alike raw text (record { kind = k; len = n; next_mode = mode }) (record { kind = k; len = m; next_mode = mode })
-alike_token k mode n m raw text p = record { kind = refl; next_mode = refl; bytes = λ h. reaches_front n m raw text p; behind = reaches_behind n m raw text p }
+alike_token k mode n m raw text p = record { kind = refl; next_mode = refl; bytes = λ h. reaches_front n m raw text p; following = reaches_after n m raw text p }
 
 alike_whole : (k : Kind) (n m : ℕ) (raw text : List ℕ) → Reaches n m raw text → Alike raw text (whole k n) (whole k m)
 unfolding whole
@@ -405,21 +405,21 @@ abbrev before_end : List ℕ → ℕ
 before_end bs = prefix_len (λ x. not (is_line_end x)) bs
 
 -- a `//` comment goes up to its line's end
-remark_behind : (raw text : List ℕ) → Joins raw text → Joins (drop (before_end raw) raw) (drop (before_end text) text)
+remark_after : (raw text : List ℕ) → Joins raw text → Joins (drop (before_end raw) raw) (drop (before_end text) text)
 unfolding is_line_end
-remark_behind raw text Ends = Ends
-remark_behind raw text (Byte b r t n j) =
+remark_after raw text Ends = Ends
+remark_after raw text (Byte b r t n j) =
     let P : Bool → Type 0 = λ q. Joins (drop (cond (not q) (1 + before_end r) 0) (b ∷ r)) (drop (cond (not q) (1 + before_end t) 0) (b ∷ t)) in
     let on : Joins (drop (1 + before_end r) (b ∷ r)) (drop (1 + before_end t) (b ∷ t)) =
     subst (λ x. Joins (drop x (b ∷ r)) (drop (1 + before_end t) (b ∷ t))) (sym (one-add (before_end r)))
-    (subst (λ x. Joins (drop (before_end r) r) (drop x (b ∷ t))) (sym (one-add (before_end t))) (remark_behind r t j)) in
+    (subst (λ x. Joins (drop (before_end r) r) (drop x (b ∷ t))) (sym (one-add (before_end t))) (remark_after r t j)) in
     elim (eqb b 10) as P [ true ↦ Byte b r t n j | false ↦ on ]
-remark_behind raw text (Line r t j) = line_front r t j
-remark_behind raw text (Return r t j) = line_front r t j
+remark_after raw text (Line r t j) = line_front r t j
+remark_after raw text (Return r t j) = line_front r t j
 
 remark_alike : (raw text : List ℕ) → Joins raw text → Alike raw text (whole LineComment (before_end raw)) (whole LineComment (before_end text))
 unfolding whole
-remark_alike raw text j = record { kind = refl; next_mode = refl; bytes = λ h. absurd (false≢true (sym h)); behind = remark_behind raw text j }
+remark_alike raw text j = record { kind = refl; next_mode = refl; bytes = λ h. absurd (false≢true (sym h)); following = remark_after raw text j }
 
 -- where a string stops
 string_reaches : (raw text : List ℕ) → Joins raw text → (taken : Bool) → Reaches (string_stop taken raw) (string_stop taken text) raw text
@@ -440,13 +440,13 @@ string_reaches raw text (Return r t j) false = PastReturn _ _ r t (string_reache
 quote_alike : (n m : ℕ) (raw text : List ℕ) → Reaches n m raw text → eqb (get_or text m 0) 34 ≡ eqb (get_or raw n 0) 34
 quote_alike n m raw text p =
     ap (λ x. eqb x 34) (sym (at_zero text m))
-    ∙ (sym (first_alike (λ k. eqb k 34) refl (drop n raw) (drop m text) (reaches_behind n m raw text p))
+    ∙ (sym (first_alike (λ k. eqb k 34) refl (drop n raw) (drop m text) (reaches_after n m raw text p))
     ∙ ap (λ x. eqb x 34) (at_zero raw n))
 
 past_quote : (n m : ℕ) (raw text : List ℕ) → Reaches n m raw text → eqb (get_or raw n 0) 34 ≡ true → Reaches (suc n) (suc m) raw text
 past_quote n m raw text p e =
     reaches_at (n + 1) (m + 1) (suc n) (suc m) raw text (omega arith) (omega arith)
-    (reaches_on n m raw text p 1 1 (one_byte 34 refl refl (drop n raw) (drop m text) (reaches_behind n m raw text p) (ap (λ x. eqb x 34) (at_zero raw n) ∙ e)))
+    (reaches_on n m raw text p 1 1 (one_byte 34 refl refl (drop n raw) (drop m text) (reaches_after n m raw text p) (ap (λ x. eqb x 34) (at_zero raw n) ∙ e)))
 
 alike_string_at : (n m : ℕ) (raw text : List ℕ) → Reaches n m raw text → Alike raw text (string_at n (get_or raw n 0)) (string_at m (get_or text m 0))
 unfolding string_at
@@ -474,7 +474,7 @@ comment_reaches raw text (Return r t j) = PastReturn _ _ r t (comment_reaches r 
 
 past_stars : (n m : ℕ) (raw text : List ℕ) → Reaches n m raw text → ends_block_comment (drop n raw) ≡ true → Reaches (n + 2) (m + 2) raw text
 unfolding ends_block_comment
-past_stars n m raw text p e = reaches_on n m raw text p 2 2 (pair_reaches 42 47 refl refl refl refl (drop n raw) (drop m text) (reaches_behind n m raw text p) e)
+past_stars n m raw text p e = reaches_on n m raw text p 2 2 (pair_reaches 42 47 refl refl refl refl (drop n raw) (drop m text) (reaches_after n m raw text p) e)
 
 alike_block_at : (n m : ℕ) (b : Bool) (raw text : List ℕ) → Reaches n m raw text → (b ≡ true → ends_block_comment (drop n raw) ≡ true) → Alike raw text (block_at n b) (block_at m b)
 unfolding block_at
@@ -493,7 +493,7 @@ alike_opened : (raw text : List ℕ) → Joins raw text → Reaches 2 2 raw text
 alike_opened raw text j p =
     let i : ℕ = first_place ends_block_comment (drop 2 raw) in
     let k : ℕ = first_place ends_block_comment (drop 2 text) in
-    let q : Reaches i k (drop 2 raw) (drop 2 text) = comment_reaches (drop 2 raw) (drop 2 text) (reaches_behind 2 2 raw text p) in
+    let q : Reaches i k (drop 2 raw) (drop 2 text) = comment_reaches (drop 2 raw) (drop 2 text) (reaches_after 2 2 raw text p) in
     alike_block 2 (2 + i) (2 + k) raw text refl refl (reaches_on 2 2 raw text p i k q)
     (λ h. ap ends_block_comment (sym (drop-drop i 2 raw)) ∙ first_place-at ends_block_comment (drop 2 raw) (omega (arith, length-drop 2 raw)))
 
@@ -523,7 +523,7 @@ plain_alike b r s n j =
     let pair : (x y : ℕ) → eqb 92 y ≡ eqb 10 y → (eqb b x && eqb d y) ≡ (eqb b x && eqb c y) = λ x y e. ap (λ q. eqb b x && q) (second (λ k. eqb k y) e) in
     let one : (k : Kind) → Alike raw text (whole k 1) (whole k 1) = λ k. alike_whole k 1 1 raw text (PastByte 0 0 b r s n (Here r s j)) in
     let run : (k : Kind) (p : ℕ → Bool) → p 10 ≡ false → p 92 ≡ false → Alike raw text (whole k (prefix_len p raw)) (whole k (prefix_len p text)) = λ k p line back. alike_whole k _ _ raw text (run_reaches p line back raw text whole_text) in
-    let behind_one : (k : Kind) → Alike raw text (whole k (suc (prefix_len is_word r))) (whole k (suc (prefix_len is_word s))) = λ k. alike_whole k _ _ raw text (PastByte _ _ b r s n (run_reaches is_word word_ten word_back r s j)) in
+    let after_one : (k : Kind) → Alike raw text (whole k (suc (prefix_len is_word r))) (whole k (suc (prefix_len is_word s))) = λ k. alike_whole k _ _ raw text (PastByte _ _ b r s n (run_reaches is_word word_ten word_back r s j)) in
     alike_cond (eqb b 60 && eqb c 37) (eqb b 60 && eqb d 37) raw text _ _ _ _ (pair 60 37 refl) (λ e. alike_whole Perl 2 2 raw text (pair_reaches 60 37 refl refl refl refl raw text whole_text e)) (λ _.
     alike_cond (is_line_end b) (is_line_end b) raw text _ _ _ _ refl (λ _. one LineEnd) (λ _.
     alike_cond (is_blank b) (is_blank b) raw text _ _ _ _ refl (λ _. run Blank is_blank blank_ten blank_back) (λ _.
@@ -532,8 +532,8 @@ plain_alike b r s n j =
     alike_cond (eqb b 34) (eqb b 34) raw text _ _ _ _ refl (λ _. alike_string 1 (suc (string_stop false r)) (suc (string_stop false s)) raw text (one-add _) (one-add _) (PastByte _ _ b r s n (string_reaches r s j false))) (λ _.
     alike_cond (is_letter b) (is_letter b) raw text _ _ _ _ refl (λ _. run Name is_word word_ten word_back) (λ _.
     alike_cond (is_digit b) (is_digit b) raw text _ _ _ _ refl (λ _. run Word is_word word_ten word_back) (λ _.
-    alike_cond (takes_word b && is_word c) (takes_word b && is_word d) raw text _ _ _ _ (ap (λ q. takes_word b && q) (second is_word (word_back ∙ sym word_ten))) (λ _. behind_one Word) (λ _.
-    alike_cond (eqb b 96 && is_letter c) (eqb b 96 && is_letter d) raw text _ _ _ _ (ap (λ q. eqb b 96 && q) (second is_letter letter_alike)) (λ _. behind_one Back) (λ _.
+    alike_cond (takes_word b && is_word c) (takes_word b && is_word d) raw text _ _ _ _ (ap (λ q. takes_word b && q) (second is_word (word_back ∙ sym word_ten))) (λ _. after_one Word) (λ _.
+    alike_cond (eqb b 96 && is_letter c) (eqb b 96 && is_letter d) raw text _ _ _ _ (ap (λ q. eqb b 96 && q) (second is_letter letter_alike)) (λ _. after_one Back) (λ _.
     alike_cond (eqb b 96) (eqb b 96) raw text _ _ _ _ refl (λ _. one BareBackquote) (λ _.
     alike_cond (is_opener b) (is_opener b) raw text _ _ _ _ refl (λ _. one Opener) (λ _.
     alike_cond (is_closer b) (is_closer b) raw text _ _ _ _ refl (λ _. one Closer) (λ _.
@@ -571,14 +571,14 @@ alike_read mode raw t a = record {
   kind = a.kind;
   next_mode = a.next_mode;
   bytes = kept_same t.kind _ _ (λ h. joins_is _ _ (a.bytes h));
-  behind = joins_is _ _ a.behind;
+  following = joins_is _ _ a.following;
 }
 
 -- the first token of a text, of a logical line or as it stands, is that of the text as it is read
 pub line_token_read : (is_logical : Bool) (mode : Mode) (text : List ℕ) → 0 < length text → IsRead is_logical mode text (line_token is_logical mode text)
 unfolding line_token joined
 line_token_read true mode text h = alike_read mode text (line_token true mode text) (line_alike mode text (without_continuations 0 text) (joins_text text) h)
-line_token_read false mode text h = record { kind = refl; next_mode = refl; bytes = refl; behind = refl }
+line_token_read false mode text h = record { kind = refl; next_mode = refl; bytes = refl; following = refl }
 
 pub read_by_value : (is_logical : Bool) (mode : Mode) (text : List ℕ) (t : Token) → 0 < length text → t ≡ line_token is_logical mode text → IsRead is_logical mode text t
 read_by_value is_logical mode text t h e = subst (λ u. IsRead is_logical mode text u) (sym e) (line_token_read is_logical mode text h)

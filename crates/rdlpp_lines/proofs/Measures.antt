@@ -5,7 +5,7 @@ use Rattle.std.specs.Result.{result_unwrap_or}
 use Rattle.std.proofs.lemmas.Bool.{cond-false, false≢true, cond-true, and_from, and_left, and_parts, and_right, cond_both, not-true, or_parts, false_from_ne_true}
 use Rattle.memchr.specs.Find.{IsFirstByte, is_byte2}
 use Rattle.rdlpp_scan.specs.declared.token.LexFault.{LexFault}
-use Rattle.rdlpp_lines.specs.Texts.{onto_trimmed, without_end, trimmed_of, Cleared, Sound, Unsound, onto, begun, trimmed_left, trimmed_len, text_behind, IsNext, len_from, ended_len, bytes_left, found_left, is_sound, told, stops_token, level_by, read_by, left_in, cleared, ends_default, trims}
+use Rattle.rdlpp_lines.specs.Texts.{onto_trimmed, without_end, trimmed_of, Cleared, Sound, Unsound, onto, begun, trimmed_left, trimmed_len, text_after, IsNext, len_from, ended_len, bytes_left, found_left, is_sound, told, stops_token, level_by, read_by, left_in, cleared, ends_default, trims}
 use Rattle.rdlpp_lines.specs.Continuations.{joined, without_continuations}
 use Rattle.rdlpp_scan.specs.declared.token.Kind.{Kind}
 use Rattle.rdlpp_scan.specs.declared.token.Kind.TheVariants.{LineComment, Closer, Comma, Perl as PerlKind}
@@ -19,7 +19,7 @@ use Rattle.rdlpp_scan.proofs.TokenLens.{token_of-part, tokens_from-step, fault-n
 use Rattle.rdlpp_lines.specs.LineTokens.{kept_of, IsRead}
 use Rattle.rdlpp_lines.specs.declared.reading.KeptBytes.{KeptBytes}
 use Rattle.rdlpp_scan.specs.declared.token.Mode.TheVariants.{Plain, InStr, InBlock}
-use Rattle.rdlpp_lines.specs.Reading.{left, left_behind, IsAdvanced}
+use Rattle.rdlpp_lines.specs.Reading.{left, left_after, IsAdvanced}
 use Rattle.rdlpp_lines.proofs.Joins.{reads_first, none_first, no_joint_at, joins_text, first_alike}
 use Rattle.rdlpp_scan.specs.Bytes.{begins_line_comment}
 use Rattle.rdlpp_scan.specs.Ordinary.{is_plain_kind}
@@ -109,11 +109,11 @@ module _ (class : ℕ → Bool) where
 
   pub start_len : (c new : Cleared) (b : ℕ) → begun class c ≡ onto (b ∷ []) new → class b ≡ false → ended_len class 1 1 new ≡ trimmed_len class c
   unfolding begun onto ended_len trimmed_len trimmed_of
-  start_len (Sound rest last) (Sound behind tail) b e h =
-      let at : drop (prefix_len class rest) rest ≡ b ∷ behind = cc in
-      ap (λ (n : ℕ). ok_len n) (total_len b behind h ∙ ap (λ (l : List ℕ). length (without_end class l)) (sym at))
+  start_len (Sound rest last) (Sound following tail) b e h =
+      let at : drop (prefix_len class rest) rest ≡ b ∷ following = cc in
+      ap (λ (n : ℕ). ok_len n) (total_len b following h ∙ ap (λ (l : List ℕ). length (without_end class l)) (sym at))
   start_len (Sound rest last) (Unsound fault) b e h = absurd (cc)
-  start_len (Unsound fault) (Sound behind tail) b e h = absurd (cc)
+  start_len (Unsound fault) (Sound following tail) b e h = absurd (cc)
   start_len (Unsound fault) (Unsound other) b e h = let same : fault ≡ other = cc in ap (λ (f : LexFault). no_len f) (sym same)
 
   pub step_len : (count end : ℕ) (old new : Cleared) (b : ℕ) (t : Bool) → old ≡ onto (b ∷ []) new → class b ≡ t → ended_len class (count + 1) (cond t end (count + 1)) new ≡ ended_len class count end old
@@ -156,7 +156,7 @@ pub found_next : (old new : Cleared) (o : Option ℕ) (b : ℕ) → IsNext old (
 unfolding IsNext
 found_next old new o b n e = let P : Option ℕ → Type 0 = λ x. IsNext old (Ok x) new in subst P e n
 
-pub none_next : (old new : Cleared) (o : Option ℕ) → IsNext old (Ok o) new → o ≡ None → old ≡ Sound [] (text_behind new)
+pub none_next : (old new : Cleared) (o : Option ℕ) → IsNext old (Ok o) new → o ≡ None → old ≡ Sound [] (text_after new)
 unfolding IsNext
 none_next old new o n e = let P : Option ℕ → Type 0 = λ x. IsNext old (Ok x) new in (subst P e n).0
 
@@ -165,15 +165,15 @@ unfolding IsNext
 same_next old new o n e = let P : Option ℕ → Type 0 = λ x. IsNext old (Ok x) new in (subst P e n).1
 
 -- what stands behind what is left doesn't change
-pub behind_onto : (old new : Cleared) (xs : List ℕ) → old ≡ onto xs new → text_behind old ≡ text_behind new
-unfolding onto text_behind
-behind_onto old (Sound rest last) xs e = ap text_behind e
-behind_onto old (Unsound fault) xs e = ap text_behind e
+pub after_onto : (old new : Cleared) (xs : List ℕ) → old ≡ onto xs new → text_after old ≡ text_after new
+unfolding onto text_after
+after_onto old (Sound rest last) xs e = ap text_after e
+after_onto old (Unsound fault) xs e = ap text_after e
 
-pub behind_begun : (class : ℕ → Bool) (c : Cleared) → text_behind (begun class c) ≡ text_behind c
-unfolding begun text_behind
-behind_begun class (Sound rest last) = refl
-behind_begun class (Unsound fault) = refl
+pub after_begun : (class : ℕ → Bool) (c : Cleared) → text_after (begun class c) ≡ text_after c
+unfolding begun text_after
+after_begun class (Sound rest last) = refl
+after_begun class (Unsound fault) = refl
 
 pub fault_next : (old new : Cleared) (fault : LexFault) → IsNext old (Err fault) new → old ≡ Unsound fault
 unfolding IsNext
@@ -183,7 +183,7 @@ pub next_found : (old new : Cleared) (b : ℕ) → old ≡ onto (b ∷ []) new �
 unfolding IsNext
 next_found old new b e = e
 
-pub next_none : (old new : Cleared) → old ≡ Sound [] (text_behind new) → new ≡ old → IsNext old (Ok None) new
+pub next_none : (old new : Cleared) → old ≡ Sound [] (text_after new) → new ≡ old → IsNext old (Ok None) new
 unfolding IsNext
 next_none old new e f = (e, f)
 
@@ -204,13 +204,13 @@ found_sound old new (Err fault) e s = absurd (false≢true (sym (ap is_sound e) 
 pub found_is : (old new : Cleared) (r : Result (Option ℕ) LexFault) (found : Option ℕ) → IsNext old r new → is_sound old ≡ true → found ≡ result_unwrap_or r None → found_left found new ≡ old
 found_is old new r found e s f = ap (λ (o : Option ℕ). found_left o new) f ∙ found_sound old new r e s
 
-pub found_some : (found : Option ℕ) (b : ℕ) (behind : Cleared) → found ≡ Some b → found_left found behind ≡ onto (b ∷ []) behind
+pub found_some : (found : Option ℕ) (b : ℕ) (following : Cleared) → found ≡ Some b → found_left found following ≡ onto (b ∷ []) following
 unfolding found_left
-found_some found b behind e = ap (λ (o : Option ℕ). found_left o behind) e
+found_some found b following e = ap (λ (o : Option ℕ). found_left o following) e
 
-pub found_none : (found : Option ℕ) (behind : Cleared) → found ≡ None → bytes_left (found_left found behind) ≡ []
+pub found_none : (found : Option ℕ) (following : Cleared) → found ≡ None → bytes_left (found_left found following) ≡ []
 unfolding found_left bytes_left
-found_none found behind e = ap (λ (o : Option ℕ). bytes_left (found_left o behind)) e
+found_none found following e = ap (λ (o : Option ℕ). bytes_left (found_left o following)) e
 
 pub sound_len : (class : ℕ → Bool) (c start : Cleared) (len : ℕ) → trimmed_len class c ≡ Ok len → start ≡ c → is_sound (begun class start) ≡ true
 unfolding trimmed_len is_sound begun
@@ -233,7 +233,7 @@ copied_start class old len (Sound text last) start rest e s r = record {
 }
 copied_start class old len (Unsound fault) start rest e s r = absurd (cc)
 
-pub copied_more : (items old more : List ℕ) (len i b : ℕ) (rest behind next : Cleared) → i < len → IsCopied items old more (len - i) rest → rest ≡ onto (b ∷ []) behind → next ≡ behind → IsCopied (items ++ b ∷ []) old more (len - (i + 1)) next
+pub copied_more : (items old more : List ℕ) (len i b : ℕ) (rest following next : Cleared) → i < len → IsCopied items old more (len - i) rest → rest ≡ onto (b ∷ []) following → next ≡ following → IsCopied (items ++ b ∷ []) old more (len - (i + 1)) next
 unfolding bytes_left is_sound onto
 copied_more items old more len i b rest (Sound bytes last) next h c e f =
     let n : suc (len - (i + 1)) ≡ len - i = omega arith in
@@ -256,24 +256,24 @@ shorter_found o b m n h e = let P : Option ℕ → Type 0 = λ x. OnSome x (m < 
 pub blank_found : (class : ℕ → Bool) (o : Option ℕ) (b : ℕ) → IfSome o (λ x. class x ≡ false) → o ≡ Some b → class b ≡ false
 blank_found class o b h e = let P : Option ℕ → Type 0 = λ x. IfSome x (λ y. class y ≡ false) in subst P e h
 
-pub sound_behind : (rest behind : Cleared) (b : ℕ) → rest ≡ onto (b ∷ []) behind → is_sound rest ≡ true → is_sound behind ≡ true
+pub sound_after : (rest following : Cleared) (b : ℕ) → rest ≡ onto (b ∷ []) following → is_sound rest ≡ true → is_sound following ≡ true
 unfolding is_sound onto
-sound_behind rest (Sound bytes last) b e s = refl
-sound_behind rest (Unsound fault) b e s = absurd (false≢true (sym (ap is_sound e) ∙ s))
+sound_after rest (Sound bytes last) b e s = refl
+sound_after rest (Unsound fault) b e s = absurd (false≢true (sym (ap is_sound e) ∙ s))
 
 pub copied_same : (items items' old more : List ℕ) (n n' : ℕ) (rest : Cleared) → items' ≡ items → n' ≡ n → IsCopied items old more n rest → IsCopied items' old more n' rest
 copied_same items items' old more n n' rest e f c = rw (e, f) c
 
 -- what stands behind a text that is read to its end
-pub behind_none : (o : Option ℕ) (x y : List ℕ) → IfNone o (x ≡ y) → o ≡ None → x ≡ y
-behind_none o x y h e = let Q : Option ℕ → Type 0 = λ n. IfNone n (x ≡ y) in subst Q e h
+pub after_none : (o : Option ℕ) (x y : List ℕ) → IfNone o (x ≡ y) → o ≡ None → x ≡ y
+after_none o x y h e = let Q : Option ℕ → Type 0 = λ n. IfNone n (x ≡ y) in subst Q e h
 
-pub behind_first : (class : ℕ → Bool) (c start new : Cleared) → start ≡ c → new ≡ begun class start → text_behind c ≡ text_behind new
-behind_first class c start new e f = ap text_behind (sym e) ∙ (sym (behind_begun class start) ∙ ap text_behind (sym f))
+pub after_the_first : (class : ℕ → Bool) (c start new : Cleared) → start ≡ c → new ≡ begun class start → text_after c ≡ text_after new
+after_the_first class c start new e f = ap text_after (sym e) ∙ (sym (after_begun class start) ∙ ap text_after (sym f))
 
-pub behind_fault : (c : Cleared) (fault : LexFault) → c ≡ Unsound fault → text_behind c ≡ []
-unfolding text_behind
-behind_fault c fault e = ap text_behind e
+pub after_fault : (c : Cleared) (fault : LexFault) → c ≡ Unsound fault → text_after c ≡ []
+unfolding text_after
+after_fault c fault e = ap text_after e
 
 pub same_joined : (l m : Bool) (x y : List ℕ) → l ≡ m → y ≡ x → joined l x ≡ joined m y
 same_joined l m x y e f = ap (λ (t : Bool). joined t x) e ∙ ap (joined m) (sym f)
@@ -282,12 +282,12 @@ same_joined l m x y e f = ap (λ (t : Bool). joined t x) e ∙ ap (joined m) (sy
 
 pub onto_none : (c : Cleared) → onto [] c ≡ c
 unfolding onto
-onto_none (Sound rest behind) = refl
+onto_none (Sound rest following) = refl
 onto_none (Unsound fault) = refl
 
 pub onto_both : (xs ys : List ℕ) (c : Cleared) → onto xs (onto ys c) ≡ onto (xs ++ ys) c
 unfolding onto
-onto_both xs ys (Sound rest behind) = ap (λ (l : List ℕ). Sound l behind) (sym (append_assoc xs ys rest))
+onto_both xs ys (Sound rest following) = ap (λ (l : List ℕ). Sound l following) (sym (append_assoc xs ys rest))
 onto_both xs ys (Unsound fault) = refl
 
 -- a byte of the token that is read
@@ -360,7 +360,7 @@ left_on is_logical l m mode raw here token rest t k p s e f g h =
     ∙ (ap (λ x. onto x (left_in (level_by l u.kind) u.next_mode (drop u.len text))) (sym kept)
     ∙ (ap (λ x. onto (joined is_logical token) (left_in x u.next_mode (drop u.len text))) (ap (level_by l) (sym k.read.kind) ∙ sym e)
     ∙ (ap (λ x. onto (joined is_logical token) (left_in m x (drop u.len text))) (sym k.read.next_mode)
-    ∙ ap (λ x. onto (joined is_logical token) (left_in m t.next_mode x)) (sym k.read.behind ∙ ap (joined is_logical) (sym h))))))))
+    ∙ ap (λ x. onto (joined is_logical token) (left_in m t.next_mode x)) (sym k.read.following ∙ ap (joined is_logical) (sym h))))))))
 
 -- a token but for a `//` comment is kept as it stands
 pub kept_own : (k : Kind) (xs : List ℕ) → is_line_comment k ≡ false → kept_of k xs ≡ xs
@@ -370,12 +370,12 @@ kept_own _ xs h = refl
 
 -- a text that is at its end
 pub stop_next : (old new : Cleared) (text : List ℕ) → new ≡ old → new ≡ Sound [] text → IsNext old (Ok None) new
-unfolding IsNext text_behind
-stop_next old new text same e = (sym same ∙ (e ∙ ap (Sound []) (sym (ap text_behind e))), same)
+unfolding IsNext text_after
+stop_next old new text same e = (sym same ∙ (e ∙ ap (Sound []) (sym (ap text_after e))), same)
 
-pub stop_behind : (new : Cleared) (text : List ℕ) → new ≡ Sound [] text → text_behind new ≡ text
-unfolding text_behind
-stop_behind new text e = ap text_behind e
+pub stop_after : (new : Cleared) (text : List ℕ) → new ≡ Sound [] text → text_after new ≡ text
+unfolding text_after
+stop_after new text e = ap text_after e
 
 pub left_new : (is_logical : Bool) (text : List ℕ) (l m : Option ℕ) → l ≡ m → onto (joined is_logical []) (left_in l Plain (joined is_logical text)) ≡ cleared m (joined is_logical text)
 unfolding cleared
@@ -394,7 +394,7 @@ sound_end l mode text found t e f = left_end l mode text t ∙ (ap (λ o. told o
 
 -- a reader that went on
 pub record IsMore (old new : KeptBytes) : Type 0 where
-  pub same : left new ≡ left_behind old
+  pub same : left new ≡ left_after old
   pub less : length new.rest.now < length old.rest.now
 
 pub more : (old new : KeptBytes) (x : Bool) → IsAdvanced old (Ok x) new → x ≡ true → IsMore old new
@@ -404,7 +404,7 @@ more old new false a e = absurd (false≢true e)
 
 -- a reader at the end
 pub record IsLast (old new : KeptBytes) : Type 0 where
-  pub end : left_behind old ≡ Sound [] (joined old.is_logical old.rest.now)
+  pub end : left_after old ≡ Sound [] (joined old.is_logical old.rest.now)
   pub same : new ≡ old
 
 pub last : (old new : KeptBytes) (x : Bool) → IsAdvanced old (Ok x) new → x ≡ false → IsLast old new
@@ -413,18 +413,18 @@ last old new true a e = absurd (false≢true (sym e))
 last old new false a e = record { end = a.0; same = a.1 }
 
 pub last_left : (old new : KeptBytes) → IsLast old new → joined old.is_logical old.token.now ≡ [] → left new ≡ Sound [] (joined old.is_logical old.rest.now)
-last_left old new a e = ap left a.same ∙ (kept_none (joined old.is_logical old.token.now) (left_behind old) e ∙ a.end)
+last_left old new a e = ap left a.same ∙ (kept_none (joined old.is_logical old.token.now) (left_after old) e ∙ a.end)
 
-pub last_behind : (old new : KeptBytes) → IsLast old new → joined old.is_logical old.token.now ≡ [] → text_behind (left new) ≡ joined new.is_logical new.rest.now
-last_behind old new a e = stop_behind (left new) (joined old.is_logical old.rest.now) (last_left old new a e) ∙ sym (ap (λ x. joined x.is_logical x.rest.now) a.same)
+pub last_after : (old new : KeptBytes) → IsLast old new → joined old.is_logical old.token.now ≡ [] → text_after (left new) ≡ joined new.is_logical new.rest.now
+last_after old new a e = stop_after (left new) (joined old.is_logical old.rest.now) (last_left old new a e) ∙ sym (ap (λ x. joined x.is_logical x.rest.now) a.same)
 
-pub passed_behind : (old new : KeptBytes) → IsMore old new → text_behind (left_behind new) ≡ text_behind (left_behind old)
-passed_behind old new a = sym (behind_onto (left new) (left_behind new) (joined new.is_logical new.token.now) refl) ∙ ap text_behind a.same
+pub passed_after : (old new : KeptBytes) → IsMore old new → text_after (left_after new) ≡ text_after (left_after old)
+passed_after old new a = sym (after_onto (left new) (left_after new) (joined new.is_logical new.token.now) refl) ∙ ap text_after a.same
 
-pub ended_behind : (old new : KeptBytes) → IsLast old new → old.is_logical ≡ false → new.rest.now ≡ text_behind (left_behind old)
-unfolding text_behind joined
-ended_behind old new a e =
-    ap (λ (x : KeptBytes). x.rest.now) a.same ∙ sym (ap text_behind a.end ∙ ap (λ l. joined l old.rest.now) e)
+pub ended_after : (old new : KeptBytes) → IsLast old new → old.is_logical ≡ false → new.rest.now ≡ text_after (left_after old)
+unfolding text_after joined
+ended_after old new a e =
+    ap (λ (x : KeptBytes). x.rest.now) a.same ∙ sym (ap text_after a.end ∙ ap (λ l. joined l old.rest.now) e)
 
 -- A text with neither a `\` nor a `/` is kept as it stands.
 
@@ -450,10 +450,10 @@ piece_byte : (b : ℕ) → is_piece_byte b ≡ true → IsPieceByte b
 unfolding is_piece_byte
 piece_byte b h = let p = or_parts (eqb b 92) (eqb b 47) (not-true _ h) in record { backslash = p.0; slash = p.1 }
 
-piece_behind : (n : ℕ) (text : List ℕ) → is_one_piece text ≡ true → is_one_piece (drop n text) ≡ true
-piece_behind zero text h = h
-piece_behind (suc n) [] h = h
-piece_behind (suc n) (b ∷ bs) h = piece_behind n bs (and_parts (is_piece_byte b) _ h).1
+piece_after : (n : ℕ) (text : List ℕ) → is_one_piece text ≡ true → is_one_piece (drop n text) ≡ true
+piece_after zero text h = h
+piece_after (suc n) [] h = h
+piece_after (suc n) (b ∷ bs) h = piece_after n bs (and_parts (is_piece_byte b) _ h).1
 
 -- it has no continuation
 joined_piece : (text : List ℕ) → is_one_piece text ≡ true → joined true text ≡ text
@@ -511,7 +511,7 @@ piece_left (suc fuel) m (b ∷ bs) le h =
     let part = token_of-part m T some in
     let after = drop t.len T in
     let slash = (piece_byte b (and_parts (is_piece_byte b) (is_one_piece bs) h).0).slash in
-    let later : left_in None t.next_mode after ≡ told (lex_fault_from t.next_mode after) after = piece_left fuel t.next_mode after (omega (arith, length-drop t.len T, part.not_empty)) (piece_behind t.len T h) in
+    let later : left_in None t.next_mode after ≡ told (lex_fault_from t.next_mode after) after = piece_left fuel t.next_mode after (omega (arith, length-drop t.len T, part.not_empty)) (piece_after t.len T h) in
     let own : kept_of t.kind (take t.len T) ≡ take t.len T = kept_own t.kind (take t.len T) (no_comment m T (piece_first b bs slash)) in
     let P : Bool → Type 0 = λ p. is_perl t.kind ≡ p → cond p (Unsound Perl) (onto (kept_of t.kind (take t.len T)) (left_in None t.next_mode after)) ≡ told (lex_fault_from m T) T in
     let perl : P true = λ e. sym (ap (λ f. told f T) (fault-perl m T some e)) in
@@ -541,9 +541,9 @@ pub sound_measured : (c : Cleared) (text part : List ℕ) → c ≡ Sound text [
 unfolding trimmed_len
 sound_measured c text part e p = ap (trimmed_len (trims false)) e ∙ ap (λ xs. ok_len (length xs)) (sym p)
 
-pub sound_nothing : (is_logical : Bool) (c : Cleared) (text : List ℕ) → c ≡ Sound text [] → text_behind c ≡ joined is_logical []
-unfolding text_behind
-sound_nothing is_logical c text e = ap text_behind e ∙ sym (none_first is_logical [] refl)
+pub sound_nothing : (is_logical : Bool) (c : Cleared) (text : List ℕ) → c ≡ Sound text [] → text_after c ≡ joined is_logical []
+unfolding text_after
+sound_nothing is_logical c text e = ap text_after e ∙ sym (none_first is_logical [] refl)
 
 -- what is left of a text that was measured is its part between the blanks at both ends
 pub measured_part : (is_logical : Bool) (text : List ℕ) (len : ℕ) → is_one_piece text ≡ true → trimmed_len (trims false) (cleared None (joined is_logical text)) ≡ Ok len

@@ -26,4 +26,4 @@ pub record IsRead (is_logical : Bool) (mode : Mode) (text : List ℕ) (t : Token
   pub kind : t.kind ≡ (token_of mode (joined is_logical text)).kind
   pub next_mode : t.next_mode ≡ (token_of mode (joined is_logical text)).next_mode
   pub bytes : kept_of t.kind (joined is_logical (take t.len text)) ≡ kept_of t.kind (take (token_of mode (joined is_logical text)).len (joined is_logical text))
-  pub behind : joined is_logical (drop t.len text) ≡ drop (token_of mode (joined is_logical text)).len (joined is_logical text)
+  pub following : joined is_logical (drop t.len text) ≡ drop (token_of mode (joined is_logical text)).len (joined is_logical text)

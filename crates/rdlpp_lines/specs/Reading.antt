@@ -7,12 +7,12 @@ use Rattle.rdlpp_lines.specs.Texts.{Cleared, Sound, Unsound, onto, left_in}
 use Rattle.rdlpp_scan.specs.declared.token.LexFault.{LexFault}
 
 -- what is left of the text behind the token that is read, or its first fault
-abbrev pub left_behind : KeptBytes → Cleared
-left_behind bytes = left_in bytes.level bytes.mode (joined bytes.is_logical bytes.rest.now)
+abbrev pub left_after : KeptBytes → Cleared
+left_after bytes = left_in bytes.level bytes.mode (joined bytes.is_logical bytes.rest.now)
 
 -- what is left of the text without its `//` comments, or its first fault
 abbrev pub left : KeptBytes → Cleared
-left bytes = onto (joined bytes.is_logical bytes.token.now) (left_behind bytes)
+left bytes = onto (joined bytes.is_logical bytes.token.now) (left_after bytes)
 
 -- how many bytes weren't read yet
 abbrev pub unread : KeptBytes → ℕ
@@ -24,6 +24,6 @@ LevelFits bytes = unwrap_or bytes.level 0 + length bytes.rest.now ≤ 1844674407
 
 -- what going on to the next token does
 unfoldable pub IsAdvanced : KeptBytes → Result Bool LexFault → KeptBytes → Type 0
-IsAdvanced old (Ok true) new = (left new ≡ left_behind old) × (length new.rest.now < length old.rest.now)
-IsAdvanced old (Ok false) new = (left_behind old ≡ Sound [] (joined old.is_logical old.rest.now)) × (new ≡ old)
-IsAdvanced old (Err fault) new = left_behind old ≡ Unsound fault
+IsAdvanced old (Ok true) new = (left new ≡ left_after old) × (length new.rest.now < length old.rest.now)
+IsAdvanced old (Ok false) new = (left_after old ≡ Sound [] (joined old.is_logical old.rest.now)) × (new ≡ old)
+IsAdvanced old (Err fault) new = left_after old ≡ Unsound fault

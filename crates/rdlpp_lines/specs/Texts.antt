@@ -41,10 +41,10 @@ ends_default Closer b = b == 41
 ends_default _ b = false
 
 -- the level behind a token: `(`, `[` and `{` raise it, `)`, `]` and `}` lower it where it isn't 0 (this project's profile)
-unfoldable pub level_behind : Kind → ℕ → ℕ
-level_behind Opener level = level + 1
-level_behind Closer level = level - 1
-level_behind _ level = level
+unfoldable pub level_after : Kind → ℕ → ℕ
+level_after Opener level = level + 1
+level_after Closer level = level - 1
+level_after _ level = level
 
 -- a text without its `//` comments and what stands behind it, or its first fault
 pub data Cleared : Type 0 where
@@ -53,7 +53,7 @@ pub data Cleared : Type 0 where
 
 -- bytes in front of what is left of a text
 unfoldable pub onto : List ℕ → Cleared → Cleared
-onto front (Sound rest behind) = Sound (front ++ rest) behind
+onto front (Sound rest following) = Sound (front ++ rest) following
 onto front (Unsound fault) = Unsound fault
 
 -- a fault, or else a text
@@ -67,7 +67,7 @@ stops_token (Some n) k b = n == 0 && ends_default k b
 
 -- the level behind a token
 abbrev pub level_by : Option ℕ → Kind → Option ℕ
-level_by l k = option_map (λ n. level_behind k n) l
+level_by l k = option_map (λ n. level_after k n) l
 
 -- the bytes of a token that are kept
 abbrev pub kept_bytes : Token → List ℕ → List ℕ
@@ -101,28 +101,28 @@ trims false b = is_blank b
 
 -- what is left without the bytes of a class at both ends
 unfoldable pub trimmed_left : (ℕ → Bool) → Cleared → List ℕ
-trimmed_left class (Sound rest behind) = trimmed_of class rest
+trimmed_left class (Sound rest following) = trimmed_of class rest
 trimmed_left class (Unsound fault) = []
 
 -- its length, or the fault
 unfoldable pub trimmed_len : (ℕ → Bool) → Cleared → Result ℕ LexFault
-trimmed_len class (Sound rest behind) = Ok (length (trimmed_of class rest))
+trimmed_len class (Sound rest following) = Ok (length (trimmed_of class rest))
 trimmed_len class (Unsound fault) = Err fault
 
 -- what stands behind what is left
-unfoldable pub text_behind : Cleared → List ℕ
-text_behind (Sound rest behind) = behind
-text_behind (Unsound fault) = []
+unfoldable pub text_after : Cleared → List ℕ
+text_after (Sound rest following) = following
+text_after (Unsound fault) = []
 
 -- the next byte of what is left, and what is left behind it
 unfoldable pub IsNext : Cleared → Result (Option ℕ) LexFault → Cleared → Type 0
 IsNext old (Ok (Some b)) new = old ≡ onto (b ∷ []) new
-IsNext old (Ok None) new = (old ≡ Sound [] (text_behind new)) × (new ≡ old)
+IsNext old (Ok None) new = (old ≡ Sound [] (text_after new)) × (new ≡ old)
 IsNext old (Err fault) new = old ≡ Unsound fault
 
 -- what is left of a text behind the bytes of a class with which it begins
 unfoldable pub begun : (ℕ → Bool) → Cleared → Cleared
-begun class (Sound rest behind) = Sound (drop (prefix_len class rest) rest) behind
+begun class (Sound rest following) = Sound (drop (prefix_len class rest) rest) following
 begun class (Unsound fault) = Unsound fault
 
 -- how long a text is without the bytes of a class at its end, where so many bytes stand before it, of which so many end without one
@@ -132,20 +132,20 @@ len_from class count end (b ∷ bs) = len_from class (count + 1) (if class b the
 
 -- the same of what is left, or its fault
 unfoldable pub ended_len : (ℕ → Bool) → ℕ → ℕ → Cleared → Result ℕ LexFault
-ended_len class count end (Sound rest behind) = Ok (len_from class count end rest)
+ended_len class count end (Sound rest following) = Ok (len_from class count end rest)
 ended_len class count end (Unsound fault) = Err fault
 
 -- the bytes that are left, none where there is a fault
 unfoldable pub bytes_left : Cleared → List ℕ
-bytes_left (Sound rest behind) = rest
+bytes_left (Sound rest following) = rest
 bytes_left (Unsound fault) = []
 
 -- whether there is no fault
 unfoldable pub is_sound : Cleared → Bool
-is_sound (Sound rest behind) = true
+is_sound (Sound rest following) = true
 is_sound (Unsound fault) = false
 
 -- what is left from a byte on that was found
 unfoldable pub found_left : Option ℕ → Cleared → Cleared
-found_left (Some b) behind = onto (b ∷ []) behind
-found_left None behind = Sound [] (text_behind behind)
+found_left (Some b) following = onto (b ∷ []) following
+found_left None following = Sound [] (text_after following)

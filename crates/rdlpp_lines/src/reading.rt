@@ -33,11 +33,11 @@ ghost use Rattle.rdlpp_lines.specs.Texts.{
   cleared,
   is_space,
   ends_default,
-  level_behind,
+  level_after,
   level_by,
   start_level,
   stops_token,
-  text_behind,
+  text_after,
   trimmed_left,
   trimmed_len,
   trims,
@@ -81,10 +81,10 @@ fn stops_token(level: Option<usize>, kind: Kind, b: u8) -> bool
 }
 
 // The level behind a token.
-#[tactic(auto, unfolding(crate::specs::Texts::level_behind))]
-fn level_behind(kind: Kind, level: usize) -> usize
+#[tactic(auto, unfolding(crate::specs::Texts::level_after))]
+fn level_after(kind: Kind, level: usize) -> usize
     requires { level < 18446744073709551615 }
-    ensures value { result ≡ level_behind kind level }
+    ensures value { result ≡ level_after kind level }
     ensures small { result ≤ level + 1 }
 {
     match kind {
@@ -101,7 +101,7 @@ fn level_by(level: Option<usize>, kind: Kind) -> Option<usize>
     ensures small { unwrap_or result 0 ≤ unwrap_or level 0 + 1 }
 {
     match level {
-        Some(level) => Some(level_behind(kind, level)),
+        Some(level) => Some(level_after(kind, level)),
         None => None,
     }
 }
@@ -197,7 +197,7 @@ impl<'a> KeptBytes<'a> {
         ensures next { IsNext (left self.old) result (left self.new) }
         ensures less { IfOk result (λ found. OnSome found (unread self.new < unread self.old)) }
         ensures inside { unread self.new ≤ unread self.old }
-        ensures end { IfOk result (λ found. IfNone found (text_behind (left self.new) ≡ joined self.new.is_logical self.new.rest.now)) }
+        ensures end { IfOk result (λ found. IfNone found (text_after (left self.new) ≡ joined self.new.is_logical self.new.rest.now)) }
         ensures same { self.new.is_logical ≡ self.old.is_logical }
         ensures fits { LevelFits self.new }
     {
@@ -221,7 +221,7 @@ impl<'a> KeptBytes<'a> {
         ensures less { IfOk result (λ found. OnSome found (unread self.new < unread self.old)) }
         ensures inside { unread self.new ≤ unread self.old }
         ensures some { IfOk result (λ found. IfSome found (λ b. trims is_default b ≡ false)) }
-        ensures end { IfOk result (λ found. IfNone found (text_behind (left self.new) ≡ joined self.new.is_logical self.new.rest.now)) }
+        ensures end { IfOk result (λ found. IfNone found (text_after (left self.new) ≡ joined self.new.is_logical self.new.rest.now)) }
         ensures same { self.new.is_logical ≡ self.old.is_logical }
         ensures fits { LevelFits self.new }
     {
@@ -245,7 +245,7 @@ pub struct Measured<'a> {
     /// Its length in bytes.
     pub len: usize,
     /// What stands behind it: nothing behind a body.
-    pub behind: &'a [u8],
+    pub following: &'a [u8],
 }
 
 /// Measures a body, or the default text with which a text begins: its length without its `//`
@@ -267,8 +267,8 @@ pub fn trimmed_len(
     is_default: bool,
 ) -> Result<Measured<'_>, LexFault>
     ensures len { MatchResult result (λ measured. trimmed_len (trims is_default) (cleared (start_level is_default) (joined is_logical text.now)) ≡ Ok measured.len) (λ fault. trimmed_len (trims is_default) (cleared (start_level is_default) (joined is_logical text.now)) ≡ Err fault) }
-    ensures behind { IfOk result (λ measured. text_behind (cleared (start_level is_default) (joined is_logical text.now)) ≡ joined is_logical measured.behind.now) }
-    ensures inside { IfOk result (λ measured. measured.len + length measured.behind.now ≤ length text.now) }
+    ensures following { IfOk result (λ measured. text_after (cleared (start_level is_default) (joined is_logical text.now)) ≡ joined is_logical measured.following.now) }
+    ensures inside { IfOk result (λ measured. measured.len + length measured.following.now ≤ length text.now) }
 {
     if !is_default && is_one_piece(text) {
         return piece_len(text, is_logical);
@@ -280,14 +280,14 @@ pub fn trimmed_len(
 fn piece_len(text: &[u8], is_logical: bool) -> Result<Measured<'_>, LexFault>
     requires { is_one_piece text.now ≡ true }
     ensures len { MatchResult result (λ measured. trimmed_len (trims false) (cleared None (joined is_logical text.now)) ≡ Ok measured.len) (λ fault. trimmed_len (trims false) (cleared None (joined is_logical text.now)) ≡ Err fault) }
-    ensures behind { IfOk result (λ measured. text_behind (cleared None (joined is_logical text.now)) ≡ joined is_logical measured.behind.now) }
-    ensures inside { IfOk result (λ measured. measured.len + length measured.behind.now ≤ length text.now) }
+    ensures following { IfOk result (λ measured. text_after (cleared None (joined is_logical text.now)) ≡ joined is_logical measured.following.now) }
+    ensures inside { IfOk result (λ measured. measured.len + length measured.following.now ≤ length text.now) }
 {
     match lex_fault(text) {
         Some(fault) => Err(fault),
         None => Ok(Measured {
             len: trimmed(text).len(),
-            behind: &[],
+            following: &[],
         }),
     }
 }
@@ -295,15 +295,15 @@ fn piece_len(text: &[u8], is_logical: bool) -> Result<Measured<'_>, LexFault>
 // Measures a text by the bytes that are kept, one after another.
 fn kept_len(text: &[u8], is_logical: bool, is_default: bool) -> Result<Measured<'_>, LexFault>
     ensures len { MatchResult result (λ measured. trimmed_len (trims is_default) (cleared (start_level is_default) (joined is_logical text.now)) ≡ Ok measured.len) (λ fault. trimmed_len (trims is_default) (cleared (start_level is_default) (joined is_logical text.now)) ≡ Err fault) }
-    ensures behind { IfOk result (λ measured. text_behind (cleared (start_level is_default) (joined is_logical text.now)) ≡ joined is_logical measured.behind.now) }
-    ensures inside { IfOk result (λ measured. measured.len + length measured.behind.now ≤ length text.now) }
+    ensures following { IfOk result (λ measured. text_after (cleared (start_level is_default) (joined is_logical text.now)) ≡ joined is_logical measured.following.now) }
+    ensures inside { IfOk result (λ measured. measured.len + length measured.following.now ≤ length text.now) }
 {
     let mut bytes = KeptBytes::new(text, is_logical, is_default);
     match bytes.next_untrimmed(is_default) {
         Ok(Some(_)) => {}
         Ok(None) => return Ok(Measured {
             len: 0,
-            behind: bytes.rest(),
+            following: bytes.rest(),
         }),
         Err(fault) => return Err(fault),
     }
@@ -319,7 +319,7 @@ fn kept_len(text: &[u8], is_logical: bool, is_default: bool) -> Result<Measured<
             }
             Ok(None) => return Ok(Measured {
                 len: end,
-                behind: bytes.rest(),
+                following: bytes.rest(),
             }),
             Err(fault) => return Err(fault),
         }
@@ -365,8 +365,8 @@ fn append_kept(to: &mut Vec<u8>, text: &[u8], is_logical: bool, is_default: bool
 /// byte is a continuation; nothing where the default text has a fault or goes up to the end.
 ///
 /// Costs time linear in the default text's length.
-pub fn behind_default(bytes: &[u8]) -> &[u8]
-    ensures value { result.now ≡ text_behind (cleared (Some 0) bytes.now) }
+pub fn after_default(bytes: &[u8]) -> &[u8]
+    ensures value { result.now ≡ text_after (cleared (Some 0) bytes.now) }
     ensures inside { length result.now ≤ length bytes.now }
 {
     // Most default texts are simple bytes alone, or nothing. None of these ends one or hides its end: the next byte tells.
@@ -375,7 +375,7 @@ pub fn behind_default(bytes: &[u8]) -> &[u8]
     if next == b',' || next == b')' {
         return &bytes[len..];
     }
-    behind_by_tokens(&bytes[len..])
+    after_by_tokens(&bytes[len..])
 }
 
 // How many simple bytes a text begins with.
@@ -403,8 +403,8 @@ fn is_simple(b: u8) -> bool
 
 // What stands behind a default text, token by token.
 #[inline(never)]
-fn behind_by_tokens(bytes: &[u8]) -> &[u8]
-    ensures value { result.now ≡ text_behind (cleared (Some 0) bytes.now) }
+fn after_by_tokens(bytes: &[u8]) -> &[u8]
+    ensures value { result.now ≡ text_after (cleared (Some 0) bytes.now) }
     ensures inside { length result.now ≤ length bytes.now }
 {
     let mut reader = KeptBytes::new(bytes, false, true);

@@ -9,11 +9,11 @@ use Rattle.rdlpp_scan.specs.declared.token.Directive.TheVariants.{Define, Else, 
 use Rattle.rdlpp_scan.specs.declared.token.Kind.TheVariants.{Blank, Name, Str}
 use Rattle.rdlpp_table.specs.Table.{without}
 use Rattle.rdlpp_meaning.specs.Expansion.{bytes_of}
-use Rattle.rdlpp_meaning.specs.Meaning.{Checked, NameFault, Fine, Holds, IncludedMeaning, Passage, Progress, Renumbered, TestFault, Test, added_end, at_start_of, back_in, begun, behind_bytes, by_test, defines, goes_on, in_conditional, includes, includes_found, includes_given, includes_named, leaves, macro_name, mean, included_meaning_of, opening, origin_line, refusal, renumbered, renumbers, single, text_meaning, turn, turned, undefines, unquoted}
+use Rattle.rdlpp_meaning.specs.Meaning.{Checked, NameFault, Fine, Holds, IncludedMeaning, Passage, Progress, Renumbered, TestFault, Test, added_end, at_start_of, back_in, begun, after_bytes, by_test, defines, goes_on, in_conditional, includes, includes_found, includes_given, includes_named, leaves, macro_name, mean, included_meaning_of, opening, origin_line, refusal, renumbered, renumbers, single, text_meaning, turn, turned, undefines, unquoted}
 use Rattle.rdlpp_meaning.specs.Opened.{Waiting, all_resumed, ending_of, unwound, waiting}
 use Rattle.rdlpp_meaning.specs.Outcome.{Outcome, Report, fails, gives}
-use Rattle.rdlpp_meaning.specs.Parts.{Argument, Branching, Closing, Command, Opening, Piece, Single, argument_of, behind_blanks, behind_directive, command_in_front, command_of, directive_of, line_ends_of, name_in_front, no_argument, one_argument, only_blanks, parts_of, past_blanks, piece_of, pieces, string_in_front}
-use Rattle.rdlpp_meaning.specs.Resumed.{Live, Place, Skipped, behind, resume, resumed}
+use Rattle.rdlpp_meaning.specs.Parts.{Argument, Branching, Closing, Command, Opening, Piece, Single, argument_of, after_blanks, after_directive, command_in_front, command_of, directive_of, line_ends_of, name_in_front, no_argument, one_argument, only_blanks, parts_of, past_blanks, piece_of, pieces, string_in_front}
+use Rattle.rdlpp_meaning.specs.Resumed.{Live, Place, Skipped, following, resume, resumed}
 use Rattle.rdlpp_meaning.specs.State.{Accepted, Defined, LongPath, Lookup, NoSource, DefinitionFault, Rules, Source, State, fault_at, shown_line}
 use Rattle.rdlpp_meaning.specs.declared.fault.FaultKind.{FaultKind}
 use Rattle.rdlpp_meaning.specs.declared.fault.FaultKind.TheVariants.{BadLine, IncludeName, PathTooLong, SourceNotFound, TooManyIncludes}
@@ -73,8 +73,8 @@ module _ (P : List SourceToken → Argument → Type 0) (none : (ts : List Sourc
     -- what stands behind blanks, by what is given, and by what the first token is
     blanks : (bytes : List ℕ) (line : ℕ) (ts : List SourceToken) (given : Option (List ℕ)) (text : List ℕ) (used : ℕ) → P ts (record { given = given; text = text; used = used })
         → let t : SourceToken = record { sort = Ordinary Blank; bytes = bytes; line = line } in
-        P (t ∷ ts) (behind_blanks t (record { given = given; text = text; used = used }))
-    unfolding behind_blanks
+        P (t ∷ ts) (after_blanks t (record { given = given; text = text; used = used }))
+    unfolding after_blanks
     blanks bytes line ts None text used h = none _
     blanks bytes line ts (Some x) text used h = blank bytes line ts x text used h
 
@@ -110,7 +110,7 @@ argument_takes d ts =
 pub pieces_directive : (d : Directive) (first : Bool) (t : SourceToken) (ts : List SourceToken) → directive_of t ≡ Some d
     → pieces first 0 (t ∷ ts)
     ≡ piece_of (command_in_front d first t ts)
-    ∷ pieces (only_blanks first (command_in_front d first t ts).text) 0 (behind_directive d ts)
+    ∷ pieces (only_blanks first (command_in_front d first t ts).text) 0 (after_directive d ts)
 unfolding pieces command_of
 pieces_directive d first t ts e =
     let a = argument_of d ts in
@@ -126,10 +126,10 @@ pieces_directive d first t ts e =
 pub directive_piece : (rules : Rules) (place : Place) (d : Directive) (first : Bool) (t : SourceToken) (ts : List SourceToken) (s : State) (p : Piece)
     → directive_of t ≡ Some d → piece_of (command_in_front d first t ts) ≡ p
     → resumed rules place first (t ∷ ts) s
-    ≡ resume rules (included_meaning_of rules s.sources_left) place (p ∷ pieces (only_blanks first (command_in_front d first t ts).text) 0 (behind_directive d ts)) s
+    ≡ resume rules (included_meaning_of rules s.sources_left) place (p ∷ pieces (only_blanks first (command_in_front d first t ts).text) 0 (after_directive d ts)) s
 unfolding resumed
 directive_piece rules place d first t ts s p e is =
-    let rest = pieces (only_blanks first (command_in_front d first t ts).text) 0 (behind_directive d ts) in
+    let rest = pieces (only_blanks first (command_in_front d first t ts).text) 0 (after_directive d ts) in
     ap (λ (ps : List Piece). resume rules (included_meaning_of rules s.sources_left) place ps s) (pieces_directive d first t ts e ∙ ap (λ (x : Piece). x ∷ rest) is)
 
 -- a passage without a fault keeps how many more sources may be opened
@@ -165,8 +165,8 @@ undefines_keeps (NameFault kind word) c s e = refl
 
 -- an included text keeps it, by its fault
 within_keeps : (x y : List ℕ) (bytes : List ℕ) (f : Option Report) (after s : State)
-    → Keeps s (behind_bytes x (goes_on (record { bytes = bytes; fault = f; after = after }) (λ a. leaves (gives y) (back_in s a))))
-unfolding Keeps behind_bytes goes_on leaves back_in
+    → Keeps s (after_bytes x (goes_on (record { bytes = bytes; fault = f; after = after }) (λ a. leaves (gives y) (back_in s a))))
+unfolding Keeps after_bytes goes_on leaves back_in
 within_keeps x y bytes (Some f) after s e = cc
 within_keeps x y bytes None after s e = refl
 
@@ -231,7 +231,7 @@ on_after_by : (x : List ℕ) (f : Option Report) (s : State) (g h : State → Pa
     → goes_on (record { bytes = x; fault = f; after = s }) g ≡ goes_on (record { bytes = x; fault = f; after = s }) h
 unfolding goes_on
 on_after_by x (Some f) s g h e = refl
-on_after_by x None s g h e = ap (λ (p : Passage). behind_bytes x p) (e refl)
+on_after_by x None s g h e = ap (λ (p : Passage). after_bytes x p) (e refl)
 
 -- only what goes on from its own state counts behind a passage, and only where it has no fault
 pub on_after : (p : Passage) (g h : State → Passage) → (p.fault ≡ None → g p.after ≡ h p.after) → goes_on p g ≡ goes_on p h
@@ -250,14 +250,14 @@ pub live_single : (rules : Rules) (os : List Progress) (d : Directive) (first : 
     → directive_of t ≡ Some d → piece_of (command_in_front d first t ts) ≡ Single (command_in_front d first t ts)
     → resumed rules (Live os) first (t ∷ ts) s
     ≡ goes_on (single rules (included_meaning_of rules s.sources_left) (command_in_front d first t ts) s)
-    (λ after. behind rules (Live os) d first t ts after)
+    (λ after. following rules (Live os) d first t ts after)
 unfolding resume resumed Keeps
 live_single rules os d first t ts s e p =
     let c = command_in_front d first t ts in
-    let rest = pieces (only_blanks first c.text) 0 (behind_directive d ts) in
+    let rest = pieces (only_blanks first c.text) 0 (after_directive d ts) in
     let included_meaning = included_meaning_of rules s.sources_left in
     directive_piece rules (Live os) d first t ts s (Single c) e p
-    ∙ on_after (single rules included_meaning c s) (λ after. resume rules included_meaning (Live os) rest after) (λ after. behind rules (Live os) d first t ts after)
+    ∙ on_after (single rules included_meaning c s) (λ after. resume rules included_meaning (Live os) rest after) (λ after. following rules (Live os) d first t ts after)
     (λ f. ap (λ (n : ℕ). resume rules (included_meaning_of rules n) (Live os) rest (single rules included_meaning c s).after) (sym (single_keeps rules included_meaning c s f)))
 
 -- in live text, a directive that opens a conditional
@@ -265,8 +265,8 @@ pub live_opening : (rules : Rules) (os : List Progress) (d : Directive) (first :
     → directive_of t ≡ Some d → piece_of (command_in_front d first t ts) ≡ Opening (command_in_front d first t ts)
     → resumed rules (Live os) first (t ∷ ts) s
     ≡ by_test (opening (command_in_front d first t ts) s) (command_in_front d first t ts) s
-    (λ u. behind rules (Live (begun (command_in_front d first t ts) u true ∷ os)) d first t ts (in_conditional u))
-    (λ u. behind rules (Skipped 0 (begun (command_in_front d first t ts) u false) os) d first t ts (in_conditional u))
+    (λ u. following rules (Live (begun (command_in_front d first t ts) u true ∷ os)) d first t ts (in_conditional u))
+    (λ u. following rules (Skipped 0 (begun (command_in_front d first t ts) u false) os) d first t ts (in_conditional u))
 unfolding resume resumed in_conditional
 live_opening rules os d first t ts s e p =
     let c = command_in_front d first t ts in
@@ -277,8 +277,8 @@ pub live_branching : (rules : Rules) (o : Progress) (os : List Progress) (d : Di
     → directive_of t ≡ Some d → piece_of (command_in_front d first t ts) ≡ Branching (command_in_front d first t ts)
     → resumed rules (Live (o ∷ os)) first (t ∷ ts) s
     ≡ by_test (turn o (command_in_front d first t ts) s) (command_in_front d first t ts) s
-    (λ u. behind rules (Live (turned o (command_in_front d first t ts) true ∷ os)) d first t ts u)
-    (λ u. behind rules (Skipped 0 (turned o (command_in_front d first t ts) false) os) d first t ts u)
+    (λ u. following rules (Live (turned o (command_in_front d first t ts) true ∷ os)) d first t ts u)
+    (λ u. following rules (Skipped 0 (turned o (command_in_front d first t ts) false) os) d first t ts u)
 unfolding resume resumed
 live_branching rules o os d first t ts s e p =
     let c = command_in_front d first t ts in
@@ -288,8 +288,8 @@ pub skipped_branching : (rules : Rules) (o : Progress) (os : List Progress) (d :
     → directive_of t ≡ Some d → piece_of (command_in_front d first t ts) ≡ Branching (command_in_front d first t ts)
     → resumed rules (Skipped 0 o os) first (t ∷ ts) s
     ≡ by_test (turn o (command_in_front d first t ts) s) (command_in_front d first t ts) s
-    (λ u. behind rules (Live (turned o (command_in_front d first t ts) true ∷ os)) d first t ts u)
-    (λ u. behind rules (Skipped 0 (turned o (command_in_front d first t ts) false) os) d first t ts u)
+    (λ u. following rules (Live (turned o (command_in_front d first t ts) true ∷ os)) d first t ts u)
+    (λ u. following rules (Skipped 0 (turned o (command_in_front d first t ts) false) os) d first t ts u)
 unfolding resume resumed
 skipped_branching rules o os d first t ts s e p =
     let c = command_in_front d first t ts in
@@ -301,22 +301,22 @@ skipped_branching rules o os d first t ts s e p =
 undef_in_front : (rules : Rules) (os : List Progress) (first : Bool) (t : SourceToken) (ts : List SourceToken) (s : State) (name : Checked)
     → directive_of t ≡ Some Undef → macro_name (command_in_front Undef first t ts) ≡ name
     → resumed rules (Live os) first (t ∷ ts) s
-    ≡ goes_on (undefines name (command_in_front Undef first t ts) s) (λ after. behind rules (Live os) Undef first t ts after)
+    ≡ goes_on (undefines name (command_in_front Undef first t ts) s) (λ after. following rules (Live os) Undef first t ts after)
 unfolding single command_of piece_of
 undef_in_front rules os first t ts s name d e =
     let c = command_in_front Undef first t ts in
     live_single rules os Undef first t ts s d refl
-    ∙ ap (λ (n : Checked). goes_on (undefines n c s) (λ after. behind rules (Live os) Undef first t ts after)) e
+    ∙ ap (λ (n : Checked). goes_on (undefines n c s) (λ after. following rules (Live os) Undef first t ts after)) e
 
 -- an `undef` of a name takes out its macro, and then comes what remains behind it
 pub resumed_undef : (rules : Rules) (os : List Progress) (first : Bool) (t : SourceToken) (ts : List SourceToken) (s : State) (name : List ℕ)
     → directive_of t ≡ Some Undef → macro_name (command_in_front Undef first t ts) ≡ Fine name
     → resumed rules (Live os) first (t ∷ ts) s
-    ≡ behind rules (Live os) Undef first t ts (record s { macros = without name s.macros })
+    ≡ following rules (Live os) Undef first t ts (record s { macros = without name s.macros })
 unfolding undefines
 resumed_undef rules os first t ts s name d e =
     undef_in_front rules os first t ts s (Fine name) d e
-    ∙ goes_on-nil (record s { macros = without name s.macros }) (λ after. behind rules (Live os) Undef first t ts after)
+    ∙ goes_on-nil (record s { macros = without name s.macros }) (λ after. following rules (Live os) Undef first t ts after)
 
 -- an `undef` without a name, or of a reserved one, ends the output
 pub resumed_bad_undef : (rules : Rules) (os : List Progress) (first : Bool) (t : SourceToken) (ts : List SourceToken) (s : State) (kind : FaultKind) (word : List ℕ)
@@ -325,7 +325,7 @@ pub resumed_bad_undef : (rules : Rules) (os : List Progress) (first : Bool) (t :
 unfolding undefines
 resumed_bad_undef rules os first t ts s kind word d e =
     undef_in_front rules os first t ts s (NameFault kind word) d e
-    ∙ sym (refusal-goes_on kind word (command_in_front Undef first t ts) s (λ after. behind rules (Live os) Undef first t ts after))
+    ∙ sym (refusal-goes_on kind word (command_in_front Undef first t ts) s (λ after. following rules (Live os) Undef first t ts after))
 
 -- whether a directive wants the name of a macro
 unfoldable pub wants_name : Directive → Bool
@@ -359,10 +359,10 @@ unfolding past_blanks name_in_front one_argument
 takes_name_at_once d name l ts e = takes_name d (name_token name l ∷ ts) e
 
 -- where blanks and a name stand
-pub takes_name_behind_blanks : (d : Directive) (blanks name : List ℕ) (k l : ℕ) (ts : List SourceToken) → wants_name d ≡ true
+pub takes_name_after_blanks : (d : Directive) (blanks name : List ℕ) (k l : ℕ) (ts : List SourceToken) → wants_name d ≡ true
     → argument_of d (blank_token blanks k ∷ name_token name l ∷ ts) ≡ record { given = Some name; text = blanks ++ name; used = 2 }
-unfolding past_blanks name_in_front one_argument behind_blanks
-takes_name_behind_blanks d blanks name k l ts e = takes_name d (blank_token blanks k ∷ name_token name l ∷ ts) e
+unfolding past_blanks name_in_front one_argument after_blanks
+takes_name_after_blanks d blanks name k l ts e = takes_name d (blank_token blanks k ∷ name_token name l ∷ ts) e
 
 -- What an `include` takes behind its word: a string that is closed on its line, behind blanks or at once.
 
@@ -383,11 +383,11 @@ unfolding argument_of past_blanks
 takes_string_at_once string l ts e = string_here string l ts e
 
 -- where blanks and a string stand
-pub takes_string_behind_blanks : (blanks string : List ℕ) (k l : ℕ) (ts : List SourceToken) → list_any is_line_end string ≡ false
+pub takes_string_after_blanks : (blanks string : List ℕ) (k l : ℕ) (ts : List SourceToken) → list_any is_line_end string ≡ false
     → argument_of Include (blank_token blanks k ∷ string_token string l ∷ ts) ≡ record { given = Some string; text = blanks ++ string; used = 2 }
-unfolding argument_of past_blanks behind_blanks
-takes_string_behind_blanks blanks string k l ts e =
-    ap (λ (a : Argument). behind_blanks (blank_token blanks k) a) (string_here string l ts e)
+unfolding argument_of past_blanks after_blanks
+takes_string_after_blanks blanks string k l ts e =
+    ap (λ (a : Argument). after_blanks (blank_token blanks k) a) (string_here string l ts e)
 
 -- The directive `line` in live text, in any open conditionals and where any sources wait: the name and the lines that its source
 -- shows from there on, or its fault.
@@ -421,7 +421,7 @@ line_in_front rules os first bytes line more s r e =
 pub resumed_renumbered : (rules : Rules) (os : List Progress) (bytes : List ℕ) (line : ℕ) (more : List SourceToken) (s : State) (r : Renumbered)
     → renumbered (drop 5 bytes) ≡ Some r
     → resumed rules (Live os) true (line_token bytes line ∷ more) s
-    ≡ behind_bytes (line_ends_of bytes ++ origin_line rules r.name r.number)
+    ≡ after_bytes (line_ends_of bytes ++ origin_line rules r.name r.number)
     (resumed rules (Live os) (only_blanks true bytes) more (renumbered_state s r line))
 unfolding renumbers
 resumed_renumbered rules os bytes line more s r e =
@@ -459,22 +459,22 @@ resumed_late_line rules os bytes line more s =
 
 -- bytes in front of a passage stay there where more goes on behind it, by its fault
 front_by : (x y : List ℕ) (f : Option Report) (s : State) (next : State → Passage)
-    → goes_on (behind_bytes x (record { bytes = y; fault = f; after = s })) next
-    ≡ behind_bytes x (goes_on (record { bytes = y; fault = f; after = s }) next)
-unfolding goes_on behind_bytes
+    → goes_on (after_bytes x (record { bytes = y; fault = f; after = s })) next
+    ≡ after_bytes x (goes_on (record { bytes = y; fault = f; after = s }) next)
+unfolding goes_on after_bytes
 front_by x y (Some f) s next = refl
 front_by x y None s next =
     ap (λ (z : List ℕ). record { bytes = z; fault = (next s).fault; after = (next s).after }) (append_assoc x y (next s).bytes)
 
 -- bytes in front of a passage stay there where more goes on behind it
-pub behind_bytes-goes_on : (x : List ℕ) (p : Passage) (next : State → Passage)
-    → goes_on (behind_bytes x p) next ≡ behind_bytes x (goes_on p next)
-behind_bytes-goes_on x p next = front_by x p.bytes p.fault p.after next
+pub after_bytes-goes_on : (x : List ℕ) (p : Passage) (next : State → Passage)
+    → goes_on (after_bytes x p) next ≡ after_bytes x (goes_on p next)
+after_bytes-goes_on x p next = front_by x p.bytes p.fault p.after next
 
 -- nothing behind a passage changes nothing, by its fault
 nothing_by : (x : List ℕ) (f : Option Report) (s : State)
     → goes_on (record { bytes = x; fault = f; after = s }) (λ after. leaves (gives []) after) ≡ record { bytes = x; fault = f; after = s }
-unfolding goes_on behind_bytes leaves gives
+unfolding goes_on after_bytes leaves gives
 nothing_by x (Some f) s = refl
 nothing_by x None s = ap (λ (z : List ℕ). record { bytes = z; fault = None; after = s }) (append-nil x)
 
@@ -520,13 +520,13 @@ include_in_front : (rules : Rules) (os : List Progress) (first : Bool) (t : Sour
     → directive_of t ≡ Some Include → (argument_of Include ts).given ≡ given
     → resumed rules (Live os) first (t ∷ ts) s
     ≡ goes_on (includes_given rules (included_meaning_of rules s.sources_left) given (command_in_front Include first t ts) s)
-    (λ after. behind rules (Live os) Include first t ts after)
+    (λ after. following rules (Live os) Include first t ts after)
 unfolding single command_of piece_of
 include_in_front rules os first t ts s given d e =
     let c = command_in_front Include first t ts in
     live_single rules os Include first t ts s d refl
     ∙ ap (λ (g : Option (List ℕ)). goes_on (includes_given rules (included_meaning_of rules s.sources_left) g c s)
-    (λ after. behind rules (Live os) Include first t ts after)) e
+    (λ after. following rules (Live os) Include first t ts after)) e
 
 -- an `include` without a string on its line is refused
 pub include_nameless : (rules : Rules) (os : List Progress) (first : Bool) (t : SourceToken) (ts : List SourceToken) (s : State)
@@ -535,7 +535,7 @@ pub include_nameless : (rules : Rules) (os : List Progress) (first : Bool) (t : 
 unfolding includes_given
 include_nameless rules os first t ts s d e =
     include_in_front rules os first t ts s None d e
-    ∙ sym (refusal-goes_on IncludeName [] (command_in_front Include first t ts) s (λ after. behind rules (Live os) Include first t ts after))
+    ∙ sym (refusal-goes_on IncludeName [] (command_in_front Include first t ts) s (λ after. following rules (Live os) Include first t ts after))
 
 -- an `include` that comes to a refusal
 include_refused : (rules : Rules) (os : List Progress) (first : Bool) (t : SourceToken) (ts : List SourceToken) (s : State) (string : List ℕ) (kind : FaultKind)
@@ -545,7 +545,7 @@ include_refused : (rules : Rules) (os : List Progress) (first : Bool) (t : Sourc
     → resumed rules (Live os) first (t ∷ ts) s ≡ refusal kind [] (command_in_front Include first t ts) s
 unfolding includes_given
 include_refused rules os first t ts s string kind d e r =
-    let next : State → Passage = λ after. behind rules (Live os) Include first t ts after in
+    let next : State → Passage = λ after. following rules (Live os) Include first t ts after in
     include_in_front rules os first t ts s (Some string) d e
     ∙ ap (λ (p : Passage). goes_on p next) r
     ∙ sym (refusal-goes_on kind [] (command_in_front Include first t ts) s next)
@@ -599,23 +599,23 @@ pub include_found : (rules : Rules) (os : List Progress) (first : Bool) (t : Sou
     → (length (unquoted string) == 0 || not (is_utf8 (unquoted string))) ≡ false → s.sources_left ≡ suc n
     → rules.find s.path (unquoted string) ≡ Source path text
     → resumed rules (Live os) first (t ∷ ts) s
-    ≡ behind_bytes (origin_line rules path 1)
+    ≡ after_bytes (origin_line rules path 1)
     (goes_on (resumed rules (Live []) true (rules.tokens text) (at_start_of path s)) (λ after.
-    behind_bytes (ending_of rules t s text) (behind rules (Live os) Include first t ts (back_in s after))))
+    after_bytes (ending_of rules t s text) (following rules (Live os) Include first t ts (back_in s after))))
 unfolding includes_given includes_found includes command_of
 include_found rules os first t ts s string n path text d e b left f =
     let c = command_in_front Include first t ts in
     let own = resumed rules (Live []) true (rules.tokens text) (at_start_of path s) in
     let back : State → Passage = λ after. leaves (gives (ending_of rules t s text)) (back_in s after) in
-    let next : State → Passage = λ after. behind rules (Live os) Include first t ts after in
+    let next : State → Passage = λ after. following rules (Live os) Include first t ts after in
     include_in_front rules os first t ts s (Some string) d e
     ∙ ap (λ (p : Passage). goes_on p next) (include_searched rules (unquoted string) c s n (Source path text) b left f)
-    ∙ ap (λ (p : Passage). goes_on (behind_bytes (origin_line rules path 1) (goes_on p back)) next) (included_resumed rules path text s n left)
-    ∙ behind_bytes-goes_on (origin_line rules path 1) (goes_on own back) next
-    ∙ ap (λ (p : Passage). behind_bytes (origin_line rules path 1) p)
+    ∙ ap (λ (p : Passage). goes_on (after_bytes (origin_line rules path 1) (goes_on p back)) next) (included_resumed rules path text s n left)
+    ∙ after_bytes-goes_on (origin_line rules path 1) (goes_on own back) next
+    ∙ ap (λ (p : Passage). after_bytes (origin_line rules path 1) p)
     (goes_on-assoc own back next
     ∙ goes_on-same own (λ after. goes_on (back after) next)
-    (λ after. behind_bytes (ending_of rules t s text) (next (back_in s after)))
+    (λ after. after_bytes (ending_of rules t s text) (next (back_in s after)))
     (λ after. goes_on-gives (ending_of rules t s text) (back_in s after) next))
 
 -- in a nest, an `include` that finds a source opens it, and the source that stood innermost waits
@@ -624,32 +624,32 @@ pub all_resumed_include : (rules : Rules) (ws : List Waiting) (os : List Progres
     → (length (unquoted string) == 0 || not (is_utf8 (unquoted string))) ≡ false → s.sources_left ≡ suc n
     → rules.find s.path (unquoted string) ≡ Source path text
     → all_resumed rules ws (Live os) first (t ∷ ts) s
-    ≡ behind_bytes (origin_line rules path 1)
+    ≡ after_bytes (origin_line rules path 1)
     (all_resumed rules (waiting rules os first t ts s text ∷ ws) (Live []) true (rules.tokens text) (at_start_of path s))
 unfolding all_resumed unwound waiting
 all_resumed_include rules ws os first t ts s string n path text d e b left f =
     let own = resumed rules (Live []) true (rules.tokens text) (at_start_of path s) in
     let further : State → Passage = λ after. unwound rules ws after in
-    let inner : State → Passage = λ after. behind rules (Live os) Include first t ts (back_in s after) in
-    let next : State → Passage = λ after. behind_bytes (ending_of rules t s text) (inner after) in
+    let inner : State → Passage = λ after. following rules (Live os) Include first t ts (back_in s after) in
+    let next : State → Passage = λ after. after_bytes (ending_of rules t s text) (inner after) in
     ap (λ (p : Passage). goes_on p further) (include_found rules os first t ts s string n path text d e b left f)
-    ∙ behind_bytes-goes_on (origin_line rules path 1) (goes_on own next) further
-    ∙ ap (λ (p : Passage). behind_bytes (origin_line rules path 1) p)
+    ∙ after_bytes-goes_on (origin_line rules path 1) (goes_on own next) further
+    ∙ ap (λ (p : Passage). after_bytes (origin_line rules path 1) p)
     (goes_on-assoc own next further
     ∙ goes_on-same own (λ after. goes_on (next after) further)
     (λ after. unwound rules (waiting rules os first t ts s text ∷ ws) after)
-    (λ after. behind_bytes-goes_on (ending_of rules t s text) (inner after) further))
+    (λ after. after_bytes-goes_on (ending_of rules t s text) (inner after) further))
 
 -- Moves in a nest of open sources: what the innermost one writes or changes, where any others wait for it.
 
 -- what the innermost source writes first, the nest writes first
-pub all_resumed_behind : (rules : Rules) (ws : List Waiting) (place new : Place) (first then_first : Bool) (ts us : List SourceToken) (s t : State) (x : List ℕ)
-    → resumed rules place first ts s ≡ behind_bytes x (resumed rules new then_first us t)
-    → all_resumed rules ws place first ts s ≡ behind_bytes x (all_resumed rules ws new then_first us t)
+pub all_resumed_after : (rules : Rules) (ws : List Waiting) (place new : Place) (first then_first : Bool) (ts us : List SourceToken) (s t : State) (x : List ℕ)
+    → resumed rules place first ts s ≡ after_bytes x (resumed rules new then_first us t)
+    → all_resumed rules ws place first ts s ≡ after_bytes x (all_resumed rules ws new then_first us t)
 unfolding all_resumed
-all_resumed_behind rules ws place new first then_first ts us s t x e =
+all_resumed_after rules ws place new first then_first ts us s t x e =
     ap (λ (p : Passage). goes_on p (λ after. unwound rules ws after)) e
-    ∙ behind_bytes-goes_on x (resumed rules new then_first us t) (λ after. unwound rules ws after)
+    ∙ after_bytes-goes_on x (resumed rules new then_first us t) (λ after. unwound rules ws after)
 
 -- a fault of the innermost source ends the nest
 pub all_resumed_fails : (rules : Rules) (ws : List Waiting) (place : Place) (first : Bool) (ts : List SourceToken) (s t : State) (f : Report)

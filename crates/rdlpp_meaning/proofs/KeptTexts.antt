@@ -7,7 +7,7 @@ use Rattle.std.proofs.lemmas.List.Elements.{All-append, All-cons, All-head, All-
 use Rattle.rdlpp_scan.specs.CleanTexts.{IsCleanText, IsCleanToken}
 use Rattle.rdlpp_scan.specs.Comments.{is_line_comment, other_texts, other_tokens, token_texts, without_line_comments}
 use Rattle.rdlpp_scan.specs.Front.{Breach, Break, CommentOpen, DefineCut, DefineLong, StringOpen}
-use Rattle.rdlpp_scan.specs.Pieces.{mode_behind, tokens_len}
+use Rattle.rdlpp_scan.specs.Pieces.{mode_after, tokens_len}
 use Rattle.rdlpp_scan.specs.SourceTokens.{Broken, Course, Definition, Last, Next, Ordinary, Renumbering, Sort, SourceToken, Step, broken, line_after, line_ends, open_end, source_end, source_step, source_tokens}
 use Rattle.rdlpp_scan.specs.TokenKinds.{is_one_byte, is_ordinary, opens_mode}
 use Rattle.rdlpp_scan.specs.Tokens.{token_of, tokens_from}
@@ -18,7 +18,7 @@ use Rattle.rdlpp_scan.specs.declared.token.Mode.TheVariants.{InBlock, InStr, Pla
 use Rattle.rdlpp_scan.specs.declared.token.Token.{Token}
 use Rattle.rdlpp_scan.proofs.CleanTexts.{clean_tokens, without-texts, without-tokens}
 use Rattle.rdlpp_scan.proofs.OrdinaryLaws.{Gives, IsTokenOf, source_step_gives}
-use Rattle.rdlpp_scan.proofs.RangeLaws.{tokens_from-behind_some, tokens_from-first, tokens_from-front}
+use Rattle.rdlpp_scan.proofs.RangeLaws.{tokens_from-after_some, tokens_from-first, tokens_from-front}
 use Rattle.rdlpp_scan.proofs.SourceLaws.{source_tokens-last, source_tokens-next}
 use Rattle.rdlpp_scan.proofs.StopKinds.{closed_kind_plain, one_byte_len}
 use Rattle.rdlpp_scan.proofs.TokenLens.{token_of-part, tokens_from-step}
@@ -101,15 +101,15 @@ tokens_fit (t ∷ ts) us m bs e =
 -- how tokens of a text are cut: those before the cut, and the others
 record IsSpelledCut (ts : List Token) (bs : List ℕ) (us vs : List SourceToken) : Type 0 where
   before : List Token
-  behind : List Token
-  whole : ts ≡ before ++ behind
+  following : List Token
+  whole : ts ≡ before ++ following
   front : spelled before bs ≡ us
-  back : spelled behind (drop (tokens_len before) bs) ≡ vs
+  back : spelled following (drop (tokens_len before) bs) ≡ vs
 
 -- tokens with their bytes are cut where the tokens are
 spelled_cut : (us vs : List SourceToken) (ts : List Token) (bs : List ℕ) → spelled ts bs ≡ us ++ vs → IsSpelledCut ts bs us vs
 unfolding spelled tokens_len
-spelled_cut [] vs ts bs e = record { before = []; behind = ts; whole = refl; front = refl; back = e }
+spelled_cut [] vs ts bs e = record { before = []; following = ts; whole = refl; front = refl; back = e }
 spelled_cut (u ∷ us) vs [] bs e = absurd (cc)
 spelled_cut (u ∷ us) vs (t ∷ ts) bs e =
     let own : SourceToken = record { sort = Ordinary t.kind; bytes = take t.len bs; line = 0 } in
@@ -117,10 +117,10 @@ spelled_cut (u ∷ us) vs (t ∷ ts) bs e =
     let c = spelled_cut us vs ts (drop t.len bs) h in
     record {
       before = t ∷ c.before;
-      behind = c.behind;
+      following = c.following;
       whole = ap (λ (xs : List Token). t ∷ xs) c.whole;
       front = ap (λ (xs : List SourceToken). own ∷ xs) c.front ∙ ap (λ (x : SourceToken). x ∷ us) (first_is own u (spelled ts (drop t.len bs)) (us ++ vs) e);
-      back = ap (λ (x : List ℕ). spelled c.behind x) (sym (drop-drop (tokens_len c.before) t.len bs)) ∙ c.back;
+      back = ap (λ (x : List ℕ). spelled c.following x) (sym (drop-drop (tokens_len c.before) t.len bs)) ∙ c.back;
     }
 
 -- how a text is cut at a boundary of its tokens: the bytes before the cut, the tokens that they have, and those of what is
@@ -138,22 +138,22 @@ unfolding text_tokens
 text_cut m bs us vs e =
     let c = spelled_cut us vs (tokens_from m 0 bs) bs e in
     let k = tokens_len c.before in
-    let fits = tokens_fit c.before c.behind m bs c.whole in
+    let fits = tokens_fit c.before c.following m bs c.whole in
     let own : bytes_of us ≡ take k bs = sym (ap (λ (xs : List SourceToken). bytes_of xs) c.front) ∙ spelled_bytes c.before bs in
     let size : length (bytes_of us) ≡ k = let n = length-take k bs in let l = ap length own in omega arith in
-    let behind = tokens_from-behind_some c.before c.behind m bs c.whole in
+    let following = tokens_from-after_some c.before c.following m bs c.whole in
     record {
       bytes = own ∙ ap (λ (n : ℕ). take n bs) (sym size);
       inside = omega (arith, size, fits);
       front =
           ap (λ (x : List ℕ). spelled (tokens_from m 0 x) x) own
-          ∙ ap (λ (ts : List Token). spelled ts (take k bs)) (tokens_from-front c.before c.behind m bs c.whole)
+          ∙ ap (λ (ts : List Token). spelled ts (take k bs)) (tokens_from-front c.before c.following m bs c.whole)
           ∙ spelled_front c.before bs
           ∙ c.front;
-      mode = mode_behind m c.before;
+      mode = mode_after m c.before;
       back =
-          ap (λ (n : ℕ). spelled (tokens_from (mode_behind m c.before) 0 (drop n bs)) (drop n bs)) size
-          ∙ ap (λ (ts : List Token). spelled ts (drop k bs)) behind
+          ap (λ (n : ℕ). spelled (tokens_from (mode_after m c.before) 0 (drop n bs)) (drop n bs)) size
+          ∙ ap (λ (ts : List Token). spelled ts (drop k bs)) following
           ∙ c.back;
     }
 
@@ -189,7 +189,7 @@ nil_cons ts x xs e h = cc
 record BeginsWith (m : Mode) (bs : List ℕ) (u : SourceToken) (vs : List SourceToken) : Type 0 where
   some : 0 < length bs
   first : first_spelled m bs ≡ u
-  behind : text_tokens (token_of m bs).next_mode (drop (token_of m bs).len bs) ≡ vs
+  following : text_tokens (token_of m bs).next_mode (drop (token_of m bs).len bs) ≡ vs
 
 -- they are those
 begins : (m : Mode) (bs : List ℕ) (u : SourceToken) (vs : List SourceToken) → text_tokens m bs ≡ u ∷ vs → BeginsWith m bs u vs
@@ -199,12 +199,12 @@ begins m (b ∷ bs) u vs e =
     let some : 0 < length T = omega arith in
     let later = text_tokens (token_of m T).next_mode (drop (token_of m T).len T) in
     let whole = sym (text_step m T some) ∙ e in
-    record { some = some; first = first_is (first_spelled m T) u later vs whole; behind = rest_is (first_spelled m T) u later vs whole }
+    record { some = some; first = first_is (first_spelled m T) u later vs whole; following = rest_is (first_spelled m T) u later vs whole }
 
 -- behind a first token that leaves plain text, a text has the tokens that follow
-pub first_behind : (m : Mode) (bs : List ℕ) (u : SourceToken) (vs : List SourceToken) → text_tokens m bs ≡ u ∷ vs → closes_text (token_role u) ≡ true
+pub first_after : (m : Mode) (bs : List ℕ) (u : SourceToken) (vs : List SourceToken) → text_tokens m bs ≡ u ∷ vs → closes_text (token_role u) ≡ true
     → (text_tokens Plain (drop (length u.bytes) bs) ≡ vs) × (length u.bytes ≤ length bs)
-first_behind m bs u vs e closed =
+first_after m bs u vs e closed =
     let f = begins m bs u vs e in
     let t = token_of m bs in
     let size : length u.bytes ≡ t.len = ap (λ (v : SourceToken). length v.bytes) (sym f.first) ∙ first_size m bs f.some in
@@ -212,7 +212,7 @@ first_behind m bs u vs e closed =
     let part = token_of-part m bs f.some in (
       ap (λ (n : ℕ). text_tokens Plain (drop n bs)) size
           ∙ ap (λ (mode : Mode). text_tokens mode (drop t.len bs)) (sym plain)
-          ∙ f.behind,
+          ∙ f.following,
       omega (arith, size, part.inside),
     )
 
@@ -250,34 +250,34 @@ text_one m bs us u vs e one =
     ∙ first_one c.mode rest (ap (λ (v : SourceToken). is_one_role (token_role v)) f.first ∙ one)
 
 -- behind a token that leaves plain text, a text has the tokens that follow
-pub text_behind : (m : Mode) (bs : List ℕ) (us : List SourceToken) (u : SourceToken) (vs : List SourceToken)
+pub text_after : (m : Mode) (bs : List ℕ) (us : List SourceToken) (u : SourceToken) (vs : List SourceToken)
     → text_tokens m bs ≡ us ++ u ∷ vs → closes_text (token_role u) ≡ true
     → (text_tokens Plain (drop (length (bytes_of us) + length u.bytes) bs) ≡ vs) × (length (bytes_of us) + length u.bytes ≤ length bs)
-text_behind m bs us u vs e closed =
+text_after m bs us u vs e closed =
     let c = text_cut m bs us (u ∷ vs) e in
     let n = length (bytes_of us) in
-    let f = first_behind c.mode (drop n bs) u vs c.back closed in
+    let f = first_after c.mode (drop n bs) u vs c.back closed in
     let size = length-drop n bs in
     (ap (λ (x : List ℕ). text_tokens Plain x) (sym (drop-drop (length u.bytes) n bs)) ∙ f.0, omega (arith, f.1, size, c.inside))
 
 -- The bytes that a call keeps have exactly the tokens that it keeps, but for their lines.
 
 -- where a text stands behind a row of tokens of the token table: in plain text, where there is one
-unfoldable pub mode_behind_row : Mode → List SourceToken → Mode
-mode_behind_row m [] = m
-mode_behind_row m (u ∷ us) = Plain
+unfoldable pub mode_after_row : Mode → List SourceToken → Mode
+mode_after_row m [] = m
+mode_after_row m (u ∷ us) = Plain
 
 -- behind a row in plain text there is plain text
-pub mode_behind_plain : (us : List SourceToken) → mode_behind_row Plain us ≡ Plain
-unfolding mode_behind_row
-mode_behind_plain [] = refl
-mode_behind_plain (u ∷ us) = refl
+pub mode_after_plain : (us : List SourceToken) → mode_after_row Plain us ≡ Plain
+unfolding mode_after_row
+mode_after_plain [] = refl
+mode_after_plain (u ∷ us) = refl
 
 -- behind a last token there is plain text
-pub mode_behind_last : (m : Mode) (us : List SourceToken) (u : SourceToken) → mode_behind_row m (us ++ u ∷ []) ≡ Plain
-unfolding mode_behind_row
-mode_behind_last m [] u = refl
-mode_behind_last m (v ∷ us) u = refl
+pub mode_after_last : (m : Mode) (us : List SourceToken) (u : SourceToken) → mode_after_row m (us ++ u ∷ []) ≡ Plain
+unfolding mode_after_row
+mode_after_last m [] u = refl
+mode_after_last m (v ∷ us) u = refl
 
 -- tokens of a source in a row: they are those of the text but for their lines, with others behind them, and what is behind
 -- them is the source behind their bytes
@@ -286,7 +286,7 @@ pub record IsSourceRow (c : Course) (m : Mode) (bs : List ℕ) (us rest : List S
   pub row : text_tokens m bs ≡ map unlined us ++ others
   pub opened : ℕ
   pub line : ℕ
-  pub behind : source_tokens c (mode_behind_row m us) opened line 0 (drop (length (bytes_of us)) bs) ≡ rest
+  pub following : source_tokens c (mode_after_row m us) opened line 0 (drop (length (bytes_of us)) bs) ≡ rest
 
 -- a broken token is none of the token table
 not_broken : (b : Breach) (bytes : List ℕ) (line : ℕ) (u : SourceToken) (us ts : List SourceToken)
@@ -343,7 +343,7 @@ next_first c m opened line b bs t is =
 -- a first token of the token table in front of a row
 row_first : (c : Course) (m : Mode) (bs : List ℕ) (u : SourceToken) (us rest : List SourceToken) → 0 < length bs → IsTokenOf (token_of m bs) bs u
     → IsSourceRow c Plain (drop (length u.bytes) bs) us rest → IsSourceRow c m bs (u ∷ us) rest
-unfolding mode_behind_row
+unfolding mode_after_row
 row_first c m bs u us rest some f r =
     let size : length u.bytes ≡ (token_of m bs).len = own_size m bs u some f in
     record {
@@ -356,11 +356,11 @@ row_first c m bs u us rest some f r =
           ∙ ap (λ (t : SourceToken). t ∷ map unlined us ++ r.others) (unlined_is m bs u f);
       opened = r.opened;
       line = r.line;
-      behind =
+      following =
           ap (λ (n : ℕ). source_tokens c Plain r.opened r.line 0 (drop n bs)) (length-append u.bytes (bytes_of us))
           ∙ ap (λ (x : List ℕ). source_tokens c Plain r.opened r.line 0 x) (sym (drop-drop (length (bytes_of us)) (length u.bytes) bs))
-          ∙ ap (λ (mode : Mode). source_tokens c mode r.opened r.line 0 (drop (length (bytes_of us)) (drop (length u.bytes) bs))) (sym (mode_behind_plain us))
-          ∙ r.behind;
+          ∙ ap (λ (mode : Mode). source_tokens c mode r.opened r.line 0 (drop (length (bytes_of us)) (drop (length u.bytes) bs))) (sym (mode_after_plain us))
+          ∙ r.following;
     }
 
 -- a row by its first step
@@ -390,9 +390,9 @@ row_by c m opened line b bs u us rest (Next t) is gives e h more =
 -- tokens in a row that are those of the token table are the tokens of their text but for their lines
 pub source_row : (us rest : List SourceToken) (c : Course) (m : Mode) (opened line : ℕ) (bs : List ℕ)
     → source_tokens c m opened line 0 bs ≡ us ++ rest → All (λ t. is_ordinary t ≡ true) us → IsSourceRow c m bs us rest
-unfolding mode_behind_row
+unfolding mode_after_row
 source_row [] rest c m opened line bs e all =
-    record { others = text_tokens m bs; row = refl; opened = opened; line = line; behind = e }
+    record { others = text_tokens m bs; row = refl; opened = opened; line = line; following = e }
 source_row (u ∷ us) rest c m opened line [] e all =
     absurd (none_at_end c m opened line u (us ++ rest) e (All-head (λ (t : SourceToken). is_ordinary t ≡ true) u us all))
 source_row (u ∷ us) rest c m opened line (b ∷ bs) e all =
@@ -531,7 +531,7 @@ pub kept_call_text : (c : Course) (m : Mode) (opened line : ℕ) (bs : List ℕ)
     → source_tokens c m opened line 0 bs ≡ ts → IsClosed source_role ts ks used → body_tokens (bytes_of ks) ≡ map unlined ks
 kept_call_text c m opened line bs ts ks used e closed =
     let front : List SourceToken = closed.lead ++ closed.opener ∷ [] in
-    let rest : List SourceToken = closed.closer ∷ closed.behind in
+    let rest : List SourceToken = closed.closer ∷ closed.following in
     let P : SourceToken → Type 0 = λ t. is_ordinary t ≡ true in
     let whole : source_tokens c m opened line 0 bs ≡ front ++ (closed.inner ++ rest) =
     e ∙ closed.whole ∙ sym (append_assoc closed.lead (closed.opener ∷ []) (closed.inner ++ rest)) in
@@ -541,7 +541,7 @@ kept_call_text c m opened line bs ts ks used e closed =
     let r = source_row front (closed.inner ++ rest) c m opened line bs whole fronts in
     let text : List ℕ = drop (length (bytes_of front)) bs in
     let inner : source_tokens c Plain r.opened r.line 0 text ≡ closed.inner ++ rest =
-    ap (λ (mode : Mode). source_tokens c mode r.opened r.line 0 text) (sym (mode_behind_last m closed.lead closed.opener)) ∙ r.behind in
+    ap (λ (mode : Mode). source_tokens c mode r.opened r.line 0 text) (sym (mode_after_last m closed.lead closed.opener)) ∙ r.following in
     let q = source_row closed.inner rest c Plain r.opened r.line text inner (all_ordinary closed.inner closed.text) in
     let us : List SourceToken = map unlined closed.inner in
     let cut = text_cut Plain text us q.others q.row in

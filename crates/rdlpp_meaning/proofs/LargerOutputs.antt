@@ -10,7 +10,7 @@ use Rattle.rdlpp_meaning.specs.declared.fault.FaultKind.TheVariants.{BranchAfter
 use Rattle.rdlpp_meaning.specs.Outcome.{Report, Outcome, gives, fails, and_then}
 use Rattle.rdlpp_meaning.specs.State.{Defined, Accepted, DefinitionFault, Lookup, NoSource, LongPath, Source, Rules, State, fault_at, shown_line, breach_kind}
 use Rattle.rdlpp_meaning.specs.Parts.{Command, line_ends_of, Piece, Run, Single, Opening, Branching, Closing, pieces, parts_of}
-use Rattle.rdlpp_meaning.specs.Meaning.{Passage, leaves, behind_bytes, goes_on, refusal, IncludedMeaning, skipped_run, Checked, Fine, NameFault, macro_name, defines, undefines, origin_line, at_start_of, back_in, added_end, includes, includes_found, unquoted, includes_named, includes_given, Renumbered, renumbered, renumbers, single, Progress, Test, TestFault, Holds, by_test, is_defined, name_test, wants_defined, opening_within, opening, in_conditional, past_conditional, is_else, turn, outcome, skipped_command, begun, turned, unclosed, mean, included_meaning_of, text_meaning}
+use Rattle.rdlpp_meaning.specs.Meaning.{Passage, leaves, after_bytes, goes_on, refusal, IncludedMeaning, skipped_run, Checked, Fine, NameFault, macro_name, defines, undefines, origin_line, at_start_of, back_in, added_end, includes, includes_found, unquoted, includes_named, includes_given, Renumbered, renumbered, renumbers, single, Progress, Test, TestFault, Holds, by_test, is_defined, name_test, wants_defined, opening_within, opening, in_conditional, past_conditional, is_else, turn, outcome, skipped_command, begun, turned, unclosed, mean, included_meaning_of, text_meaning}
 use Rattle.rdlpp_meaning.specs.LimitLaws.{is_limit, NamesNoLimit, IsLarger}
 use Rattle.rdlpp_meaning.proofs.LargerRuns.{Agrees, IsFault, TornAgrees, run-agrees, run-torn, skip-agrees, skip-torn, sources-torn}
 use Rattle.rdlpp_scan.specs.Front.{Breach}
@@ -62,10 +62,10 @@ on-agrees-by : (more : ℕ) (x : List ℕ) (f : Option Report) (s : State) (q : 
     → PassageAgrees more (record { bytes = x; fault = f; after = s }) q
     → ((sources : ℕ) (t : State) → PassageAgrees more (next t) (next' (roomier sources more t)))
     → PassageAgrees more (goes_on (record { bytes = x; fault = f; after = s }) next) (goes_on q next')
-unfolding PassageAgrees goes_on behind_bytes
+unfolding PassageAgrees goes_on after_bytes
 on-agrees-by more x None s q next next' h k =
     λ n. let first = h tt in let rest = k first.0 s n in
-    (rest.0, ap (λ (p : Passage). goes_on p next') first.1 ∙ ap (λ (p : Passage). behind_bytes x p) rest.1)
+    (rest.0, ap (λ (p : Passage). goes_on p next') first.1 ∙ ap (λ (p : Passage). after_bytes x p) rest.1)
 on-agrees-by more x (Some f) s q next next' h k = λ n. let first = h n in (first.0, ap (λ (p : Passage). goes_on p next') first.1)
 
 -- a passage and what goes on from its state
@@ -75,9 +75,9 @@ pub on-agrees : (more : ℕ) (p q : Passage) (next next' : State → Passage) �
 on-agrees more p q next next' h k = on-agrees-by more p.bytes p.fault p.after q next next' h k
 
 -- bytes in front of a passage
-pub bytes-agree : (more : ℕ) (x : List ℕ) (p q : Passage) → PassageAgrees more p q → PassageAgrees more (behind_bytes x p) (behind_bytes x q)
-unfolding PassageAgrees behind_bytes
-bytes-agree more x p q h = λ n. let r = h n in (r.0, ap (λ (z : Passage). behind_bytes x z) r.1)
+pub bytes-agree : (more : ℕ) (x : List ℕ) (p q : Passage) → PassageAgrees more p q → PassageAgrees more (after_bytes x p) (after_bytes x q)
+unfolding PassageAgrees after_bytes
+bytes-agree more x p q h = λ n. let r = h n in (r.0, ap (λ (z : Passage). after_bytes x z) r.1)
 
 -- a refusal by a limit agrees with all
 limit-passage : (more : ℕ) (kind : FaultKind) (word : List ℕ) (c : Command) (s : State) (q : Passage) → is_limit kind ≡ true
@@ -217,7 +217,7 @@ record Widens (rules : Rules) (depth most : ℕ) (define : List Macro → List �
 -- what goes on behind a fault of a limit agrees with all, by the outcome's fault
 limited-by : (more : ℕ) (x : List ℕ) (o f : Option Report) (s : State) (next : State → Passage) (q : Passage) → o ≡ f → IsFault f
     → (NamesNoLimit f → ⊥) → PassageAgrees more (goes_on (leaves (record { bytes = x; fault = o }) s) next) q
-unfolding PassageAgrees goes_on leaves IsFault behind_bytes
+unfolding PassageAgrees goes_on leaves IsFault after_bytes
 limited-by more x None f s next q e h limit = absurd (subst (λ (z : Option Report). IsFault z) (sym e) h)
 limited-by more x (Some g) f s next q e h limit = λ n. absurd (limit (subst (λ (z : Option Report). NamesNoLimit z) e n))
 
@@ -379,10 +379,10 @@ module _ (rules : Rules) (depth most : ℕ) (define : List Macro → List ℕ �
         (sym (past-room sources more s)) (r place sources (past_conditional s))
 
     -- what resumes behind a passage
-    behind-agrees : (ps qs : List Piece) (place : Place) (p q : Passage) → Resumes ps qs → PassageAgrees more p q
+    following-agrees : (ps qs : List Piece) (place : Place) (p q : Passage) → Resumes ps qs → PassageAgrees more p q
         → PassageAgrees more (goes_on p (λ after. resume rules included_meaning place ps after)) (goes_on q (λ after. resume larger included_meaning' place qs after))
     unfolding Resumes
-    behind-agrees ps qs place p q r h = on-agrees more p q _ _ h (λ sources t. r place sources t)
+    following-agrees ps qs place p q r h = on-agrees more p q _ _ h (λ sources t. r place sources t)
 
     -- at the end of a file
     ends-agree : (place : Place) (sources : ℕ) (s : State) → PassageAgrees more (resume rules included_meaning place [] s) (resume larger included_meaning' place [] (roomier sources more s))
@@ -411,21 +411,21 @@ module _ (rules : Rules) (depth most : ℕ) (define : List Macro → List ℕ �
         → PassageAgrees more (resume rules included_meaning place (p ∷ ps) s) (resume larger included_meaning' place (p ∷ qs) (roomier sources more s))
     unfolding resume skipped_command
     piece-agrees (Run ts) ps qs r (Live os) sources s =
-        behind-agrees ps qs (Live os) _ _ r (leaves-agrees sources more s _ _ (run-agrees rules larger s sources more w.bytes ts w.depths))
-    piece-agrees (Single c) ps qs r (Live os) sources s = behind-agrees ps qs (Live os) _ _ r (single-agrees sources c s)
+        following-agrees ps qs (Live os) _ _ r (leaves-agrees sources more s _ _ (run-agrees rules larger s sources more w.bytes ts w.depths))
+    piece-agrees (Single c) ps qs r (Live os) sources s = following-agrees ps qs (Live os) _ _ r (single-agrees sources c s)
     piece-agrees (Opening c) ps qs r (Live os) sources s = opened-agrees c ps qs r os sources s
     piece-agrees (Branching c) ps qs r (Live []) sources s = refusal-agrees sources more StrayBranch [] c s
     piece-agrees (Branching c) ps qs r (Live (o ∷ os)) sources s = branched-agrees c ps qs r o os sources s
     piece-agrees (Closing c) ps qs r (Live []) sources s = refusal-agrees sources more StrayBranch [] c s
     piece-agrees (Closing c) ps qs r (Live (o ∷ os)) sources s = end-agrees ps qs (Live os) sources s r
     piece-agrees (Run ts) ps qs r (Skipped n o os) sources s =
-        behind-agrees ps qs (Skipped n o os) _ _ r (leaves-agrees sources more s _ _ (skip-agrees sources more s ts))
-    piece-agrees (Single c) ps qs r (Skipped n o os) sources s = behind-agrees ps qs (Skipped n o os) _ _ r (leaves-same sources more s (skipped_command c))
-    piece-agrees (Opening c) ps qs r (Skipped n o os) sources s = behind-agrees ps qs (Skipped (suc n) o os) _ _ r (leaves-same sources more s (skipped_command c))
+        following-agrees ps qs (Skipped n o os) _ _ r (leaves-agrees sources more s _ _ (skip-agrees sources more s ts))
+    piece-agrees (Single c) ps qs r (Skipped n o os) sources s = following-agrees ps qs (Skipped n o os) _ _ r (leaves-same sources more s (skipped_command c))
+    piece-agrees (Opening c) ps qs r (Skipped n o os) sources s = following-agrees ps qs (Skipped (suc n) o os) _ _ r (leaves-same sources more s (skipped_command c))
     piece-agrees (Branching c) ps qs r (Skipped (suc n) o os) sources s =
-        behind-agrees ps qs (Skipped (suc n) o os) _ _ r (leaves-same sources more s (skipped_command c))
+        following-agrees ps qs (Skipped (suc n) o os) _ _ r (leaves-same sources more s (skipped_command c))
     piece-agrees (Branching c) ps qs r (Skipped zero o os) sources s = branched-agrees c ps qs r o os sources s
-    piece-agrees (Closing c) ps qs r (Skipped (suc n) o os) sources s = behind-agrees ps qs (Skipped n o os) _ _ r (leaves-same sources more s (skipped_command c))
+    piece-agrees (Closing c) ps qs r (Skipped (suc n) o os) sources s = following-agrees ps qs (Skipped n o os) _ _ r (leaves-same sources more s (skipped_command c))
     piece-agrees (Closing c) ps qs r (Skipped zero o os) sources s = end-agrees ps qs (Live os) sources s r
 
     -- a run that is torn behind its first token, from each place
@@ -466,7 +466,7 @@ module _ (rules : Rules) (depth most : ℕ) (define : List Macro → List ℕ �
         let last = resume larger included_meaning' place qs (roomier sources more s) in
         subst (λ (x : Piece). PassageAgrees more (resume rules included_meaning place (x ∷ ps) s) last) (sym e.piece)
         (subst (λ (xs : List Piece). PassageAgrees more (resume rules included_meaning place (Run (e.before ++ t ∷ []) ∷ xs) s) last) (sym e.last)
-        (torn-by e.before e.breach e.bytes e.line e.behind qs e.front e.limit e.torn place sources s))
+        (torn-by e.before e.breach e.bytes e.line e.following qs e.front e.limit e.torn place sources s))
 
     -- what resumes agrees
     resume-agrees : (ps qs : List Piece) → PiecesTorn ps qs → Resumes ps qs

@@ -27,9 +27,9 @@ suc_positive : (n : ℕ) → 0 < suc n
 suc_positive n = omega arith
 
 -- a suffix behind a token that has a byte
-drop_behind : (n b : ℕ) (bs : List ℕ) → 0 < n → drop n (b ∷ bs) ≡ drop (n - 1) bs
-drop_behind zero b bs h = absurd (omega arith)
-drop_behind (suc n) b bs h = let e : suc n - 1 ≡ n = omega arith in rw e refl
+drop_after : (n b : ℕ) (bs : List ℕ) → 0 < n → drop n (b ∷ bs) ≡ drop (n - 1) bs
+drop_after zero b bs h = absurd (omega arith)
+drop_after (suc n) b bs h = let e : suc n - 1 ≡ n = omega arith in rw e refl
 
 -- a token has a byte
 unfoldable pub HasByte : Token → Type 0
@@ -51,16 +51,16 @@ string_at bytes stop =
     if slice_index bytes stop == 34 then whole Str (suc stop) else record { kind = Str; len = stop; next_mode = InStr }
 
 -- one that stops behind a byte
-string_behind : (bytes : List ℕ) (stop : ℕ) → 0 < stop → HasByte (string_at bytes stop)
+string_after : (bytes : List ℕ) (stop : ℕ) → 0 < stop → HasByte (string_at bytes stop)
 unfolding string_at HasByte whole
-string_behind bytes stop h =
+string_after bytes stop h =
     chosen (slice_index bytes stop == 34) (whole Str (suc stop)) (record { kind = Str; len = stop; next_mode = InStr })
     (λ e. suc_positive stop) (λ e. h)
 
 -- a string whose part begins behind its quote
 string_has : (from : ℕ) (bytes : List ℕ) → 0 < from → HasByte (string_token from bytes)
 unfolding string_token string_at
-string_has from bytes h = string_behind bytes (from + string_stop false (drop from bytes)) (omega arith)
+string_has from bytes h = string_after bytes (from + string_stop false (drop from bytes)) (omega arith)
 
 -- the rest of a string that doesn't begin with `<%`, by whether it begins with a quote
 string_rest_by : (b : ℕ) (bs : List ℕ) (quote : Bool) → (b == 34) ≡ quote → begins_perl (b ∷ bs) ≡ false
@@ -72,7 +72,7 @@ string_rest_by b bs true q e =
     (subst (λ (x : Bool). HasByte (if x then whole Str 1 else record { kind = Str; len = 0; next_mode = InStr })) (sym q) (suc_positive 0))
 string_rest_by b bs false q e =
     let stop : string_stop false (b ∷ bs) ≡ suc (string_stop (b == 92) bs) = rw (q, e) refl in
-    string_behind (b ∷ bs) (0 + string_stop false (b ∷ bs)) (omega (arith, stop))
+    string_after (b ∷ bs) (0 + string_stop false (b ∷ bs)) (omega (arith, stop))
 
 -- a comment that stops at a place
 block_at : List ℕ → ℕ → Token
@@ -80,16 +80,16 @@ block_at bytes stop =
     if nat_lt stop (length bytes) then whole BlockComment (stop + 2) else record { kind = BlockComment; len = stop; next_mode = InBlock }
 
 -- one that stops behind a byte
-block_behind : (bytes : List ℕ) (stop : ℕ) → 0 < stop → HasByte (block_at bytes stop)
+block_after : (bytes : List ℕ) (stop : ℕ) → 0 < stop → HasByte (block_at bytes stop)
 unfolding block_at HasByte whole
-block_behind bytes stop h =
+block_after bytes stop h =
     chosen (nat_lt stop (length bytes)) (whole BlockComment (stop + 2)) (record { kind = BlockComment; len = stop; next_mode = InBlock })
     (λ e. omega arith) (λ e. h)
 
 -- a comment whose text begins behind its opener
 block_has : (from : ℕ) (bytes : List ℕ) → 0 < from → HasByte (block_token from bytes)
 unfolding block_token block_at
-block_has from bytes h = block_behind bytes (from + first_place ends_block_comment (drop from bytes)) (omega arith)
+block_has from bytes h = block_after bytes (from + first_place ends_block_comment (drop from bytes)) (omega arith)
 
 -- the rest of a comment, by whether it ends at once
 block_rest_by : (b : ℕ) (bs : List ℕ) (ends : Bool) → ends_block_comment (b ∷ bs) ≡ ends → HasByte (block_token 0 (b ∷ bs))
@@ -104,7 +104,7 @@ block_rest_by b bs true e =
         (λ h. suc_positive 1) (λ h. absurd (omega (arith, ltb-false 0 (length (b ∷ bs)) h)))
 block_rest_by b bs false e =
     let stop : first_place ends_block_comment (b ∷ bs) ≡ suc (first_place ends_block_comment bs) = rw e refl in
-    block_behind (b ∷ bs) (0 + first_place ends_block_comment (b ∷ bs)) (omega (arith, stop))
+    block_after (b ∷ bs) (0 + first_place ends_block_comment (b ∷ bs)) (omega (arith, stop))
 
 -- a line comment has its bytes, since it doesn't begin with an LF
 comment_positive : (b : ℕ) (bs : List ℕ) → is_line_end b ≡ false → 0 < prefix_len (λ x. not (is_line_end x)) (b ∷ bs)
@@ -146,7 +146,7 @@ covered mode (suc skip) [] = refl
 covered mode (suc skip) (b ∷ bs) = covered mode skip bs
 covered mode zero (b ∷ bs) =
     let t = token_of mode (b ∷ bs) in
-    let e = drop_behind t.len b bs (token_has mode b bs) in
+    let e = drop_after t.len b bs (token_has mode b bs) in
     let rest = tokens_from t.next_mode (t.len - 1) bs in
     ap (λ (r : List ℕ). take t.len (b ∷ bs) ++ bytes_of (spelled rest r)) e
     ∙ ap (λ (r : List ℕ). take t.len (b ∷ bs) ++ r) (covered t.next_mode (t.len - 1) bs ∙ sym e)

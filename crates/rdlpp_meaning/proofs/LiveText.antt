@@ -14,10 +14,10 @@ use Rattle.rdlpp_scan.specs.declared.token.Kind.{Kind}
 use Rattle.rdlpp_scan.specs.declared.token.Kind.TheVariants.{Back, BareBackquote}
 use Rattle.rdlpp_table.specs.Table.{Macro, macro_named}
 use Rattle.rdlpp_meaning.specs.Actuals.{Halt, Role, item_reads, token_role}
-use Rattle.rdlpp_meaning.specs.CallScan.{Before, Inside, ScanFault as RefusedCall, Scanned, CallState, call_of, call_of_scan, fault_at_end, room_behind, scan, scanned, source_role, call_state_behind, turn, turn_before, turn_inside}
+use Rattle.rdlpp_meaning.specs.CallScan.{Before, Inside, ScanFault as RefusedCall, Scanned, CallState, call_of, call_of_scan, fault_at_end, room_after, scan, scanned, source_role, call_state_after, turn, turn_before, turn_inside}
 use Rattle.rdlpp_meaning.specs.Expansion.{Opens, UsageFault, Usage, bytes_of, expand, is_copied, name_of, run_outcome, usage_of, usage_token, walk}
 use Rattle.rdlpp_meaning.specs.Items.{Item, Written}
-use Rattle.rdlpp_meaning.specs.Meaning.{IncludedMeaning, Passage, Progress, behind_bytes, defines, goes_on, leaves, included_meaning_of, refusal, single}
+use Rattle.rdlpp_meaning.specs.Meaning.{IncludedMeaning, Passage, Progress, after_bytes, defines, goes_on, leaves, included_meaning_of, refusal, single}
 use Rattle.rdlpp_meaning.specs.Outcome.{Outcome, Report, and_then, fails, gives}
 use Rattle.rdlpp_meaning.specs.Parts.{Branching, Closing, Command, Opening, Piece, Run, Single, argument_of, command_of, directive_named, directive_of, joined, line_ends_of, no_argument, only_blanks, piece_of, pieces}
 use Rattle.rdlpp_meaning.specs.Resumed.{Live, leading, resume, resumed, trailing}
@@ -25,7 +25,7 @@ use Rattle.rdlpp_meaning.specs.State.{Accepted, Defined, DefinitionFault, Rules,
 use Rattle.rdlpp_meaning.specs.Substitution.{substituted}
 use Rattle.rdlpp_meaning.specs.declared.fault.FaultKind.{FaultKind}
 use Rattle.rdlpp_meaning.specs.declared.fault.FaultKind.TheVariants.{BareBackquote as NoName, DepthPassed, UndefinedMacro}
-use Rattle.rdlpp_meaning.proofs.Outcomes.{and_then-fails, and_then-nil, behind_bytes-nil, behind_bytes-twice, fails-goes_on, gives_fails-goes_on, goes_on-gives, goes_on-nil, leaves-and_then, on_leaves}
+use Rattle.rdlpp_meaning.proofs.Outcomes.{and_then-fails, and_then-nil, after_bytes-nil, after_bytes-twice, fails-goes_on, gives_fails-goes_on, goes_on-gives, goes_on-nil, leaves-and_then, on_leaves}
 
 -- Laws of expansion over tokens that are copied, lone backquotes, broken tokens and usages; and of a token in a run: where the run
 -- goes on after it, so does what remains of the file.
@@ -378,9 +378,9 @@ within_run (suc k) [] h = record { leads = refl; trails = refl; front = refl }
 within_run (suc k) (t ∷ ts) h = within_by k t ts (directive_of t) refl h (λ g. within_run k ts g)
 
 -- the flag of blanks behind so many tokens and then the others of a run
-flag_behind : (first : Bool) (k : ℕ) (ts : List SourceToken)
+flag_after : (first : Bool) (k : ℕ) (ts : List SourceToken)
     → only_blanks (only_blanks first (bytes_of (take k ts))) (bytes_of (drop k ts)) ≡ only_blanks first (bytes_of ts)
-flag_behind first k ts =
+flag_after first k ts =
     sym (only_blanks-append first (bytes_of (take k ts)) (bytes_of (drop k ts)))
     ∙ ap (λ (x : List ℕ). only_blanks first x)
     (sym (flat_map-append (λ (t : SourceToken). t.bytes) (take k ts) (drop k ts))
@@ -407,7 +407,7 @@ resumed_part rules os first k ts s o h e =
     (λ after. resumed rules (Live os) (only_blanks flag (bytes_of (leading (drop k ts)))) (trailing (drop k ts)) after)
     (ap (λ (us : List SourceToken). resumed rules (Live os) last us s) (sym w.trails)
     ∙ ap (λ (f : Bool). resumed rules (Live os) f (trailing (drop k ts)) s)
-    (sym (flag_behind first k (leading ts))
+    (sym (flag_after first k (leading ts))
     ∙ ap (λ (us : List SourceToken). only_blanks (only_blanks first (bytes_of us)) (bytes_of (drop k (leading ts)))) (sym w.front)
     ∙ ap (λ (us : List SourceToken). only_blanks flag (bytes_of us)) (sym w.leads)))
     ∙ sym (resumed_run rules os flag (drop k ts) s))
@@ -439,15 +439,15 @@ scan_by size at room t ts None e rest =
     let fits = nat_le (size t) room in
     let r = token_role t in
     let go : Role → List SourceToken → Scanned SourceToken =
-    λ q us. scanned (turn at q fits) t (scan token_role size (call_state_behind at q) (room_behind at room q (size t)) us) in
+    λ q us. scanned (turn at q fits) t (scan token_role size (call_state_after at q) (room_after at room q (size t)) us) in
     ap (scan token_role size at room) (leading_text t ts e)
-    ∙ ap (scanned (turn at r fits) t) (rest (call_state_behind at r) (room_behind at room r (size t)))
-    ∙ ap (λ (q : Role). scanned (turn at q fits) t (scan source_role size (call_state_behind at q) (room_behind at room q (size t)) ts)) (sym (source_role_text t e))
+    ∙ ap (scanned (turn at r fits) t) (rest (call_state_after at r) (room_after at room r (size t)))
+    ∙ ap (λ (q : Role). scanned (turn at q fits) t (scan source_role size (call_state_after at q) (room_after at room q (size t)) ts)) (sym (source_role_text t e))
 scan_by size at room t ts (Some d) e rest =
     let fits = nat_le (size t) room in
     ap (scan token_role size at room) (leading_directive t ts d e)
-    ∙ halted at fits t (scan source_role size (call_state_behind at Halt) (room_behind at room Halt (size t)) ts)
-    ∙ ap (λ (q : Role). scanned (turn at q fits) t (scan source_role size (call_state_behind at q) (room_behind at room q (size t)) ts)) (sym (source_role_directive t d e))
+    ∙ halted at fits t (scan source_role size (call_state_after at Halt) (room_after at room Halt (size t)) ts)
+    ∙ ap (λ (q : Role). scanned (turn at q fits) t (scan source_role size (call_state_after at q) (room_after at room q (size t)) ts)) (sym (source_role_directive t d e))
 
 -- the scan of the tokens in front of the first directive is that of all tokens, where a directive halts
 pub scan_leading : (size : SourceToken → ℕ) (ts : List SourceToken) (at : CallState) (room : ℕ)
@@ -467,7 +467,7 @@ call_of_source size room ts = ap (call_of_scan token_role 0) (scan_leading size 
 -- a token that writes bytes, and then what remains behind it
 pub resumed_writes : (rules : Rules) (os : List Progress) (first : Bool) (t : SourceToken) (ts : List SourceToken) (s : State) (x : List ℕ)
     → directive_of t ≡ None → Writes rules s t (gives x)
-    → resumed rules (Live os) first (t ∷ ts) s ≡ behind_bytes x (resumed rules (Live os) (only_blanks first t.bytes) ts s)
+    → resumed rules (Live os) first (t ∷ ts) s ≡ after_bytes x (resumed rules (Live os) (only_blanks first t.bytes) ts s)
 resumed_writes rules os first t ts s x e w =
     resumed_token rules os first t ts s (gives x) e w
     ∙ goes_on-gives x s (λ after. resumed rules (Live os) (only_blanks first t.bytes) ts after)
@@ -484,16 +484,16 @@ resumed_fails rules os first t ts s f e w =
 pub resumed_copied : (rules : Rules) (os : List Progress) (first : Bool) (ts more : List SourceToken) (s : State)
     → list_all is_copied ts ≡ true
     → resumed rules (Live os) first (ts ++ more) s
-    ≡ behind_bytes (bytes_of ts) (resumed rules (Live os) (only_blanks first (bytes_of ts)) more s)
+    ≡ after_bytes (bytes_of ts) (resumed rules (Live os) (only_blanks first (bytes_of ts)) more s)
 unfolding only_blanks
-resumed_copied rules os first [] more s e = sym (behind_bytes-nil (resumed rules (Live os) first more s))
+resumed_copied rules os first [] more s e = sym (after_bytes-nil (resumed rules (Live os) first more s))
 resumed_copied rules os first (t ∷ ts) more s e =
     let own = (and_parts (is_copied t) (list_all is_copied ts) e).0 in
     resumed_writes rules os first t (ts ++ more) s t.bytes (copied_text t own) (copied_writes rules s t own)
-    ∙ ap (λ (p : Passage). behind_bytes t.bytes p)
+    ∙ ap (λ (p : Passage). after_bytes t.bytes p)
     (resumed_copied rules os (only_blanks first t.bytes) ts more s (and_parts (is_copied t) (list_all is_copied ts) e).1)
-    ∙ behind_bytes-twice t.bytes (bytes_of ts) (resumed rules (Live os) (only_blanks (only_blanks first t.bytes) (bytes_of ts)) more s)
-    ∙ ap (λ (f : Bool). behind_bytes (t.bytes ++ bytes_of ts) (resumed rules (Live os) f more s))
+    ∙ after_bytes-twice t.bytes (bytes_of ts) (resumed rules (Live os) (only_blanks (only_blanks first t.bytes) (bytes_of ts)) more s)
+    ∙ ap (λ (f : Bool). after_bytes (t.bytes ++ bytes_of ts) (resumed rules (Live os) f more s))
     (sym (only_blanks-append first t.bytes (bytes_of ts)))
 
 -- a usage of a name that isn't defined ends its source
@@ -519,7 +519,7 @@ resumed_bare rules os first bytes line more s =
 -- a broken token gives its bytes, and then ends its source
 pub resumed_broken : (rules : Rules) (os : List Progress) (first : Bool) (b : Breach) (bytes : List ℕ) (line : ℕ) (more : List SourceToken) (s : State)
     → resumed rules (Live os) first (record { sort = Broken b; bytes = bytes; line = line } ∷ more) s
-    ≡ behind_bytes bytes (leaves (fails (fault_at (breach_kind b) line [] s)) s)
+    ≡ after_bytes bytes (leaves (fails (fault_at (breach_kind b) line [] s)) s)
 unfolding directive_of
 resumed_broken rules os first b bytes line more s =
     let f = fault_at (breach_kind b) line [] s in
@@ -536,7 +536,7 @@ copied_whole k x y line = refl
 -- one token that is copied, and then what remains behind it
 pub resumed_one_copied : (rules : Rules) (os : List Progress) (first : Bool) (t : SourceToken) (more : List SourceToken) (s : State)
     → is_copied t ≡ true
-    → resumed rules (Live os) first (t ∷ more) s ≡ behind_bytes t.bytes (resumed rules (Live os) (only_blanks first t.bytes) more s)
+    → resumed rules (Live os) first (t ∷ more) s ≡ after_bytes t.bytes (resumed rules (Live os) (only_blanks first t.bytes) more s)
 resumed_one_copied rules os first t more s e =
     resumed_writes rules os first t more s t.bytes (copied_text t e) (copied_writes rules s t e)
 
@@ -544,24 +544,24 @@ resumed_one_copied rules os first t more s e =
 pub resumed_copied_parts : (rules : Rules) (os : List Progress) (first : Bool) (k : Kind) (x y : List ℕ) (line : ℕ) (more : List SourceToken) (s : State)
     → is_copied (record { sort = Ordinary k; bytes = x ++ y; line = line }) ≡ true
     → resumed rules (Live os) first (record { sort = Ordinary k; bytes = x ++ y; line = line } ∷ more) s
-    ≡ behind_bytes x (resumed rules (Live os) (only_blanks first x) (record { sort = Ordinary k; bytes = y; line = line } ∷ more) s)
+    ≡ after_bytes x (resumed rules (Live os) (only_blanks first x) (record { sort = Ordinary k; bytes = y; line = line } ∷ more) s)
 resumed_copied_parts rules os first k x y line more s e =
     resumed_one_copied rules os first (record { sort = Ordinary k; bytes = x ++ y; line = line }) more s e
-    ∙ ap (λ (f : Bool). behind_bytes (x ++ y) (resumed rules (Live os) f more s)) (only_blanks-append first x y)
-    ∙ sym (behind_bytes-twice x y (resumed rules (Live os) (only_blanks (only_blanks first x) y) more s))
-    ∙ ap (λ (p : Passage). behind_bytes x p)
+    ∙ ap (λ (f : Bool). after_bytes (x ++ y) (resumed rules (Live os) f more s)) (only_blanks-append first x y)
+    ∙ sym (after_bytes-twice x y (resumed rules (Live os) (only_blanks (only_blanks first x) y) more s))
+    ∙ ap (λ (p : Passage). after_bytes x p)
     (sym (resumed_one_copied rules os (only_blanks first x) (record { sort = Ordinary k; bytes = y; line = line }) more s
     (copied_whole k y (x ++ y) line ∙ e)))
 
 -- a broken token may be written in two parts
 pub resumed_broken_parts : (rules : Rules) (os : List Progress) (first : Bool) (b : Breach) (x y : List ℕ) (line : ℕ) (more : List SourceToken) (s : State)
     → resumed rules (Live os) first (record { sort = Broken b; bytes = x ++ y; line = line } ∷ more) s
-    ≡ behind_bytes x (resumed rules (Live os) (only_blanks first x) (record { sort = Broken b; bytes = y; line = line } ∷ more) s)
+    ≡ after_bytes x (resumed rules (Live os) (only_blanks first x) (record { sort = Broken b; bytes = y; line = line } ∷ more) s)
 resumed_broken_parts rules os first b x y line more s =
     let p = leaves (fails (fault_at (breach_kind b) line [] s)) s in
     resumed_broken rules os first b (x ++ y) line more s
-    ∙ sym (behind_bytes-twice x y p)
-    ∙ ap (λ (q : Passage). behind_bytes x q) (sym (resumed_broken rules os (only_blanks first x) b y line more s))
+    ∙ sym (after_bytes-twice x y p)
+    ∙ ap (λ (q : Passage). after_bytes x q) (sym (resumed_broken rules os (only_blanks first x) b y line more s))
 
 -- a `define` in front of what remains, by what it comes to
 resumed_define : (rules : Rules) (os : List Progress) (first : Bool) (bytes : List ℕ) (line : ℕ) (more : List SourceToken) (s : State) (d : Defined)
@@ -579,7 +579,7 @@ resumed_define rules os first bytes line more s d e =
 pub resumed_defined : (rules : Rules) (os : List Progress) (first : Bool) (bytes : List ℕ) (line : ℕ) (more : List SourceToken) (s : State) (macros : List Macro)
     → rules.define s.macros (drop 7 bytes) ≡ Accepted macros
     → resumed rules (Live os) first (record { sort = Definition; bytes = bytes; line = line } ∷ more) s
-    ≡ behind_bytes (line_ends_of bytes) (resumed rules (Live os) (only_blanks first bytes) more (record s { macros = macros }))
+    ≡ after_bytes (line_ends_of bytes) (resumed rules (Live os) (only_blanks first bytes) more (record s { macros = macros }))
 unfolding defines resumed
 resumed_defined rules os first bytes line more s macros e =
     resumed_define rules os first bytes line more s (Accepted macros) e

@@ -13,7 +13,7 @@ use Rattle.rdlpp_table.specs.Table.{Formal, Macro}
 use Rattle.rdlpp_table.specs.View.{formal_named, formals_of, macro_at}
 use Rattle.rdlpp_meaning.specs.Items.{Arg, Item, Written, packed}
 use Rattle.rdlpp_meaning.specs.OpenItems.{item_at, open_items, open_hide_set, own_item, part_items}
-use Rattle.rdlpp_meaning.specs.Opens.{AreOpen, HasParts, Open, OpenActual, OpenBody, OpenDefault, OpenKind, Part, Texts, formal_at, found_formals, found_standing, kind_formals, kind_standing, open_behind, open_bytes, open_scope, open_standing, own_text, own_hide_set, part_at, part_tokens, scope_formals, scope_open, scope_text, text_around, hide_set}
+use Rattle.rdlpp_meaning.specs.Opens.{AreOpen, HasParts, Open, OpenActual, OpenBody, OpenDefault, OpenKind, Part, Texts, formal_at, found_formals, found_standing, kind_formals, kind_standing, open_after, open_bytes, open_scope, open_standing, own_text, own_hide_set, part_at, part_tokens, scope_formals, scope_open, scope_text, text_around, hide_set}
 use Rattle.rdlpp_meaning.specs.Substitution.{Defaulted, Given, Standing, body_tokens, bound_to, mark_of, mark_or, marked, standing_of}
 use Rattle.rdlpp_meaning.specs.TextTokens.{text_tokens}
 use Rattle.rdlpp_meaning.proofs.KeptTexts.{body_text, first_spelled, text_nil, text_step}
@@ -92,9 +92,9 @@ more-before f fs name e = rw e (one (prefix_len (λ (g : Formal). not (bytes_eq 
     one n = omega arith
 
 -- the place of a name that the first formal hasn't
-named-behind : (f : Formal) (fs : List Formal) (name : List ℕ) → bytes_eq f.name name ≡ false
+named-following : (f : Formal) (fs : List Formal) (name : List ℕ) → bytes_eq f.name name ≡ false
     → formal_named (f ∷ fs) name ≡ option_map (λ (i : ℕ). suc i) (formal_named fs name)
-named-behind f fs name e =
+named-following f fs name e =
     next-place (prefix_len (λ (g : Formal). not (bytes_eq g.name name)) fs) (prefix_len (λ (g : Formal). not (bytes_eq g.name name)) (f ∷ fs))
     (length fs) (more-before f fs name e)
 
@@ -130,7 +130,7 @@ bound-by {A} f fs a actuals name false e rest =
     ap (λ (b : Bool). if b then Some (standing_of f a) else bound_to fs actuals name) e
     ∙ rest
     ∙ sym (place-after f fs a actuals (formal_named fs name))
-    ∙ sym (ap (λ (p : Option ℕ). option_map (standing_of_place (f ∷ fs) (a ∷ actuals)) p) (named-behind f fs name e))
+    ∙ sym (ap (λ (p : Option ℕ). option_map (standing_of_place (f ∷ fs) (a ∷ actuals)) p) (named-following f fs name e))
 
 -- what a name stands for is what the formal at its place does
 pub bound-place : {A : Type 0} (formals : List Formal) (actuals : List (List A)) (name : List ℕ) → length formals ≤ length actuals
@@ -220,8 +220,8 @@ formal-place formals name n h =
     by k false e = tt
 
 -- a range of a text behind some of its bytes
-pub range_behind : (text : List ℕ) (from end n : ℕ) → n ≤ end - from → drop n (slice_range text from end) ≡ slice_range text (from + n) end
-range_behind text from end n h =
+pub range_after : (text : List ℕ) (from end n : ℕ) → n ≤ end - from → drop n (slice_range text from end) ≡ slice_range text (from + n) end
+range_after text from end n h =
     ap (λ (k : ℕ). drop n (take k (drop from text))) (whole from end n h)
     ∙ drop-take n (end - (from + n)) (drop from text)
     ∙ ap (λ (bytes : List ℕ). take (end - (from + n)) bytes) (drop-drop n from text)
@@ -243,15 +243,15 @@ unfoldable pub first_bytes : Texts → Open → List Open → List ℕ
 first_bytes texts x below = take (token_of x.part.mode (open_bytes texts x below)).len (open_bytes texts x below)
 
 -- the open text behind it
-unfoldable pub first_behind : Texts → Open → List Open → Open
-first_behind texts x below =
-    open_behind x (token_of x.part.mode (open_bytes texts x below)).len (token_of x.part.mode (open_bytes texts x below)).next_mode
+unfoldable pub first_after : Texts → Open → List Open → Open
+first_after texts x below =
+    open_after x (token_of x.part.mode (open_bytes texts x below)).len (token_of x.part.mode (open_bytes texts x below)).next_mode
 
 -- an open text behind some of its bytes is still open
-pub behind-open : (texts : Texts) (x : Open) (below : List Open) (n : ℕ) (mode : Mode) → AreOpen texts (x ∷ below)
-    → AreOpen texts (open_behind x n mode ∷ below)
-unfolding open_behind
-behind-open texts x below n mode h = h
+pub following-open : (texts : Texts) (x : Open) (below : List Open) (n : ℕ) (mode : Mode) → AreOpen texts (x ∷ below)
+    → AreOpen texts (open_after x n mode ∷ below)
+unfolding open_after
+following-open texts x below n mode h = h
 
 -- What a formal's name stands for as an item: the mark of the open text that is opened for it.
 
@@ -504,10 +504,10 @@ standing-found macros (Some x) k place name e = by x.kind e
     by (OpenDefault id own) e = absurd (cc)
 
 -- an open text has its formals behind some of its bytes
-pub behind-formals : (macros : List Macro) (x : Open) (below : List Open) (k n : ℕ) (mode : Mode) → scope_formals macros (open_behind x n mode ∷ below) k ≡ scope_formals macros (x ∷ below) k
-unfolding scope_open open_behind
-behind-formals macros x below k n mode = by (k == suc (length below))
+pub following-formals : (macros : List Macro) (x : Open) (below : List Open) (k n : ℕ) (mode : Mode) → scope_formals macros (open_after x n mode ∷ below) k ≡ scope_formals macros (x ∷ below) k
+unfolding scope_open open_after
+following-formals macros x below k n mode = by (k == suc (length below))
   where
-    by : (own : Bool) → found_formals macros (if own then Some (open_behind x n mode) else scope_open below k) ≡ found_formals macros (if own then Some x else scope_open below k)
+    by : (own : Bool) → found_formals macros (if own then Some (open_after x n mode) else scope_open below k) ≡ found_formals macros (if own then Some x else scope_open below k)
     by true = refl
     by false = refl

@@ -14,7 +14,7 @@ use Rattle.rdlpp_meaning.specs.Actuals.{item_reads, item_role, item_size, kind_r
 use Rattle.rdlpp_meaning.specs.Expansion.{Opens, UsageFault, Usage, expand, is_copied, usage_of, walk}
 use Rattle.rdlpp_meaning.specs.Items.{Arg, Item, Written, listed, packed, unlined, unlined_item}
 use Rattle.rdlpp_meaning.specs.OpenItems.{item_at, open_items, open_left, open_hide_set, own_item, part_items}
-use Rattle.rdlpp_meaning.specs.Opens.{AreOpen, Open, OpenActual, OpenBody, OpenDefault, OpenKind, Part, Texts, found_standing, open_behind, open_body, open_bytes, open_scope, own_text, own_hide_set, part_tokens, scope_formals, scope_open, scope_text, text_around, hide_set}
+use Rattle.rdlpp_meaning.specs.Opens.{AreOpen, Open, OpenActual, OpenBody, OpenDefault, OpenKind, Part, Texts, found_standing, open_after, open_body, open_bytes, open_scope, own_text, own_hide_set, part_tokens, scope_formals, scope_open, scope_text, text_around, hide_set}
 use Rattle.rdlpp_meaning.specs.Outcome.{Outcome, and_then, fails, gives}
 use Rattle.rdlpp_meaning.specs.State.{Rules, State, fault_at}
 use Rattle.rdlpp_meaning.specs.Substitution.{Defaulted, Given, Standing, bound_to, mark_of, mark_or, marked, substituted}
@@ -22,7 +22,7 @@ use Rattle.rdlpp_meaning.specs.TextTokens.{text_tokens}
 use Rattle.rdlpp_meaning.specs.declared.fault.FaultKind.{FaultKind}
 use Rattle.rdlpp_meaning.specs.declared.fault.FaultKind.TheVariants.{BareBackquote as NoName, DepthPassed}
 use Rattle.rdlpp_meaning.proofs.SourceCalls.{KeepsReads, map_usage, usage-map, walk_skip}
-use Rattle.rdlpp_meaning.proofs.OpenScopes.{Alone, IsMarkOf, StandsFor, first_behind, first_bytes, first_kind, item-own, name-stands, name_token, next_is, part-whole, range_behind, text-around, text-mark, hidden-own}
+use Rattle.rdlpp_meaning.proofs.OpenScopes.{Alone, IsMarkOf, StandsFor, first_after, first_bytes, first_kind, item-own, name-stands, name_token, next_is, part-whole, range_after, text-around, text-mark, hidden-own}
 use Rattle.rdlpp_meaning.proofs.Outcomes.{and_then-assoc, and_then-fails, and_then-gives_nil, and_then-nil}
 use Rattle.rdlpp_meaning.proofs.KeptTexts.{first_spelled, text_nil, text_step}
 use Rattle.rdlpp_meaning.proofs.LiveText.{deeper_of, expand_walk, usage_walk, usage_walks, walk_copied}
@@ -50,8 +50,8 @@ first-inside text part some =
 -- an open text of which there is a byte has the item of its first token, and then those behind it
 first-items : (texts : Texts) (x : Open) (below : List Open) → 0 < length (open_bytes texts x below)
     → open_items texts x below
-    ≡ item_at texts (x ∷ below) (open_scope x below) (first_token texts x below) ∷ open_items texts (first_behind texts x below) below
-unfolding open_items item_at part_tokens open_bytes open_behind first_token first_kind first_bytes first_behind first_spelled open_scope
+    ≡ item_at texts (x ∷ below) (open_scope x below) (first_token texts x below) ∷ open_items texts (first_after texts x below) below
+unfolding open_items item_at part_tokens open_bytes open_after first_token first_kind first_bytes first_after first_spelled open_scope
 first-items texts x below some =
     let text = text_around texts x.kind x.parent below in
     let bytes = slice_range text x.part.from x.part.end in
@@ -59,7 +59,7 @@ first-items texts x below some =
     ap (λ (ts : List SourceToken). map (item_at texts (x ∷ below) (open_scope x below)) ts)
     (text_step x.part.mode bytes some
     ∙ ap (λ (rest : List ℕ). first_spelled x.part.mode bytes ∷ text_tokens t.next_mode rest)
-    (range_behind text x.part.from x.part.end t.len (first-inside text x.part some)))
+    (range_after text x.part.from x.part.end t.len (first-inside text x.part some)))
 
 -- an open text of which no byte is left has no item
 no-items : (texts : Texts) (x : Open) (below : List Open) → open_bytes texts x below ≡ [] → open_items texts x below ≡ []
@@ -83,30 +83,30 @@ left-walk rules s line depth texts x below =
     (expand_walk rules s (room_in depth below) (Some line) (open_hide_set texts x below) (open_items texts x below))
 
 -- an open text goes on behind some of its bytes in the text of the same macros
-behind-hidden : (texts : Texts) (x : Open) (below : List Open) (n : ℕ) (mode : Mode) → open_hide_set texts (open_behind x n mode) below ≡ open_hide_set texts x below
-unfolding open_behind open_scope hide_set
-behind-hidden texts x below n mode = refl
+following-hidden : (texts : Texts) (x : Open) (below : List Open) (n : ℕ) (mode : Mode) → open_hide_set texts (open_after x n mode) below ≡ open_hide_set texts x below
+unfolding open_after open_scope hide_set
+following-hidden texts x below n mode = refl
 
 -- what remains behind some bytes of the innermost open text
-pub behind-walk : (rules : Rules) (s : State) (line depth : ℕ) (texts : Texts) (x : Open) (below : List Open) (n : ℕ) (mode : Mode)
-    → and_then (walk rules s (deeper_of rules s (room_in depth below)) (Some line) (open_hide_set texts x below) 0 (open_items texts (open_behind x n mode) below))
+pub following-walk : (rules : Rules) (s : State) (line depth : ℕ) (texts : Texts) (x : Open) (below : List Open) (n : ℕ) (mode : Mode)
+    → and_then (walk rules s (deeper_of rules s (room_in depth below)) (Some line) (open_hide_set texts x below) 0 (open_items texts (open_after x n mode) below))
     (open_left rules s line depth texts below)
-    ≡ open_left rules s line depth texts (open_behind x n mode ∷ below)
-behind-walk rules s line depth texts x below n mode =
-    ap (λ (o : List (List ℕ)). and_then (walk rules s (deeper_of rules s (room_in depth below)) (Some line) o 0 (open_items texts (open_behind x n mode) below)) (open_left rules s line depth texts below))
-    (sym (behind-hidden texts x below n mode))
-    ∙ sym (left-walk rules s line depth texts (open_behind x n mode) below)
+    ≡ open_left rules s line depth texts (open_after x n mode ∷ below)
+following-walk rules s line depth texts x below n mode =
+    ap (λ (o : List (List ℕ)). and_then (walk rules s (deeper_of rules s (room_in depth below)) (Some line) o 0 (open_items texts (open_after x n mode) below)) (open_left rules s line depth texts below))
+    (sym (following-hidden texts x below n mode))
+    ∙ sym (left-walk rules s line depth texts (open_after x n mode) below)
 
 -- what remains by the first token of the innermost open text
 first-walk : (rules : Rules) (s : State) (line depth : ℕ) (texts : Texts) (x : Open) (below : List Open) (item : Item) → 0 < length (open_bytes texts x below)
     → item_at texts (x ∷ below) (open_scope x below) (first_token texts x below) ≡ item
     → open_left rules s line depth texts (x ∷ below)
-    ≡ and_then (walk rules s (deeper_of rules s (room_in depth below)) (Some line) (open_hide_set texts x below) 0 (item ∷ open_items texts (first_behind texts x below) below))
+    ≡ and_then (walk rules s (deeper_of rules s (room_in depth below)) (Some line) (open_hide_set texts x below) 0 (item ∷ open_items texts (first_after texts x below) below))
     (open_left rules s line depth texts below)
 first-walk rules s line depth texts x below item some e =
     left-walk rules s line depth texts x below
     ∙ ap (λ (items : List Item). and_then (walk rules s (deeper_of rules s (room_in depth below)) (Some line) (open_hide_set texts x below) 0 items) (open_left rules s line depth texts below))
-    (first-items texts x below some ∙ ap (λ (i : Item). i ∷ open_items texts (first_behind texts x below) below) e)
+    (first-items texts x below some ∙ ap (λ (i : Item). i ∷ open_items texts (first_after texts x below) below) e)
 
 -- (1) an open text of which nothing is left is closed
 pub step-closes : (rules : Rules) (s : State) (line depth : ℕ) (texts : Texts) (x : Open) (below : List Open) → open_bytes texts x below ≡ []
@@ -148,17 +148,17 @@ formal-item texts opens k t bytes place new h is named stands =
 -- an open text is opened in the same way in front of another one behind some of its bytes, by what it is
 same-by : (texts : Texts) (x : Open) (below : List Open) (n : ℕ) (mode : Mode) (part : Part) (parent : ℕ) (kind : OpenKind)
     → Arg (open_hide_set texts (record { part = part; parent = parent; kind = kind }) (x ∷ below)) (packed (open_items texts (record { part = part; parent = parent; kind = kind }) (x ∷ below)))
-    ≡ Arg (open_hide_set texts (record { part = part; parent = parent; kind = kind }) (open_behind x n mode ∷ below)) (packed (open_items texts (record { part = part; parent = parent; kind = kind }) (open_behind x n mode ∷ below)))
-unfolding open_behind open_items item_at open_scope hide_set text_around scope_text
+    ≡ Arg (open_hide_set texts (record { part = part; parent = parent; kind = kind }) (open_after x n mode ∷ below)) (packed (open_items texts (record { part = part; parent = parent; kind = kind }) (open_after x n mode ∷ below)))
+unfolding open_after open_items item_at open_scope hide_set text_around scope_text
 same-by texts x below n mode part parent (OpenBody id parts) = refl
 same-by texts x below n mode part parent OpenActual = refl
 same-by texts x below n mode part parent (OpenDefault id place) = refl
 
 -- an open text is opened in the same way in front of another one behind some of its bytes
-behind-mark : (texts : Texts) (x : Open) (below : List Open) (n : ℕ) (mode : Mode) (new : Open)
+following-mark : (texts : Texts) (x : Open) (below : List Open) (n : ℕ) (mode : Mode) (new : Open)
     → Arg (open_hide_set texts new (x ∷ below)) (packed (open_items texts new (x ∷ below)))
-    ≡ Arg (open_hide_set texts new (open_behind x n mode ∷ below)) (packed (open_items texts new (open_behind x n mode ∷ below)))
-behind-mark texts x below n mode new = same-by texts x below n mode new.part new.parent new.kind
+    ≡ Arg (open_hide_set texts new (open_after x n mode ∷ below)) (packed (open_items texts new (open_after x n mode ∷ below)))
+following-mark texts x below n mode new = same-by texts x below n mode new.part new.parent new.kind
 
 -- the first token of an open text, by its kind
 first-named : (texts : Texts) (x : Open) (below : List Open) (kind : Kind) → first_kind texts x below ≡ kind
@@ -172,11 +172,11 @@ formal-walk : (rules : Rules) (s : State) (line depth : ℕ) (texts : Texts) (x 
     → formal_named (scope_formals texts.macros (x ∷ below) (open_scope x below)) (first_bytes texts x below) ≡ Some place
     → found_standing texts.macros (scope_open (x ∷ below) (open_scope x below)) (open_scope x below) place ≡ Some new
     → open_left rules s line depth texts (x ∷ below)
-    ≡ and_then (deeper_of rules s (room_in depth below) line (open_hide_set texts new (first_behind texts x below ∷ below)) (open_items texts new (first_behind texts x below ∷ below)))
-    (open_left rules s line depth texts (first_behind texts x below ∷ below))
-unfolding walk first_behind
+    ≡ and_then (deeper_of rules s (room_in depth below) line (open_hide_set texts new (first_after texts x below ∷ below)) (open_items texts new (first_after texts x below ∷ below)))
+    (open_left rules s line depth texts (first_after texts x below ∷ below))
+unfolding walk first_after
 formal-walk rules s line depth texts x below place new h some name named found =
-    let rest = first_behind texts x below in
+    let rest = first_after texts x below in
     let under = open_left rules s line depth texts below in
     let deeper = deeper_of rules s (room_in depth below) in
     let o = open_hide_set texts new (rest ∷ below) in
@@ -186,20 +186,20 @@ formal-walk rules s line depth texts x below place new h some name named found =
     formal-item texts (x ∷ below) (open_scope x below) (first_token texts x below) (first_bytes texts x below) place new h (first-named texts x below Name name) named found in
     let left = walk rules s deeper (Some line) (open_hide_set texts x below) 0 (open_items texts rest below) in
     first-walk rules s line depth texts x below (Arg o (packed items)) some
-    (m.mark ∙ text-mark texts (x ∷ below) new m.text m.inside ∙ behind-mark texts x below t.len t.next_mode new)
+    (m.mark ∙ text-mark texts (x ∷ below) new m.text m.inside ∙ following-mark texts x below t.len t.next_mode new)
     ∙ and_then-assoc (deeper line o (listed (packed items))) left under
     ∙ ap (λ (xs : List Item). and_then (deeper line o xs) (and_then left under)) (listed-packed items)
-    ∙ ap (λ (y : Outcome). and_then (deeper line o items) y) (behind-walk rules s line depth texts x below t.len t.next_mode)
+    ∙ ap (λ (y : Outcome). and_then (deeper line o items) y) (following-walk rules s line depth texts x below t.len t.next_mode)
 
 -- (3) the name of a formal opens what it stands for, where there is room
 pub step-formal : (rules : Rules) (s : State) (line depth : ℕ) (texts : Texts) (x : Open) (below : List Open) (place : ℕ) (new : Open)
     → AreOpen texts (x ∷ below) → 0 < length (open_bytes texts x below) → first_kind texts x below ≡ Name
     → formal_named (scope_formals texts.macros (x ∷ below) (open_scope x below)) (first_bytes texts x below) ≡ Some place
     → found_standing texts.macros (scope_open (x ∷ below) (open_scope x below)) (open_scope x below) place ≡ Some new → length (x ∷ below) < depth
-    → open_left rules s line depth texts (x ∷ below) ≡ open_left rules s line depth texts (new ∷ first_behind texts x below ∷ below)
+    → open_left rules s line depth texts (x ∷ below) ≡ open_left rules s line depth texts (new ∷ first_after texts x below ∷ below)
 step-formal rules s line depth texts x below place new h some name named found room =
     formal-walk rules s line depth texts x below place new h some name named found
-    ∙ opens-room rules s line depth texts new (first_behind texts x below ∷ below) room
+    ∙ opens-room rules s line depth texts new (first_after texts x below ∷ below) room
 
 -- and is a fault where there is none
 pub step-formal_deep : (rules : Rules) (s : State) (line depth : ℕ) (texts : Texts) (x : Open) (below : List Open) (place : ℕ) (new : Open)
@@ -208,7 +208,7 @@ pub step-formal_deep : (rules : Rules) (s : State) (line depth : ℕ) (texts : T
     → found_standing texts.macros (scope_open (x ∷ below) (open_scope x below)) (open_scope x below) place ≡ Some new → depth ≤ length (x ∷ below)
     → open_left rules s line depth texts (x ∷ below) ≡ fails (fault_at DepthPassed line [] s)
 step-formal_deep rules s line depth texts x below place new h some name named found deep =
-    let rest = first_behind texts x below in
+    let rest = first_after texts x below in
     formal-walk rules s line depth texts x below place new h some name named found
     ∙ opens-deep rules s line depth (open_hide_set texts new (rest ∷ below)) (open_items texts new (rest ∷ below)) (suc (length below))
     (open_left rules s line depth texts (rest ∷ below)) deep
@@ -254,20 +254,20 @@ pub step-copies : (rules : Rules) (s : State) (line depth : ℕ) (texts : Texts)
     → AreOpen texts (x ∷ below) → 0 < length (open_bytes texts x below) → is_copied (first_token texts x below) ≡ true
     → Alone (first_kind texts x below) (formal_named (scope_formals texts.macros (x ∷ below) (open_scope x below)) (first_bytes texts x below))
     → open_left rules s line depth texts (x ∷ below)
-    ≡ and_then (gives (first_bytes texts x below)) (open_left rules s line depth texts (first_behind texts x below ∷ below))
-unfolding first_token first_behind
+    ≡ and_then (gives (first_bytes texts x below)) (open_left rules s line depth texts (first_after texts x below ∷ below))
+unfolding first_token first_after
 step-copies rules s line depth texts x below h some copied alone =
     let t = token_of x.part.mode (open_bytes texts x below) in
     let token : SourceToken = record { sort = Ordinary (first_kind texts x below); bytes = first_bytes texts x below; line = 0 } in
     let deeper = deeper_of rules s (room_in depth below) in
     let o = open_hide_set texts x below in
-    let items = open_items texts (first_behind texts x below) below in
+    let items = open_items texts (first_after texts x below) below in
     let under = open_left rules s line depth texts below in
     first-walk rules s line depth texts x below (Written token) some
     (alone-item texts (x ∷ below) (open_scope x below) (first_kind texts x below) (first_bytes texts x below) h alone)
     ∙ ap (λ (y : Outcome). and_then y under) (walk_copied rules s deeper (Some line) o token items copied)
     ∙ and_then-assoc (gives (first_bytes texts x below)) (walk rules s deeper (Some line) o 0 items) under
-    ∙ ap (λ (y : Outcome). and_then (gives (first_bytes texts x below)) y) (behind-walk rules s line depth texts x below t.len t.next_mode)
+    ∙ ap (λ (y : Outcome). and_then (gives (first_bytes texts x below)) y) (following-walk rules s line depth texts x below t.len t.next_mode)
 
 -- (6) a lone backquote is a fault
 pub step-bare : (rules : Rules) (s : State) (line depth : ℕ) (texts : Texts) (x : Open) (below : List Open)
@@ -284,16 +284,16 @@ step-bare rules s line depth texts x below some e =
 -- what remains at a usage, by what it comes to
 pub usage-left : (rules : Rules) (s : State) (line depth : ℕ) (texts : Texts) (x : Open) (below : List Open) (u : Usage Item)
     → 0 < length (open_bytes texts x below) → first_kind texts x below ≡ Back
-    → usage_of rules s (item_reads (Some line)) line (open_hide_set texts x below) (drop 1 (first_bytes texts x below)) (open_items texts (first_behind texts x below) below) ≡ u
+    → usage_of rules s (item_reads (Some line)) line (open_hide_set texts x below) (drop 1 (first_bytes texts x below)) (open_items texts (first_after texts x below) below) ≡ u
     → open_left rules s line depth texts (x ∷ below)
     ≡ and_then (usage_walk rules s (deeper_of rules s (room_in depth below)) (Some line) (open_hide_set texts x below) line
-    (open_items texts (first_behind texts x below) below) u) (open_left rules s line depth texts below)
+    (open_items texts (first_after texts x below) below) u) (open_left rules s line depth texts below)
 unfolding marked
 usage-left rules s line depth texts x below u some e comes =
     let token : SourceToken = record { sort = Ordinary Back; bytes = first_bytes texts x below; line = 0 } in
     let deeper = deeper_of rules s (room_in depth below) in
     let o = open_hide_set texts x below in
-    let items = open_items texts (first_behind texts x below) below in
+    let items = open_items texts (first_after texts x below) below in
     first-walk rules s line depth texts x below (Written token) some
     (ap (λ (t : SourceToken). item_at texts (x ∷ below) (open_scope x below) t) (first-named texts x below Back e)
     ∙ plain-item texts (x ∷ below) (open_scope x below) token (λ macro formals actuals o. refl))
@@ -319,8 +319,8 @@ body-hidden texts id parts scope opens =
     hidden-own texts (record { part = record { from = 0; end = length (macro_at texts.macros id).body; mode = Plain }; parent = scope; kind = OpenBody id parts }) opens
 
 -- the scope of an open text that goes on is in the text of the same macros
-pub scope-hidden : (texts : Texts) (x : Open) (below : List Open) (n : ℕ) (mode : Mode) → hide_set texts (open_behind x n mode ∷ below) (open_scope x below) ≡ open_hide_set texts x below
-unfolding open_behind hide_set
+pub scope-hidden : (texts : Texts) (x : Open) (below : List Open) (n : ℕ) (mode : Mode) → hide_set texts (open_after x n mode ∷ below) (open_scope x below) ≡ open_hide_set texts x below
+unfolding open_after hide_set
 scope-hidden texts x below n mode = refl
 
 -- what remains of the body that a usage in a source opens is what its items expand to, with the parts of what is kept of its call as
@@ -352,9 +352,9 @@ first-left rules s line d texts id parts =
 
 -- the mode in which an open text is read makes no difference where its bytes have the same tokens in another one
 pub left-mode : (rules : Rules) (s : State) (line depth : ℕ) (texts : Texts) (x : Open) (below : List Open) (n : ℕ) (mode next : Mode)
-    → text_tokens mode (open_bytes texts (open_behind x n mode) below) ≡ text_tokens next (open_bytes texts (open_behind x n mode) below)
-    → open_left rules s line depth texts (open_behind x n mode ∷ below) ≡ open_left rules s line depth texts (open_behind x n next ∷ below)
-unfolding open_left open_items part_tokens open_bytes open_behind item_at open_scope hide_set
+    → text_tokens mode (open_bytes texts (open_after x n mode) below) ≡ text_tokens next (open_bytes texts (open_after x n mode) below)
+    → open_left rules s line depth texts (open_after x n mode ∷ below) ≡ open_left rules s line depth texts (open_after x n next ∷ below)
+unfolding open_left open_items part_tokens open_bytes open_after item_at open_scope hide_set
 left-mode rules s line depth texts x below n mode next e =
     ap (λ (ts : List SourceToken). and_then (expand rules s (room_in depth below) (Some line) (open_hide_set texts x below) (map (item_at texts (x ∷ below) (open_scope x below)) ts))
     (open_left rules s line depth texts below)) e
@@ -454,8 +454,8 @@ item-keeps texts opens k line = record {
 
 -- the scope of an open text that goes on has the text in which that lies
 pub scope-text : (texts : Texts) (x : Open) (below : List Open) (n : ℕ) (mode : Mode) → x.parent ≤ length below
-    → scope_text texts (open_behind x n mode ∷ below) (open_scope x below) ≡ text_around texts x.kind x.parent below
-unfolding open_scope text_around scope_text open_behind
+    → scope_text texts (open_after x n mode ∷ below) (open_scope x below) ≡ text_around texts x.kind x.parent below
+unfolding open_scope text_around scope_text open_after
 scope-text texts x below n mode h = by x.kind
   where
     part : Part
@@ -471,24 +471,24 @@ scope-text texts x below n mode h = by x.kind
     by (OpenDefault id place) = own (OpenDefault id place)
 
 -- the tokens behind the first one of an open text
-unfoldable pub tokens_behind : Texts → Open → List Open → List SourceToken
-tokens_behind texts x below = part_tokens (text_around texts x.kind x.parent below) (first_behind texts x below).part
+unfoldable pub tokens_after : Texts → Open → List Open → List SourceToken
+tokens_after texts x below = part_tokens (text_around texts x.kind x.parent below) (first_after texts x below).part
 
 -- their items
-behind-items : (texts : Texts) (x : Open) (below : List Open)
-    → open_items texts (first_behind texts x below) below ≡ map (item_at texts (x ∷ below) (open_scope x below)) (tokens_behind texts x below)
-unfolding open_items tokens_behind first_behind open_behind item_at open_scope
-behind-items texts x below = refl
+following-items : (texts : Texts) (x : Open) (below : List Open)
+    → open_items texts (first_after texts x below) below ≡ map (item_at texts (x ∷ below) (open_scope x below)) (tokens_after texts x below)
+unfolding open_items tokens_after first_after open_after item_at open_scope
+following-items texts x below = refl
 
 -- the items of an open text behind some of its bytes
-behind-part : (texts : Texts) (x : Open) (below : List Open) (n : ℕ) (mode : Mode)
-    → map (item_at texts (x ∷ below) (open_scope x below)) (part_tokens (text_around texts x.kind x.parent below) (open_behind x n mode).part) ≡ open_items texts (open_behind x n mode) below
-unfolding open_items open_behind item_at open_scope
-behind-part texts x below n mode = refl
+following-part : (texts : Texts) (x : Open) (below : List Open) (n : ℕ) (mode : Mode)
+    → map (item_at texts (x ∷ below) (open_scope x below)) (part_tokens (text_around texts x.kind x.parent below) (open_after x n mode).part) ≡ open_items texts (open_after x n mode) below
+unfolding open_items open_after item_at open_scope
+following-part texts x below n mode = refl
 
 -- its scope has the same items
-scope-items : (texts : Texts) (x : Open) (below : List Open) (n : ℕ) (mode : Mode) → item_at texts (x ∷ below) (open_scope x below) ≡ item_at texts (open_behind x n mode ∷ below) (open_scope x below)
-unfolding item_at open_behind
+scope-items : (texts : Texts) (x : Open) (below : List Open) (n : ℕ) (mode : Mode) → item_at texts (x ∷ below) (open_scope x below) ≡ item_at texts (open_after x n mode ∷ below) (open_scope x below)
+unfolding item_at open_after
 scope-items texts x below n mode = refl
 
 -- parts of a text as items
@@ -499,22 +499,22 @@ items-parts item text (p ∷ ps) = ap (λ (xs : List (List Item)). map item (par
 -- what the usage at the front of an open text comes to
 unfoldable pub first_usage : Rules → State → ℕ → Texts → Open → List Open → Usage SourceToken
 first_usage rules s line texts x below =
-    usage_of rules s text_reads line (open_hide_set texts x below) (drop 1 (first_bytes texts x below)) (tokens_behind texts x below)
+    usage_of rules s text_reads line (open_hide_set texts x below) (drop 1 (first_bytes texts x below)) (tokens_after texts x below)
 
 -- what remains at a usage, by what it comes to
 usage-walks-on : (rules : Rules) (s : State) (line depth : ℕ) (texts : Texts) (x : Open) (below : List Open) (u : Usage SourceToken)
     → 0 < length (open_bytes texts x below) → first_kind texts x below ≡ Back → first_usage rules s line texts x below ≡ u
     → open_left rules s line depth texts (x ∷ below)
     ≡ and_then (usage_walk rules s (deeper_of rules s (room_in depth below)) (Some line) (open_hide_set texts x below) line
-    (open_items texts (first_behind texts x below) below) (map_usage (item_at texts (x ∷ below) (open_scope x below)) u)) (open_left rules s line depth texts below)
+    (open_items texts (first_after texts x below) below) (map_usage (item_at texts (x ∷ below) (open_scope x below)) u)) (open_left rules s line depth texts below)
 unfolding first_usage
 usage-walks-on rules s line depth texts x below u some back comes =
     let item = item_at texts (x ∷ below) (open_scope x below) in
     let o = open_hide_set texts x below in
     let name = drop 1 (first_bytes texts x below) in
     usage-left rules s line depth texts x below (map_usage item u) some back
-    (ap (λ (xs : List Item). usage_of rules s (item_reads (Some line)) line o name xs) (behind-items texts x below)
-    ∙ usage-map text_reads (item_reads (Some line)) item (item-keeps texts (x ∷ below) (open_scope x below) line) rules s line o name (tokens_behind texts x below)
+    (ap (λ (xs : List Item). usage_of rules s (item_reads (Some line)) line o name xs) (following-items texts x below)
+    ∙ usage-map text_reads (item_reads (Some line)) item (item-keeps texts (x ∷ below) (open_scope x below) line) rules s line o name (tokens_after texts x below)
     ∙ ap (map_usage item) comes)
 
 -- (4, 5) a usage that is refused is its fault
@@ -535,7 +535,7 @@ step-usage_deep rules s line depth texts x below m actuals used some back comes 
     let deeper = deeper_of rules s (room_in depth below) in
     let o = open_hide_set texts x below in
     let items = map (map (item_at texts (x ∷ below) (open_scope x below))) actuals in
-    let rest = walk rules s deeper (Some line) o used (open_items texts (first_behind texts x below) below) in
+    let rest = walk rules s deeper (Some line) o used (open_items texts (first_after texts x below) below) in
     let under = open_left rules s line depth texts below in
     usage-walks-on rules s line depth texts x below (Opens m actuals used) some back comes
     ∙ and_then-assoc (deeper line (m.name ∷ o) (substituted m items o)) rest under
@@ -544,32 +544,32 @@ step-usage_deep rules s line depth texts x below m actuals used some back comes 
 -- the actuals of a call as items: the parts of the text of its scope
 actual-items : (texts : Texts) (x : Open) (below : List Open) (n : ℕ) (mode : Mode) (parts : List Part) → x.parent ≤ length below
     → map (map (item_at texts (x ∷ below) (open_scope x below))) (map (part_tokens (text_around texts x.kind x.parent below)) parts)
-    ≡ part_items (item_at texts (open_behind x n mode ∷ below) (open_scope x below)) (scope_text texts (open_behind x n mode ∷ below) (open_scope x below)) parts
+    ≡ part_items (item_at texts (open_after x n mode ∷ below) (open_scope x below)) (scope_text texts (open_after x n mode ∷ below) (open_scope x below)) parts
 actual-items texts x below n mode parts h =
     items-parts (item_at texts (x ∷ below) (open_scope x below)) (text_around texts x.kind x.parent below) parts
     ∙ ap (λ (text : List ℕ). part_items (item_at texts (x ∷ below) (open_scope x below)) text parts) (sym (scope-text texts x below n mode h))
-    ∙ ap (λ (f : SourceToken → Item). part_items f (scope_text texts (open_behind x n mode ∷ below) (open_scope x below)) parts) (scope-items texts x below n mode)
+    ∙ ap (λ (f : SourceToken → Item). part_items f (scope_text texts (open_after x n mode ∷ below) (open_scope x below)) parts) (scope-items texts x below n mode)
 
 -- (4, 5) a usage that opens a macro of the table opens its body, with parts of the text in which its call is written as actuals, where
 -- there is room: the tokens behind its call are those of a part
 pub step-usage : (rules : Rules) (s : State) (line depth : ℕ) (texts : Texts) (x : Open) (below : List Open) (id : ℕ) (parts : List Part) (used n : ℕ) (mode : Mode)
     → x.parent ≤ length below → 0 < length (open_bytes texts x below) → first_kind texts x below ≡ Back
     → first_usage rules s line texts x below ≡ Opens (macro_at texts.macros id) (map (part_tokens (text_around texts x.kind x.parent below)) parts) used
-    → drop used (tokens_behind texts x below) ≡ part_tokens (text_around texts x.kind x.parent below) (open_behind x n mode).part
+    → drop used (tokens_after texts x below) ≡ part_tokens (text_around texts x.kind x.parent below) (open_after x n mode).part
     → length (x ∷ below) < depth
-    → open_left rules s line depth texts (x ∷ below) ≡ open_left rules s line depth texts (open_body texts id parts (open_scope x below) ∷ open_behind x n mode ∷ below)
+    → open_left rules s line depth texts (x ∷ below) ≡ open_left rules s line depth texts (open_body texts id parts (open_scope x below) ∷ open_after x n mode ∷ below)
 unfolding usage_walk map_usage
 step-usage rules s line depth texts x below id parts used n mode h some back comes left room =
     let m = macro_at texts.macros id in
     let scope = open_scope x below in
-    let opens : List Open = open_behind x n mode ∷ below in
+    let opens : List Open = open_after x n mode ∷ below in
     let new = open_body texts id parts scope in
     let item = item_at texts (x ∷ below) scope in
     let given = map (map item) (map (part_tokens (text_around texts x.kind x.parent below)) parts) in
     let actuals = part_items (item_at texts opens scope) (scope_text texts opens scope) parts in
     let deeper = deeper_of rules s (room_in depth below) in
     let o = open_hide_set texts x below in
-    let items = open_items texts (first_behind texts x below) below in
+    let items = open_items texts (first_after texts x below) below in
     let body = deeper line (m.name ∷ o) (substituted m given o) in
     let last = open_left rules s line depth texts opens in
     usage-walks-on rules s line depth texts x below (Opens m (map (part_tokens (text_around texts x.kind x.parent below)) parts) used) some back comes
@@ -577,8 +577,8 @@ step-usage rules s line depth texts x below id parts used n mode h some back com
     ∙ ap (λ (y : Outcome). and_then body (and_then y (open_left rules s line depth texts below)))
     (walk_skip rules s deeper (Some line) o used items
     ∙ ap (λ (xs : List Item). walk rules s deeper (Some line) o 0 xs)
-    (ap (λ (xs : List Item). drop used xs) (behind-items texts x below) ∙ drop-map item used (tokens_behind texts x below) ∙ ap (λ (ts : List SourceToken). map item ts) left ∙ behind-part texts x below n mode))
-    ∙ ap (λ (y : Outcome). and_then body y) (behind-walk rules s line depth texts x below n mode)
+    (ap (λ (xs : List Item). drop used xs) (following-items texts x below) ∙ drop-map item used (tokens_after texts x below) ∙ ap (λ (ts : List SourceToken). map item ts) left ∙ following-part texts x below n mode))
+    ∙ ap (λ (y : Outcome). and_then body y) (following-walk rules s line depth texts x below n mode)
     ∙ ap (λ (xs : List (List Item)). and_then (deeper line (m.name ∷ o) (substituted m xs o)) last) (actual-items texts x below n mode parts h)
     ∙ ap (λ (w : List (List ℕ)). and_then (deeper line (m.name ∷ w) (substituted m actuals w)) last) (sym (scope-hidden texts x below n mode))
     ∙ ap (λ (xs : List Item). and_then (deeper line (m.name ∷ hide_set texts opens scope) xs) last) (sym (body-items texts id parts scope opens))

@@ -11,11 +11,11 @@ use Rattle.rdlpp_scan.specs.declared.token.Kind.{Kind}
 use Rattle.rdlpp_scan.specs.declared.token.Kind.TheVariants.{Back, BareBackquote, BlockComment, LineComment, Perl, Str}
 use Rattle.rdlpp_table.specs.Table.{Macro}
 use Rattle.rdlpp_meaning.specs.Expansion.{is_copied}
-use Rattle.rdlpp_meaning.specs.Meaning.{Holds, IncludedMeaning, Passage, Progress, TestFault, Test, begun, behind_bytes, by_test, goes_on, in_conditional, leaves, mean, mean_branches, mean_part, included_meaning_of, opening, origin_line, outcome, past_conditional, refusal, skip, skip_branches, skip_part, skipped_command, text_meaning, turn, turned, unclosed}
+use Rattle.rdlpp_meaning.specs.Meaning.{Holds, IncludedMeaning, Passage, Progress, TestFault, Test, begun, after_bytes, by_test, goes_on, in_conditional, leaves, mean, mean_branches, mean_part, included_meaning_of, opening, origin_line, outcome, past_conditional, refusal, skip, skip_branches, skip_part, skipped_command, text_meaning, turn, turned, unclosed}
 use Rattle.rdlpp_meaning.specs.Outcome.{Outcome, Report, and_then, fails, gives}
 use Rattle.rdlpp_meaning.specs.Output.{opening_fault, output, start_state}
 use Rattle.rdlpp_meaning.specs.OutputLimit.{limited}
-use Rattle.rdlpp_meaning.specs.Parts.{Alone, Branch, Branching, Closing, Command, Conditional, Ended, Last, Level, More, Nothing, Opening, Part, Parts, Piece, Run, Single, Text, Upto, appended, behind_end, front_parts, further_branches, in_front, level_of, level_parts, opened_before, parts_of, pieces}
+use Rattle.rdlpp_meaning.specs.Parts.{Alone, Branch, Branching, Closing, Command, Conditional, Ended, Last, Level, More, Nothing, Opening, Part, Parts, Piece, Run, Single, Text, Upto, appended, after_end, front_parts, further_branches, in_front, level_of, level_parts, opened_before, parts_of, pieces}
 use Rattle.rdlpp_meaning.specs.Resumed.{Live, Place, Skipped, remains, resume, resumed}
 use Rattle.rdlpp_meaning.specs.State.{LongPath, NoSource, Rules, Source, State}
 use Rattle.rdlpp_meaning.specs.declared.fault.FaultKind.{FaultKind}
@@ -82,9 +82,9 @@ bytes-and_then_gives x o = refl
 -- what goes on from an outcome's state, by the outcome's fault
 on_leaves_by : (x : List ℕ) (f : Option Report) (s : State) (g h : State → Passage) → g s ≡ h s
     → goes_on (leaves (record { bytes = x; fault = f }) s) g ≡ goes_on (leaves (record { bytes = x; fault = f }) s) h
-unfolding goes_on leaves behind_bytes
+unfolding goes_on leaves after_bytes
 on_leaves_by x (Some f) s g h e = refl
-on_leaves_by x None s g h e = ap (λ (p : Passage). behind_bytes x p) e
+on_leaves_by x None s g h e = ap (λ (p : Passage). after_bytes x p) e
 
 -- only what goes on from its own state counts behind an outcome
 pub on_leaves : (o : Outcome) (s : State) (g h : State → Passage) → g s ≡ h s
@@ -95,7 +95,7 @@ on_leaves o s g h e = on_leaves_by o.bytes o.fault s g h e
 and_then_by : (x : List ℕ) (f : Option Report) (y : List ℕ) (g : Option Report) (s : State) (next : State → Passage)
     → goes_on (leaves (and_then (record { bytes = x; fault = f }) (record { bytes = y; fault = g })) s) next
     ≡ goes_on (leaves (record { bytes = x; fault = f }) s) (λ after. goes_on (leaves (record { bytes = y; fault = g }) after) next)
-unfolding goes_on leaves behind_bytes and_then
+unfolding goes_on leaves after_bytes and_then
 and_then_by x (Some f) y g s next = refl
 and_then_by x None y (Some g) s next = refl
 and_then_by x None y None s next =
@@ -108,7 +108,7 @@ leaves-and_then a b s next = and_then_by a.bytes a.fault b.bytes b.fault s next
 
 -- what goes on from no bytes
 pub goes_on-nil : (s : State) (next : State → Passage) → goes_on (leaves (gives []) s) next ≡ next s
-unfolding goes_on leaves behind_bytes gives
+unfolding goes_on leaves after_bytes gives
 goes_on-nil s next = refl
 
 -- an outcome that leaves a state is that outcome
@@ -120,13 +120,13 @@ outcome-leaves o s = refl
 passage_assoc_by : (x : List ℕ) (f : Option Report) (s : State) (g h : State → Passage)
     → goes_on (goes_on (record { bytes = x; fault = f; after = s }) g) h
     ≡ goes_on (record { bytes = x; fault = f; after = s }) (λ after. goes_on (g after) h)
-unfolding goes_on behind_bytes
+unfolding goes_on after_bytes
 passage_assoc_by x (Some f) s g h = refl
 passage_assoc_by x None s g h = by_second (g s).bytes (g s).fault (g s).after
   where
     by_second : (y : List ℕ) (k : Option Report) (t : State)
-        → goes_on (behind_bytes x (record { bytes = y; fault = k; after = t })) h
-        ≡ behind_bytes x (goes_on (record { bytes = y; fault = k; after = t }) h)
+        → goes_on (after_bytes x (record { bytes = y; fault = k; after = t })) h
+        ≡ after_bytes x (goes_on (record { bytes = y; fault = k; after = t }) h)
     by_second y (Some k) t = refl
     by_second y None t = ap (λ (z : List ℕ). record { bytes = z; fault = (h t).fault; after = (h t).after }) (append_assoc x y (h t).bytes)
 
@@ -141,7 +141,7 @@ unfolding refusal goes_on leaves fails
 refusal-goes_on kind word c s next = refl
 
 -- what goes on from bytes
-pub goes_on-gives : (x : List ℕ) (s : State) (next : State → Passage) → goes_on (leaves (gives x) s) next ≡ behind_bytes x (next s)
+pub goes_on-gives : (x : List ℕ) (s : State) (next : State → Passage) → goes_on (leaves (gives x) s) next ≡ after_bytes x (next s)
 unfolding goes_on leaves gives
 goes_on-gives x s next = refl
 
@@ -151,20 +151,20 @@ unfolding goes_on leaves fails
 fails-goes_on f s next = refl
 
 -- no bytes in front of a passage are nothing
-pub behind_bytes-nil : (p : Passage) → behind_bytes [] p ≡ p
-unfolding behind_bytes
-behind_bytes-nil p = refl
+pub after_bytes-nil : (p : Passage) → after_bytes [] p ≡ p
+unfolding after_bytes
+after_bytes-nil p = refl
 
 -- bytes in front of bytes in front of a passage
-pub behind_bytes-twice : (x y : List ℕ) (p : Passage) → behind_bytes x (behind_bytes y p) ≡ behind_bytes (x ++ y) p
-unfolding behind_bytes
-behind_bytes-twice x y p =
+pub after_bytes-twice : (x y : List ℕ) (p : Passage) → after_bytes x (after_bytes y p) ≡ after_bytes (x ++ y) p
+unfolding after_bytes
+after_bytes-twice x y p =
     ap (λ (z : List ℕ). record { bytes = z; fault = p.fault; after = p.after }) (sym (append_assoc x y p.bytes))
 
 -- bytes and a fault behind which nothing goes on
 pub gives_fails-goes_on : (x : List ℕ) (f : Report) (s : State) (next : State → Passage)
-    → goes_on (leaves (and_then (gives x) (fails f)) s) next ≡ behind_bytes x (leaves (fails f) s)
-unfolding goes_on leaves and_then gives fails behind_bytes
+    → goes_on (leaves (and_then (gives x) (fails f)) s) next ≡ after_bytes x (leaves (fails f) s)
+unfolding goes_on leaves and_then gives fails after_bytes
 gives_fails-goes_on x f s next = refl
 
 -- Laws of an outcome of at most so many bytes.
@@ -240,7 +240,7 @@ goes_on_by : (x : List ℕ) (f : Option Report) (s : State) (g h : State → Pas
     → goes_on (record { bytes = x; fault = f; after = s }) g ≡ goes_on (record { bytes = x; fault = f; after = s }) h
 unfolding goes_on
 goes_on_by x (Some f) s g h e = refl
-goes_on_by x None s g h e = ap (λ (p : Passage). behind_bytes x p) (e s)
+goes_on_by x None s g h e = ap (λ (p : Passage). after_bytes x p) (e s)
 
 -- what goes on alike from each state is alike behind a passage
 pub goes_on-same : (p : Passage) (g h : State → Passage) → ((t : State) → g t ≡ h t) → goes_on p g ≡ goes_on p h
@@ -251,16 +251,16 @@ unfoldable pub rest_live : Rules → IncludedMeaning → List Progress → Level
 rest_live rules included_meaning [] l s = mean rules included_meaning (level_parts l) s
 rest_live rules included_meaning (o ∷ os) l s =
     goes_on (mean rules included_meaning (front_parts l) s) (λ a.
-    goes_on (mean_branches rules included_meaning (further_branches l) o a) (λ b. rest_live rules included_meaning os (behind_end l) b))
+    goes_on (mean_branches rules included_meaning (further_branches l) o a) (λ b. rest_live rules included_meaning os (after_end l) b))
 
 -- what remains in skipped text behind a level
 unfoldable pub rest_skipped : Rules → IncludedMeaning → ℕ → Progress → List Progress → Level → State → Passage
 rest_skipped rules included_meaning zero o os l s =
     goes_on (leaves (skip s (front_parts l)) s) (λ a.
-    goes_on (mean_branches rules included_meaning (further_branches l) o a) (λ b. rest_live rules included_meaning os (behind_end l) b))
+    goes_on (mean_branches rules included_meaning (further_branches l) o a) (λ b. rest_live rules included_meaning os (after_end l) b))
 rest_skipped rules included_meaning (suc n) o os l s =
     goes_on (leaves (skip s (front_parts l)) s) (λ a.
-    goes_on (leaves (skip_branches a (further_branches l)) a) (λ b. rest_skipped rules included_meaning n o os (behind_end l) b))
+    goes_on (leaves (skip_branches a (further_branches l)) a) (λ b. rest_skipped rules included_meaning n o os (after_end l) b))
 
 -- what remains behind a level, from a place
 unfoldable pub rest : Rules → IncludedMeaning → Place → Level → State → Passage
@@ -282,11 +282,11 @@ branches-in_front p (Upto ps c l) = refl
 branches-in_front p (Ended ps c l) = refl
 
 -- nor of what is behind the end
-behind-in_front : (p : Part) (l : Level) → behind_end (in_front p l) ≡ behind_end l
-unfolding behind_end in_front
-behind-in_front p (Last ps) = refl
-behind-in_front p (Upto ps c l) = refl
-behind-in_front p (Ended ps c l) = refl
+following-in_front : (p : Part) (l : Level) → after_end (in_front p l) ≡ after_end l
+unfolding after_end in_front
+following-in_front p (Last ps) = refl
+following-in_front p (Upto ps c l) = refl
+following-in_front p (Ended ps c l) = refl
 
 -- and stands in front of all parts of the level
 parts-in_front : (p : Part) (l : Level) → level_parts (in_front p l) ≡ More p (level_parts l)
@@ -301,35 +301,35 @@ live_in_front : (rules : Rules) (included_meaning : IncludedMeaning) (os : List 
 unfolding rest_live mean
 live_in_front rules included_meaning [] p l s = ap (λ (ps : Parts). mean rules included_meaning ps s) (parts-in_front p l)
 live_in_front rules included_meaning (o ∷ os) p l s =
-    rw (front-in_front p l, branches-in_front p l, behind-in_front p l)
+    rw (front-in_front p l, branches-in_front p l, following-in_front p l)
     (goes_on-assoc (mean_part rules included_meaning p s) (λ a. mean rules included_meaning (front_parts l) a) (λ a.
-    goes_on (mean_branches rules included_meaning (further_branches l) o a) (λ b. rest_live rules included_meaning os (behind_end l) b)))
+    goes_on (mean_branches rules included_meaning (further_branches l) o a) (λ b. rest_live rules included_meaning os (after_end l) b)))
 
 -- skipped text: a part in front of a level is skipped, and then what remains
 skipped_in_front : (rules : Rules) (included_meaning : IncludedMeaning) (n : ℕ) (o : Progress) (os : List Progress) (p : Part) (l : Level) (s : State)
     → rest_skipped rules included_meaning n o os (in_front p l) s ≡ goes_on (leaves (skip_part s p) s) (λ a. rest_skipped rules included_meaning n o os l a)
 unfolding rest_skipped skip
 skipped_in_front rules included_meaning zero o os p l s =
-    rw (front-in_front p l, branches-in_front p l, behind-in_front p l)
+    rw (front-in_front p l, branches-in_front p l, following-in_front p l)
     (leaves-and_then (skip_part s p) (skip s (front_parts l)) s (λ a.
-    goes_on (mean_branches rules included_meaning (further_branches l) o a) (λ b. rest_live rules included_meaning os (behind_end l) b))
+    goes_on (mean_branches rules included_meaning (further_branches l) o a) (λ b. rest_live rules included_meaning os (after_end l) b))
     ∙ on_leaves (skip_part s p) s
     (λ t. goes_on (leaves (skip s (front_parts l)) t) (λ a.
-    goes_on (mean_branches rules included_meaning (further_branches l) o a) (λ b. rest_live rules included_meaning os (behind_end l) b)))
+    goes_on (mean_branches rules included_meaning (further_branches l) o a) (λ b. rest_live rules included_meaning os (after_end l) b)))
     (λ t. rest_skipped rules included_meaning zero o os l t) refl)
 skipped_in_front rules included_meaning (suc n) o os p l s =
-    rw (front-in_front p l, branches-in_front p l, behind-in_front p l)
+    rw (front-in_front p l, branches-in_front p l, following-in_front p l)
     (leaves-and_then (skip_part s p) (skip s (front_parts l)) s (λ a.
-    goes_on (leaves (skip_branches a (further_branches l)) a) (λ b. rest_skipped rules included_meaning n o os (behind_end l) b))
+    goes_on (leaves (skip_branches a (further_branches l)) a) (λ b. rest_skipped rules included_meaning n o os (after_end l) b))
     ∙ on_leaves (skip_part s p) s
     (λ t. goes_on (leaves (skip s (front_parts l)) t) (λ a.
-    goes_on (leaves (skip_branches a (further_branches l)) a) (λ b. rest_skipped rules included_meaning n o os (behind_end l) b)))
+    goes_on (leaves (skip_branches a (further_branches l)) a) (λ b. rest_skipped rules included_meaning n o os (after_end l) b)))
     (λ t. rest_skipped rules included_meaning (suc n) o os l t) refl)
 
 -- where nothing is left, an open conditional isn't closed
 skipped_nothing : (rules : Rules) (included_meaning : IncludedMeaning) (n : ℕ) (o : Progress) (os : List Progress) (s : State)
     → rest_skipped rules included_meaning n o os (Last Nothing) s ≡ unclosed o s
-unfolding rest_skipped front_parts further_branches behind_end skip skip_branches mean_branches goes_on leaves behind_bytes gives unclosed fails
+unfolding rest_skipped front_parts further_branches after_end skip skip_branches mean_branches goes_on leaves after_bytes gives unclosed fails
 skipped_nothing rules included_meaning zero o os s = refl
 skipped_nothing rules included_meaning (suc n) o os s = skipped_nothing rules included_meaning n o os s
 
@@ -351,12 +351,12 @@ opening_rest : (rules : Rules) (included_meaning : IncludedMeaning) (os : List P
     → Resumes rules included_meaning ps
     → resume rules included_meaning (Live os) (Opening c ∷ ps) s
     ≡ goes_on (mean_part rules included_meaning (Conditional c (front_parts (level_of ps)) (further_branches (level_of ps))) s)
-    (λ a. rest_live rules included_meaning os (behind_end (level_of ps)) a)
+    (λ a. rest_live rules included_meaning os (after_end (level_of ps)) a)
 unfolding resume mean_part Resumes rest rest_live rest_skipped
 opening_rest rules included_meaning os c ps s r =
     let fp = front_parts (level_of ps) in
     let fb = further_branches (level_of ps) in
-    let next : State → Passage = λ a. rest_live rules included_meaning os (behind_end (level_of ps)) a in
+    let next : State → Passage = λ a. rest_live rules included_meaning os (after_end (level_of ps)) a in
     by_test-goes_on (opening c s) c s
     (λ t. resume rules included_meaning (Live (begun c t true ∷ os)) ps (in_conditional t))
     (λ t. resume rules included_meaning (Skipped 0 (begun c t false) os) ps (in_conditional t))
@@ -375,12 +375,12 @@ turn_rest : (rules : Rules) (included_meaning : IncludedMeaning) (o : Progress) 
     (λ t. resume rules included_meaning (Live (turned o c true ∷ os)) ps t)
     (λ t. resume rules included_meaning (Skipped 0 (turned o c false) os) ps t)
     ≡ goes_on (mean_branches rules included_meaning (Branch c (front_parts (level_of ps)) (further_branches (level_of ps))) o s)
-    (λ a. rest_live rules included_meaning os (behind_end (level_of ps)) a)
+    (λ a. rest_live rules included_meaning os (after_end (level_of ps)) a)
 unfolding mean_branches Resumes rest rest_live rest_skipped
 turn_rest rules included_meaning o os c ps s r =
     let fp = front_parts (level_of ps) in
     let fb = further_branches (level_of ps) in
-    let next : State → Passage = λ a. rest_live rules included_meaning os (behind_end (level_of ps)) a in
+    let next : State → Passage = λ a. rest_live rules included_meaning os (after_end (level_of ps)) a in
     by_test-goes_on (turn o c s) c s
     (λ t. resume rules included_meaning (Live (turned o c true ∷ os)) ps t)
     (λ t. resume rules included_meaning (Skipped 0 (turned o c false) os) ps t)
@@ -396,10 +396,10 @@ turn_rest rules included_meaning o os c ps s r =
 skipped_deeper : (rules : Rules) (included_meaning : IncludedMeaning) (n : ℕ) (o : Progress) (os : List Progress) (c : Command) (l : Level) (s : State)
     → goes_on (leaves (skipped_command c) s) (λ a. rest_skipped rules included_meaning (suc n) o os l a)
     ≡ goes_on (leaves (and_then (skipped_command c) (and_then (skip s (front_parts l)) (skip_branches s (further_branches l)))) s)
-    (λ a. rest_skipped rules included_meaning n o os (behind_end l) a)
+    (λ a. rest_skipped rules included_meaning n o os (after_end l) a)
 unfolding rest_skipped
 skipped_deeper rules included_meaning n o os c l s =
-    let next : State → Passage = λ a. rest_skipped rules included_meaning n o os (behind_end l) a in
+    let next : State → Passage = λ a. rest_skipped rules included_meaning n o os (after_end l) a in
     let fp = skip s (front_parts l) in
     let fb = skip_branches s (further_branches l) in
     on_leaves (skipped_command c) s (λ a. rest_skipped rules included_meaning (suc n) o os l a)
@@ -432,7 +432,7 @@ skipped_step rules included_meaning n o os p ps s r =
 skipped_in : (rules : Rules) (included_meaning : IncludedMeaning) (n : ℕ) (o : Progress) (os : List Progress) (c : Command) (ps : List Piece) (s : State) → Resumes rules included_meaning ps
     → goes_on (leaves (skipped_command c) s) (λ a. resume rules included_meaning (Skipped (suc n) o os) ps a)
     ≡ goes_on (leaves (and_then (skipped_command c) (and_then (skip s (front_parts (level_of ps))) (skip_branches s (further_branches (level_of ps))))) s)
-    (λ a. rest_skipped rules included_meaning n o os (behind_end (level_of ps)) a)
+    (λ a. rest_skipped rules included_meaning n o os (after_end (level_of ps)) a)
 unfolding Resumes rest
 skipped_in rules included_meaning n o os c ps s r =
     goes_on-same (leaves (skipped_command c) s) (λ a. resume rules included_meaning (Skipped (suc n) o os) ps a)
@@ -442,7 +442,7 @@ skipped_in rules included_meaning n o os c ps s r =
 -- resuming is the rest that is read off the tree
 pub resume_rest : (rules : Rules) (included_meaning : IncludedMeaning) (ps : List Piece) (place : Place) (s : State)
     → resume rules included_meaning place ps s ≡ rest rules included_meaning place (level_of ps) s
-unfolding resume rest rest_live rest_skipped level_of opened_before level_parts appended front_parts further_branches behind_end mean mean_part mean_branches skip skip_part skip_branches goes_on leaves behind_bytes gives fails refusal unclosed Resumes
+unfolding resume rest rest_live rest_skipped level_of opened_before level_parts appended front_parts further_branches after_end mean mean_part mean_branches skip skip_part skip_branches goes_on leaves after_bytes gives fails refusal unclosed Resumes
 resume_rest rules included_meaning [] (Live []) s = refl
 resume_rest rules included_meaning [] (Live (o ∷ os)) s = refl
 resume_rest rules included_meaning [] (Skipped n o os) s = sym (skipped_nothing rules included_meaning n o os s)
@@ -456,10 +456,10 @@ resume_rest rules included_meaning (Single c ∷ ps) (Skipped n o os) s =
     skipped_step rules included_meaning n o os (Alone c) ps s (λ place a. resume_rest rules included_meaning ps place a)
 resume_rest rules included_meaning (Opening c ∷ ps) (Live os) s =
     opening_rest rules included_meaning os c ps s (λ place a. resume_rest rules included_meaning ps place a)
-    ∙ sym (live_in_front rules included_meaning os (Conditional c (front_parts (level_of ps)) (further_branches (level_of ps))) (behind_end (level_of ps)) s)
+    ∙ sym (live_in_front rules included_meaning os (Conditional c (front_parts (level_of ps)) (further_branches (level_of ps))) (after_end (level_of ps)) s)
 resume_rest rules included_meaning (Opening c ∷ ps) (Skipped n o os) s =
     skipped_in rules included_meaning n o os c ps s (λ place a. resume_rest rules included_meaning ps place a)
-    ∙ sym (skipped_in_front rules included_meaning n o os (Conditional c (front_parts (level_of ps)) (further_branches (level_of ps))) (behind_end (level_of ps)) s)
+    ∙ sym (skipped_in_front rules included_meaning n o os (Conditional c (front_parts (level_of ps)) (further_branches (level_of ps))) (after_end (level_of ps)) s)
 resume_rest rules included_meaning (Branching c ∷ ps) (Live []) s = refl
 resume_rest rules included_meaning (Branching c ∷ ps) (Live (o ∷ os)) s =
     turn_rest rules included_meaning o os c ps s (λ place a. resume_rest rules included_meaning ps place a)
@@ -490,9 +490,9 @@ mean_resumes rules included_meaning tokens s = sym (resume_rest rules included_m
 -- Laws of the output: it is what remains at the start of the main text.
 
 -- bytes in front of a passage are bytes in front of what it writes
-pub outcome-behind_bytes : (x : List ℕ) (p : Passage) → outcome (behind_bytes x p) ≡ and_then (gives x) (outcome p)
-unfolding outcome behind_bytes and_then gives
-outcome-behind_bytes x p = refl
+pub outcome-after_bytes : (x : List ℕ) (p : Passage) → outcome (after_bytes x p) ≡ and_then (gives x) (outcome p)
+unfolding outcome after_bytes and_then gives
+outcome-after_bytes x p = refl
 
 -- the output of a main text that is found is its origin line, where asked for, and then what remains at its start
 pub output_found : (rules : Rules) (macros : List Macro) (sources conditions : ℕ) (path found text : List ℕ)
@@ -502,7 +502,7 @@ pub output_found : (rules : Rules) (macros : List Macro) (sources conditions : �
 unfolding output remains
 output_found rules macros sources conditions path found text =
     let s = start_state macros sources conditions found in
-    outcome-behind_bytes (origin_line rules found 1) (text_meaning rules s text)
+    outcome-after_bytes (origin_line rules found 1) (text_meaning rules s text)
     ∙ ap (λ (p : Passage). and_then (gives (origin_line rules found 1)) (outcome p)) (resumed_start rules s text)
 
 -- the output of a main text that isn't found is its fault

@@ -15,9 +15,9 @@ use Rattle.rdlpp_scan.specs.declared.token.Mode.TheVariants.{InBlock, InStr, Pla
 use Rattle.rdlpp_scan.proofs.RemainingLaws.{after_step, course, step-end_of, tokens_step}
 use Rattle.rdlpp_scan.proofs.StopKinds.{block_token-kind, string_token-kind}
 use Rattle.rdlpp_scan.proofs.TokenSteps.{comment_rest, end_of, string_rest}
-use Rattle.rdlpp_meaning.specs.Actuals.{CallBreakFault, Cut, Down, Dropped, End, Ends, Halt, CallFault, KeptComment, Role, Space, Start, Stops, Text, Up, broken_role, kept, kept_size, kind_role, level_behind, map_call, token_role}
+use Rattle.rdlpp_meaning.specs.Actuals.{CallBreakFault, Cut, Down, Dropped, End, Ends, Halt, CallFault, KeptComment, Role, Space, Start, Stops, Text, Up, broken_role, kept, kept_size, kind_role, level_after, map_call, token_role}
 use Rattle.rdlpp_meaning.specs.CallReading.{ReadClosed, Reading, ReadRefused, ReadStopped, is_part_breach, is_part_sort, onto_kept, part_kept, read, read_by, reading_of, rest_role, role_in}
-use Rattle.rdlpp_meaning.specs.CallScan.{Before, Breaks, Closed, Closes, Inside, IsClosed, Keeps, Passes, ScanFault, TurnFault, Scanned, CallState, ScanBreakFault, Turn, call_of, call_of_scan, is_call_text, is_kept, level_of_things, room_behind, scan, scan_onto, scanned, source_role, call_state_behind, call_state_behind_lead, turn, turn_before, turn_fitting, turn_inside}
+use Rattle.rdlpp_meaning.specs.CallScan.{Before, Breaks, Closed, Closes, Inside, IsClosed, Keeps, Passes, ScanFault, TurnFault, Scanned, CallState, ScanBreakFault, Turn, call_of, call_of_scan, is_call_text, is_kept, level_of_things, room_after, scan, scan_onto, scanned, source_role, call_state_after, call_state_after_lead, turn, turn_before, turn_fitting, turn_inside}
 use Rattle.rdlpp_meaning.specs.Expansion.{bytes_of}
 use Rattle.rdlpp_meaning.specs.Items.{unlined}
 use Rattle.rdlpp_meaning.specs.Parts.{directive_of}
@@ -73,8 +73,8 @@ turn_facts Text k fits = fitting Text k fits refl refl
 pub record IsClosedInside {A : Type 0} (role : A → Role) (k : ℕ) (xs kept : List A) (used : ℕ) : Type 0 where
   pub inner : List A
   pub closer : A
-  pub behind : List A
-  pub whole : xs ≡ inner ++ closer ∷ behind
+  pub following : List A
+  pub whole : xs ≡ inner ++ closer ∷ following
   pub closes : role closer ≡ End
   pub level : level_of_things role k inner ≡ 0
   pub text : All (λ x. is_call_text (role x) ≡ true) inner
@@ -94,24 +94,24 @@ closed_kept : {A : Type 0} (ks kept : List A) (n used : ℕ) → Closed ks n ≡
 closed_kept ks kept n used e = (cc, cc)
 
 -- what is behind the things of a call
-pub behind_cut : {A : Type 0} (lead : List A) (opener : A) (inner : List A) (closer : A) (behind : List A)
-    → drop (length lead + (length inner + 2)) (lead ++ opener ∷ (inner ++ closer ∷ behind)) ≡ behind
-behind_cut {A = A} lead opener inner closer behind =
-    let rest : List A = inner ++ closer ∷ behind in
+pub after_cut : {A : Type 0} (lead : List A) (opener : A) (inner : List A) (closer : A) (following : List A)
+    → drop (length lead + (length inner + 2)) (lead ++ opener ∷ (inner ++ closer ∷ following)) ≡ following
+after_cut {A = A} lead opener inner closer following =
+    let rest : List A = inner ++ closer ∷ following in
     let n : length inner + 2 ≡ suc (length inner + 1) = omega arith in
     drop-append-add lead (opener ∷ rest) (length inner + 2)
     ∙ ap (λ i. drop i (opener ∷ rest)) n
-    ∙ drop-append-add inner (closer ∷ behind) 1
+    ∙ drop-append-add inner (closer ∷ following) 1
 
 -- the scan behind the first thing before the `(`
-unfoldable behind_lead : {A : Type 0} → Role → Scanned A → Scanned A → Scanned A
-behind_lead Start before inside = inside
-behind_lead r before inside = before
+unfoldable after_lead : {A : Type 0} → Role → Scanned A → Scanned A → Scanned A
+after_lead Start before inside = inside
+after_lead r before inside = before
 
 -- it is that
 lead_scan : {A : Type 0} (role : A → Role) (size : A → ℕ) (r : Role) (room : ℕ) (xs : List A)
-    → scan role size (call_state_behind_lead r) room xs ≡ behind_lead r (scan role size Before room xs) (scan role size (Inside 0) room xs)
-unfolding call_state_behind_lead behind_lead
+    → scan role size (call_state_after_lead r) room xs ≡ after_lead r (scan role size Before room xs) (scan role size (Inside 0) room xs)
+unfolding call_state_after_lead after_lead
 lead_scan role size Start room xs = refl
 lead_scan role size r room xs = refl
 
@@ -127,7 +127,7 @@ led role x xs kept used before text rest e =
       opener = c.opener;
       inner = c.inner;
       closer = c.closer;
-      behind = c.behind;
+      following = c.following;
       whole = ap (λ ys. x ∷ ys) c.whole;
       opens = c.opens;
       closes = c.closes;
@@ -141,7 +141,7 @@ led role x xs kept used before text rest e =
 -- a thing in front of one that lies so, by what the scan does at it
 inside_by : {A : Type 0} (role : A → Role) (k : ℕ) (x : A) (xs kept : List A) (used : ℕ) (t : Turn) (s : Scanned A)
     → TurnFacts (role x) k t
-    → ((ks : List A) (n : ℕ) → s ≡ Closed ks n → IsClosedInside role (level_behind (role x) k) xs ks n)
+    → ((ks : List A) (n : ℕ) → s ≡ Closed ks n → IsClosedInside role (level_after (role x) k) xs ks n)
     → scanned t x s ≡ Closed kept used → IsClosedInside role k (x ∷ xs) kept used
 unfolding scanned TurnFacts level_of_things
 inside_by role k x xs kept used Passes s facts rest e =
@@ -150,7 +150,7 @@ inside_by role k x xs kept used Passes s facts rest e =
     record {
       inner = x ∷ c.inner;
       closer = c.closer;
-      behind = c.behind;
+      following = c.following;
       whole = ap (λ ys. x ∷ ys) c.whole;
       closes = c.closes;
       level = c.level;
@@ -164,7 +164,7 @@ inside_by role k x xs kept used Keeps s facts rest e =
     record {
       inner = x ∷ c.inner;
       closer = c.closer;
-      behind = c.behind;
+      following = c.following;
       whole = ap (λ ys. x ∷ ys) c.whole;
       closes = c.closes;
       level = c.level;
@@ -176,7 +176,7 @@ inside_by {A = A} role k x xs kept used Closes s facts rest e =
     record {
       inner = [];
       closer = x;
-      behind = xs;
+      following = xs;
       whole = refl;
       closes = facts.0;
       level = facts.1;
@@ -190,21 +190,21 @@ inside_by role k x xs kept used (Breaks f line) s facts rest e = absurd (cc)
 -- how a scan from behind the `(` that closes lies in its things
 pub closed_inside : {A : Type 0} (role : A → Role) (size : A → ℕ) (k room : ℕ) (xs kept : List A) (used : ℕ)
     → scan role size (Inside k) room xs ≡ Closed kept used → IsClosedInside role k xs kept used
-unfolding scan turn call_state_behind room_behind
+unfolding scan turn call_state_after room_after
 closed_inside role size k room [] kept used e = absurd (cc)
 closed_inside role size k room (x ∷ xs) kept used e =
     let r = role x in
     let later = room - kept_size r (size x) in
-    inside_by role k x xs kept used (turn_inside r k (nat_le (size x) room)) (scan role size (Inside (level_behind r k)) later xs)
-    (turn_facts r k (nat_le (size x) room)) (λ ks n h. closed_inside role size (level_behind r k) later xs ks n h) e
+    inside_by role k x xs kept used (turn_inside r k (nat_le (size x) room)) (scan role size (Inside (level_after r k)) later xs)
+    (turn_facts r k (nat_le (size x) room)) (λ ks n h. closed_inside role size (level_after r k) later xs ks n h) e
 
 -- a scan that closes with a thing in front before the `(`, by the role of the thing
 before_by : {A : Type 0} (role : A → Role) (r : Role) (x : A) (xs kept : List A) (used : ℕ) (before inside : Scanned A)
     → role x ≡ r
     → ((ks : List A) (n : ℕ) → before ≡ Closed ks n → IsClosed role xs ks n)
     → ((ks : List A) (n : ℕ) → inside ≡ Closed ks n → IsClosedInside role 0 xs ks n)
-    → scanned (turn_before r) x (behind_lead r before inside) ≡ Closed kept used → IsClosed role (x ∷ xs) kept used
-unfolding scanned turn_before behind_lead is_call_text
+    → scanned (turn_before r) x (after_lead r before inside) ≡ Closed kept used → IsClosed role (x ∷ xs) kept used
+unfolding scanned turn_before after_lead is_call_text
 before_by role Space x xs kept used before inside is rest opened e = led role x xs kept used before (ap is_call_text is) rest e
 before_by role Dropped x xs kept used before inside is rest opened e = led role x xs kept used before (ap is_call_text is) rest e
 before_by role KeptComment x xs kept used before inside is rest opened e = led role x xs kept used before (ap is_call_text is) rest e
@@ -216,7 +216,7 @@ before_by role Start x xs kept used before inside is rest opened e =
       opener = x;
       inner = c.inner;
       closer = c.closer;
-      behind = c.behind;
+      following = c.following;
       whole = ap (λ ys. x ∷ ys) c.whole;
       opens = is;
       closes = c.closes;
@@ -232,7 +232,7 @@ before_by role r x xs kept used before inside is rest opened e = absurd (cc)
 -- how a scan that closes lies in its things
 pub closed_scan : {A : Type 0} (role : A → Role) (size : A → ℕ) (room : ℕ) (xs kept : List A) (used : ℕ)
     → scan role size Before room xs ≡ Closed kept used → IsClosed role xs kept used
-unfolding scan turn call_state_behind room_behind
+unfolding scan turn call_state_after room_after
 closed_scan role size room [] kept used e = absurd (cc)
 closed_scan role size room (x ∷ xs) kept used e =
     before_by role (role x) x xs kept used (scan role size Before room xs) (scan role size (Inside 0) room xs) refl
@@ -246,14 +246,14 @@ pub onto_kept-nil : (r : Reading) → onto_kept [] r ≡ r
 unfolding onto_kept
 onto_kept-nil (ReadRefused f) = refl
 onto_kept-nil (ReadStopped f line) = refl
-onto_kept-nil (ReadClosed bytes behind) = refl
+onto_kept-nil (ReadClosed bytes following) = refl
 
 -- kept bytes in front of kept bytes
 pub onto_kept-append : (x y : List ℕ) (r : Reading) → onto_kept (x ++ y) r ≡ onto_kept x (onto_kept y r)
 unfolding onto_kept
 onto_kept-append x y (ReadRefused f) = refl
 onto_kept-append x y (ReadStopped f line) = refl
-onto_kept-append x y (ReadClosed bytes behind) = ap (λ z. ReadClosed z behind) (append_assoc x y bytes)
+onto_kept-append x y (ReadClosed bytes following) = ap (λ z. ReadClosed z following) (append_assoc x y bytes)
 
 -- a token in front of a scan, by what the scan does at it
 reading_front : (t : SourceToken) (ts : List SourceToken) (at : Turn) (s : Scanned SourceToken)
@@ -276,8 +276,8 @@ read_is_scan [] at room = refl
 read_is_scan (t ∷ ts) at room =
     let r = source_role t in
     let fits = nat_le (length t.bytes) room in
-    ap (read_by (turn at r fits) t ts) (read_is_scan ts (call_state_behind at r) (room_behind at room r (length t.bytes)))
-    ∙ reading_front t ts (turn at r fits) (scan source_role kept (call_state_behind at r) (room_behind at room r (length t.bytes)) ts)
+    ap (read_by (turn at r fits) t ts) (read_is_scan ts (call_state_after at r) (room_after at room r (length t.bytes)))
+    ∙ reading_front t ts (turn at r fits) (scan source_role kept (call_state_after at r) (room_after at room r (length t.bytes)) ts)
 
 -- two parts fit together where the first does, and the second what is left
 fits_in_parts : (x y room : ℕ) → nat_le (x + y) room ≡ (nat_le x room && nat_le y (room - x))
@@ -349,7 +349,7 @@ broken_parts f line room part whole t ts one other e =
 part_by : (p : Bool) (k room line own : ℕ) (part : List ℕ) (sort : Sort) (bytes : List ℕ) (ts : List SourceToken) → is_part_sort sort ≡ true
     → read (Inside k) p room (with_part part line (record { sort = sort; bytes = bytes; line = own }) ∷ ts)
     ≡ part_kept (nat_le (length part) room) part (read (Inside k) true (room - length part) (record { sort = sort; bytes = bytes; line = own } ∷ ts))
-unfolding is_part_sort read role_in source_role directive_of rest_role token_role kind_role with_part line_with turn turn_inside call_state_behind room_behind level_behind kept_size
+unfolding is_part_sort read role_in source_role directive_of rest_role token_role kind_role with_part line_with turn turn_inside call_state_after room_after level_after kept_size
 part_by true k room line own part (Ordinary Str) bytes ts e =
     kept_parts k room part (record { sort = Ordinary Str; bytes = part ++ bytes; line = line }) (record { sort = Ordinary Str; bytes = bytes; line = own }) ts refl
 part_by false k room line own part (Ordinary Str) bytes ts e =
@@ -367,7 +367,7 @@ part_by false k room line own part (Broken b) bytes ts e =
     let whole : SourceToken = record { sort = Broken b; bytes = part ++ bytes; line = own } in
     let t : SourceToken = record { sort = Broken b; bytes = bytes; line = own } in
     let r = broken_role b (part ++ bytes) own in
-    let one = read (Inside (level_behind r k)) false (room - kept_size r (length (part ++ bytes))) ts in
+    let one = read (Inside (level_after r k)) false (room - kept_size r (length (part ++ bytes))) ts in
     ap (λ at. read_by at whole ts one) (broken_inside b (part ++ bytes) own k (nat_le (length (part ++ bytes)) room) e)
     ∙ broken_parts (breach_kind b) own room part whole t ts one (read (Inside k) false ((room - length part) - length bytes) ts) refl
 part_by p k room line own part Definition bytes ts e = absurd (cc)
@@ -384,7 +384,7 @@ part_inside p k room line part t ts e = part_by p k room line t.line part t.sort
 pub comment_part_before : (p : Bool) (room line own : ℕ) (part bytes : List ℕ) (ts : List SourceToken)
     → read Before p room (with_part part line (record { sort = Ordinary BlockComment; bytes = bytes; line = own }) ∷ ts)
     ≡ read Before true room (record { sort = Ordinary BlockComment; bytes = bytes; line = own } ∷ ts)
-unfolding read role_in source_role directive_of rest_role token_role kind_role with_part line_with turn turn_before read_by call_state_behind call_state_behind_lead room_behind
+unfolding read role_in source_role directive_of rest_role token_role kind_role with_part line_with turn turn_before read_by call_state_after call_state_after_lead room_after
 comment_part_before true room line own part bytes ts = refl
 comment_part_before false room line own part bytes ts = refl
 
@@ -413,7 +413,7 @@ unfolding read role_in source_role directive_of rest_role token_role with_part l
 open_comment_before true room line own part bytes b ts e h = refl
 open_comment_before false room line own part bytes b ts e h =
     let whole : SourceToken = record { sort = Broken b; bytes = part ++ bytes; line = own } in
-    ap (λ (r : Role). read_by (turn_before r) whole ts (read (call_state_behind Before r) false (room_behind Before room r (length (part ++ bytes))) ts))
+    ap (λ (r : Role). read_by (turn_before r) whole ts (read (call_state_after Before r) false (room_after Before room r (length (part ++ bytes))) ts))
     (broken_role_before b (part ++ bytes) own e h)
 
 -- before the `(`, a string is missing arguments at once
@@ -429,7 +429,7 @@ pub open_string_before : (room line : ℕ) (bytes : List ℕ) (b : Breach) (ts :
 unfolding read role_in source_role directive_of token_role turn turn_before read_by
 open_string_before room line bytes b ts e h =
     let whole : SourceToken = record { sort = Broken b; bytes = bytes; line = line } in
-    ap (λ (r : Role). read_by (turn_before r) whole ts (read (call_state_behind Before r) false (room_behind Before room r (length bytes)) ts))
+    ap (λ (r : Role). read_by (turn_before r) whole ts (read (call_state_after Before r) false (room_after Before room r (length bytes)) ts))
     (broken_string_before b bytes line e h)
 
 -- What remains of a source in a string or in a comment begins with the rest of it, which is whole, or broken as a string or a
@@ -530,12 +530,12 @@ comment_remains most o l held room rest =
 -- A call in a source that was read token by token is the call of the definition, with the parts of the kept bytes.
 
 -- a reading that closes is a scan that does
-closed_reading : (ts : List SourceToken) (s : Scanned SourceToken) (bytes : List ℕ) (behind : List SourceToken) → reading_of ts s ≡ ReadClosed bytes behind
-    → (ks : List SourceToken) × ((used : ℕ) × ((s ≡ Closed ks used) × ((bytes_of ks ≡ bytes) × (drop used ts ≡ behind))))
+closed_reading : (ts : List SourceToken) (s : Scanned SourceToken) (bytes : List ℕ) (following : List SourceToken) → reading_of ts s ≡ ReadClosed bytes following
+    → (ks : List SourceToken) × ((used : ℕ) × ((s ≡ Closed ks used) × ((bytes_of ks ≡ bytes) × (drop used ts ≡ following))))
 unfolding reading_of
-closed_reading ts (ScanFault f) bytes behind e = absurd (cc)
-closed_reading ts (ScanBreakFault f line) bytes behind e = absurd (cc)
-closed_reading ts (Closed ks used) bytes behind e = (ks, (used, (refl, (cc, cc))))
+closed_reading ts (ScanFault f) bytes following e = absurd (cc)
+closed_reading ts (ScanBreakFault f line) bytes following e = absurd (cc)
+closed_reading ts (Closed ks used) bytes following e = (ks, (used, (refl, (cc, cc))))
 
 -- a reading that is refused is a call that lacks something
 refused_reading : (ts : List SourceToken) (s : Scanned SourceToken) (f : FaultKind) → reading_of ts s ≡ ReadRefused f → call_of_scan token_role 0 s ≡ CallFault f
@@ -568,18 +568,18 @@ read_stopped room ts f line e =
 
 -- a call in a source whose reading closed: the kept bytes have its parts, but for lines, a call keeps all their tokens, and behind it
 -- are the tokens behind those that it took
-pub record IsReadCall (room : ℕ) (ts : List SourceToken) (bytes : List ℕ) (behind : List SourceToken) : Type 0 where
+pub record IsReadCall (room : ℕ) (ts : List SourceToken) (bytes : List ℕ) (following : List SourceToken) : Type 0 where
   pub used : ℕ
   pub call : map_call unlined (call_of token_role kept room (leading ts)) ≡ call_of_scan token_role 0 (Closed (body_tokens bytes) used)
-  pub rest : drop used ts ≡ behind
+  pub rest : drop used ts ≡ following
   pub keeps : All (λ t. is_kept (token_role t) ≡ true) (body_tokens bytes)
 
 -- where reading closes, the parts of the call are those of the kept bytes, but for lines
-pub read_closed : (c : Course) (m : Mode) (opened line : ℕ) (bs : List ℕ) (room : ℕ) (ts : List SourceToken) (bytes : List ℕ) (behind : List SourceToken)
-    → source_tokens c m opened line 0 bs ≡ ts → read Before false room ts ≡ ReadClosed bytes behind → IsReadCall room ts bytes behind
-read_closed c m opened line bs room ts bytes behind source e =
+pub read_closed : (c : Course) (m : Mode) (opened line : ℕ) (bs : List ℕ) (room : ℕ) (ts : List SourceToken) (bytes : List ℕ) (following : List SourceToken)
+    → source_tokens c m opened line 0 bs ≡ ts → read Before false room ts ≡ ReadClosed bytes following → IsReadCall room ts bytes following
+read_closed c m opened line bs room ts bytes following source e =
     let s = scan source_role kept Before room ts in
-    let p = closed_reading ts s bytes behind (sym (read_is_scan ts Before room) ∙ e) in
+    let p = closed_reading ts s bytes following (sym (read_is_scan ts Before room) ∙ e) in
     let ks = p.0 in
     let used = p.1.0 in
     let closed = closed_scan source_role kept room ts ks used p.1.1.0 in

@@ -9,19 +9,19 @@ use Rattle.rdlpp_scan.specs.LexFaults.{fault_of_tokens, is_perl, lex_fault_from,
 use Rattle.rdlpp_scan.specs.Reserved.{is_reserved, reserved_names}
 use Rattle.rdlpp_scan.specs.SourceTokens.{back_step, broken, comment_step, define_step, is_continued, line_after, line_ends, line_len, line_step, logical_len, open_end, remaining_tokens, source_end, source_step, source_tokens, step_by, string_step, whole_tokens}
 use Rattle.rdlpp_scan.specs.Tokens.{block_token, first_place, plain_len, plain_token, stops_plain_text, string_stop, string_token, token_of, tokens_from, whole}
-use Rattle.rdlpp_table.specs.Define.{after_space, behind_name, continuation_len, default_in, default_of_tokens, define_of, ends_default, formal_fault, formal_in, formal_list, formal_name, formals_in, formals_of_list, is_space, leading_name, level_behind as default_level, lexical, logical_text, macro_from, macro_of, name_fault, onto_default, onto_trimmed, refused_word, stored, stored_draft, trimmed, trimmed_default, trimmed_of, unended, with_body, with_default, with_list, without_continuations, without_end, text_without_line_comments}
+use Rattle.rdlpp_table.specs.Define.{after_space, after_name, continuation_len, default_in, default_of_tokens, define_of, ends_default, formal_fault, formal_in, formal_list, formal_name, formals_in, formals_of_list, is_space, leading_name, level_after as default_level, lexical, logical_text, macro_from, macro_of, name_fault, onto_default, onto_trimmed, refused_word, stored, stored_draft, trimmed, trimmed_default, trimmed_of, unended, with_body, with_default, with_list, without_continuations, without_end, text_without_line_comments}
 use Rattle.rdlpp_table.specs.Table.{Macro, default_size, formal_size, macro_named, macro_size, table_size, without}
 use Rattle.rdlpp_table.specs.View.{most_formals}
 use Rattle.rdlpp_table.specs.declared.limits.Limits.{Limits}
-use Rattle.rdlpp_meaning.specs.Actuals.{actual_of, behind_space, broken_role, is_space as actuals_is_space, item_role, item_size, kept_size, kind_role, level_behind, token_role, trimmed as actuals_trimmed}
-use Rattle.rdlpp_meaning.specs.CallScan.{call_of_scan, fault_at_end, room_behind, scan, scan_onto, scanned, split, split_by, call_state_behind, call_state_behind_lead, turn as call_turn, turn_before, turn_fitting, turn_inside}
+use Rattle.rdlpp_meaning.specs.Actuals.{actual_of, after_leading_space, broken_role, is_space as actuals_is_space, item_role, item_size, kept_size, kind_role, level_after, token_role, trimmed as actuals_trimmed}
+use Rattle.rdlpp_meaning.specs.CallScan.{call_of_scan, fault_at_end, room_after, scan, scan_onto, scanned, split, split_by, call_state_after, call_state_after_lead, turn as call_turn, turn_before, turn_fitting, turn_inside}
 use Rattle.rdlpp_meaning.specs.Expansion.{bound_parts, expand, is_copied, is_count, name_of, run_outcome, usage_of, usage_of_call, usage_of_formals, usage_of_macro, walk}
 use Rattle.rdlpp_meaning.specs.Items.{broken_line, listed, packed, unlined, unlined_item}
-use Rattle.rdlpp_meaning.specs.Meaning.{added_end, at_start_of, back_in, begun, behind_bytes, by_test, defines, digits_value, goes_on, in_conditional, includes, includes_found, includes_given, includes_named, is_defined, is_else, is_level, leaves, macro_name, mean, name_test, included_meaning_of, opening, opening_within, origin_line, outcome, past_blank_bytes, past_conditional, quote_place, refusal, renumbered, renumbered_name, renumbers, single, skip, skipped_command, skipped_run, text_meaning, turn, turned, unclosed, undefines, unquoted, wants_defined}
+use Rattle.rdlpp_meaning.specs.Meaning.{added_end, at_start_of, back_in, begun, after_bytes, by_test, defines, digits_value, goes_on, in_conditional, includes, includes_found, includes_given, includes_named, is_defined, is_else, is_level, leaves, macro_name, mean, name_test, included_meaning_of, opening, opening_within, origin_line, outcome, past_blank_bytes, past_conditional, quote_place, refusal, renumbered, renumbered_name, renumbers, single, skip, skipped_command, skipped_run, text_meaning, turn, turned, unclosed, undefines, unquoted, wants_defined}
 use Rattle.rdlpp_meaning.specs.Outcome.{Outcome, and_then, fails, gives}
 use Rattle.rdlpp_meaning.specs.Output.{character_place, name_cut, opening_fault, output, start_state}
 use Rattle.rdlpp_meaning.specs.OutputLimit.{limited, limited_output, search_rules, unlimited_output}
-use Rattle.rdlpp_meaning.specs.Parts.{appended, argument_of, behind_blanks, behind_end, command_of, directive_named, directive_of, front_parts, further_branches, in_front, joined, level_of, level_parts, line_ends_of, name_in_front, no_argument, one_argument, only_blanks, opened_before, parts_of, past_blanks, piece_of, pieces, string_in_front}
+use Rattle.rdlpp_meaning.specs.Parts.{appended, argument_of, after_blanks, after_end, command_of, directive_named, directive_of, front_parts, further_branches, in_front, joined, level_of, level_parts, line_ends_of, name_in_front, no_argument, one_argument, only_blanks, opened_before, parts_of, past_blanks, piece_of, pieces, string_in_front}
 use Rattle.rdlpp_meaning.specs.Profile.{define_fault, rules_of, with_fault}
 use Rattle.rdlpp_meaning.specs.State.{LongPath, Lookup, NoSource, Rules, Source, breach_kind, fault_at, no_shift, shown_line}
 use Rattle.rdlpp_meaning.specs.Substitution.{body_tokens, bound_to, mark_of, mark_or, marked, spelled, standing_of, substituted}
@@ -45,7 +45,7 @@ standard = record { depth = 256; includes = 16; line_bytes = 65536; source_bytes
 
 -- the output of a row from macros, where names of sources are paths
 unfoldable pub row_from : List Macro → Limits → Bool → List File → Outcome
-unfolding found_in is_utf8 chars encode_utf8 digits is_blank is_line_end is_letter is_digit is_word is_opener is_closer takes_word begins_perl begins_line_comment begins_block_comment ends_block_comment first_place string_stop whole string_token block_token plain_token token_of tokens_from stops_plain_text plain_len line_ends line_after broken is_continued logical_len line_len open_end string_step comment_step define_step line_step back_step step_by source_step source_end source_tokens remaining_tokens whole_tokens onto_first lines_of onto_front front_of_lines front reserved_names is_reserved macro_named without formal_size macro_size table_size continuation_len without_continuations logical_text is_space after_space leading_name name_fault text_without_line_comments unended onto_trimmed is_perl open_fault fault_of_tokens lex_fault_from without_end trimmed_of ends_default default_level onto_default default_of_tokens trimmed_default default_in formal_name behind_name formal_fault with_default default_size trimmed lexical formal_in formals_in formals_of_list formal_list with_body refused_word with_list macro_from macro_of stored stored_draft define_of gives fails and_then no_shift shown_line fault_at breach_kind listed packed level_behind kept_size turn_before turn_fitting turn_inside call_turn call_state_behind_lead call_state_behind room_behind fault_at_end scan_onto scanned scan split_by split call_of_scan actuals_is_space behind_space actuals_trimmed kind_role broken_role token_role item_role item_size spelled body_tokens standing_of bound_to mark_of mark_or marked substituted name_of bound_parts is_count actual_of unlined_item unlined broken_line usage_of_call usage_of_formals usage_of_macro usage_of walk expand is_copied run_outcome only_blanks line_ends_of directive_named directive_of no_argument one_argument behind_blanks name_in_front string_in_front past_blanks argument_of command_of piece_of joined pieces in_front front_parts further_branches behind_end opened_before level_of appended level_parts parts_of leaves outcome behind_bytes goes_on refusal skipped_run skipped_command macro_name defines undefines origin_line at_start_of back_in added_end includes includes_found unquoted includes_named includes_given quote_place past_blank_bytes digits_value is_level renumbered_name renumbered renumbers single by_test is_defined name_test wants_defined opening_within opening in_conditional past_conditional begun is_else turn turned unclosed included_meaning_of text_meaning skip mean character_place name_cut opening_fault start_state output define_fault with_fault rules_of limited search_rules unlimited_output limited_output
+unfolding found_in is_utf8 chars encode_utf8 digits is_blank is_line_end is_letter is_digit is_word is_opener is_closer takes_word begins_perl begins_line_comment begins_block_comment ends_block_comment first_place string_stop whole string_token block_token plain_token token_of tokens_from stops_plain_text plain_len line_ends line_after broken is_continued logical_len line_len open_end string_step comment_step define_step line_step back_step step_by source_step source_end source_tokens remaining_tokens whole_tokens onto_first lines_of onto_front front_of_lines front reserved_names is_reserved macro_named without formal_size macro_size table_size continuation_len without_continuations logical_text is_space after_space leading_name name_fault text_without_line_comments unended onto_trimmed is_perl open_fault fault_of_tokens lex_fault_from without_end trimmed_of ends_default default_level onto_default default_of_tokens trimmed_default default_in formal_name after_name formal_fault with_default default_size trimmed lexical formal_in formals_in formals_of_list formal_list with_body refused_word with_list macro_from macro_of stored stored_draft define_of gives fails and_then no_shift shown_line fault_at breach_kind listed packed level_after kept_size turn_before turn_fitting turn_inside call_turn call_state_after_lead call_state_after room_after fault_at_end scan_onto scanned scan split_by split call_of_scan actuals_is_space after_leading_space actuals_trimmed kind_role broken_role token_role item_role item_size spelled body_tokens standing_of bound_to mark_of mark_or marked substituted name_of bound_parts is_count actual_of unlined_item unlined broken_line usage_of_call usage_of_formals usage_of_macro usage_of walk expand is_copied run_outcome only_blanks line_ends_of directive_named directive_of no_argument one_argument after_blanks name_in_front string_in_front past_blanks argument_of command_of piece_of joined pieces in_front front_parts further_branches after_end opened_before level_of appended level_parts parts_of leaves outcome after_bytes goes_on refusal skipped_run skipped_command macro_name defines undefines origin_line at_start_of back_in added_end includes includes_found unquoted includes_named includes_given quote_place past_blank_bytes digits_value is_level renumbered_name renumbered renumbers single by_test is_defined name_test wants_defined opening_within opening in_conditional past_conditional begun is_else turn turned unclosed included_meaning_of text_meaning skip mean character_place name_cut opening_fault start_state output define_fault with_fault rules_of limited search_rules unlimited_output limited_output
 row_from macros limits origins files =
     limited_output limits (record { main = λ path. found_in files path; included = λ from name. found_in files name }) origins macros
     (codes "m")

@@ -14,13 +14,13 @@ use Rattle.rdlpp_scan.specs.declared.token.Kind.{Kind}
 use Rattle.rdlpp_scan.specs.declared.token.Kind.TheVariants.{Back, BareBackquote}
 use Rattle.rdlpp_scan.proofs.Seams.{line_end-ten}
 use Rattle.rdlpp_meaning.specs.Expansion.{bytes_of, is_copied, usage_token}
-use Rattle.rdlpp_meaning.specs.Meaning.{IncludedMeaning, Passage, Progress, SkipsAs, behind_bytes, goes_on, leaves, included_meaning_of, skipped_command, skipped_run, unclosed}
+use Rattle.rdlpp_meaning.specs.Meaning.{IncludedMeaning, Passage, Progress, SkipsAs, after_bytes, goes_on, leaves, included_meaning_of, skipped_command, skipped_run, unclosed}
 use Rattle.rdlpp_meaning.specs.Outcome.{Outcome, and_then, fails, gives}
-use Rattle.rdlpp_meaning.specs.Parts.{Branching, Closing, Opening, Piece, Run, Single, argument_of, behind_directive, command_in_front, command_of, directive_named, directive_of, joined, line_ends_of, no_argument, one_argument, only_blanks, piece_of, pieces}
-use Rattle.rdlpp_meaning.specs.Resumed.{Live, Skipped, behind, resume, resumed, skips}
+use Rattle.rdlpp_meaning.specs.Parts.{Branching, Closing, Opening, Piece, Run, Single, argument_of, after_directive, command_in_front, command_of, directive_named, directive_of, joined, line_ends_of, no_argument, one_argument, only_blanks, piece_of, pieces}
+use Rattle.rdlpp_meaning.specs.Resumed.{Live, Skipped, following, resume, resumed, skips}
 use Rattle.rdlpp_meaning.specs.State.{Rules, State, breach_kind, fault_at}
 use Rattle.rdlpp_meaning.proofs.Directives.{argument_by, argument_takes, branches_conditional, branching_piece, closing_piece, directive_piece, opening_piece, opens_conditional}
-use Rattle.rdlpp_meaning.proofs.Outcomes.{and_then-assoc, and_then-fails, and_then-gives, and_then-nil, behind_bytes-nil, behind_bytes-twice, gives_fails-goes_on, goes_on-gives, leaves-and_then, on_leaves}
+use Rattle.rdlpp_meaning.proofs.Outcomes.{and_then-assoc, and_then-fails, and_then-gives, and_then-nil, after_bytes-nil, after_bytes-twice, gives_fails-goes_on, goes_on-gives, leaves-and_then, on_leaves}
 use Rattle.rdlpp_meaning.proofs.LiveText.{line_ends_of-append, only_blanks-append, pieces_text, usage_text}
 
 -- Laws of skipped text, and of where a file ends.
@@ -255,7 +255,7 @@ no_directive_by (Some x) e = cc
 text_skipped_by : (rules : Rules) (n : ℕ) (p : Progress) (os : List Progress) (first : Bool) (sort : Sort) (bytes : List ℕ) (line : ℕ) (ts : List SourceToken) (s : State)
     → is_text (record { sort = sort; bytes = bytes; line = line }) ≡ true
     → resumed rules (Skipped n p os) first (record { sort = sort; bytes = bytes; line = line } ∷ ts) s
-    ≡ behind_bytes (line_ends_of bytes) (resumed rules (Skipped n p os) (only_blanks first bytes) ts s)
+    ≡ after_bytes (line_ends_of bytes) (resumed rules (Skipped n p os) (only_blanks first bytes) ts s)
 unfolding is_text
 text_skipped_by rules n p os first (Ordinary k) bytes line ts s e =
     let t : SourceToken = record { sort = Ordinary k; bytes = bytes; line = line } in
@@ -269,33 +269,33 @@ text_skipped_by rules n p os first (Broken b) bytes line ts s e = cc
 pub skipped_text_token : (rules : Rules) (n : ℕ) (p : Progress) (os : List Progress) (first : Bool) (t : SourceToken) (ts : List SourceToken) (s : State)
     → is_text t ≡ true
     → resumed rules (Skipped n p os) first (t ∷ ts) s
-    ≡ behind_bytes (line_ends_of t.bytes) (resumed rules (Skipped n p os) (only_blanks first t.bytes) ts s)
+    ≡ after_bytes (line_ends_of t.bytes) (resumed rules (Skipped n p os) (only_blanks first t.bytes) ts s)
 skipped_text_token rules n p os first t ts s e = text_skipped_by rules n p os first t.sort t.bytes t.line ts s e
 
 -- where one token is skipped and then others are, all are
 unfoldable pub IsPassed : Rules → ℕ → Progress → List Progress → List SourceToken → List SourceToken → State → Type 0
 IsPassed rules n p os ts more s = (first : Bool) → resumed rules (Skipped n p os) first (ts ++ more) s
-    ≡ behind_bytes (line_ends_of (bytes_of ts)) (resumed rules (Skipped n p os) (only_blanks first (bytes_of ts)) more s)
+    ≡ after_bytes (line_ends_of (bytes_of ts)) (resumed rules (Skipped n p os) (only_blanks first (bytes_of ts)) more s)
 
 -- by one token
 pub passed_one : (rules : Rules) (n : ℕ) (p : Progress) (os : List Progress) (t : SourceToken) (ts more : List SourceToken) (s : State)
     → ((first : Bool) → resumed rules (Skipped n p os) first (t ∷ (ts ++ more)) s
-    ≡ behind_bytes (line_ends_of t.bytes) (resumed rules (Skipped n p os) (only_blanks first t.bytes) (ts ++ more) s))
+    ≡ after_bytes (line_ends_of t.bytes) (resumed rules (Skipped n p os) (only_blanks first t.bytes) (ts ++ more) s))
     → IsPassed rules n p os ts more s → IsPassed rules n p os (t ∷ ts) more s
 unfolding IsPassed
 passed_one rules n p os t ts more s one rest first =
     let x = t.bytes in
     let y = bytes_of ts in
     one first
-    ∙ ap (λ (q : Passage). behind_bytes (line_ends_of x) q) (rest (only_blanks first x))
-    ∙ behind_bytes-twice (line_ends_of x) (line_ends_of y) (resumed rules (Skipped n p os) (only_blanks (only_blanks first x) y) more s)
-    ∙ ap (λ (z : List ℕ). behind_bytes z (resumed rules (Skipped n p os) (only_blanks (only_blanks first x) y) more s)) (sym (line_ends_of-append x y))
-    ∙ ap (λ (f : Bool). behind_bytes (line_ends_of (x ++ y)) (resumed rules (Skipped n p os) f more s)) (sym (only_blanks-append first x y))
+    ∙ ap (λ (q : Passage). after_bytes (line_ends_of x) q) (rest (only_blanks first x))
+    ∙ after_bytes-twice (line_ends_of x) (line_ends_of y) (resumed rules (Skipped n p os) (only_blanks (only_blanks first x) y) more s)
+    ∙ ap (λ (z : List ℕ). after_bytes z (resumed rules (Skipped n p os) (only_blanks (only_blanks first x) y) more s)) (sym (line_ends_of-append x y))
+    ∙ ap (λ (f : Bool). after_bytes (line_ends_of (x ++ y)) (resumed rules (Skipped n p os) f more s)) (sym (only_blanks-append first x y))
 
 -- no tokens are passed
 pub passed_none : (rules : Rules) (n : ℕ) (p : Progress) (os : List Progress) (more : List SourceToken) (s : State) → IsPassed rules n p os [] more s
 unfolding IsPassed only_blanks line_ends_of
-passed_none rules n p os more s first = sym (behind_bytes-nil (resumed rules (Skipped n p os) first more s))
+passed_none rules n p os more s first = sym (after_bytes-nil (resumed rules (Skipped n p os) first more s))
 
 -- tokens of text are passed
 text_passed : (rules : Rules) (n : ℕ) (p : Progress) (os : List Progress) (ts more : List SourceToken) (s : State)
@@ -316,30 +316,30 @@ argument_text d ts =
 -- what a directive would take is skipped as text is
 argument_passed : (rules : Rules) (n : ℕ) (p : Progress) (os : List Progress) (d : Directive) (ts : List SourceToken) (s : State) (flag : Bool)
     → resumed rules (Skipped n p os) flag ts s
-    ≡ behind_bytes (line_ends_of (argument_of d ts).text)
-    (resumed rules (Skipped n p os) (only_blanks flag (argument_of d ts).text) (behind_directive d ts) s)
+    ≡ after_bytes (line_ends_of (argument_of d ts).text)
+    (resumed rules (Skipped n p os) (only_blanks flag (argument_of d ts).text) (after_directive d ts) s)
 unfolding IsPassed
 argument_passed rules n p os d ts s flag =
     let k = (argument_of d ts).used in
     ap (λ (us : List SourceToken). resumed rules (Skipped n p os) flag us s) (sym (take-append-drop k ts))
     ∙ text_passed rules n p os (take k ts) (drop k ts) s (argument_text d ts) flag
-    ∙ ap (λ (x : List ℕ). behind_bytes (line_ends_of x) (resumed rules (Skipped n p os) (only_blanks flag x) (drop k ts) s))
+    ∙ ap (λ (x : List ℕ). after_bytes (line_ends_of x) (resumed rules (Skipped n p os) (only_blanks flag x) (drop k ts) s))
     (argument_takes d ts)
 
 -- a directive that is skipped gives the LF bytes of its own token, and then comes what remains behind that
 pub skips_token : (rules : Rules) (n : ℕ) (p : Progress) (os : List Progress) (d : Directive) (first : Bool) (t : SourceToken) (ts : List SourceToken) (s : State)
     → skips rules (Skipped n p os) d first t ts s
-    ≡ behind_bytes (line_ends_of t.bytes) (resumed rules (Skipped n p os) (only_blanks first t.bytes) ts s)
+    ≡ after_bytes (line_ends_of t.bytes) (resumed rules (Skipped n p os) (only_blanks first t.bytes) ts s)
 unfolding skipped_command command_of
 skips_token rules n p os d first t ts s =
     let x = t.bytes in
     let y = (argument_of d ts).text in
-    let us = behind_directive d ts in
-    goes_on-gives (line_ends_of (x ++ y)) s (λ after. behind rules (Skipped n p os) d first t ts after)
-    ∙ ap (λ (z : List ℕ). behind_bytes z (resumed rules (Skipped n p os) (only_blanks first (x ++ y)) us s)) (line_ends_of-append x y)
-    ∙ ap (λ (f : Bool). behind_bytes (line_ends_of x ++ line_ends_of y) (resumed rules (Skipped n p os) f us s)) (only_blanks-append first x y)
-    ∙ sym (behind_bytes-twice (line_ends_of x) (line_ends_of y) (resumed rules (Skipped n p os) (only_blanks (only_blanks first x) y) us s))
-    ∙ ap (λ (q : Passage). behind_bytes (line_ends_of x) q) (sym (argument_passed rules n p os d ts s (only_blanks first x)))
+    let us = after_directive d ts in
+    goes_on-gives (line_ends_of (x ++ y)) s (λ after. following rules (Skipped n p os) d first t ts after)
+    ∙ ap (λ (z : List ℕ). after_bytes z (resumed rules (Skipped n p os) (only_blanks first (x ++ y)) us s)) (line_ends_of-append x y)
+    ∙ ap (λ (f : Bool). after_bytes (line_ends_of x ++ line_ends_of y) (resumed rules (Skipped n p os) f us s)) (only_blanks-append first x y)
+    ∙ sym (after_bytes-twice (line_ends_of x) (line_ends_of y) (resumed rules (Skipped n p os) (only_blanks (only_blanks first x) y) us s))
+    ∙ ap (λ (q : Passage). after_bytes (line_ends_of x) q) (sym (argument_passed rules n p os d ts s (only_blanks first x)))
 
 -- a directive in skipped text that is a piece which is skipped, and leaves so many conditionals open inside
 skipped_piece : (rules : Rules) (n m : ℕ) (p : Progress) (os : List Progress) (d : Directive) (first : Bool) (t : SourceToken) (ts : List SourceToken) (s : State) (x : Piece)
@@ -347,15 +347,15 @@ skipped_piece : (rules : Rules) (n m : ℕ) (p : Progress) (os : List Progress) 
     → ((ps : List Piece) → resume rules (included_meaning_of rules s.sources_left) (Skipped n p os) (x ∷ ps) s
     ≡ goes_on (leaves (skipped_command (command_in_front d first t ts)) s) (λ after. resume rules (included_meaning_of rules s.sources_left) (Skipped m p os) ps after))
     → resumed rules (Skipped n p os) first (t ∷ ts) s
-    ≡ behind_bytes (line_ends_of t.bytes) (resumed rules (Skipped m p os) (only_blanks first t.bytes) ts s)
+    ≡ after_bytes (line_ends_of t.bytes) (resumed rules (Skipped m p os) (only_blanks first t.bytes) ts s)
 unfolding resumed
 skipped_piece rules n m p os d first t ts s x e is skips_it =
     let c = command_in_front d first t ts in
-    let rest = pieces (only_blanks first c.text) 0 (behind_directive d ts) in
+    let rest = pieces (only_blanks first c.text) 0 (after_directive d ts) in
     directive_piece rules (Skipped n p os) d first t ts s x e is
     ∙ skips_it rest
     ∙ on_leaves (skipped_command c) s (λ after. resume rules (included_meaning_of rules s.sources_left) (Skipped m p os) rest after)
-    (λ after. behind rules (Skipped m p os) d first t ts after) refl
+    (λ after. following rules (Skipped m p os) d first t ts after) refl
     ∙ skips_token rules m p os d first t ts s
 
 -- whether a directive stands by itself: it belongs to no conditional
@@ -378,7 +378,7 @@ is_skipped t = elim t.sort [
 pub skipped_directive : (rules : Rules) (n : ℕ) (p : Progress) (os : List Progress) (d : Directive) (first : Bool) (t : SourceToken) (ts : List SourceToken) (s : State)
     → directive_of t ≡ Some d → stands_by_itself d ≡ true
     → resumed rules (Skipped n p os) first (t ∷ ts) s
-    ≡ behind_bytes (line_ends_of t.bytes) (resumed rules (Skipped n p os) (only_blanks first t.bytes) ts s)
+    ≡ after_bytes (line_ends_of t.bytes) (resumed rules (Skipped n p os) (only_blanks first t.bytes) ts s)
 unfolding stands_by_itself piece_of command_of resume
 skipped_directive rules n p os Define first t ts s e h = skipped_piece rules n n p os Define first t ts s _ e refl (λ ps. refl)
 skipped_directive rules n p os Undef first t ts s e h = skipped_piece rules n n p os Undef first t ts s _ e refl (λ ps. refl)
@@ -391,7 +391,7 @@ ordinary_by : (rules : Rules) (n : ℕ) (p : Progress) (os : List Progress) (fir
     → directive_of (record { sort = Ordinary k; bytes = bytes; line = line }) ≡ d
     → (elim d [ None ↦ true | Some x ↦ stands_by_itself x ]) ≡ true
     → resumed rules (Skipped n p os) first (record { sort = Ordinary k; bytes = bytes; line = line } ∷ ts) s
-    ≡ behind_bytes (line_ends_of bytes) (resumed rules (Skipped n p os) (only_blanks first bytes) ts s)
+    ≡ after_bytes (line_ends_of bytes) (resumed rules (Skipped n p os) (only_blanks first bytes) ts s)
 unfolding is_text
 ordinary_by rules n p os first k bytes line ts s None e h =
     skipped_text_token rules n p os first (record { sort = Ordinary k; bytes = bytes; line = line }) ts s
@@ -403,7 +403,7 @@ ordinary_by rules n p os first k bytes line ts s (Some d) e h =
 one_skipped_by : (rules : Rules) (n : ℕ) (p : Progress) (os : List Progress) (first : Bool) (sort : Sort) (bytes : List ℕ) (line : ℕ) (ts : List SourceToken) (s : State)
     → is_skipped (record { sort = sort; bytes = bytes; line = line }) ≡ true
     → resumed rules (Skipped n p os) first (record { sort = sort; bytes = bytes; line = line } ∷ ts) s
-    ≡ behind_bytes (line_ends_of bytes) (resumed rules (Skipped n p os) (only_blanks first bytes) ts s)
+    ≡ after_bytes (line_ends_of bytes) (resumed rules (Skipped n p os) (only_blanks first bytes) ts s)
 unfolding is_skipped stands_by_itself directive_of
 one_skipped_by rules n p os first (Ordinary k) bytes line ts s e =
     let t : SourceToken = record { sort = Ordinary k; bytes = bytes; line = line } in
@@ -418,7 +418,7 @@ one_skipped_by rules n p os first (Broken b) bytes line ts s e = cc
 pub resumed_skipped_one : (rules : Rules) (n : ℕ) (p : Progress) (os : List Progress) (first : Bool) (t : SourceToken) (ts : List SourceToken) (s : State)
     → is_skipped t ≡ true
     → resumed rules (Skipped n p os) first (t ∷ ts) s
-    ≡ behind_bytes (line_ends_of t.bytes) (resumed rules (Skipped n p os) (only_blanks first t.bytes) ts s)
+    ≡ after_bytes (line_ends_of t.bytes) (resumed rules (Skipped n p os) (only_blanks first t.bytes) ts s)
 resumed_skipped_one rules n p os first t ts s e = one_skipped_by rules n p os first t.sort t.bytes t.line ts s e
 
 -- a stretch is passed
@@ -434,7 +434,7 @@ stretch_passed rules n p os (t ∷ ts) more s e =
 pub resumed_skipped : (rules : Rules) (n : ℕ) (p : Progress) (os : List Progress) (first : Bool) (ts more : List SourceToken) (s : State)
     → list_all is_skipped ts ≡ true
     → resumed rules (Skipped n p os) first (ts ++ more) s
-    ≡ behind_bytes (line_ends_of (bytes_of ts)) (resumed rules (Skipped n p os) (only_blanks first (bytes_of ts)) more s)
+    ≡ after_bytes (line_ends_of (bytes_of ts)) (resumed rules (Skipped n p os) (only_blanks first (bytes_of ts)) more s)
 unfolding IsPassed
 resumed_skipped rules n p os first ts more s e = stretch_passed rules n p os ts more s e first
 
@@ -442,7 +442,7 @@ resumed_skipped rules n p os first ts more s e = stretch_passed rules n p os ts 
 pub resumed_skipped_opening : (rules : Rules) (n : ℕ) (p : Progress) (os : List Progress) (d : Directive) (first : Bool) (t : SourceToken) (ts : List SourceToken) (s : State)
     → directive_of t ≡ Some d → opens_conditional d ≡ true
     → resumed rules (Skipped n p os) first (t ∷ ts) s
-    ≡ behind_bytes (line_ends_of t.bytes) (resumed rules (Skipped (suc n) p os) (only_blanks first t.bytes) ts s)
+    ≡ after_bytes (line_ends_of t.bytes) (resumed rules (Skipped (suc n) p os) (only_blanks first t.bytes) ts s)
 unfolding resume
 resumed_skipped_opening rules n p os d first t ts s e o = skipped_piece rules n (suc n) p os d first t ts s _ e (opening_piece d first t ts o) (λ ps. refl)
 
@@ -450,7 +450,7 @@ resumed_skipped_opening rules n p os d first t ts s e o = skipped_piece rules n 
 pub resumed_inner_branch : (rules : Rules) (n : ℕ) (p : Progress) (os : List Progress) (d : Directive) (first : Bool) (t : SourceToken) (ts : List SourceToken) (s : State)
     → directive_of t ≡ Some d → branches_conditional d ≡ true
     → resumed rules (Skipped (suc n) p os) first (t ∷ ts) s
-    ≡ behind_bytes (line_ends_of t.bytes) (resumed rules (Skipped (suc n) p os) (only_blanks first t.bytes) ts s)
+    ≡ after_bytes (line_ends_of t.bytes) (resumed rules (Skipped (suc n) p os) (only_blanks first t.bytes) ts s)
 unfolding resume
 resumed_inner_branch rules n p os d first t ts s e b =
     skipped_piece rules (suc n) (suc n) p os d first t ts s _ e (branching_piece d first t ts b) (λ ps. refl)
@@ -459,14 +459,14 @@ resumed_inner_branch rules n p os d first t ts s e b =
 pub resumed_inner_end : (rules : Rules) (n : ℕ) (p : Progress) (os : List Progress) (first : Bool) (t : SourceToken) (ts : List SourceToken) (s : State)
     → directive_of t ≡ Some Endif
     → resumed rules (Skipped (suc n) p os) first (t ∷ ts) s
-    ≡ behind_bytes (line_ends_of t.bytes) (resumed rules (Skipped n p os) (only_blanks first t.bytes) ts s)
+    ≡ after_bytes (line_ends_of t.bytes) (resumed rules (Skipped n p os) (only_blanks first t.bytes) ts s)
 unfolding resume
 resumed_inner_end rules n p os first t ts s e = skipped_piece rules (suc n) n p os Endif first t ts s _ e (closing_piece first t ts) (λ ps. refl)
 
 -- a broken token gives its LF bytes, and then ends its source
 pub resumed_skipped_broken : (rules : Rules) (n : ℕ) (p : Progress) (os : List Progress) (first : Bool) (b : Breach) (bytes : List ℕ) (line : ℕ) (more : List SourceToken) (s : State)
     → resumed rules (Skipped n p os) first (record { sort = Broken b; bytes = bytes; line = line } ∷ more) s
-    ≡ behind_bytes (line_ends_of bytes) (leaves (fails (fault_at (breach_kind b) line [] s)) s)
+    ≡ after_bytes (line_ends_of bytes) (leaves (fails (fault_at (breach_kind b) line [] s)) s)
 unfolding directive_of
 resumed_skipped_broken rules n p os first b bytes line more s =
     let f = fault_at (breach_kind b) line [] s in
@@ -477,13 +477,13 @@ resumed_skipped_broken rules n p os first b bytes line more s =
 -- a broken token may be read in two parts
 pub resumed_skipped_broken_parts : (rules : Rules) (n : ℕ) (p : Progress) (os : List Progress) (first : Bool) (b : Breach) (x y : List ℕ) (line : ℕ) (more : List SourceToken) (s : State)
     → resumed rules (Skipped n p os) first (record { sort = Broken b; bytes = x ++ y; line = line } ∷ more) s
-    ≡ behind_bytes (line_ends_of x) (resumed rules (Skipped n p os) (only_blanks first x) (record { sort = Broken b; bytes = y; line = line } ∷ more) s)
+    ≡ after_bytes (line_ends_of x) (resumed rules (Skipped n p os) (only_blanks first x) (record { sort = Broken b; bytes = y; line = line } ∷ more) s)
 resumed_skipped_broken_parts rules n p os first b x y line more s =
     let q = leaves (fails (fault_at (breach_kind b) line [] s)) s in
     resumed_skipped_broken rules n p os first b (x ++ y) line more s
-    ∙ ap (λ (z : List ℕ). behind_bytes z q) (line_ends_of-append x y)
-    ∙ sym (behind_bytes-twice (line_ends_of x) (line_ends_of y) q)
-    ∙ ap (λ (r : Passage). behind_bytes (line_ends_of x) r)
+    ∙ ap (λ (z : List ℕ). after_bytes z q) (line_ends_of-append x y)
+    ∙ sym (after_bytes-twice (line_ends_of x) (line_ends_of y) q)
+    ∙ ap (λ (r : Passage). after_bytes (line_ends_of x) r)
     (sym (resumed_skipped_broken rules n p os (only_blanks first x) b y line more s))
 
 -- an ordinary token may be read in two parts
@@ -491,7 +491,7 @@ pub resumed_skipped_parts : (rules : Rules) (n : ℕ) (p : Progress) (os : List 
     → directive_of (record { sort = Ordinary k; bytes = x ++ y; line = line }) ≡ None
     → directive_of (record { sort = Ordinary k; bytes = y; line = line }) ≡ None
     → resumed rules (Skipped n p os) first (record { sort = Ordinary k; bytes = x ++ y; line = line } ∷ more) s
-    ≡ behind_bytes (line_ends_of x) (resumed rules (Skipped n p os) (only_blanks first x) (record { sort = Ordinary k; bytes = y; line = line } ∷ more) s)
+    ≡ after_bytes (line_ends_of x) (resumed rules (Skipped n p os) (only_blanks first x) (record { sort = Ordinary k; bytes = y; line = line } ∷ more) s)
 resumed_skipped_parts rules n p os first k x y line more s e f =
     skipped_by_parts rules n p os first k x y line more s e f
     ∙ goes_on-gives (line_ends_of x) s

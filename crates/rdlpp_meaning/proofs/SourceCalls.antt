@@ -10,8 +10,8 @@ use Rattle.rdlpp_scan.specs.declared.token.Kind.TheVariants.{Back}
 use Rattle.rdlpp_scan.specs.declared.token.Mode.TheVariants.{Plain}
 use Rattle.rdlpp_scan.specs.declared.token.Token.{Token}
 use Rattle.rdlpp_table.specs.Table.{Formal, Macro, macro_named}
-use Rattle.rdlpp_meaning.specs.Actuals.{Bound, CallBreakFault, Call, Cut, Halt, CallFault, Reads, Role, Text, actual_of, behind_space, is_space, item_reads, item_role, item_size, kept, kind_role, level_behind, map_call, source_reads, text_reads, token_role, trimmed}
-use Rattle.rdlpp_meaning.specs.CallScan.{Before, Breaks, Closed, Closes, Keeps as KeepsThing, Passes, ScanFault, TurnFault as RefusesThing, Scanned, Split, CallState, ScanBreakFault, Turn, all_parts, call_of, call_of_scan, is_kept, room_behind, scan, scan_onto, scanned, source_role, split, split_by, call_state_behind, turn}
+use Rattle.rdlpp_meaning.specs.Actuals.{Bound, CallBreakFault, Call, Cut, Halt, CallFault, Reads, Role, Text, actual_of, after_leading_space, is_space, item_reads, item_role, item_size, kept, kind_role, level_after, map_call, source_reads, text_reads, token_role, trimmed}
+use Rattle.rdlpp_meaning.specs.CallScan.{Before, Breaks, Closed, Closes, Keeps as KeepsThing, Passes, ScanFault, TurnFault as RefusesThing, Scanned, Split, CallState, ScanBreakFault, Turn, all_parts, call_of, call_of_scan, is_kept, room_after, scan, scan_onto, scanned, source_role, split, split_by, call_state_after, turn}
 use Rattle.rdlpp_meaning.specs.Expansion.{Opens, UsageFault, Usage, bound_parts, bytes_of, expand, is_count, run_outcome, usage_of, usage_of_call, usage_of_formals, usage_of_macro, usage_token, walk}
 use Rattle.rdlpp_meaning.specs.Items.{Arg, Item, Written, broken_line, unlined, unlined_item}
 use Rattle.rdlpp_meaning.specs.Meaning.{Passage, Progress, goes_on, leaves}
@@ -117,12 +117,12 @@ unfolding scan map_scan
 scan-map role size role' size' f keeps at room [] = refl
 scan-map {B = B} role size role' size' f keeps at room (x ∷ xs) =
     let by : Role → ℕ → Scanned B =
-    λ r n. scanned (turn at r (nat_le n room)) (f x) (scan role' size' (call_state_behind at r) (room_behind at room r n) (map f xs)) in
+    λ r n. scanned (turn at r (nat_le n room)) (f x) (scan role' size' (call_state_after at r) (room_after at room r n) (map f xs)) in
     ap (λ (r : Role). by r (size' (f x))) (keeps.role_of x)
     ∙ ap (by (role x)) (keeps.size_of x)
     ∙ ap (scanned (turn at (role x) (nat_le (size x) room)) (f x))
-    (scan-map role size role' size' f keeps (call_state_behind at (role x)) (room_behind at room (role x) (size x)) xs)
-    ∙ scanned-map f (turn at (role x) (nat_le (size x) room)) x (scan role size (call_state_behind at (role x)) (room_behind at room (role x) (size x)) xs)
+    (scan-map role size role' size' f keeps (call_state_after at (role x)) (room_after at room (role x) (size x)) xs)
+    ∙ scanned-map f (turn at (role x) (nat_le (size x) room)) x (scan role size (call_state_after at (role x)) (room_after at room (role x) (size x)) xs)
 
 -- a thing in front of parts, of things and of what they become
 split_by-map : {A B : Type 0} (f : A → B) (r : Role) (k : ℕ) (x : A) (s : Split A)
@@ -139,9 +139,9 @@ pub split-map : {A B : Type 0} (role : A → Role) (role' : B → Role) (f : A �
 unfolding split
 split-map role role' f keeps k [] = refl
 split-map {B = B} role role' f keeps k (x ∷ xs) =
-    ap (λ (r : Role). split_by r k (f x) (split role' (level_behind r k) (map f xs))) (keeps x)
-    ∙ ap (λ (s : Split B). split_by (role x) k (f x) s) (split-map role role' f keeps (level_behind (role x) k) xs)
-    ∙ split_by-map f (role x) k x (split role (level_behind (role x) k) xs)
+    ap (λ (r : Role). split_by r k (f x) (split role' (level_after r k) (map f xs))) (keeps x)
+    ∙ ap (λ (s : Split B). split_by (role x) k (f x) s) (split-map role role' f keeps (level_after (role x) k) xs)
+    ∙ split_by-map f (role x) k x (split role (level_after (role x) k) xs)
 
 -- a call of a scan commutes with what keeps roles
 scan_call-map : {A B : Type 0} (role : A → Role) (role' : B → Role) (f : A → B) → ((x : A) → role' (f x) ≡ role x) → (k : ℕ) (s : Scanned A)
@@ -181,10 +181,10 @@ spaces-map role role' f keeps [] = refl
 spaces-map role role' f keeps (x ∷ xs) = rw (keeps x, spaces-map role role' f keeps xs) refl
 
 -- what is behind the blank things in front
-behind_space-map : {A B : Type 0} (role : A → Role) (role' : B → Role) (f : A → B) → ((x : A) → role' (f x) ≡ role x) → (xs : List A)
-    → behind_space role' (map f xs) ≡ map f (behind_space role xs)
-unfolding behind_space
-behind_space-map role role' f keeps xs =
+after_leading_space-map : {A B : Type 0} (role : A → Role) (role' : B → Role) (f : A → B) → ((x : A) → role' (f x) ≡ role x) → (xs : List A)
+    → after_leading_space role' (map f xs) ≡ map f (after_leading_space role xs)
+unfolding after_leading_space
+after_leading_space-map role role' f keeps xs =
     ap (λ (n : ℕ). drop n (map f xs)) (spaces-map role role' f keeps xs)
     ∙ drop-map f (prefix_len (λ x. is_space (role x)) xs) xs
 
@@ -193,10 +193,10 @@ pub trimmed-map : {A B : Type 0} (role : A → Role) (role' : B → Role) (f : A
     → trimmed role' (map f xs) ≡ map f (trimmed role xs)
 unfolding trimmed
 trimmed-map {B = B} role role' f keeps xs =
-    ap (λ (ys : List B). reverse (behind_space role' (reverse ys))) (behind_space-map role role' f keeps xs)
-    ∙ ap (λ (ys : List B). reverse (behind_space role' ys)) (sym (map-reverse f (behind_space role xs)))
-    ∙ ap reverse (behind_space-map role role' f keeps (reverse (behind_space role xs)))
-    ∙ sym (map-reverse f (behind_space role (reverse (behind_space role xs))))
+    ap (λ (ys : List B). reverse (after_leading_space role' (reverse ys))) (after_leading_space-map role role' f keeps xs)
+    ∙ ap (λ (ys : List B). reverse (after_leading_space role' ys)) (sym (map-reverse f (after_leading_space role xs)))
+    ∙ ap reverse (after_leading_space-map role role' f keeps (reverse (after_leading_space role xs)))
+    ∙ sym (map-reverse f (after_leading_space role (reverse (after_leading_space role xs))))
 
 -- A usage comes to the same by things and by what they become, where each keeps its role and its size.
 

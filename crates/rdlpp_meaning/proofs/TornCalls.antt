@@ -9,11 +9,11 @@ use Rattle.rdlpp_scan.specs.declared.token.Directive.TheVariants.{Define, Else, 
 use Rattle.rdlpp_scan.specs.declared.token.Kind.TheVariants.{Back, Blank}
 use Rattle.rdlpp_table.specs.Table.{Formal, Macro, macro_named}
 use Rattle.rdlpp_meaning.specs.Actuals.{Dropped, End, Ends, Halt, Reads, Role, Space, Stops, Text, item_role, token_role}
-use Rattle.rdlpp_meaning.specs.CallScan.{Before, Breaks, Closed, Closes, Inside, Keeps, Passes, ScanFault, TurnFault as RefusesThing, Scanned, CallState, ScanBreakFault, Turn, call_of_scan, fault_at_end, room_behind, scan, scan_onto, scanned, call_state_behind, turn, turn_before, turn_fitting, turn_inside}
+use Rattle.rdlpp_meaning.specs.CallScan.{Before, Breaks, Closed, Closes, Inside, Keeps, Passes, ScanFault, TurnFault as RefusesThing, Scanned, CallState, ScanBreakFault, Turn, call_of_scan, fault_at_end, room_after, scan, scan_onto, scanned, call_state_after, turn, turn_before, turn_fitting, turn_inside}
 use Rattle.rdlpp_meaning.specs.Expansion.{Opens, UsageFault, Usage, usage_of, usage_of_call, usage_of_formals, usage_of_macro}
 use Rattle.rdlpp_meaning.specs.Items.{Written}
 use Rattle.rdlpp_meaning.specs.LimitLaws.{is_limit}
-use Rattle.rdlpp_meaning.specs.Parts.{Argument, Branching, Closing, Command, Opening, Piece, Run, Single, argument_of, behind_blanks, command_of, directive_named, directive_of, joined, name_in_front, no_argument, one_argument, only_blanks, past_blanks, piece_of, pieces, string_in_front}
+use Rattle.rdlpp_meaning.specs.Parts.{Argument, Branching, Closing, Command, Opening, Piece, Run, Single, argument_of, after_blanks, command_of, directive_named, directive_of, joined, name_in_front, no_argument, one_argument, only_blanks, past_blanks, piece_of, pieces, string_in_front}
 use Rattle.rdlpp_meaning.specs.Resumed.{leading}
 use Rattle.rdlpp_meaning.specs.State.{Rules, State, breach_kind}
 use Rattle.rdlpp_meaning.specs.declared.fault.FaultKind.{FaultKind}
@@ -132,8 +132,8 @@ scan-halts : {A : Type 0} (role : A → Role) (size : A → ℕ) (at : CallState
 unfolding FollowsHalt scan
 scan-halts role size at room [] h = refl
 scan-halts role size at room (u ∷ us) h =
-    ap (λ (r : Role). scanned (turn at r (nat_le (size u) room)) u (scan role size (call_state_behind at r) (room_behind at room r (size u)) us)) h
-    ∙ sym (halted at (nat_le (size u) room) u (scan role size (call_state_behind at Halt) (room_behind at room Halt (size u)) us))
+    ap (λ (r : Role). scanned (turn at r (nat_le (size u) room)) u (scan role size (call_state_after at r) (room_after at room r (size u)) us)) h
+    ∙ sym (halted at (nat_le (size u) room) u (scan role size (call_state_after at Halt) (room_after at room Halt (size u)) us))
 
 -- a torn thing, by its role
 tear : {A : Type 0} (role : A → Role) (size : A → ℕ) (at : CallState) (most : ℕ) (r : Role) (fits : Bool) (t : A) (us : List A) (rest : Scanned A)
@@ -156,8 +156,8 @@ fits-more : (n room most : ℕ) → room ≤ most → nat_le n room ≡ true →
 fits-more n room most h e = le-leb n most (le_trans (leb-true n room e) h)
 
 -- more room stays so
-room-more : (at : CallState) (r : Role) (n room most : ℕ) → room ≤ most → room_behind at room r n ≤ room_behind at most r n
-unfolding room_behind
+room-more : (at : CallState) (r : Role) (n room most : ℕ) → room ≤ most → room_after at room r n ≤ room_after at most r n
+unfolding room_after
 room-more Before r n room most h = h
 room-more (Inside k) r n room most h = omega (arith, h)
 
@@ -169,7 +169,7 @@ scan-torn role size at room most [] [] zs h tail = inr (ap (scan role size at mo
 scan-torn role size at room most [] (t ∷ ts) zs h tail = tear role size at most (role t) (nat_le (size t) room) t zs _ tail
 scan-torn role size at room most (x ∷ xs) ys zs h tail =
     step-torn at (role x) (nat_le (size x) room) (nat_le (size x) most) x (length xs) _ _ (fits-more (size x) room most h)
-    (scan-torn role size (call_state_behind at (role x)) (room_behind at room (role x) (size x)) (room_behind at most (role x) (size x)) xs ys zs
+    (scan-torn role size (call_state_after at (role x)) (room_after at room (role x) (size x)) (room_after at most (role x) (size x)) xs ys zs
     (room-more at (role x) (size x) room most h) tail)
 
 -- a usage that a limit refuses
@@ -318,12 +318,12 @@ pub record EndsTorn (p : Piece) (ps qs : List Piece) : Type 0 where
   pub breach : Breach
   pub bytes : List ℕ
   pub line : ℕ
-  pub behind : List SourceToken
+  pub following : List SourceToken
   pub piece : p ≡ Run (before ++ record { sort = Broken breach; bytes = bytes; line = line } ∷ [])
   pub last : ps ≡ []
-  pub front : run_front qs ≡ before ++ behind
+  pub front : run_front qs ≡ before ++ following
   pub limit : is_limit (breach_kind breach) ≡ true
-  pub torn : TornBy token_role (token_role (record { sort = Broken breach; bytes = bytes; line = line })) behind
+  pub torn : TornBy token_role (token_role (record { sort = Broken breach; bytes = bytes; line = line })) following
 
 -- the same pieces, or the same up to a run that a torn token ends
 unfoldable pub PiecesTorn : List Piece → List Piece → Type 0
@@ -405,7 +405,7 @@ joined-ends t p ps qs e =
       breach = e.breach;
       bytes = e.bytes;
       line = e.line;
-      behind = e.behind;
+      following = e.following;
       piece = refl;
       last = refl;
       front = front-joined t qs ∙ ap (λ (us : List SourceToken). t ∷ us) e.front;
@@ -518,7 +518,7 @@ past-same : (f : List SourceToken → Argument) → IsFront f → (sort : Sort) 
     → past_blanks f (record { sort = sort; bytes = bytes; line = line } ∷ ts) ≡ past_blanks f (record { sort = sort; bytes = bytes; line = line } ∷ rest)
 unfolding past_blanks ends_line
 past-same f i (Ordinary Blank) bytes line ts rest r =
-    ap (λ (a : Argument). behind_blanks (record { sort = Ordinary Blank; bytes = bytes; line = line }) a) (front-torn f i ts rest r)
+    ap (λ (a : Argument). after_blanks (record { sort = Ordinary Blank; bytes = bytes; line = line }) a) (front-torn f i ts rest r)
 past-same f i (Ordinary k) bytes line ts rest r = i.alone (record { sort = Ordinary k; bytes = bytes; line = line }) ts rest
 past-same f i Definition bytes line ts rest r = refl
 past-same f i Renumbering bytes line ts rest r = refl
@@ -608,7 +608,7 @@ tear-pieces first b sort bytes line us e limit torn =
       breach = b;
       bytes = bytes;
       line = line;
-      behind = leading us;
+      following = leading us;
       piece = refl;
       last = refl;
       front = front-leading first us;

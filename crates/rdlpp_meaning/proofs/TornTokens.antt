@@ -251,9 +251,9 @@ run-short p ten b (c ∷ bs) h =
     one-more (p b) (prefix_len p (c ∷ bs)) (length (c ∷ bs)) (run-short p ten c bs (IsWholeLines-rest b (c ∷ bs) h))
 
 -- a run behind the first byte
-behind-short : (p : ℕ → Bool) → p 10 ≡ false → (b : ℕ) (bs : List ℕ) → (b ≡ 10 → ⊥) → IsWholeLines (b ∷ bs) → suc (prefix_len p bs) < length (b ∷ bs)
-behind-short p ten b [] other h = absurd (other (line_end-ten b (IsWholeLines-one b h)))
-behind-short p ten b (c ∷ bs) other h = let e = run-short p ten c bs (IsWholeLines-rest b (c ∷ bs) h) in omega (arith, e)
+following-short : (p : ℕ → Bool) → p 10 ≡ false → (b : ℕ) (bs : List ℕ) → (b ≡ 10 → ⊥) → IsWholeLines (b ∷ bs) → suc (prefix_len p bs) < length (b ∷ bs)
+following-short p ten b [] other h = absurd (other (line_end-ten b (IsWholeLines-one b h)))
+following-short p ten b (c ∷ bs) other h = let e = run-short p ten c bs (IsWholeLines-rest b (c ∷ bs) h) in omega (arith, e)
 
 -- a token of blanks, or a backquoted name, doesn't have all of a text of whole lines
 unfoldable pub IsShort : List ℕ → Token → Type 0
@@ -308,7 +308,7 @@ plain-short b bs =
     choice-short all (is_digit b) _ _ (λ h. other-short all (whole Word _) refl) (λ _.
     choice-short all (takes_word b && is_word (slice_index all 1)) _ _ (λ h. other-short all (whole Word _) refl) (λ _.
     choice-short all (b == 96 && is_letter (slice_index all 1)) _ _
-    (λ h. λ f w. behind-short is_word refl b bs (not-two b 96 10 (and_parts (b == 96) (is_letter (slice_index all 1)) h).0 (λ e. absurd (omega (arith, e)))) w) (λ _.
+    (λ h. λ f w. following-short is_word refl b bs (not-two b 96 10 (and_parts (b == 96) (is_letter (slice_index all 1)) h).0 (λ e. absurd (omega (arith, e)))) w) (λ _.
     choice-short all (b == 96) _ _ (λ h. other-short all (whole BareBackquote 1) refl) (λ _.
     choice-short all (is_opener b) _ _ (λ h. other-short all (whole Opener 1) refl) (λ _.
     choice-short all (is_closer b) _ _ (λ h. other-short all (whole Closer 1) refl) (λ _.

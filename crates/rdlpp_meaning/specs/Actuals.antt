@@ -31,12 +31,12 @@ map_call f (CallBreakFault k line) = CallBreakFault k line
 map_call f (Bound first further used) = Bound (map f first) (map (map f) further) used
 
 -- the level of openers behind a thing (source: this project's profile)
-unfoldable pub level_behind : Role → ℕ → ℕ
-level_behind Start k = suc k
-level_behind Up k = suc k
-level_behind End k = k - 1
-level_behind Down k = k - 1
-level_behind r k = k
+unfoldable pub level_after : Role → ℕ → ℕ
+level_after Start k = suc k
+level_after Up k = suc k
+level_after End k = k - 1
+level_after Down k = k - 1
+level_after r k = k
 
 -- how many bytes of a thing count as kept (source: this project's profile)
 unfoldable pub kept_size : Role → ℕ → ℕ
@@ -49,12 +49,12 @@ is_space Space = true
 is_space r = false
 
 -- things without the white space at their front
-unfoldable pub behind_space : {A : Type 0} → (A → Role) → List A → List A
-behind_space role xs = drop (prefix_len (λ x. is_space (role x)) xs) xs
+unfoldable pub after_leading_space : {A : Type 0} → (A → Role) → List A → List A
+after_leading_space role xs = drop (prefix_len (λ x. is_space (role x)) xs) xs
 
 -- things without the white space at both ends (source: this project's profile)
 unfoldable pub trimmed : {A : Type 0} → (A → Role) → List A → List A
-trimmed role xs = reverse (behind_space role (reverse (behind_space role xs)))
+trimmed role xs = reverse (after_leading_space role (reverse (after_leading_space role xs)))
 
 -- the role of a token of a kind (source: this project's profile)
 unfoldable pub kind_role : Kind → List ℕ → Role

@@ -9,7 +9,7 @@ use Rattle.rdlpp_meaning.specs.declared.fault.FaultKind.{FaultKind}
 use Rattle.rdlpp_meaning.specs.declared.fault.FaultKind.TheVariants.{ArgumentBytes}
 use Rattle.rdlpp_meaning.specs.State.{breach_kind}
 use Rattle.rdlpp_meaning.specs.Actuals.{Role, Stops, Text, kind_role}
-use Rattle.rdlpp_meaning.specs.CallScan.{CallState, Turn, Passes, Keeps, Closes, TurnFault, Breaks, turn, call_state_behind, room_behind, fault_at_end, Scanned, ScanFault, ScanBreakFault, Closed, source_role}
+use Rattle.rdlpp_meaning.specs.CallScan.{CallState, Turn, Passes, Keeps, Closes, TurnFault, Breaks, turn, call_state_after, room_after, fault_at_end, Scanned, ScanFault, ScanBreakFault, Closed, source_role}
 use Rattle.rdlpp_meaning.specs.Expansion.{bytes_of}
 
 -- what reading a call comes to: a fault of its own, that of a broken token at its line, or the bytes that it keeps and the
@@ -23,7 +23,7 @@ pub data Reading : Type 0 where
 unfoldable pub onto_kept : List ℕ → Reading → Reading
 onto_kept bytes (ReadRefused f) = ReadRefused f
 onto_kept bytes (ReadStopped f line) = ReadStopped f line
-onto_kept bytes (ReadClosed kept behind) = ReadClosed (bytes ++ kept) behind
+onto_kept bytes (ReadClosed kept following) = ReadClosed (bytes ++ kept) following
 
 -- the role of the rest of a string or of a comment
 unfoldable pub rest_role : SourceToken → Role
@@ -53,7 +53,7 @@ read at part room [] = ReadRefused (fault_at_end at)
 read at part room (t ∷ ts) =
     let r = role_in part t in
     read_by (turn at r (nat_le (length t.bytes) room)) t ts
-    (read (call_state_behind at r) false (room_behind at room r (length t.bytes)) ts)
+    (read (call_state_after at r) false (room_after at room r (length t.bytes)) ts)
 
 -- a scan of tokens as reading: the bytes of what it keeps, and the tokens behind what it takes
 unfoldable pub reading_of : List SourceToken → Scanned SourceToken → Reading

@@ -4,7 +4,7 @@ use Rattle.std.specs.Prelude.{◌≡◌, ℕ, zero, suc, ◌+◌, ◌-◌, Bool,
 use Rattle.rdlpp_scan.specs.SourceTokens.{SourceToken}
 use Rattle.rdlpp_meaning.specs.declared.fault.FaultKind.{FaultKind}
 use Rattle.rdlpp_meaning.specs.declared.fault.FaultKind.TheVariants.{ArgumentsMissing, ArgumentsOpen, ArgumentBytes}
-use Rattle.rdlpp_meaning.specs.Actuals.{Role, Space, Dropped, KeptComment, Start, End, Cut, Halt, Ends, Stops, Call, CallFault, CallBreakFault, Bound, level_behind, kept_size, token_role}
+use Rattle.rdlpp_meaning.specs.Actuals.{Role, Space, Dropped, KeptComment, Start, End, Cut, Halt, Ends, Stops, Call, CallFault, CallBreakFault, Bound, level_after, kept_size, token_role}
 use Rattle.rdlpp_meaning.specs.Parts.{directive_of}
 
 -- where the scan of a call stands: before its `(`, or behind it at a level of openers (source: this project's profile)
@@ -49,19 +49,19 @@ turn Before r fits = turn_before r
 turn (Inside k) r fits = turn_inside r k fits
 
 -- where the scan stands behind a thing before the `(`
-unfoldable pub call_state_behind_lead : Role → CallState
-call_state_behind_lead Start = Inside 0
-call_state_behind_lead r = Before
+unfoldable pub call_state_after_lead : Role → CallState
+call_state_after_lead Start = Inside 0
+call_state_after_lead r = Before
 
 -- where the scan stands behind a thing
-unfoldable pub call_state_behind : CallState → Role → CallState
-call_state_behind Before r = call_state_behind_lead r
-call_state_behind (Inside k) r = Inside (level_behind r k)
+unfoldable pub call_state_after : CallState → Role → CallState
+call_state_after Before r = call_state_after_lead r
+call_state_after (Inside k) r = Inside (level_after r k)
 
 -- how many bytes may be kept behind a thing of a role and a size
-unfoldable pub room_behind : CallState → ℕ → Role → ℕ → ℕ
-room_behind Before room r n = room
-room_behind (Inside k) room r n = room - kept_size r n
+unfoldable pub room_after : CallState → ℕ → Role → ℕ → ℕ
+room_after Before room r n = room
+room_after (Inside k) room r n = room - kept_size r n
 
 -- the fault where nothing follows
 unfoldable pub fault_at_end : CallState → FaultKind
@@ -94,7 +94,7 @@ unfoldable pub scan : {A : Type 0} → (A → Role) → (A → ℕ) → CallStat
 scan role size at room [] = ScanFault (fault_at_end at)
 scan role size at room (x ∷ xs) =
     scanned (turn at (role x) (nat_le (size x) room)) x
-    (scan role size (call_state_behind at (role x)) (room_behind at room (role x) (size x)) xs)
+    (scan role size (call_state_after at (role x)) (room_after at room (role x) (size x)) xs)
 
 -- the parts of things: the first, and the further ones (source: this project's profile)
 pub record Split (A : Type 0) : Type 0 where
@@ -110,7 +110,7 @@ split_by r k x s = record { first = x ∷ s.first; further = s.further }
 -- the parts of things from a level of openers on (source: this project's profile)
 unfoldable pub split : {A : Type 0} → (A → Role) → ℕ → List A → Split A
 split role k [] = record { first = []; further = [] }
-split role k (x ∷ xs) = split_by (role x) k x (split role (level_behind (role x) k) xs)
+split role k (x ∷ xs) = split_by (role x) k x (split role (level_after (role x) k) xs)
 
 -- the parts as one list
 unfoldable pub all_parts : {A : Type 0} → Split A → List (List A)
@@ -145,7 +145,7 @@ is_call_text r = true
 -- the level of openers behind things
 unfoldable pub level_of_things : {A : Type 0} → (A → Role) → ℕ → List A → ℕ
 level_of_things role k [] = k
-level_of_things role k (x ∷ xs) = level_of_things role (level_behind (role x) k) xs
+level_of_things role k (x ∷ xs) = level_of_things role (level_after (role x) k) xs
 
 -- how a scan that closes lies in its things: so many pass, the `(`, what stands between the parentheses, the `)`, and the rest
 pub record IsClosed {A : Type 0} (role : A → Role) (xs kept : List A) (used : ℕ) : Type 0 where
@@ -153,8 +153,8 @@ pub record IsClosed {A : Type 0} (role : A → Role) (xs kept : List A) (used : 
   pub opener : A
   pub inner : List A
   pub closer : A
-  pub behind : List A
-  pub whole : xs ≡ lead ++ opener ∷ (inner ++ closer ∷ behind)
+  pub following : List A
+  pub whole : xs ≡ lead ++ opener ∷ (inner ++ closer ∷ following)
   pub opens : role opener ≡ Start
   pub closes : role closer ≡ End
   pub level : level_of_things role 0 inner ≡ 0

@@ -31,12 +31,12 @@ unfoldable pub outcome : Passage → Outcome
 outcome p = record { bytes = p.bytes; fault = p.fault }
 
 -- bytes in front of a passage
-unfoldable pub behind_bytes : List ℕ → Passage → Passage
-behind_bytes bytes p = record { bytes = bytes ++ p.bytes; fault = p.fault; after = p.after }
+unfoldable pub after_bytes : List ℕ → Passage → Passage
+after_bytes bytes p = record { bytes = bytes ++ p.bytes; fault = p.fault; after = p.after }
 
 -- a passage and what goes on from its state, which counts for nothing behind a fault (source: this project's profile)
 unfoldable pub goes_on : Passage → (State → Passage) → Passage
-goes_on p next = elim p.fault [ None ↦ behind_bytes p.bytes (next p.after) | Some f ↦ p ]
+goes_on p next = elim p.fault [ None ↦ after_bytes p.bytes (next p.after) | Some f ↦ p ]
 
 -- a fault of a directive, which writes nothing
 unfoldable pub refusal : FaultKind → List ℕ → Command → State → Passage
@@ -124,7 +124,7 @@ added_end text = if slice_index text (length text - 1) == 10 then [] else 10 ∷
 -- an included text with its origin lines (source: IEEE 1364-2001, `include`)
 unfoldable pub includes : Rules → (State → List ℕ → Passage) → List ℕ → List ℕ → Command → State → Passage
 includes rules within path text c s =
-    behind_bytes (origin_line rules path 1)
+    after_bytes (origin_line rules path 1)
     (goes_on (within (at_start_of path s) text) (λ after.
     leaves (gives (added_end text ++ origin_line rules s.name (shown_line s.shift c.line))) (back_in s after)))
 
@@ -171,9 +171,9 @@ digits_value digits = fold (λ n b. n * 10 + (b - 48)) 0 digits
 -- whether the rest of a `line` behind its name is a level: `0`, `1` or `2`, and blanks up to the line's end (source: IEEE 1364-2001, `line`)
 unfoldable pub is_level : List ℕ → Bool
 is_level bytes =
-    let behind = past_blank_bytes (drop 1 bytes) in
+    let following = past_blank_bytes (drop 1 bytes) in
     nat_le 48 (slice_index bytes 0) && nat_le (slice_index bytes 0) 50
-    && (length behind == 0 || bytes_eq behind (10 ∷ []))
+    && (length following == 0 || bytes_eq following (10 ∷ []))
 
 -- the number and the name that a `line` gives
 pub record Renumbered : Type 0 where

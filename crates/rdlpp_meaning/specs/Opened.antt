@@ -5,8 +5,8 @@ use Rattle.rdlpp_scan.specs.declared.token.Directive.TheVariants.{Include}
 use Rattle.rdlpp_scan.specs.SourceTokens.{SourceToken}
 use Rattle.rdlpp_meaning.specs.Outcome.{gives}
 use Rattle.rdlpp_meaning.specs.State.{Rules, shown_line, State}
-use Rattle.rdlpp_meaning.specs.Parts.{only_blanks, command_in_front, behind_directive}
-use Rattle.rdlpp_meaning.specs.Meaning.{Passage, leaves, behind_bytes, goes_on, Progress, origin_line, back_in, added_end}
+use Rattle.rdlpp_meaning.specs.Parts.{only_blanks, command_in_front, after_directive}
+use Rattle.rdlpp_meaning.specs.Meaning.{Passage, leaves, after_bytes, goes_on, Progress, origin_line, back_in, added_end}
 use Rattle.rdlpp_meaning.specs.Resumed.{Place, Live, resumed}
 
 -- a source that waits for the text that it includes: its open conditionals, innermost first, whether only blanks stand
@@ -28,7 +28,7 @@ unfoldable pub waiting : Rules → List Progress → Bool → SourceToken → Li
 waiting rules os first t ts s text = record {
   open_conditionals = os;
   first = only_blanks first (command_in_front Include first t ts).text;
-  tokens = behind_directive Include ts;
+  tokens = after_directive Include ts;
   state = s;
   ending = ending_of rules t s text;
 }
@@ -37,7 +37,7 @@ waiting rules os first t ts s text = record {
 unfoldable pub unwound : Rules → List Waiting → State → Passage
 unwound rules [] s = leaves (gives []) s
 unwound rules (w ∷ ws) s =
-    behind_bytes w.ending
+    after_bytes w.ending
     (goes_on (resumed rules (Live w.open_conditionals) w.first w.tokens (back_in w.state s)) (λ after. unwound rules ws after))
 
 -- what remains of the innermost source, and then of those that wait (source: this project's profile)

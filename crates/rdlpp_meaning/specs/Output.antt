@@ -6,7 +6,7 @@ use Rattle.rdlpp_meaning.specs.declared.fault.FaultKind.{FaultKind}
 use Rattle.rdlpp_meaning.specs.declared.fault.FaultKind.TheVariants.{SourceNotFound, PathTooLong}
 use Rattle.rdlpp_meaning.specs.Outcome.{Report, Outcome, fails}
 use Rattle.rdlpp_meaning.specs.State.{Lookup, NoSource, LongPath, Source, Rules, no_shift, State}
-use Rattle.rdlpp_meaning.specs.Meaning.{outcome, behind_bytes, origin_line, text_meaning}
+use Rattle.rdlpp_meaning.specs.Meaning.{outcome, after_bytes, origin_line, text_meaning}
 
 -- the greatest place up to n at which no character of UTF-8 is cut
 unfoldable pub character_place : List ℕ → ℕ → ℕ
@@ -34,5 +34,5 @@ unfoldable pub output : Rules → List Macro → ℕ → ℕ → List ℕ → Lo
 output rules macros sources conditions path NoSource = fails (opening_fault SourceNotFound path)
 output rules macros sources conditions path LongPath = fails (opening_fault PathTooLong path)
 output rules macros sources conditions path (Source found text) =
-    outcome (behind_bytes (origin_line rules found 1)
+    outcome (after_bytes (origin_line rules found 1)
     (text_meaning rules (start_state macros sources conditions found) text))

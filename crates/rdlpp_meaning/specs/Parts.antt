@@ -70,8 +70,8 @@ unfoldable pub one_argument : SourceToken → Argument
 one_argument t = record { given = Some t.bytes; text = t.bytes; used = 1 }
 
 -- blanks in front of what a directive is given, where it is given something
-unfoldable pub behind_blanks : SourceToken → Argument → Argument
-behind_blanks t a = elim a.given [
+unfoldable pub after_blanks : SourceToken → Argument → Argument
+after_blanks t a = elim a.given [
   | None ↦ no_argument
   | Some bytes ↦ record { given = a.given; text = t.bytes ++ a.text; used = suc a.used }
 ]
@@ -99,7 +99,7 @@ string_in_front (t ∷ ts) = elim t.sort [
 unfoldable pub past_blanks : (List SourceToken → Argument) → List SourceToken → Argument
 past_blanks in_front [] = no_argument
 past_blanks in_front (t ∷ ts) = elim t.sort [
-  | Ordinary k ↦ elim k [ Blank ↦ behind_blanks t (in_front ts) | _ ↦ in_front (t ∷ ts) ]
+  | Ordinary k ↦ elim k [ Blank ↦ after_blanks t (in_front ts) | _ ↦ in_front (t ∷ ts) ]
   | _ ↦ no_argument
 ]
 
@@ -122,8 +122,8 @@ abbrev pub command_in_front : Directive → Bool → SourceToken → List Source
 command_in_front d first t ts = command_of d first t (argument_of d ts)
 
 -- the tokens behind the directive that stands in front of them
-abbrev pub behind_directive : Directive → List SourceToken → List SourceToken
-behind_directive d ts = drop (argument_of d ts).used ts
+abbrev pub after_directive : Directive → List SourceToken → List SourceToken
+after_directive d ts = drop (argument_of d ts).used ts
 
 -- a directive as a piece (source: IEEE 1364-2001, compiler directives)
 unfoldable pub piece_of : Command → Piece
@@ -197,14 +197,14 @@ further_branches (Upto ps c l) = Branch c (front_parts l) (further_branches l)
 further_branches (Ended ps c l) = Closed c
 
 -- what a level has behind the end of a conditional that opens before it
-unfoldable pub behind_end : Level → Level
-behind_end (Last ps) = Last Nothing
-behind_end (Upto ps c l) = behind_end l
-behind_end (Ended ps c l) = l
+unfoldable pub after_end : Level → Level
+after_end (Last ps) = Last Nothing
+after_end (Upto ps c l) = after_end l
+after_end (Ended ps c l) = l
 
 -- a conditional that opens before a level
 unfoldable pub opened_before : Command → Level → Level
-opened_before c l = in_front (Conditional c (front_parts l) (further_branches l)) (behind_end l)
+opened_before c l = in_front (Conditional c (front_parts l) (further_branches l)) (after_end l)
 
 -- the level of pieces (source: this project's profile)
 unfoldable pub level_of : List Piece → Level

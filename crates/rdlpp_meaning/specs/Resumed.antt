@@ -7,7 +7,7 @@ use Rattle.rdlpp_meaning.specs.declared.fault.FaultKind.TheVariants.{StrayBranch
 use Rattle.rdlpp_meaning.specs.Outcome.{Outcome, gives}
 use Rattle.rdlpp_meaning.specs.State.{Rules, State}
 use Rattle.rdlpp_meaning.specs.Expansion.{run_outcome}
-use Rattle.rdlpp_meaning.specs.Parts.{Piece, Run, Single, Opening, Branching, Closing, only_blanks, directive_of, command_in_front, behind_directive, pieces}
+use Rattle.rdlpp_meaning.specs.Parts.{Piece, Run, Single, Opening, Branching, Closing, only_blanks, directive_of, command_in_front, after_directive, pieces}
 use Rattle.rdlpp_meaning.specs.Meaning.{Passage, leaves, outcome, goes_on, refusal, IncludedMeaning, skipped_run, skipped_command, single, Progress, by_test, opening, in_conditional, past_conditional, begun, turn, turned, unclosed, included_meaning_of}
 
 -- where a file stands among its conditionals: in live text in these open ones, innermost first, or in skipped text, with so
@@ -70,11 +70,11 @@ trailing [] = []
 trailing (t ∷ ts) = elim (directive_of t) [ None ↦ trailing ts | Some d ↦ t ∷ ts ]
 
 -- what remains behind the directive that stands in front
-abbrev pub behind : Rules → Place → Directive → Bool → SourceToken → List SourceToken → State → Passage
-behind rules place d first t ts s =
-    resumed rules place (only_blanks first (command_in_front d first t ts).text) (behind_directive d ts) s
+abbrev pub following : Rules → Place → Directive → Bool → SourceToken → List SourceToken → State → Passage
+following rules place d first t ts s =
+    resumed rules place (only_blanks first (command_in_front d first t ts).text) (after_directive d ts) s
 
 -- the LF bytes of a skipped directive, and then what remains
 abbrev pub skips : Rules → Place → Directive → Bool → SourceToken → List SourceToken → State → Passage
 skips rules place d first t ts s =
-    goes_on (leaves (skipped_command (command_in_front d first t ts)) s) (λ after. behind rules place d first t ts after)
+    goes_on (leaves (skipped_command (command_in_front d first t ts)) s) (λ after. following rules place d first t ts after)

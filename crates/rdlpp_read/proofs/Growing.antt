@@ -82,16 +82,16 @@ pub to_end : (seen : ℕ) (bytes : List ℕ) → take (length bytes - seen) (dro
 to_end seen bytes = rw (← length-drop seen bytes) (take-length (drop seen bytes))
 
 -- whole lines behind the first `seen` bytes are seen in the whole text
-pub found_behind : (seen : ℕ) (bytes : List ℕ) → 0 < whole_lines_len (take (length bytes - seen) (drop seen bytes)) → 0 < whole_lines_len bytes
-found_behind seen bytes some =
+pub found_after : (seen : ℕ) (bytes : List ℕ) → 0 < whole_lines_len (take (length bytes - seen) (drop seen bytes)) → 0 < whole_lines_len bytes
+found_after seen bytes some =
     let all = whole-append-some (take seen bytes) (drop seen bytes) (rw to_end at some) in
     let whole = rw (take-append-drop seen bytes) at all in
     let more = rw to_end at some in
     omega arith
 
 -- no line end in the first `seen` bytes and none behind them
-pub none_behind : (seen : ℕ) (bytes : List ℕ) → whole_lines_len (take seen bytes) ≡ 0 → whole_lines_len (take (length bytes - seen) (drop seen bytes)) ≡ 0 → whole_lines_len bytes ≡ 0
-none_behind seen bytes before none =
+pub none_after : (seen : ℕ) (bytes : List ℕ) → whole_lines_len (take seen bytes) ≡ 0 → whole_lines_len (take (length bytes - seen) (drop seen bytes)) ≡ 0 → whole_lines_len bytes ≡ 0
+none_after seen bytes before none =
     let all = whole-append-none (take seen bytes) (drop seen bytes) (rw to_end at none) in
     let whole = rw (take-append-drop seen bytes) at all in
     whole ∙ before

@@ -15,7 +15,7 @@ use Rattle.rdlpp_scan.specs.Front.{DefineCut, DefineLong}
 use Rattle.rdlpp_scan.specs.Lines.{IsWholeLines, ended_line_len, whole_lines_len}
 use Rattle.rdlpp_scan.specs.SourceTokens.{Definition, line_ends, line_len, logical_len, remaining_tokens}
 use Rattle.rdlpp_scan.specs.declared.token.Mode.TheVariants.{Plain}
-use Rattle.rdlpp_scan.proofs.TokenSteps.{HoldsDefine-more, logical_len-behind_lines, logical_len-within}
+use Rattle.rdlpp_scan.proofs.TokenSteps.{HoldsDefine-more, logical_len-after_lines, logical_len-within}
 use Rattle.rdlpp_scan.proofs.SourceLaws.{line_len-ended}
 use Rattle.rdlpp_scan.proofs.RemainingLaws.{remaining-end, remaining-logical, remaining-logical_full, remaining-logical_last, remaining-logical_source, remaining-opened}
 use Rattle.rdlpp_meaning.specs.Meaning.{Renumbered, digits_value, is_level, past_blank_bytes, quote_place, renumbered, renumbered_name}
@@ -56,7 +56,7 @@ continues-starts g sources f ends = record {
 logical-from : (h : List ℕ) (seen : ℕ) → seen ≤ length h → IsWholeLines (take seen h) → logical_len 0 0 (take seen h) ≡ None →
     logical_len 0 0 h ≡ option_map (λ n. seen + n) (logical_len 0 0 (take (length h - seen) (drop seen h)))
 logical-from h seen inside whole none =
-    let law = logical_len-behind_lines (take seen h) (drop seen h) whole none in
+    let law = logical_len-after_lines (take seen h) (drop seen h) whole none in
     let tail : take (length h - seen) (drop seen h) ≡ drop seen h = rw (← length-drop seen h) (take-length (drop seen h)) in
     let size : length (take seen h) ≡ seen = length-take-le seen h inside in
     ap (logical_len 0 0) (sym (take-append-drop seen h)) ∙ (law ∙ rw (size, tail) refl)
@@ -106,9 +106,9 @@ held-short : {R : Type 0} (f : BufferView R) → IsBuffer f → length (held_of 
 held-short f sound = let within = sound.within in omega (arith, held-le f)
 
 -- the window moved on, and then once more behind the last reading
-slides-behind : {S R : Type 0} (g : Ghosts S R) (first now : S) (fill : Fill) (answer : LogicalLine) (old mid new : BufferView R) (seen : ℕ) → Continues g first now old mid seen →
+slides-following : {S R : Type 0} (g : Ghosts S R) (first now : S) (fill : Fill) (answer : LogicalLine) (old mid new : BufferView R) (seen : ℕ) → Continues g first now old mid seen →
     (IsExactLine answer → IsExact fill) → Grows (g.has_known_texts now) g.unread fill mid new → Slides (g.has_known_texts first) (IsExactLine answer) g.unread old new
-slides-behind g first now fill answer old mid new seen c exact grows =
+slides-following g first now fill answer old mid new seen c exact grows =
     slides-on (g.has_known_texts first) (g.has_known_texts first) (g.has_known_texts now) (IsExactLine answer) (IsExact fill) g.unread old mid new (λ t. t) c.call.has_known_texts exact c.slides grows.slides
 
 -- the logical line was found
@@ -160,7 +160,7 @@ last-line g first now old mid new seen len c sound none all grows =
     record {
       extends = e;
       has = (omega arith, inr (none_now, size, λ t. grows.by.2), tokens);
-      slides = slides-behind g first now End (Whole len) old mid new seen c (λ x e. cc) grows;
+      slides = slides-following g first now End (Whole len) old mid new seen c (λ x e. cc) grows;
       text = λ other t. grows-text (g.has_known_texts now) g.unread End mid new grows.by (λ e. cc) (c.call.has_known_texts t) ∙ c.text t;
       define = λ t plain holds.
           let here : HoldsDefine (held_of new) (rest_of g.unread new) = rw (held, grows.by.2) (rw (grows.by.1 (c.call.has_known_texts t)) at (c.define t holds)) in
@@ -175,7 +175,7 @@ unfolding tokens_left
 long-line g first now old mid new seen c none grows = record {
   extends = extends-stays (g.has_known_texts now) g.unread LineLong old mid new c.extends grows grows.by.0;
   has = tt;
-  slides = slides-behind g first now LineLong TooLong old mid new seen c (λ x. absurd (x refl)) grows;
+  slides = slides-following g first now LineLong TooLong old mid new seen c (λ x. absurd (x refl)) grows;
   text = λ other t. absurd (other refl);
   define = λ t plain holds.
       sym (c.tokens t) ∙ (ap (λ m. remaining_tokens mid.line_bytes m mid.open_token_line mid.line (held_of mid) mid.bytes_left (rest_of g.unread mid)) (c.extends.mode ∙ plain)
@@ -190,7 +190,7 @@ unfolding tokens_left
 cut-line g first now old mid new seen c none grows = record {
   extends = extends-stays (g.has_known_texts now) g.unread SourceLong old mid new c.extends grows grows.by.0;
   has = stays-tokens g first now SourceLong old mid new seen c grows grows.by.0 grows.by.3;
-  slides = slides-behind g first now SourceLong LineCut old mid new seen c (λ x e. cc) grows;
+  slides = slides-following g first now SourceLong LineCut old mid new seen c (λ x e. cc) grows;
   text = λ other t. grows-text (g.has_known_texts now) g.unread SourceLong mid new grows.by (λ e. cc) (c.call.has_known_texts t) ∙ c.text t;
   define = λ t plain holds.
       sym (c.tokens t) ∙ (ap (λ m. remaining_tokens mid.line_bytes m mid.open_token_line mid.line (held_of mid) mid.bytes_left (rest_of g.unread mid)) (c.extends.mode ∙ plain)
@@ -204,7 +204,7 @@ pub failed-line : {S R : Type 0} (g : Ghosts S R) (first now : S) (old mid new :
 failed-line g first now old mid new seen c grows = record {
   extends = extends-stays (g.has_known_texts now) g.unread Failed old mid new c.extends grows grows.by.0;
   has = stays-tokens g first now Failed old mid new seen c grows grows.by.0 grows.by.1;
-  slides = slides-behind g first now Failed LineFailed old mid new seen c (λ x e. cc) grows;
+  slides = slides-following g first now Failed LineFailed old mid new seen c (λ x e. cc) grows;
   text = λ other t. grows-text (g.has_known_texts now) g.unread Failed mid new grows.by (λ e. cc) (c.call.has_known_texts t) ∙ c.text t;
   define = λ t plain holds. tt;
 }

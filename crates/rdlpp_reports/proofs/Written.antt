@@ -100,7 +100,7 @@ flat-fails f xs i d old between new e r h done w =
 
 -- what is written of a byte
 abbrev pub name_byte : ℕ → List ℕ → List ℕ
-name_byte b behind = concat (quote b behind ∷ (b ∷ []) ∷ [])
+name_byte b following = concat (quote b following ∷ (b ∷ []) ∷ [])
 
 -- what was written of a name, and what is left of it
 pub record NameWritten (name rest : List ℕ) (old new : Option (List ℕ)) : Type 0 where
@@ -109,23 +109,23 @@ pub record NameWritten (name rest : List ℕ) (old new : Option (List ℕ)) : Ty
   pub appended : Appends old new done
 
 -- one byte more was written
-pub name-grows : {T E : Type 0} (name rest behind : List ℕ) (b : ℕ) (old between new : Option (List ℕ)) (x : T) → rest ≡ b ∷ behind
-    → NameWritten name rest old between → Writes {E = E} between new (name_byte b behind) (Ok x) → NameWritten name behind old new
+pub name-grows : {T E : Type 0} (name rest following : List ℕ) (b : ℕ) (old between new : Option (List ℕ)) (x : T) → rest ≡ b ∷ following
+    → NameWritten name rest old between → Writes {E = E} between new (name_byte b following) (Ok x) → NameWritten name following old new
 unfolding rule_name
-name-grows name rest behind b old between new x e w h = record {
-  done = w.done ++ name_byte b behind;
-  split = w.split ∙ ap (λ r. w.done ++ rule_name r) e ∙ sym (append_assoc w.done (name_byte b behind) (rule_name behind));
+name-grows name rest following b old between new x e w h = record {
+  done = w.done ++ name_byte b following;
+  split = w.split ∙ ap (λ r. w.done ++ rule_name r) e ∙ sym (append_assoc w.done (name_byte b following) (rule_name following));
   appended = Appends-trans old between new _ _ w.appended (writes_whole between new _ x h);
 }
 
 -- one byte failed
-pub name-fails : {T U E F : Type 0} (name rest behind end : List ℕ) (b : ℕ) (old between new : Option (List ℕ)) (e : E) (f : F) → rest ≡ b ∷ behind
-    → NameWritten name rest old between → Writes {T = T} between new (name_byte b behind) (Err e) → Writes {T = U} old new (rule_name name ++ end) (Err f)
+pub name-fails : {T U E F : Type 0} (name rest following end : List ℕ) (b : ℕ) (old between new : Option (List ℕ)) (e : E) (f : F) → rest ≡ b ∷ following
+    → NameWritten name rest old between → Writes {T = T} between new (name_byte b following) (Err e) → Writes {T = U} old new (rule_name name ++ end) (Err f)
 unfolding rule_name
-name-fails name rest behind end b old between new e f is w h =
+name-fails name rest following end b old between new e f is w h =
     writes_by old new _ _ _
-    (sym (ap (λ l. l ++ end) (w.split ∙ ap (λ r. w.done ++ rule_name r) is) ∙ append_assoc w.done (name_byte b behind ++ rule_name behind) end ∙ ap (λ l. w.done ++ l) (append_assoc (name_byte b behind) (rule_name behind) end)))
-    (writes_then old between new _ _ _ w.appended (writes_part between new _ (rule_name behind ++ end) e f h))
+    (sym (ap (λ l. l ++ end) (w.split ∙ ap (λ r. w.done ++ rule_name r) is) ∙ append_assoc w.done (name_byte b following ++ rule_name following) end ∙ ap (λ l. w.done ++ l) (append_assoc (name_byte b following) (rule_name following) end)))
+    (writes_then old between new _ _ _ w.appended (writes_part between new _ (rule_name following ++ end) e f h))
 
 -- all of it was written, and then the end
 pub name-ends : {T E : Type 0} (name rest end : List ℕ) (old between new : Option (List ℕ)) (r : Result T E) → rest ≡ []
@@ -142,17 +142,17 @@ included-map f [] = refl
 included-map f (x ∷ xs) = refl
 
 -- the rules of the included sources
-pub rules-behind : {A : Type 0} (f : A → List ℕ) (xs rest : List A) (paths : List (List ℕ)) → rest ≡ included xs → map f xs ≡ paths
+pub rules-following : {A : Type 0} (f : A → List ℕ) (xs rest : List A) (paths : List (List ℕ)) → rest ≡ included xs → map f xs ≡ paths
     → flat_map (λ x. empty_rule (f x)) rest ≡ flat_map empty_rule (included paths)
-rules-behind f xs rest paths e p =
+rules-following f xs rest paths e p =
     sym (flat_map-map empty_rule f rest)
     ∙ ap (λ r. flat_map empty_rule (map f r)) e
     ∙ ap (flat_map empty_rule) (included-map f xs ∙ ap included p)
 
 -- the sources behind the target
-pub sources-behind : {A : Type 0} (f : A → List ℕ) (xs : List A) (paths : List (List ℕ)) → map f xs ≡ paths
+pub sources-following : {A : Type 0} (f : A → List ℕ) (xs : List A) (paths : List (List ℕ)) → map f xs ≡ paths
     → flat_map (λ x. prerequisite (f x)) xs ≡ flat_map prerequisite paths
-sources-behind f xs paths p = sym (flat_map-map prerequisite f xs) ∙ ap (flat_map prerequisite) p
+sources-following f xs paths p = sym (flat_map-map prerequisite f xs) ∙ ap (flat_map prerequisite) p
 
 -- a source that isn't standard input
 pub prerequisite-named : (path : List ℕ) → bytes_eq path (codes "-") ≡ false → prerequisite path ≡ codes " \\\n " ++ (rule_name path ++ [])
@@ -204,12 +204,12 @@ found_at i None e = absurd (false≢true e)
 found_at i (Some n) e = ap Some (eqb-true n i e)
 
 -- what stands behind the name of a formal
-unfoldable pub behind_name : Formal → List ℕ → List ℕ
-behind_name f rest = (default_bytes f.text ++ 44 ∷ []) ++ rest
+unfoldable pub after_name : Formal → List ℕ → List ℕ
+after_name f rest = (default_bytes f.text ++ 44 ∷ []) ++ rest
 
 -- a formal's bytes begin with its name
-pub name_in_front : (bytes rest : List ℕ) (f : Formal) → bytes ≡ formal_bytes f ++ rest → bytes ≡ f.name ++ behind_name f rest
-unfolding formal_bytes behind_name
+pub name_in_front : (bytes rest : List ℕ) (f : Formal) → bytes ≡ formal_bytes f ++ rest → bytes ≡ f.name ++ after_name f rest
+unfolding formal_bytes after_name
 name_in_front bytes rest f e = e ∙ append_assoc f.name (default_bytes f.text ++ 44 ∷ []) rest
 
 -- the byte behind the front of bytes
@@ -223,8 +223,8 @@ first_ends f rest [] e = refl
 first_ends f rest (b ∷ bs) e = refl
 
 -- behind a formal's name stands a byte that ends it
-pub name_ends : (bytes rest : List ℕ) (f : Formal) (len : ℕ) → bytes ≡ f.name ++ behind_name f rest → len ≡ length f.name → ends_name (slice_index bytes len) ≡ true
-unfolding behind_name
+pub name_ends : (bytes rest : List ℕ) (f : Formal) (len : ℕ) → bytes ≡ f.name ++ after_name f rest → len ≡ length f.name → ends_name (slice_index bytes len) ≡ true
+unfolding after_name
 name_ends bytes rest f len e l =
     ap (λ n. ends_name (slice_index bytes n)) l
     ∙ (ap (λ bs. ends_name (slice_index bs (length f.name))) e
@@ -248,7 +248,7 @@ formal_longer fs d i len bytes rest found h l b p vain le =
     let front = name_in_front bytes rest f b in
     elim (cases_lt len (length f.name)) [
       | inl g ↦ omega (arith, g)
-      | inr g ↦ is_longer (λ x. x.name) fs d i len bytes (behind_name f rest) found h l front p (second_fails (ends_name (slice_index bytes len)) (option_map_or (λ n. n == i) found false) vain (name_ends bytes rest f len front (omega (arith, g, le)))) le
+      | inr g ↦ is_longer (λ x. x.name) fs d i len bytes (after_name f rest) found h l front p (second_fails (ends_name (slice_index bytes len)) (option_map_or (λ n. n == i) found false) vain (name_ends bytes rest f len front (omega (arith, g, le)))) le
     ]
 
 -- the name at the place that was found
@@ -264,9 +264,9 @@ drop_front [] ys = refl
 drop_front (x ∷ xs) ys = drop_front xs ys
 
 -- what stands behind a formal's name
-behind_is : (bytes after name rest : List ℕ) (f : Formal) → bytes ≡ formal_bytes f ++ after → name ≡ f.name → rest ≡ drop (length name) bytes → rest ≡ behind_name f after
-behind_is bytes after name rest f e n r =
-    r ∙ (ap (λ l. drop (length l) bytes) n ∙ (ap (drop (length f.name)) (name_in_front bytes after f e) ∙ drop_front f.name (behind_name f after)))
+after_is : (bytes after name rest : List ℕ) (f : Formal) → bytes ≡ formal_bytes f ++ after → name ≡ f.name → rest ≡ drop (length name) bytes → rest ≡ after_name f after
+after_is bytes after name rest f e n r =
+    r ∙ (ap (λ l. drop (length l) bytes) n ∙ (ap (drop (length f.name)) (name_in_front bytes after f e) ∙ drop_front f.name (after_name f after)))
 
 tail_plain : (text after : List ℕ) → length text ≡ 0 → drop 1 ((default_bytes text ++ 44 ∷ []) ++ after) ≡ after
 unfolding default_bytes
@@ -282,21 +282,21 @@ tail_default (b ∷ bs) after h =
     ap (λ n. drop n (front ++ after)) count ∙ drop_front front after
 
 -- what stands behind a formal without a default text
-pub behind_plain : (bytes after name rest text : List ℕ) (f : Formal) → bytes ≡ formal_bytes f ++ after → name ≡ f.name → rest ≡ drop (length name) bytes → text ≡ f.text → length text ≡ 0 → drop 1 rest ≡ after
-unfolding behind_name
-behind_plain bytes after name rest text f e n r t h =
-    ap (drop 1) (behind_is bytes after name rest f e n r) ∙ tail_plain f.text after (sym (ap length t) ∙ h)
+pub after_plain : (bytes after name rest text : List ℕ) (f : Formal) → bytes ≡ formal_bytes f ++ after → name ≡ f.name → rest ≡ drop (length name) bytes → text ≡ f.text → length text ≡ 0 → drop 1 rest ≡ after
+unfolding after_name
+after_plain bytes after name rest text f e n r t h =
+    ap (drop 1) (after_is bytes after name rest f e n r) ∙ tail_plain f.text after (sym (ap length t) ∙ h)
 
 -- what stands behind a formal with one
-pub behind_default : (bytes after name rest text : List ℕ) (f : Formal) → bytes ≡ formal_bytes f ++ after → name ≡ f.name → rest ≡ drop (length name) bytes → text ≡ f.text → (length text ≡ 0 → ⊥) → drop (length text + 2) rest ≡ after
-unfolding behind_name
-behind_default bytes after name rest text f e n r t h =
-    ap (λ l. drop (length l + 2) rest) t ∙ (ap (drop (length f.text + 2)) (behind_is bytes after name rest f e n r) ∙ tail_default f.text after (λ z. h (ap length t ∙ z)))
+pub after_default : (bytes after name rest text : List ℕ) (f : Formal) → bytes ≡ formal_bytes f ++ after → name ≡ f.name → rest ≡ drop (length name) bytes → text ≡ f.text → (length text ≡ 0 → ⊥) → drop (length text + 2) rest ≡ after
+unfolding after_name
+after_default bytes after name rest text f e n r t h =
+    ap (λ l. drop (length l + 2) rest) t ∙ (ap (drop (length f.text + 2)) (after_is bytes after name rest f e n r) ∙ tail_default f.text after (λ z. h (ap length t ∙ z)))
 
 -- what stands behind a macro's name
-pub formals_behind : (bytes after name rest : List ℕ) (m : Macro) → bytes ≡ macro_bytes m ++ after → name ≡ m.name → rest ≡ drop (length name) bytes → rest ≡ flat_map formal_bytes (drop 0 (formals_of m)) ++ (m.body ++ after)
+pub formals_after : (bytes after name rest : List ℕ) (m : Macro) → bytes ≡ macro_bytes m ++ after → name ≡ m.name → rest ≡ drop (length name) bytes → rest ≡ flat_map formal_bytes (drop 0 (formals_of m)) ++ (m.body ++ after)
 unfolding macro_bytes
-formals_behind bytes after name rest m e n r =
+formals_after bytes after name rest m e n r =
     let formals = flat_map formal_bytes (formals_of m) in
     r
     ∙ (ap (λ l. drop (length l) bytes) n
@@ -318,8 +318,8 @@ pub formals_end : (fs : List Formal) (place : ℕ) (rest tail : List ℕ) → le
 formals_end fs place rest tail h e = e ∙ ap (λ l. flat_map formal_bytes l ++ tail) (drop_all place fs h)
 
 -- behind a macro's body
-pub body_behind : (rest after body : List ℕ) (m : Macro) → rest ≡ m.body ++ after → body ≡ m.body → drop (length body) rest ≡ after
-body_behind rest after body m e b = ap (λ l. drop (length l) rest) b ∙ (ap (drop (length m.body)) e ∙ drop_front m.body after)
+pub body_after : (rest after body : List ℕ) (m : Macro) → rest ≡ m.body ++ after → body ≡ m.body → drop (length body) rest ≡ after
+body_after rest after body m e b = ap (λ l. drop (length l) rest) b ∙ (ap (drop (length m.body)) e ∙ drop_front m.body after)
 
 -- how many formals a macro has, by its arity
 pub count_formals : (formals : Option (List Formal)) (arity : Option ℕ) → arity ≡ option_map length formals → unwrap_or arity 0 ≡ length (unwrap_or formals [])
@@ -338,8 +338,8 @@ macros_from ms place rest h e =
 pub macro_name : (rest after : List ℕ) (m : Macro) → rest ≡ macro_bytes m ++ after → BeginsWith rest m.name
 unfolding macro_bytes
 macro_name rest after m e =
-    let behind = flat_map formal_bytes (formals_of m) ++ m.body in
-    (behind ++ after, e ∙ append_assoc m.name behind after)
+    let following = flat_map formal_bytes (formals_of m) ++ m.body in
+    (following ++ after, e ∙ append_assoc m.name following after)
 
 -- Formals were written one after another, and the lines of macros.
 
@@ -380,12 +380,12 @@ pub formal-fails : {T U E F : Type 0} (fs : List Formal) (d : Formal) (place : �
     → Writes {T = U} old new (codes "(" ++ (formals_text 0 fs ++ codes ")")) (Err r)
 formal-fails fs d place old between new e r h w p =
     let part = formal_part place (get_or fs place d) in
-    let behind = formals_text (place + 1) (drop (place + 1) fs) in
+    let following = formals_text (place + 1) (drop (place + 1) fs) in
     writes_by old new _ _ _
     (sym (ap (λ l. codes "(" ++ (l ++ codes ")")) (part_split fs d place w.done h w.split)
-    ∙ (ap (λ l. codes "(" ++ l) (append_assoc w.done (part ++ behind) (codes ")") ∙ ap (λ l. w.done ++ l) (append_assoc part behind (codes ")")))
-    ∙ sym (append_assoc (codes "(") w.done (part ++ (behind ++ codes ")"))))))
-    (writes_then old between new _ _ _ w.appended (writes_part between new _ (behind ++ codes ")") e r p))
+    ∙ (ap (λ l. codes "(" ++ l) (append_assoc w.done (part ++ following) (codes ")") ∙ ap (λ l. w.done ++ l) (append_assoc part following (codes ")")))
+    ∙ sym (append_assoc (codes "(") w.done (part ++ (following ++ codes ")"))))))
+    (writes_then old between new _ _ _ w.appended (writes_part between new _ (following ++ codes ")") e r p))
 
 -- all of them were written, and then the end
 pub formals-end : {T E : Type 0} (fs : List Formal) (place : ℕ) (old between new : Option (List ℕ)) (r : Result T E) → length fs ≤ place
@@ -418,4 +418,4 @@ whole_line m name body n b e =
 
 -- a macro's bytes begin with its name, and then the formals
 pub formals_in_front : (bytes name rest : List ℕ) (m : Macro) → BeginsWith bytes (macro_bytes m) → name ≡ m.name → rest ≡ drop (length name) bytes → BeginsWith rest (flat_map formal_bytes (formals_of m))
-formals_in_front bytes name rest m b n r = (m.body ++ b.0, formals_behind bytes b.0 name rest m b.1 n r)
+formals_in_front bytes name rest m b n r = (m.body ++ b.0, formals_after bytes b.0 name rest m b.1 n r)

@@ -15,7 +15,7 @@ leads_to_quoted rest = option_map_or is_quoted (slice_get rest (prefix_len (λ b
 -- what stands before a byte of a name, where so much stands behind it: a `\` before a byte that make would take for its own, and before
 -- each `\` that stands directly before such a byte or the end; and `$` before `$`
 abbrev pub quote : ℕ → List ℕ → List ℕ
-quote b behind = if is_quoted b || ((b == 92) && leads_to_quoted behind) then codes "\\" else (if b == 36 then codes "$" else [])
+quote b following = if is_quoted b || ((b == 92) && leads_to_quoted following) then codes "\\" else (if b == 36 then codes "$" else [])
 
 -- a name as make reads it (GNU make, rules; the form of cpp -MD)
 unfoldable pub rule_name : List ℕ → List ℕ

@@ -43,9 +43,9 @@ next_line line Next = kept_number (line + 1)
 next_line line Same = line
 
 -- the line so many lines behind a line by a step
-abbrev pub last_behind : ℕ → LineStep → ℕ → ℕ
-last_behind line Next count = kept_number (line + count)
-last_behind line Same count = line
+abbrev pub last_after : ℕ → LineStep → ℕ → ℕ
+last_after line Next count = kept_number (line + count)
+last_after line Same count = line
 
 -- whether steps are the same
 abbrev pub is_step : LineStep → LineStep → Bool
@@ -104,7 +104,7 @@ abbrev pub gone_on : LinesView → LineStep → ℕ → LinesView
 gone_on m step count = if count == 0 then m else record m {
   lines = kept_number (m.lines + count);
   run = record m.run { step = Some step };
-  last = last_behind m.last step count;
+  last = last_after m.last step count;
 }
 
 -- the last run is taken away

@@ -32,13 +32,13 @@ pub fn write_definitions<W: Write>(table: &Table, writer: &mut W) -> io::Result<
             return Ok(());
         };
         write_macro(table, id, rest, writer)?;
-        rest = behind_macro(table, id, rest);
+        rest = after_macro(table, id, rest);
     }
     Ok(())
 }
 
 // Bytes without so many in front.
-fn behind(bytes: &[u8], len: usize) -> &[u8]
+fn following(bytes: &[u8], len: usize) -> &[u8]
     ensures { result.now ≡ drop len bytes.now }
 {
     &bytes[len.min(bytes.len())..]
@@ -69,29 +69,29 @@ fn is_at(found: &Option<MacroId>, place: usize) -> bool
 }
 
 // What stands behind a macro, with which bytes of a table begin.
-fn behind_macro<'a>(table: &Table, id: MacroId, bytes: &'a [u8]) -> &'a [u8]
+fn after_macro<'a>(table: &Table, id: MacroId, bytes: &'a [u8]) -> &'a [u8]
     requires { id < length table.now.macros }
     ensures { AreSoundFormals (formals_of (macro_at table.now.macros id)) → (after : List ℕ) → bytes.now ≡ macro_bytes (macro_at table.now.macros id) ++ after → result.now ≡ after }
 {
-    let mut rest = behind(bytes, table.name(id).len());
+    let mut rest = following(bytes, table.name(id).len());
     for place in 0..table.arity(id).unwrap_or(0) {
-        rest = behind_formal(table, id, place, rest);
+        rest = after_formal(table, id, place, rest);
     }
-    behind(rest, table.body(id).len())
+    following(rest, table.body(id).len())
 }
 
 // What stands behind a macro's formal at a place, with which bytes of a table begin.
-fn behind_formal<'a>(table: &Table, id: MacroId, place: usize, bytes: &'a [u8]) -> &'a [u8]
+fn after_formal<'a>(table: &Table, id: MacroId, place: usize, bytes: &'a [u8]) -> &'a [u8]
     requires id { id < length table.now.macros }
     requires place { place < length (formals_of (macro_at table.now.macros id)) }
     ensures { AreSoundFormals (formals_of (macro_at table.now.macros id)) → (after : List ℕ) → bytes.now ≡ formal_bytes (formal_at (formals_of (macro_at table.now.macros id)) place) ++ after → result.now ≡ after }
 {
-    let rest = behind(bytes, formal_name(table, id, place, bytes).len());
+    let rest = following(bytes, formal_name(table, id, place, bytes).len());
     let default = table.default_text(id, place);
     if default.is_empty() {
-        behind(rest, 1)
+        following(rest, 1)
     } else {
-        behind(rest, default.len() + 2)
+        following(rest, default.len() + 2)
     }
 }
 
@@ -145,7 +145,7 @@ fn write_macro<W: Write>(table: &Table, id: MacroId, bytes: &[u8], writer: &mut 
         return write_parts(&[b"// not as a define: ", name, b"\n"], writer);
     }
     write_parts(&[b"`define ", name], writer)?;
-    write_list(table, id, behind(bytes, name.len()), writer)?;
+    write_list(table, id, following(bytes, name.len()), writer)?;
     write_continued(body, writer)?;
     write_whole(b"\n", writer)
 }
@@ -203,7 +203,7 @@ fn write_formals<W: Write>(
     for place in 0..arity {
         let name = formal_name(table, id, place, rest);
         write_formal_at(place, name, table.default_text(id, place), writer)?;
-        rest = behind_formal(table, id, place, rest);
+        rest = after_formal(table, id, place, rest);
     }
     write_whole(b")", writer)
 }

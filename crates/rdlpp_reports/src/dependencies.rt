@@ -82,18 +82,18 @@ fn write_name<W: Write>(name: &[u8], end: &[u8], writer: &mut W) -> io::Result<(
     ensures { Writes (W.contents writer.old) (W.contents writer.new) (rule_name name.now ++ end.now) result }
 {
     let mut rest = name;
-    while let Some((byte, behind)) = rest.split_first() {
-        write_parts(&[quote(*byte, behind), &[*byte]], writer)?;
-        rest = behind;
+    while let Some((byte, following)) = rest.split_first() {
+        write_parts(&[quote(*byte, following), &[*byte]], writer)?;
+        rest = following;
     }
     write_whole(end, writer)
 }
 
 // What stands before a byte of a name, where so much stands behind it.
-fn quote(byte: u8, behind: &[u8]) -> &'static [u8]
-    ensures { result.now ≡ quote byte behind.now }
+fn quote(byte: u8, following: &[u8]) -> &'static [u8]
+    ensures { result.now ≡ quote byte following.now }
 {
-    if is_quoted(byte) || (byte == b'\\' && leads_to_quoted(behind)) {
+    if is_quoted(byte) || (byte == b'\\' && leads_to_quoted(following)) {
         return b"\\";
     }
     if byte == b'$' { b"$" } else { b"" }

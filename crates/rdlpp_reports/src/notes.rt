@@ -38,7 +38,7 @@ pub fn write_notes<S: Sources, W: Write>(
             write_search(fault, engine, folders, writer)?;
         }
         FaultKind::ArgumentCount => write_counts(fault, engine, writer)?,
-        FaultKind::BareBackquote => write_behind(engine, writer)?,
+        FaultKind::BareBackquote => write_after(engine, writer)?,
         FaultKind::UndefinedMacro => write_left_out(fault.word.as_bytes(), writer)?,
         _ => write_limit(fault.kind, engine.limits(), writer)?,
     }
@@ -176,7 +176,7 @@ fn macro_of(source: TextSource) -> Option<MacroId>
 }
 
 // Writes what stands behind the backquote at which the engine stands, in a text of a usage or in a source, if it stands at one.
-fn write_behind<S: Sources, W: Write>(engine: &Engine<S>, writer: &mut W) -> io::Result<()> {
+fn write_after<S: Sources, W: Write>(engine: &Engine<S>, writer: &mut W) -> io::Result<()> {
     let front = match engine.innermost_text() {
         Some(place) => text_at(engine.table(), engine.arguments(), place),
         None => engine.front(),

@@ -12,13 +12,13 @@ use Rattle.rdlpp_scan.specs.declared.token.LexFault.{LexFault}
 use Rattle.rdlpp_scan.specs.declared.token.LexFault.TheVariants.{Perl as PerlFault}
 use Rattle.rdlpp_scan.specs.Bytes.{is_blank, is_line_end, is_letter, is_digit, is_word, is_opener, is_closer, takes_word, begins_perl, begins_line_comment, begins_block_comment}
 use Rattle.rdlpp_scan.specs.Tokens.{whole, plain_token, token_of, tokens_from, string_token}
-use Rattle.rdlpp_scan.specs.Pieces.{IsCut, tokens_len, mode_behind}
+use Rattle.rdlpp_scan.specs.Pieces.{IsCut, tokens_len, mode_after}
 use Rattle.rdlpp_scan.specs.LexFaults.{fault_of_tokens, is_perl, lex_fault_from, open_fault}
 use Rattle.rdlpp_scan.specs.Comments.{is_line_comment, other_tokens, other_texts, token_texts, without_line_comments}
 use Rattle.rdlpp_scan.proofs.StopKinds.{blank_token, block_token-kind, string_token-kind}
 use Rattle.rdlpp_scan.proofs.TokenLens.{Ending, InBlanks, InLine, InOther, fault-end, fault-next, fault-perl, token-ends, token_of-part, tokens_from-step}
 use Rattle.rdlpp_scan.proofs.Seams.{Seam, token_of-seam, line_end-ten, Closed, BeforePerl, OpenString, OpenComment, closed_seam}
-use Rattle.rdlpp_scan.proofs.RangeLaws.{tokens_from-first, tokens_from-front, tokens_from-behind_some, token_of-stays}
+use Rattle.rdlpp_scan.proofs.RangeLaws.{tokens_from-first, tokens_from-front, tokens_from-after_some, token_of-stays}
 use Rattle.rdlpp_scan.specs.TokenKinds.{opens_mode}
 use Rattle.rdlpp_scan.specs.CleanTexts.{IsCleanText, IsCleanToken, AreSpaces}
 
@@ -124,9 +124,9 @@ left-line (b ∷ bs) next =
     inr (ap (λ xs. get_or xs 0 0) whole ∙ front t.len part.not_empty ∙ ten)
 
 -- what is left behind a `//` comment is empty or begins with LF
-left-behind_comment : (m : Mode) (bs : List ℕ) → 0 < length bs → is_line_comment (token_of m bs).kind ≡ true → NextIsLine (left m bs)
+left-after_comment : (m : Mode) (bs : List ℕ) → 0 < length bs → is_line_comment (token_of m bs).kind ≡ true → NextIsLine (left m bs)
 unfolding whole
-left-behind_comment m bs some is =
+left-after_comment m bs some is =
     let t = token_of m bs in
     let made = (comment_at m bs is).token in
     subst NextIsLine (sym (left-comment m bs some is ∙ ap (λ (u : Token). left u.next_mode (drop u.len bs)) made)) (left-line (drop (comment bs).len bs) (comment-next bs))
@@ -170,17 +170,17 @@ kept_at m bs some (r ∷ rs) e =
     let size : length own ≡ t.len = length-take-le t.len bs part.inside in
     let P : Bool → Type 0 = λ c. is_line_comment u.kind ≡ c → token_of m (own ++ left d rest) ≡ t in
     let at_comment : P true = λ is.
-    let cut : IsCut own (left d rest) = ⊎_elim (λ none. inl none) (λ ten. inr (inl ten)) (left-behind_comment d rest (omega arith) is) in
+    let cut : IsCut own (left d rest) = ⊎_elim (λ none. inl none) (λ ten. inr (inl ten)) (left-after_comment d rest (omega arith) is) in
     let seam = token_of-seam m own (left d rest) (omega (arith, size, part.not_empty)) cut in
     closed_seam own (left d rest) t (token_of m (own ++ left d rest)) (comment_at d rest is).mode (subst (λ (v : Token). Seam own (left d rest) v (token_of m (own ++ left d rest))) (own_token m bs some) seam) in
     let at_other : P false = λ other.
-    let behind = token_of-part d rest (omega arith) in
+    let following = token_of-part d rest (omega arith) in
     let front = take u.len rest in
     let later = left u.next_mode (drop u.len rest) in
-    let next_size : length front ≡ u.len = length-take-le u.len rest behind.inside in
+    let next_size : length front ≡ u.len = length-take-le u.len rest following.inside in
     let more : 0 < length (drop t.len bs) = omega (arith, ap length e) in
     let first : token_of m (own ++ front) ≡ t = subst (λ (z : List ℕ). token_of m (own ++ take (token_of d z).len z) ≡ t) e (next_token m bs some more) in
-    let before : (token_of m (own ++ front)).len < length (own ++ front) = omega (arith, ap (λ (v : Token). v.len) first, length-append own front, size, next_size, behind.not_empty) in
+    let before : (token_of m (own ++ front)).len < length (own ++ front) = omega (arith, ap (λ (v : Token). v.len) first, length-append own front, size, next_size, following.not_empty) in
     ap (token_of m) (ap (λ z. own ++ z) (left-other d rest (omega arith) other) ∙ sym (append_assoc own front later)) ∙ token_of-stays m (own ++ front) later before ∙ first in
     elim (is_line_comment u.kind) as P [ true ↦ at_comment | false ↦ at_other ] refl
 
@@ -298,8 +298,8 @@ without-fault m bs = ap (fault_of_tokens m) (left_tokens (length bs) m bs (omega
 -- Texts without a lexical fault and without `//` comments: their tokens, their fronts, and what is left of them without spaces at
 
 -- the fault of what stands behind a token
-abbrev fault_behind : Token → List ℕ → Option LexFault
-fault_behind t bs = fault_of_tokens t.next_mode (tokens_from t.next_mode 0 (drop t.len bs))
+abbrev fault_after : Token → List ℕ → Option LexFault
+fault_after t bs = fault_of_tokens t.next_mode (tokens_from t.next_mode 0 (drop t.len bs))
 
 -- an open string or comment is a fault
 open_is_fault : (m : Mode) (bs : List ℕ) (at : ℕ) → at ≡ length bs → fault_of_tokens m (tokens_from m 0 (drop at bs)) ≡ None → m ≡ Plain
@@ -309,7 +309,7 @@ open_is_fault InStr bs at e ok = let bad = fault-end InStr bs at (omega arith) i
 open_is_fault InBlock bs at e ok = let bad = fault-end InBlock bs at (omega arith) in absurd (cc)
 
 -- a token with no fault behind it leaves plain text behind it
-closed_by_seam : (bs : List ℕ) (t u : Token) → Seam bs [] t u → fault_behind t bs ≡ None → t.next_mode ≡ Plain
+closed_by_seam : (bs : List ℕ) (t u : Token) → Seam bs [] t u → fault_after t bs ≡ None → t.next_mode ≡ Plain
 unfolding token_of is_perl whole
 closed_by_seam bs t u (Closed e h) ok = h
 closed_by_seam bs t u (BeforePerl e is lt perl) ok =
@@ -342,7 +342,7 @@ clean_from (suc k) (b ∷ bs) fuel ok kept =
     let rest = drop t.len T in
     let step : tokens_from Plain 0 T ≡ t ∷ tokens_from t.next_mode 0 rest = tokens_from-step Plain T some part.not_empty in
     let perl : is_perl t.kind ≡ false = false_from_ne_true (is_perl t.kind) (λ h. let bad = fault-perl Plain T some h in absurd (cc)) in
-    let later : fault_behind t T ≡ None = sym (fault-next Plain T some perl) ∙ ok in
+    let later : fault_after t T ≡ None = sym (fault-next Plain T some perl) ∙ ok in
     let next : t.next_mode ≡ Plain = closed_by_seam T t (token_of Plain (T ++ [])) (token_of-seam Plain T [] some (inl refl)) later in
     let K : List Token → Type 0 = λ ts. AreKept ts in
     let C : List Token → Type 0 = λ ts. AreClean ts in
@@ -429,8 +429,8 @@ clean_before (b ∷ bs) all =
     (λ h. subst (λ (t : Bool). C (tokens_from Plain 0 (drop (cond t (1 + prefix_len is_blank bs) 0) (b ∷ bs)))) h all) (cases_Bool (is_blank b))
 
 -- a clean text without a first byte that is a space
-clean_behind : (class : ℕ → Bool) → AreSpaces class → (b : ℕ) (bs : List ℕ) → class b ≡ true → IsCleanText (b ∷ bs) → IsCleanText bs
-clean_behind class spaces b bs is clean =
+clean_after : (class : ℕ → Bool) → AreSpaces class → (b : ℕ) (bs : List ℕ) → class b ≡ true → IsCleanText (b ∷ bs) → IsCleanText bs
+clean_after class spaces b bs is clean =
     let C : List Token → Type 0 = λ ts. AreClean ts in
     let all = clean_tokens (b ∷ bs) clean in
     let n = prefix_len is_blank bs in
@@ -443,13 +443,13 @@ clean_behind class spaces b bs is clean =
     (λ h. (subst C (line-step b bs h) all).1) (or_cases (is_blank b) (is_line_end b) (spaces.alone b is)))
 
 -- a clean text without the spaces with which it begins
-pub clean_behind_spaces : (class : ℕ → Bool) → AreSpaces class → (text : List ℕ) → IsCleanText text → IsCleanText (drop (prefix_len class text) text)
-clean_behind_spaces class spaces [] clean = clean
-clean_behind_spaces class spaces (b ∷ bs) clean =
+pub clean_after_spaces : (class : ℕ → Bool) → AreSpaces class → (text : List ℕ) → IsCleanText text → IsCleanText (drop (prefix_len class text) text)
+clean_after_spaces class spaces [] clean = clean
+clean_after_spaces class spaces (b ∷ bs) clean =
     let n = prefix_len class bs in
     let one : suc n ≡ 1 + n = omega arith in
     let P : Bool → Type 0 = λ t. class b ≡ t → IsCleanText (drop (cond t (1 + n) 0) (b ∷ bs)) in
-    let at_true : P true = λ h. subst (λ (i : ℕ). IsCleanText (drop i (b ∷ bs))) one (clean_behind_spaces class spaces bs (clean_behind class spaces b bs h clean)) in
+    let at_true : P true = λ h. subst (λ (i : ℕ). IsCleanText (drop i (b ∷ bs))) one (clean_after_spaces class spaces bs (clean_after class spaces b bs h clean)) in
     elim (class b) as P [ true ↦ at_true | false ↦ λ _. clean ] refl
 
 -- a place of a text before which nothing stands, or a byte that is no space
@@ -467,13 +467,13 @@ record Cut (class : ℕ → Bool) (bs : List ℕ) : Type 0 where
   ends : EndsAt class bs (tokens_len front)
 
 -- what a text has behind some bytes
-behind-get : (class : ℕ → Bool) (n k : ℕ) (bs : List ℕ) → n ≤ k → class (get_or (drop n bs) (k - n) 0) ≡ true → class (get_or bs k 0) ≡ true
-behind-get class n k bs le h = sym (ap class (get_or-drop n bs (k - n) 0 ∙ ap (λ i. get_or bs i 0) (omega arith))) ∙ h
+following-get : (class : ℕ → Bool) (n k : ℕ) (bs : List ℕ) → n ≤ k → class (get_or (drop n bs) (k - n) 0) ≡ true → class (get_or bs k 0) ≡ true
+following-get class n k bs le h = sym (ap class (get_or-drop n bs (k - n) 0 ∙ ap (λ i. get_or bs i 0) (omega arith))) ∙ h
 
 -- a first token before spaces alone
-module _ (class : ℕ → Bool) (are : AreSpaces class) (bs : List ℕ) (t : Token) (later : List Token) (step : tokens_from Plain 0 bs ≡ t ∷ later) (fits : t.len ≤ length bs) (behind : (k : ℕ) → k < length (drop t.len bs) → class (get_or (drop t.len bs) k 0) ≡ true) where
-  all_behind : (k : ℕ) → t.len ≤ k → k < length bs → class (get_or bs k 0) ≡ true
-  all_behind k le lt = behind-get class t.len k bs le (behind (k - t.len) (omega (arith, length-drop t.len bs)))
+module _ (class : ℕ → Bool) (are : AreSpaces class) (bs : List ℕ) (t : Token) (later : List Token) (step : tokens_from Plain 0 bs ≡ t ∷ later) (fits : t.len ≤ length bs) (following : (k : ℕ) → k < length (drop t.len bs) → class (get_or (drop t.len bs) k 0) ≡ true) where
+  all_after : (k : ℕ) → t.len ≤ k → k < length bs → class (get_or bs k 0) ≡ true
+  all_after k le lt = following-get class t.len k bs le (following (k - t.len) (omega (arith, length-drop t.len bs)))
 
   cut_before : ((k : ℕ) → k < t.len → class (get_or bs k 0) ≡ true) → Cut class bs
   unfolding tokens_len
@@ -482,7 +482,7 @@ module _ (class : ℕ → Bool) (are : AreSpaces class) (bs : List ℕ) (t : Tok
     back = t ∷ later;
     is = step;
     inside = omega arith;
-    spaces = λ k le lt. ⊎_elim (own k) (λ ge. all_behind k ge lt) (cases_lt k t.len);
+    spaces = λ k le lt. ⊎_elim (own k) (λ ge. all_after k ge lt) (cases_lt k t.len);
     ends = AtFront refl;
   }
 
@@ -493,7 +493,7 @@ module _ (class : ℕ → Bool) (are : AreSpaces class) (bs : List ℕ) (t : Tok
     back = later;
     is = step;
     inside = omega arith;
-    spaces = λ j le lt. all_behind j (omega arith) lt;
+    spaces = λ j le lt. all_after j (omega arith) lt;
     ends = AtOther k (omega arith) other;
   }
 
@@ -505,16 +505,16 @@ module _ (class : ℕ → Bool) (are : AreSpaces class) (bs : List ℕ) (t : Tok
   cut_by (InOther k len other) = cut_after k len (false_from_ne_true (class (get_or bs k 0)) (λ h. absurd (false≢true (sym other ∙ are.alone (get_or bs k 0) h))))
 
 -- a first token before others
-cut_behind : (class : ℕ → Bool) (bs : List ℕ) (t : Token) → tokens_from Plain 0 bs ≡ t ∷ tokens_from Plain 0 (drop t.len bs) → t.len ≤ length bs → (c : Cut class (drop t.len bs)) → (k : ℕ) → tokens_len c.front ≡ suc k → class (get_or (drop t.len bs) k 0) ≡ false → Cut class bs
+cut_right_after : (class : ℕ → Bool) (bs : List ℕ) (t : Token) → tokens_from Plain 0 bs ≡ t ∷ tokens_from Plain 0 (drop t.len bs) → t.len ≤ length bs → (c : Cut class (drop t.len bs)) → (k : ℕ) → tokens_len c.front ≡ suc k → class (get_or (drop t.len bs) k 0) ≡ false → Cut class bs
 unfolding tokens_len
-cut_behind class bs t step fits c k len other =
+cut_right_after class bs t step fits c k len other =
     let size = length-drop t.len bs in
     record {
       front = t ∷ c.front;
       back = c.back;
       is = step ∙ ap (λ us. t ∷ us) c.is;
       inside = omega (arith, c.inside);
-      spaces = λ j le lt. behind-get class t.len j bs (omega arith) (c.spaces (j - t.len) (omega arith) (omega arith));
+      spaces = λ j le lt. following-get class t.len j bs (omega arith) (c.spaces (j - t.len) (omega arith) (omega arith));
       ends = AtOther (t.len + k) (omega arith) (sym (ap class (get_or-drop t.len bs k 0 ∙ ap (λ i. get_or bs i 0) (omega arith))) ∙ other);
     }
 
@@ -536,7 +536,7 @@ cut_clean class are (suc fuel) (b ∷ bs) le all =
     let c : Cut class rest = cut_clean class are fuel rest (omega (arith, length-drop t.len T, part.not_empty)) each_rest in
     elim c.ends [
       | AtFront none ↦ cut_by class are T t (tokens_from Plain 0 rest) step_plain part.inside (λ k lt. c.spaces k (omega arith) lt) (token-ends T some each.0.next each.0.kept)
-      | AtOther k len other ↦ cut_behind class T t step_plain part.inside c k len other
+      | AtOther k len other ↦ cut_right_after class T t step_plain part.inside c k len other
     ]
 
 -- a place of a text up to which it is clean, behind which spaces alone stand, and before which none does; it stands behind some of
@@ -584,8 +584,8 @@ plain_before InStr bs shut sound =
 plain_before InBlock bs shut sound = absurd (false≢true (sym shut ∙ ap opens_mode (block_token-kind 0 bs)))
 
 -- tokens without `<%` have no fault but that of what is open behind them
-soundly_open : (m : Mode) (ts : List Token) → AllByRecursion (λ t. is_perl t.kind ≡ false) ts → fault_of_tokens m ts ≡ open_fault (mode_behind m ts)
-unfolding fault_of_tokens mode_behind
+soundly_open : (m : Mode) (ts : List Token) → AllByRecursion (λ t. is_perl t.kind ≡ false) ts → fault_of_tokens m ts ≡ open_fault (mode_after m ts)
+unfolding fault_of_tokens mode_after
 soundly_open m [] all = refl
 soundly_open m (t ∷ ts) all = ap (λ b. cond b (Some PerlFault) (fault_of_tokens t.next_mode ts)) all.0 ∙ soundly_open t.next_mode ts all.1
 
@@ -595,9 +595,9 @@ unfolding other_texts tokens_len
 texts-front [] n text le = refl
 texts-front (t ∷ ts) n text le =
     let split : t.len + (n - t.len) ≡ n = omega arith in
-    let behind : drop t.len (take n text) ≡ take (n - t.len) (drop t.len text) = ap (λ i. drop t.len (take i text)) (sym split) ∙ drop-take t.len (n - t.len) text in
+    let following : drop t.len (take n text) ≡ take (n - t.len) (drop t.len text) = ap (λ i. drop t.len (take i text)) (sym split) ∙ drop-take t.len (n - t.len) text in
     let own : take t.len (take n text) ≡ take t.len text = take-take t.len n text (omega arith) in
-    let later : other_texts ts (drop t.len (take n text)) ≡ other_texts ts (drop t.len text) = ap (other_texts ts) behind ∙ texts-front ts (n - t.len) (drop t.len text) (omega arith) in
+    let later : other_texts ts (drop t.len (take n text)) ≡ other_texts ts (drop t.len text) = ap (other_texts ts) following ∙ texts-front ts (n - t.len) (drop t.len text) (omega arith) in
     ap (λ z. cond (is_line_comment t.kind) z (take t.len (take n text) ∷ z)) later ∙ ap (λ x. cond (is_line_comment t.kind) (other_texts ts (drop t.len text)) (x ∷ other_texts ts (drop t.len text))) own
 
 -- what is left of some tokens of a text without `//` comments has the other ones, with their bytes
@@ -626,9 +626,9 @@ pub clean_before_token : (ts us : List Token) (u : Token) (text : List ℕ) → 
 unfolding lex_fault_from without_line_comments open_fault
 clean_before_token ts us u text e sound shut whole_u =
     let front = take (tokens_len ts) text in
-    let behind = tokens_from-first (mode_behind Plain ts) (drop (tokens_len ts) text) u us (tokens_from-behind_some ts (u ∷ us) Plain text e) in
-    let k : (token_of (mode_behind Plain ts) (drop (tokens_len ts) text)).kind ≡ u.kind = ap (λ (t : Token). t.kind) behind.1.0 in
-    let mode : mode_behind Plain ts ≡ Plain = plain_before (mode_behind Plain ts) (drop (tokens_len ts) text) (ap opens_mode k ∙ shut) (ap is_perl k ∙ whole_u) in
+    let following = tokens_from-first (mode_after Plain ts) (drop (tokens_len ts) text) u us (tokens_from-after_some ts (u ∷ us) Plain text e) in
+    let k : (token_of (mode_after Plain ts) (drop (tokens_len ts) text)).kind ≡ u.kind = ap (λ (t : Token). t.kind) following.1.0 in
+    let mode : mode_after Plain ts ≡ Plain = plain_before (mode_after Plain ts) (drop (tokens_len ts) text) (ap opens_mode k ∙ shut) (ap is_perl k ∙ whole_u) in
     let own : tokens_from Plain 0 front ≡ ts = tokens_from-front ts (u ∷ us) Plain text e in
     let ok : lex_fault_from Plain front ≡ None = ap (fault_of_tokens Plain) own ∙ (soundly_open Plain ts sound ∙ ap open_fault mode) in
     let same : without_line_comments Plain front ≡ concat (other_texts ts text) = ap (λ us. concat (other_texts us front)) own ∙ ap concat (texts-front ts (tokens_len ts) text (omega arith)) in

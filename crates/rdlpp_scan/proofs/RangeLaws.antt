@@ -11,7 +11,7 @@ use Rattle.rdlpp_scan.specs.declared.token.Mode.TheVariants.{Plain, InStr, InBlo
 use Rattle.rdlpp_scan.specs.declared.token.Token.{Token}
 use Rattle.rdlpp_scan.specs.Bytes.{is_blank, is_line_end, is_letter, is_digit, is_word, is_opener, is_closer, takes_word, begins_perl, begins_line_comment, begins_block_comment, ends_block_comment}
 use Rattle.rdlpp_scan.specs.Tokens.{first_place, string_stop, whole, string_token, block_token, plain_token, token_of, tokens_from}
-use Rattle.rdlpp_scan.specs.Pieces.{mode_behind, tokens_len}
+use Rattle.rdlpp_scan.specs.Pieces.{mode_after, tokens_len}
 use Rattle.rdlpp_scan.proofs.TokenLens.{is_word-letter, token_of-part, begins_perl-two, ends_block_comment-two, inside_of, begins_block_comment-two, tokens_from-step}
 use Rattle.rdlpp_scan.proofs.Seams.{Seam, Closed, BeforePerl, OpenString, OpenComment, token_of-seam, string_at, string_token-at, block_at, block_token-at}
 use Rattle.rdlpp_scan.specs.CleanTexts.{IsCleanToken}
@@ -174,7 +174,7 @@ plain-front b c w ys =
     let bs = xs ++ ys in
     let one : (k : Kind) → Agrees xs (whole k 1) (whole k 1) = λ k. agrees-whole xs k 1 1 (λ _. refl) in
     let run : (k : Kind) (p : ℕ → Bool) → Agrees xs (whole k (prefix_len p xs)) (whole k (prefix_len p bs)) = λ k p. agrees-whole xs k _ _ (λ le. run-front p xs ys le) in
-    let behind_one : (k : Kind) → Agrees xs (whole k (suc (prefix_len is_word (c ∷ w)))) (whole k (suc (prefix_len is_word (c ∷ w ++ ys)))) = λ k. agrees-whole xs k _ _ (λ le. ap suc (run-front is_word (c ∷ w) ys (omega arith))) in
+    let after_one : (k : Kind) → Agrees xs (whole k (suc (prefix_len is_word (c ∷ w)))) (whole k (suc (prefix_len is_word (c ∷ w ++ ys)))) = λ k. agrees-whole xs k _ _ (λ le. ap suc (run-front is_word (c ∷ w) ys (omega arith))) in
     agrees-cond xs (begins_perl xs) _ _ _ _ _ refl (λ _. agrees-whole xs Perl 2 2 (λ _. refl)) (λ _.
     agrees-cond xs (is_line_end b) _ _ _ _ _ refl (λ _. one LineEnd) (λ _.
     agrees-cond xs (is_blank b) _ _ _ _ _ refl (λ _. run Blank is_blank) (λ _.
@@ -183,8 +183,8 @@ plain-front b c w ys =
     agrees-cond xs (eqb b 34) _ _ _ _ _ refl (λ _. agrees-string 1 xs ys (omega arith)) (λ _.
     agrees-cond xs (is_letter b) _ _ _ _ _ refl (λ _. run Name is_word) (λ _.
     agrees-cond xs (is_digit b) _ _ _ _ _ refl (λ _. run Word is_word) (λ _.
-    agrees-cond xs (takes_word b && is_word c) _ _ _ _ _ refl (λ _. behind_one Word) (λ _.
-    agrees-cond xs (eqb b 96 && is_letter c) _ _ _ _ _ refl (λ _. behind_one Back) (λ _.
+    agrees-cond xs (takes_word b && is_word c) _ _ _ _ _ refl (λ _. after_one Word) (λ _.
+    agrees-cond xs (eqb b 96 && is_letter c) _ _ _ _ _ refl (λ _. after_one Back) (λ _.
     agrees-cond xs (eqb b 96) _ _ _ _ _ refl (λ _. one BareBackquote) (λ _.
     agrees-cond xs (is_opener b) _ _ _ _ _ refl (λ _. one Opener) (λ _.
     agrees-cond xs (is_closer b) _ _ _ _ _ refl (λ _. one Closer) (λ _.
@@ -319,12 +319,12 @@ tokens_from-front (t ∷ ts) us m bs e =
     ∙ ap (λ us. t ∷ us) (tokens_from-front ts us t.next_mode (drop t.len bs) p.1.1)
 
 -- the tokens behind some are those of the text behind their bytes
-pub tokens_from-behind_some : (ts us : List Token) (m : Mode) (bs : List ℕ) → tokens_from m 0 bs ≡ ts ++ us → tokens_from (mode_behind m ts) 0 (drop (tokens_len ts) bs) ≡ us
-unfolding tokens_len mode_behind
-tokens_from-behind_some [] us m bs e = e
-tokens_from-behind_some (t ∷ ts) us m bs e =
+pub tokens_from-after_some : (ts us : List Token) (m : Mode) (bs : List ℕ) → tokens_from m 0 bs ≡ ts ++ us → tokens_from (mode_after m ts) 0 (drop (tokens_len ts) bs) ≡ us
+unfolding tokens_len mode_after
+tokens_from-after_some [] us m bs e = e
+tokens_from-after_some (t ∷ ts) us m bs e =
     let p = tokens_from-first m bs t (ts ++ us) e in
-    ap (tokens_from (mode_behind t.next_mode ts) 0) (sym (drop-drop (tokens_len ts) t.len bs)) ∙ tokens_from-behind_some ts us t.next_mode (drop t.len bs) p.1.1
+    ap (tokens_from (mode_after t.next_mode ts) 0) (sym (drop-drop (tokens_len ts) t.len bs)) ∙ tokens_from-after_some ts us t.next_mode (drop t.len bs) p.1.1
 
 -- A token that ends before the end of a text stays so with more behind it.
 
@@ -428,7 +428,7 @@ plain-stays b c w ys =
     let bs = xs ++ ys in
     let one : (k : Kind) → Stays xs (whole k 1) (whole k 1) = λ k. stays-whole xs k 1 1 (λ _. refl) in
     let run : (k : Kind) (p : ℕ → Bool) → Stays xs (whole k (prefix_len p xs)) (whole k (prefix_len p bs)) = λ k p. stays-whole xs k _ _ (run-stays p xs ys) in
-    let behind_one : (k : Kind) → Stays xs (whole k (suc (prefix_len is_word (c ∷ w)))) (whole k (suc (prefix_len is_word (c ∷ w ++ ys)))) = λ k. stays-whole xs k _ _ (λ lt. ap suc (run-stays is_word (c ∷ w) ys (omega arith))) in
+    let after_one : (k : Kind) → Stays xs (whole k (suc (prefix_len is_word (c ∷ w)))) (whole k (suc (prefix_len is_word (c ∷ w ++ ys)))) = λ k. stays-whole xs k _ _ (λ lt. ap suc (run-stays is_word (c ∷ w) ys (omega arith))) in
     stays-cond xs (begins_perl xs) _ _ _ _ (λ _. stays-whole xs Perl 2 2 (λ _. refl)) (λ _.
     stays-cond xs (is_line_end b) _ _ _ _ (λ _. one LineEnd) (λ _.
     stays-cond xs (is_blank b) _ _ _ _ (λ _. run Blank is_blank) (λ _.
@@ -437,8 +437,8 @@ plain-stays b c w ys =
     stays-cond xs (eqb b 34) _ _ _ _ (λ _. stays-string 1 xs ys (omega arith)) (λ _.
     stays-cond xs (is_letter b) _ _ _ _ (λ _. run Name is_word) (λ _.
     stays-cond xs (is_digit b) _ _ _ _ (λ _. run Word is_word) (λ _.
-    stays-cond xs (takes_word b && is_word c) _ _ _ _ (λ _. behind_one Word) (λ _.
-    stays-cond xs (eqb b 96 && is_letter c) _ _ _ _ (λ _. behind_one Back) (λ _.
+    stays-cond xs (takes_word b && is_word c) _ _ _ _ (λ _. after_one Word) (λ _.
+    stays-cond xs (eqb b 96 && is_letter c) _ _ _ _ (λ _. after_one Back) (λ _.
     stays-cond xs (eqb b 96) _ _ _ _ (λ _. one BareBackquote) (λ _.
     stays-cond xs (is_opener b) _ _ _ _ (λ _. one Opener) (λ _.
     stays-cond xs (is_closer b) _ _ _ _ (λ _. one Closer) (λ _.
@@ -540,7 +540,7 @@ plain-comma b w ys =
     let pair : (x y : ℕ) → eqb 44 y ≡ eqb 0 y → (eqb b x && eqb (get_or (w ++ 44 ∷ ys) 0 0) y) ≡ (eqb b x && eqb (get_or w 0 0) y) = λ x y e. pair-comma (λ n. eqb n x) (λ n. eqb n y) e b w ys in
     let one : (k : Kind) → Holds (whole k 1) (whole k 1) = λ k. holds-whole k 1 1 refl in
     let word : prefix_len is_word (xs ++ 44 ∷ ys) ≡ prefix_len is_word xs = run-comma is_word word_comma xs ys in
-    let behind : suc (prefix_len is_word (w ++ 44 ∷ ys)) ≡ suc (prefix_len is_word w) = ap suc (run-comma is_word word_comma w ys) in
+    let following : suc (prefix_len is_word (w ++ 44 ∷ ys)) ≡ suc (prefix_len is_word w) = ap suc (run-comma is_word word_comma w ys) in
     let long : (eqb b 47 && eqb (get_or w 0 0) 42) ≡ true → 2 ≤ length xs = λ h. begins_block_comment-two xs h in
     holds-cond (begins_perl xs) _ _ _ _ _ (pair 60 37 refl) (λ _. holds-whole Perl 2 2 refl) (λ _.
     holds-cond (is_line_end b) _ _ _ _ _ refl (λ _. one LineEnd) (λ _.
@@ -550,8 +550,8 @@ plain-comma b w ys =
     holds-cond (eqb b 34) _ _ _ _ _ refl (λ _. holds-string 1 xs (44 ∷ ys) (omega arith)) (λ _.
     holds-cond (is_letter b) _ _ _ _ _ refl (λ _. holds-whole Name _ _ word) (λ _.
     holds-cond (is_digit b) _ _ _ _ _ refl (λ _. holds-whole Word _ _ word) (λ _.
-    holds-cond (takes_word b && is_word (get_or w 0 0)) _ _ _ _ _ (pair-comma takes_word is_word word_same b w ys) (λ _. holds-whole Word _ _ behind) (λ _.
-    holds-cond (eqb b 96 && is_letter (get_or w 0 0)) _ _ _ _ _ (pair-comma (λ n. eqb n 96) is_letter letter_same b w ys) (λ _. holds-whole Back _ _ behind) (λ _.
+    holds-cond (takes_word b && is_word (get_or w 0 0)) _ _ _ _ _ (pair-comma takes_word is_word word_same b w ys) (λ _. holds-whole Word _ _ following) (λ _.
+    holds-cond (eqb b 96 && is_letter (get_or w 0 0)) _ _ _ _ _ (pair-comma (λ n. eqb n 96) is_letter letter_same b w ys) (λ _. holds-whole Back _ _ following) (λ _.
     holds-cond (eqb b 96) _ _ _ _ _ refl (λ _. one BareBackquote) (λ _.
     holds-cond (is_opener b) _ _ _ _ _ refl (λ _. one Opener) (λ _.
     holds-cond (is_closer b) _ _ _ _ _ refl (λ _. one Closer) (λ _.

@@ -26,13 +26,13 @@ use Rattle.rdlpp_scan.proofs.StopKinds.{block_token-kind, string_token-kind}
 -- What remains of a source, step by step, as the engine takes it: `held` ends at a line end or at the text's end.
 
 -- what breaks or ends a source behind the text that is held
-pub record IsBehind (held rest more : List ℕ) (break : Option Break) : Type 0 where
+pub record IsAfter (held rest more : List ℕ) (break : Option Break) : Type 0 where
   pub ends : EndsLine held more
   pub last : IsWholeLines held ⊎ ((more ≡ []) × (break ≡ None))
 
 -- the same of every front
-pub behind : (most room : ℕ) (held rest : List ℕ) → EndsLine held rest → IsBehind held rest (front most room rest).text (front most room rest).break
-behind most room held rest =
+pub following : (most room : ℕ) (held rest : List ℕ) → EndsLine held rest → IsAfter held rest (front most room rest).text (front most room rest).break
+following most room held rest =
     ⊎_elim (λ whole. record { ends = inl whole; last = inl whole }) (λ none.
     let f : front most room rest ≡ record { text = []; break = None } = ap (front most room) none ∙ front-none most room in
     let text = ap (λ (g : Front). g.text) f in
@@ -43,9 +43,9 @@ abbrev pub course : ℕ → ℕ → List ℕ → Course
 course most room rest = record { most = most; break = (front most room rest).break }
 
 -- of what is held, ordinary text w goes through, and what is behind it remains
-pub record GoesThrough (most l : ℕ) (held w behind : List ℕ) (room : ℕ) (rest : List ℕ) : Type 0 where
+pub record GoesThrough (most l : ℕ) (held w following : List ℕ) (room : ℕ) (rest : List ℕ) : Type 0 where
   pub tokens : List SourceToken
-  pub steps : (o p : ℕ) → remaining_tokens most Plain o l held room rest ≡ tokens ++ remaining_tokens most Plain p (l + line_ends w) behind room rest
+  pub steps : (o p : ℕ) → remaining_tokens most Plain o l held room rest ≡ tokens ++ remaining_tokens most Plain p (l + line_ends w) following room rest
   pub plain : All IsPlainToken tokens
   pub spelled : flat_map (λ t. t.bytes) tokens ≡ w
 
@@ -54,17 +54,17 @@ pub remaining-opened : (most o p l : ℕ) (held : List ℕ) (room : ℕ) (rest :
 unfolding remaining_tokens
 remaining-opened most o p l held room rest = source_tokens-opened (course most room rest) o p l 0 (held ++ (front most room rest).text)
 
-goes_through : (most l : ℕ) (held w behind : List ℕ) (room : ℕ) (rest : List ℕ) → held ≡ w ++ behind → IsOrdinary (course most room rest) l w (behind ++ (front most room rest).text) → GoesThrough most l held w behind room rest
+goes_through : (most l : ℕ) (held w following : List ℕ) (room : ℕ) (rest : List ℕ) → held ≡ w ++ following → IsOrdinary (course most room rest) l w (following ++ (front most room rest).text) → GoesThrough most l held w following room rest
 unfolding remaining_tokens
-goes_through most l held w behind room rest split ordinary =
+goes_through most l held w following room rest split ordinary =
     let c = course most room rest in
     let more = (front most room rest).text in
-    let text : held ++ more ≡ w ++ (behind ++ more) = ap (λ z. z ++ more) split ∙ append_assoc w behind more in
+    let text : held ++ more ≡ w ++ (following ++ more) = ap (λ z. z ++ more) split ∙ append_assoc w following more in
     record {
       tokens = ordinary.tokens;
       steps = λ o p.
           ap (λ z. source_tokens c Plain o l 0 z) text ∙ ordinary.steps o
-          ∙ ap (λ z. ordinary.tokens ++ z) (source_tokens-opened c o p (l + line_ends w) 0 (behind ++ more));
+          ∙ ap (λ z. ordinary.tokens ++ z) (source_tokens-opened c o p (l + line_ends w) 0 (following ++ more));
       plain = ordinary.plain;
       spelled = ordinary.spelled;
     }
@@ -75,7 +75,7 @@ pub remaining-ordinary : (most l : ℕ) (held : List ℕ) (room : ℕ) (rest : L
 remaining-ordinary most l held room rest ends =
     let n = plain_len held in
     goes_through most l held (take n held) (drop n held) room rest (sym (take-append-drop n held))
-    (ordinary_front (course most room rest) l held (front most room rest).text (behind most room held rest ends).ends)
+    (ordinary_front (course most room rest) l held (front most room rest).text (following most room held rest ends).ends)
 
 -- lines that are taken in
 pub remaining-accept : (most : ℕ) (m : Mode) (o l : ℕ) (held : List ℕ) (room : ℕ) (w r : List ℕ) → EndsLine w r → length w ≤ most → length w ≤ room
@@ -103,7 +103,7 @@ pub remaining-perl : (most o l : ℕ) (held : List ℕ) (room : ℕ) (rest : Lis
 unfolding remaining_tokens
 remaining-perl most o l held room rest some ends is =
     let more = (front most room rest).text in
-    let b = behind most room held rest ends in
+    let b = following most room held rest ends in
     step-perl (course most room rest) o l held more some b.ends is
 
 -- a backquote without a name
@@ -112,7 +112,7 @@ pub remaining-bare : (most o l : ℕ) (held : List ℕ) (room : ℕ) (rest : Lis
 unfolding remaining_tokens
 remaining-bare most o l held room rest some ends is =
     let more = (front most room rest).text in
-    let b = behind most room held rest ends in
+    let b = following most room held rest ends in
     step-bare (course most room rest) o l held more some b.ends is
 
 -- a backquote with a name that is neither `define` nor `line`
@@ -123,7 +123,7 @@ pub remaining-back : (most o l : ℕ) (held : List ℕ) (room : ℕ) (rest : Lis
 unfolding remaining_tokens
 remaining-back most o l held room rest some ends is other also =
     let more = (front most room rest).text in
-    let b = behind most room held rest ends in
+    let b = following most room held rest ends in
     step-back (course most room rest) o l held more some b.ends is other also
 
 -- What remains of a source at a string, a comment, a logical line or a `line`: `held` ends at a line end or at the text's end.
@@ -136,7 +136,7 @@ pub remaining-closed : (most : ℕ) (m : Mode) (o l : ℕ) (held : List ℕ) (ro
 unfolding remaining_tokens
 remaining-closed most m o l held room rest some ends kept closed =
     let more = (front most room rest).text in
-    let b = behind most room held rest ends in
+    let b = following most room held rest ends in
     step-closed (course most room rest) m o l held more some (IsCut-from_line held more b.ends) kept closed
 
 -- a string that is open in what is held: what is held of it, in front of what remains of its rest
@@ -145,7 +145,7 @@ pub remaining-open_string : (most : ℕ) (m : Mode) (o l : ℕ) (held : List ℕ
 unfolding remaining_tokens
 remaining-open_string most m o l held room rest some ends mode len =
     let more = (front most room rest).text in
-    let b = behind most room held rest ends in
+    let b = following most room held rest ends in
     step-open_string (course most room rest) m o l held more some (IsCut-from_line held more b.ends) mode len
 
 -- a block comment that is open in what is held
@@ -154,7 +154,7 @@ pub remaining-open_comment : (most : ℕ) (m : Mode) (o l : ℕ) (held : List �
 unfolding remaining_tokens
 remaining-open_comment most m o l held room rest some ends mode =
     let more = (front most room rest).text in
-    let b = behind most room held rest ends in
+    let b = following most room held rest ends in
     step-open_comment (course most room rest) m o l held more some (IsCut-from_line held more b.ends) mode
 
 -- a string that `<%` cuts in what is held
@@ -164,12 +164,12 @@ pub remaining-cut_string : (most : ℕ) (m : Mode) (o l : ℕ) (held : List ℕ)
 unfolding remaining_tokens
 remaining-cut_string most m o l held room rest some ends kind mode lt =
     let more = (front most room rest).text in
-    let b = behind most room held rest ends in
+    let b = following most room held rest ends in
     step-cut_string (course most room rest) m o l held more some (IsCut-from_line held more b.ends) kind mode lt
 
 begins : (most : ℕ) (held : List ℕ) (room : ℕ) (rest : List ℕ) → HoldsDefine held rest → BeginsDefine (course most room rest) held (front most room rest).text
 begins most held room rest h =
-    let b = behind most room held rest h.ends in
+    let b = following most room held rest h.ends in
     record { some = h.some; ends = b.ends; kind = h.kind; word = h.word }
 
 -- a `define` whose logical line ends in what is held
@@ -278,7 +278,7 @@ pub remaining-line : (most o l : ℕ) (held : List ℕ) (room : ℕ) (rest : Lis
 unfolding remaining_tokens
 remaining-line most o l held room rest some ends is other also =
     let more = (front most room rest).text in
-    let b = behind most room held rest ends in
+    let b = following most room held rest ends in
     step-line (course most room rest) o l held more some b.ends is other also
 
 -- What remains of a source in a string or in a block comment begins with the rest of it.
@@ -610,7 +610,7 @@ remaining-first most o l (b ∷ w) room rest some ends =
     let c = course most room rest in
     let more = (front most room rest).text in
     let bs = w ++ more in
-    let kind : (token_of Plain (b ∷ bs)).kind ≡ (token_of Plain (b ∷ w)).kind = kind-append (b ∷ w) more some (behind most room (b ∷ w) rest ends).ends in
+    let kind : (token_of Plain (b ∷ bs)).kind ≡ (token_of Plain (b ∷ w)).kind = kind-append (b ∷ w) more some (following most room (b ∷ w) rest ends).ends in
     let F = first_of_step (token_of Plain (b ∷ bs)).kind c l b bs (source_step c Plain o l (b ∷ bs)) (source_step-kind c o l (b ∷ bs)) in
     subst (λ (k : Kind). FirstToken k (source_tokens c Plain o l 0 (b ∷ bs))) kind
     (subst (λ (us : List SourceToken). FirstToken (token_of Plain (b ∷ bs)).kind us) (sym (tokens_step c Plain o l b bs)) F)

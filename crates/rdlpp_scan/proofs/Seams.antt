@@ -13,7 +13,7 @@ use Rattle.rdlpp_scan.specs.declared.token.Token.{Token}
 use Rattle.rdlpp_scan.specs.Bytes.{is_blank, is_line_end, is_letter, is_digit, is_word, is_opener, is_closer, takes_word, begins_perl, begins_line_comment, begins_block_comment, ends_block_comment}
 use Rattle.rdlpp_scan.specs.Tokens.{first_place, string_stop, whole, string_token, block_token, plain_token, token_of, stops_plain_text, tokens_from}
 use Rattle.rdlpp_scan.specs.Lines.{IsWholeLines, EndsLine}
-use Rattle.rdlpp_scan.specs.Pieces.{IsCut, AreCuts, mode_behind, tokens_of_pieces, is_open, join_onto, join_all, joined}
+use Rattle.rdlpp_scan.specs.Pieces.{IsCut, AreCuts, mode_after, tokens_of_pieces, is_open, join_onto, join_all, joined}
 use Rattle.rdlpp_scan.proofs.TokenLens.{IsPart, begins_block_comment-two, first_place-le, is_word-letter, string_stop-le, string_stop-stop, token_of-part, tokens_from-step}
 use Rattle.rdlpp_scan.proofs.SourceLaws.{IsWholeLines-rest, IsWholeLines-one, IsWholeLines-drop}
 use Rattle.rdlpp_scan.specs.LexFaults.{is_perl}
@@ -102,10 +102,10 @@ string_stop-ten true (y ∷ ys) ten =
     subst P (sym ten) at_ten
 
 -- behind a cut a string goes on as at its beginning
-string_stop-behind : (xs ys : List ℕ) → IsCut xs ys → string_stop (still_taken false xs) ys ≡ string_stop false ys
+string_stop-following : (xs ys : List ℕ) → IsCut xs ys → string_stop (still_taken false xs) ys ≡ string_stop false ys
 unfolding still_taken string_stop
-string_stop-behind [] ys cut = refl
-string_stop-behind (b ∷ xs) ys cut =
+string_stop-following [] ys cut = refl
+string_stop-following (b ∷ xs) ys cut =
     let s = still_taken false (b ∷ xs) in
     ⊎_elim (λ (none : ys ≡ []). subst (λ (zs : List ℕ). string_stop s zs ≡ string_stop false zs) (sym none) refl) (λ rest. ⊎_elim
     (λ here. string_stop-ten s ys here)
@@ -263,7 +263,7 @@ string-seam from xs ys fits cut =
     let all : k ≡ length X = omega (arith, string_stop-le false X) in
     let s = string_stop false ys in
     let stop : from + string_stop false (drop from (xs ++ ys)) ≡ n + s =
-    omega (arith, split, string_stop-over false X ys cutX all, string_stop-behind X ys cutX, size) in
+    omega (arith, split, string_stop-over false X ys cutX all, string_stop-following X ys cutX, size) in
     let none : get_or xs n 0 ≡ 0 = get_or_past xs n 0 (omega arith) in
     let there : get_or (xs ++ ys) (n + s) 0 ≡ get_or ys s 0 = get_or-append_right xs ys (n + s) 0 (omega arith) ∙ ap_byte ys (n + s - n) s (omega arith) in
     let t : string_token from xs ≡ record { kind = Str; len = n; next_mode = InStr } = string_token-at from xs n (omega (arith, all, size)) ∙ string_at-open n (get_or xs n 0) none in
@@ -443,8 +443,8 @@ join_before_perl t zs some perl =
     ap (join_onto t) e ∙ join_onto-perl t v (tokens_from v.next_mode 0 (drop v.len zs)) kind ∙ ap (λ us. t ∷ us) (sym e)
 
 -- the tokens of the whole text, where its first token goes over a cut
-behind_cut : (m : Mode) (xs ys : List ℕ) (v : Token) → 0 < length xs → token_of m (xs ++ ys) ≡ longer (length xs) v → tokens_from m 0 (xs ++ ys) ≡ longer (length xs) v ∷ tokens_from v.next_mode 0 (drop v.len ys)
-behind_cut m xs ys v some is =
+after_cut : (m : Mode) (xs ys : List ℕ) (v : Token) → 0 < length xs → token_of m (xs ++ ys) ≡ longer (length xs) v → tokens_from m 0 (xs ++ ys) ≡ longer (length xs) v ∷ tokens_from v.next_mode 0 (drop v.len ys)
+after_cut m xs ys v some is =
     let zs = xs ++ ys in
     let n = length xs in
     let size = length-append xs ys in
@@ -470,7 +470,7 @@ open_string_some m xs y ys some is =
     let n = length xs in
     let T : Token = record { kind = Str; len = n; next_mode = InStr } in
     let v = string_token 0 zs in
-    let whole_text = behind_cut m xs zs v some is in
+    let whole_text = after_cut m xs zs v some is in
     let at_perl : begins_perl zs ≡ true → join_onto T (tokens_from InStr 0 zs) ≡ tokens_from m 0 (xs ++ zs) = λ h.
     let e : n + 0 ≡ n = omega arith in
     join_before_perl T zs (omega arith) h
@@ -491,7 +491,7 @@ open_comment_some m xs y ys some is =
     let T : Token = record { kind = BlockComment; len = n; next_mode = InBlock } in
     let v = block_token 0 zs in
     let step = tokens_from-step InBlock zs (omega arith) (token_of-part InBlock zs (omega arith)).not_empty in
-    ap (join_onto T) step ∙ join_onto-open T v (tokens_from v.next_mode 0 (drop v.len zs)) refl (ap is_perl (block_token-kind 0 zs)) ∙ sym (behind_cut m xs zs v some is)
+    ap (join_onto T) step ∙ join_onto-open T v (tokens_from v.next_mode 0 (drop v.len zs)) refl (ap is_perl (block_token-kind 0 zs)) ∙ sym (after_cut m xs zs v some is)
 
 -- a string that goes over a cut
 open_string : (m : Mode) (xs ys : List ℕ) → 0 < length xs → token_of m (xs ++ ys) ≡ longer (length xs) (string_token 0 ys)
@@ -499,7 +499,7 @@ open_string : (m : Mode) (xs ys : List ℕ) → 0 < length xs → token_of m (xs
 unfolding string_token string_stop tokens_from join_onto
 open_string m xs [] some is =
     let e : length xs + 0 ≡ length xs = omega arith in
-    sym (behind_cut m xs [] (string_token 0 []) some is ∙ ap (λ n. record { kind = Str; len = n; next_mode = InStr } ∷ []) e)
+    sym (after_cut m xs [] (string_token 0 []) some is ∙ ap (λ n. record { kind = Str; len = n; next_mode = InStr } ∷ []) e)
 open_string m xs (y ∷ ys) some is = open_string_some m xs y ys some is
 
 -- a comment that goes over a cut
@@ -508,7 +508,7 @@ open_comment : (m : Mode) (xs ys : List ℕ) → 0 < length xs → token_of m (x
 unfolding block_token first_place tokens_from join_onto
 open_comment m xs [] some is =
     let e : length xs + 0 ≡ length xs = omega arith in
-    sym (behind_cut m xs [] (block_token 0 []) some is ∙ ap (λ n. record { kind = BlockComment; len = n; next_mode = InBlock } ∷ []) e)
+    sym (after_cut m xs [] (block_token 0 []) some is ∙ ap (λ n. record { kind = BlockComment; len = n; next_mode = InBlock } ∷ []) e)
 open_comment m xs (y ∷ ys) some is = open_comment_some m xs y ys some is
 
 -- the tokens of the whole text, where its first token is that of the text in front of a cut
@@ -521,50 +521,50 @@ same_first m xs ys t some is inside =
 
 -- the tokens in front of a cut, by the first of them
 cut_by : (k : ℕ) (m : Mode) (xs ys : List ℕ) → 0 < length xs → length xs ≤ suc k → IsCut xs ys
-    → ((e : Mode) (vs : List ℕ) → length vs ≤ k → IsCut vs ys → join_all (tokens_from e 0 vs) (tokens_from (mode_behind e (tokens_from e 0 vs)) 0 ys) ≡ tokens_from e 0 (vs ++ ys))
+    → ((e : Mode) (vs : List ℕ) → length vs ≤ k → IsCut vs ys → join_all (tokens_from e 0 vs) (tokens_from (mode_after e (tokens_from e 0 vs)) 0 ys) ≡ tokens_from e 0 (vs ++ ys))
     → (t : Token) → t ≡ token_of m xs → Seam xs ys t (token_of m (xs ++ ys))
-    → join_onto t (join_all (tokens_from t.next_mode 0 (drop t.len xs)) (tokens_from (mode_behind t.next_mode (tokens_from t.next_mode 0 (drop t.len xs))) 0 ys)) ≡ tokens_from m 0 (xs ++ ys)
-unfolding join_all mode_behind
+    → join_onto t (join_all (tokens_from t.next_mode 0 (drop t.len xs)) (tokens_from (mode_after t.next_mode (tokens_from t.next_mode 0 (drop t.len xs))) 0 ys)) ≡ tokens_from m 0 (xs ++ ys)
+unfolding join_all mode_after
 cut_by k m xs ys some fuel cut later t is (Closed e closed) =
     let part = subst (λ (u : Token). IsPart u xs) (sym is) (token_of-part m xs some) in
     let rest = drop t.len xs in
-    let behind = later t.next_mode rest (omega (arith, length-drop t.len xs, part.not_empty)) (IsCut-drop t.len xs ys cut) in
-    ap (join_onto t) behind ∙ join_onto-closed t (tokens_from t.next_mode 0 (rest ++ ys)) closed ∙ sym (same_first m xs ys t some e part.inside)
+    let following = later t.next_mode rest (omega (arith, length-drop t.len xs, part.not_empty)) (IsCut-drop t.len xs ys cut) in
+    ap (join_onto t) following ∙ join_onto-closed t (tokens_from t.next_mode 0 (rest ++ ys)) closed ∙ sym (same_first m xs ys t some e part.inside)
 cut_by k m xs ys some fuel cut later t is (BeforePerl e open_is lt perl) =
     let part = subst (λ (u : Token). IsPart u xs) (sym is) (token_of-part m xs some) in
     let rest = drop t.len xs in
     let Z = rest ++ ys in
     let size = length-drop t.len xs in
     let both = length-append rest ys in
-    let behind = later t.next_mode rest (omega (arith, size, part.not_empty)) (IsCut-drop t.len xs ys cut) in
+    let following = later t.next_mode rest (omega (arith, size, part.not_empty)) (IsCut-drop t.len xs ys cut) in
     let mode : t.next_mode ≡ InStr = ap (λ (u : Token). u.next_mode) open_is in
     let first : begins_perl Z ≡ true = begins_perl-append rest ys (omega (arith, size)) (IsCut-drop t.len xs ys cut) ∙ perl in
     let kept : join_onto t (tokens_from t.next_mode 0 Z) ≡ t ∷ tokens_from t.next_mode 0 Z =
     subst (λ (d : Mode). join_onto t (tokens_from d 0 Z) ≡ t ∷ tokens_from d 0 Z) (sym mode) (join_before_perl t Z (omega (arith, size, both)) first) in
-    ap (join_onto t) behind ∙ kept ∙ sym (same_first m xs ys t some e part.inside)
+    ap (join_onto t) following ∙ kept ∙ sym (same_first m xs ys t some e part.inside)
 cut_by k m xs ys some fuel cut later t is (OpenString open_is e) =
     let n = length xs in
     let T : Token = record { kind = Str; len = n; next_mode = InStr } in
-    ap (λ (u : Token). join_onto u (join_all (tokens_from u.next_mode 0 (drop u.len xs)) (tokens_from (mode_behind u.next_mode (tokens_from u.next_mode 0 (drop u.len xs))) 0 ys))) open_is
-    ∙ ap (λ ts. join_onto T (join_all ts (tokens_from (mode_behind InStr ts) 0 ys))) (tokens_from-covered InStr n xs (omega arith))
+    ap (λ (u : Token). join_onto u (join_all (tokens_from u.next_mode 0 (drop u.len xs)) (tokens_from (mode_after u.next_mode (tokens_from u.next_mode 0 (drop u.len xs))) 0 ys))) open_is
+    ∙ ap (λ ts. join_onto T (join_all ts (tokens_from (mode_after InStr ts) 0 ys))) (tokens_from-covered InStr n xs (omega arith))
     ∙ open_string m xs ys some e
 cut_by k m xs ys some fuel cut later t is (OpenComment open_is e) =
     let n = length xs in
     let T : Token = record { kind = BlockComment; len = n; next_mode = InBlock } in
-    ap (λ (u : Token). join_onto u (join_all (tokens_from u.next_mode 0 (drop u.len xs)) (tokens_from (mode_behind u.next_mode (tokens_from u.next_mode 0 (drop u.len xs))) 0 ys))) open_is
-    ∙ ap (λ ts. join_onto T (join_all ts (tokens_from (mode_behind InBlock ts) 0 ys))) (tokens_from-covered InBlock n xs (omega arith))
+    ap (λ (u : Token). join_onto u (join_all (tokens_from u.next_mode 0 (drop u.len xs)) (tokens_from (mode_after u.next_mode (tokens_from u.next_mode 0 (drop u.len xs))) 0 ys))) open_is
+    ∙ ap (λ ts. join_onto T (join_all ts (tokens_from (mode_after InBlock ts) 0 ys))) (tokens_from-covered InBlock n xs (omega arith))
     ∙ open_comment m xs ys some e
 
 -- one cut: the tokens in front of it, joined with those of the rest
-cut_once : (k : ℕ) (m : Mode) (xs ys : List ℕ) → length xs ≤ k → IsCut xs ys → join_all (tokens_from m 0 xs) (tokens_from (mode_behind m (tokens_from m 0 xs)) 0 ys) ≡ tokens_from m 0 (xs ++ ys)
-unfolding tokens_from mode_behind join_all
+cut_once : (k : ℕ) (m : Mode) (xs ys : List ℕ) → length xs ≤ k → IsCut xs ys → join_all (tokens_from m 0 xs) (tokens_from (mode_after m (tokens_from m 0 xs)) 0 ys) ≡ tokens_from m 0 (xs ++ ys)
+unfolding tokens_from mode_after join_all
 cut_once k m [] ys fuel cut = refl
 cut_once zero m (x ∷ xs) ys fuel cut = absurd (omega arith)
 cut_once (suc k) m (x ∷ xs) ys fuel cut =
     let X = x ∷ xs in
     let t = token_of m X in
     let step = tokens_from-step m X (omega arith) (token_of-part m X (omega arith)).not_empty in
-    ap (λ ts. join_all ts (tokens_from (mode_behind m ts) 0 ys)) step
+    ap (λ ts. join_all ts (tokens_from (mode_after m ts) 0 ys)) step
     ∙ cut_by k m X ys (omega arith) fuel cut (λ e vs short c. cut_once k e vs ys short c) t refl (token_of-seam m X ys (omega arith) cut)
 
 -- however a text is cut at line ends, its tokens are those of the pieces, with the parts of strings and comments joined
@@ -573,5 +573,5 @@ unfolding joined tokens_of_pieces AreCuts tokens_from join_all
 tokens_of_cuts from [] cuts = refl
 tokens_of_cuts from (p ∷ ps) cuts =
     let ts = tokens_from from 0 p in
-    let later = tokens_of_cuts (mode_behind from ts) ps cuts.1 in
-    join_all-append ts (tokens_of_pieces (mode_behind from ts) ps) [] ∙ ap (join_all ts) later ∙ cut_once (length p) from p (concat ps) (omega arith) cuts.0
+    let later = tokens_of_cuts (mode_after from ts) ps cuts.1 in
+    join_all-append ts (tokens_of_pieces (mode_after from ts) ps) [] ∙ ap (join_all ts) later ∙ cut_once (length p) from p (concat ps) (omega arith) cuts.0

@@ -102,12 +102,12 @@ line_len-whole (b ∷ c ∷ cs) more some whole =
     ap (λ n. cond (is_line_end b) 1 (suc n)) (line_len-whole (c ∷ cs) more (omega arith) (IsWholeLines-rest b (c ∷ cs) whole))
 
 -- a text with nothing behind it is that text
-pub nothing_behind : {A : Type 0} (F : List ℕ → A) (held more : List ℕ) → more ≡ [] → F (held ++ more) ≡ F held
-nothing_behind F held more none = ap F (ap (λ xs. held ++ xs) none ∙ append-nil held)
+pub nothing_after : {A : Type 0} (F : List ℕ → A) (held more : List ℕ) → more ≡ [] → F (held ++ more) ≡ F held
+nothing_after F held more none = ap F (ap (λ xs. held ++ xs) none ∙ append-nil held)
 
 -- a line that has its LF
 pub line_len-append : (held more : List ℕ) → 0 < length held → EndsLine held more → line_len (held ++ more) ≡ line_len held
-line_len-append held more some = ⊎_elim (λ whole. line_len-whole held more some whole) (λ none. nothing_behind line_len held more none)
+line_len-append held more some = ⊎_elim (λ whole. line_len-whole held more some whole) (λ none. nothing_after line_len held more none)
 
 -- one less
 pub some_suc : (o : Option ℕ) (n : ℕ) → option_map suc o ≡ Some n → (m : ℕ) × ((o ≡ Some m) × (n ≡ suc m))
@@ -305,12 +305,12 @@ pub source_tokens-next : (c : Course) (m : Mode) (o l : ℕ) (bs : List ℕ) (t 
 unfolding source_tokens
 source_tokens-next c m o l [] t some is long = absurd (omega arith)
 source_tokens-next c m o l (b ∷ bs) t some is long =
-    let behind : ℕ → List SourceToken = λ n. source_tokens c Plain l (line_after b l) n bs in
+    let following : ℕ → List SourceToken = λ n. source_tokens c Plain l (line_after b l) n bs in
     let picked = ap (λ s. elim s [ Last u ↦ u ∷ [] | Next u ↦ u ∷ source_tokens c Plain l (line_after b l) (length u.bytes - 1) bs ]) is in
     let n = length t.bytes in
     let one : suc (n - 1) ≡ n = omega arith in
-    let dropped : behind (n - 1) ≡ source_tokens c Plain l (l + line_ends (take n (b ∷ bs))) 0 (drop n (b ∷ bs)) =
-    subst (λ k. behind (n - 1) ≡ source_tokens c Plain l (l + line_ends (take k (b ∷ bs))) 0 (drop k (b ∷ bs))) one (source_tokens-skip c Plain l l (suc (n - 1)) (b ∷ bs)) in
+    let dropped : following (n - 1) ≡ source_tokens c Plain l (l + line_ends (take n (b ∷ bs))) 0 (drop n (b ∷ bs)) =
+    subst (λ k. following (n - 1) ≡ source_tokens c Plain l (l + line_ends (take k (b ∷ bs))) 0 (drop k (b ∷ bs))) one (source_tokens-skip c Plain l l (suc (n - 1)) (b ∷ bs)) in
     picked ∙ ap (λ ts. t ∷ ts) dropped
 
 -- a first token that ends the list
@@ -380,9 +380,9 @@ front_of_lines-append most room (l ∷ ls) rs line source =
     ∙ ap (λ t. record { text = t; break = f.break }) (sym (append_assoc l (concat ls) f.text))
     ∙ ap (λ n. onto_front (l ++ concat ls) (front_of_lines most n rs)) less
 
-no_lines_behind : (w : List ℕ) → lines_of (w ++ []) ≡ lines_of w ++ lines_of []
+no_lines_after : (w : List ℕ) → lines_of (w ++ []) ≡ lines_of w ++ lines_of []
 unfolding lines_of
-no_lines_behind w = ap lines_of (append-nil w) ∙ sym (append-nil (lines_of w))
+no_lines_after w = ap lines_of (append-nil w) ∙ sym (append-nil (lines_of w))
 
 -- lines that the limits accept
 pub front-accept : (most room : ℕ) (w r : List ℕ) → EndsLine w r → length w ≤ most → length w ≤ room → front most room (w ++ r) ≡ onto_front w (front most (room - length w) r)
@@ -391,7 +391,7 @@ front-accept most room w r ends line source =
     let whole = concat-lines_of w in
     let size : length (concat (lines_of w)) ≡ length w = ap length whole in
     let split : lines_of (w ++ r) ≡ lines_of w ++ lines_of r =
-    ⊎_elim (λ h. lines_of-append w r h) (λ none. subst (λ (x : List ℕ). lines_of (w ++ x) ≡ lines_of w ++ lines_of x) (sym none) (no_lines_behind w)) ends in
+    ⊎_elim (λ h. lines_of-append w r h) (λ none. subst (λ (x : List ℕ). lines_of (w ++ x) ≡ lines_of w ++ lines_of x) (sym none) (no_lines_after w)) ends in
     ap (front_of_lines most room) split
     ∙ front_of_lines-append most room (lines_of w) (lines_of r) (omega (arith, size)) (omega (arith, size))
     ∙ ap (λ x. onto_front x (front_of_lines most (room - length x) (lines_of r))) whole

@@ -8,7 +8,7 @@ use Rattle.rdlpp_scan.specs.LexFaults.{plain_argument_len, fault_of_tokens, is_p
 use Rattle.rdlpp_scan.specs.Lines.{IsWholeLines}
 use Rattle.rdlpp_scan.specs.Ordinary.{IsEdge, is_plain_kind}
 use Rattle.rdlpp_scan.specs.TokenKinds.{is_one_byte, opens_mode}
-use Rattle.rdlpp_scan.specs.TokenParts.{kind_of, len_of, mark_kind, mode_behind, opened, plain_kind, stop_of}
+use Rattle.rdlpp_scan.specs.TokenParts.{kind_of, len_of, mark_kind, mode_after, opened, plain_kind, stop_of}
 use Rattle.rdlpp_scan.specs.Tokens.{block_token, first_place, plain_token, stops_plain_text, string_stop, string_token, token_of, tokens_from, whole}
 use Rattle.rdlpp_scan.specs.declared.token.Kind.{Kind}
 use Rattle.rdlpp_scan.specs.declared.token.Kind.TheVariants.{Back, BareBackquote, Blank, BlockComment, Closer, Comma, LineComment, LineEnd, Name, Opener, Other, Perl, Str, Word}
@@ -327,8 +327,8 @@ one_byte_len m bs = rows HasOneByte longer_one single_one block_one string_one m
 unfoldable pub parts : Mode → Kind → List ℕ → Token
 parts mode kind bs =
     let stop = stop_of mode kind bs in
-    let behind = mode_behind kind stop bs in
-    record { kind = kind; len = len_of kind behind stop; next_mode = behind }
+    let following = mode_after kind stop bs in
+    record { kind = kind; len = len_of kind following stop; next_mode = following }
 
 when : (t : Bool) (x y : Kind) → t ≡ true → cond t x y ≡ x
 when t x y h = ap (λ s. cond s x y) h
@@ -347,11 +347,11 @@ block_cases true stop = refl
 block_cases false stop = refl
 
 string_parts : (mode : Mode) (bs : List ℕ) → string_token (opened mode 1) bs ≡ parts mode Str bs
-unfolding string_token stop_of mode_behind parts
+unfolding string_token stop_of mode_after parts
 string_parts mode bs = string_cases (eqb (get_or bs (opened mode 1 + string_stop false (drop (opened mode 1) bs)) 0) 34) (opened mode 1 + string_stop false (drop (opened mode 1) bs))
 
 block_parts : (mode : Mode) (bs : List ℕ) → block_token (opened mode 2) bs ≡ parts mode BlockComment bs
-unfolding block_token stop_of mode_behind parts
+unfolding block_token stop_of mode_after parts
 block_parts mode bs = block_cases (ltb (opened mode 2 + first_place ends_block_comment (drop (opened mode 2) bs)) (length bs)) (opened mode 2 + first_place ends_block_comment (drop (opened mode 2) bs))
 
 plain_string_parts : (bs : List ℕ) → string_token 1 bs ≡ parts Plain Str bs
@@ -458,7 +458,7 @@ unfolding plain_kind
 other_kind b c l k d h = unless _ _ _ l ∙ (unless _ _ _ k ∙ (unless _ _ _ d ∙ h))
 
 pub plain_parts : (bs : List ℕ) → plain_token bs ≡ parts Plain (plain_kind (get_or bs 0 0) (get_or bs 1 0)) bs
-unfolding plain_token whole parts stop_of mode_behind len_of
+unfolding plain_token whole parts stop_of mode_after len_of
 plain_parts bs =
     let b = get_or bs 0 0 in
     let c = get_or bs 1 0 in
@@ -488,7 +488,7 @@ plain_parts bs =
     is Other _ refl (other_kind b c letter blank digit (other_mark bs comma opener closer line back bare quote comment block perl taken))))))))))))))))
 
 perl_or_string : (t : Bool) (bs : List ℕ) → cond t (whole Perl 2) (string_token 0 bs) ≡ parts InStr (cond t Perl Str) bs
-unfolding whole parts stop_of mode_behind len_of
+unfolding whole parts stop_of mode_after len_of
 perl_or_string true bs = refl
 perl_or_string false bs = string_open bs
 
@@ -500,7 +500,7 @@ token_parts InStr bs = perl_or_string (begins_perl bs) bs
 token_parts InBlock bs = block_open bs
 
 -- a token is at least as long as where it stops
-len_of-least : (kind : Kind) (behind : Mode) (stop : ℕ) → stop ≤ len_of kind behind stop
+len_of-least : (kind : Kind) (following : Mode) (stop : ℕ) → stop ≤ len_of kind following stop
 unfolding len_of
 len_of-least Str Plain stop = omega arith
 len_of-least BlockComment Plain stop = omega arith
@@ -514,8 +514,8 @@ unfolding parts
 stop_room mode bs some =
     let kind = kind_of mode bs in
     let stop = stop_of mode kind bs in
-    let room : len_of kind (mode_behind kind stop bs) stop ≤ length bs = subst (λ (t : Token). t.len ≤ length bs) (token_parts mode bs) (token_of-part mode bs some).inside in
-    let least = len_of-least kind (mode_behind kind stop bs) stop in
+    let room : len_of kind (mode_after kind stop bs) stop ≤ length bs = subst (λ (t : Token). t.len ≤ length bs) (token_parts mode bs) (token_of-part mode bs some).inside in
+    let least = len_of-least kind (mode_after kind stop bs) stop in
     omega arith
 
 -- and so does what opens a block comment
@@ -533,10 +533,10 @@ opened-most InStr n = omega arith
 opened-most InBlock n = omega arith
 
 -- a token that is built of its parts
-pub built_token : (mode : Mode) (bs : List ℕ) (kind : Kind) (stop : ℕ) (behind : Mode) (len : ℕ) → kind ≡ kind_of mode bs → stop ≡ stop_of mode kind bs
-    → behind ≡ mode_behind kind stop bs → len ≡ len_of kind behind stop → token_of mode bs ≡ record { kind = kind; len = len; next_mode = behind }
+pub built_token : (mode : Mode) (bs : List ℕ) (kind : Kind) (stop : ℕ) (following : Mode) (len : ℕ) → kind ≡ kind_of mode bs → stop ≡ stop_of mode kind bs
+    → following ≡ mode_after kind stop bs → len ≡ len_of kind following stop → token_of mode bs ≡ record { kind = kind; len = len; next_mode = following }
 unfolding parts
-built_token mode bs kind stop behind len a b c d = rw (d, c, b, a) (token_parts mode bs)
+built_token mode bs kind stop following len a b c d = rw (d, c, b, a) (token_parts mode bs)
 
 -- Calm bytes at the front of a text have no fault.
 
@@ -553,7 +553,7 @@ turn bs k n some is still =
 
 -- the token of a word that begins with a letter
 pub letter_token : (b : ℕ) (bs : List ℕ) → is_letter b ≡ true → token_of Plain (b ∷ bs) ≡ whole Name (prefix_len is_word (b ∷ bs))
-unfolding kind_of parts stop_of mode_behind len_of plain_kind whole
+unfolding kind_of parts stop_of mode_after len_of plain_kind whole
 letter_token b bs e =
     let T = b ∷ bs in
     token_parts Plain T
@@ -585,7 +585,7 @@ letter_dark b d h =
 
 -- the token of a word that begins with a digit
 pub digit_token : (b : ℕ) (bs : List ℕ) → is_letter b ≡ false → is_digit b ≡ true → token_of Plain (b ∷ bs) ≡ whole Word (prefix_len is_word (b ∷ bs))
-unfolding kind_of parts stop_of mode_behind len_of plain_kind whole
+unfolding kind_of parts stop_of mode_after len_of plain_kind whole
 digit_token b bs l d =
     let T = b ∷ bs in
     let kind : plain_kind b (get_or T 1 0) ≡ Word =
@@ -596,7 +596,7 @@ digit_token b bs l d =
 
 -- the token of blanks
 pub blank_token : (b : ℕ) (bs : List ℕ) → is_blank b ≡ true → token_of Plain (b ∷ bs) ≡ whole Blank (prefix_len is_blank (b ∷ bs))
-unfolding kind_of parts stop_of mode_behind len_of plain_kind whole
+unfolding kind_of parts stop_of mode_after len_of plain_kind whole
 blank_token b bs d =
     let T = b ∷ bs in
     let kind : plain_kind b (get_or T 1 0) ≡ Blank = rw (false_from_ne_true (is_letter b) (λ l. letter_dark b l d), d) refl in

@@ -405,8 +405,8 @@ unfolding begins_line_comment is_line_end
 slash_goes_on bs h =
     ap (λ x. not (eqb x 10)) (eqb-true (get_or bs 0 0) 47 (and_parts (eqb (get_or bs 0 0) 47) (eqb (get_or bs 1 0) 47) h).0)
 
-word_behind : (bs : List ℕ) → 0 < length bs → suc (prefix_len is_word (drop 1 bs)) ≤ length bs
-word_behind bs some = omega (arith, prefix_len-le-length is_word (drop 1 bs), length-drop 1 bs)
+word_after : (bs : List ℕ) → 0 < length bs → suc (prefix_len is_word (drop 1 bs)) ≤ length bs
+word_after bs some = omega (arith, prefix_len-le-length is_word (drop 1 bs), length-drop 1 bs)
 
 run-part : (k : Kind) (p : ℕ → Bool) (bs : List ℕ) → 0 < length bs → p (get_or bs 0 0) ≡ true → IsPart (whole k (prefix_len p bs)) bs
 run-part k p bs some h = whole-part k (prefix_len p bs) bs (prefix_len-some p bs some h) (prefix_len-le-length p bs)
@@ -428,8 +428,8 @@ plain_token-part bs some =
     cond_both (eqb b 34) _ _ P (λ _. string_token-part 1 bs (omega arith) (λ _. omega arith)) (λ _.
     cond_both (is_letter b) _ _ P (λ h. run-part Name is_word bs some (is_word-letter b h)) (λ _.
     cond_both (is_digit b) _ _ P (λ h. run-part Word is_word bs some (is_word-digit b h)) (λ _.
-    cond_both (takes_word b && is_word c) _ _ P (λ _. whole-part Word _ bs (omega arith) (word_behind bs some)) (λ _.
-    cond_both (eqb b 96 && is_letter c) _ _ P (λ _. whole-part Back _ bs (omega arith) (word_behind bs some)) (λ _.
+    cond_both (takes_word b && is_word c) _ _ P (λ _. whole-part Word _ bs (omega arith) (word_after bs some)) (λ _.
+    cond_both (eqb b 96 && is_letter c) _ _ P (λ _. whole-part Back _ bs (omega arith) (word_after bs some)) (λ _.
     cond_both (eqb b 96) _ _ P (λ _. one-part BareBackquote bs some) (λ _.
     cond_both (is_opener b) _ _ P (λ _. one-part Opener bs some) (λ _.
     cond_both (is_closer b) _ _ P (λ _. one-part Closer bs some) (λ _.
@@ -455,9 +455,9 @@ tokens_from-skip m (suc n) [] = refl
 tokens_from-skip m zero (b ∷ bs) = refl
 tokens_from-skip m (suc n) (b ∷ bs) = tokens_from-skip m n bs
 
-tokens_from-behind : (m : Mode) (n b : ℕ) (bs : List ℕ) → 0 < n → tokens_from m (n - 1) bs ≡ tokens_from m 0 (drop n (b ∷ bs))
-tokens_from-behind m zero b bs long = absurd (omega arith)
-tokens_from-behind m (suc n) b bs long = tokens_from-skip m (suc n - 1) bs ∙ ap (λ i. tokens_from m 0 (drop i bs)) (omega arith)
+tokens_from-following : (m : Mode) (n b : ℕ) (bs : List ℕ) → 0 < n → tokens_from m (n - 1) bs ≡ tokens_from m 0 (drop n (b ∷ bs))
+tokens_from-following m zero b bs long = absurd (omega arith)
+tokens_from-following m (suc n) b bs long = tokens_from-skip m (suc n - 1) bs ∙ ap (λ i. tokens_from m 0 (drop i bs)) (omega arith)
 
 -- the first token, and the tokens behind it
 pub tokens_from-step : (m : Mode) (bs : List ℕ) → 0 < length bs → 0 < (token_of m bs).len → tokens_from m 0 bs ≡ token_of m bs ∷ tokens_from (token_of m bs).next_mode 0 (drop (token_of m bs).len bs)
@@ -465,7 +465,7 @@ unfolding tokens_from
 tokens_from-step m [] some long = absurd (omega arith)
 tokens_from-step m (b ∷ bs) some long =
     let t = token_of m (b ∷ bs) in
-    ap (λ ts. t ∷ ts) (tokens_from-behind t.next_mode t.len b bs long)
+    ap (λ ts. t ∷ ts) (tokens_from-following t.next_mode t.len b bs long)
 
 some_within : (k : ℕ) (m : Mode) (bs : List ℕ) → length bs ≤ k → AllByRecursion (λ t. 0 < t.len) (tokens_from m 0 bs)
 unfolding tokens_from
@@ -557,8 +557,8 @@ rest_some (b ∷ []) lt = absurd (omega arith)
 rest_some (b ∷ c ∷ bs) lt = omega arith
 
 -- a run of them behind a first byte
-run_behind : (bs : List ℕ) (k : Kind) → is_word (get_or bs 1 0) ≡ true → Ends bs (whole k (suc (prefix_len is_word (drop 1 bs))))
-run_behind bs k h =
+run_after : (bs : List ℕ) (k : Kind) → is_word (get_or bs 1 0) ≡ true → Ends bs (whole k (suc (prefix_len is_word (drop 1 bs))))
+run_after bs k h =
     let c = get_or bs 1 0 in
     let n = prefix_len is_word (drop 1 bs) in
     let there : 1 < length bs = inside_of bs 1 (omega (arith, word_large c h)) in
@@ -625,8 +625,8 @@ plain-ends bs some =
     cond_both (eqb b 34) _ _ P (λ _. string-ends 1 bs) (λ _.
     cond_both (is_letter b) _ _ P (λ h. word_run bs Name some (is_word-letter b h)) (λ _.
     cond_both (is_digit b) _ _ P (λ h. word_run bs Word some (is_word-digit b h)) (λ _.
-    cond_both (takes_word b && is_word c) _ _ P (λ h. run_behind bs Word (and_parts (takes_word b) (is_word c) h).1) (λ _.
-    cond_both (eqb b 96 && is_letter c) _ _ P (λ h. run_behind bs Back (is_word-letter c (and_parts (eqb b 96) (is_letter c) h).1)) (λ _.
+    cond_both (takes_word b && is_word c) _ _ P (λ h. run_after bs Word (and_parts (takes_word b) (is_word c) h).1) (λ _.
+    cond_both (eqb b 96 && is_letter c) _ _ P (λ h. run_after bs Back (is_word-letter c (and_parts (eqb b 96) (is_letter c) h).1)) (λ _.
     cond_both (eqb b 96) _ _ P (λ _. one-ends bs BareBackquote line blank) (λ _.
     cond_both (is_opener b) _ _ P (λ _. one-ends bs Opener line blank) (λ _.
     cond_both (is_closer b) _ _ P (λ _. one-ends bs Closer line blank) (λ _.

@@ -686,15 +686,15 @@ step-line c o l held more some ends is other also =
 -- Logical lines over several physical lines.
 
 -- a logical line that doesn't end in the front of a text goes on behind it
-pub logical_len-goes_behind : (x y : ℕ) (xs ys : List ℕ) → logical_len x y xs ≡ None
+pub logical_len-goes_after : (x y : ℕ) (xs ys : List ℕ) → logical_len x y xs ≡ None
     → logical_len x y (xs ++ ys) ≡ option_map (λ n. length xs + n) (logical_len (get_or (x ∷ y ∷ xs) (length xs) 0) (get_or (x ∷ y ∷ xs) (suc (length xs)) 0) ys)
 unfolding logical_len
-logical_len-goes_behind x y [] ys none = elim (logical_len x y ys) as (λ (o : Option ℕ). o ≡ option_map (λ n. 0 + n) o) [ None ↦ refl | Some n ↦ ap Some (omega arith) ]
-logical_len-goes_behind x y (b ∷ xs) ys none =
+logical_len-goes_after x y [] ys none = elim (logical_len x y ys) as (λ (o : Option ℕ). o ≡ option_map (λ n. 0 + n) o) [ None ↦ refl | Some n ↦ ap Some (omega arith) ]
+logical_len-goes_after x y (b ∷ xs) ys none =
     let there = logical_len (get_or (y ∷ b ∷ xs) (length xs) 0) (get_or (y ∷ b ∷ xs) (suc (length xs)) 0) ys in
     let P : Bool → Type 0 = λ t. cond t (Some 1) (option_map suc (logical_len y b xs)) ≡ None → cond t (Some 1) (option_map suc (logical_len y b (xs ++ ys))) ≡ option_map (λ n. suc (length xs) + n) there in
     let at_true : P true = λ e. absurd (cc) in
-    let at_false : P false = λ e. ap (option_map suc) (logical_len-goes_behind y b xs ys (none_suc (logical_len y b xs) e)) ∙ option_map-twice (length xs) there in
+    let at_false : P false = λ e. ap (option_map suc) (logical_len-goes_after y b xs ys (none_suc (logical_len y b xs) e)) ∙ option_map-twice (length xs) there in
     elim (is_line_end b && not (is_continued x y)) as P [ true ↦ at_true | false ↦ at_false ] none
 
 -- the last byte of whole lines
@@ -704,13 +704,13 @@ whole_lines-last x y (b ∷ []) some whole = line_end-ten b (IsWholeLines-one b 
 whole_lines-last x y (b ∷ c ∷ xs) some whole = whole_lines-last y b (c ∷ xs) (omega arith) (IsWholeLines-rest b (c ∷ xs) whole)
 
 -- behind whole lines it goes on as at its beginning
-pub logical_len-behind_lines : (xs ys : List ℕ) → IsWholeLines xs → logical_len 0 0 xs ≡ None → logical_len 0 0 (xs ++ ys) ≡ option_map (λ n. length xs + n) (logical_len 0 0 ys)
-logical_len-behind_lines [] ys whole none = logical_len-start ys
-logical_len-behind_lines (b ∷ xs) ys whole none =
+pub logical_len-after_lines : (xs ys : List ℕ) → IsWholeLines xs → logical_len 0 0 xs ≡ None → logical_len 0 0 (xs ++ ys) ≡ option_map (λ n. length xs + n) (logical_len 0 0 ys)
+logical_len-after_lines [] ys whole none = logical_len-start ys
+logical_len-after_lines (b ∷ xs) ys whole none =
     let held = b ∷ xs in
     let x = get_or (0 ∷ 0 ∷ held) (length held) 0 in
     let ten = whole_lines-last 0 0 held (omega arith) whole in
-    logical_len-goes_behind 0 0 held ys none ∙ ap (λ y. option_map (λ n. length held + n) (logical_len x y ys)) ten ∙ ap (option_map (λ n. length held + n)) (logical_len-after x ys)
+    logical_len-goes_after 0 0 held ys none ∙ ap (λ y. option_map (λ n. length held + n) (logical_len x y ys)) ten ∙ ap (option_map (λ n. length held + n)) (logical_len-after x ys)
 
 -- a `define` whose logical line goes on, with a further line taken in
 pub HoldsDefine-more : (held w rest : List ℕ) → HoldsDefine held (w ++ rest) → 0 < length w → EndsLine w rest → HoldsDefine (held ++ w) rest

@@ -19,15 +19,15 @@ AreCuts [] = Unit {0}
 AreCuts (p ∷ ps) = IsCut p (concat ps) × AreCuts ps
 
 -- where a text stands behind its tokens
-unfoldable pub mode_behind : Mode → List Token → Mode
-mode_behind mode [] = mode
-mode_behind mode (t ∷ ts) = mode_behind t.next_mode ts
+unfoldable pub mode_after : Mode → List Token → Mode
+mode_after mode [] = mode
+mode_after mode (t ∷ ts) = mode_after t.next_mode ts
 
 -- the tokens of pieces, each from where the one before it stands
 unfoldable pub tokens_of_pieces : Mode → List (List ℕ) → List Token
 tokens_of_pieces mode [] = []
 tokens_of_pieces mode (p ∷ ps) =
-    let ts = tokens_from mode 0 p in ts ++ tokens_of_pieces (mode_behind mode ts) ps
+    let ts = tokens_from mode 0 p in ts ++ tokens_of_pieces (mode_after mode ts) ps
 
 -- whether a string or a block comment stands open
 unfoldable pub is_open : Mode → Bool

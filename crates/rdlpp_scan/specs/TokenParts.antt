@@ -59,8 +59,8 @@ stop_of mode kind bytes = elim kind [
 ]
 
 -- where a text stands behind its first token, of which it is known where it stops
-unfoldable pub mode_behind : Kind → ℕ → List ℕ → Mode
-mode_behind kind stop bytes = elim kind [
+unfoldable pub mode_after : Kind → ℕ → List ℕ → Mode
+mode_after kind stop bytes = elim kind [
   | Str ↦ if slice_index bytes stop == 34 then Plain else InStr
   | BlockComment ↦ if nat_lt stop (length bytes) then Plain else InBlock
   | _ ↦ Plain

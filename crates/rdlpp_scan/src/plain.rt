@@ -47,7 +47,7 @@ pub fn plain_text(bytes: &[u8]) -> PlainText
         if stops_plain_text(&bytes[run.len..]) {
             return run;
         }
-        run = before_mark(bytes, behind_byte(bytes, run));
+        run = before_mark(bytes, after_byte(bytes, run));
     }
     run
 }
@@ -56,7 +56,7 @@ pub fn plain_text(bytes: &[u8]) -> PlainText
 fn before_mark(bytes: &[u8], from: PlainText) -> PlainText
     requires { IsPassed bytes.now from.len from.lines }
     ensures passed { IsPassed bytes.now result.len result.lines }
-    ensures behind { from.len ≤ result.len }
+    ensures following { from.len ≤ result.len }
 {
     let run = before_marked_block(bytes, from);
     if bytes.len() - run.len < BLOCK_BYTES {
@@ -73,7 +73,7 @@ fn before_mark(bytes: &[u8], from: PlainText) -> PlainText
 fn before_marked_block(bytes: &[u8], from: PlainText) -> PlainText
     requires { IsPassed bytes.now from.len from.lines }
     ensures passed { IsPassed bytes.now result.len result.lines }
-    ensures behind { from.len ≤ result.len }
+    ensures following { from.len ≤ result.len }
 {
     let mut run = from;
     while bytes.len() - run.len >= BLOCK_BYTES {
@@ -145,20 +145,20 @@ fn ends_in(block: u8x16) -> u64
 fn before_near_mark(bytes: &[u8], from: PlainText) -> PlainText
     requires { IsPassed bytes.now from.len from.lines }
     ensures passed { IsPassed bytes.now result.len result.lines }
-    ensures behind { from.len ≤ result.len }
+    ensures following { from.len ≤ result.len }
 {
     let mut run = from;
     while run.len < bytes.len() {
         if is_mark(bytes[run.len]) {
             return run;
         }
-        run = behind_byte(bytes, run);
+        run = after_byte(bytes, run);
     }
     run
 }
 
 // One more byte of ordinary text.
-fn behind_byte(bytes: &[u8], run: PlainText) -> PlainText
+fn after_byte(bytes: &[u8], run: PlainText) -> PlainText
     requires passed { IsPassed bytes.now run.len run.lines }
     requires some { run.len < length bytes.now }
     requires goes_on { stops_plain_text (drop run.len bytes.now) ≡ false }

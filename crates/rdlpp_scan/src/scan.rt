@@ -2,7 +2,7 @@
 ghost use Rattle.std.specs.Prelude.{◌≡◌, ◌+◌, ◌^◌, ◌≤◌, ◌<◌, ◌||◌, ◌==◌, length, slice_index, drop, false};
 ghost use Rattle.rdlpp_scan.specs.Bytes.{begins_perl, ends_block_comment};
 ghost use Rattle.rdlpp_scan.specs.Pieces.{CutTokens};
-ghost use Rattle.rdlpp_scan.specs.TokenParts.{kind_of, len_of, mark_kind, mode_behind, opened, plain_kind, stop_of};
+ghost use Rattle.rdlpp_scan.specs.TokenParts.{kind_of, len_of, mark_kind, mode_after, opened, plain_kind, stop_of};
 ghost use Rattle.rdlpp_scan.specs.Tokens.{first_place, string_stop, token_of};
 
 use crate::bytes::{
@@ -35,7 +35,7 @@ pub fn first_token(mode: Mode, bytes: &[u8]) -> Token
     // Scalars alone are handed on, and the token is built once: a copy of it costs more than most tokens.
     let kind = kind_of(mode, bytes);
     let stop = stop_of(mode, kind, bytes);
-    let next_mode = mode_behind(kind, stop, bytes);
+    let next_mode = mode_after(kind, stop, bytes);
     let len = len_of(kind, next_mode, stop);
     Token {
         kind,
@@ -193,9 +193,9 @@ fn stop_of(mode: Mode, kind: Kind, bytes: &[u8]) -> usize
 }
 
 // Where the text stands behind its first token, which stops at a place.
-#[tactic(auto, unfolding(crate::specs::TokenParts::mode_behind))]
-fn mode_behind(kind: Kind, stop: usize, bytes: &[u8]) -> Mode
-    ensures { result ≡ mode_behind kind stop bytes.now }
+#[tactic(auto, unfolding(crate::specs::TokenParts::mode_after))]
+fn mode_after(kind: Kind, stop: usize, bytes: &[u8]) -> Mode
+    ensures { result ≡ mode_after kind stop bytes.now }
 {
     match kind {
         Kind::Str if byte_at(bytes, stop) != b'"' => Mode::InStr,

@@ -10,7 +10,7 @@ use Rattle.rdlpp_scan.specs.declared.token.Mode.{Mode}
 use Rattle.rdlpp_scan.specs.declared.token.Mode.TheVariants.{Plain}
 use Rattle.rdlpp_table.specs.Table.{Macro, macro_named, without}
 use Rattle.rdlpp_table.specs.declared.limits.Limits.{Limits}
-use Rattle.rdlpp_meaning.specs.Meaning.{Checked, NameFault, Fine, Holds, Passage, Progress, Renumbered, TestFault, Test, behind_bytes, is_defined, is_else, leaves, name_test, opening_within, origin_line, renumbered, wants_defined}
+use Rattle.rdlpp_meaning.specs.Meaning.{Checked, NameFault, Fine, Holds, Passage, Progress, Renumbered, TestFault, Test, after_bytes, is_defined, is_else, leaves, name_test, opening_within, origin_line, renumbered, wants_defined}
 use Rattle.rdlpp_meaning.specs.Outcome.{fails}
 use Rattle.rdlpp_meaning.specs.Parts.{line_ends_of}
 use Rattle.rdlpp_meaning.specs.Resumed.{Live}
@@ -39,7 +39,7 @@ use Rattle.rdlpp_front.specs.SourceItems.{AtBare, AtPerl, IsDirective, IsNamed, 
 use Rattle.rdlpp_front.specs.SourceLeft.{source_left}
 use Rattle.rdlpp_front.specs.declared.item.Argument.{Argument}
 use Rattle.rdlpp_front.proofs.DirectivesLeft.{Branches, Ends, Opens as OpensWord, Turns, is_stray, opening_wants}
-use Rattle.rdlpp_front.proofs.TextLeft.{bad_line_left, given_text, late_line_left, line_behind, line_inside, line_text, renumbered_left}
+use Rattle.rdlpp_front.proofs.TextLeft.{bad_line_left, given_text, late_line_left, line_right_after, line_inside, line_text, renumbered_left}
 use Rattle.rdlpp_front.proofs.Insides.{held_entered, text_inside, usage_inside}
 use Rattle.rdlpp_front.proofs.NamedDirectives.{Bare, Begins, begins_within, begins_word, named_begins, stands_bare, undef_wants, word_within}
 use Rattle.rdlpp_state.specs.Calls.{SourcesCalled}
@@ -52,7 +52,7 @@ use Rattle.rdlpp_state.specs.Moves.{IsReady, LooksAtName}
 use Rattle.rdlpp_state.specs.OpenConditionals.{AreConditions, inner_below, inner_shown}
 use Rattle.rdlpp_state.specs.Pending.{PendingView, line_ends_pending, nothing_pending, origin_pending, pending_bytes}
 use Rattle.rdlpp_state.specs.Pieces.{lent_answer, step_answer}
-use Rattle.rdlpp_state.specs.Positions.{BehindLine, Unmarked}
+use Rattle.rdlpp_state.specs.Positions.{AfterLine, Unmarked}
 use Rattle.rdlpp_state.specs.Remaining.{file_state, inner_name, include_stack_left, include_stack_state, run_rules, state_of}
 use Rattle.rdlpp_state.specs.Standing.{InSources, Nowhere}
 use Rattle.rdlpp_state.specs.Steps.{IsOwn, UncutStep}
@@ -73,7 +73,7 @@ use Rattle.rdlpp_state.proofs.WorkFacts.{IsUsed, entered_unused, held_room, used
 -- bytes that have no LF are used, and other conditionals are open
 pub goes_on : {S R : Type 0} (g : Ghosts S R) (old new : EngineView S R) (v : ConditionsView) (len : ℕ) → IsReady old → IsBounded new → 0 < len → len ≤ length (held_of (inner_buffer old.files.include_stack))
     → new ≡ goes_past v len old → Continues old.limits (run_rules g old) g.unread old.table.macros old.conditions old.files.include_stack v len → UncutStep g old new (step_answer new None)
-unfolding goes_past behind_bytes
+unfolding goes_past after_bytes
 goes_on g old new v len ready bounded some inside becomes law =
     lends_source g old new ready [] old.marks old.table.macros v (with_inner (consumed_file len 0) old.files.include_stack) becomes bounded (used_bytes old.files.include_stack len 0 some inside) law (parts_used g.unread len 0 old.files.include_stack) (Nowhere refl (InSources ready.idle refl (Unmarked refl)))
 
@@ -230,7 +230,7 @@ module _ {S R : Type 0} (g : Ghosts S R) (old new : EngineView S R) (ready : IsR
     pub undef_named : (a : Argument) (name : List ℕ) → IsNamed Undef held (Some a) → name_of (Some a) ≡ Fine name
         → new ≡ record old { table = record old.table { macros = without name old.table.macros }; files = record old.files { include_stack = with_inner (consumed_file a.stop 0) old.files.include_stack } }
         → UncutStep g old new (step_answer new None)
-    unfolding behind_bytes
+    unfolding after_bytes
     undef_named a name named fine becomes =
         let begins = named_begins Undef held (Some a) undef_wants named in
         let within = begins_within Undef held _ _ begins some in
@@ -396,16 +396,16 @@ skipping e ready never = skipping_by e e.conditions.skipped e.conditions.open_no
 pub passes_text : {S R : Type 0} (g : Ghosts S R) (old new : EngineView S R) (sources : S) (w : List ℕ) (lines : ℕ) (include_stack : List (File R)) → IsReady old → IsBounded new → lines ≡ line_ends w → lines < 2 ^ 31
     → IsUsed old.files.include_stack include_stack → SourcesCalled g false false old.sources sources
     → new ≡ record old { pending = line_ends_pending lines; files = record old.files { include_stack = include_stack }; sources = sources }
-    → (g.has_known_texts old.sources → left_by g old old.table.macros old.conditions old.files.include_stack ≡ behind_bytes (line_ends_of w) (left_by g old old.table.macros old.conditions include_stack))
+    → (g.has_known_texts old.sources → left_by g old old.table.macros old.conditions old.files.include_stack ≡ after_bytes (line_ends_of w) (left_by g old old.table.macros old.conditions include_stack))
     → (g.has_known_texts old.sources → KeepsParts g.unread old.files.include_stack include_stack)
     → UncutStep g old new (step_answer new None)
-unfolding behind_bytes
+unfolding after_bytes
 passes_text {S} {R} g old new sources w lines include_stack ready bounded counted few used call becomes law parts =
     let pending : line_ends_of w ≡ pending_bytes (inner_name include_stack) (line_ends_pending lines) =
     line_ends_of-owed w ∙ (ap (λ n. replicate n 10) (sym counted) ∙ sym (pending_lines (inner_name include_stack) lines)) in
     subst (λ (e : EngineView S R). UncutStep g old e (Ok (Some []))) (sym becomes)
     (lends_piece g old ready [] (line_ends_pending lines) old.marks old.table.macros old.conditions include_stack sources (subst IsBounded becomes bounded) (lines_few lines _ few) used call
-    (λ t. law t ∙ ap (λ (x : List ℕ). behind_bytes x (left_by g old old.table.macros old.conditions include_stack)) pending) parts (Nowhere refl (InSources ready.idle refl (Unmarked refl))))
+    (λ t. law t ∙ ap (λ (x : List ℕ). after_bytes x (left_by g old old.table.macros old.conditions include_stack)) pending) parts (Nowhere refl (InSources ready.idle refl (Unmarked refl))))
 
 -- what is refused in front is `<%`, or a lone backquote
 pub perl_is : (mode : Mode) (held : List ℕ) (kind : FaultKind) → IsRefused mode held kind → kind ≡ fault.EmbeddedPerl → (token_of mode held).kind ≡ Perl
@@ -500,8 +500,8 @@ module _ {S R : Type 0} (g : Ghosts S R) (old new : EngineView S R) (ready : IsR
       passes_text g old new old.sources w lines (include_stack lines next) ready bounded counted (few_lines len lines inside counted)
       (used_after old.files.include_stack (entered_mode b next) len lines ready.include_stack (entered_unused b next) positive (rw (held_entered b next) inside)) (not_called g old.sources)
       (uses ∙ ap (passes_over len lines) enters)
-      (λ t. stretch.1 ∙ (ap (λ (n : ℕ). behind_bytes (line_ends_of w) (left_by g old old.table.macros old.conditions (include_stack n Plain))) (sym counted)
-      ∙ ap (λ (m : Mode). behind_bytes (line_ends_of w) (left_by g old old.table.macros old.conditions (include_stack lines m))) (sym stretch.0)))
+      (λ t. stretch.1 ∙ (ap (λ (n : ℕ). after_bytes (line_ends_of w) (left_by g old old.table.macros old.conditions (include_stack n Plain))) (sym counted)
+      ∙ ap (λ (m : Mode). after_bytes (line_ends_of w) (left_by g old old.table.macros old.conditions (include_stack lines m))) (sym stretch.0)))
       (λ t. parts_on g.unread old.files.include_stack (with_buffer (entered_mode b next) old.files.include_stack) (with_inner (consumed_file len lines) (with_buffer (entered_mode b next) old.files.include_stack)) (parts_mode g.unread next old.files.include_stack)
       (parts_used g.unread len lines (with_buffer (entered_mode b next) old.files.include_stack)))
 
@@ -610,7 +610,7 @@ module _ {R : Type 0} (limits : Limits) (rules : Rules) (unread : R → List ℕ
       → (inner_buffer include_stack).mode ≡ Plain → IsDirective Line (held_of (inner_buffer include_stack)) → inner_blanks include_stack ≡ true → LineGiven (drop 5 (held_of (inner_buffer include_stack))) given
       → from ≡ suc (inner_buffer include_stack).line → lines ≡ line_ends (take (5 + given.stop) (held_of (inner_buffer include_stack)))
       → include_stack_left limits rules unread macros v include_stack
-      ≡ behind_bytes (line_ends_of (take (5 + given.stop) (held_of (inner_buffer include_stack))) ++ origin_line rules given.name.bytes given.number)
+      ≡ after_bytes (line_ends_of (take (5 + given.stop) (held_of (inner_buffer include_stack))) ++ origin_line rules given.name.bytes given.number)
       (include_stack_left limits rules unread macros v (with_inner (renumbered_file from given.number given.name) (with_inner (consumed_file (5 + given.stop) lines) include_stack)))
   unfolding include_stack_state file_state source_left
   include_stack_line [] given from lines some ends plain is first has _ counted = absurd (none_held R some)
@@ -618,7 +618,7 @@ module _ {R : Type 0} (limits : Limits) (rules : Rules) (unread : R → List ℕ
       let held = held_of f.buffer in
       let s = include_stack_state limits macros v (f ∷ outer) in
       let r : Renumbered = record { number = given.number; name = given.name.bytes } in
-      let whole : line_len held ≡ 5 + given.stop = line_behind held some is ∙ ap (λ n. 5 + n) (sym has.stop) in
+      let whole : line_len held ≡ 5 + given.stop = line_right_after held some is ∙ ap (λ n. 5 + n) (sym has.stop) in
       let value : renumbered (drop 5 (line_text held)) ≡ Some r = ap renumbered (given_text held some is) ∙ has.value in
       let ws = around limits rules unread macros v f outer in
       let os = own_conditions f.conditions_below v in
@@ -627,9 +627,9 @@ module _ {R : Type 0} (limits : Limits) (rules : Rules) (unread : R → List ℕ
       let text : ℕ → List ℕ = λ n. line_ends_of (take n held) ++ origin_line rules given.name.bytes given.number in
       moved_live limits rules unread macros v live f (renumbered_file from given.number given.name (consumed_file (5 + given.stop) lines f)) outer macros (text (5 + given.stop))
       (renumbered_left rules unread ws os f s (record { some = some; ends = ends }) plain is r first value
-      ∙ (ap (λ (n : ℕ). behind_bytes (text n) (after n (line_ends (take n held)) (suc f.buffer.line))) whole
-      ∙ (ap (λ (k : ℕ). behind_bytes (text (5 + given.stop)) (after (5 + given.stop) k (suc f.buffer.line))) (sym counted)
-      ∙ ap (λ (m : ℕ). behind_bytes (text (5 + given.stop)) (after (5 + given.stop) lines m)) (sym here))))
+      ∙ (ap (λ (n : ℕ). after_bytes (text n) (after n (line_ends (take n held)) (suc f.buffer.line))) whole
+      ∙ (ap (λ (k : ℕ). after_bytes (text (5 + given.stop)) (after (5 + given.stop) k (suc f.buffer.line))) (sym counted)
+      ∙ ap (λ (m : ℕ). after_bytes (text (5 + given.stop)) (after (5 + given.stop) lines m)) (sym here))))
       (ends_mid_line_consumed unread f (5 + given.stop) lines) refl refl
 
   -- a `line` that is given anything else
@@ -687,7 +687,7 @@ pub take_renumbered : {S R : Type 0} (g : Ghosts S R) (old new : EngineView S R)
     → 0 < length (held_of (inner_buffer old.files.include_stack)) → (inner_buffer old.files.include_stack).mode ≡ Plain → IsDirective Line (held_of (inner_buffer old.files.include_stack))
     → inner_blanks old.files.include_stack ≡ true → LineGiven (drop 5 (held_of (inner_buffer old.files.include_stack))) given → 5 + given.stop ≤ length (held_of (inner_buffer old.files.include_stack))
     → Renumbers given old new → UncutStep g old new (step_answer new None)
-unfolding behind_bytes
+unfolding after_bytes
 take_renumbered {S} {R} g old new given ready live bounded some plain is first has inside d =
     let inner = inner_facts old.files ready.include_stack ready.files in
     let held = held_of (inner_buffer old.files.include_stack) in
@@ -711,8 +711,8 @@ take_renumbered {S} {R} g old new given ready live bounded some plain is first h
     (shown_used old.files.include_stack used (renumbered_file from given.number given.name) (λ f. refl) (used_bytes old.files.include_stack len d.lines (omega arith) inside))
     (not_called g old.sources)
     (λ t. include_stack_line old.limits (run_rules g old) g.unread old.table.macros old.conditions live old.files.include_stack given from d.lines some inner.ends plain is first has (omega arith) d.counted
-    ∙ ap (λ (x : List ℕ). behind_bytes x (left_by g old old.table.macros old.conditions include_stack)) (sym bytes))
-    (λ t. parts_on g.unread old.files.include_stack used include_stack (parts_used g.unread len d.lines old.files.include_stack) (parts_shown g.unread from given.number given.name used)) (Nowhere refl (InSources ready.idle refl (BehindLine d.lines refl))))
+    ∙ ap (λ (x : List ℕ). after_bytes x (left_by g old old.table.macros old.conditions include_stack)) (sym bytes))
+    (λ t. parts_on g.unread old.files.include_stack used include_stack (parts_used g.unread len d.lines old.files.include_stack) (parts_shown g.unread from given.number given.name used)) (Nowhere refl (InSources ready.idle refl (AfterLine d.lines refl))))
 
 -- what remains at a bad `line`
 module _ {S R : Type 0} (g : Ghosts S R) (e : EngineView S R) (ready : IsReady e) (live : e.conditions.skipped ≡ None) (some : 0 < length (held_of (inner_buffer e.files.include_stack)))

@@ -5,10 +5,10 @@ use Rattle.rdlpp_source.specs.declared.sources.Sources.{Ghosts}
 use Rattle.rdlpp_meaning.specs.declared.fault.Fault.{Fault}
 use Rattle.rdlpp_meaning.specs.declared.fault.FaultKind.{FaultKind}
 use Rattle.rdlpp_meaning.specs.declared.fault.FaultKind.TheVariants as fault
-use Rattle.rdlpp_meaning.specs.Meaning.{Passage, behind_bytes, leaves, outcome}
+use Rattle.rdlpp_meaning.specs.Meaning.{Passage, after_bytes, leaves, outcome}
 use Rattle.rdlpp_meaning.specs.Outcome.{Report, report_of, Outcome, fails, gives}
 use Rattle.rdlpp_meaning.specs.State.{fault_at}
-use Rattle.rdlpp_meaning.proofs.Outcomes.{outcome-behind_bytes, outcome-leaves}
+use Rattle.rdlpp_meaning.proofs.Outcomes.{outcome-after_bytes, outcome-leaves}
 use Rattle.rdlpp_read.specs.Buffer.{Slides, reading_line_of}
 use Rattle.rdlpp_read.specs.Calls.{SourcesRead}
 use Rattle.rdlpp_read.specs.Files.{inner_buffer, with_buffer}
@@ -146,7 +146,7 @@ module _ {S R : Type 0} (g : Ghosts S R) (old new : EngineView S R) (free : old.
   pub walks_lent : (bytes : List ℕ) → new ≡ record old { pending = new.pending; marks = new.marks; table = new.table; conditions = new.conditions; files = new.files; sources = new.sources; expansion = new.expansion }
       → (new.table.most_bytes ≡ old.table.most_bytes) × (new.table.most_macros ≡ old.table.most_macros)
       → SourcesCalled g false false old.sources new.sources
-      → (g.has_known_texts old.sources → text_of g old ≡ behind_bytes bytes (text_of g new))
+      → (g.has_known_texts old.sources → text_of g old ≡ after_bytes bytes (text_of g new))
       → work_left new < work_left old → KeepsStores g old new → StandsIn g old new bytes (position_of new) → UncutStep g old new (Ok (Some bytes))
   unfolding has_met no_len all_of may_follow
   walks_lent bytes becomes room call text falls keeps from =
@@ -166,7 +166,7 @@ module _ {S R : Type 0} (g : Ghosts S R) (old new : EngineView S R) (free : old.
         ends = λ e. absurd (cc);
         failed = λ met. absurd (let no : false ≡ true = rw free at met in cc);
         call = rw free call;
-        answers = λ _ t. left_open g old free open_ ∙ (ap outcome (text t) ∙ (outcome-behind_bytes bytes (text_of g new) ∙ rw (left_open g new none still) refl));
+        answers = λ _ t. left_open g old free open_ ∙ (ap outcome (text t) ∙ (outcome-after_bytes bytes (text_of g new) ∙ rw (left_open g new none still) refl));
         text = λ _ _ _ t. record { piece = bytes; lent = refl; text = text t };
         reads = λ met. absurd (let no : false ≡ true = rw free at met in cc);
         halts = λ _ _. tt;
@@ -415,14 +415,14 @@ told_over g (Err f) a b p new has_known_texts = has_known_texts
 
 -- where no byte was lent, the same remains
 silent_text : (quota : ℕ) (old new : Passage) → LendsText (all_of quota) [] old new → old ≡ new
-unfolding all_of behind_bytes
-silent_text quota old new lends = lends.text ∙ ap (λ (x : List ℕ). behind_bytes x new) (sym lends.lent)
+unfolding all_of after_bytes
+silent_text quota old new lends = lends.text ∙ ap (λ (x : List ℕ). after_bytes x new) (sym lends.lent)
 
 -- what an answer leaves, behind such a part
-halts_behind : {S R : Type 0} (g : Ghosts S R) (n m : ℕ) (answer : Result (Option (List ℕ)) Report) (old mid new : EngineView S R) → IsSilent g n old mid → Halts g m answer mid new → Halts g (n + m) answer old new
-halts_behind g n m (Ok (Some bytes)) old mid new first halts = tt
-halts_behind g n m (Ok None) old mid new first halts = halts
-halts_behind g n m (Err f) old mid new first halts = record {
+halts_after : {S R : Type 0} (g : Ghosts S R) (n m : ℕ) (answer : Result (Option (List ℕ)) Report) (old mid new : EngineView S R) → IsSilent g n old mid → Halts g m answer mid new → Halts g (n + m) answer old new
+halts_after g n m (Ok (Some bytes)) old mid new first halts = tt
+halts_after g n m (Ok None) old mid new first halts = halts
+halts_after g n m (Err f) old mid new first halts = record {
   at = halts.at;
   reached = reaches_on g old mid halts.at first.reaches halts.reached;
   few = parts_both _ _ _ n m (length-append first.reaches.between halts.reached.between) first.few halts.few;
@@ -433,10 +433,10 @@ halts_behind g n m (Err f) old mid new first halts = record {
 }
 
 -- where bytes that are lent stand, behind such a part
-lends_behind : {S R : Type 0} (g : Ghosts S R) (n m : ℕ) (old mid new : EngineView S R) (bytes : List ℕ) (a b : ℕ) → (reaches : Reaches g old mid) → length reaches.between ≤ n → (g.has_known_texts old.sources → text_of g old ≡ text_of g mid) → (g.has_known_texts old.sources → g.has_known_texts mid.sources)
+lends_after : {S R : Type 0} (g : Ghosts S R) (n m : ℕ) (old mid new : EngineView S R) (bytes : List ℕ) (a b : ℕ) → (reaches : Reaches g old mid) → length reaches.between ≤ n → (g.has_known_texts old.sources → text_of g old ≡ text_of g mid) → (g.has_known_texts old.sources → g.has_known_texts mid.sources)
     → LendsWhere g m (all_of b) mid new bytes → LendsWhere g (n + m) (all_of a) old new bytes
 unfolding all_of
-lends_behind g n m old mid new bytes a b reaches few text has_known_texts l = record { at = l.at; reached = reaches_on g old mid l.at reaches l.reached; few = parts_both _ _ _ n m (length-append reaches.between l.reached.between) few l.few; text = λ t. text t ∙ l.text (has_known_texts t); after = l.after; becomes = l.becomes; piece = l.piece; lent = l.lent; stands = l.stands }
+lends_after g n m old mid new bytes a b reaches few text has_known_texts l = record { at = l.at; reached = reaches_on g old mid l.at reaches l.reached; few = parts_both _ _ _ n m (length-append reaches.between l.reached.between) few l.few; text = λ t. text t ∙ l.text (has_known_texts t); after = l.after; becomes = l.becomes; piece = l.piece; lent = l.lent; stands = l.stands }
 
 -- such a part, and then a step, are one step
 pub silent_then : {S R : Type 0} (g : Ghosts S R) (n m : ℕ) (old mid new : EngineView S R) (answer : Result (Option (List ℕ)) Report) →
@@ -469,14 +469,14 @@ silent_then g n m old mid new answer first then_ =
       reads = λ met.
           let reads = then_.reads (sym (same is_call_failed) ∙ met) in
           record { open_ = first.open_; still = reads.still; at = reads.at; stood = reads.stood; text = λ t. first.text t ∙ reads.text (first.call.has_known_texts t) };
-      halts = λ _ _. halts_behind g n m answer old mid new first (then_.halts first.still first.stays);
+      halts = λ _ _. halts_after g n m answer old mid new first (then_.halts first.still first.stays);
       falls = λ bytes is. (let less = then_.falls bytes is in let most = first.work in omega arith);
       lends = λ bytes is. (first.open_, (then_.lends bytes is).1);
       quota = (let one = first.quota in let two = then_.quota in omega arith);
       most_bytes = then_.most_bytes ∙ first.most_bytes;
       most_macros = then_.most_macros ∙ first.most_macros;
       bounded = then_.bounded;
-      stands = λ _ _ bytes is. lends_behind g n m old mid new bytes old.quota mid.quota first.reaches first.few (first.text) (first.call.has_known_texts) (then_.stands first.still first.stays bytes is);
+      stands = λ _ _ bytes is. lends_after g n m old mid new bytes old.quota mid.quota first.reaches first.few (first.text) (first.call.has_known_texts) (then_.stands first.still first.stays bytes is);
       lets_go = λ h. then_.lets_go (first.keeps.lets_go h);
       stores = λ t h. then_.stores (first.call.has_known_texts t) (first.keeps.stores t h);
     }

@@ -17,7 +17,7 @@ use Rattle.rdlpp_table.specs.declared.fault.DefineKind.{DefineKind}
 use Rattle.rdlpp_table.specs.declared.fault.DefineKind.TheVariants as define
 use Rattle.rdlpp_meaning.specs.declared.fault.FaultKind.{FaultKind}
 use Rattle.rdlpp_meaning.specs.declared.fault.FaultKind.TheVariants as fault
-use Rattle.rdlpp_meaning.specs.Meaning.{Passage, behind_bytes, goes_on, leaves}
+use Rattle.rdlpp_meaning.specs.Meaning.{Passage, after_bytes, goes_on, leaves}
 use Rattle.rdlpp_meaning.specs.Outcome.{Report, fails}
 use Rattle.rdlpp_meaning.specs.Parts.{line_ends_of}
 use Rattle.rdlpp_meaning.specs.Profile.{define_fault, rules_of, with_fault}
@@ -98,16 +98,16 @@ held_part b len used inside =
     ap (λ k. take k (drop b.at b.window)) same ∙ part_slice b.window b.at len b.accepted within
 
 -- nothing that is pending is before nothing
-pub drained_behind : (name : List ℕ) (pending : PendingView) (p : Passage) → pending ≡ nothing_pending → behind_bytes (pending_bytes name pending) p ≡ p
-unfolding nothing_pending pending_bytes origin_bytes behind_bytes
-drained_behind name pending p none = rw none refl
+pub drained_after : (name : List ℕ) (pending : PendingView) (p : Passage) → pending ≡ nothing_pending → after_bytes (pending_bytes name pending) p ≡ p
+unfolding nothing_pending pending_bytes origin_bytes after_bytes
+drained_after name pending p none = rw none refl
 
 -- what remains of the text where nothing is pending
 pub text_drained : {S R : Type 0} (g : Ghosts S R) (e : EngineView S R) → e.pending ≡ nothing_pending → e.expansion.opens ≡ []
     → text_of g e ≡ include_stack_left e.limits (run_rules g e) g.unread e.table.macros e.conditions e.files.include_stack
 text_drained g e none idle =
     text_idle g e idle
-    ∙ drained_behind (inner_name e.files.include_stack) e.pending (include_stack_left e.limits (run_rules g e) g.unread e.table.macros e.conditions e.files.include_stack) none
+    ∙ drained_after (inner_name e.files.include_stack) e.pending (include_stack_left e.limits (run_rules g e) g.unread e.table.macros e.conditions e.files.include_stack) none
 
 -- nothing that is pending can be counted
 pub drained_few : (pending : PendingView) → pending ≡ nothing_pending → pending_pieces pending < 2 ^ 31
@@ -132,22 +132,22 @@ left_by g e macros v include_stack = include_stack_left e.limits (run_rules g e)
 pub lends_by : {S R : Type 0} (g : Ghosts S R) (old : EngineView S R) (ready : IsReady old) (bytes : List ℕ) (pending : PendingView) (marks : MarksView) (macros : List Macro) (v : ConditionsView) (include_stack : List (File R)) (sources : S)
     → let after = record old { pending = pending; marks = marks; table = record old.table { macros = macros }; conditions = v; files = record old.files { include_stack = include_stack }; sources = sources } in
     IsBounded after → work_left after < work_left old → SourcesCalled g false false old.sources sources
-    → (g.has_known_texts old.sources → left_by g old old.table.macros old.conditions old.files.include_stack ≡ behind_bytes bytes (behind_bytes (pending_bytes (inner_name include_stack) pending) (left_by g old macros v include_stack)))
+    → (g.has_known_texts old.sources → left_by g old old.table.macros old.conditions old.files.include_stack ≡ after_bytes bytes (after_bytes (pending_bytes (inner_name include_stack) pending) (left_by g old macros v include_stack)))
     → (g.has_known_texts old.sources → AreParts g.unread (g.catalog old.sources) Unit old.files.include_stack → AreParts g.unread (g.catalog old.sources) Unit include_stack)
     → StandsIn g old after bytes (position_of after) → UncutStep g old after (Ok (Some bytes))
 lends_by g old ready bytes pending marks macros v include_stack sources bounded falls call law parts from =
     let after = record old { pending = pending; marks = marks; table = record old.table { macros = macros }; conditions = v; files = record old.files { include_stack = include_stack }; sources = sources } in
     walks_lent g old after ready.free ready.open_ bounded bytes refl (refl, refl) call
     (λ t. text_drained g old ready.pending ready.idle
-    ∙ (law t ∙ (ap (λ (c : Catalog). behind_bytes bytes (behind_bytes (pending_bytes (inner_name include_stack) pending) (include_stack_left old.limits (source_rules c old.limits old.origins) g.unread macros v include_stack))) (sym call.catalog)
-    ∙ ap (behind_bytes bytes) (sym (text_idle g after ready.idle)))))
+    ∙ (law t ∙ (ap (λ (c : Catalog). after_bytes bytes (after_bytes (pending_bytes (inner_name include_stack) pending) (include_stack_left old.limits (source_rules c old.limits old.origins) g.unread macros v include_stack))) (sym call.catalog)
+    ∙ ap (after_bytes bytes) (sym (text_idle g after ready.idle)))))
     falls (keeps_sources g old pending marks macros v include_stack sources ready.free ready.idle call.catalog parts) from
 
 -- bytes of the innermost source are used, and a piece is lent
 pub lends_piece : {S R : Type 0} (g : Ghosts S R) (old : EngineView S R) (ready : IsReady old) (bytes : List ℕ) (pending : PendingView) (marks : MarksView) (macros : List Macro) (v : ConditionsView) (include_stack : List (File R)) (sources : S)
     → let after = record old { pending = pending; marks = marks; table = record old.table { macros = macros }; conditions = v; files = record old.files { include_stack = include_stack }; sources = sources } in
     IsBounded after → pending_pieces pending < 2 ^ 31 → IsUsed old.files.include_stack include_stack → SourcesCalled g false false old.sources sources
-    → (g.has_known_texts old.sources → left_by g old old.table.macros old.conditions old.files.include_stack ≡ behind_bytes bytes (behind_bytes (pending_bytes (inner_name include_stack) pending) (left_by g old macros v include_stack)))
+    → (g.has_known_texts old.sources → left_by g old old.table.macros old.conditions old.files.include_stack ≡ after_bytes bytes (after_bytes (pending_bytes (inner_name include_stack) pending) (left_by g old macros v include_stack)))
     → (g.has_known_texts old.sources → KeepsParts g.unread old.files.include_stack include_stack)
     → StandsIn g old after bytes (position_of after) → UncutStep g old after (Ok (Some bytes))
 lends_piece g old ready bytes pending marks macros v include_stack sources bounded few used call law parts from =
@@ -158,13 +158,13 @@ lends_piece g old ready bytes pending marks macros v include_stack sources bound
 pub lends_source : {S R : Type 0} (g : Ghosts S R) (old new : EngineView S R) (ready : IsReady old) (bytes : List ℕ) (marks : MarksView) (macros : List Macro) (v : ConditionsView) (include_stack : List (File R))
     → new ≡ record old { marks = marks; table = record old.table { macros = macros }; conditions = v; files = record old.files { include_stack = include_stack } }
     → IsBounded new → IsUsed old.files.include_stack include_stack
-    → left_by g old old.table.macros old.conditions old.files.include_stack ≡ behind_bytes bytes (left_by g old macros v include_stack)
+    → left_by g old old.table.macros old.conditions old.files.include_stack ≡ after_bytes bytes (left_by g old macros v include_stack)
     → KeepsParts g.unread old.files.include_stack include_stack
     → (let after = record old { marks = marks; table = record old.table { macros = macros }; conditions = v; files = record old.files { include_stack = include_stack } } in StandsIn g old after bytes (position_of after)) → UncutStep g old new (Ok (Some bytes))
 lends_source {S} {R} g old new ready bytes marks macros v include_stack becomes bounded used law parts from =
     subst (λ (e : EngineView S R). UncutStep g old e (Ok (Some bytes))) (sym becomes)
     (lends_piece g old ready bytes old.pending marks macros v include_stack old.sources (subst IsBounded becomes bounded) (drained_few old.pending ready.pending) used (not_called g old.sources)
-    (λ t. law ∙ ap (behind_bytes bytes) (sym (drained_behind (inner_name include_stack) old.pending (left_by g old macros v include_stack) ready.pending))) (λ t. parts) from)
+    (λ t. law ∙ ap (after_bytes bytes) (sym (drained_after (inner_name include_stack) old.pending (left_by g old macros v include_stack) ready.pending))) (λ t. parts) from)
 
 -- what is refused in front isn't a failed read, a failed write or want of memory
 pub refused_kind : (mode : Mode) (held : List ℕ) (kind : FaultKind) → IsRefused mode held kind → IsOwn kind
@@ -371,7 +371,7 @@ module _ {S R : Type 0} (g : Ghosts S R) (old mid new : EngineView S R) (len : �
     (call : SourcesCalled g false false old.sources mid.sources) where
   -- it is accepted
   accepted_steps : 7 ≤ len → len ≤ length (held_of (inner_buffer mid.files.include_stack)) → length (held_of (inner_buffer mid.files.include_stack)) < 2 ^ 31 → Defines len mid new → UncutStep g old new (step_answer new None)
-  unfolding source_rules rules_of with_fault behind_bytes
+  unfolding source_rules rules_of with_fault after_bytes
   accepted_steps wide inside few d =
       let inner = inner_facts old.files ready.include_stack ready.files in
       let b = inner_buffer mid.files.include_stack in
@@ -398,7 +398,7 @@ module _ {S R : Type 0} (g : Ghosts S R) (old mid new : EngineView S R) (len : �
       (used_after old.files.include_stack b len d.lines ready.include_stack holds.extends.unused (omega arith) inside) call
       (λ t. include_stack_defined old.limits (run_rules g old) g.unread old.table.macros old.conditions live (g.has_known_texts old.sources) t old.files.include_stack b len d.lines d.macros
       some inner.ends plain define holds (ap with_fault accepted) counted
-      ∙ ap (λ (x : List ℕ). behind_bytes x (left_by g old d.macros old.conditions after)) pending)
+      ∙ ap (λ (x : List ℕ). after_bytes x (left_by g old d.macros old.conditions after)) pending)
       (λ t. parts_on g.unread old.files.include_stack (with_buffer b old.files.include_stack) after (parts_slid (g.has_known_texts old.sources) Unit g.unread b old.files.include_stack ready.include_stack (slides-told (g.has_known_texts old.sources) (g.has_known_texts old.sources) Unit (IsExactLine (line.Whole len)) g.unread (inner_buffer old.files.include_stack) b (λ x. x) (λ _ e. cc) holds.slides) t)
       (parts_used g.unread len d.lines (with_buffer b old.files.include_stack))) (Nowhere refl (InSources ready.idle refl (Unmarked refl))))
 
@@ -435,9 +435,9 @@ defined_placed len old new (Some (Pending n)) reads = absurd reads
 defined_placed len old new (Some End) reads = absurd reads
 
 -- bytes in front of bytes
-pub behind_twice : (x y : List ℕ) (p : Passage) → behind_bytes (x ++ y) p ≡ behind_bytes x (behind_bytes y p)
-unfolding behind_bytes
-behind_twice x y p = ap (λ (xs : List ℕ). record { bytes = xs; fault = p.fault; after = p.after }) (append_assoc x y p.bytes)
+pub after_twice : (x y : List ℕ) (p : Passage) → after_bytes (x ++ y) p ≡ after_bytes x (after_bytes y p)
+unfolding after_bytes
+after_twice x y p = ap (λ (xs : List ℕ). record { bytes = xs; fault = p.fault; after = p.after }) (append_assoc x y p.bytes)
 
 -- what is pending is lent
 pub take_pending : {S R : Type 0} (g : Ghosts S R) (old new : EngineView S R) (piece : PendingPiece) (pending : PendingView) → old.kept ≡ None → old.phase ≡ Open → IsBounded new
@@ -451,7 +451,7 @@ take_pending {S} {R} g old new piece pending free open_ bounded takes becomes =
     let rest = goes_on (texts_left (run_rules g old) (state_of old) old.table.macros old.expansion) (λ after. left_by g old old.table.macros old.conditions old.files.include_stack) in
     subst (λ (e : EngineView S R). UncutStep g old e (lent_answer e (Pending piece))) (sym becomes)
     (walks_lent g old after free open_ (subst IsBounded becomes bounded) bytes refl (refl, refl) (not_called g old.sources)
-    (λ t. ap (λ (x : List ℕ). behind_bytes x rest) takes.bytes ∙ behind_twice bytes (pending_bytes name pending) rest)
+    (λ t. ap (λ (x : List ℕ). after_bytes x rest) takes.bytes ∙ after_twice bytes (pending_bytes name pending) rest)
     (pending_falls old after refl refl refl takes.fewer) (keeps_pending g old pending marks) (AtPending piece pending takes refl (pending_position old pending piece takes free open_) refl))
 
 -- and it is a place
@@ -644,8 +644,8 @@ drop_min (x ∷ xs) (suc m) zero e = absurd (omega arith)
 drop_min (x ∷ xs) (suc m) (suc k) e = drop_min xs m k (omega arith)
 
 -- what stands behind the word of a `define`
-pub behind_word : (line : List ℕ) (len m : ℕ) → length line ≡ len → m ≡ min len 7 → take (length line - m) (drop m line) ≡ drop 7 line
-behind_word line len m wide least =
+pub after_word : (line : List ℕ) (len m : ℕ) → length line ≡ len → m ≡ min len 7 → take (length line - m) (drop m line) ≡ drop 7 line
+after_word line len m wide least =
     take_rest line m ∙ drop_min line m 7 (least ∙ ap (λ n. min n 7) (sym wide))
 
 -- what a `define` gives of the same things

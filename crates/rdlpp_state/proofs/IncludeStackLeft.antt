@@ -11,7 +11,7 @@ use Rattle.rdlpp_scan.specs.declared.token.Mode.{Mode}
 use Rattle.rdlpp_scan.specs.declared.token.Mode.TheVariants.{Plain}
 use Rattle.rdlpp_table.specs.Table.{Macro, macro_named, without}
 use Rattle.rdlpp_table.specs.declared.limits.Limits.{Limits}
-use Rattle.rdlpp_meaning.specs.Meaning.{Checked, NameFault, Fine, Holds, Passage, Progress, TestFault, Test, behind_bytes, in_conditional, is_else, leaves, name_test, opening_within, past_conditional, wants_defined}
+use Rattle.rdlpp_meaning.specs.Meaning.{Checked, NameFault, Fine, Holds, Passage, Progress, TestFault, Test, after_bytes, in_conditional, is_else, leaves, name_test, opening_within, past_conditional, wants_defined}
 use Rattle.rdlpp_meaning.specs.Opened.{Waiting, unwound}
 use Rattle.rdlpp_meaning.specs.Outcome.{fails, gives}
 use Rattle.rdlpp_meaning.specs.Parts.{line_ends_of}
@@ -36,7 +36,7 @@ use Rattle.rdlpp_front.proofs.DirectivesLeft.{Counts, Turns, branched, closed_le
 use Rattle.rdlpp_front.proofs.TextLeft.{broken_left, define_cut_left, define_left, define_long_left, define_refused_left, ended_left, filled_left, held_left, holds_define, refused_left, text_left as text_law, undefined_left}
 use Rattle.rdlpp_front.proofs.NamedDirectives.{Begins, undef_left, undef_refused_left}
 use Rattle.rdlpp_state.specs.OpenConditionals.{AreBelow, AreConditions, inner_below, inner_shown, outer_open}
-use Rattle.rdlpp_state.specs.Remaining.{ending_behind, file_state, include_stack_left, include_stack_state, waiting_around}
+use Rattle.rdlpp_state.specs.Remaining.{ending_after, file_state, include_stack_left, include_stack_state, waiting_around}
 
 -- Where the innermost source stands among its conditionals.
 
@@ -227,7 +227,7 @@ module _ {R : Type 0} (limits : Limits) (rules : Rules) (unread : R → List ℕ
   -- the sources that wait are the same where the innermost ends as it did
   pub waiting_same : (os : List Progress) (f g : File R) (outer : List (File R)) → ends_mid_line_after g.ends_mid_line (text_left unread g.buffer) ≡ ends_mid_line_after f.ends_mid_line (text_left unread f.buffer)
       → g.include_line ≡ f.include_line → waiting_around limits rules unread os g outer ≡ waiting_around limits rules unread os f outer
-  unfolding waiting_around ending_behind
+  unfolding waiting_around ending_after
   waiting_same os f g [] ends_mid_line line = refl
   waiting_same os f g (around ∷ outer) ends_mid_line line = rw (ends_mid_line, line) refl
 
@@ -239,18 +239,18 @@ module _ {R : Type 0} (limits : Limits) (rules : Rules) (unread : R → List ℕ
     -- what remains of the innermost source, where another one remains behind a move of it
     pub moved : (f g : File R) (outer : List (File R)) (now : List Macro) (x : List ℕ)
         → source_left rules unread (around f outer) (place_of f.conditions_below v) f (include_stack_state limits macros v (f ∷ outer))
-        ≡ behind_bytes x (source_left rules unread (around f outer) (place_of f.conditions_below v) g (include_stack_state limits now v (g ∷ outer)))
+        ≡ after_bytes x (source_left rules unread (around f outer) (place_of f.conditions_below v) g (include_stack_state limits now v (g ∷ outer)))
         → ends_mid_line_after g.ends_mid_line (text_left unread g.buffer) ≡ ends_mid_line_after f.ends_mid_line (text_left unread f.buffer) → g.include_line ≡ f.include_line
         → g.conditions_below ≡ f.conditions_below
-        → include_stack_left limits rules unread macros v (f ∷ outer) ≡ behind_bytes x (include_stack_left limits rules unread now v (g ∷ outer))
+        → include_stack_left limits rules unread macros v (f ∷ outer) ≡ after_bytes x (include_stack_left limits rules unread now v (g ∷ outer))
     unfolding include_stack_left
     moved f g outer now x law ends_mid_line line below =
         let s = include_stack_state limits now v (g ∷ outer) in
         let os = v.open_now in
         law
-        ∙ ap (λ (ws : List Waiting). behind_bytes x (source_left rules unread ws (place_of f.conditions_below v) g s))
+        ∙ ap (λ (ws : List Waiting). after_bytes x (source_left rules unread ws (place_of f.conditions_below v) g s))
         (sym (waiting_same (outer_open f.conditions_below os) f g outer ends_mid_line line))
-        ∙ ap (λ (n : ℕ). behind_bytes x (source_left rules unread (waiting_around limits rules unread (outer_open n os) g outer) (place_of n v) g s)) (sym below)
+        ∙ ap (λ (n : ℕ). after_bytes x (source_left rules unread (waiting_around limits rules unread (outer_open n os) g outer) (place_of n v) g s)) (sym below)
 
     -- one broken token without bytes is a fault wherever it stands
     broken_anywhere : (place : Place) (f : File R) (outer : List (File R)) (b : Breach) (line : ℕ) → tokens_left unread f.buffer ≡ only_broken b line
@@ -281,21 +281,21 @@ module _ {R : Type 0} (limits : Limits) (rules : Rules) (unread : R → List ℕ
       -- a move in live text
       pub moved_live : (f g : File R) (outer : List (File R)) (now : List Macro) (x : List ℕ)
           → source_left rules unread (around f outer) (Live (own_conditions f.conditions_below v)) f (include_stack_state limits macros v (f ∷ outer))
-          ≡ behind_bytes x (source_left rules unread (around f outer) (Live (own_conditions f.conditions_below v)) g (include_stack_state limits now v (g ∷ outer)))
+          ≡ after_bytes x (source_left rules unread (around f outer) (Live (own_conditions f.conditions_below v)) g (include_stack_state limits now v (g ∷ outer)))
           → ends_mid_line_after g.ends_mid_line (text_left unread g.buffer) ≡ ends_mid_line_after f.ends_mid_line (text_left unread f.buffer) → g.include_line ≡ f.include_line
           → g.conditions_below ≡ f.conditions_below
-          → include_stack_left limits rules unread macros v (f ∷ outer) ≡ behind_bytes x (include_stack_left limits rules unread now v (g ∷ outer))
+          → include_stack_left limits rules unread macros v (f ∷ outer) ≡ after_bytes x (include_stack_left limits rules unread now v (g ∷ outer))
       moved_live f g outer now x law ends_mid_line line below =
           moved f g outer now x
           (subst (λ (place : Place). source_left rules unread (around f outer) place f (include_stack_state limits macros v (f ∷ outer))
-          ≡ behind_bytes x (source_left rules unread (around f outer) place g (include_stack_state limits now v (g ∷ outer)))) (sym (live_place f.conditions_below v live)) law)
+          ≡ after_bytes x (source_left rules unread (around f outer) place g (include_stack_state limits now v (g ∷ outer)))) (sym (live_place f.conditions_below v live)) law)
           ends_mid_line line below
 
       -- the text that is copied
       pub include_stack_text : (include_stack : List (File R)) (len lines : ℕ) (next : Mode) → 0 < length (held_of (inner_buffer include_stack)) → EndsHeld (inner_buffer include_stack)
           → IsText (inner_buffer include_stack).mode (held_of (inner_buffer include_stack)) len next → lines ≡ line_ends (take len (held_of (inner_buffer include_stack)))
           → include_stack_left limits rules unread macros v include_stack
-          ≡ behind_bytes (take len (held_of (inner_buffer include_stack))) (include_stack_left limits rules unread macros v (with_inner (consumed_file len lines) (with_buffer (entered_mode (inner_buffer include_stack) next) include_stack)))
+          ≡ after_bytes (take len (held_of (inner_buffer include_stack))) (include_stack_left limits rules unread macros v (with_inner (consumed_file len lines) (with_buffer (entered_mode (inner_buffer include_stack) next) include_stack)))
       unfolding include_stack_state file_state
       include_stack_text [] len lines next some ends text counted = absurd (none_held R some)
       include_stack_text (f ∷ outer) len lines next some ends text counted =
@@ -330,7 +330,7 @@ module _ {R : Type 0} (limits : Limits) (rules : Rules) (unread : R → List ℕ
       pub include_stack_undef : (include_stack : List (File R)) (given : Option (List ℕ)) (len : ℕ) → 0 < length (held_of (inner_buffer include_stack)) → EndsHeld (inner_buffer include_stack)
           → (inner_buffer include_stack).mode ≡ Plain → Begins Undef (held_of (inner_buffer include_stack)) given len → (name : List ℕ) → given_name given ≡ Fine name
           → include_stack_left limits rules unread macros v include_stack ≡ include_stack_left limits rules unread (without name macros) v (with_inner (consumed_file len 0) include_stack)
-      unfolding include_stack_state file_state behind_bytes
+      unfolding include_stack_state file_state after_bytes
       include_stack_undef [] given len some ends plain begins name fine = absurd (none_held R some)
       include_stack_undef (f ∷ outer) given len some ends plain begins name fine =
           moved_live f (consumed_file len 0 f) outer (without name macros) []
@@ -354,7 +354,7 @@ module _ {R : Type 0} (limits : Limits) (rules : Rules) (unread : R → List ℕ
             → (inner_buffer include_stack).mode ≡ Plain → IsDirective Define (held_of (inner_buffer include_stack)) → HoldsLine has_known_texts unread (line.Whole len) (inner_buffer include_stack) new
             → rules.define macros (drop 7 (take len (held_of new))) ≡ Accepted now → lines ≡ line_ends (take len (held_of new))
             → include_stack_left limits rules unread macros v include_stack
-            ≡ behind_bytes (line_ends_of (take len (held_of new))) (include_stack_left limits rules unread now v (with_inner (consumed_file len lines) (with_buffer new include_stack)))
+            ≡ after_bytes (line_ends_of (take len (held_of new))) (include_stack_left limits rules unread now v (with_inner (consumed_file len lines) (with_buffer new include_stack)))
         unfolding include_stack_state file_state
         include_stack_defined [] new len lines now some ends plain define holds accepted counted = absurd (none_held R some)
         include_stack_defined (f ∷ outer) new len lines now some ends plain define holds accepted counted =
@@ -403,7 +403,7 @@ module _ {R : Type 0} (limits : Limits) (rules : Rules) (unread : R → List ℕ
       -- bytes are held that weren't
       pub include_stack_filled : (include_stack : List (File R)) (new : BufferView R) → Fills has_known_texts unread fill.Held (inner_buffer include_stack) new
           → include_stack_left limits rules unread macros v include_stack ≡ include_stack_left limits rules unread macros v (with_buffer new include_stack)
-      unfolding include_stack_state file_state behind_bytes
+      unfolding include_stack_state file_state after_bytes
       include_stack_filled [] new fills = refl
       include_stack_filled (f ∷ outer) new fills =
           moved f (with_file_buffer new f) outer macros []
@@ -413,7 +413,7 @@ module _ {R : Type 0} (limits : Limits) (rules : Rules) (unread : R → List ℕ
       -- a read failed where bytes were to be filled in
       pub include_stack_unfilled : (include_stack : List (File R)) (new : BufferView R) → Fills has_known_texts unread fill.Failed (inner_buffer include_stack) new
           → include_stack_left limits rules unread macros v include_stack ≡ include_stack_left limits rules unread macros v (with_buffer new include_stack)
-      unfolding include_stack_state file_state behind_bytes
+      unfolding include_stack_state file_state after_bytes
       include_stack_unfilled [] new fills = refl
       include_stack_unfilled (f ∷ outer) new fills =
           moved f (with_file_buffer new f) outer macros []
@@ -423,7 +423,7 @@ module _ {R : Type 0} (limits : Limits) (rules : Rules) (unread : R → List ℕ
       -- or where a logical line was to be taken in
       pub include_stack_unheld : (include_stack : List (File R)) (new : BufferView R) → HoldsLine has_known_texts unread line.Failed (inner_buffer include_stack) new
           → include_stack_left limits rules unread macros v include_stack ≡ include_stack_left limits rules unread macros v (with_buffer new include_stack)
-      unfolding include_stack_state file_state behind_bytes
+      unfolding include_stack_state file_state after_bytes
       include_stack_unheld [] new holds = refl
       include_stack_unheld (f ∷ outer) new holds =
           moved f (with_file_buffer new f) outer macros []

@@ -12,7 +12,7 @@ use Rattle.rdlpp_scan.specs.declared.token.Mode.{Mode}
 use Rattle.rdlpp_scan.specs.declared.token.Mode.TheVariants.{Plain}
 use Rattle.rdlpp_table.specs.Table.{Macro}
 use Rattle.rdlpp_table.specs.declared.limits.Limits.{Limits}
-use Rattle.rdlpp_meaning.specs.Meaning.{Passage, Progress, added_end, at_start_of, back_in, behind_bytes, goes_on, leaves, origin_line, unquoted}
+use Rattle.rdlpp_meaning.specs.Meaning.{Passage, Progress, added_end, at_start_of, back_in, after_bytes, goes_on, leaves, origin_line, unquoted}
 use Rattle.rdlpp_meaning.specs.Opened.{Waiting, all_resumed, unwound}
 use Rattle.rdlpp_meaning.specs.Outcome.{Report, fails}
 use Rattle.rdlpp_meaning.specs.Output.{start_state}
@@ -43,14 +43,14 @@ use Rattle.rdlpp_state.specs.Calls.{SourcesCalled}
 use Rattle.rdlpp_state.specs.Conditionals.{unclosed_fault}
 use Rattle.rdlpp_state.specs.Engine.{AreIncluded, EngineView}
 use Rattle.rdlpp_state.specs.Held.{IsBounded}
-use Rattle.rdlpp_state.specs.Includes.{BadName, Denies, Full, IsSearch, SearchFault, Searches, included_engine, inner_path, is_bad_name, kind_of_source, left_engine, marks_behind, pending_behind}
+use Rattle.rdlpp_state.specs.Includes.{BadName, Denies, Full, IsSearch, SearchFault, Searches, included_engine, inner_path, is_bad_name, kind_of_source, left_engine, marks_after, pending_after}
 use Rattle.rdlpp_state.specs.Marks.{MarksView, ends_line}
 use Rattle.rdlpp_state.specs.Moves.{Closes, Ends, IsReady, Returns, StopsOpen, StopsUnclosed}
 use Rattle.rdlpp_state.specs.OpenConditionals.{inner_below, outer_open}
 use Rattle.rdlpp_state.specs.Pending.{PendingView, nothing_pending, origin_pending, origin_pieces, pending_bytes, pending_pieces}
 use Rattle.rdlpp_state.specs.Pieces.{IsPlaced, lent_answer, step_answer}
-use Rattle.rdlpp_state.specs.Positions.{BehindSource, Unmarked}
-use Rattle.rdlpp_state.specs.Remaining.{ending_behind, file_state, find_of, inner_name, lookup_of, include_stack_left, include_stack_state, run_rules, source_rules, state_of, waiting_around}
+use Rattle.rdlpp_state.specs.Positions.{AfterSource, Unmarked}
+use Rattle.rdlpp_state.specs.Remaining.{ending_after, file_state, find_of, inner_name, lookup_of, include_stack_left, include_stack_state, run_rules, source_rules, state_of, waiting_around}
 use Rattle.rdlpp_state.specs.Standing.{InSources, Nowhere}
 use Rattle.rdlpp_state.specs.Steps.{IsOwn, OnSearch, UncutStep, is_call_failed, is_memory_kind, is_read_failed, is_write_failed}
 use Rattle.rdlpp_state.specs.declared.phase.Phase.TheVariants.{Closed}
@@ -97,19 +97,19 @@ module _ {R : Type 0} (limits : Limits) (rules : Rules) (unread : R → List ℕ
   -- where an included source has ended, the one around it goes on
   unwinds : (f g : File R) (outer : List (File R)) (os : List Progress) → os ≡ v.open_now
       → unwound rules (waiting_around limits rules unread os f (g ∷ outer)) (include_stack_state limits macros v (f ∷ g ∷ outer))
-      ≡ behind_bytes (ending_behind rules unread f g) (include_stack_left limits rules unread macros v (g ∷ outer))
+      ≡ after_bytes (ending_after rules unread f g) (include_stack_left limits rules unread macros v (g ∷ outer))
   unfolding unwound waiting_around include_stack_left include_stack_state file_state back_in source_left all_resumed own_conditions
   unwinds f g outer os e =
       let s = include_stack_state limits macros v (g ∷ outer) in
       let ws = waiting_around limits rules unread (outer_open g.conditions_below v.open_now) g outer in
       let next : OwnPlace → Passage = λ here.
-      behind_bytes (ending_behind rules unread f g) (goes_on (resumed rules here g.blanks (tokens_left unread g.buffer) s) (λ after. unwound rules ws after)) in
+      after_bytes (ending_after rules unread f g) (goes_on (resumed rules here g.blanks (tokens_left unread g.buffer) s) (λ after. unwound rules ws after)) in
       rw e (ap next (sym (live_place g.conditions_below v live)))
 
   -- an included source has ended: what is written behind it, and then what remains of the one around it, where it has no open conditional of its own
   pub include_stack_returned : (has_known_texts : Type 0) (t : has_known_texts) (f g : File R) (outer : List (File R)) (new : BufferView R) → Fills has_known_texts unread fill.End f.buffer new → f.buffer.mode ≡ Plain
       → f.conditions_below ≡ length v.open_now
-      → include_stack_left limits rules unread macros v (f ∷ g ∷ outer) ≡ behind_bytes (ending_behind rules unread f g) (include_stack_left limits rules unread macros v (g ∷ outer))
+      → include_stack_left limits rules unread macros v (f ∷ g ∷ outer) ≡ after_bytes (ending_after rules unread f g) (include_stack_left limits rules unread macros v (g ∷ outer))
   unfolding include_stack_left
   include_stack_returned has_known_texts t f g outer new fills plain own =
       let s = include_stack_state limits macros v (f ∷ g ∷ outer) in
@@ -133,10 +133,10 @@ module _ {R : Type 0} (limits : Limits) (rules : Rules) (unread : R → List ℕ
         first = g.blanks;
         tokens = tokens_left unread g.buffer;
         state = file_state limits [] (length v.open_now) (length outer) g;
-        ending = ending_behind rules unread (included_file found f) g;
+        ending = ending_after rules unread (included_file found f) g;
       } in
       waiting_file rules unread (own_conditions f.conditions_below v) stop f s (unread found.reader) ≡ record w { state = record w.state { macros = macros } }
-  unfolding include_stack_state file_state ending_behind text_left held_of rest_of ahead_of unread_of opened_buffer
+  unfolding include_stack_state file_state ending_after text_left held_of rest_of ahead_of unread_of opened_buffer
   waits_as f outer found stop =
       let s = include_stack_state limits macros v (f ∷ outer) in
       let g = consumed_file stop 0 f in
@@ -178,7 +178,7 @@ module _ {R : Type 0} (limits : Limits) (rules : Rules) (unread : R → List ℕ
         first = g.blanks;
         tokens = tokens_left unread g.buffer;
         state = file_state limits [] n (length outer) g;
-        ending = ending_behind rules unread (included_file found f) g;
+        ending = ending_after rules unread (included_file found f) g;
       } in
       let all : List Waiting → OwnPlace → List SourceToken → State → Passage = λ us here ts u. all_resumed rules us here true ts u in
       let whole = whole_tokens limits.line_bytes limits.source_bytes text in
@@ -200,14 +200,14 @@ module _ {R : Type 0} (limits : Limits) (rules : Rules) (unread : R → List ℕ
       → rules.find f.path.bytes (include_name (held_of f.buffer) start stop) ≡ Source found.path.bytes (unread found.reader)
       → rules.tokens (unread found.reader) ≡ whole_tokens limits.line_bytes limits.source_bytes (unread found.reader)
       → include_stack_left limits rules unread macros v (f ∷ outer)
-      ≡ behind_bytes (origin_line rules found.path.bytes 1) (include_stack_left limits rules unread macros v (included_file found f ∷ consumed_file stop 0 f ∷ outer))
+      ≡ after_bytes (origin_line rules found.path.bytes 1) (include_stack_left limits rules unread macros v (included_file found f ∷ consumed_file stop 0 f ∷ outer))
   unfolding include_stack_state file_state
   include_stack_included f outer found start stop k some ends plain has named left finds tokens =
       let s = include_stack_state limits macros v (f ∷ outer) in
       at_live limits rules unread macros v live f outer _
       (include_left rules unread (around limits rules unread macros v f outer) (own_conditions f.conditions_below v) f s
       (record { some = some; ends = ends }) plain start stop has k found.path.bytes (unread found.reader) named left finds
-      ∙ ap (behind_bytes (origin_line rules found.path.bytes 1)) (begins f outer found stop tokens))
+      ∙ ap (after_bytes (origin_line rules found.path.bytes 1)) (begins f outer found stop tokens))
 
   module _ (f : File R) (outer : List (File R)) (some : 0 < length (held_of f.buffer)) (ends : EndsHeld f.buffer) (plain : f.buffer.mode ≡ Plain) where
     -- an `include` behind which no string stands that closes on its line is a fault
@@ -317,14 +317,14 @@ module _ {R : Type 0} (limits : Limits) (rules : Rules) (unread : R → List ℕ
       → rules.tokens (unread found.reader) ≡ whole_tokens limits.line_bytes limits.source_bytes (unread found.reader)
       → line_bytes ≡ limits.line_bytes
       → include_stack_left limits rules unread macros v include_stack
-      ≡ behind_bytes (origin_line rules found.path.bytes 1)
+      ≡ after_bytes (origin_line rules found.path.bytes 1)
       (include_stack_left limits rules unread macros v (entered_file found limits.source_bytes line_bytes (length v.open_now) (inner_buffer include_stack).line ∷ with_inner (consumed_file stop 0) include_stack))
   opened_inside [] found start stop line_bytes some ends plain has good room finds tokens size = absurd (none_held R some)
   opened_inside (f ∷ outer) found start stop line_bytes some ends plain has good room finds tokens size =
       let left : limits.includes - length outer ≡ suc (limits.includes - length outer - 1) = omega arith in
       let rest : ℕ → List (File R) = λ n. entered_file found limits.source_bytes n (length v.open_now) f.buffer.line ∷ consumed_file stop 0 f ∷ outer in
       include_stack_included limits rules unread macros v live f outer found start stop (limits.includes - length outer - 1) some ends plain has good left finds tokens
-      ∙ ap (λ (n : ℕ). behind_bytes (origin_line rules found.path.bytes 1) (include_stack_left limits rules unread macros v (rest n))) (sym size)
+      ∙ ap (λ (n : ℕ). after_bytes (origin_line rules found.path.bytes 1) (include_stack_left limits rules unread macros v (rest n))) (sym size)
 
 -- only the sources changed
 pub read_sources : {S R : Type 0} (g : Ghosts S R) (old mid : EngineView S R) → mid ≡ record old { sources = mid.sources } → IsRead g old mid
@@ -423,7 +423,7 @@ module _ {S R : Type 0} (g : Ghosts S R) (old mid new : EngineView S R) (start s
 
   -- a source is opened
   pub entered_steps : (found : Found R) → Searches g old name_of mid.sources (Ok found) → new ≡ included_engine found stop mid → UncutStep g old new (step_answer new None)
-  unfolding included_engine behind_bytes source_rules rules_of find_of lookup_of unused_of opened_buffer
+  unfolding included_engine after_bytes source_rules rules_of find_of lookup_of unused_of opened_buffer
   entered_steps found s enters =
       let room = s.room in
       let slots = ready.sound.slots in
@@ -447,7 +447,7 @@ module _ {S R : Type 0} (g : Ghosts S R) (old mid new : EngineView S R) (start s
       }) (omega arith) (pending_few old.origins 0 1 (omega arith))) s.call
       (λ t. opened_inside old.limits (run_rules g old) g.unread old.table.macros old.conditions live old.files.include_stack found start stop old.files.line_bytes some inner.ends plain has s.name_good (omega arith)
       (ap lookup_of (s.answers t)) refl ready.sound.line_bytes
-      ∙ ap (λ (x : List ℕ). behind_bytes x (left_by g old old.table.macros old.conditions (file ∷ used))) (sym (pending_origin (g.catalog old.sources) old.limits old.origins found.path.bytes 1)))
+      ∙ ap (λ (x : List ℕ). after_bytes x (left_by g old old.table.macros old.conditions (file ∷ used))) (sym (pending_origin (g.catalog old.sources) old.limits old.origins found.path.bytes 1)))
       (λ t. parts_entered g.unread (g.catalog old.sources) found stop old.limits.source_bytes old.files.line_bytes (length old.conditions.open_now) line name_of old.files.include_stack ready.include_stack (s.answers t)) (Nowhere refl (InSources ready.idle refl (Unmarked refl))))
 
 -- a search that was made
@@ -512,19 +512,19 @@ ending_of rules (f ∷ around ∷ outer) = (if f.ends_mid_line then 10 ∷ [] el
 -- where an included source has ended, the one around it goes on
 include_stack_back : {R : Type 0} (limits : Limits) (rules : Rules) (unread : R → List ℕ) (macros : List Macro) (v : ConditionsView) (live : v.skipped ≡ None) (has_known_texts : Type 0) (t : has_known_texts)
     (include_stack : List (File R)) (new : BufferView R) → 1 < length include_stack → length v.open_now ≡ inner_below include_stack → Fills has_known_texts unread fill.End (inner_buffer include_stack) new → (inner_buffer include_stack).mode ≡ Plain
-    → include_stack_left limits rules unread macros v include_stack ≡ behind_bytes (ending_of rules include_stack) (include_stack_left limits rules unread macros v (drop 1 include_stack))
-unfolding ending_behind ending_of ends_mid_line_after
+    → include_stack_left limits rules unread macros v include_stack ≡ after_bytes (ending_of rules include_stack) (include_stack_left limits rules unread macros v (drop 1 include_stack))
+unfolding ending_after ending_of ends_mid_line_after
 include_stack_back limits rules unread macros v live has_known_texts t [] new inner ended fills plain = absurd (omega arith)
 include_stack_back limits rules unread macros v live has_known_texts t (f ∷ []) new inner ended fills plain = absurd (omega arith)
 include_stack_back limits rules unread macros v live has_known_texts t (f ∷ around ∷ outer) new inner ended fills plain =
     include_stack_returned limits rules unread macros v live has_known_texts t f around outer new fills plain (sym ended)
-    ∙ ap (λ (x : List ℕ). behind_bytes ((if ends_mid_line_after f.ends_mid_line x then 10 ∷ [] else []) ++ origin_line rules around.name.bytes (shown_line (shift_of around.shift) f.include_line))
+    ∙ ap (λ (x : List ℕ). after_bytes ((if ends_mid_line_after f.ends_mid_line x then 10 ∷ [] else []) ++ origin_line rules around.name.bytes (shown_line (shift_of around.shift) f.include_line))
     (include_stack_left limits rules unread macros v (around ∷ outer))) (ended-text has_known_texts unread f.buffer new fills t)
 
 -- what is pending is that
 pending_ending : {R : Type 0} (c : Catalog) (limits : Limits) (origins : Bool) (include_stack : List (File R)) → 1 < length include_stack
-    → pending_bytes (inner_name (drop 1 include_stack)) (pending_behind origins include_stack) ≡ ending_of (source_rules c limits origins) include_stack
-unfolding pending_behind ending_of
+    → pending_bytes (inner_name (drop 1 include_stack)) (pending_after origins include_stack) ≡ ending_of (source_rules c limits origins) include_stack
+unfolding pending_after ending_of
 pending_ending c limits origins [] inner = absurd (omega arith)
 pending_ending c limits origins (f ∷ []) inner = absurd (omega arith)
 pending_ending c limits origins (f ∷ around ∷ outer) inner = pending_ends_mid_line c limits origins around.name.bytes f.ends_mid_line (shown_line (shift_of around.shift) f.include_line)
@@ -535,22 +535,22 @@ ends_mid_line_few true = omega arith
 ends_mid_line_few false = omega arith
 
 -- it can be counted
-pending_behind-few : {R : Type 0} (origins : Bool) (include_stack : List (File R)) → pending_pieces (pending_behind origins include_stack) < 2 ^ 31
-unfolding pending_behind nothing_pending pending_pieces origin_pieces
-pending_behind-few origins [] = omega arith
-pending_behind-few origins (f ∷ []) = omega arith
-pending_behind-few origins (f ∷ around ∷ outer) =
+pending_after-few : {R : Type 0} (origins : Bool) (include_stack : List (File R)) → pending_pieces (pending_after origins include_stack) < 2 ^ 31
+unfolding pending_after nothing_pending pending_pieces origin_pieces
+pending_after-few origins [] = omega arith
+pending_after-few origins (f ∷ []) = omega arith
+pending_after-few origins (f ∷ around ∷ outer) =
     let few = ends_mid_line_few f.ends_mid_line in pending_few origins (if f.ends_mid_line then 1 else 0) (shown_line (shift_of around.shift) f.include_line) (omega arith)
 
 -- what is pending and what is left are the same where the innermost source has another buffer
-pending_same : {R : Type 0} (origins : Bool) (b : BufferView R) (include_stack : List (File R)) → pending_behind origins (with_buffer b include_stack) ≡ pending_behind origins include_stack
-unfolding pending_behind
+pending_same : {R : Type 0} (origins : Bool) (b : BufferView R) (include_stack : List (File R)) → pending_after origins (with_buffer b include_stack) ≡ pending_after origins include_stack
+unfolding pending_after
 pending_same origins b [] = refl
 pending_same origins b (f ∷ []) = refl
 pending_same origins b (f ∷ around ∷ outer) = refl
 
-marks_same : {R : Type 0} (m : MarksView) (b : BufferView R) (include_stack : List (File R)) → marks_behind (with_buffer b include_stack) m ≡ marks_behind include_stack m
-unfolding marks_behind
+marks_same : {R : Type 0} (m : MarksView) (b : BufferView R) (include_stack : List (File R)) → marks_after (with_buffer b include_stack) m ≡ marks_after include_stack m
+unfolding marks_after
 marks_same m b [] = refl
 marks_same m b (f ∷ []) = refl
 marks_same m b (f ∷ around ∷ outer) = refl
@@ -627,29 +627,29 @@ module _ {S R : Type 0} (g : Ghosts S R) (old mid new : EngineView S R) (ready :
 
   -- an included source has ended: the one around it goes on
   ended_back : Returns mid new → UncutStep g old new (Ok (Some []))
-  unfolding left_engine behind_bytes
+  unfolding left_engine after_bytes
   ended_back back =
       let b = inner_buffer mid.files.include_stack in
       let before = old.files.include_stack in
       let inner : 1 < length before = (let some = back.inner in let size = same_size in omega arith) in
       let ended = same_ended back.ended in
       let live : old.conditions.skipped ≡ None = conditions_live old.limits old.conditions before ended ready.sound.conditions_of in
-      let pending = pending_behind old.origins before in
-      let marks = marks_behind before old.marks in
-      let leaves_as : FilesView R → EngineView S R = λ fs. record old { pending = pending_behind old.origins fs.include_stack; marks = marks_behind fs.include_stack old.marks; files = record fs { include_stack = drop 1 fs.include_stack }; sources = mid.sources } in
+      let pending = pending_after old.origins before in
+      let marks = marks_after before old.marks in
+      let leaves_as : FilesView R → EngineView S R = λ fs. record old { pending = pending_after old.origins fs.include_stack; marks = marks_after fs.include_stack old.marks; files = record fs { include_stack = drop 1 fs.include_stack }; sources = mid.sources } in
       let by : PendingView → MarksView → List (File R) → EngineView S R = λ o m ns. record old { pending = o; marks = m; files = record old.files { include_stack = ns }; sources = mid.sources } in
       let becomes : new ≡ by pending marks (drop 1 before) =
       back.becomes ∙ (ap left_engine r.becomes ∙ (ap leaves_as r.only
-      ∙ (ap (λ (o : PendingView). by o (marks_behind (with_buffer b before) old.marks) (drop 1 (with_buffer b before))) (pending_same old.origins b before)
+      ∙ (ap (λ (o : PendingView). by o (marks_after (with_buffer b before) old.marks) (drop 1 (with_buffer b before))) (pending_same old.origins b before)
       ∙ (ap (λ (m : MarksView). by pending m (drop 1 (with_buffer b before))) (marks_same old.marks b before) ∙ ap (by pending marks) (drop_same b before))))) in
       let few = ready.files.few in
       let slots = ready.sound.slots in
       subst (λ (e : EngineView S R). UncutStep g old e (Ok (Some []))) (sym becomes)
       (lends_by g old ready [] pending marks old.table.macros old.conditions (drop 1 before) mid.sources (subst IsBounded becomes bounded)
-      (left_falls old (by pending marks (drop 1 before)) refl ready.idle ready.idle refl ready.include_stack (omega arith) (pending_behind-few old.origins before)) call
+      (left_falls old (by pending marks (drop 1 before)) refl ready.idle ready.idle refl ready.include_stack (omega arith) (pending_after-few old.origins before)) call
       (λ t. include_stack_back old.limits (run_rules g old) g.unread old.table.macros old.conditions live (g.has_known_texts old.sources) t before b inner ended fills (sym fills.mode ∙ back.mode)
-      ∙ ap (λ (x : List ℕ). behind_bytes x (left_by g old old.table.macros old.conditions (drop 1 before))) (sym (pending_ending (g.catalog old.sources) old.limits old.origins before inner)))
-      (λ t. parts_around g.unread before (g.catalog old.sources)) (Nowhere refl (InSources ready.idle refl (BehindSource refl))))
+      ∙ ap (λ (x : List ℕ). after_bytes x (left_by g old old.table.macros old.conditions (drop 1 before))) (sym (pending_ending (g.catalog old.sources) old.limits old.origins before inner)))
+      (λ t. parts_around g.unread before (g.catalog old.sources)) (Nowhere refl (InSources ready.idle refl (AfterSource refl))))
 
   pub ended_steps : (place : Option PieceLocation) → Ends mid new place → UncutStep g old new (step_answer new place)
   ended_steps None ends = ended_back ends
@@ -686,10 +686,10 @@ stops_open {S} {R} old new place breach mode line is at_mode tokens own opened b
     }))
 
 -- what is pending behind the innermost of two sources
-pub behind_two : {R : Type 0} (origins : Bool) (include_stack rest : List (File R)) (f around : File R) → include_stack ≡ f ∷ drop 1 include_stack → drop 1 include_stack ≡ around ∷ rest
-    → pending_behind origins include_stack ≡ record { line_ends = if f.ends_mid_line then 1 else 0; origin = origin_pending origins (shown_line (shift_of around.shift) f.include_line) }
-unfolding pending_behind
-behind_two {R} origins include_stack rest f around first second = ap (pending_behind origins) (first ∙ ap (λ (ns : List (File R)). f ∷ ns) second)
+pub after_two : {R : Type 0} (origins : Bool) (include_stack rest : List (File R)) (f around : File R) → include_stack ≡ f ∷ drop 1 include_stack → drop 1 include_stack ≡ around ∷ rest
+    → pending_after origins include_stack ≡ record { line_ends = if f.ends_mid_line then 1 else 0; origin = origin_pending origins (shown_line (shift_of around.shift) f.include_line) }
+unfolding pending_after
+after_two {R} origins include_stack rest f around first second = ap (pending_after origins) (first ∙ ap (λ (ns : List (File R)). f ∷ ns) second)
 
 -- the numbers of both can be counted
 pub line_few : {R : Type 0} (include_stack : List (File R)) (f : File R) → include_stack ≡ f ∷ drop 1 include_stack → AreIncluded include_stack → f.include_line < 2 ^ 63
@@ -708,20 +708,20 @@ pub ends_few : (ends pending : ℕ) (ends_mid_line : Bool) → ends ≡ (if ends
 ends_few ends pending ends_mid_line is none = let few = ends_mid_line_few ends_mid_line in omega arith
 
 -- what is pending where an included source was left
-pub queues_behind : {R : Type 0} (origins : Bool) (include_stack rest : List (File R)) (f around : File R) (old mid new : PendingView) (ends shown : ℕ) → include_stack ≡ f ∷ drop 1 include_stack → drop 1 include_stack ≡ around ∷ rest
+pub queues_after : {R : Type 0} (origins : Bool) (include_stack rest : List (File R)) (f around : File R) (old mid new : PendingView) (ends shown : ℕ) → include_stack ≡ f ∷ drop 1 include_stack → drop 1 include_stack ≡ around ∷ rest
     → old ≡ nothing_pending → ends ≡ (if f.ends_mid_line then 1 else 0) → shown ≡ shown_line (shift_of around.shift) f.include_line
-    → mid ≡ record old { line_ends = old.line_ends + ends } → new ≡ record mid { origin = origin_pending origins shown } → new ≡ pending_behind origins include_stack
+    → mid ≡ record old { line_ends = old.line_ends + ends } → new ≡ record mid { origin = origin_pending origins shown } → new ≡ pending_after origins include_stack
 unfolding nothing_pending
-queues_behind origins include_stack rest f around old mid new ends shown first second nothing ends_mid_line line adds asks =
+queues_after origins include_stack rest f around old mid new ends shown first second nothing ends_mid_line line adds asks =
     let none : old.line_ends ≡ 0 = ap (λ o. o.line_ends) nothing in
     let count : mid.line_ends ≡ old.line_ends + ends = ap (λ o. o.line_ends) adds in
     let exact : mid.line_ends ≡ (if f.ends_mid_line then 1 else 0) = omega arith in
     let makes : ℕ → ℕ → PendingView = λ n m. record { line_ends = n; origin = origin_pending origins m } in
-    asks ∙ (ap (λ (n : ℕ). makes n shown) exact ∙ (ap (makes (if f.ends_mid_line then 1 else 0)) line ∙ sym (behind_two origins include_stack rest f around first second)))
+    asks ∙ (ap (λ (n : ℕ). makes n shown) exact ∙ (ap (makes (if f.ends_mid_line then 1 else 0)) line ∙ sym (after_two origins include_stack rest f around first second)))
 
 -- and its mark
 pub marks_two : {R : Type 0} (include_stack rest : List (File R)) (f around : File R) (m : MarksView) (ends shown : ℕ) (name : List ℕ) → include_stack ≡ f ∷ drop 1 include_stack → drop 1 include_stack ≡ around ∷ rest
-    → ends ≡ (if f.ends_mid_line then 1 else 0) → shown ≡ shown_line (shift_of around.shift) f.include_line → name ≡ around.name.bytes → ends_line ends name shown m ≡ marks_behind include_stack m
-unfolding marks_behind
+    → ends ≡ (if f.ends_mid_line then 1 else 0) → shown ≡ shown_line (shift_of around.shift) f.include_line → name ≡ around.name.bytes → ends_line ends name shown m ≡ marks_after include_stack m
+unfolding marks_after
 marks_two {R} include_stack rest f around m ends shown name first second ends_mid_line line named =
-    rw (ends_mid_line, line, named) (sym (ap (λ (ns : List (File R)). marks_behind ns m) (first ∙ ap (λ (ns : List (File R)). f ∷ ns) second)))
+    rw (ends_mid_line, line, named) (sym (ap (λ (ns : List (File R)). marks_after ns m) (first ∙ ap (λ (ns : List (File R)). f ∷ ns) second)))

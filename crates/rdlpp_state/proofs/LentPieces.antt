@@ -6,7 +6,7 @@ use Rattle.rdlpp_scan.specs.SourceTokens.{line_ends}
 use Rattle.rdlpp_scan.specs.declared.token.Mode.{Mode}
 use Rattle.rdlpp_table.specs.Table.{Macro}
 use Rattle.rdlpp_table.specs.declared.limits.Limits.{Limits}
-use Rattle.rdlpp_meaning.specs.Meaning.{behind_bytes, origin_line}
+use Rattle.rdlpp_meaning.specs.Meaning.{after_bytes, origin_line}
 use Rattle.rdlpp_meaning.specs.Outcome.{Outcome, Report, and_then, fails, gives}
 use Rattle.rdlpp_meaning.specs.OutputLimit.{limited}
 use Rattle.rdlpp_meaning.specs.Parts.{line_ends_of}
@@ -26,7 +26,7 @@ use Rattle.rdlpp_usages.specs.Usages.{ExpansionView}
 use Rattle.rdlpp_state.specs.Engine.{EngineView, is_open}
 use Rattle.rdlpp_state.specs.Held.{IsBounded, stores_of}
 use Rattle.rdlpp_state.specs.Marks.{MarksView, PlaceView, lends_line, lends_line_end, lends_origin, lends_pending, lends_usage, marked_place}
-use Rattle.rdlpp_state.specs.Pending.{OriginView, PendingView, TakesPiece, behind_piece, cut_to, digits_of, first_piece, line_from, nothing_pending, origin_bytes, origin_pending, origin_pieces, pending_bytes, pending_number, pending_pieces, part_bytes, pieces_from}
+use Rattle.rdlpp_state.specs.Pending.{OriginView, PendingView, TakesPiece, after_piece, cut_to, digits_of, first_piece, line_from, nothing_pending, origin_bytes, origin_pending, origin_pieces, pending_bytes, pending_number, pending_pieces, part_bytes, pieces_from}
 use Rattle.rdlpp_state.specs.Pieces.{IsPlaced, held_texts, kept_answer, lent_answer, pending_part}
 use Rattle.rdlpp_state.specs.Positions.{TakesPending, line_end_place, origin_place, pending_place, place_at, position_of, source_place, usage_place}
 use Rattle.rdlpp_state.specs.Remaining.{file_state, inner_name, kept_uncut, left_of, include_stack_state, output_fault, phase_uncut, source_rules, state_of, text_of, uncut_of, work_left}
@@ -48,8 +48,8 @@ use Rattle.rdlpp_state.proofs.Stores.{keeps_phase}
 -- Pieces taken out of the texts that are pending.
 
 -- all of a list, and then another
-whole_behind : (xs ys : List ℕ) → xs ++ ys ≡ take (length xs) xs ++ ys
-whole_behind xs ys = ap (λ (zs : List ℕ). zs ++ ys) (sym (take_all (length xs) xs (omega arith)))
+whole_after : (xs ys : List ℕ) → xs ++ ys ≡ take (length xs) xs ++ ys
+whole_after xs ys = ap (λ (zs : List ℕ). zs ++ ys) (sym (take_all (length xs) xs (omega arith)))
 
 -- LF bytes are taken out
 pub takes_line_ends : (name : List ℕ) (pending : PendingView) (len : ℕ) → 0 < len → len ≤ 16 → len ≤ pending.line_ends
@@ -71,19 +71,19 @@ takes_line_ends name pending len some few within =
 -- the first piece of an origin line is taken out
 pub takes_origin : (part : PendingPart) (name : List ℕ) (number : ℕ)
     → let origin : OriginView = record { part = part; number = number } in
-    TakesPiece name (record { line_ends = 0; origin = Some origin }) (record { line_ends = 0; origin = behind_piece origin }) (first_piece (length name) origin)
-unfolding part_bytes pending_bytes pending_pieces origin_bytes origin_pieces line_from pieces_from behind_piece first_piece digits_of
+    TakesPiece name (record { line_ends = 0; origin = Some origin }) (record { line_ends = 0; origin = after_piece origin }) (first_piece (length name) origin)
+unfolding part_bytes pending_bytes pending_pieces origin_bytes origin_pieces line_from pieces_from after_piece first_piece digits_of
 takes_origin LineEnds name number = record { inside = omega arith; bytes = refl; fewer = omega arith }
 takes_origin Label name number = record { inside = omega arith; bytes = refl; fewer = omega arith }
-takes_origin Name name number = record { inside = omega arith; bytes = whole_behind name _; fewer = omega arith }
+takes_origin Name name number = record { inside = omega arith; bytes = whole_after name _; fewer = omega arith }
 takes_origin Colon name number = record { inside = omega arith; bytes = refl; fewer = omega arith }
-takes_origin Digits name number = record { inside = omega arith; bytes = whole_behind (decimal number) _; fewer = omega arith }
+takes_origin Digits name number = record { inside = omega arith; bytes = whole_after (decimal number) _; fewer = omega arith }
 
 -- so it is where nothing stands before it
-pub takes_first : (name : List ℕ) (name_len lines : ℕ) (at behind : Option OriginView) (origin : OriginView) (piece : PendingPiece)
-    → length name ≡ name_len → lines ≤ 0 → at ≡ Some origin → behind_piece origin ≡ behind → piece ≡ first_piece name_len origin
-    → TakesPiece name (record { line_ends = lines; origin = at }) (record { line_ends = lines; origin = behind }) piece
-takes_first name name_len lines at behind origin piece size none is rest first =
+pub takes_first : (name : List ℕ) (name_len lines : ℕ) (at following : Option OriginView) (origin : OriginView) (piece : PendingPiece)
+    → length name ≡ name_len → lines ≤ 0 → at ≡ Some origin → after_piece origin ≡ following → piece ≡ first_piece name_len origin
+    → TakesPiece name (record { line_ends = lines; origin = at }) (record { line_ends = lines; origin = following }) piece
+takes_first name name_len lines at following origin piece size none is rest first =
     let zero : lines ≡ 0 = omega arith in
     rw (first, ← rest, ← size, zero, is) (takes_origin origin.part name origin.number)
 
@@ -480,7 +480,7 @@ module _ {S R : Type 0} (g : Ghosts S R) (old mid new : EngineView S R) (xs : Li
             record {
               piece = piece.piece;
               lent = part ∙ ap (take old.quota) piece.lent;
-              text = piece.text ∙ ap (behind_bytes piece.piece) (sym (ap (text_of g) becomes ∙ same_text g mid new.phase new.quota));
+              text = piece.text ∙ ap (after_bytes piece.piece) (sym (ap (text_of g) becomes ∙ same_text g mid new.phase new.quota));
             };
         reads = λ met. absurd (let no : false ≡ true = rw free_old at met in cc);
         halts = λ _ _. tt;

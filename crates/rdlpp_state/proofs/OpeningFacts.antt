@@ -11,7 +11,7 @@ use Rattle.rdlpp_scan.specs.SourceTokens.{SourceToken, whole_tokens}
 use Rattle.rdlpp_table.specs.Limits.{AreInRange}
 use Rattle.rdlpp_table.specs.declared.limits.Limits.{Limits}
 use Rattle.rdlpp_table.proofs.Sizes.{length_table_bytes}
-use Rattle.rdlpp_meaning.specs.Meaning.{Passage, Progress, behind_bytes, origin_line, outcome}
+use Rattle.rdlpp_meaning.specs.Meaning.{Passage, Progress, after_bytes, origin_line, outcome}
 use Rattle.rdlpp_meaning.specs.Opened.{all_resumed}
 use Rattle.rdlpp_meaning.specs.Outcome.{Outcome, Report, and_then, fails, gives}
 use Rattle.rdlpp_meaning.specs.Output.{character_place, name_cut, opening_fault, output, start_state}
@@ -22,7 +22,7 @@ use Rattle.rdlpp_meaning.specs.State.{LongPath, Lookup, NoSource, Rules, State, 
 use Rattle.rdlpp_meaning.specs.declared.fault.FaultKind.{FaultKind}
 use Rattle.rdlpp_meaning.specs.declared.fault.FaultKind.TheVariants.{PathTooLong, ReadFailed, SourceMemory, SourceNotFound}
 use Rattle.rdlpp_meaning.proofs.Directives.{all_resumed_alone}
-use Rattle.rdlpp_meaning.proofs.Outcomes.{limited-fails, outcome-behind_bytes, output_found, output_missing, output_overlong}
+use Rattle.rdlpp_meaning.proofs.Outcomes.{limited-fails, outcome-after_bytes, output_found, output_missing, output_overlong}
 use Rattle.rdlpp_source.specs.Counts.{Counts}
 use Rattle.rdlpp_source.specs.Sources.{Answer, Catalog, Finds, Present, is_device, is_no_memory}
 use Rattle.rdlpp_source.specs.declared.sources.Found.{Found}
@@ -271,17 +271,17 @@ unfolding name_cut
 name_cut_at bytes r below at nearest = cut_at_boundary bytes 1024 r below at nearest
 
 -- where no source waits, what remains of the text is what is pending and what remains of its only source
-alone : (rules : Rules) (x : List ℕ) (ts : List SourceToken) (s : State) → outcome (behind_bytes x (all_resumed rules [] (Live []) true ts s)) ≡ and_then (gives x) (remains rules (Live []) true ts s)
+alone : (rules : Rules) (x : List ℕ) (ts : List SourceToken) (s : State) → outcome (after_bytes x (all_resumed rules [] (Live []) true ts s)) ≡ and_then (gives x) (remains rules (Live []) true ts s)
 unfolding remains
 alone rules x ts s =
-    outcome-behind_bytes x (all_resumed rules [] (Live []) true ts s)
+    outcome-after_bytes x (all_resumed rules [] (Live []) true ts s)
     ∙ ap (λ (p : Passage). and_then (gives x) (outcome p)) (all_resumed_alone rules (Live []) true ts s)
 
 -- what remains of a main text that was opened, where no text of a usage is
 left_idle : {S R : Type 0} (g : Ghosts S R) (e : EngineView S R) (s : S) (path : List ℕ) (found : Found R) → e.expansion.opens ≡ []
     → let o = opened_engine (record e { sources = s }) path found in
     left_of g o ≡ limited (output_fault (name_cut path)) e.limits.output_bytes
-    (outcome (behind_bytes (pending_bytes (inner_name o.files.include_stack) o.pending) (include_stack_left o.limits (run_rules g o) g.unread o.table.macros o.conditions o.files.include_stack)))
+    (outcome (after_bytes (pending_bytes (inner_name o.files.include_stack) o.pending) (include_stack_left o.limits (run_rules g o) g.unread o.table.macros o.conditions o.files.include_stack)))
 unfolding left_of uncut_of kept_uncut phase_uncut opened_engine
 left_idle g e s path found idle =
     ap (λ (p : Passage). limited (output_fault (name_cut path)) e.limits.output_bytes (outcome p)) (text_idle g (opened_engine (record e { sources = s }) path found) idle)

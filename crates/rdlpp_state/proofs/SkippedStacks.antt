@@ -23,7 +23,7 @@ use Rattle.rdlpp_scan.proofs.StopKinds.{AtBack, AtBare, AtBlockComment, AtLineCo
 use Rattle.rdlpp_scan.proofs.TokenSteps.{word-line_end}
 use Rattle.rdlpp_table.specs.Table.{Macro}
 use Rattle.rdlpp_table.specs.declared.limits.Limits.{Limits}
-use Rattle.rdlpp_meaning.specs.Meaning.{Passage, Progress, behind_bytes, leaves}
+use Rattle.rdlpp_meaning.specs.Meaning.{Passage, Progress, after_bytes, leaves}
 use Rattle.rdlpp_meaning.specs.Opened.{Waiting, all_resumed}
 use Rattle.rdlpp_meaning.specs.Outcome.{Report, fails}
 use Rattle.rdlpp_meaning.specs.Parts.{line_ends_of, only_blanks}
@@ -33,7 +33,7 @@ use Rattle.rdlpp_meaning.specs.declared.fault.FaultKind.TheVariants as fault
 use Rattle.rdlpp_meaning.specs.declared.fault.FaultKind.TheVariants.{OpenConditional}
 use Rattle.rdlpp_meaning.proofs.Directives.{in_branch}
 use Rattle.rdlpp_meaning.proofs.Skipping.{has_own_token, stands_by_itself}
-use Rattle.rdlpp_meaning.proofs.Outcomes.{behind_bytes-twice}
+use Rattle.rdlpp_meaning.proofs.Outcomes.{after_bytes-twice}
 use Rattle.rdlpp_meaning.proofs.LiveText.{line_ends_of-append, only_blanks-append}
 use Rattle.rdlpp_conditions.specs.Conditions.{ConditionsView, place_of}
 use Rattle.rdlpp_conditions.specs.Moves.{skipped_by}
@@ -188,11 +188,11 @@ module _ {R : Type 0} (rules : Rules) (unread : R → List ℕ) (ws : List Waiti
 
     -- the LF bytes of what is passed, and then what remains
     abbrev pub Passes : File R → ℕ → Type 0
-    Passes f len = left f ≡ behind_bytes (line_ends_of (take len (held_of f.buffer))) (left (passed f len))
+    Passes f len = left f ≡ after_bytes (line_ends_of (take len (held_of f.buffer))) (left (passed f len))
 
     -- a word without line ends
     word_passes : (f : File R) (len : ℕ) → f.buffer.mode ≡ Plain → line_ends (take len (held_of f.buffer)) ≡ 0
-        → left f ≡ behind_bytes (line_ends_of (take len (held_of f.buffer))) (left (consumed_file len 0 f)) → Passes f len
+        → left f ≡ after_bytes (line_ends_of (take len (held_of f.buffer))) (left (consumed_file len 0 f)) → Passes f len
     unfolding source_left entered_mode held_of
     word_passes f len mode none law =
         let b = f.buffer in
@@ -201,8 +201,8 @@ module _ {R : Type 0} (rules : Rules) (unread : R → List ℕ) (ws : List Waiti
         let same : tokens_left unread (used_buffer b len 0) ≡ tokens_left unread (used_buffer (entered_mode b Plain) len 0) =
         sym (tokens_used unread b len 0 (opening b.mode b.open_token_line b.line) mode) ∙ tokens_entered unread b len 0 Plain in
         law
-        ∙ ap (λ (ts : List SourceToken). behind_bytes (line_ends_of w) (all_resumed rules ws (Skipped n p os) (only_blanks f.blanks w) ts s)) same
-        ∙ ap (λ (k : ℕ). behind_bytes (line_ends_of w) (at (used_buffer (entered_mode b Plain) len k))) (sym none)
+        ∙ ap (λ (ts : List SourceToken). after_bytes (line_ends_of w) (all_resumed rules ws (Skipped n p os) (only_blanks f.blanks w) ts s)) same
+        ∙ ap (λ (k : ℕ). after_bytes (line_ends_of w) (at (used_buffer (entered_mode b Plain) len k))) (sym none)
 
     -- a usage, or the word of a directive that doesn't count
     back_passes : (f : File R) → HoldsFront f.buffer → f.buffer.mode ≡ Plain → (token_of Plain (held_of f.buffer)).kind ≡ Back
@@ -243,7 +243,7 @@ module _ {R : Type 0} (rules : Rules) (unread : R → List ℕ) (ws : List Waiti
         let t = token_of f.buffer.mode (held_of f.buffer) in
         let w = take t.len (held_of f.buffer) in
         skipped_text_left rules unread ws n p os f s t.len (line_ends w) t.next_mode holds (AtToken text refl refl) refl
-        ∙ ap (λ (m : Mode). behind_bytes (line_ends_of w) (left (consumed_file t.len (line_ends w) (with_file_buffer (entered_mode f.buffer m) f)))) closed
+        ∙ ap (λ (m : Mode). after_bytes (line_ends_of w) (left (consumed_file t.len (line_ends w) (with_file_buffer (entered_mode f.buffer m) f)))) closed
 
     -- what stands in front, in a mode
     abbrev Front : File R → Mode → Type 0
@@ -274,14 +274,14 @@ module _ {R : Type 0} (rules : Rules) (unread : R → List ℕ) (ws : List Waiti
     once_passes : (f : File R) (m : Mode) (held : List ℕ) (len : ℕ) (next : Mode) → f.buffer.mode ≡ m → held_of f.buffer ≡ held → HoldsFront f.buffer → IsPassedOnce m held len next
         → Passes f len × (next ≡ Plain)
     unfolding stops_at stops_skipping
-    once_passes f m held len next mode is holds (Stretch plain some whole behind) =
-        (skipped_text_left rules unread ws n p os f s len (line_ends (take len (held_of f.buffer))) Plain holds (AtOrdinary (mode ∙ plain) refl some (whole ∙ ap plain_len (sym is))) refl, behind)
-    once_passes f m held len next mode is holds (OneToken none goes whole behind) =
+    once_passes f m held len next mode is holds (Stretch plain some whole following) =
+        (skipped_text_left rules unread ws n p os f s len (line_ends (take len (held_of f.buffer))) Plain holds (AtOrdinary (mode ∙ plain) refl some (whole ∙ ap plain_len (sym is))) refl, following)
+    once_passes f m held len next mode is holds (OneToken none goes whole following) =
         let t = token_of m held in
         let front : Goes t.kind t.next_mode (take t.len held) = goes_by t.kind t.next_mode (take t.len held) goes in (
           subst (λ (k : ℕ). Passes f k) (ap (λ (h : List ℕ). (token_of m h).len) is ∙ sym whole)
               (token_passes f m mode holds (λ e. ap plain_len is ∙ none e) (subst (λ (h : List ℕ). Goes (token_of m h).kind (token_of m h).next_mode (take (token_of m h).len h)) (sym is) front)),
-          behind ∙ front.closed,
+          following ∙ front.closed,
         )
 
     -- a part and then one more are one
@@ -309,9 +309,9 @@ module _ {R : Type 0} (rules : Rules) (unread : R → List ℕ) (ws : List Waiti
         ∙ ap (λ (ts : List SourceToken). all_resumed rules ws (Skipped n p os) both.blanks ts s) tokens
 
     -- bytes are held behind what is passed
-    holds_behind : (f : File R) (from : ℕ) → HoldsFront f.buffer → from < length (held_of f.buffer) → HoldsFront (passed f from).buffer
+    holds_after : (f : File R) (from : ℕ) → HoldsFront f.buffer → from < length (held_of f.buffer) → HoldsFront (passed f from).buffer
     unfolding entered_mode held_of
-    holds_behind f from holds inside =
+    holds_after f from holds inside =
         let b = f.buffer in
         let lines = line_ends (take from (held_of b)) in
         let rest : held_of (passed f from).buffer ≡ drop from (held_of b) = held_used (entered_mode b Plain) from lines in
@@ -329,14 +329,14 @@ module _ {R : Type 0} (rules : Rules) (unread : R → List ℕ) (ws : List Waiti
         let held = held_of b in
         let g = passed f from in
         let rest : held_of g.buffer ≡ drop from held = held_used (entered_mode b Plain) from (line_ends (take from held)) in
-        let then_ = once_passes g mid (drop from held) len next (sym so_far.1) rest (holds_behind f from holds inside) once in
+        let then_ = once_passes g mid (drop from held) len next (sym so_far.1) rest (holds_after f from holds inside) once in
         let text : take from held ++ take len (held_of g.buffer) ≡ take (from + len) held = ap (λ (h : List ℕ). take from held ++ take len h) rest ∙ sym (take-add from len held) in
         let all : line_ends_of (take from held) ++ line_ends_of (take len (held_of g.buffer)) ≡ line_ends_of (take (from + len) held) =
         sym (line_ends_of-append (take from held) (take len (held_of g.buffer))) ∙ ap line_ends_of text in (
           so_far.0
-              ∙ ap (behind_bytes (line_ends_of (take from held))) (then_.0 ∙ ap (behind_bytes (line_ends_of (take len (held_of g.buffer)))) (passed_twice f from len))
-              ∙ behind_bytes-twice (line_ends_of (take from held)) (line_ends_of (take len (held_of g.buffer))) (left (passed f (from + len)))
-              ∙ ap (λ (x : List ℕ). behind_bytes x (left (passed f (from + len)))) all,
+              ∙ ap (after_bytes (line_ends_of (take from held))) (then_.0 ∙ ap (after_bytes (line_ends_of (take len (held_of g.buffer)))) (passed_twice f from len))
+              ∙ after_bytes-twice (line_ends_of (take from held)) (line_ends_of (take len (held_of g.buffer))) (left (passed f (from + len)))
+              ∙ ap (λ (x : List ℕ). after_bytes x (left (passed f (from + len)))) all,
           then_.1,
         )
 
@@ -346,13 +346,13 @@ module _ {R : Type 0} (rules : Rules) (unread : R → List ℕ) (ws : List Waiti
     stretch_by f from len mid next holds Begins inside once =
         let same : len ≡ 0 + len = omega arith in
         subst (λ (k : ℕ). Passes f k × (next ≡ Plain)) same (once_passes f f.buffer.mode (held_of f.buffer) len next refl refl holds once)
-    stretch_by f from len mid next holds (Onward at more m behind before within step) inside once =
-        one_more f from len mid next holds (stretch_by f at more m behind holds before within step) inside once
+    stretch_by f from len mid next holds (Onward at more m following before within step) inside once =
+        one_more f from len mid next holds (stretch_by f at more m following holds before within step) inside once
 
     -- a stretch
     pub stretch_passes : (f : File R) (len : ℕ) (next : Mode) → HoldsFront f.buffer → IsPassed f.buffer.mode (held_of f.buffer) len next → 0 < len → Passes f len × (next ≡ Plain)
     stretch_passes f len next holds Begins some = absurd (omega arith)
-    stretch_passes f len next holds (Onward from more mid behind before inside once) some = stretch_by f from more mid behind holds before inside once
+    stretch_passes f len next holds (Onward from more mid following before inside once) some = stretch_by f from more mid following holds before inside once
 
 -- What remains of the open sources, as skipped text of the innermost one is passed, and where it ends with a conditional open.
 
@@ -378,7 +378,7 @@ module _ {R : Type 0} (limits : Limits) (rules : Rules) (unread : R → List ℕ
     pub include_stack_stretch : (n len : ℕ) (next : Mode) → v.skipped ≡ Some n → HoldsFront f.buffer
         → IsPassed f.buffer.mode (held_of f.buffer) len next → 0 < len
         → include_stack_left limits rules unread macros v (f ∷ outer)
-        ≡ behind_bytes (line_ends_of (take len (held_of f.buffer)))
+        ≡ after_bytes (line_ends_of (take len (held_of f.buffer)))
         (include_stack_left limits rules unread macros v (consumed_file len (line_ends (take len (held_of f.buffer))) (with_file_buffer (entered_mode f.buffer Plain) f) ∷ outer))
     unfolding include_stack_left include_stack_state file_state
     include_stack_stretch n len next skips holds passes some =
@@ -389,8 +389,8 @@ module _ {R : Type 0} (limits : Limits) (rules : Rules) (unread : R → List ℕ
         let left : Place → List Waiting → File R → Passage = λ p ws x. source_left rules unread ws p x here in
         ap (λ (p : Place). left p waiting f) place
         ∙ (stretch_passes rules unread waiting n o own_conditionals here f len next holds passes some).0
-        ∙ ap (λ (p : Place). behind_bytes (line_ends_of w) (left p waiting g)) (sym place)
-        ∙ ap (λ (ws : List Waiting). behind_bytes (line_ends_of w) (left (place_of f.conditions_below v) ws g))
+        ∙ ap (λ (p : Place). after_bytes (line_ends_of w) (left p waiting g)) (sym place)
+        ∙ ap (λ (ws : List Waiting). after_bytes (line_ends_of w) (left (place_of f.conditions_below v) ws g))
         (sym (waiting_same limits rules unread (outer_open f.conditions_below v.open_now) f g outer
         (ends_mid_line_consumed unread entered len (line_ends w) ∙ ap (ends_mid_line_after f.ends_mid_line) (text_entered unread f.buffer Plain)) refl))
 
@@ -436,7 +436,7 @@ module _ {R : Type 0} (limits : Limits) (rules : Rules) (unread : R → List ℕ
     (skips : v.skipped ≡ Some n) where
   -- the LF bytes of what is passed, and then what remains
   abbrev pub IncludeStackPasses : List (File R) → List ℕ → List (File R) → Type 0
-  IncludeStackPasses include_stack w new = include_stack_left limits rules unread macros v include_stack ≡ behind_bytes (line_ends_of w) (include_stack_left limits rules unread macros v new)
+  IncludeStackPasses include_stack w new = include_stack_left limits rules unread macros v include_stack ≡ after_bytes (line_ends_of w) (include_stack_left limits rules unread macros v new)
 
   -- the sources that wait
   abbrev around : File R → List (File R) → List Waiting
@@ -453,16 +453,16 @@ module _ {R : Type 0} (limits : Limits) (rules : Rules) (unread : R → List ℕ
   -- a move in skipped text
   moved_skipped : (f g : File R) (outer : List (File R)) (x : List ℕ) → f.conditions_below ≤ length os
       → include_stack_state limits macros v (g ∷ outer) ≡ include_stack_state limits macros v (f ∷ outer)
-      → include_stack_rest f outer f ≡ behind_bytes x (include_stack_rest f outer g)
+      → include_stack_rest f outer f ≡ after_bytes x (include_stack_rest f outer g)
       → ends_mid_line_after g.ends_mid_line (text_left unread g.buffer) ≡ ends_mid_line_after f.ends_mid_line (text_left unread f.buffer) → g.include_line ≡ f.include_line → g.conditions_below ≡ f.conditions_below
-      → include_stack_left limits rules unread macros v (f ∷ outer) ≡ behind_bytes x (include_stack_left limits rules unread macros v (g ∷ outer))
+      → include_stack_left limits rules unread macros v (f ∷ outer) ≡ after_bytes x (include_stack_left limits rules unread macros v (g ∷ outer))
   moved_skipped f g outer x below same law ends_mid_line line around_same =
       let place = place_skipped f.conditions_below v n o os is_open below skips in
       moved limits rules unread macros v f g outer macros x
       (subst (λ (s : State). source_left rules unread (around f outer) (place_of f.conditions_below v) f (include_stack_state limits macros v (f ∷ outer))
-      ≡ behind_bytes x (source_left rules unread (around f outer) (place_of f.conditions_below v) g s)) (sym same)
+      ≡ after_bytes x (source_left rules unread (around f outer) (place_of f.conditions_below v) g s)) (sym same)
       (subst (λ (p : Place). source_left rules unread (around f outer) p f (include_stack_state limits macros v (f ∷ outer))
-      ≡ behind_bytes x (source_left rules unread (around f outer) p g (include_stack_state limits macros v (f ∷ outer)))) (sym place) law))
+      ≡ after_bytes x (source_left rules unread (around f outer) p g (include_stack_state limits macros v (f ∷ outer)))) (sym place) law))
       ends_mid_line line around_same
 
   -- a stretch of it in which nothing counts
@@ -490,7 +490,7 @@ module _ {R : Type 0} (limits : Limits) (rules : Rules) (unread : R → List ℕ
 
   -- a word that doesn't count
   include_stack_word_passes : (f : File R) (outer : List (File R)) (len : ℕ) → f.conditions_below ≤ length os
-      → include_stack_rest f outer f ≡ behind_bytes (line_ends_of (take len (held_of f.buffer))) (include_stack_rest f outer (consumed_file len 0 f))
+      → include_stack_rest f outer f ≡ after_bytes (line_ends_of (take len (held_of f.buffer))) (include_stack_rest f outer (consumed_file len 0 f))
       → IncludeStackPasses (f ∷ outer) (take len (held_of f.buffer)) (consumed_file len 0 f ∷ outer)
   unfolding include_stack_state file_state
   include_stack_word_passes f outer len below law =

@@ -7,7 +7,7 @@ use Rattle.rdlpp_scan.specs.declared.token.Mode.TheVariants.{Plain}
 use Rattle.rdlpp_table.specs.Table.{Macro, table_size}
 use Rattle.rdlpp_table.specs.View.{TableView}
 use Rattle.rdlpp_table.specs.declared.limits.Limits.{Limits}
-use Rattle.rdlpp_meaning.specs.Meaning.{Holds, Passage, Progress, behind_bytes, goes_on, leaves, opening_within}
+use Rattle.rdlpp_meaning.specs.Meaning.{Holds, Passage, Progress, after_bytes, goes_on, leaves, opening_within}
 use Rattle.rdlpp_meaning.specs.OpenItems.{open_left}
 use Rattle.rdlpp_meaning.specs.Opens.{Open as OpenText, Texts}
 use Rattle.rdlpp_meaning.specs.Outcome.{gives}
@@ -43,7 +43,7 @@ use Rattle.rdlpp_state.proofs.IncludeStackLeft.{Deep, Inside, Outside, Standing,
 
 -- nothing remains of no text
 pub silent_texts : (rules : Rules) (s : State) (macros : List Macro) (x : ExpansionView) (p : Passage) → x.opens ≡ [] → goes_on (texts_left rules s macros x) (λ after. p) ≡ p
-unfolding texts_left goes_on leaves open_left gives behind_bytes
+unfolding texts_left goes_on leaves open_left gives after_bytes
 silent_texts rules s macros x p idle =
     ap (λ (os : List OpenText). goes_on (leaves (open_left rules s x.line x.depth (texts_of macros x.arguments) os) s) (λ after. p)) idle
 
@@ -53,10 +53,10 @@ none_sound texts opens none = rw none (record { are_open = tt; are_inside = tt; 
 
 -- what remains of the text where no text of a usage is open
 pub text_idle : {S R : Type 0} (g : Ghosts S R) (e : EngineView S R) → e.expansion.opens ≡ []
-    → text_of g e ≡ behind_bytes (pending_bytes (inner_name e.files.include_stack) e.pending) (include_stack_left e.limits (run_rules g e) g.unread e.table.macros e.conditions e.files.include_stack)
+    → text_of g e ≡ after_bytes (pending_bytes (inner_name e.files.include_stack) e.pending) (include_stack_left e.limits (run_rules g e) g.unread e.table.macros e.conditions e.files.include_stack)
 unfolding text_of
 text_idle g e idle =
-    ap (behind_bytes (pending_bytes (inner_name e.files.include_stack) e.pending))
+    ap (after_bytes (pending_bytes (inner_name e.files.include_stack) e.pending))
     (silent_texts (run_rules g e) (state_of e) e.table.macros e.expansion (include_stack_left e.limits (run_rules g e) g.unread e.table.macros e.conditions e.files.include_stack) idle)
 
 -- What always holds of an engine, as its open sources change.

@@ -3,7 +3,7 @@ use Rattle.std.proofs.Common.{◌≡◌, ◌==◌, ◌⊎◌, inl, inr, ℕ, ◌
 use Rattle.rdlpp_scan.specs.declared.token.Mode.TheVariants.{Plain}
 use Rattle.rdlpp_table.specs.Table.{Macro, macro_named}
 use Rattle.rdlpp_table.specs.declared.limits.Limits.{Limits}
-use Rattle.rdlpp_meaning.specs.Meaning.{Passage, Progress, behind_bytes, goes_on, leaves}
+use Rattle.rdlpp_meaning.specs.Meaning.{Passage, Progress, after_bytes, goes_on, leaves}
 use Rattle.rdlpp_meaning.specs.OpenItems.{open_left}
 use Rattle.rdlpp_meaning.specs.Opened.{Waiting}
 use Rattle.rdlpp_meaning.specs.Opens.{Open, Texts}
@@ -52,7 +52,7 @@ use Rattle.rdlpp_state.specs.declared.place.PieceLocation.TheVariants.{Fault, Te
 use Rattle.rdlpp_state.proofs.WorkFacts.{IsUsed, cursors_fall, held_room, idle_digits, work_opens}
 use Rattle.rdlpp_state.proofs.IncludeSteps.{include_stack_macros}
 use Rattle.rdlpp_state.proofs.EngineSteps.{called, kept_at, no_part, not_called, reaches_same, walks_ceased, walks_fault, walks_kept, walks_lent}
-use Rattle.rdlpp_state.proofs.FrontSteps.{IsRead, behind_twice, keeps_fault, keeps_files, keeps_moves, left_by, read_nothing, told_kind, drained_behind, drained_few}
+use Rattle.rdlpp_state.proofs.FrontSteps.{IsRead, after_twice, keeps_fault, keeps_files, keeps_moves, left_by, read_nothing, told_kind, drained_after, drained_few}
 use Rattle.rdlpp_state.proofs.Stores.{KeepsStores, keeps_broken, keeps_opened, keeps_refused, keeps_texts, own_by, own_failed, own_stops, parts_moved, read_stops}
 use Rattle.rdlpp_state.proofs.Soundness.{silent_texts}
 use Rattle.rdlpp_state.proofs.IncludeStackLeft.{around, at_live, waiting_same}
@@ -62,13 +62,13 @@ use Rattle.rdlpp_state.proofs.LentPieces.{usage_position}
 
 -- bytes in front of what goes on
 goes_by : (bytes xs : List ℕ) (f : Option Report) (s : State) (next : State → Passage)
-    → goes_on (leaves (and_then (gives bytes) (record { bytes = xs; fault = f })) s) next ≡ behind_bytes bytes (goes_on (leaves (record { bytes = xs; fault = f }) s) next)
-unfolding goes_on leaves and_then gives behind_bytes
-goes_by bytes xs None s next = behind_twice bytes xs (next s)
+    → goes_on (leaves (and_then (gives bytes) (record { bytes = xs; fault = f })) s) next ≡ after_bytes bytes (goes_on (leaves (record { bytes = xs; fault = f }) s) next)
+unfolding goes_on leaves and_then gives after_bytes
+goes_by bytes xs None s next = after_twice bytes xs (next s)
 goes_by bytes xs (Some f) s next = refl
 
-pub goes_behind : (bytes : List ℕ) (o : Outcome) (s : State) (next : State → Passage) → goes_on (leaves (and_then (gives bytes) o) s) next ≡ behind_bytes bytes (goes_on (leaves o s) next)
-goes_behind bytes o s next = goes_by bytes o.bytes o.fault s next
+pub goes_after : (bytes : List ℕ) (o : Outcome) (s : State) (next : State → Passage) → goes_on (leaves (and_then (gives bytes) o) s) next ≡ after_bytes bytes (goes_on (leaves o s) next)
+goes_after bytes o s next = goes_by bytes o.bytes o.fault s next
 
 -- nothing is left where no text is open
 left_none : (rules : Rules) (s : State) (line depth : ℕ) (texts : Texts) (opens : List Open) → opens ≡ [] → open_left rules s line depth texts opens ≡ gives []
@@ -92,12 +92,12 @@ same_left rules s macros old new stays =
 -- the open texts go on over some bytes, before what goes on behind them
 texts_go : (rules : Rules) (s : State) (macros : List Macro) (old new : ExpansionView) (bytes : List ℕ) (p : Passage)
     → open_left rules s old.line old.depth (texts_of macros old.arguments) old.opens ≡ and_then (gives bytes) (open_left rules s old.line old.depth (texts_of macros old.arguments) new.opens) → StaysOpen old new
-    → goes_on (texts_left rules s macros old) (λ after. p) ≡ behind_bytes bytes (goes_on (texts_left rules s macros new) (λ after. p))
+    → goes_on (texts_left rules s macros old) (λ after. p) ≡ after_bytes bytes (goes_on (texts_left rules s macros new) (λ after. p))
 unfolding texts_left
 texts_go rules s macros old new bytes p goes stays =
     ap (λ (o : Outcome). goes_on (leaves o s) (λ after. p)) goes
-    ∙ (goes_behind bytes (open_left rules s old.line old.depth (texts_of macros old.arguments) new.opens) s (λ after. p)
-    ∙ ap (λ (o : Outcome). behind_bytes bytes (goes_on (leaves o s) (λ after. p))) (same_left rules s macros old new stays))
+    ∙ (goes_after bytes (open_left rules s old.line old.depth (texts_of macros old.arguments) new.opens) s (λ after. p)
+    ∙ ap (λ (o : Outcome). after_bytes bytes (goes_on (leaves o s) (λ after. p))) (same_left rules s macros old new stays))
 
 -- or end with a fault
 texts_fail : (rules : Rules) (s : State) (macros : List Macro) (x : ExpansionView) (f : Report) (p : Passage)
@@ -122,14 +122,14 @@ module _ {S R : Type 0} (g : Ghosts S R) (old : EngineView S R) (x : ExpansionVi
   text_goes : (bytes : List ℕ) → StaysOpen old.expansion x
       → open_left (run_rules g old) (state_of old) old.expansion.line old.expansion.depth (held_texts old) old.expansion.opens
       ≡ and_then (gives bytes) (open_left (run_rules g old) (state_of old) old.expansion.line old.expansion.depth (held_texts old) x.opens)
-      → text_of g old ≡ behind_bytes bytes (text_of g (record old { expansion = x }))
+      → text_of g old ≡ after_bytes bytes (text_of g (record old { expansion = x }))
   unfolding text_of state_of
   text_goes bytes stays goes =
       let name = inner_name old.files.include_stack in
       let p = left_by g old old.table.macros old.conditions old.files.include_stack in
-      drained_behind name old.pending (goes_on (texts_left (run_rules g old) (state_of old) old.table.macros old.expansion) (λ after. p)) drained.pending
+      drained_after name old.pending (goes_on (texts_left (run_rules g old) (state_of old) old.table.macros old.expansion) (λ after. p)) drained.pending
       ∙ (texts_go (run_rules g old) (state_of old) old.table.macros old.expansion x bytes p goes stays
-      ∙ ap (behind_bytes bytes) (sym (drained_behind name old.pending (goes_on (texts_left (run_rules g old) (state_of old) old.table.macros x) (λ after. p)) drained.pending)))
+      ∙ ap (after_bytes bytes) (sym (drained_after name old.pending (goes_on (texts_left (run_rules g old) (state_of old) old.table.macros x) (λ after. p)) drained.pending)))
 
   -- the work left falls
   work_texts : StaysOpen old.expansion x → AreSound (texts_of old.table.macros x.arguments) x.opens → AreFalling (cursor_digits old.expansion.opens) (cursor_digits x.opens)
@@ -193,7 +193,7 @@ texts_refuse {S} {R} g old mid new place fault drained bounded same is kept own 
     kept_at g old new place f is (ap (λ e. e.kept) becomes)
     (walks_fault g old new drained.free drained.open_ bounded f (told_kind fault.kind old.expansion.line word (state_of old) (text_kind fault.kind own))
     (keeps_fault old old new f r becomes) (keeps_files old old new f r becomes) (keeps_moves old old new f r becomes) drained.pending (subst P (sym (ap (λ e. e.sources) becomes)) (not_called g old.sources))
-    (λ t. drained_behind (inner_name old.files.include_stack) old.pending (goes_on (texts_left (run_rules g old) (state_of old) old.table.macros old.expansion) (λ after. p)) drained.pending
+    (λ t. drained_after (inner_name old.files.include_stack) old.pending (goes_on (texts_left (run_rules g old) (state_of old) old.table.macros old.expansion) (λ after. p)) drained.pending
     ∙ (texts_fail (run_rules g old) (state_of old) old.table.macros old.expansion f p
     (step (run_rules g old) (state_of old) (include_stack_macros old.limits old.table.macros old.conditions old.files.include_stack))
     ∙ ap (leaves (fails f)) here))
@@ -350,7 +350,7 @@ used_state limits macros v b used (f ∷ outer) = refl
 
 -- what remains of the text of an engine, by the same rules in the open texts and in the sources
 abbrev pub text_by : {S R : Type 0} → Rules → Ghosts S R → EngineView S R → Passage
-text_by rules g e = behind_bytes (pending_bytes (inner_name e.files.include_stack) e.pending)
+text_by rules g e = after_bytes (pending_bytes (inner_name e.files.include_stack) e.pending)
     (goes_on (texts_left rules (state_of e) e.table.macros e.expansion)
     (λ after. include_stack_left e.limits rules g.unread e.table.macros e.conditions e.files.include_stack))
 
@@ -359,7 +359,7 @@ module _ {S R : Type 0} (g : Ghosts S R) (rules : Rules) (e : EngineView S R) (d
   text_sources : text_by rules g e ≡ include_stack_left e.limits rules g.unread e.table.macros e.conditions e.files.include_stack
   text_sources =
       let p = include_stack_left e.limits rules g.unread e.table.macros e.conditions e.files.include_stack in
-      drained_behind (inner_name e.files.include_stack) e.pending (goes_on (texts_left rules (state_of e) e.table.macros e.expansion) (λ after. p)) drained
+      drained_after (inner_name e.files.include_stack) e.pending (goes_on (texts_left rules (state_of e) e.table.macros e.expansion) (λ after. p)) drained
       ∙ silent_texts rules (state_of e) e.table.macros e.expansion p idle
 
   -- before a usage that is opened it is that of the engine with the texts open and the source behind the usage
@@ -375,7 +375,7 @@ module _ {S R : Type 0} (g : Ghosts S R) (rules : Rules) (e : EngineView S R) (d
       text_sources
       ∙ (opened_include_stack e.limits rules g.unread e.table.macros e.conditions live e.files.include_stack new used x line name some uses text means
       ∙ (ap (λ (t : State). goes_on (texts_left rules t e.table.macros x) (λ after. p)) (sym here)
-      ∙ sym (drained_behind (inner_name new) e.pending (goes_on (texts_left rules (include_stack_state e.limits e.table.macros e.conditions new) e.table.macros x) (λ after. p)) drained)))
+      ∙ sym (drained_after (inner_name new) e.pending (goes_on (texts_left rules (include_stack_state e.limits e.table.macros e.conditions new) e.table.macros x) (λ after. p)) drained)))
 
   -- before one that is refused it is the fault
   pub refused_text : (new : List (File R)) (x : ExpansionView) (kind : FaultKind) (line : ℕ) (name : List ℕ)
@@ -480,7 +480,7 @@ module _ {S R : Type 0} (g : Ghosts S R) (old : EngineView S R) (ready : IsReady
   pub usage_opens : (line : ℕ) (name : List ℕ) → IsBounded opened_engine_at → SourcesCalled g false false old.sources s → work_left opened_engine_at < work_left old
       → (g.has_known_texts old.sources → text_left g.unread (inner_buffer old.files.include_stack) ≡ uses.used ++ text_left g.unread (inner_buffer include_stack))
       → (g.has_known_texts old.sources → TellsAt Opened line name) → KeepsStores g old opened_engine_at → Turns g old opened_engine_at → UncutStep g old opened_engine_at (Ok (Some []))
-  unfolding behind_bytes
+  unfolding after_bytes
   usage_opens line name bounded call falls text means keeps turn =
       let catalog : source_rules (g.catalog s) old.limits old.origins ≡ run_rules g old = ap (λ (c : Catalog). source_rules c old.limits old.origins) call.catalog in
       walks_lent g old opened_engine_at ready.free ready.open_ bounded [] refl (refl, refl) call

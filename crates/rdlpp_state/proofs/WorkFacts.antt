@@ -68,12 +68,12 @@ padded_none n =
     ap (λ (k : ℕ). replicate k 0) one ∙ sym (ap (λ (k : ℕ). 0 ∷ replicate k 0) none)
 
 -- the digits behind one that falls
-pub behind_within : (n owing : ℕ) (ds : List ℕ) → AreDigits ds → owing < 2 ^ 31 → number_of (padded n ds ++ owing ∷ []) < (2 ^ 31) ^ length (padded n ds ++ owing ∷ [])
-behind_within n owing ds all few = number_within (padded n ds ++ owing ∷ []) (digits_append (padded n ds) (owing ∷ []) (digits_padded n ds all) (few, tt))
+pub after_within : (n owing : ℕ) (ds : List ℕ) → AreDigits ds → owing < 2 ^ 31 → number_of (padded n ds ++ owing ∷ []) < (2 ^ 31) ^ length (padded n ds ++ owing ∷ [])
+after_within n owing ds all few = number_within (padded n ds ++ owing ∷ []) (digits_append (padded n ds) (owing ∷ []) (digits_padded n ds all) (few, tt))
 
 -- as many digits stand behind each
-pub behind_size : (n pending owing : ℕ) (old new : List ℕ) → length old ≤ n → length new ≤ n → length (padded n new ++ owing ∷ []) ≡ length (padded n old ++ pending ∷ [])
-behind_size n pending owing old new fits room =
+pub after_size : (n pending owing : ℕ) (old new : List ℕ) → length old ≤ n → length new ≤ n → length (padded n new ++ owing ∷ []) ≡ length (padded n old ++ pending ∷ [])
+after_size n pending owing old new fits room =
     length-append (padded n new) (owing ∷ []) ∙ (ap (λ (k : ℕ). k + 1) (padded_size n new room ∙ sym (padded_size n old fits)) ∙ sym (length-append (padded n old) (pending ∷ [])))
 
 -- The work left falls where fewer bytes aren't used, and where fewer pieces are pending.
@@ -119,7 +119,7 @@ work_less includes depth pending owing a b before old new less fits room all few
     let low : List ℕ → ℕ → List ℕ = λ cs k. replicate n 0 ++ (padded depth cs ++ k ∷ []) in
     let long : length (low new owing) ≡ length (low old pending) =
     length-append (replicate n 0) (padded depth new ++ owing ∷ [])
-    ∙ (ap (λ k. length {A = ℕ} (replicate n 0) + k) (behind_size depth pending owing old new fits room)
+    ∙ (ap (λ k. length {A = ℕ} (replicate n 0) + k) (after_size depth pending owing old new fits room)
     ∙ sym (length-append (replicate n 0) (padded depth old ++ pending ∷ []))) in
     let within = number_within (low new owing) (digits_append (replicate n 0) (padded depth new ++ owing ∷ []) (digits_zeros n) (digits_append (padded depth new) (owing ∷ []) (digits_padded depth new all) (few, tt))) in
     rw (work_by includes depth owing a before new, work_by includes depth pending b before old, places)
@@ -266,7 +266,7 @@ work_inside includes depth pending owing a b e before less room small few =
     let low : ℕ → List ℕ = λ k. replicate n 0 ++ (padded depth [] ++ k ∷ []) in
     let long : length (low owing) ≡ length (low pending) =
     length-append (replicate n 0) (padded depth [] ++ owing ∷ [])
-    ∙ (ap (λ k. length {A = ℕ} (replicate n 0) + k) (behind_size depth pending owing [] [] (omega arith) (omega arith))
+    ∙ (ap (λ k. length {A = ℕ} (replicate n 0) + k) (after_size depth pending owing [] [] (omega arith) (omega arith))
     ∙ sym (length-append (replicate n 0) (padded depth [] ++ pending ∷ []))) in
     let within = number_within (e ∷ low owing)
     (small, digits_append (replicate n 0) (padded depth [] ++ owing ∷ []) (digits_zeros n) (digits_append (padded depth []) (owing ∷ []) (digits_padded depth [] tt) (few, tt))) in
@@ -306,7 +306,7 @@ entered_falls old new limits before idle entered room few =
 one_falls : (head : List ℕ) (n pending owing a b : ℕ) (old new : List ℕ) → length old ≤ n → length new ≤ n → AreDigits new → owing < 2 ^ 31 → a < b
     → number_of (head ++ ((a ∷ padded n new) ++ owing ∷ [])) < number_of (head ++ ((b ∷ padded n old) ++ pending ∷ []))
 one_falls head n pending owing a b old new fits room all few less =
-    digits_fall head a b (padded n new ++ owing ∷ []) (padded n old ++ pending ∷ []) (behind_size n pending owing old new fits room) less (behind_within n owing new all few)
+    digits_fall head a b (padded n new ++ owing ∷ []) (padded n old ++ pending ∷ []) (after_size n pending owing old new fits room) less (after_within n owing new all few)
 
 -- digits that fall make a smaller number, behind any others and before any count of what is pending
 pub number_falls : (head : List ℕ) (depth pending owing : ℕ) (old new : List ℕ) → AreFalling old new → length old ≤ depth → length new ≤ depth → AreDigits new → owing < 2 ^ 31

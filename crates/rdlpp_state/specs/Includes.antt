@@ -78,20 +78,20 @@ included_engine found stop e = record e {
 
 -- what is pending where an included source has ended: an LF where its text ends in mid-line, and the origin line of its `include`, where
 -- asked for (this project's profile)
-unfoldable pub pending_behind : {R : Type 0} → Bool → List (File R) → PendingView
-pending_behind origins [] = nothing_pending
-pending_behind origins (f ∷ []) = nothing_pending
-pending_behind origins (f ∷ around ∷ outer) = record {
+unfoldable pub pending_after : {R : Type 0} → Bool → List (File R) → PendingView
+pending_after origins [] = nothing_pending
+pending_after origins (f ∷ []) = nothing_pending
+pending_after origins (f ∷ around ∷ outer) = record {
   line_ends = if f.ends_mid_line then 1 else 0;
   origin = origin_pending origins (shown_line (shift_of around.shift) f.include_line);
 }
 
 -- the marks of an engine that has left an included source: the LF that is pending shows the place of the `include` (this project's profile)
-unfoldable pub marks_behind : {R : Type 0} → List (File R) → MarksView → MarksView
-marks_behind [] m = m
-marks_behind (f ∷ []) m = m
-marks_behind (f ∷ around ∷ outer) m = ends_line (if f.ends_mid_line then 1 else 0) around.name.bytes (shown_line (shift_of around.shift) f.include_line) m
+unfoldable pub marks_after : {R : Type 0} → List (File R) → MarksView → MarksView
+marks_after [] m = m
+marks_after (f ∷ []) m = m
+marks_after (f ∷ around ∷ outer) m = ends_line (if f.ends_mid_line then 1 else 0) around.name.bytes (shown_line (shift_of around.shift) f.include_line) m
 
 -- an engine that has left an included source
 unfoldable pub left_engine : {S R : Type 0} → EngineView S R → EngineView S R
-left_engine e = record e { pending = pending_behind e.origins e.files.include_stack; marks = marks_behind e.files.include_stack e.marks; files = record e.files { include_stack = drop 1 e.files.include_stack } }
+left_engine e = record e { pending = pending_after e.origins e.files.include_stack; marks = marks_after e.files.include_stack e.marks; files = record e.files { include_stack = drop 1 e.files.include_stack } }

@@ -95,8 +95,8 @@ first_piece name_len origin = elim origin.part [
 ]
 
 -- what is pending of an origin line behind its first piece
-unfoldable pub behind_piece : OriginView → Option OriginView
-behind_piece origin = elim origin.part [
+unfoldable pub after_piece : OriginView → Option OriginView
+after_piece origin = elim origin.part [
   | LineEnds ↦ None
   | Label ↦ Some (record origin { part = Name })
   | Name ↦ Some (record origin { part = Colon })

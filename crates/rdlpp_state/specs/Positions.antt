@@ -4,7 +4,7 @@ use Rattle.std.specs.Prelude.{◌≡◌, ℕ, ◌-◌, ◌==◌, List, Option, N
 use Rattle.rdlpp_meaning.specs.State.{State, shown_line}
 use Rattle.rdlpp_read.specs.Files.{inner_buffer}
 use Rattle.rdlpp_state.specs.Engine.{EngineView, is_open}
-use Rattle.rdlpp_state.specs.Includes.{marks_behind}
+use Rattle.rdlpp_state.specs.Includes.{marks_after}
 use Rattle.rdlpp_state.specs.Marks.{PlaceView, ends_line, lends_pending, marked_place}
 use Rattle.rdlpp_state.specs.Pending.{OriginView, PendingView, TakesPiece}
 use Rattle.rdlpp_state.specs.Remaining.{inner_name, state_of}
@@ -51,8 +51,8 @@ position_of e = elim e.kept [
 -- it; or the place of the `include` of a source that has ended, for the LF that is pending behind that (this project's profile)
 pub data MarksPlace {S R : Type 0} (at after : EngineView S R) : Type 0 where
   Unmarked : after.marks ≡ at.marks → MarksPlace at after
-  BehindLine : (lines : ℕ) → after.marks ≡ ends_line lines (state_of at).name (shown_line (state_of at).shift (inner_buffer at.files.include_stack).line) at.marks → MarksPlace at after
-  BehindSource : after.marks ≡ marks_behind at.files.include_stack at.marks → MarksPlace at after
+  AfterLine : (lines : ℕ) → after.marks ≡ ends_line lines (state_of at).name (shown_line (state_of at).shift (inner_buffer at.files.include_stack).line) at.marks → MarksPlace at after
+  AfterSource : after.marks ≡ marks_after at.files.include_stack at.marks → MarksPlace at after
 
 -- the first piece of what is pending was taken out, and its place is marked
 pub record TakesPending {S R : Type 0} (old new : EngineView S R) (piece : PendingPiece) : Type 0 where

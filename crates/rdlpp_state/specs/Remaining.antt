@@ -6,7 +6,7 @@ use Rattle.rdlpp_table.specs.declared.limits.Limits.{Limits}
 use Rattle.rdlpp_source.specs.Sources.{Answer, Catalog, Missing, Overlong, Present}
 use Rattle.rdlpp_source.specs.declared.sources.Sources.{Ghosts}
 use Rattle.rdlpp_meaning.specs.declared.fault.FaultKind.TheVariants.{OutputBytes}
-use Rattle.rdlpp_meaning.specs.Meaning.{Passage, Progress, behind_bytes, goes_on, leaves, origin_line, outcome}
+use Rattle.rdlpp_meaning.specs.Meaning.{Passage, Progress, after_bytes, goes_on, leaves, origin_line, outcome}
 use Rattle.rdlpp_meaning.specs.Opened.{Waiting}
 use Rattle.rdlpp_meaning.specs.OutputLimit.{limited}
 use Rattle.rdlpp_meaning.specs.Outcome.{Report, Outcome, gives, fails}
@@ -59,8 +59,8 @@ include_stack_state limits macros v (f ∷ outer) = file_state limits macros (le
 
 -- what is written behind an open source, in the one around it: an LF where its text ends in mid-line, and the origin line of
 -- the `include`, where asked for (this project's profile)
-unfoldable pub ending_behind : {R : Type 0} → Rules → (R → List ℕ) → File R → File R → List ℕ
-ending_behind rules unread f around =
+unfoldable pub ending_after : {R : Type 0} → Rules → (R → List ℕ) → File R → File R → List ℕ
+ending_after rules unread f around =
     (if ends_mid_line_after f.ends_mid_line (text_left unread f.buffer) then 10 ∷ [] else [])
     ++ origin_line rules around.name.bytes (shown_line (shift_of around.shift) f.include_line)
 
@@ -72,7 +72,7 @@ waiting_around limits rules unread os f (around ∷ outer) = record {
   first = around.blanks;
   tokens = tokens_left unread around.buffer;
   state = file_state limits [] (length os) (length outer) around;
-  ending = ending_behind rules unread f around;
+  ending = ending_after rules unread f around;
 } ∷ waiting_around limits rules unread (outer_open around.conditions_below os) around outer
 
 -- what remains of the open sources, the innermost first, from macros and the open conditionals (this project's profile)
@@ -98,7 +98,7 @@ run_rules g e = source_rules (g.catalog e.sources) e.limits e.origins
 -- what remains of the text: the bytes that are pending, then what remains of the open texts of a usage, and then what remains of
 -- the open sources (this project's profile)
 unfoldable pub text_of : {S R : Type 0} → Ghosts S R → EngineView S R → Passage
-text_of g e = behind_bytes (pending_bytes (inner_name e.files.include_stack) e.pending)
+text_of g e = after_bytes (pending_bytes (inner_name e.files.include_stack) e.pending)
     (goes_on (texts_left (run_rules g e) (state_of e) e.table.macros e.expansion)
     (λ after. include_stack_left e.limits (run_rules g e) g.unread e.table.macros e.conditions e.files.include_stack))
 

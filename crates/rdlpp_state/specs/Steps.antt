@@ -5,7 +5,7 @@ use Rattle.rdlpp_scan.specs.declared.token.Mode.TheVariants.{Plain}
 use Rattle.rdlpp_source.specs.declared.sources.Sources.{Ghosts}
 use Rattle.rdlpp_meaning.specs.declared.fault.FaultKind.{FaultKind}
 use Rattle.rdlpp_meaning.specs.declared.fault.FaultKind.TheVariants.{ReadFailed}
-use Rattle.rdlpp_meaning.specs.Meaning.{Passage, behind_bytes, leaves}
+use Rattle.rdlpp_meaning.specs.Meaning.{Passage, after_bytes, leaves}
 use Rattle.rdlpp_meaning.specs.State.{State, fault_at}
 use Rattle.rdlpp_meaning.specs.Outcome.{Report, Outcome, gives, fails, and_then}
 use Rattle.rdlpp_read.specs.Buffer.{BufferView, Slides, held_of, reading_line_of}
@@ -68,7 +68,7 @@ pub record EndsText {S R : Type 0} (new : EngineView S R) (old : Passage) : Type
 pub record LendsText (most : List ℕ → List ℕ) (bytes : List ℕ) (old new : Passage) : Type 0 where
   pub piece : List ℕ
   pub lent : bytes ≡ most piece
-  pub text : old ≡ behind_bytes piece new
+  pub text : old ≡ after_bytes piece new
 
 -- what an answer says of what remained of the text, with the state behind it: a piece and then what remains now; the end; or the
 -- fault, in the state that the engine stands in

@@ -1,6 +1,6 @@
 // Texts that are pending: they are lent before anything that follows in the source.
 ghost use Rattle.std.specs.Prelude.{◌≡◌, ◌↔◌, ℕ, List, None, Some, ◌+◌, ◌<◌, ◌≤◌, ◌^◌, IfNone, IfSome, IsTrue, decimal, if◌then◌else◌, length, take};
-ghost use Rattle.rdlpp_state.specs.Pending.{TakesPiece, behind_piece, cut_to, digits_of, first_piece, nothing_pending, origin_pending, pending_number, part_bytes};
+ghost use Rattle.rdlpp_state.specs.Pending.{TakesPiece, after_piece, cut_to, digits_of, first_piece, nothing_pending, origin_pending, pending_number, part_bytes};
 
 use arrayvec::ArrayString;
 use itoa::Buffer;
@@ -113,9 +113,9 @@ impl OriginLine {
     }
 
     // Passes its first piece, and answers whether more of it is pending then.
-    #[tactic(auto, unfolding(crate::specs::Pending::behind_piece))]
+    #[tactic(auto, unfolding(crate::specs::Pending::after_piece))]
     fn pass_piece(&mut self) -> bool
-        ensures { behind_piece self.old ≡ (if result then Some self.new else None) }
+        ensures { after_piece self.old ≡ (if result then Some self.new else None) }
     {
         self.part = match self.part {
             PendingPart::LineEnds => return false,

@@ -15,16 +15,16 @@ use Rattle.rdlpp_scan.specs.Comments.{is_line_comment, other_texts, other_tokens
 use Rattle.rdlpp_scan.specs.LexFaults.{is_perl, lex_fault_from, fault_of_tokens, open_fault}
 use Rattle.rdlpp_scan.specs.Pieces.{tokens_len}
 use Rattle.rdlpp_scan.specs.Tokens.{whole, plain_token, token_of, tokens_from}
-use Rattle.rdlpp_scan.proofs.CleanTexts.{IsCleanTo, blank-step, clean_tokens, line-step, clean_nothing, clean_without, clean_behind_spaces, clean_to, clean_before_token, left_of}
+use Rattle.rdlpp_scan.proofs.CleanTexts.{IsCleanTo, blank-step, clean_tokens, line-step, clean_nothing, clean_without, clean_after_spaces, clean_to, clean_before_token, left_of}
 use Rattle.rdlpp_scan.proofs.RangeLaws.{clean_before_comma, tokens_from-first, tokens_from-front}
 use Rattle.rdlpp_scan.proofs.TokenLens.{token_of-part, tokens_from-step, tokens-some}
 use Rattle.rdlpp_lines.specs.LineTokens.{kept_of}
-use Rattle.rdlpp_lines.specs.Texts.{Sound, onto, cleared, ends_default, left_in, level_behind, Cleared, Unsound, start_level, text_behind, trimmed_left, trimmed_len, trims, told, read_by, kept_bytes}
+use Rattle.rdlpp_lines.specs.Texts.{Sound, onto, cleared, ends_default, left_in, level_after, Cleared, Unsound, start_level, text_after, trimmed_left, trimmed_len, trims, told, read_by, kept_bytes}
 use Rattle.rdlpp_lines.proofs.Measures.{by_first, kept_own, left_first, left_len, ok_len}
 use Rattle.rdlpp_table.specs.Store.{fills, is_clean, is_default}
 use Rattle.rdlpp_scan.specs.TokenKinds.{opens_mode}
 use Rattle.rdlpp_table.specs.Table.{Formal, Macro, default_size}
-use Rattle.rdlpp_table.specs.Formals.{default_behind, IsDefault, default_left}
+use Rattle.rdlpp_table.specs.Formals.{default_after, IsDefault, default_left}
 use Rattle.rdlpp_table.specs.Define.{DefaultText, Drawn, DraftFault, default_in, default_of_tokens, is_space, lexical, onto_default, onto_trimmed, trimmed, trimmed_default, trimmed_of, with_body, without_end, text_without_line_comments}
 
 -- Default texts as they are read back from a table's bytes: the levels of their tokens, without `//` comments and without spaces at
@@ -55,17 +55,17 @@ unfolding is_default
 default_from text c h = and_from _ _ (text_clean text c) h
 
 -- a token that neither ends a default text nor changes its level
-inert_fill : (l : ℕ) (t : Token) (ts : List Token) (text : List ℕ) → ends_default t.kind (get_or text 0 0) ≡ false → level_behind t.kind l ≡ l → fills l (t ∷ ts) text ≡ fills l ts (drop t.len text)
+inert_fill : (l : ℕ) (t : Token) (ts : List Token) (text : List ℕ) → ends_default t.kind (get_or text 0 0) ≡ false → level_after t.kind l ≡ l → fills l (t ∷ ts) text ≡ fills l ts (drop t.len text)
 unfolding fills
 inert_fill l t ts text e f =
-    ap (λ b. not b && fills (level_behind t.kind l) ts (drop t.len text)) (and_right (eqb l 0) _ e) ∙ ap (λ n. fills n ts (drop t.len text)) f
+    ap (λ b. not b && fills (level_after t.kind l) ts (drop t.len text)) (and_right (eqb l 0) _ e) ∙ ap (λ n. fills n ts (drop t.len text)) f
 
 blank_fill : (l n : ℕ) (ts : List Token) (text : List ℕ) → fills l (whole Blank n ∷ ts) text ≡ fills l ts (drop n text)
-unfolding whole ends_default level_behind
+unfolding whole ends_default level_after
 blank_fill l n ts text = inert_fill l (whole Blank n) ts text refl refl
 
 line_fill : (l : ℕ) (ts : List Token) (text : List ℕ) → fills l (whole LineEnd 1 ∷ ts) text ≡ fills l ts (drop 1 text)
-unfolding whole ends_default level_behind
+unfolding whole ends_default level_after
 line_fill l ts text = inert_fill l (whole LineEnd 1) ts text refl refl
 
 -- whether a text fills a level up
@@ -90,13 +90,13 @@ module _ (class : ℕ → Bool) (are : AreSpaces class) where
       (λ h. blank_run l b bs h ∙ ap (λ i. fills_text l (drop i (b ∷ bs))) (ap (λ t. cond t (1 + n) 0) h ∙ one) ∙ sym (run_before l bs))
       (λ h. ap (λ ts. fills l ts (b ∷ bs)) (line-step b bs h) ∙ line_fill l _ (b ∷ bs)) (or_cases (is_blank b) (is_line_end b) (are.alone b is))
 
-  pub behind_spaces_fill : (l : ℕ) (text : List ℕ) → fills_text l (drop (prefix_len class text) text) ≡ fills_text l text
-  behind_spaces_fill l [] = refl
-  behind_spaces_fill l (b ∷ bs) =
+  pub after_spaces_fill : (l : ℕ) (text : List ℕ) → fills_text l (drop (prefix_len class text) text) ≡ fills_text l text
+  after_spaces_fill l [] = refl
+  after_spaces_fill l (b ∷ bs) =
       let n = prefix_len class bs in
       let one : 1 + n ≡ suc n = omega arith in
       ⊎_elim
-      (λ h. ap (λ i. fills_text l (drop i (b ∷ bs))) (ap (λ t. cond t (1 + n) 0) h ∙ one) ∙ behind_spaces_fill l bs ∙ sym (one_space l b bs h))
+      (λ h. ap (λ i. fills_text l (drop i (b ∷ bs))) (ap (λ t. cond t (1 + n) 0) h ∙ one) ∙ after_spaces_fill l bs ∙ sym (one_space l b bs h))
       (λ h. ap (λ t. fills_text l (drop (cond t (1 + n) 0) (b ∷ bs))) h) (cases_Bool (class b))
 
   all_spaces : (l : ℕ) (text : List ℕ) → ((k : ℕ) → k < length text → class (get_or text k 0) ≡ true) → fills_text l text ≡ eqb l 0
@@ -111,10 +111,10 @@ module _ (class : ℕ → Bool) (are : AreSpaces class) where
   front_fill [] us l text e all spaces h = sym (all_spaces l text (λ k lt. spaces k (omega arith) lt)) ∙ (ap (λ ts. fills l ts text) e ∙ h)
   front_fill (t ∷ ts) us l text e all spaces h =
       let p = tokens_from-first Plain text t (ts ++ us) e in
-      let q = and_parts (not (eqb l 0 && ends_default t.kind (get_or text 0 0))) (fills (level_behind t.kind l) (ts ++ us) (drop t.len text)) h in
+      let q = and_parts (not (eqb l 0 && ends_default t.kind (get_or text 0 0))) (fills (level_after t.kind l) (ts ++ us) (drop t.len text)) h in
       let later : tokens_from Plain 0 (drop t.len text) ≡ ts ++ us = ap (λ (m : Mode). tokens_from m 0 (drop t.len text)) (sym all.0.next) ∙ p.1.1 in
-      let behind : (k : ℕ) → tokens_len ts ≤ k → k < length (drop t.len text) → class (get_or (drop t.len text) k 0) ≡ true = λ k le lt. ap class (get_or-drop t.len text k 0) ∙ spaces (t.len + k) (omega arith) (omega (arith, length-drop t.len text)) in
-      and_from _ _ q.0 (front_fill ts us (level_behind t.kind l) (drop t.len text) later all.1 behind q.1)
+      let following : (k : ℕ) → tokens_len ts ≤ k → k < length (drop t.len text) → class (get_or (drop t.len text) k 0) ≡ true = λ k le lt. ap class (get_or-drop t.len text k 0) ∙ spaces (t.len + k) (omega arith) (omega (arith, length-drop t.len text)) in
+      and_from _ _ q.0 (front_fill ts us (level_after t.kind l) (drop t.len text) later all.1 following q.1)
 
 -- the first byte of a front
 first_of : (n : ℕ) (text : List ℕ) → 0 < n → get_or (take n text) 0 0 ≡ get_or text 0 0
@@ -128,10 +128,10 @@ unfolding fills tokens_len
 taken_fill [] l n text some le = refl
 taken_fill (t ∷ ts) l n text some le =
     let split : t.len + (n - t.len) ≡ n = omega arith in
-    let behind : drop t.len (take n text) ≡ take (n - t.len) (drop t.len text) = ap (λ i. drop t.len (take i text)) (sym split) ∙ drop-take t.len (n - t.len) text in
+    let following : drop t.len (take n text) ≡ take (n - t.len) (drop t.len text) = ap (λ i. drop t.len (take i text)) (sym split) ∙ drop-take t.len (n - t.len) text in
     let first : Bool = not (eqb l 0 && ends_default t.kind (get_or text 0 0)) in
-    ap (λ b. not (eqb l 0 && ends_default t.kind b) && fills (level_behind t.kind l) ts (drop t.len (take n text))) (first_of n text (omega (arith, some.0)))
-    ∙ ap (λ x. first && x) (ap (fills (level_behind t.kind l) ts) behind ∙ taken_fill ts (level_behind t.kind l) (n - t.len) (drop t.len text) some.1 (omega arith))
+    ap (λ b. not (eqb l 0 && ends_default t.kind b) && fills (level_after t.kind l) ts (drop t.len (take n text))) (first_of n text (omega (arith, some.0)))
+    ∙ ap (λ x. first && x) (ap (fills (level_after t.kind l) ts) following ∙ taken_fill ts (level_after t.kind l) (n - t.len) (drop t.len text) some.1 (omega arith))
 
 -- the spaces at the end go
 pub before_spaces_fill : (class : ℕ → Bool) → AreSpaces class → (l : ℕ) (text : List ℕ) (n : ℕ) → IsCleanTo class text n → fills_text l text ≡ true → fills_text l (take n text) ≡ true
@@ -149,19 +149,19 @@ before_spaces_fill class are l text n c h =
 unfoldable fills_by : ℕ → List Token → List (List ℕ) → Bool
 fills_by l [] texts = eqb l 0
 fills_by l (t ∷ ts) [] = eqb l 0
-fills_by l (t ∷ ts) (x ∷ texts) = not (eqb l 0 && ends_default t.kind (get_or x 0 0)) && fills_by (level_behind t.kind l) ts texts
+fills_by l (t ∷ ts) (x ∷ texts) = not (eqb l 0 && ends_default t.kind (get_or x 0 0)) && fills_by (level_after t.kind l) ts texts
 
 by_texts : (ts : List Token) (l : ℕ) (text : List ℕ) → AllByRecursion (λ t. 0 < t.len) ts → fills l ts text ≡ fills_by l ts (token_texts ts text)
 unfolding fills fills_by token_texts
 by_texts [] l text some = refl
 by_texts (t ∷ ts) l text some =
     let first : Bool = not (eqb l 0 && ends_default t.kind (get_or (take t.len text) 0 0)) in
-    ap (λ b. not (eqb l 0 && ends_default t.kind b) && fills (level_behind t.kind l) ts (drop t.len text)) (sym (first_of t.len text some.0))
-    ∙ ap (λ x. first && x) (by_texts ts (level_behind t.kind l) (drop t.len text) some.1)
+    ap (λ b. not (eqb l 0 && ends_default t.kind b) && fills (level_after t.kind l) ts (drop t.len text)) (sym (first_of t.len text some.0))
+    ∙ ap (λ x. first && x) (by_texts ts (level_after t.kind l) (drop t.len text) some.1)
 
 -- a `//` comment does neither
-comment_inert : (k : Kind) (l b : ℕ) → is_line_comment k ≡ true → (ends_default k b ≡ false) × (level_behind k l ≡ l)
-unfolding is_line_comment ends_default level_behind
+comment_inert : (k : Kind) (l b : ℕ) → is_line_comment k ≡ true → (ends_default k b ≡ false) × (level_after k l ≡ l)
+unfolding is_line_comment ends_default level_after
 comment_inert LineComment l b h = (refl, refl)
 comment_inert _ l b h = absurd (false≢true h)
 
@@ -174,12 +174,12 @@ others_fill (t ∷ ts) l text =
     let texts = other_texts ts (drop t.len text) in
     let all = token_texts ts (drop t.len text) in
     let first : Bool = not (eqb l 0 && ends_default t.kind (get_or own 0 0)) in
-    let P : Bool → Type 0 = λ c. is_line_comment t.kind ≡ c → fills_by l (cond (not c) (t ∷ kept) kept) (cond c texts (own ∷ texts)) ≡ (first && fills_by (level_behind t.kind l) ts all) in
+    let P : Bool → Type 0 = λ c. is_line_comment t.kind ≡ c → fills_by l (cond (not c) (t ∷ kept) kept) (cond c texts (own ∷ texts)) ≡ (first && fills_by (level_after t.kind l) ts all) in
     let at_comment : P true = λ h.
     let q = comment_inert t.kind l (get_or own 0 0) h in
     others_fill ts l (drop t.len text)
-    ∙ sym (ap (λ b. not b && fills_by (level_behind t.kind l) ts all) (and_right (eqb l 0) _ q.0) ∙ ap (λ n. fills_by n ts all) q.1) in
-    let at_other : P false = λ _. ap (λ x. first && x) (others_fill ts (level_behind t.kind l) (drop t.len text)) in
+    ∙ sym (ap (λ b. not b && fills_by (level_after t.kind l) ts all) (and_right (eqb l 0) _ q.0) ∙ ap (λ n. fills_by n ts all) q.1) in
+    let at_other : P false = λ _. ap (λ x. first && x) (others_fill ts (level_after t.kind l) (drop t.len text)) in
     elim (is_line_comment t.kind) as P [ true ↦ at_comment | false ↦ at_other ] refl
 
 -- tokens fill a level up as what is left of them without `//` comments does
@@ -210,7 +210,7 @@ fills_read (suc fuel) l (b ∷ bs) rest le all h =
     let T = b ∷ bs in
     let ys = 44 ∷ rest in
     let t = token_of Plain T in
-    let m = level_behind t.kind l in
+    let m = level_after t.kind l in
     let some : 0 < length T = omega arith in
     let part = token_of-part Plain T some in
     let after = drop t.len T in
@@ -224,13 +224,13 @@ fills_read (suc fuel) l (b ∷ bs) rest le all h =
     let read : left_in (Some m) Plain (after ++ ys) ≡ Sound after ys = fills_read fuel m after rest (omega (arith, length-drop t.len T, part.not_empty)) each_after fill_after in
     let same : token_of Plain (T ++ ys) ≡ t = clean_before_comma T rest some each.0 in
     let own : kept_of t.kind (take t.len (T ++ ys)) ≡ take t.len T = kept_own t.kind _ each.0.kept ∙ take-append-le t.len T ys part.inside in
-    let behind : drop t.len (T ++ ys) ≡ after ++ ys = drop-append-le t.len T ys part.inside in
+    let following : drop t.len (T ++ ys) ≡ after ++ ys = drop-append-le t.len T ys part.inside in
     left_first (Some l) Plain (T ++ ys) (omega arith)
     ∙ (ap (λ (u : Token). by_first (Some l) u (T ++ ys)) same
     ∙ (cond-false _ _ _ each.0.sound
     ∙ (cond-false _ _ _ (not-true _ fill.0)
     ∙ (ap (λ x. onto x (left_in (Some m) t.next_mode (drop t.len (T ++ ys)))) own
-    ∙ (ap (λ x. onto (take t.len T) (left_in (Some m) t.next_mode x)) behind
+    ∙ (ap (λ x. onto (take t.len T) (left_in (Some m) t.next_mode x)) following
     ∙ (ap (λ (v : Mode). onto (take t.len T) (left_in (Some m) v (after ++ ys))) next
     ∙ (ap (onto (take t.len T)) read ∙ ap (λ x. Sound x ys) (take-append-drop t.len T))))))))
 
@@ -268,10 +268,10 @@ trimmed_clean : (class : ℕ → Bool) → AreSpaces class → (text : List ℕ)
 unfolding trimmed_of
 trimmed_clean class are text clean =
     let front = drop (prefix_len class text) text in
-    let end = clean_to class are front (clean_behind_spaces class are text clean) in
+    let end = clean_to class are front (clean_after_spaces class are text clean) in
     let trimmed : IsTrimmed text (take end.0 front) = record {
       clean = end.1.clean;
-      filled = λ h. before_spaces_fill class are 0 front end.0 end.1 (behind_spaces_fill class are 0 text ∙ h);
+      filled = λ h. before_spaces_fill class are 0 front end.0 end.1 (after_spaces_fill class are 0 text ∙ h);
     } in
     subst (IsTrimmed text) (sym (without_end_is class front end.0 end.1.inside end.1.spaces end.1.last)) trimmed
 
@@ -335,18 +335,18 @@ ends_shut Comma b h = refl
 ends_shut Closer b h = refl
 ends_shut _ b h = absurd (false≢true h)
 
-onto_kind : (k : Kind) (xs : List ℕ) (e d : DefaultText) (rest : List (List ℕ)) → (elim k [ LineComment ↦ Some e | _ ↦ Some (let x : DefaultText = record { text = xs ++ e.text; behind = e.behind } in x) ]) ≡ Some d → e.text ≡ concat rest → d.text ≡ concat (cond (is_line_comment k) rest (xs ∷ rest))
+onto_kind : (k : Kind) (xs : List ℕ) (e d : DefaultText) (rest : List (List ℕ)) → (elim k [ LineComment ↦ Some e | _ ↦ Some (let x : DefaultText = record { text = xs ++ e.text; following = e.following } in x) ]) ≡ Some d → e.text ≡ concat rest → d.text ≡ concat (cond (is_line_comment k) rest (xs ∷ rest))
 unfolding is_line_comment
 onto_kind LineComment xs e d rest h same = sym (ap (λ (x : DefaultText). x.text) (some_is e d h)) ∙ same
-onto_kind _ xs e d rest h same = sym (ap (λ (x : DefaultText). x.text) (some_is (record { text = xs ++ e.text; behind = e.behind }) d h)) ∙ ap (λ z. xs ++ z) same
+onto_kind _ xs e d rest h same = sym (ap (λ (x : DefaultText). x.text) (some_is (record { text = xs ++ e.text; following = e.following }) d h)) ∙ ap (λ z. xs ++ z) same
 
-found_first : (level : ℕ) (t : Token) (ts : List Token) (text : List ℕ) (d : DefaultText) → is_perl t.kind ≡ false → eqb level 0 ≡ true → opens_mode t.kind ≡ false → Some (let x : DefaultText = record { text = []; behind = text } in x) ≡ Some d → IsFound level (t ∷ ts) text d
+found_first : (level : ℕ) (t : Token) (ts : List Token) (text : List ℕ) (d : DefaultText) → is_perl t.kind ≡ false → eqb level 0 ≡ true → opens_mode t.kind ≡ false → Some (let x : DefaultText = record { text = []; following = text } in x) ≡ Some d → IsFound level (t ∷ ts) text d
 unfolding other_texts fills
 found_first level t ts text d whole none shut e =
-    record { before = []; ends = t; after = ts; is = refl; text_is = sym (ap (λ (x : DefaultText). x.text) (some_is (record { text = []; behind = text }) d e)); filled = none; sound = tt; shut = shut; whole = whole }
+    record { before = []; ends = t; after = ts; is = refl; text_is = sym (ap (λ (x : DefaultText). x.text) (some_is (record { text = []; following = text }) d e)); filled = none; sound = tt; shut = shut; whole = whole }
 
 found_next : (level : ℕ) (t : Token) (ts : List Token) (text : List ℕ) (e d : DefaultText) → is_perl t.kind ≡ false → (eqb level 0 && ends_default t.kind (get_or text 0 0)) ≡ false → onto_default t text (Some e) ≡ Some d
-    → IsFound (level_behind t.kind level) ts (drop t.len text) e → IsFound level (t ∷ ts) text d
+    → IsFound (level_after t.kind level) ts (drop t.len text) e → IsFound level (t ∷ ts) text d
 unfolding onto_default other_texts fills
 found_next level t ts text e d whole on h f =
     record {
@@ -365,8 +365,8 @@ found_in : (level : ℕ) (ts : List Token) (text : List ℕ) (d : DefaultText) �
 unfolding default_of_tokens onto_default
 found_in level [] text d e = absurd (cc)
 found_in level (t ∷ ts) text d e =
-    let here : Option DefaultText = Some (record { text = []; behind = text }) in
-    let later : Option DefaultText = default_of_tokens (level_behind t.kind level) ts (drop t.len text) in
+    let here : Option DefaultText = Some (record { text = []; following = text }) in
+    let later : Option DefaultText = default_of_tokens (level_after t.kind level) ts (drop t.len text) in
     let points = eqb level 0 && ends_default t.kind (get_or text 0 0) in
     elim (cases_Bool (is_perl t.kind)) [
       | inl perl ↦ let none : None ≡ Some d = sym (cond-true _ _ _ perl) ∙ e in absurd (cc)
@@ -379,7 +379,7 @@ found_in level (t ∷ ts) text d e =
                 let onto : onto_default t text later ≡ Some d = sym (cond-false _ _ _ goes_on) ∙ rest in
                 (elim later as (λ o. later ≡ o → onto_default t text o ≡ Some d → IsFound level (t ∷ ts) text d) [
                   | None ↦ λ _ h. absurd (cc)
-                  | Some x ↦ λ q h. found_next level t ts text x d whole goes_on h (found_in (level_behind t.kind level) ts (drop t.len text) x q)
+                  | Some x ↦ λ q h. found_next level t ts text x d whole goes_on h (found_in (level_after t.kind level) ts (drop t.len text) x q)
                 ]) refl onto
           ]
     ]
@@ -403,23 +403,23 @@ trimmed_by : (text : List ℕ) (o : Option DefaultText) (d : DefaultText) → de
 unfolding trimmed_default
 trimmed_by text None d is e = absurd (cc)
 trimmed_by text (Some raw) d is e =
-    let same : trimmed_of is_space raw.text ≡ d.text = ap (λ (x : DefaultText). x.text) (some_is (record { text = trimmed_of is_space raw.text; behind = raw.behind }) d e) in
+    let same : trimmed_of is_space raw.text ≡ d.text = ap (λ (x : DefaultText). x.text) (some_is (record { text = trimmed_of is_space raw.text; following = raw.following }) d e) in
     let c = default_clean text raw is in
     let t = trimmed_clean is_space spaces_are raw.text c.0 in
     (subst IsCleanText same t.clean, subst (λ (x : List ℕ). is_default x ≡ true) same (default_from (trimmed_of is_space raw.text) t.clean (t.filled c.1)))
 
 -- a default text that is read is read back
-pub default_behind_plain : (text : List ℕ) (d : DefaultText) → default_behind text ≡ Some d → is_default d.text ≡ true
-unfolding default_behind
-default_behind_plain text d e = (trimmed_by text (default_of_tokens 0 (tokens_from Plain 0 text) text) d refl e).1
+pub default_after_plain : (text : List ℕ) (d : DefaultText) → default_after text ≡ Some d → is_default d.text ≡ true
+unfolding default_after
+default_after_plain text d e = (trimmed_by text (default_of_tokens 0 (tokens_from Plain 0 text) text) d refl e).1
 
 -- the default text of a formal is clean
-pub default_in_clean : (behind : List ℕ) (d : DefaultText) → default_in behind ≡ Some d → IsCleanText d.text
+pub default_in_clean : (following : List ℕ) (d : DefaultText) → default_in following ≡ Some d → IsCleanText d.text
 unfolding default_in
-default_in_clean behind d e =
-    let text = drop 1 behind in
-    let nothing : DefaultText = record { text = []; behind = behind } in
-    elim (cases_Bool (eqb (get_or behind 0 0) 61)) [
+default_in_clean following d e =
+    let text = drop 1 following in
+    let nothing : DefaultText = record { text = []; following = following } in
+    elim (cases_Bool (eqb (get_or following 0 0) 61)) [
       | inl given ↦ (trimmed_by text (default_of_tokens 0 (tokens_from Plain 0 text) text) d refl (sym (cond-true _ _ _ given) ∙ e)).0
       | inr none ↦ subst IsCleanText (ap (λ (x : DefaultText). x.text) (some_is nothing d (sym (cond-false _ _ _ none) ∙ e))) clean_nothing
     ]
@@ -429,24 +429,24 @@ default_in_clean behind d e =
 -- the default text of what is left
 abbrev found : Cleared → Option DefaultText
 found (Sound rest []) = None
-found (Sound rest (b ∷ bs)) = Some (record { text = rest; behind = b ∷ bs })
+found (Sound rest (b ∷ bs)) = Some (record { text = rest; following = b ∷ bs })
 found (Unsound fault) = None
 
-front_by : (k : Kind) (xs rest behind : List ℕ) → (elim k [ LineComment ↦ Some (record { text = rest; behind = behind }) | _ ↦ Some (record { text = xs ++ rest; behind = behind }) ]) ≡ Some (let d : DefaultText = record { text = (elim k [ LineComment ↦ [] | _ ↦ xs ]) ++ rest; behind = behind } in d)
-front_by Name xs rest behind = refl
-front_by Word xs rest behind = refl
-front_by Back xs rest behind = refl
-front_by Blank xs rest behind = refl
-front_by LineEnd xs rest behind = refl
-front_by Str xs rest behind = refl
-front_by LineComment xs rest behind = refl
-front_by BlockComment xs rest behind = refl
-front_by Opener xs rest behind = refl
-front_by Closer xs rest behind = refl
-front_by Comma xs rest behind = refl
-front_by Other xs rest behind = refl
-front_by PerlKind xs rest behind = refl
-front_by BareBackquote xs rest behind = refl
+front_by : (k : Kind) (xs rest following : List ℕ) → (elim k [ LineComment ↦ Some (record { text = rest; following = following }) | _ ↦ Some (record { text = xs ++ rest; following = following }) ]) ≡ Some (let d : DefaultText = record { text = (elim k [ LineComment ↦ [] | _ ↦ xs ]) ++ rest; following = following } in d)
+front_by Name xs rest following = refl
+front_by Word xs rest following = refl
+front_by Back xs rest following = refl
+front_by Blank xs rest following = refl
+front_by LineEnd xs rest following = refl
+front_by Str xs rest following = refl
+front_by LineComment xs rest following = refl
+front_by BlockComment xs rest following = refl
+front_by Opener xs rest following = refl
+front_by Closer xs rest following = refl
+front_by Comma xs rest following = refl
+front_by Other xs rest following = refl
+front_by PerlKind xs rest following = refl
+front_by BareBackquote xs rest following = refl
 
 onto_found : (t : Token) (text : List ℕ) (c : Cleared) → onto_default t text (found c) ≡ found (onto (kept_bytes t text) c)
 unfolding onto_default onto
@@ -477,7 +477,7 @@ no_default : (level : ℕ) (text : List ℕ) → default_of_tokens level [] text
 unfolding default_of_tokens
 no_default level text = refl
 
-one_default : (level : ℕ) (t : Token) (ts : List Token) (text : List ℕ) → default_of_tokens level (t ∷ ts) text ≡ cond (is_perl t.kind) None (cond (eqb level 0 && ends_default t.kind (get_or text 0 0)) (Some (record { text = []; behind = text })) (onto_default t text (default_of_tokens (level_behind t.kind level) ts (drop t.len text))))
+one_default : (level : ℕ) (t : Token) (ts : List Token) (text : List ℕ) → default_of_tokens level (t ∷ ts) text ≡ cond (is_perl t.kind) None (cond (eqb level 0 && ends_default t.kind (get_or text 0 0)) (Some (record { text = []; following = text })) (onto_default t text (default_of_tokens (level_after t.kind level) ts (drop t.len text))))
 unfolding default_of_tokens
 one_default level t ts text = refl
 
@@ -498,7 +498,7 @@ found_by (b ∷ bs) m zero level =
     let ts : List Token = tokens_from t.next_mode (t.len - 1) bs in
     let len : t.len ≡ suc (t.len - 1) = omega (arith, (token_of-part m (b ∷ bs) (omega arith)).not_empty) in
     let at : drop t.len (b ∷ bs) ≡ drop (t.len - 1) bs = ap (λ (i : ℕ). drop i (b ∷ bs)) len in
-    let next : ℕ = level_behind t.kind level in
+    let next : ℕ = level_after t.kind level in
     let ends : Bool = eqb level 0 && ends_default t.kind b in
     let rest : onto_default t (b ∷ bs) (default_of_tokens next ts (drop t.len (b ∷ bs))) ≡ found (onto (kept_bytes t (b ∷ bs)) (read_by (Some next) t.next_mode ts (drop t.len (b ∷ bs)))) =
     ap (λ (x : List ℕ). onto_default t (b ∷ bs) (default_of_tokens next ts x)) at
@@ -507,13 +507,13 @@ found_by (b ∷ bs) m zero level =
     ∙ ap (λ (x : List ℕ). found (onto (kept_bytes t (b ∷ bs)) (read_by (Some next) t.next_mode ts x))) (sym at))) in
     ap (λ (us : List Token). default_of_tokens level us (b ∷ bs)) (first_step m b bs)
     ∙ (one_default level t ts (b ∷ bs)
-    ∙ (ap (λ (o : Option DefaultText). cond (is_perl t.kind) None (cond ends (Some (record { text = []; behind = b ∷ bs })) o)) rest
+    ∙ (ap (λ (o : Option DefaultText). cond (is_perl t.kind) None (cond ends (Some (record { text = []; following = b ∷ bs })) o)) rest
     ∙ (ap (λ (o : Option DefaultText). cond (is_perl t.kind) None o) (sym (found_cond ends (Sound [] (b ∷ bs)) _))
     ∙ (sym (found_cond (is_perl t.kind) (Unsound _) _)
     ∙ ap (λ (us : List Token). found (read_by (Some level) m us (b ∷ bs))) (sym (first_step m b bs))))))
 
-pub default_is : (text : List ℕ) → default_behind text ≡ option_map trimmed_default (found (cleared (Some 0) text))
-unfolding default_behind cleared left_in
+pub default_is : (text : List ℕ) → default_after text ≡ option_map trimmed_default (found (cleared (Some 0) text))
+unfolding default_after cleared left_in
 default_is text = ap (option_map trimmed_default) (found_by text Plain 0 0)
 
 -- a default text that was measured
@@ -522,22 +522,22 @@ unfolding trimmed_len
 fault_found (Sound rest last) fault e = absurd (cc)
 fault_found (Unsound other) fault e = refl
 
-pub default_fault : (text : List ℕ) (fault : LexFault) → trimmed_len (trims true) (cleared (start_level true) text) ≡ Err fault → default_behind text ≡ None
+pub default_fault : (text : List ℕ) (fault : LexFault) → trimmed_len (trims true) (cleared (start_level true) text) ≡ Err fault → default_after text ≡ None
 unfolding start_level
 default_fault text fault e = default_is text ∙ fault_found (cleared (Some 0) text) fault e
 
-endless_found : (c : Cleared) → text_behind c ≡ [] → option_map trimmed_default (found c) ≡ None
-unfolding text_behind
+endless_found : (c : Cleared) → text_after c ≡ [] → option_map trimmed_default (found c) ≡ None
+unfolding text_after
 endless_found (Sound rest []) e = refl
 endless_found (Sound rest (b ∷ bs)) e = absurd (cc)
 endless_found (Unsound fault) e = refl
 
-pub default_endless : (text : List ℕ) → text_behind (cleared (start_level true) text) ≡ [] → default_behind text ≡ None
+pub default_endless : (text : List ℕ) → text_after (cleared (start_level true) text) ≡ [] → default_after text ≡ None
 unfolding start_level
 default_endless text e = default_is text ∙ endless_found (cleared (Some 0) text) e
 
-sound_found : (c : Cleared) (b : ℕ) (bs : List ℕ) → text_behind c ≡ b ∷ bs → option_map trimmed_default (found c) ≡ Some (let d : DefaultText = record { text = trimmed_left (trims true) c; behind = text_behind c } in d)
-unfolding text_behind trimmed_left trimmed_default trims
+sound_found : (c : Cleared) (b : ℕ) (bs : List ℕ) → text_after c ≡ b ∷ bs → option_map trimmed_default (found c) ≡ Some (let d : DefaultText = record { text = trimmed_left (trims true) c; following = text_after c } in d)
+unfolding text_after trimmed_left trimmed_default trims
 sound_found (Sound rest []) b bs e = absurd (cc)
 sound_found (Sound rest (d ∷ ds)) b bs e = refl
 sound_found (Unsound fault) b bs e = absurd (cc)
@@ -552,18 +552,18 @@ size_is [] = refl
 size_is (b ∷ bs) = sym (cond-false _ _ _ (ne_eqb (length (b ∷ bs)) 0 (λ e. absurd (omega arith))))
 
 -- a default text that was read is read back
-pub default_plain : (text : List ℕ) (b : ℕ) (bs : List ℕ) → text_behind (cleared (start_level true) text) ≡ b ∷ bs → is_default (default_left text) ≡ true
+pub default_plain : (text : List ℕ) (b : ℕ) (bs : List ℕ) → text_after (cleared (start_level true) text) ≡ b ∷ bs → is_default (default_left text) ≡ true
 unfolding start_level default_left
 default_plain text b bs e =
     let c : Cleared = cleared (Some 0) text in
-    default_behind_plain text (record { text = trimmed_left (trims true) c; behind = text_behind c }) (default_is text ∙ sound_found c b bs e)
+    default_after_plain text (record { text = trimmed_left (trims true) c; following = text_after c }) (default_is text ∙ sound_found c b bs e)
 
-pub default_found : (text behind : List ℕ) (b : ℕ) (bs : List ℕ) (len size : ℕ) → trimmed_len (trims true) (cleared (start_level true) text) ≡ Ok len → text_behind (cleared (start_level true) text) ≡ behind → behind ≡ b ∷ bs → size ≡ size_by len → IsDefault (default_behind text) text behind size
+pub default_found : (text following : List ℕ) (b : ℕ) (bs : List ℕ) (len size : ℕ) → trimmed_len (trims true) (cleared (start_level true) text) ≡ Ok len → text_after (cleared (start_level true) text) ≡ following → following ≡ b ∷ bs → size ≡ size_by len → IsDefault (default_after text) text following size
 unfolding start_level default_left
-default_found text behind b bs len size l e f s =
+default_found text following b bs len size l e f s =
     let c : Cleared = cleared (Some 0) text in
     record {
-      is = default_is text ∙ (sound_found c b bs (e ∙ f) ∙ ap (λ (x : List ℕ). Some (let d : DefaultText = record { text = trimmed_left (trims true) c; behind = x } in d)) e);
+      is = default_is text ∙ (sound_found c b bs (e ∙ f) ∙ ap (λ (x : List ℕ). Some (let d : DefaultText = record { text = trimmed_left (trims true) c; following = x } in d)) e);
       size_is = size_is (trimmed_left (trims true) c) ∙ (ap size_by (left_len (trims true) c len l) ∙ sym s);
       len_is = l ∙ ap (λ (n : ℕ). ok_len n) (sym (left_len (trims true) c len l));
       plain = default_plain text b bs (e ∙ f);
@@ -589,16 +589,16 @@ none_plain = refl
 no_default_in : (text : List ℕ) → eqb (get_or text 0 0) 61 ≡ false → IsDefault (default_in text) [] text 0
 unfolding default_in
 no_default_in text e = record {
-  is = cond-false _ _ _ e ∙ ap (λ (x : List ℕ). Some (let d : DefaultText = record { text = x; behind = text } in d)) (sym no_default_left);
+  is = cond-false _ _ _ e ∙ ap (λ (x : List ℕ). Some (let d : DefaultText = record { text = x; following = text } in d)) (sym no_default_left);
   size_is = ap default_size no_default_left ∙ none_size;
   len_is = none_len ∙ ap (λ (x : List ℕ). ok_len (length x)) (sym no_default_left);
   plain = ap is_default no_default_left ∙ none_plain;
 }
 
 pub no_default_at : (text joined_from joined_text : List ℕ) (size : ℕ) → joined_from ≡ [] → joined_text ≡ text → size ≡ 0 → eqb (get_or text 0 0) 61 ≡ false → IsDefault (default_in text) joined_from joined_text size
-no_default_at text from behind size f t n e = rw (f, t, n) (no_default_in text e)
+no_default_at text from following size f t n e = rw (f, t, n) (no_default_in text e)
 
 -- what stands behind a name and begins with `=` is a default text
-pub default_at : (text : List ℕ) (b : ℕ) (from : List ℕ) → text ≡ b ∷ from → eqb b 61 ≡ true → default_in text ≡ default_behind from
-unfolding default_in default_behind
-default_at text b from t e = ap (λ (x : List ℕ). cond (eqb (get_or x 0 0) 61) (option_map trimmed_default (default_of_tokens 0 (tokens_from Plain 0 (drop 1 x)) (drop 1 x))) (Some (record { text = []; behind = x }))) t ∙ cond-true _ _ _ e
+pub default_at : (text : List ℕ) (b : ℕ) (from : List ℕ) → text ≡ b ∷ from → eqb b 61 ≡ true → default_in text ≡ default_after from
+unfolding default_in default_after
+default_at text b from t e = ap (λ (x : List ℕ). cond (eqb (get_or x 0 0) 61) (option_map trimmed_default (default_of_tokens 0 (tokens_from Plain 0 (drop 1 x)) (drop 1 x))) (Some (record { text = []; following = x }))) t ∙ cond-true _ _ _ e

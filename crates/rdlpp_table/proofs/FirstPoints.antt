@@ -21,7 +21,7 @@ use Rattle.rdlpp_table.specs.View.{formal_named, TableView, formals_of, macro_at
 use Rattle.rdlpp_scan.specs.Ordinary.{is_plain_kind}
 use Rattle.rdlpp_scan.proofs.RemainingLaws.{plain_token-run, IsRun}
 use Rattle.rdlpp_scan.proofs.RangeLaws.{token_of-front, EndsIn}
-use Rattle.rdlpp_table.specs.PointCache.{point_end, endless, cached_points, kept_from, kept_point, point_by, point_kept, points_behind}
+use Rattle.rdlpp_table.specs.PointCache.{point_end, endless, cached_points, kept_from, kept_point, point_by, point_kept, points_after}
 use Rattle.rdlpp_table.specs.declared.point_cache.PointCache.{PointCache}
 use Rattle.rdlpp_table.specs.declared.point_cache.PackedPoint.{PackedPoint}
 use Rattle.rdlpp_table.specs.declared.point_cache.PackedKind.{PackedKind}
@@ -210,8 +210,8 @@ letter_some (b ∷ bs) some h =
     omega (arith, more)
 
 -- what stands behind a place, as a range up to the end
-pub behind_place : (n : ℕ) (xs : List ℕ) → take (length xs - n) (drop n xs) ≡ drop n xs
-behind_place n xs = take_all (length xs - n) (drop n xs) (omega (arith, length-drop n xs))
+pub after_place : (n : ℕ) (xs : List ℕ) → take (length xs - n) (drop n xs) ≡ drop n xs
+after_place n xs = take_all (length xs - n) (drop n xs) (omega (arith, length-drop n xs))
 
 -- The first expansion point of a range of a text, beside that of the text from a place on.
 
@@ -414,14 +414,14 @@ token_end formals at t bytes h = kind_end formals at t.len t.kind t.next_mode by
 -- The first expansion points of a text, one behind another.
 
 -- an expansion point that is found behind others is one more of them
-pub points_more : (formals : List Formal) (text : List ℕ) (all : List PackedPoint) (i from : ℕ) (k : PackedPoint) → i < length all → k ≡ kept_from formals text from → ((n : ℕ) → points_behind (i + n) formals text 0 ≡ take i all ++ points_behind n formals text from) → (n : ℕ) → points_behind (i + 1 + n) formals text 0 ≡ take (i + 1) (set all i k) ++ points_behind n formals text k.end
-unfolding points_behind
+pub points_more : (formals : List Formal) (text : List ℕ) (all : List PackedPoint) (i from : ℕ) (k : PackedPoint) → i < length all → k ≡ kept_from formals text from → ((n : ℕ) → points_after (i + n) formals text 0 ≡ take i all ++ points_after n formals text from) → (n : ℕ) → points_after (i + 1 + n) formals text 0 ≡ take (i + 1) (set all i k) ++ points_after n formals text k.end
+unfolding points_after
 points_more formals text all i from k h e f n =
     let there : i + 1 + n ≡ i + suc n = omega arith in
-    let rest : List PackedPoint = points_behind n formals text k.end in
-    ap (λ (m : ℕ). points_behind m formals text 0) there
+    let rest : List PackedPoint = points_after n formals text k.end in
+    ap (λ (m : ℕ). points_after m formals text 0) there
     ∙ (f (suc n)
-    ∙ (ap (λ (x : PackedPoint). take i all ++ x ∷ points_behind n formals text x.end) (sym e)
+    ∙ (ap (λ (x : PackedPoint). take i all ++ x ∷ points_after n formals text x.end) (sym e)
     ∙ (sym (append_assoc (take i all) (k ∷ []) rest) ∙ ap (λ (l : List PackedPoint). l ++ rest) (sym (take_more_set all i k h)))))
 
 -- what is kept where nothing is known
@@ -429,12 +429,12 @@ abbrev unknown : PackedPoint
 unknown = endless kept.Unknown 0
 
 -- from a place that is too far behind on nothing is known
-points_beyond : (formals : List Formal) (text : List ℕ) (n from : ℕ) → 65535 ≤ from → points_behind n formals text from ≡ replicate n unknown
-unfolding points_behind kept_from endless
+points_beyond : (formals : List Formal) (text : List ℕ) (n from : ℕ) → 65535 ≤ from → points_after n formals text from ≡ replicate n unknown
+unfolding points_after kept_from endless
 points_beyond formals text zero from h = refl
 points_beyond formals text (suc n) from h =
     let here : kept_from formals text from ≡ unknown = ap (λ (b : Bool). if b then kept_point (point_of formals from (drop from text)) from (drop from text) else unknown) (le-ltb from 65535 h) in
-    ap (λ (k : PackedPoint). k ∷ points_behind n formals text k.end) here ∙ ap (λ (l : List PackedPoint). unknown ∷ l) (points_beyond formals text n 65535 (omega arith))
+    ap (λ (k : PackedPoint). k ∷ points_after n formals text k.end) here ∙ ap (λ (l : List PackedPoint). unknown ∷ l) (points_beyond formals text n 65535 (omega arith))
 
 -- what is not written yet is unknown
 pub rest_unknown : (all : List PackedPoint) (i : ℕ) (k : PackedPoint) → drop i all ≡ replicate (10 - i) unknown → drop (i + 1) (set all i k) ≡ replicate (10 - (i + 1)) unknown
@@ -446,17 +446,17 @@ rest_unknown all i k e =
     ∙ (drop-replicate 1 (10 - i) unknown ∙ ap (λ (m : ℕ). replicate m unknown) less)))
 
 -- ten of them are the first expansion points, and fewer are where behind them nothing is known
-pub points_whole : (formals : List Formal) (text : List ℕ) (all : List PackedPoint) (i from : ℕ) → i ≤ 10 → (10 ≤ i) ⊎ (65535 ≤ from) → drop i all ≡ replicate (10 - i) unknown → ((n : ℕ) → points_behind (i + n) formals text 0 ≡ take i all ++ points_behind n formals text from) → (let s : PointCache = record { all = all } in s) ≡ cached_points formals text
-unfolding cached_points points_behind
+pub points_whole : (formals : List Formal) (text : List ℕ) (all : List PackedPoint) (i from : ℕ) → i ≤ 10 → (10 ≤ i) ⊎ (65535 ≤ from) → drop i all ≡ replicate (10 - i) unknown → ((n : ℕ) → points_after (i + n) formals text 0 ≡ take i all ++ points_after n formals text from) → (let s : PointCache = record { all = all } in s) ≡ cached_points formals text
+unfolding cached_points points_after
 points_whole formals text all i from l o e f =
     let there : 10 ≡ i + (10 - i) = omega arith in
-    let none : 10 ≤ i → points_behind (10 - i) formals text from ≡ replicate (10 - i) unknown =
-    λ h. let z : 10 - i ≡ 0 = omega arith in ap (λ (m : ℕ). points_behind m formals text from) z ∙ ap (λ (m : ℕ). replicate m unknown) (sym z) in
-    let rest : points_behind (10 - i) formals text from ≡ drop i all = ⊎_elim none (points_beyond formals text (10 - i) from) o ∙ sym e in
-    let whole : points_behind 10 formals text 0 ≡ all = ap (λ (m : ℕ). points_behind m formals text 0) there ∙ (f (10 - i) ∙ (ap (λ (x : List PackedPoint). take i all ++ x) rest ∙ take-append-drop i all)) in
+    let none : 10 ≤ i → points_after (10 - i) formals text from ≡ replicate (10 - i) unknown =
+    λ h. let z : 10 - i ≡ 0 = omega arith in ap (λ (m : ℕ). points_after m formals text from) z ∙ ap (λ (m : ℕ). replicate m unknown) (sym z) in
+    let rest : points_after (10 - i) formals text from ≡ drop i all = ⊎_elim none (points_beyond formals text (10 - i) from) o ∙ sym e in
+    let whole : points_after 10 formals text 0 ≡ all = ap (λ (m : ℕ). points_after m formals text 0) there ∙ (f (10 - i) ∙ (ap (λ (x : List PackedPoint). take i all ++ x) rest ∙ take-append-drop i all)) in
     ap (λ (x : List PackedPoint). let s : PointCache = record { all = x } in s) (sym whole)
 
-pub all_points : (formals : List Formal) (text : List ℕ) (points : PointCache) → points ≡ cached_points formals text → points.all ≡ points_behind 10 formals text 0
+pub all_points : (formals : List Formal) (text : List ℕ) (points : PointCache) → points ≡ cached_points formals text → points.all ≡ points_after 10 formals text 0
 unfolding cached_points
 all_points formals text points e = ap (λ (x : PointCache). x.all) e
 
@@ -465,15 +465,15 @@ abbrev pub no_point : PackedPoint
 no_point = record { end = 0; len = 0; place = 0; plain_argument = 0; kind = kept.Unknown }
 
 -- the expansion point at a place among them is the first one from the end of the one before, and those behind it come from its own end on
-pub point_next : (formals : List Formal) (text : List ℕ) (all : List PackedPoint) (d k : PackedPoint) (i start : ℕ) → length all ≡ 10 → i < 10 → drop i all ≡ points_behind (10 - i) formals text start → k ≡ get_or all i d → (k ≡ kept_from formals text start) × (drop (i + 1) all ≡ points_behind (10 - (i + 1)) formals text k.end)
-unfolding points_behind
+pub point_next : (formals : List Formal) (text : List ℕ) (all : List PackedPoint) (d k : PackedPoint) (i start : ℕ) → length all ≡ 10 → i < 10 → drop i all ≡ points_after (10 - i) formals text start → k ≡ get_or all i d → (k ≡ kept_from formals text start) × (drop (i + 1) all ≡ points_after (10 - (i + 1)) formals text k.end)
+unfolding points_after
 point_next formals text all d k i start l h e q =
     let left : 10 - i ≡ suc (10 - (i + 1)) = omega arith in
     let first : PackedPoint = kept_from formals text start in
-    let both : get_or all i d ∷ drop (i + 1) all ≡ first ∷ points_behind (10 - (i + 1)) formals text first.end =
-    sym (drop_more all i d (omega arith)) ∙ (e ∙ ap (λ (m : ℕ). points_behind m formals text start) left) in
+    let both : get_or all i d ∷ drop (i + 1) all ≡ first ∷ points_after (10 - (i + 1)) formals text first.end =
+    sym (drop_more all i d (omega arith)) ∙ (e ∙ ap (λ (m : ℕ). points_after m formals text start) left) in
     let here : k ≡ first = q ∙ ap (λ (x : List PackedPoint). get_or x 0 d) both in
-    (here, ap (λ (x : List PackedPoint). drop 1 x) both ∙ ap (λ (x : PackedPoint). points_behind (10 - (i + 1)) formals text x.end) (sym here))
+    (here, ap (λ (x : List PackedPoint). drop 1 x) both ∙ ap (λ (x : PackedPoint). points_after (10 - (i + 1)) formals text x.end) (sym here))
 
 -- The expansion points of the body of a macro in a table.
 

@@ -10,7 +10,7 @@ use Rattle.std.proofs.lemmas.List.Sums.{prefix_len-le-length, prefix_len_stops, 
 use Rattle.std.proofs.lemmas.Slice.Eq.{bytes_eq-Decides, starts_is}
 use Rattle.rdlpp_table.specs.FormalOffsets.{end_in, halves, has_offsets, offset_in, offsets_of, starts_of}
 use Rattle.rdlpp_table.specs.Shapes.{AreShapes, shape, shapes_of}
-use Rattle.rdlpp_table.specs.Store.{AreStoredFormals, StoredFormal, formal_behind, formal_read, formals_read, is_name_byte, is_plain_formal}
+use Rattle.rdlpp_table.specs.Store.{AreStoredFormals, StoredFormal, formal_after, formal_read, formals_read, is_name_byte, is_plain_formal}
 use Rattle.rdlpp_table.specs.Table.{Formal, default_bytes, formal_bytes, formal_size}
 use Rattle.rdlpp_table.specs.View.{formal_at, formal_named}
 use Rattle.rdlpp_table.proofs.RoundTrip.{count_read, read_formal}
@@ -20,7 +20,7 @@ use Rattle.rdlpp_table.proofs.Sizes.{length_formal_bytes, length_halves, length_
 
 -- the name of the formal is what begins the bytes, up to what is no byte of a name
 pub name_is : (bytes : List ℕ) → (formal_read bytes).formal.name ≡ take (prefix_len is_name_byte bytes) bytes
-unfolding formal_read formal_behind
+unfolding formal_read formal_after
 name_is bytes = search rules
 
 -- the name has as many bytes as begin the bytes, up to what is no byte of a name
@@ -69,9 +69,9 @@ named_by_size bytes name starts len s h n =
     (λ e. eq-eqb len (length name) (n ∙ (sym (name_length bytes) ∙ ap length e)))
 
 -- behind the name of a formal with nothing behind it are its default text and its comma
-behind_name : (bytes : List ℕ) → formal_bytes (formal_read bytes).formal ≡ bytes → drop (prefix_len is_name_byte bytes) bytes ≡ default_bytes (formal_read bytes).formal.text ++ 44 ∷ []
+after_name : (bytes : List ℕ) → formal_bytes (formal_read bytes).formal ≡ bytes → drop (prefix_len is_name_byte bytes) bytes ≡ default_bytes (formal_read bytes).formal.text ++ 44 ∷ []
 unfolding formal_bytes
-behind_name bytes h =
+after_name bytes h =
     let f : Formal = (formal_read bytes).formal in
     ap (drop (prefix_len is_name_byte bytes)) (sym h) ∙ drop_at f.name (default_bytes f.text ++ 44 ∷ []) (prefix_len is_name_byte bytes) (name_length bytes)
 
@@ -88,35 +88,35 @@ without_default [] rest e h = refl
 without_default (b ∷ bs) rest e h = absurd (h (ap (λ (l : List ℕ). get_or l 0 44) e))
 
 -- the first byte behind so many is the one at that place
-first_behind_name : (bytes : List ℕ) (n : ℕ) → get_or (drop n bytes) 0 44 ≡ get_or bytes n 44
-first_behind_name bytes n = get_or-drop n bytes 0 44 ∙ ap (λ (k : ℕ). get_or bytes k 44) (let e : n + 0 ≡ n = omega arith in e)
+first_after_name : (bytes : List ℕ) (n : ℕ) → get_or (drop n bytes) 0 44 ≡ get_or bytes n 44
+first_after_name bytes n = get_or-drop n bytes 0 44 ∙ ap (λ (k : ℕ). get_or bytes k 44) (let e : n + 0 ≡ n = omega arith in e)
 
 -- the same of the bytes behind the name of a formal
-default_behind : (bytes : List ℕ) (n : ℕ) → formal_bytes (formal_read bytes).formal ≡ bytes → n ≡ prefix_len is_name_byte bytes → get_or bytes n 44 ≡ 61 → drop n bytes ≡ 61 ∷ ((formal_read bytes).formal.text ++ 44 ∷ [])
-default_behind bytes n h e g =
-    with_default (formal_read bytes).formal.text (drop n bytes) (ap (λ (k : ℕ). drop k bytes) e ∙ behind_name bytes h) (first_behind_name bytes n ∙ g)
+default_after : (bytes : List ℕ) (n : ℕ) → formal_bytes (formal_read bytes).formal ≡ bytes → n ≡ prefix_len is_name_byte bytes → get_or bytes n 44 ≡ 61 → drop n bytes ≡ 61 ∷ ((formal_read bytes).formal.text ++ 44 ∷ [])
+default_after bytes n h e g =
+    with_default (formal_read bytes).formal.text (drop n bytes) (ap (λ (k : ℕ). drop k bytes) e ∙ after_name bytes h) (first_after_name bytes n ∙ g)
 
 -- so the bytes are those of the name and the default text, and two more
-default_size_behind : (bytes : List ℕ) (n : ℕ) → formal_bytes (formal_read bytes).formal ≡ bytes → n ≡ prefix_len is_name_byte bytes → get_or bytes n 44 ≡ 61 → length bytes ≡ n + length (formal_read bytes).formal.text + 2
-default_size_behind bytes n h e g =
-    omega (arith, ap length (default_behind bytes n h e g), length-drop n bytes, length-append (formal_read bytes).formal.text (44 ∷ []), prefix_len-le-length is_name_byte bytes, e)
+default_size_after : (bytes : List ℕ) (n : ℕ) → formal_bytes (formal_read bytes).formal ≡ bytes → n ≡ prefix_len is_name_byte bytes → get_or bytes n 44 ≡ 61 → length bytes ≡ n + length (formal_read bytes).formal.text + 2
+default_size_after bytes n h e g =
+    omega (arith, ap length (default_after bytes n h e g), length-drop n bytes, length-append (formal_read bytes).formal.text (44 ∷ []), prefix_len-le-length is_name_byte bytes, e)
 
 -- the default text ends in front of the last byte
 pub default_inside : (bytes : List ℕ) (n : ℕ) → formal_bytes (formal_read bytes).formal ≡ bytes → n ≡ prefix_len is_name_byte bytes → get_or bytes n 44 ≡ 61 → n + 1 ≤ length bytes - 1
-default_inside bytes n h e g = omega (arith, default_size_behind bytes n h e g)
+default_inside bytes n h e g = omega (arith, default_size_after bytes n h e g)
 
 -- the default text stands between the `=` and the comma
 pub default_between : (bytes : List ℕ) (n : ℕ) → formal_bytes (formal_read bytes).formal ≡ bytes → n ≡ prefix_len is_name_byte bytes → get_or bytes n 44 ≡ 61 → take (length bytes - 1 - (n + 1)) (drop (n + 1) bytes) ≡ (formal_read bytes).formal.text
 default_between bytes n h e g =
     let text : List ℕ = (formal_read bytes).formal.text in
-    let size : length text ≡ length bytes - 1 - (n + 1) = omega (arith, default_size_behind bytes n h e g) in
-    ap (take (length bytes - 1 - (n + 1))) (sym (drop-drop 1 n bytes) ∙ ap (drop 1) (default_behind bytes n h e g))
+    let size : length text ≡ length bytes - 1 - (n + 1) = omega (arith, default_size_after bytes n h e g) in
+    ap (take (length bytes - 1 - (n + 1))) (sym (drop-drop 1 n bytes) ∙ ap (drop 1) (default_after bytes n h e g))
     ∙ take_at text (44 ∷ []) (length bytes - 1 - (n + 1)) size
 
 -- and where no `=` is, there is none
 pub no_default_text : (bytes : List ℕ) (n : ℕ) → formal_bytes (formal_read bytes).formal ≡ bytes → n ≡ prefix_len is_name_byte bytes → (get_or bytes n 44 ≡ 61 → ⊥) → [] ≡ (formal_read bytes).formal.text
 no_default_text bytes n h e g =
-    without_default (formal_read bytes).formal.text (drop n bytes) (ap (λ (k : ℕ). drop k bytes) e ∙ behind_name bytes h) (λ a. g (sym (first_behind_name bytes n) ∙ a))
+    without_default (formal_read bytes).formal.text (drop n bytes) (ap (λ (k : ℕ). drop k bytes) e ∙ after_name bytes h) (λ a. g (sym (first_after_name bytes n) ∙ a))
 
 -- The formals of a macro, read one after another from a table's bytes.
 
@@ -128,7 +128,7 @@ one_shift : (place : ℕ) (o : Option ℕ) → option_map (λ i. place + i) (opt
 one_shift place None = refl
 one_shift place (Some n) = let e : place + suc n ≡ place + 1 + n = omega arith in ap Some e
 
-pub read_first : (n : ℕ) (bytes : List ℕ) → formals_read (suc n) bytes ≡ (formal_read bytes).formal ∷ formals_read n (formal_read bytes).behind
+pub read_first : (n : ℕ) (bytes : List ℕ) → formals_read (suc n) bytes ≡ (formal_read bytes).formal ∷ formals_read n (formal_read bytes).following
 unfolding formals_read
 read_first n bytes = refl
 
@@ -145,20 +145,20 @@ reached_start bytes name count =
     let n : count - 0 ≡ count = omega arith in
     record { same = sym (ap (λ (k : ℕ). option_map (λ i. 0 + i) (formal_named (formals_read k bytes) name)) n ∙ no_shift (formal_named (formals_read count bytes) name)) }
 
-by_first : (rest name : List ℕ) (n : ℕ) → formal_named (formals_read (suc n) rest) name ≡ cond (bytes_eq (formal_read rest).formal.name name) (Some 0) (option_map suc (formal_named (formals_read n (formal_read rest).behind) name))
+by_first : (rest name : List ℕ) (n : ℕ) → formal_named (formals_read (suc n) rest) name ≡ cond (bytes_eq (formal_read rest).formal.name name) (Some 0) (option_map suc (formal_named (formals_read n (formal_read rest).following) name))
 by_first rest name n =
     ap (λ (fs : List Formal). formal_named fs name) (read_first n rest)
-    ∙ position_first (λ (f : Formal). bytes_eq f.name name) (formal_read rest).formal (formals_read n (formal_read rest).behind)
+    ∙ position_first (λ (f : Formal). bytes_eq f.name name) (formal_read rest).formal (formals_read n (formal_read rest).following)
 
-pub reached_more : (bytes name rest behind found : List ℕ) (count place : ℕ) → place < count → IsReached bytes name rest count place → found ≡ (formal_read rest).formal.name → bytes_eq found name ≡ false → behind ≡ (formal_read rest).behind → IsReached bytes name behind count (place + 1)
-reached_more bytes name rest behind found count place h r f other b =
+pub reached_more : (bytes name rest following found : List ℕ) (count place : ℕ) → place < count → IsReached bytes name rest count place → found ≡ (formal_read rest).formal.name → bytes_eq found name ≡ false → following ≡ (formal_read rest).following → IsReached bytes name following count (place + 1)
+reached_more bytes name rest following found count place h r f other b =
     let n : count - place ≡ suc (count - (place + 1)) = omega arith in
     record {
       same =
           r.same
           ∙ (ap (λ (k : ℕ). option_map (λ i. place + i) (formal_named (formals_read k rest) name)) n
           ∙ (ap (option_map (λ i. place + i)) (by_first rest name (count - (place + 1)) ∙ cond-false _ (Some 0) _ (ap (λ (x : List ℕ). bytes_eq x name) (sym f) ∙ other))
-          ∙ (one_shift place (formal_named (formals_read (count - (place + 1)) (formal_read rest).behind) name)
+          ∙ (one_shift place (formal_named (formals_read (count - (place + 1)) (formal_read rest).following) name)
           ∙ ap (λ (x : List ℕ). option_map (λ i. place + 1 + i) (formal_named (formals_read (count - (place + 1)) x) name)) (sym b))));
     }
 
@@ -188,8 +188,8 @@ passed_start bytes count place =
     let m : place - 0 ≡ place = omega arith in
     record { same = ap (λ (k : ℕ). formal_at (formals_read count bytes) k) (sym m) ∙ ap (λ (k : ℕ). formal_at (formals_read k bytes) (place - 0)) (sym n) }
 
-pub passed_more : (bytes rest behind : List ℕ) (count place i : ℕ) → place < count → i < place → IsPassed bytes rest count place i → behind ≡ (formal_read rest).behind → IsPassed bytes behind count place (i + 1)
-passed_more bytes rest behind count place i h k p b =
+pub passed_more : (bytes rest following : List ℕ) (count place i : ℕ) → place < count → i < place → IsPassed bytes rest count place i → following ≡ (formal_read rest).following → IsPassed bytes following count place (i + 1)
+passed_more bytes rest following count place i h k p b =
     let n : count - i ≡ suc (count - (i + 1)) = omega arith in
     let m : place - i ≡ suc (place - (i + 1)) = omega arith in
     record {
@@ -262,21 +262,21 @@ plain_at (f ∷ fs) zero d p h = (and_parts (is_plain_formal f) (list_all is_pla
 plain_at (f ∷ fs) (suc i) d p h = plain_at fs i d (and_parts (is_plain_formal f) (list_all is_plain_formal fs) p).1 (omega arith)
 
 -- the bytes behind those of the first formals are those of the others
-pub list_behind : (fs : List Formal) (i : ℕ) → drop (sum_by formal_size (take i fs)) (flat_map formal_bytes fs) ≡ flat_map formal_bytes (drop i fs)
-list_behind fs i =
+pub list_after : (fs : List Formal) (i : ℕ) → drop (sum_by formal_size (take i fs)) (flat_map formal_bytes fs) ≡ flat_map formal_bytes (drop i fs)
+list_after fs i =
     let n : ℕ = sum_by formal_size (take i fs) in
     ap (λ (l : List Formal). drop n (flat_map formal_bytes l)) (sym (take-append-drop i fs))
     ∙ (ap (drop n) (flat_map-append formal_bytes (take i fs) (drop i fs))
     ∙ drop_at (flat_map formal_bytes (take i fs)) (flat_map formal_bytes (drop i fs)) n (length_list_bytes (take i fs)))
 
 -- the first of these others, and those behind it
-pub first_behind : (fs : List Formal) (i : ℕ) → i < length fs → flat_map formal_bytes (drop i fs) ≡ formal_bytes (formal_at fs i) ++ flat_map formal_bytes (drop (i + 1) fs)
-first_behind fs i h = ap (flat_map formal_bytes) (drop_more fs i _ h)
+pub first_after : (fs : List Formal) (i : ℕ) → i < length fs → flat_map formal_bytes (drop i fs) ≡ formal_bytes (formal_at fs i) ++ flat_map formal_bytes (drop (i + 1) fs)
+first_after fs i h = ap (flat_map formal_bytes) (drop_more fs i _ h)
 
 -- reading a formal where it begins
-pub read_at : (fs : List Formal) (i : ℕ) → list_all is_plain_formal fs ≡ true → i < length fs → formal_read (flat_map formal_bytes (drop i fs)) ≡ record { formal = formal_at fs i; behind = flat_map formal_bytes (drop (i + 1) fs) }
+pub read_at : (fs : List Formal) (i : ℕ) → list_all is_plain_formal fs ≡ true → i < length fs → formal_read (flat_map formal_bytes (drop i fs)) ≡ record { formal = formal_at fs i; following = flat_map formal_bytes (drop (i + 1) fs) }
 read_at fs i p h =
-    ap formal_read (first_behind fs i h)
+    ap formal_read (first_after fs i h)
     ∙ read_formal (formal_at fs i) (flat_map formal_bytes (drop (i + 1) fs)) (plain_at fs i _ p h)
 
 -- the first formals take what those before the last one take, and what it takes
@@ -305,12 +305,12 @@ pub marking_at : (fs : List Formal) (list rest before formal_offsets : List ℕ)
 marking_at fs list rest before formal_offsets i h m = rest_size fs rest before formal_offsets i m ∙ (sym (length_list_bytes fs) ∙ ap length h)
 
 -- one more place is kept
-pub marking_more : (fs : List Formal) (list rest behind before formal_offsets more : List ℕ) (i start : ℕ) → flat_map formal_bytes fs ≡ list → list_all is_plain_formal fs ≡ true → i < length fs → IsMarking fs rest before formal_offsets i → start ≡ length list - length rest → more ≡ formal_offsets ++ halves (start ∷ []) → behind ≡ (formal_read rest).behind → IsMarking fs behind before more (i + 1)
-marking_more fs list rest behind before formal_offsets more i start h p k m s e b =
+pub marking_more : (fs : List Formal) (list rest following before formal_offsets more : List ℕ) (i start : ℕ) → flat_map formal_bytes fs ≡ list → list_all is_plain_formal fs ≡ true → i < length fs → IsMarking fs rest before formal_offsets i → start ≡ length list - length rest → more ≡ formal_offsets ++ halves (start ∷ []) → following ≡ (formal_read rest).following → IsMarking fs following before more (i + 1)
+marking_more fs list rest following before formal_offsets more i start h p k m s e b =
     let at : start ≡ get_or (starts_of 0 fs) i 0 = omega (arith, marking_at fs list rest before formal_offsets i h m, start_at fs i k) in
     let some : i < length (starts_of 0 fs) = omega (arith, length_starts 0 fs) in
     record {
-      left = b ∙ (ap (λ (l : List ℕ). (formal_read l).behind) m.left ∙ ap (λ (r : StoredFormal). r.behind) (read_at fs i p k));
+      left = b ∙ (ap (λ (l : List ℕ). (formal_read l).following) m.left ∙ ap (λ (r : StoredFormal). r.following) (read_at fs i p k));
       offsets_are =
           e
           ∙ (ap (λ (l : List ℕ). l ++ halves (start ∷ [])) m.offsets_are
@@ -350,10 +350,10 @@ pub offset_at : (fs : List Formal) (list formal_offsets : List ℕ) (i : ℕ) �
 offset_at fs list formal_offsets i a h = offset_is formal_offsets (starts_of 0 fs) i a.starts (omega (arith, length_starts 0 fs)) ∙ start_at fs i h
 
 -- and there its bytes are
-pub behind_offset : (fs : List Formal) (list formal_offsets : List ℕ) (i : ℕ) → AreMarked fs list formal_offsets → i < length fs → drop (offset_in formal_offsets i) list ≡ flat_map formal_bytes (drop i fs)
-behind_offset fs list formal_offsets i a h =
+pub after_offset : (fs : List Formal) (list formal_offsets : List ℕ) (i : ℕ) → AreMarked fs list formal_offsets → i < length fs → drop (offset_in formal_offsets i) list ≡ flat_map formal_bytes (drop i fs)
+after_offset fs list formal_offsets i a h =
     ap (λ (n : ℕ). drop n list) (offset_at fs list formal_offsets i a h)
-    ∙ (ap (drop (sum_by formal_size (take i fs))) (sym a.whole) ∙ list_behind fs i)
+    ∙ (ap (drop (sum_by formal_size (take i fs))) (sym a.whole) ∙ list_after fs i)
 
 -- where the formal at a place ends, by the number of formals and of their bytes
 end_by : (count size : ℕ) (formal_offsets : List ℕ) (i : ℕ) → (i + 1 < count → end_in count size formal_offsets i ≡ offset_in formal_offsets (i + 1)) × (count ≤ i + 1 → end_in count size formal_offsets i ≡ size)
@@ -380,7 +380,7 @@ pub bytes_at : (fs : List Formal) (count : ℕ) (list formal_offsets : List ℕ)
 bytes_at fs count list formal_offsets i n a h =
     let some : i < length fs = omega (arith, n, h) in
     let size : length (formal_bytes (formal_at fs i)) ≡ end_in count (length list) formal_offsets i - offset_in formal_offsets i = omega (arith, end_at fs count list formal_offsets i n a h, length_formal_bytes (formal_at fs i)) in
-    ap (take (end_in count (length list) formal_offsets i - offset_in formal_offsets i)) (behind_offset fs list formal_offsets i a some ∙ first_behind fs i some)
+    ap (take (end_in count (length list) formal_offsets i - offset_in formal_offsets i)) (after_offset fs list formal_offsets i a some ∙ first_after fs i some)
     ∙ take_at (formal_bytes (formal_at fs i)) (flat_map formal_bytes (drop (i + 1) fs)) _ size
 
 -- and a plain formal is read from its own bytes
@@ -402,7 +402,7 @@ start_listed count list formal_offsets name l = subst (λ (x : List ℕ). IsReac
 -- the formal with which the bytes at a mark begin
 pub bytes_from : (count : ℕ) (list formal_offsets bytes : List ℕ) (i : ℕ) → AreStoredFormals count list formal_offsets → has_offsets count (length list) ≡ true → i < count → bytes ≡ drop (offset_in formal_offsets i) list → bytes ≡ flat_map formal_bytes (drop i (formals_read count list))
 bytes_from count list formal_offsets bytes i l m h e =
-    e ∙ behind_offset (formals_read count list) list formal_offsets i (listed_offsets count list formal_offsets l m) (omega (arith, h, count_read count list))
+    e ∙ after_offset (formals_read count list) list formal_offsets i (listed_offsets count list formal_offsets l m) (omega (arith, h, count_read count list))
 
 -- there are two offsets for each formal
 pub count_offsets : (count : ℕ) (list formal_offsets : List ℕ) → AreStoredFormals count list formal_offsets → has_offsets count (length list) ≡ true → length formal_offsets ≡ 2 * count
@@ -414,8 +414,8 @@ pub passed_at : (count : ℕ) (list formal_offsets name : List ℕ) (i : ℕ) �
 passed_at count list formal_offsets name i l h r other =
     let fs : List Formal = formals_read count list in
     let rest : List ℕ = flat_map formal_bytes (drop i fs) in
-    let behind : flat_map formal_bytes (drop (i + 1) fs) ≡ (formal_read rest).behind = ap (λ (s : StoredFormal). s.behind) (sym (read_at fs i l.plain (omega (arith, count_read count list)))) in
-    reached_more list name rest (flat_map formal_bytes (drop (i + 1) fs)) (formal_read rest).formal.name count i h r refl other behind
+    let following : flat_map formal_bytes (drop (i + 1) fs) ≡ (formal_read rest).following = ap (λ (s : StoredFormal). s.following) (sym (read_at fs i l.plain (omega (arith, count_read count list)))) in
+    reached_more list name rest (flat_map formal_bytes (drop (i + 1) fs)) (formal_read rest).formal.name count i h r refl other following
 
 -- a formal ends behind where it begins
 pub end_ordered : (count : ℕ) (list formal_offsets : List ℕ) (i : ℕ) → AreStoredFormals count list formal_offsets → has_offsets count (length list) ≡ true → i < count → offset_in formal_offsets i ≤ end_in count (length list) formal_offsets i
@@ -502,14 +502,14 @@ no_shape formals told name h f = by (formal_named formals name) refl
     by (Some n) e = absurd (false≢true (sym f ∙ h name (ap is_some e)))
 
 -- so many formals are told as they are read
-pub told_more : (rest : List ℕ) (count place : ℕ) (told : List Bool) (name behind : List ℕ) → place < count → name ≡ (formal_read rest).formal.name → behind ≡ (formal_read rest).behind
-    → shapes_of (formals_read (count - place) rest) told ≡ shapes_of (formals_read (count - (place + 1)) behind) (set told (shape name) true)
+pub told_more : (rest : List ℕ) (count place : ℕ) (told : List Bool) (name following : List ℕ) → place < count → name ≡ (formal_read rest).formal.name → following ≡ (formal_read rest).following
+    → shapes_of (formals_read (count - place) rest) told ≡ shapes_of (formals_read (count - (place + 1)) following) (set told (shape name) true)
 unfolding shapes_of
-told_more rest count place told name behind h e b =
+told_more rest count place told name following h e b =
     let n : count - place ≡ suc (count - (place + 1)) = omega arith in
     ap (λ (k : ℕ). shapes_of (formals_read k rest) told) n
     ∙ ap (λ (fs : List Formal). shapes_of fs told) (read_first (count - (place + 1)) rest)
-    ∙ ap (λ (x : List ℕ). shapes_of (formals_read (count - (place + 1)) (formal_read rest).behind) (set told (shape x) true)) (sym e)
+    ∙ ap (λ (x : List ℕ). shapes_of (formals_read (count - (place + 1)) (formal_read rest).following) (set told (shape x) true)) (sym e)
     ∙ ap (λ (x : List ℕ). shapes_of (formals_read (count - (place + 1)) x) (set told (shape name) true)) (sym b)
 
 pub told_none : (rest : List ℕ) (count place : ℕ) (told : List Bool) → count < place + 1 → shapes_of (formals_read (count - place) rest) told ≡ told
@@ -522,8 +522,8 @@ pub told_at : (count place : ℕ) (list formal_offsets name : List ℕ) (told : 
 told_at count place list formal_offsets name told l h e =
     let fs : List Formal = formals_read count list in
     let rest : List ℕ = flat_map formal_bytes (drop place fs) in
-    let behind : flat_map formal_bytes (drop (place + 1) fs) ≡ (formal_read rest).behind = ap (λ (s : StoredFormal). s.behind) (sym (read_at fs place l.plain (omega (arith, count_read count list)))) in
-    told_more rest count place told name (flat_map formal_bytes (drop (place + 1) fs)) h e behind
+    let following : flat_map formal_bytes (drop (place + 1) fs) ≡ (formal_read rest).following = ap (λ (s : StoredFormal). s.following) (sym (read_at fs place l.plain (omega (arith, count_read count list)))) in
+    told_more rest count place told name (flat_map formal_bytes (drop (place + 1) fs)) h e following
 
 -- at first all of them are left
 pub told_start : (count : ℕ) (list formal_offsets : List ℕ) (told : List Bool) → AreStoredFormals count list formal_offsets → shapes_of (formals_read count list) told ≡ shapes_of (formals_read (count - 0) (flat_map formal_bytes (drop 0 (formals_read count list)))) told

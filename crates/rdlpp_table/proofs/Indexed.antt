@@ -21,17 +21,17 @@ use Rattle.rdlpp_table.proofs.Taken.{without_at, without_length, without_nowhere
 
 -- An index that has something behind it, in one list.
 
-remove_front : (front behind : List ℕ) (at : ℕ) → at < length front → remove (front ++ behind) at ≡ remove front at ++ behind
-remove_front front behind at h =
-    ap (λ (l : List ℕ). l ++ drop (suc at) (front ++ behind)) (take-append-le at front behind (omega arith))
-    ∙ (ap (λ (l : List ℕ). take at front ++ l) (drop-append-le (suc at) front behind (omega arith))
-    ∙ sym (append_assoc (take at front) (drop (suc at) front) behind))
+remove_front : (front following : List ℕ) (at : ℕ) → at < length front → remove (front ++ following) at ≡ remove front at ++ following
+remove_front front following at h =
+    ap (λ (l : List ℕ). l ++ drop (suc at) (front ++ following)) (take-append-le at front following (omega arith))
+    ∙ (ap (λ (l : List ℕ). take at front ++ l) (drop-append-le (suc at) front following (omega arith))
+    ∙ sym (append_assoc (take at front) (drop (suc at) front) following))
 
-insert_front : (front behind : List ℕ) (at x : ℕ) → at ≤ length front → insert (front ++ behind) at x ≡ insert front at x ++ behind
-insert_front front behind at x h =
-    ap (λ (l : List ℕ). l ++ x ∷ drop at (front ++ behind)) (take-append-le at front behind h)
-    ∙ (ap (λ (l : List ℕ). take at front ++ x ∷ l) (drop-append-le at front behind h)
-    ∙ sym (append_assoc (take at front) (x ∷ drop at front) behind))
+insert_front : (front following : List ℕ) (at x : ℕ) → at ≤ length front → insert (front ++ following) at x ≡ insert front at x ++ following
+insert_front front following at x h =
+    ap (λ (l : List ℕ). l ++ x ∷ drop at (front ++ following)) (take-append-le at front following h)
+    ∙ (ap (λ (l : List ℕ). take at front ++ x ∷ l) (drop-append-le at front following h)
+    ∙ sym (append_assoc (take at front) (x ∷ drop at front) following))
 
 -- a place taken out of an index with so many
 pub left_front : (items : List ℕ) (count at : ℕ) → at < count → count ≤ length items → (take (count - 1) (remove items at) ≡ remove (take count items) at) × (drop (count - 1) (remove items at) ≡ drop count items)
@@ -71,9 +71,9 @@ closed_front items removed am given len count at taken h l r n a g =
 
 -- An index, once a place was taken out of it or put into it.
 
-closed_behind : (taken place : ℕ) → taken < place → closed taken place ≡ place - 1
+closed_after : (taken place : ℕ) → taken < place → closed taken place ≡ place - 1
 unfolding closed
-closed_behind taken place h = cond-true _ _ _ (lt-ltb _ _ h)
+closed_after taken place h = cond-true _ _ _ (lt-ltb _ _ h)
 
 closed_before : (taken place : ℕ) → place ≤ taken → closed taken place ≡ place
 unfolding closed
@@ -88,7 +88,7 @@ closes : (names : List (List ℕ)) (taken place : ℕ) → taken < length names 
 closes names taken place t h n =
     elim (cases_lt taken place) [
       | inl b ↦
-          let e : closed taken place ≡ place - 1 = closed_behind taken place b in
+          let e : closed taken place ≡ place - 1 = closed_after taken place b in
           let back : place - 1 + 1 ≡ place = omega arith in
           record {
             inside = omega (arith, length-remove names taken t);
@@ -147,7 +147,7 @@ opened : (taken place : ℕ) → (i : ℕ) × IsOpened taken place i
 opened taken place =
     elim (cases_lt place taken) [
       | inl b ↦ (place, record { back = closed_before taken place (omega arith); other = λ e. absurd (omega arith); near = omega arith })
-      | inr b ↦ (place + 1, record { back = closed_behind taken (place + 1) (omega arith) ∙ omega arith; other = λ e. absurd (omega arith); near = omega arith })
+      | inr b ↦ (place + 1, record { back = closed_after taken (place + 1) (omega arith) ∙ omega arith; other = λ e. absurd (omega arith); near = omega arith })
     ]
 
 -- the places of an index differ from that of a name that is taken out
@@ -247,14 +247,14 @@ key_new names order name gap n g e =
 data Spot (gap j : ℕ) : Type 0 where
   Before : j < gap → Spot gap j
   NewMacro : j ≡ gap → Spot gap j
-  Behind : (i : ℕ) → gap ≤ i → j ≡ i + 1 → Spot gap j
+  After : (i : ℕ) → gap ≤ i → j ≡ i + 1 → Spot gap j
 
 spot : (gap j : ℕ) → Spot gap j
 spot gap j =
     elim (cases_lt j gap) [
       | inl h ↦ Before h
       | inr h ↦ elim (cases_lt gap j) [
-        | inl g ↦ Behind (j - 1) (omega arith) (omega arith)
+        | inl g ↦ After (j - 1) (omega arith) (omega arith)
         | inr g ↦ NewMacro (omega arith)
       ]
     ]
@@ -265,18 +265,18 @@ entered_sorted names order name gap n j k x g e h l (Before a) (Before b) =
 entered_sorted names order name gap n j k x g e h l (Before a) (NewMacro b) =
     ap (λ (i : ℕ). index_order (key_at (names ++ name ∷ []) (insert order gap n) j) (key_at (names ++ name ∷ []) (insert order gap n) i)) b
     ∙ rw (key_below names order name gap n j x g.fits a, key_new names order name gap n g.fits e) (g.below j a)
-entered_sorted names order name gap n j k x g e h l (Before a) (Behind i b f) =
+entered_sorted names order name gap n j k x g e h l (Before a) (After i b f) =
     ap (λ (i : ℕ). index_order (key_at (names ++ name ∷ []) (insert order gap n) j) (key_at (names ++ name ∷ []) (insert order gap n) i)) f
     ∙ rw (key_below names order name gap n j x g.fits a, key_above names order name gap n i x g.fits b (omega arith)) (x.sorted j i (omega arith) (omega arith))
 entered_sorted names order name gap n j k x g e h l (NewMacro a) (Before b) = absurd (omega arith)
 entered_sorted names order name gap n j k x g e h l (NewMacro a) (NewMacro b) = absurd (omega arith)
-entered_sorted names order name gap n j k x g e h l (NewMacro a) (Behind i b f) =
+entered_sorted names order name gap n j k x g e h l (NewMacro a) (After i b f) =
     ap (λ (i : ℕ). index_order (key_at (names ++ name ∷ []) (insert order gap n) j) (key_at (names ++ name ∷ []) (insert order gap n) i)) f
     ∙ (ap (λ (i' : ℕ). index_order (key_at (names ++ name ∷ []) (insert order gap n) i') (key_at (names ++ name ∷ []) (insert order gap n) (i + 1))) a
     ∙ rw (key_new names order name gap n g.fits e, key_above names order name gap n i x g.fits b (omega arith)) (turned _ name (g.above i b (omega arith))))
-entered_sorted names order name gap n j k x g e h l (Behind i a f) (Before b) = absurd (omega arith)
-entered_sorted names order name gap n j k x g e h l (Behind i a f) (NewMacro b) = absurd (omega arith)
-entered_sorted names order name gap n j k x g e h l (Behind i a f) (Behind i2 b f2) =
+entered_sorted names order name gap n j k x g e h l (After i a f) (Before b) = absurd (omega arith)
+entered_sorted names order name gap n j k x g e h l (After i a f) (NewMacro b) = absurd (omega arith)
+entered_sorted names order name gap n j k x g e h l (After i a f) (After i2 b f2) =
     ap (λ (q : ℕ). index_order (key_at (names ++ name ∷ []) (insert order gap n) j) (key_at (names ++ name ∷ []) (insert order gap n) q)) f2
     ∙ (ap (λ (q : ℕ). index_order (key_at (names ++ name ∷ []) (insert order gap n) q) (key_at (names ++ name ∷ []) (insert order gap n) (i2 + 1))) f
     ∙ rw (key_above names order name gap n i x g.fits a (omega arith), key_above names order name gap n i2 x g.fits b (omega arith)) (x.sorted i i2 (omega arith) (omega arith)))
@@ -286,7 +286,7 @@ entered_inside names order name gap n j x g e l (Before a) =
     omega (arith, get_or-insert_below order gap n 0 j a g, x.inside j (omega arith), length-append names (name ∷ []))
 entered_inside names order name gap n j x g e l (NewMacro a) =
     omega (arith, ap (λ (i : ℕ). get_or (insert order gap n) i 0) a ∙ get_or-insert_at order gap n 0 g, length-append names (name ∷ []))
-entered_inside names order name gap n j x g e l (Behind i a f) =
+entered_inside names order name gap n j x g e l (After i a f) =
     omega (arith, ap (λ (i' : ℕ). get_or (insert order gap n) i' 0) f ∙ get_or-insert_above order gap n 0 i a g, x.inside i (omega arith), length-append names (name ∷ []))
 
 -- every place of the names is reached
@@ -319,13 +319,13 @@ entered_index names order name gap n x g e =
 pub record IsLater (bucket : ℕ) (bucket_starts new : List ℕ) : Type 0 where
   pub long : length new ≡ length bucket_starts
   pub before : (p : ℕ) → p ≤ bucket → get_or new p 0 ≡ get_or bucket_starts p 0
-  pub behind : (p : ℕ) → bucket < p → p < length bucket_starts → get_or new p 0 ≡ get_or bucket_starts p 0 + 1
+  pub following : (p : ℕ) → bucket < p → p < length bucket_starts → get_or new p 0 ≡ get_or bucket_starts p 0 + 1
 
 -- each bucket behind one begins a place sooner
 pub record IsSooner (bucket : ℕ) (bucket_starts new : List ℕ) : Type 0 where
   pub long : length new ≡ length bucket_starts
   pub before : (p : ℕ) → p ≤ bucket → get_or new p 0 ≡ get_or bucket_starts p 0
-  pub behind : (p : ℕ) → bucket < p → p < length bucket_starts → get_or new p 0 ≡ get_or bucket_starts p 0 - 1
+  pub following : (p : ℕ) → bucket < p → p < length bucket_starts → get_or new p 0 ≡ get_or bucket_starts p 0 - 1
 
 module _ (f : ℕ → ℕ) (bucket : ℕ) (bucket_starts new : List ℕ) (h : bucket < length bucket_starts)
     (e : new ≡ take (bucket + 1) bucket_starts ++ map f (drop (bucket + 1) bucket_starts)) where
@@ -350,8 +350,8 @@ module _ (f : ℕ → ℕ) (bucket : ℕ) (bucket_starts new : List ℕ) (h : bu
       ∙ (get_or_append_left front back 0 p (omega (arith, front_long))
       ∙ get_or-take (bucket + 1) bucket_starts p 0 (omega arith))
 
-  moved_behind : (p : ℕ) → bucket < p → p < length bucket_starts → get_or new p 0 ≡ f (get_or bucket_starts p 0)
-  moved_behind p l g =
+  moved_after : (p : ℕ) → bucket < p → p < length bucket_starts → get_or new p 0 ≡ f (get_or bucket_starts p 0)
+  moved_after p l g =
       let same : bucket + 1 + (p - (bucket + 1)) ≡ p = omega arith in
       let inside : p - (bucket + 1) < length (drop (bucket + 1) bucket_starts) = omega (arith, length-drop (bucket + 1) bucket_starts) in
       ap (λ (xs : List ℕ). get_or xs p 0) e
@@ -363,7 +363,7 @@ pub later_is : (bucket : ℕ) (bucket_starts new : List ℕ) → bucket < length
 later_is bucket bucket_starts new h e = record {
   long = moved_long (λ s. s + 1) bucket bucket_starts new h e;
   before = moved_before (λ s. s + 1) bucket bucket_starts new h e;
-  behind = moved_behind (λ s. s + 1) bucket bucket_starts new h e;
+  following = moved_after (λ s. s + 1) bucket bucket_starts new h e;
 }
 
 -- the buckets behind that of a name in the index begin behind its place
@@ -382,7 +382,7 @@ pub sooner_is : (bucket : ℕ) (bucket_starts new : List ℕ) → bucket < lengt
 sooner_is bucket bucket_starts new h e = record {
   long = moved_long (λ s. s - 1) bucket bucket_starts new h e;
   before = moved_before (λ s. s - 1) bucket bucket_starts new h e;
-  behind = moved_behind (λ s. s - 1) bucket bucket_starts new h e;
+  following = moved_after (λ s. s - 1) bucket bucket_starts new h e;
 }
 
 pub nothing_divided : (names : List (List ℕ)) (bucket_starts : List ℕ) → length bucket_starts ≡ 1025 → ((p : ℕ) → p < 1025 → get_or bucket_starts p 0 ≡ 0) → IsDivided names [] bucket_starts
@@ -415,8 +415,8 @@ module _ (names : List (List ℕ)) (order bucket_starts new name : List ℕ) (ga
   middle_key : (k : ℕ) → k ≡ gap → bucket_of (key_at more wider k) ≡ bucket
   middle_key k h = ap (λ (i : ℕ). bucket_of (key_at more wider i)) h ∙ (ap bucket_of (key_new names order name gap n g.fits e) ∙ here)
 
-  behind_key : (k i : ℕ) → k ≡ i + 1 → gap ≤ i → i < length order → bucket_of (key_at more wider k) ≡ bucket_of (key_at names order i)
-  behind_key k i h a b = ap (λ (j : ℕ). bucket_of (key_at more wider j)) h ∙ ap bucket_of (key_above names order name gap n i x g.fits a b)
+  after_key : (k i : ℕ) → k ≡ i + 1 → gap ≤ i → i < length order → bucket_of (key_at more wider k) ≡ bucket_of (key_at names order i)
+  after_key k i h a b = ap (λ (j : ℕ). bucket_of (key_at more wider j)) h ∙ ap bucket_of (key_above names order name gap n i x g.fits a b)
 
   low_part : (k : ℕ) → k < gap → bucket_of (key_at names order k) ≤ bucket
   low_part k h = omega (arith, less_part _ name (g.below k h))
@@ -427,7 +427,7 @@ module _ (names : List (List ℕ)) (order bucket_starts new name : List ℕ) (ga
   grown : (p : ℕ) → p ≤ 1024 → (get_or bucket_starts p 0 ≤ get_or new p 0) × (get_or new p 0 ≤ get_or bucket_starts p 0 + 1)
   grown p h =
       elim (cases_lt bucket p) [
-        | inl a ↦ (omega (arith, l.behind p a (omega (arith, d.long))), omega (arith, l.behind p a (omega (arith, d.long))))
+        | inl a ↦ (omega (arith, l.following p a (omega (arith, d.long))), omega (arith, l.following p a (omega (arith, d.long))))
         | inr a ↦ (omega (arith, l.before p a), omega (arith, l.before p a))
       ]
 
@@ -441,7 +441,7 @@ module _ (names : List (List ℕ)) (order bucket_starts new name : List ℕ) (ga
           | inr c ↦ omega (arith, before_key k a, d.below p k h (omega (arith, l.before p c)))
         ]
         | inr a ↦ elim (cases_lt gap k) [
-          | inl c ↦ omega (arith, behind_key k (k - 1) (omega arith) (omega arith) (omega (arith, grow.1)), d.below p (k - 1) h (omega (arith, grow.1)))
+          | inl c ↦ omega (arith, after_key k (k - 1) (omega arith) (omega arith) (omega (arith, grow.1)), d.below p (k - 1) h (omega (arith, grow.1)))
           | inr c ↦ elim (cases_lt bucket p) [
             | inl f ↦ omega (arith, middle_key k (omega arith))
             | inr f ↦
@@ -459,15 +459,15 @@ module _ (names : List (List ℕ)) (order bucket_starts new name : List ℕ) (ga
         | inl a ↦ omega (arith, before_key k a, d.above p k h (omega (arith, grow.0)) (omega arith))
         | inr a ↦ elim (cases_lt gap k) [
           | inl f ↦
-              let key : bucket_of (key_at more wider k) ≡ bucket_of (key_at names order (k - 1)) = behind_key k (k - 1) (omega arith) (omega arith) (omega arith) in
+              let key : bucket_of (key_at more wider k) ≡ bucket_of (key_at names order (k - 1)) = after_key k (k - 1) (omega arith) (omega arith) (omega arith) in
               elim (cases_lt bucket p) [
-                | inl q ↦ omega (arith, key, d.above p (k - 1) h (omega (arith, l.behind p q (omega (arith, d.long)))) (omega arith))
+                | inl q ↦ omega (arith, key, d.above p (k - 1) h (omega (arith, l.following p q (omega (arith, d.long)))) (omega arith))
                 | inr q ↦ omega (arith, key, high_part (k - 1) (omega arith) (omega arith))
               ]
           | inr f ↦ elim (cases_lt bucket p) [
             | inl q ↦
                 let s : ℕ = get_or bucket_starts p 0 in
-                let low : s < gap = omega (arith, l.behind p q (omega (arith, d.long))) in
+                let low : s < gap = omega (arith, l.following p q (omega (arith, d.long))) in
                 absurd (omega (arith, low_part s low, d.above p s h (omega arith) (omega arith)))
             | inr q ↦ omega (arith, middle_key k (omega arith))
           ]
@@ -503,8 +503,8 @@ module _ (names : List (List ℕ)) (order bucket_starts new : List ℕ) (at take
         | inr b ↦ b
       ]
 
-  ends_behind : (p : ℕ) → p ≤ 1024 → bucket < p → at < get_or bucket_starts p 0
-  ends_behind p h a =
+  ends_after : (p : ℕ) → p ≤ 1024 → bucket < p → at < get_or bucket_starts p 0
+  ends_after p h a =
       elim (cases_lt at (get_or bucket_starts p 0)) [
         | inl b ↦ b
         | inr b ↦ absurd (omega (arith, here, d.above p at h b i))
@@ -519,7 +519,7 @@ module _ (names : List (List ℕ)) (order bucket_starts new : List ℕ) (at take
   fell : (p : ℕ) → p ≤ 1024 → (get_or bucket_starts p 0 ≤ at) × (get_or new p 0 ≡ get_or bucket_starts p 0) ⊎ (at < get_or bucket_starts p 0) × (get_or new p 0 ≡ get_or bucket_starts p 0 - 1)
   fell p h =
       elim (cases_lt bucket p) [
-        | inl a ↦ inr (ends_behind p h a, l.behind p a (omega (arith, d.long)))
+        | inl a ↦ inr (ends_after p h a, l.following p a (omega (arith, d.long)))
         | inr a ↦ inl (ends_before p h a, l.before p a)
       ]
 

@@ -20,7 +20,7 @@ use Rattle.rdlpp_table.specs.declared.fault.DefineFault.{DefineFault}
 use Rattle.rdlpp_table.specs.Table.{Formal, Macro, formal_bytes, formal_size, macro_bytes, macro_size}
 use Rattle.rdlpp_lines.specs.Continuations.{joined}
 use Rattle.rdlpp_lines.specs.Texts.{Cleared, Sound, Unsound, onto, trimmed_left, trimmed_len, trims, cleared, told, read_by, left_in, kept_bytes, start_level}
-use Rattle.rdlpp_table.specs.Define.{Draft, Drawn, DraftFault, lexical, observed, macro_set, name_fault, refused_word, set_of, stored, stored_draft, trimmed, with_body, without_list, text_without_line_comments, FormalFault, DefaultText, Good, Listed, FormalListFault, after_space, behind_name, default_in, formal_fault, formal_in, formal_name, formals_in, formals_of_list, is_nothing, with_default, FormalList}
+use Rattle.rdlpp_table.specs.Define.{Draft, Drawn, DraftFault, lexical, observed, macro_set, name_fault, refused_word, set_of, stored, stored_draft, trimmed, with_body, without_list, text_without_line_comments, FormalFault, DefaultText, Good, Listed, FormalListFault, after_space, after_name, default_in, formal_fault, formal_in, formal_name, formals_in, formals_of_list, is_nothing, with_default, FormalList}
 use Rattle.rdlpp_table.proofs.Taken.{between_parts}
 use Rattle.rdlpp_table.proofs.RoundTrip.{refused_is, read_list}
 use Rattle.rdlpp_table.specs.View.{AreSoundFormals, IsSoundMacro, formals_of}
@@ -37,7 +37,7 @@ use Rattle.rdlpp_table.specs.Formals.{IsRead, listed}
 use Rattle.rdlpp_table.specs.FormalOffsets.{macro_offsets, offsets_of}
 use Rattle.rdlpp_table.specs.Store.{entry_of, formals_read, is_plain_formal, is_plain_macro, list_size, AreStoredFormals}
 use Rattle.rdlpp_table.proofs.Sizes.{few_offsets_of, length_list_bytes}
-use Rattle.rdlpp_table.proofs.FirstPoints.{behind_place}
+use Rattle.rdlpp_table.proofs.FirstPoints.{after_place}
 use Rattle.rdlpp_table.specs.declared.fault.DefineKind.TheVariants as kind
 
 -- A macro with a body, by what is left of the body's text.
@@ -162,20 +162,20 @@ three_none false true c e = absurd (cc)
 three_none false false true e = absurd (cc)
 three_none false false false e = (refl, refl)
 
-named_with : (name from : List ℕ) (d : Option DefaultText) (f : Formal) (behind : List ℕ) → default_in from ≡ d → with_default name d ≡ Good f behind → (name ≡ f.name) × IsCleanText f.text
+named_with : (name from : List ℕ) (d : Option DefaultText) (f : Formal) (following : List ℕ) → default_in from ≡ d → with_default name d ≡ Good f following → (name ≡ f.name) × IsCleanText f.text
 unfolding with_default
-named_with name from None f behind is e = absurd (cc)
-named_with name from (Some d) f behind is e =
+named_with name from None f following is e = absurd (cc)
+named_with name from (Some d) f following is e =
     let g : (let x : Formal = record { name = name; text = d.text } in x) ≡ f = cc in
     (ap (λ (x : Formal). x.name) g, subst IsCleanText (ap (λ (x : Formal). x.text) g) (default_in_clean from d is))
 
-good_by : (o : Option DefineKind) (name from : List ℕ) (f : Formal) (behind : List ℕ) → formal_by o name (default_in from) ≡ Good f behind → (o ≡ None) × ((name ≡ f.name) × IsCleanText f.text)
-good_by None name from f behind e = (refl, named_with name from (default_in from) f behind refl e)
-good_by (Some k) name from f behind e = absurd (cc)
+good_by : (o : Option DefineKind) (name from : List ℕ) (f : Formal) (following : List ℕ) → formal_by o name (default_in from) ≡ Good f following → (o ≡ None) × ((name ≡ f.name) × IsCleanText f.text)
+good_by None name from f following e = (refl, named_with name from (default_in from) f following refl e)
+good_by (Some k) name from f following e = absurd (cc)
 
-next_formal : (before : List Formal) (text : List ℕ) (f : Formal) (behind : List ℕ) → length before < 255 → formal_in before text ≡ Good f behind → IsNextFormal before f
-next_formal before text f behind room e =
-    let g = good_by (formal_fault before (formal_name text)) (formal_name text) (behind_name text) f behind (sym (in_by before text) ∙ e) in
+next_formal : (before : List Formal) (text : List ℕ) (f : Formal) (following : List ℕ) → length before < 255 → formal_in before text ≡ Good f following → IsNextFormal before f
+next_formal before text f following room e =
+    let g = good_by (formal_fault before (formal_name text)) (formal_name text) (after_name text) f following (sym (in_by before text) ∙ e) in
     let t = three_none (is_nothing (formal_name text)) (ltb 128 (length (formal_name text))) (list_any (λ (g : Formal). bytes_eq g.name (formal_name text)) before) (sym (fault_three before (formal_name text)) ∙ g.0) in
     record {
       short = omega (arith, ap (length {A = ℕ}) g.1.0, ltb-false 128 (length (formal_name text)) t.0);
@@ -208,12 +208,12 @@ listed_same : (before fs : List Formal) (after' after : List ℕ) → Listed (So
 listed_same before fs after' after e = cc
 
 -- by what stands behind the next formal
-behind_sound : (room : ℕ) (before : List Formal) (f : Formal) (behind : List ℕ) (fs : List Formal) (after : List ℕ) → AreSoundFormals (before ++ f ∷ []) → (formals_in room (before ++ f ∷ []) (drop 1 behind) ≡ Listed (Some fs) after → AreSoundFormals fs) → list_by room before (Good f behind) ≡ Listed (Some fs) after → AreSoundFormals fs
-behind_sound room before f behind fs after s next e =
-    elim (cases_Bool (eqb (get_or behind 0 0) 44)) [
+after_sound : (room : ℕ) (before : List Formal) (f : Formal) (following : List ℕ) (fs : List Formal) (after : List ℕ) → AreSoundFormals (before ++ f ∷ []) → (formals_in room (before ++ f ∷ []) (drop 1 following) ≡ Listed (Some fs) after → AreSoundFormals fs) → list_by room before (Good f following) ≡ Listed (Some fs) after → AreSoundFormals fs
+after_sound room before f following fs after s next e =
+    elim (cases_Bool (eqb (get_or following 0 0) 44)) [
       | inl c ↦ next (sym (cond-true _ _ _ c) ∙ e)
-      | inr c ↦ elim (cases_Bool (eqb (get_or behind 0 0) 41)) [
-        | inl k ↦ subst AreSoundFormals (listed_same (before ++ f ∷ []) fs (drop 1 behind) after (sym (cond-true _ _ _ k) ∙ (sym (cond-false _ _ _ c) ∙ e))) s
+      | inr c ↦ elim (cases_Bool (eqb (get_or following 0 0) 41)) [
+        | inl k ↦ subst AreSoundFormals (listed_same (before ++ f ∷ []) fs (drop 1 following) after (sym (cond-true _ _ _ k) ∙ (sym (cond-false _ _ _ c) ∙ e))) s
         | inr k ↦ let h : FormalListFault kind.BadFormals ≡ Listed (Some fs) after = sym (cond-false _ _ _ k) ∙ (sym (cond-false _ _ _ c) ∙ e) in absurd (cc)
       ]
     ]
@@ -223,9 +223,9 @@ in_sound zero before text fs after s n e = let h : FormalListFault (unwrap_or (f
 in_sound (suc room) before text fs after s n e =
     (elim (formal_in before text) as (λ o. formal_in before text ≡ o → list_by room before o ≡ Listed (Some fs) after → AreSoundFormals fs) [
       | FormalFault k ↦ λ q h. absurd (cc)
-      | Good f behind ↦ λ q h.
-          behind_sound room before f behind fs after (one_more_sound before f s (next_formal before text f behind (omega arith) q))
-          (λ i. in_sound room (before ++ f ∷ []) (drop 1 behind) fs after (one_more_sound before f s (next_formal before text f behind (omega arith) q)) (omega (arith, length-append before (f ∷ []))) i) h
+      | Good f following ↦ λ q h.
+          after_sound room before f following fs after (one_more_sound before f s (next_formal before text f following (omega arith) q))
+          (λ i. in_sound room (before ++ f ∷ []) (drop 1 following) fs after (one_more_sound before f s (next_formal before text f following (omega arith) q)) (omega (arith, length-append before (f ∷ []))) i) h
     ]) refl (sym (list_step room before text) ∙ e)
 
 -- a name without a fault is that of a sound macro
@@ -323,7 +323,7 @@ appended arity list size count slice l n e =
 pub appended_last : (named listed here : List ℕ) (arity : Option ℕ) (list : List ℕ) (size count from : ℕ) → IsList arity list size → listed ≡ named ++ flat_map formal_bytes (unwrap_or (list_formals arity list) []) → from ≡ length named → count ≡ unwrap_or arity 0 → here ≡ listed → IsAppended arity list size count (take (length here - from) (drop from here))
 appended_last named listed here arity list size count from l e i n h =
     appended arity list size count (take (length here - from) (drop from here)) l n
-    (behind_place from here ∙ (ap (drop from) (h ∙ e) ∙ drop_at named (flat_map formal_bytes (unwrap_or (list_formals arity list) [])) from (sym i)))
+    (after_place from here ∙ (ap (drop from) (h ∙ e) ∙ drop_at named (flat_map formal_bytes (unwrap_or (list_formals arity list) [])) from (sym i)))
 
 -- the bytes between two places, once the body was appended too
 pub appended_between : (named listed all here : List ℕ) (arity : Option ℕ) (list : List ℕ) (size count from to : ℕ) (body : List ℕ) → IsList arity list size → listed ≡ named ++ flat_map formal_bytes (unwrap_or (list_formals arity list) []) → all ≡ listed ++ body → from ≡ length named → to ≡ length listed → count ≡ unwrap_or arity 0 → here ≡ all → IsAppended arity list size count (slice_range here from to)
@@ -339,7 +339,7 @@ appended_listed arity list size count last between order here from a b e i = rec
   whole = b.whole;
   plain = b.plain;
   marked =
-      behind_place from here
+      after_place from here
       ∙ (ap (drop from) e
       ∙ (drop_at order (offsets_of (formals_read count last)) from (sym i)
       ∙ ap offsets_of (a.read ∙ sym b.read)));
@@ -428,16 +428,16 @@ unfolding start_level
 body_is is_logical text = refl
 
 -- a list that was read
-pub list_is : (list behind : List ℕ) (count size : ℕ) → (formals : List Formal) × IsRead (formals_of_list (joined true list)) behind count size formals → (IsList (Some count) list size) × (formals_of_list (joined true list) ≡ Listed (list_formals (Some count) list) behind)
+pub list_is : (list following : List ℕ) (count size : ℕ) → (formals : List Formal) × IsRead (formals_of_list (joined true list)) following count size formals → (IsList (Some count) list size) × (formals_of_list (joined true list) ≡ Listed (list_formals (Some count) list) following)
 unfolding list_formals listed
-list_is list behind count size r =
+list_is list following count size r =
     let e : listed (formals_of_list (joined true list)) ≡ Some r.0 = ap listed r.1.is in (
       record {
         size_is = ap (λ (o : Option (List Formal)). sum_by formal_size (unwrap_or o [])) e ∙ r.1.size_is;
         arity_is = ap (option_map length) e ∙ ap Some r.1.count_is;
         plain = ap (λ (o : Option (List Formal)). list_all is_plain_formal (unwrap_or o [])) e ∙ r.1.plain;
       },
-      r.1.is ∙ ap (λ (o : Option (List Formal)). Listed o behind) (sym e),
+      r.1.is ∙ ap (λ (o : Option (List Formal)). Listed o following) (sym e),
     )
 
 pub no_list_is : (list : List ℕ) → IsList None list 0

@@ -80,12 +80,12 @@ eight_are (a ∷ b ∷ c ∷ d ∷ e ∷ f ∷ g ∷ []) le = absurd (omega arit
 eight_are (a ∷ b ∷ c ∷ d ∷ e ∷ f ∷ g ∷ h ∷ xs) le = omega arith
 
 -- what is behind the first eight bytes, as a slice
-pub behind : (xs : List ℕ) → 8 ≤ length xs → take (length xs - 8) (drop 8 xs) ≡ drop 8 xs
-behind xs le = take_all _ (drop 8 xs) (omega (arith, length-drop 8 xs))
+pub following : (xs : List ℕ) → 8 ≤ length xs → take (length xs - 8) (drop 8 xs) ≡ drop 8 xs
+following xs le = take_all _ (drop 8 xs) (omega (arith, length-drop 8 xs))
 
 -- bytes behind bytes
-pub bytes_behind : (xs : List ℕ) → 8 ≤ length xs → AreBytes xs → AreBytes (take (length xs - 8) (drop 8 xs))
-bytes_behind xs le h = subst AreBytes (sym (behind xs le)) (λ k. subst (λ b. b < 256) (sym (get_or-drop 8 xs k 0)) (h (8 + k)))
+pub bytes_after : (xs : List ℕ) → 8 ≤ length xs → AreBytes xs → AreBytes (take (length xs - 8) (drop 8 xs))
+bytes_after xs le h = subst AreBytes (sym (following xs le)) (λ k. subst (λ b. b < 256) (sym (get_or-drop 8 xs k 0)) (h (8 + k)))
 
 -- an order that isn't `Equal` is the answer
 unequal : (o r : Ordering) → is_ne o ≡ true → o ≡ ordering_then o r
@@ -111,10 +111,10 @@ module _ (xs ys : List ℕ) (x y : ℕ) (o : Ordering) (p : 8 ≤ length xs) (q 
   order_apart e = unequal o (name_order (drop 8 xs) (drop 8 ys)) e ∙ sym in_two
 
   -- names that are alike in eight bytes
-  pub order_behind : is_ne o ≡ false → name_order xs ys ≡ name_order (take (length xs - 8) (drop 8 xs)) (take (length ys - 8) (drop 8 ys))
-  order_behind e =
+  pub order_after : is_ne o ≡ false → name_order xs ys ≡ name_order (take (length xs - 8) (drop 8 xs)) (take (length ys - 8) (drop 8 ys))
+  order_after e =
       in_two ∙ equal o (name_order (drop 8 xs) (drop 8 ys)) e
-      ∙ sym (ap (λ l. name_order l (take (length ys - 8) (drop 8 ys))) (behind xs p) ∙ ap (name_order (drop 8 xs)) (behind ys q))
+      ∙ sym (ap (λ l. name_order l (take (length ys - 8) (drop 8 ys))) (following xs p) ∙ ap (name_order (drop 8 xs)) (following ys q))
 
 -- The number that is stirred from a name, eight bytes at a time.
 
@@ -145,7 +145,7 @@ mix_last number (a ∷ b ∷ c ∷ d ∷ e ∷ f ∷ g ∷ h ∷ xs) le = absurd
 -- eight bytes more
 pub mix_next : (number : ℕ) (xs : List ℕ) (front next : ℕ) → 8 ≤ length xs → front ≡ big_endian 0 (take 8 xs) → next ≡ mix number front → mix_through next (take (length xs - 8) (drop 8 xs)) ≡ mix_through number xs
 mix_next number xs front next h e f =
-    ap (mix_through next) (behind xs h)
+    ap (mix_through next) (following xs h)
     ∙ (ap (λ (n : ℕ). mix_through n (drop 8 xs)) (f ∙ ap (mix number) e)
     ∙ sym (mix_on number xs h))
 
@@ -331,7 +331,7 @@ start_seeking names order bucket_starts name bucket first low high d p small e f
           let before : bucket_of (key_at names order k) < bucket = d.below bucket k (omega arith) (omega arith) in
           bucket_less _ name (omega arith);
       above = λ k g l.
-          let behind : bucket + 1 ≤ bucket_of (key_at names order k) = d.above (bucket + 1) k (omega arith) (omega arith) l in
+          let following : bucket + 1 ≤ bucket_of (key_at names order k) = d.above (bucket + 1) k (omega arith) (omega arith) l in
           bucket_more _ name (omega arith);
       alike = λ k g l.
           let from : bucket ≤ bucket_of (key_at names order k) = d.above bucket k (omega arith) (omega arith) (omega arith) in
@@ -345,7 +345,7 @@ pub seek_up : (names : List (List ℕ)) (order name : List ℕ) (low high first 
 seek_up names order name low high first now middle next x s h m below e =
     let less : index_order (key_at names order middle) name ≡ Less = bucket_same _ name (s.alike middle m.from m.to) ∙ below in
     let inside : middle < high = m.to in
-    let r = stepped first now next (high - low) (high - (middle + 1)) s.counted (omega arith) s.budget (omega (arith, m.behind)) e in
+    let r = stepped first now next (high - low) (high - (middle + 1)) s.counted (omega arith) s.budget (omega (arith, m.following)) e in
     record {
       ordered = omega (arith, m.to);
       fits = s.fits;
@@ -435,13 +435,13 @@ drawn f old now by k d e h p =
     let many : k < length rest = omega (arith, length-drop by old) in
     let front : List _ = map f (take k rest) in
     let long : length front ≡ k = length-map (take k rest) f ∙ length-take-le k rest (omega arith) in
-    let behind : List _ = drop (k + 1) old in
+    let following : List _ = drop (k + 1) old in
     let x : _ = get_or now (k + by) d in
-    let split : now ≡ front ++ get_or old k d ∷ behind = p ∙ ap (λ (l : List _). front ++ l) (drop_more old k d (omega arith)) in
-    let once : set now k x ≡ front ++ x ∷ behind = ap (λ (l : List _). set l k x) split ∙ set_at front (get_or old k d) behind x k long in
+    let split : now ≡ front ++ get_or old k d ∷ following = p ∙ ap (λ (l : List _). front ++ l) (drop_more old k d (omega arith)) in
+    let once : set now k x ≡ front ++ x ∷ following = ap (λ (l : List _). set l k x) split ∙ set_at front (get_or old k d) following x k long in
     let from : length front + by ≡ k + by = omega arith in
     ap (λ (l : List _). get_or l k e) once
-    ∙ (get_or_at front x behind e k long
+    ∙ (get_or_at front x following e k long
     ∙ (ap (λ (l : List _). get_or l (k + by) d) p
     ∙ (ap (λ (i : ℕ). get_or (front ++ drop k old) i d) (sym from)
     ∙ (get_or-append-add front (drop k old) by d
@@ -454,53 +454,53 @@ drawn_more f old now by k z d e h p q =
     let many : k < length rest = omega (arith, length-drop by old) in
     let front : List _ = map f (take k rest) in
     let long : length front ≡ k = length-map (take k rest) f ∙ length-take-le k rest (omega arith) in
-    let behind : List _ = drop (k + 1) old in
+    let following : List _ = drop (k + 1) old in
     let x : _ = get_or now (k + by) d in
-    let split : now ≡ front ++ get_or old k d ∷ behind = p ∙ ap (λ (l : List _). front ++ l) (drop_more old k d (omega arith)) in
-    let once : set now k x ≡ front ++ x ∷ behind = ap (λ (l : List _). set l k x) split ∙ set_at front (get_or old k d) behind x k long in
-    let twice : set (set now k x) k z ≡ front ++ z ∷ behind = ap (λ (l : List _). set l k z) once ∙ set_at front x behind z k long in
+    let split : now ≡ front ++ get_or old k d ∷ following = p ∙ ap (λ (l : List _). front ++ l) (drop_more old k d (omega arith)) in
+    let once : set now k x ≡ front ++ x ∷ following = ap (λ (l : List _). set l k x) split ∙ set_at front (get_or old k d) following x k long in
+    let twice : set (set now k x) k z ≡ front ++ z ∷ following = ap (λ (l : List _). set l k z) once ∙ set_at front x following z k long in
     let changed : z ≡ f (get_or rest k d) = q ∙ ap f (drawn f old now by k d e h p) in
     twice
-    ∙ (ap (λ (y : _). front ++ y ∷ behind) changed
-    ∙ (sym (append_assoc front (f (get_or rest k d) ∷ []) behind)
-    ∙ ap (λ (l : List _). l ++ behind) (sym (map_more f rest k d many))))
+    ∙ (ap (λ (y : _). front ++ y ∷ following) changed
+    ∙ (sym (append_assoc front (f (get_or rest k d) ∷ []) following)
+    ∙ ap (λ (l : List _). l ++ following) (sym (map_more f rest k d many))))
 
 -- the element that comes to a place is the one before it
 pub raised : {A : Type 0} (f : A → A) (old now : List A) (j k n : ℕ) (d e : A) → k ≡ j + 1 → k ≤ n → n < length old → now ≡ take (k + 1) old ++ map f (drop k (take n old)) → get_or (set now k (get_or now j d)) k e ≡ get_or (take n old) j d
 raised f old now j k n d e s h g p =
-    let behind : List _ = map f (drop k (take n old)) in
+    let following : List _ = map f (drop k (take n old)) in
     let x : _ = get_or now j d in
     let long : length (take k old) ≡ k = length-take-le k old (omega arith) in
     let more : length (take (k + 1) old) ≡ k + 1 = length-take-le (k + 1) old (omega arith) in
-    let split : now ≡ take k old ++ get_or old k d ∷ behind =
-    p ∙ (ap (λ (l : List _). l ++ behind) (take_more old k d (omega arith)) ∙ append_assoc (take k old) (get_or old k d ∷ []) behind) in
-    let once : set now k x ≡ take k old ++ x ∷ behind = ap (λ (l : List _). set l k x) split ∙ set_at (take k old) (get_or old k d) behind x k long in
+    let split : now ≡ take k old ++ get_or old k d ∷ following =
+    p ∙ (ap (λ (l : List _). l ++ following) (take_more old k d (omega arith)) ∙ append_assoc (take k old) (get_or old k d ∷ []) following) in
+    let once : set now k x ≡ take k old ++ x ∷ following = ap (λ (l : List _). set l k x) split ∙ set_at (take k old) (get_or old k d) following x k long in
     ap (λ (l : List _). get_or l k e) once
-    ∙ (get_or_at (take k old) x behind e k long
+    ∙ (get_or_at (take k old) x following e k long
     ∙ (ap (λ (l : List _). get_or l j d) p
-    ∙ (get_or_append_left (take (k + 1) old) behind d j (omega arith)
+    ∙ (get_or_append_left (take (k + 1) old) following d j (omega arith)
     ∙ (get_or-take (k + 1) old j d (omega arith) ∙ sym (get_or-take n old j d (omega arith))))))
 
 -- one more place: the element before it comes there, and is changed
 pub raised_more : {A : Type 0} (f : A → A) (old now : List A) (j k n : ℕ) (z d e : A) → k ≡ j + 1 → k ≤ n → n < length old → now ≡ take (k + 1) old ++ map f (drop k (take n old)) → z ≡ f (get_or (set now k (get_or now j d)) k e) → set (set now k (get_or now j d)) k z ≡ take (j + 1) old ++ map f (drop j (take n old))
 raised_more f old now j k n z d e s h g p q =
-    let behind : List _ = map f (drop k (take n old)) in
+    let following : List _ = map f (drop k (take n old)) in
     let x : _ = get_or now j d in
     let long : length (take k old) ≡ k = length-take-le k old (omega arith) in
     let some : j < length (take n old) = omega (arith, length-take-le n old (omega arith)) in
-    let split : now ≡ take k old ++ get_or old k d ∷ behind =
-    p ∙ (ap (λ (l : List _). l ++ behind) (take_more old k d (omega arith)) ∙ append_assoc (take k old) (get_or old k d ∷ []) behind) in
-    let once : set now k x ≡ take k old ++ x ∷ behind = ap (λ (l : List _). set l k x) split ∙ set_at (take k old) (get_or old k d) behind x k long in
-    let twice : set (set now k x) k z ≡ take k old ++ z ∷ behind = ap (λ (l : List _). set l k z) once ∙ set_at (take k old) x behind z k long in
+    let split : now ≡ take k old ++ get_or old k d ∷ following =
+    p ∙ (ap (λ (l : List _). l ++ following) (take_more old k d (omega arith)) ∙ append_assoc (take k old) (get_or old k d ∷ []) following) in
+    let once : set now k x ≡ take k old ++ x ∷ following = ap (λ (l : List _). set l k x) split ∙ set_at (take k old) (get_or old k d) following x k long in
+    let twice : set (set now k x) k z ≡ take k old ++ z ∷ following = ap (λ (l : List _). set l k z) once ∙ set_at (take k old) x following z k long in
     let changed : z ≡ f (get_or (take n old) j d) = q ∙ ap f (raised f old now j k n d e s h g p) in
     twice
-    ∙ (ap (λ (y : _). take k old ++ y ∷ behind) changed
+    ∙ (ap (λ (y : _). take k old ++ y ∷ following) changed
     ∙ (ap (λ (i : ℕ). take i old ++ f (get_or (take n old) j d) ∷ map f (drop i (take n old))) s
     ∙ ap (λ (l : List _). take (j + 1) old ++ map f l) (sym (drop_more (take n old) j d some))))
 
 -- what is behind a place, once the element there was taken out
-pub behind_removed : {A : Type 0} (xs : List A) (place : ℕ) → place < length xs → drop place (remove xs place) ≡ drop 1 (drop place xs)
-behind_removed xs place h =
+pub after_removed : {A : Type 0} (xs : List A) (place : ℕ) → place < length xs → drop place (remove xs place) ≡ drop 1 (drop place xs)
+after_removed xs place h =
     drop_at (take place xs) (drop (suc place) xs) place (length-take-le place xs (omega arith))
     ∙ (ap (λ (k : ℕ). drop k xs) (let s : suc place ≡ place + 1 = omega arith in s) ∙ sym (drop-drop 1 place xs))
 
@@ -531,7 +531,7 @@ closed_list f xs am given left post junk place len n h e m a g l =
     ∙ (ap (take (n - 1)) (regrouped (take place xs) moved last post junk)
     ∙ (take_at (take place xs ++ moved) (last ++ (post ++ junk)) (n - 1) long
     ∙ (ap (λ (y : List _). y ++ moved) (sym (before_removed xs place h))
-    ∙ ap (λ (y : List _). take place (remove xs place) ++ map f y) (sym (behind_removed xs place h))))))))
+    ∙ ap (λ (y : List _). take place (remove xs place) ++ map f y) (sym (after_removed xs place h))))))))
 
 regrouped_front : {A : Type 0} (front first moved back : List A) → front ++ ((first ++ moved) ++ back) ≡ (front ++ first) ++ (moved ++ back)
 regrouped_front front first moved back = simp append_assoc
@@ -570,13 +570,13 @@ raised_list f xs am given junk left front place k len s h e a g l =
     ap (drop (front + 1)) (l ∙ (take_at (take front am ++ (given ++ drop k (drop front am))) junk len all ∙ whole))
     ∙ (drop_at (take front xs ++ take 1 bucket) (moved ++ drop (place + 1) rest) (front + 1) first
     ∙ (ap (λ (y : List _). map f y ++ drop (place + 1) rest) (sym (before_removed rest place some))
-    ∙ ap (λ (y : List _). map f (take place (remove rest place)) ++ y) (sym (behind_removed rest place some ∙ drop-drop 1 place rest))))
+    ∙ ap (λ (y : List _). map f (take place (remove rest place)) ++ y) (sym (after_removed rest place some ∙ drop-drop 1 place rest))))
 
 -- what is behind a place that is counted from the front, once the element there was taken out
-pub live_behind : {A : Type 0} (items : List A) (front place : ℕ) → front + place < length items → drop (front + place) (remove items (front + place)) ≡ drop place (remove (drop front items) place)
-live_behind items front place h =
-    behind_removed items (front + place) h
-    ∙ (ap (drop 1) (sym (drop-drop place front items)) ∙ sym (behind_removed (drop front items) place (omega (arith, length-drop front items))))
+pub live_after : {A : Type 0} (items : List A) (front place : ℕ) → front + place < length items → drop (front + place) (remove items (front + place)) ≡ drop place (remove (drop front items) place)
+live_after items front place h =
+    after_removed items (front + place) h
+    ∙ (ap (drop 1) (sym (drop-drop place front items)) ∙ sym (after_removed (drop front items) place (omega (arith, length-drop front items))))
 
 -- the same, of the whole list
 pub live_taken : {A : Type 0} (f : A → A) (items left : List A) (front place : ℕ) → front + place < length items → left ≡ take (front + place) (remove items (front + place)) ++ map f (drop (front + place) (remove items (front + place))) → drop front left ≡ take place (remove (drop front items) place) ++ map f (drop place (remove (drop front items) place))
@@ -586,7 +586,7 @@ live_taken f items left front place h e =
     ap (drop front) (e ∙ ap (λ (y : List _). y ++ back) (before_removed items (front + place) h))
     ∙ (drop-append-le front (take (front + place) items) back long
     ∙ (ap (λ (y : List _). y ++ back) (drop-take front place items ∙ sym (before_removed (drop front items) place (omega (arith, length-drop front items))))
-    ∙ ap (λ (y : List _). take place (remove (drop front items) place) ++ map f y) (live_behind items front place h)))
+    ∙ ap (λ (y : List _). take place (remove (drop front items) place) ++ map f y) (live_after items front place h)))
 
 -- the list of what is behind so many places, once all of that came to the front
 pub settled_list : {A : Type 0} (f : A → A) (xs am given junk left : List A) (front len n : ℕ) → front ≤ length xs → len ≡ length xs → n ≡ len → am ≡ xs → given ≡ map f (drop front am) ++ drop (length am - front) am → left ≡ take (n - front) (take len (given ++ junk)) → left ≡ map f (drop front xs)

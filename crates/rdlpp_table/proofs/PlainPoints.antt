@@ -22,7 +22,7 @@ use Rattle.rdlpp_table.specs.declared.point_cache.PackedKind.TheVariants as kept
 use Rattle.rdlpp_table.specs.ExpansionPoints.{next_expansion_point, is_none, or_point, point_at, point_name, point_of}
 use Rattle.rdlpp_table.specs.Table.{Formal}
 use Rattle.rdlpp_table.specs.View.{formal_named}
-use Rattle.rdlpp_table.proofs.FirstPoints.{IsFrom, back_when, begins, begins_end, behind_place, when, cut_more, cut_token, front_first, one_token, or_none, or_some, inert_one, run_drop, tokens_within}
+use Rattle.rdlpp_table.proofs.FirstPoints.{IsFrom, back_when, begins, begins_end, after_place, when, cut_more, cut_token, front_first, one_token, or_none, or_some, inert_one, run_drop, tokens_within}
 
 -- The first token of a text that begins with a plain argument byte.
 
@@ -122,14 +122,14 @@ kind_begins formals at len Perl mode bytes = omega arith
 -- One token.
 
 -- what stands behind the first token of a text, if that is none of the expansion points
-abbrev behind : List Formal → ℕ → List ℕ → ExpansionPoint
-behind formals at u = let t = token_of Plain u in next_expansion_point formals (at + t.len) (tokens_from Plain 0 (drop t.len u)) (drop t.len u)
+abbrev following : List Formal → ℕ → List ℕ → ExpansionPoint
+following formals at u = let t = token_of Plain u in next_expansion_point formals (at + t.len) (tokens_from Plain 0 (drop t.len u)) (drop t.len u)
 
 abbrev here : List Formal → ℕ → List ℕ → ExpansionPoint
 here formals at u = let t = token_of Plain u in point_at formals at t (take t.len u)
 
 text_step : (formals : List Formal) (at : ℕ) (u : List ℕ) → 0 < length u → (token_of Plain u).next_mode ≡ Plain → is_none (here formals at u) ≡ true
-    → next_expansion_point formals at (tokens_from Plain 0 u) u ≡ behind formals at u
+    → next_expansion_point formals at (tokens_from Plain 0 u) u ≡ following formals at u
 text_step formals at u some next none =
     let t = token_of Plain u in
     one_token formals at Plain u some (token_of-part Plain u some).not_empty
@@ -228,20 +228,20 @@ point_from (suc fuel) formals at (suc n) (b ∷ bs) s room run cut e far =
 
 -- a front of plain argument bytes has no expansion point, where the first expansion point of the text begins no nearer than at its end, and
 -- no word goes on there
-point_behind : (fuel : ℕ) (formals : List Formal) (at m : ℕ) (u : List ℕ) (s : ExpansionPoint) → length u ≤ fuel → m ≤ prefix_len is_plain_argument u → is_word (get_or u m 0) ≡ false → s ≡ next_expansion_point formals at (tokens_from Plain 0 u) u → (is_none s ≡ false → at + m ≤ begins s)
+point_after : (fuel : ℕ) (formals : List Formal) (at m : ℕ) (u : List ℕ) (s : ExpansionPoint) → length u ≤ fuel → m ≤ prefix_len is_plain_argument u → is_word (get_or u m 0) ≡ false → s ≡ next_expansion_point formals at (tokens_from Plain 0 u) u → (is_none s ≡ false → at + m ≤ begins s)
     → next_expansion_point formals at (tokens_from Plain 0 (take m u)) (take m u) ≡ point.None
 unfolding next_expansion_point tokens_from
-point_behind fuel formals at zero u s room run ends e far = refl
-point_behind fuel formals at (suc m) [] s room run ends e far = absurd (omega arith)
-point_behind zero formals at (suc m) (b ∷ bs) s room run ends e far = absurd (omega arith)
-point_behind (suc fuel) formals at (suc m) (b ∷ bs) s room run ends e far =
+point_after fuel formals at zero u s room run ends e far = refl
+point_after fuel formals at (suc m) [] s room run ends e far = absurd (omega arith)
+point_after zero formals at (suc m) (b ∷ bs) s room run ends e far = absurd (omega arith)
+point_after (suc fuel) formals at (suc m) (b ∷ bs) s room run ends e far =
     let u = b ∷ bs in
     let t = token_of Plain u in
     let one = run_one is_plain_argument m b bs run in
     let plain_argument = plain_argument_token b bs one.0 in
     let some : 0 < length u = omega arith in
     ⊎_elim
-    (λ q. inert_one formals at b (take m bs) q ∙ point_behind fuel formals (at + 1) m bs s (omega arith) one.1 ends (e ∙ inert_one formals at b bs q) (λ h. omega (arith, far h)))
+    (λ q. inert_one formals at b (take m bs) q ∙ point_after fuel formals (at + 1) m bs s (omega arith) one.1 ends (e ∙ inert_one formals at b bs q) (λ h. omega (arith, far h)))
     (λ dark.
     let inside : t.len ≤ suc m = omega (arith, plain_argument.short (no_blank b dark), run_points is_word m bs ends) in
     let none = passed_here formals at u s some e (λ h. omega (arith, far h)) in
@@ -250,7 +250,7 @@ point_behind (suc fuel) formals at (suc m) (b ∷ bs) s room run ends e far =
     let sum : t.len + (suc m - t.len) ≡ suc m = omega arith in
     let still : is_word (get_or (drop t.len u) (suc m - t.len) 0) ≡ false = ap is_word (get_or-drop t.len u (suc m - t.len) 0 ∙ ap (λ (k : ℕ). get_or u k 0) sum) ∙ ends in
     cut_step formals at (suc m) u some plain_argument.next inside none
-    ∙ point_behind fuel formals (at + t.len) (suc m - t.len) (drop t.len u) s (omega (arith, length-drop t.len u)) left still (e ∙ text_step formals at u some plain_argument.next none) (λ h. omega (arith, far h)))
+    ∙ point_after fuel formals (at + t.len) (suc m - t.len) (drop t.len u) s (omega (arith, length-drop t.len u)) left still (e ∙ text_step formals at u some plain_argument.next none) (λ h. omega (arith, far h)))
     (cases_Bool (is_inert b))
 
 -- an expansion point behind plain argument bytes alone is the first one of each front of the text that has it
@@ -403,7 +403,7 @@ known_range formals text start from to s k is e low order high =
     let further : s ≡ next_expansion_point formals from (tokens_from Plain 0 u) u = point_further formals text start from s k is e low near two.1 in
     cond_both (eqb to (length text) || (ltb 0 k.len && (leb k.end to && leb (k.end - k.len) (start + k.plain_argument)))) (point_kept k) _ P
     (λ g. subst (λ (x : ExpansionPoint). IfSome (point_kept k) (λ y. y ≡ x)) (⊎_elim
-    (λ w. further ∙ ap (point_of formals from) (sym (behind_place from text) ∙ ap (λ (n : ℕ). slice_range text from n) (sym (eqb-true to (length text) w))))
+    (λ w. further ∙ ap (point_of formals from) (sym (after_place from text) ∙ ap (λ (n : ℕ). slice_range text from n) (sym (eqb-true to (length text) w))))
     (λ w.
     let a = and_parts (ltb 0 k.len) _ w in
     let b = and_parts (leb k.end to) (leb (k.end - k.len) (start + k.plain_argument)) a.1 in
@@ -425,7 +425,7 @@ known_range formals text start from to s k is e low order high =
     let ends : is_word (get_or u m 0) ≡ false = ap is_word (get_or-drop from text m 0 ∙ ap (λ (n : ℕ). get_or text n 0) sum) ∙ not-true (is_word (get_or text to 0)) b.1 in
     let run : m ≤ prefix_len is_plain_argument u = run_further text start from m low (omega (arith, order, low, reached, is.few)) in
     let far : is_none s ≡ false → from + m ≤ begins s = λ h. ⊎_elim (λ p. omega (arith, order, before, p)) (λ z. omega (arith, order, reached, z, is.before h)) (is.place h) in
-    sym (point_behind (length u) formals from m u s (omega arith) run ends further far))
+    sym (point_after (length u) formals from m u s (omega arith) run ends further far))
     (λ _. tt)))
     (λ _. tt)
 

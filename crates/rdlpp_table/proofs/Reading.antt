@@ -8,9 +8,9 @@ use Rattle.std.proofs.lemmas.List.Sums.{sum_by-append}
 use Rattle.std.proofs.lemmas.Grind.{flat_map-append}
 use Rattle.rdlpp_scan.specs.Bytes.{is_letter, is_digit, is_word}
 use Rattle.rdlpp_table.specs.Table.{Formal, default_size, formal_size, default_bytes, formal_bytes}
-use Rattle.rdlpp_table.specs.Define.{FormalList, Listed, FormalListFault, OneFormal, Good, FormalFault, DefaultText, after_space, behind_name, default_in, formal_fault, formal_in, formal_name, formals_in, formals_of_list, is_nothing, leading_name, with_default}
+use Rattle.rdlpp_table.specs.Define.{FormalList, Listed, FormalListFault, OneFormal, Good, FormalFault, DefaultText, after_space, after_name, default_in, formal_fault, formal_in, formal_name, formals_in, formals_of_list, is_nothing, leading_name, with_default}
 use Rattle.rdlpp_table.specs.Store.{is_default, is_name_byte, is_plain_formal}
-use Rattle.rdlpp_table.specs.Formals.{IsDefault, IsPart, IsRead, default_left, fault_behind, behind_told, formal_told, is_told, listed}
+use Rattle.rdlpp_table.specs.Formals.{IsDefault, IsPart, IsRead, default_left, fault_after, after_told, formal_told, is_told, listed}
 use Rattle.rdlpp_table.specs.declared.fault.DefineKind.{DefineKind}
 use Rattle.rdlpp_table.proofs.Sizes.{one_size, length_formal_bytes, length_list_bytes}
 use Rattle.rdlpp_lines.specs.Texts.{cleared, start_level, trimmed_left, trimmed_len, trims}
@@ -27,8 +27,8 @@ list_full before text = refl
 abbrev pub list_by : ℕ → List Formal → OneFormal → FormalList
 list_by room before o = elim o [
   | FormalFault k ↦ FormalListFault k
-  | Good f behind ↦ cond (eqb (get_or behind 0 0) 44) (formals_in room (before ++ f ∷ []) (drop 1 behind))
-      (cond (eqb (get_or behind 0 0) 41) (Listed (Some (before ++ f ∷ [])) (drop 1 behind)) (FormalListFault kind.BadFormals))
+  | Good f following ↦ cond (eqb (get_or following 0 0) 44) (formals_in room (before ++ f ∷ []) (drop 1 following))
+      (cond (eqb (get_or following 0 0) 41) (Listed (Some (before ++ f ∷ [])) (drop 1 following)) (FormalListFault kind.BadFormals))
 ]
 
 pub list_step : (room : ℕ) (before : List Formal) (text : List ℕ) → formals_in (suc room) before text ≡ list_by room before (formal_in before text)
@@ -38,23 +38,23 @@ list_step room before text = refl
 abbrev pub formal_by : Option DefineKind → List ℕ → Option DefaultText → OneFormal
 formal_by o name d = elim o [ Some k ↦ FormalFault k | None ↦ with_default name d ]
 
-pub in_by : (before : List Formal) (text : List ℕ) → formal_in before text ≡ formal_by (formal_fault before (formal_name text)) (formal_name text) (default_in (behind_name text))
+pub in_by : (before : List Formal) (text : List ℕ) → formal_in before text ≡ formal_by (formal_fault before (formal_name text)) (formal_name text) (default_in (after_name text))
 unfolding formal_in
 in_by before text = refl
 
-name_of : (text name behind : List ℕ) → IsPart text name behind → formal_name text ≡ name
+name_of : (text name following : List ℕ) → IsPart text name following → formal_name text ≡ name
 unfolding formal_name
-name_of text name behind p = sym p.name_is
+name_of text name following p = sym p.name_is
 
-behind_of : (text name behind : List ℕ) → IsPart text name behind → behind_name text ≡ behind
-unfolding behind_name
-behind_of text name behind p = ap (λ (n : List ℕ). after_space (drop (length n) (after_space text))) (name_of text name behind p) ∙ sym p.behind_is
+after_of : (text name following : List ℕ) → IsPart text name following → after_name text ≡ following
+unfolding after_name
+after_of text name following p = ap (λ (n : List ℕ). after_space (drop (length n) (after_space text))) (name_of text name following p) ∙ sym p.after_is
 
-pub part_by : (before : List Formal) (text name behind : List ℕ) → IsPart text name behind → formal_in before text ≡ formal_by (formal_fault before name) name (default_in behind)
-part_by before text name behind p =
+pub part_by : (before : List Formal) (text name following : List ℕ) → IsPart text name following → formal_in before text ≡ formal_by (formal_fault before name) name (default_in following)
+part_by before text name following p =
     in_by before text
-    ∙ (ap (λ (n : List ℕ). formal_by (formal_fault before n) n (default_in (behind_name text))) (name_of text name behind p)
-    ∙ ap (λ (x : List ℕ). formal_by (formal_fault before name) name (default_in x)) (behind_of text name behind p))
+    ∙ (ap (λ (n : List ℕ). formal_by (formal_fault before n) n (default_in (after_name text))) (name_of text name following p)
+    ∙ ap (λ (x : List ℕ). formal_by (formal_fault before name) name (default_in x)) (after_of text name following p))
 
 -- the fault of a name, by the names before it
 any_mapped : {X : Type 0} (f : X → List ℕ) (xs : List X) (name : List ℕ) → list_any (λ n. bytes_eq n name) (map f xs) ≡ list_any (λ x. bytes_eq (f x) name) xs
@@ -81,8 +81,8 @@ four_some false false true d k e = inl e
 four_some false false false true k e = inr (refl, refl, cc)
 four_some false false false false k e = absurd (cc)
 
-fault_four : (before : List Formal) (name : List ℕ) → fault_behind (map (λ (f : Formal). f.name) before) name ≡ four (is_nothing name) (ltb 128 (length name)) (list_any (λ (f : Formal). bytes_eq f.name name) before) (leb 255 (length before))
-unfolding fault_behind
+fault_four : (before : List Formal) (name : List ℕ) → fault_after (map (λ (f : Formal). f.name) before) name ≡ four (is_nothing name) (ltb 128 (length name)) (list_any (λ (f : Formal). bytes_eq f.name name) before) (leb 255 (length before))
+unfolding fault_after
 fault_four before name =
     ap (λ (t : Bool). four (is_nothing name) (ltb 128 (length name)) t (leb 255 (length (map (λ (f : Formal). f.name) before)))) (any_mapped (λ (f : Formal). f.name) before name)
     ∙ ap (λ (n : ℕ). four (is_nothing name) (ltb 128 (length name)) (list_any (λ (f : Formal). bytes_eq f.name name) before) (leb 255 n)) (length-map before (λ (f : Formal). f.name))
@@ -96,48 +96,48 @@ record IsFaultless (before : List Formal) (name : List ℕ) : Type 0 where
   fault : formal_fault before name ≡ None
   few : length before < 255
 
-faultless : (before : List Formal) (name : List ℕ) → fault_behind (map (λ (f : Formal). f.name) before) name ≡ None → IsFaultless before name
+faultless : (before : List Formal) (name : List ℕ) → fault_after (map (λ (f : Formal). f.name) before) name ≡ None → IsFaultless before name
 faultless before name e =
     let f = four_none (is_nothing name) (ltb 128 (length name)) (list_any (λ (f : Formal). bytes_eq f.name name) before) (leb 255 (length before)) (sym (fault_four before name) ∙ e) in
     record { fault = fault_three before name ∙ f.0; few = leb-false _ _ f.1 }
 
 -- a list whose next formal has a fault in its name
-refused_at : (room : ℕ) (before : List Formal) (text name behind : List ℕ) (k : DefineKind) → IsPart text name behind → formal_fault before name ≡ Some k → formals_in room before text ≡ FormalListFault k
-refused_at zero before text name behind k p e =
-    list_full before text ∙ (ap (λ (n : List ℕ). FormalListFault (unwrap_or (formal_fault before n) kind.TooManyFormals)) (name_of text name behind p) ∙ ap (λ (o : Option DefineKind). FormalListFault (unwrap_or o kind.TooManyFormals)) e)
-refused_at (suc room) before text name behind k p e =
-    list_step room before text ∙ ap (list_by room before) (part_by before text name behind p ∙ ap (λ (o : Option DefineKind). formal_by o name (default_in behind)) e)
+refused_at : (room : ℕ) (before : List Formal) (text name following : List ℕ) (k : DefineKind) → IsPart text name following → formal_fault before name ≡ Some k → formals_in room before text ≡ FormalListFault k
+refused_at zero before text name following k p e =
+    list_full before text ∙ (ap (λ (n : List ℕ). FormalListFault (unwrap_or (formal_fault before n) kind.TooManyFormals)) (name_of text name following p) ∙ ap (λ (o : Option DefineKind). FormalListFault (unwrap_or o kind.TooManyFormals)) e)
+refused_at (suc room) before text name following k p e =
+    list_step room before text ∙ ap (list_by room before) (part_by before text name following p ∙ ap (λ (o : Option DefineKind). formal_by o name (default_in following)) e)
 
-full_at : (room : ℕ) (before : List Formal) (text name behind : List ℕ) → room ≡ 0 → IsPart text name behind → formal_fault before name ≡ None → formals_in room before text ≡ FormalListFault kind.TooManyFormals
-full_at room before text name behind z p e =
+full_at : (room : ℕ) (before : List Formal) (text name following : List ℕ) → room ≡ 0 → IsPart text name following → formal_fault before name ≡ None → formals_in room before text ≡ FormalListFault kind.TooManyFormals
+full_at room before text name following z p e =
     ap (λ (n : ℕ). formals_in n before text) z
-    ∙ (list_full before text ∙ (ap (λ (n : List ℕ). FormalListFault (unwrap_or (formal_fault before n) kind.TooManyFormals)) (name_of text name behind p) ∙ ap (λ (o : Option DefineKind). FormalListFault (unwrap_or o kind.TooManyFormals)) e))
+    ∙ (list_full before text ∙ (ap (λ (n : List ℕ). FormalListFault (unwrap_or (formal_fault before n) kind.TooManyFormals)) (name_of text name following p) ∙ ap (λ (o : Option DefineKind). FormalListFault (unwrap_or o kind.TooManyFormals)) e))
 
-fault_at : (before : List Formal) (text name behind : List ℕ) (k : DefineKind) → IsPart text name behind → fault_behind (map (λ (f : Formal). f.name) before) name ≡ Some k → formals_in (255 - length before) before text ≡ FormalListFault k
-fault_at before text name behind k p e =
+fault_at : (before : List Formal) (text name following : List ℕ) (k : DefineKind) → IsPart text name following → fault_after (map (λ (f : Formal). f.name) before) name ≡ Some k → formals_in (255 - length before) before text ≡ FormalListFault k
+fault_at before text name following k p e =
     elim (four_some (is_nothing name) (ltb 128 (length name)) (list_any (λ (f : Formal). bytes_eq f.name name) before) (leb 255 (length before)) k (sym (fault_four before name) ∙ e)) [
-      | inl f ↦ refused_at (255 - length before) before text name behind k p (fault_three before name ∙ f)
+      | inl f ↦ refused_at (255 - length before) before text name following k p (fault_three before name ∙ f)
       | inr f ↦
           let z : 255 - length before ≡ 0 = omega (arith, leb-true 255 (length before) f.1) in
-          full_at (255 - length before) before text name behind z p (fault_three before name ∙ f.0) ∙ ap FormalListFault (sym f.2)
+          full_at (255 - length before) before text name following z p (fault_three before name ∙ f.0) ∙ ap FormalListFault (sym f.2)
     ]
 
 -- a formal with its default text
 abbrev pub formal_with : List ℕ → List ℕ → Formal
 formal_with name from = record { name = name; text = default_left from }
 
-good_by : (name from behind : List ℕ) (size : ℕ) (d : Option DefaultText) → IsDefault d from behind size → with_default name d ≡ Good (formal_with name from) behind
+good_by : (name from following : List ℕ) (size : ℕ) (d : Option DefaultText) → IsDefault d from following size → with_default name d ≡ Good (formal_with name from) following
 unfolding with_default
-good_by name from behind size d i = ap (with_default name) i.is
+good_by name from following size d i = ap (with_default name) i.is
 
 none_by : (name : List ℕ) → with_default name None ≡ FormalFault kind.BadFormals
 unfolding with_default
 none_by name = refl
 
-pub good_at : (before : List Formal) (text name tail from behind : List ℕ) (size : ℕ) → IsPart text name tail → formal_fault before name ≡ None → IsDefault (default_in tail) from behind size → formal_in before text ≡ Good (formal_with name from) behind
-good_at before text name tail from behind size p e d =
+pub good_at : (before : List Formal) (text name tail from following : List ℕ) (size : ℕ) → IsPart text name tail → formal_fault before name ≡ None → IsDefault (default_in tail) from following size → formal_in before text ≡ Good (formal_with name from) following
+good_at before text name tail from following size p e d =
     part_by before text name tail p
-    ∙ (ap (λ (o : Option DefineKind). formal_by o name (default_in tail)) e ∙ good_by name from behind size (default_in tail) d)
+    ∙ (ap (λ (o : Option DefineKind). formal_by o name (default_in tail)) e ∙ good_by name from following size (default_in tail) d)
 
 pub bad_at : (before : List Formal) (text name tail : List ℕ) → IsPart text name tail → formal_fault before name ≡ None → default_in tail ≡ None → formal_in before text ≡ FormalFault kind.BadFormals
 bad_at before text name tail p e d =
@@ -160,16 +160,16 @@ pub record IsFound (text rest : List ℕ) (names : List (List ℕ)) (size : ℕ)
   pub read : IsReading text rest names size
   pub part : IsPart rest name tail
 
-pub read_fault : (text rest : List ℕ) (names slice : List (List ℕ)) (size : ℕ) (name tail : List ℕ) (k : DefineKind) → IsFound text rest names size name tail → slice ≡ names → Some k ≡ fault_behind slice name → formals_in 255 [] text ≡ FormalListFault k
+pub read_fault : (text rest : List ℕ) (names slice : List (List ℕ)) (size : ℕ) (name tail : List ℕ) (k : DefineKind) → IsFound text rest names size name tail → slice ≡ names → Some k ≡ fault_after slice name → formals_in 255 [] text ≡ FormalListFault k
 read_fault text rest names slice size name tail k f s e =
     sym f.read.same
-    ∙ fault_at f.read.before rest name tail k f.part (ap (λ (ns : List (List ℕ)). fault_behind ns name) (f.read.names_are ∙ sym s) ∙ sym e)
+    ∙ fault_at f.read.before rest name tail k f.part (ap (λ (ns : List (List ℕ)). fault_after ns name) (f.read.names_are ∙ sym s) ∙ sym e)
 
-sound_name : (text rest : List ℕ) (names slice : List (List ℕ)) (size : ℕ) (name tail : List ℕ) (f : IsFound text rest names size name tail) → slice ≡ names → None ≡ fault_behind slice name → IsFaultless f.read.before name
+sound_name : (text rest : List ℕ) (names slice : List (List ℕ)) (size : ℕ) (name tail : List ℕ) (f : IsFound text rest names size name tail) → slice ≡ names → None ≡ fault_after slice name → IsFaultless f.read.before name
 sound_name text rest names slice size name tail f s e =
-    faultless f.read.before name (ap (λ (ns : List (List ℕ)). fault_behind ns name) (f.read.names_are ∙ sym s) ∙ sym e)
+    faultless f.read.before name (ap (λ (ns : List (List ℕ)). fault_after ns name) (f.read.names_are ∙ sym s) ∙ sym e)
 
-pub few_names : (text rest : List ℕ) (names slice : List (List ℕ)) (size : ℕ) (name tail : List ℕ) → IsFound text rest names size name tail → slice ≡ names → None ≡ fault_behind slice name → length names < 255
+pub few_names : (text rest : List ℕ) (names slice : List (List ℕ)) (size : ℕ) (name tail : List ℕ) → IsFound text rest names size name tail → slice ≡ names → None ≡ fault_after slice name → length names < 255
 few_names text rest names slice size name tail f s e =
     let g = sound_name text rest names slice size name tail f s e in
     omega (arith, g.few, length-map f.read.before (λ (x : Formal). x.name), ap (length {A = List ℕ}) f.read.names_are)
@@ -180,27 +180,27 @@ next_by text rest names size name tail f g =
     let n : 255 - length f.read.before ≡ suc (254 - length f.read.before) = omega (arith, g.few) in
     sym f.read.same ∙ (ap (λ (k : ℕ). formals_in k f.read.before rest) n ∙ list_step (254 - length f.read.before) f.read.before rest)
 
-pub read_bad : (text rest : List ℕ) (names slice : List (List ℕ)) (size : ℕ) (name tail : List ℕ) → IsFound text rest names size name tail → slice ≡ names → None ≡ fault_behind slice name → default_in tail ≡ None → formals_in 255 [] text ≡ FormalListFault kind.BadFormals
+pub read_bad : (text rest : List ℕ) (names slice : List (List ℕ)) (size : ℕ) (name tail : List ℕ) → IsFound text rest names size name tail → slice ≡ names → None ≡ fault_after slice name → default_in tail ≡ None → formals_in 255 [] text ≡ FormalListFault kind.BadFormals
 read_bad text rest names slice size name tail f s e d =
     let g = sound_name text rest names slice size name tail f s e in
     next_by text rest names size name tail f g ∙ ap (list_by (254 - length f.read.before) f.read.before) (bad_at f.read.before rest name tail f.part g.fault d)
 
 -- a formal was read: its default text, and what stands behind it
-pub record IsTaken (text rest : List ℕ) (names slice : List (List ℕ)) (size : ℕ) (name tail from behind : List ℕ) (counted : ℕ) : Type 0 where
+pub record IsTaken (text rest : List ℕ) (names slice : List (List ℕ)) (size : ℕ) (name tail from following : List ℕ) (counted : ℕ) : Type 0 where
   pub found : IsFound text rest names size name tail
   pub slice_is : slice ≡ names
-  pub sound : None ≡ fault_behind slice name
-  pub default : IsDefault (default_in tail) from behind counted
+  pub sound : None ≡ fault_after slice name
+  pub default : IsDefault (default_in tail) from following counted
 
-taken_by : (text rest : List ℕ) (names slice : List (List ℕ)) (size : ℕ) (name tail from behind : List ℕ) (counted : ℕ) (t : IsTaken text rest names slice size name tail from behind counted) → formals_in 255 [] text ≡ list_by (254 - length t.found.read.before) t.found.read.before (Good (formal_with name from) behind)
-taken_by text rest names slice size name tail from behind counted t =
+taken_by : (text rest : List ℕ) (names slice : List (List ℕ)) (size : ℕ) (name tail from following : List ℕ) (counted : ℕ) (t : IsTaken text rest names slice size name tail from following counted) → formals_in 255 [] text ≡ list_by (254 - length t.found.read.before) t.found.read.before (Good (formal_with name from) following)
+taken_by text rest names slice size name tail from following counted t =
     let f = t.found in
     let g = sound_name text rest names slice size name tail f t.slice_is t.sound in
-    next_by text rest names size name tail f g ∙ ap (list_by (254 - length f.read.before) f.read.before) (good_at f.read.before rest name tail from behind counted f.part g.fault t.default)
+    next_by text rest names size name tail f g ∙ ap (list_by (254 - length f.read.before) f.read.before) (good_at f.read.before rest name tail from following counted f.part g.fault t.default)
 
-pub read_other : (text rest : List ℕ) (names slice : List (List ℕ)) (size : ℕ) (name tail from behind : List ℕ) (counted : ℕ) → IsTaken text rest names slice size name tail from behind counted → eqb (get_or behind 0 0) 44 ≡ false → eqb (get_or behind 0 0) 41 ≡ false → formals_in 255 [] text ≡ FormalListFault kind.BadFormals
-read_other text rest names slice size name tail from behind counted t a b =
-    taken_by text rest names slice size name tail from behind counted t ∙ (cond-false _ _ _ a ∙ cond-false _ _ _ b)
+pub read_other : (text rest : List ℕ) (names slice : List (List ℕ)) (size : ℕ) (name tail from following : List ℕ) (counted : ℕ) → IsTaken text rest names slice size name tail from following counted → eqb (get_or following 0 0) 44 ≡ false → eqb (get_or following 0 0) 41 ≡ false → formals_in 255 [] text ≡ FormalListFault kind.BadFormals
+read_other text rest names slice size name tail from following counted t a b =
+    taken_by text rest names slice size name tail from following counted t ∙ (cond-false _ _ _ a ∙ cond-false _ _ _ b)
 
 -- a byte of a class isn't one that the class doesn't have
 apart : (test : ℕ → Bool) (b k : ℕ) → test b ≡ true → test k ≡ false → eqb b k ≡ false
@@ -241,8 +241,8 @@ record IsMore (before : List Formal) (f : Formal) (names : List (List ℕ)) (siz
   size_is : sum_by formal_size (before ++ f ∷ []) ≡ size
   plain : list_all is_plain_formal (before ++ f ∷ []) ≡ true
 
-more_of : (text rest : List ℕ) (names slice : List (List ℕ)) (size : ℕ) (name tail from behind : List ℕ) (counted : ℕ) (t : IsTaken text rest names slice size name tail from behind counted) (more : List (List ℕ)) (sum : ℕ) → more ≡ names ++ name ∷ [] → sum ≡ size + (length name + counted + 1) → IsMore t.found.read.before (formal_with name from) more sum
-more_of text rest names slice size name tail from behind counted t more sum m s =
+more_of : (text rest : List ℕ) (names slice : List (List ℕ)) (size : ℕ) (name tail from following : List ℕ) (counted : ℕ) (t : IsTaken text rest names slice size name tail from following counted) (more : List (List ℕ)) (sum : ℕ) → more ≡ names ++ name ∷ [] → sum ≡ size + (length name + counted + 1) → IsMore t.found.read.before (formal_with name from) more sum
+more_of text rest names slice size name tail from following counted t more sum m s =
     let r = t.found.read in
     let f : Formal = formal_with name from in
     record {
@@ -251,32 +251,32 @@ more_of text rest names slice size name tail from behind counted t more sum m s 
       plain = list_all-append is_plain_formal r.before (f ∷ []) ∙ and_from _ _ r.plain (and_from _ _ (plain_with rest name tail from t.found.part t.default.plain) refl);
     }
 
-pub read_comma : (text rest : List ℕ) (names slice : List (List ℕ)) (size : ℕ) (name tail from behind : List ℕ) (counted : ℕ) (more : List (List ℕ)) (sum b : ℕ) (after : List ℕ) → IsTaken text rest names slice size name tail from behind counted → more ≡ names ++ name ∷ [] → sum ≡ size + (length name + counted + 1) → behind ≡ b ∷ after → b ≡ 44 → IsReading text after more sum
-read_comma text rest names slice size name tail from behind counted more sum b after t m s e is =
+pub read_comma : (text rest : List ℕ) (names slice : List (List ℕ)) (size : ℕ) (name tail from following : List ℕ) (counted : ℕ) (more : List (List ℕ)) (sum b : ℕ) (after : List ℕ) → IsTaken text rest names slice size name tail from following counted → more ≡ names ++ name ∷ [] → sum ≡ size + (length name + counted + 1) → following ≡ b ∷ after → b ≡ 44 → IsReading text after more sum
+read_comma text rest names slice size name tail from following counted more sum b after t m s e is =
     let r = t.found.read in
     let f : Formal = formal_with name from in
-    let o : IsMore r.before f more sum = more_of text rest names slice size name tail from behind counted t more sum m s in
-    let at : behind ≡ 44 ∷ after = e ∙ ap (λ (x : ℕ). x ∷ after) is in
+    let o : IsMore r.before f more sum = more_of text rest names slice size name tail from following counted t more sum m s in
+    let at : following ≡ 44 ∷ after = e ∙ ap (λ (x : ℕ). x ∷ after) is in
     let n : 255 - length (r.before ++ f ∷ []) ≡ 254 - length r.before = omega (arith, length-append r.before (f ∷ [])) in
     record {
       before = r.before ++ f ∷ [];
       same =
           ap (λ (k : ℕ). formals_in k (r.before ++ f ∷ []) after) n
-          ∙ sym (taken_by text rest names slice size name tail from behind counted t ∙ ap (λ (x : List ℕ). list_by (254 - length r.before) r.before (Good f x)) at);
+          ∙ sym (taken_by text rest names slice size name tail from following counted t ∙ ap (λ (x : List ℕ). list_by (254 - length r.before) r.before (Good f x)) at);
       names_are = o.names_are;
       size_is = o.size_is;
       plain = o.plain;
     }
 
-pub read_closer : (text rest : List ℕ) (names slice : List (List ℕ)) (size : ℕ) (name tail from behind : List ℕ) (counted : ℕ) (more : List (List ℕ)) (sum count b : ℕ) (after : List ℕ) → IsTaken text rest names slice size name tail from behind counted → more ≡ names ++ name ∷ [] → sum ≡ size + (length name + counted + 1) → count ≡ length more → behind ≡ b ∷ after → b ≡ 41 → (formals : List Formal) × IsRead (formals_in 255 [] text) after count sum formals
-read_closer text rest names slice size name tail from behind counted more sum count b after t m s n e is =
+pub read_closer : (text rest : List ℕ) (names slice : List (List ℕ)) (size : ℕ) (name tail from following : List ℕ) (counted : ℕ) (more : List (List ℕ)) (sum count b : ℕ) (after : List ℕ) → IsTaken text rest names slice size name tail from following counted → more ≡ names ++ name ∷ [] → sum ≡ size + (length name + counted + 1) → count ≡ length more → following ≡ b ∷ after → b ≡ 41 → (formals : List Formal) × IsRead (formals_in 255 [] text) after count sum formals
+read_closer text rest names slice size name tail from following counted more sum count b after t m s n e is =
     let r = t.found.read in
     let f : Formal = formal_with name from in
-    let o : IsMore r.before f more sum = more_of text rest names slice size name tail from behind counted t more sum m s in
-    let at : behind ≡ 41 ∷ after = e ∙ ap (λ (x : ℕ). x ∷ after) is in (
+    let o : IsMore r.before f more sum = more_of text rest names slice size name tail from following counted t more sum m s in
+    let at : following ≡ 41 ∷ after = e ∙ ap (λ (x : ℕ). x ∷ after) is in (
       r.before ++ f ∷ [],
       record {
-        is = taken_by text rest names slice size name tail from behind counted t ∙ ap (λ (x : List ℕ). list_by (254 - length r.before) r.before (Good f x)) at;
+        is = taken_by text rest names slice size name tail from following counted t ∙ ap (λ (x : List ℕ). list_by (254 - length r.before) r.before (Good f x)) at;
         count_is = sym (length-map (r.before ++ f ∷ []) (λ (x : Formal). x.name)) ∙ (ap (length {A = List ℕ}) o.names_are ∙ sym n);
         size_is = o.size_is;
         plain = o.plain;
@@ -302,8 +302,8 @@ unfolding formals_of_list
 read_formals text e = sym (cond-false _ _ _ e)
 
 -- what is wrong with a name, by the tests of it
-pub fault_by : {X : Type 0} (f : X → List ℕ) (xs : List X) (name : List ℕ) (a b c d : Bool) → is_nothing name ≡ a → ltb 128 (length name) ≡ b → list_any (λ x. bytes_eq (f x) name) xs ≡ c → leb 255 (length xs) ≡ d → four a b c d ≡ fault_behind (map f xs) name
-unfolding fault_behind
+pub fault_by : {X : Type 0} (f : X → List ℕ) (xs : List X) (name : List ℕ) (a b c d : Bool) → is_nothing name ≡ a → ltb 128 (length name) ≡ b → list_any (λ x. bytes_eq (f x) name) xs ≡ c → leb 255 (length xs) ≡ d → four a b c d ≡ fault_after (map f xs) name
+unfolding fault_after
 fault_by f xs name a b c d i j k m =
     sym (ap (λ (t : Bool). four t (ltb 128 (length name)) (list_any (λ n. bytes_eq n name) (map f xs)) (leb 255 (length (map f xs)))) i
     ∙ (ap (λ (t : Bool). four a t (list_any (λ n. bytes_eq n name) (map f xs)) (leb 255 (length (map f xs)))) j
@@ -329,9 +329,9 @@ no_names f xs e = ap (map f) e
 -- Formals that are appended to a table's bytes, one after another.
 
 -- the formal with which a list's text begins, behind no others
-told_good : (text : List ℕ) (f : Formal) (behind : List ℕ) → formal_in [] text ≡ Good f behind → (formal_told text ≡ f) × (behind_told text ≡ behind) × (is_told text ≡ true)
-unfolding formal_told behind_told is_told
-told_good text f behind e = (
+told_good : (text : List ℕ) (f : Formal) (following : List ℕ) → formal_in [] text ≡ Good f following → (formal_told text ≡ f) × (after_told text ≡ following) × (is_told text ≡ true)
+unfolding formal_told after_told is_told
+told_good text f following e = (
   ap (λ (o : OneFormal). elim o [ Good g x ↦ g | FormalFault k ↦ (let n : Formal = record { name = []; text = [] } in n) ]) e,
   ap (λ (o : OneFormal). elim o [ Good g x ↦ x | FormalFault k ↦ [] ]) e,
   ap (λ (o : OneFormal). elim o [ Good g x ↦ true | FormalFault k ↦ false ]) e,
@@ -366,9 +366,9 @@ some_bytes [] h = absurd (omega arith)
 some_bytes (b ∷ bs) h = (refl, omega arith)
 
 -- a formal that is to be appended
-pub record IsTold (text name from behind : List ℕ) (size : ℕ) : Type 0 where
+pub record IsTold (text name from following : List ℕ) (size : ℕ) : Type 0 where
   pub told : formal_told text ≡ formal_with name from
-  pub behind_is : behind_told text ≡ behind
+  pub after_is : after_told text ≡ following
   pub size_is : formal_size (formal_told text) ≡ length name + (size + 1)
   pub short : size ≡ 0 → formal_bytes (formal_told text) ≡ name ++ 44 ∷ []
   pub long : 0 < size → formal_bytes (formal_told text) ≡ name ++ (61 ∷ default_left from ++ 44 ∷ [])
@@ -378,12 +378,12 @@ bytes_of : (name from bytes : List ℕ) → default_bytes (default_left from) �
 unfolding formal_bytes
 bytes_of name from bytes e = ap (λ (x : List ℕ). name ++ (x ++ 44 ∷ [])) e
 
-pub told_is : (text name tail from behind : List ℕ) (size : ℕ) → IsPart text name tail → is_told text ≡ true → IsDefault (default_in tail) from behind size → IsTold text name from behind size
-told_is text name tail from behind size p t d =
-    let g = told_good text (formal_with name from) behind (good_at [] text name tail from behind size p (told_sound text name tail p t) d) in
+pub told_is : (text name tail from following : List ℕ) (size : ℕ) → IsPart text name tail → is_told text ≡ true → IsDefault (default_in tail) from following size → IsTold text name from following size
+told_is text name tail from following size p t d =
+    let g = told_good text (formal_with name from) following (good_at [] text name tail from following size p (told_sound text name tail p t) d) in
     record {
       told = g.0;
-      behind_is = g.1;
+      after_is = g.1;
       size_is = ap formal_size g.0 ∙ size_with name from size d.size_is;
       short = λ z. ap formal_bytes g.0 ∙ bytes_of name from [] (no_bytes (default_left from) (d.size_is ∙ z));
       long = λ h. ap formal_bytes g.0 ∙ bytes_of name from (61 ∷ default_left from) (some_bytes (default_left from) (let k : 0 < default_size (default_left from) = omega (arith, d.size_is) in k)).0;
@@ -399,19 +399,19 @@ three_false false false c e = refl
 fault_alone : (before : List Formal) (name : List ℕ) → formal_fault before name ≡ None → formal_fault [] name ≡ None
 fault_alone before name e = fault_three [] name ∙ three_false _ _ _ (sym (fault_three before name) ∙ e)
 
-good_name : (before : List Formal) (text : List ℕ) (o : Option DefineKind) (f : Formal) (behind : List ℕ) → formal_fault before (formal_name text) ≡ o → formal_in before text ≡ Good f behind → o ≡ None
+good_name : (before : List Formal) (text : List ℕ) (o : Option DefineKind) (f : Formal) (following : List ℕ) → formal_fault before (formal_name text) ≡ o → formal_in before text ≡ Good f following → o ≡ None
 unfolding formal_in
-good_name before text None f behind e g = refl
-good_name before text (Some k) f behind e g =
-    let b : FormalFault k ≡ Good f behind = sym (ap (λ (x : Option DefineKind). formal_by x (formal_name text) (default_in (behind_name text))) e) ∙ g in
+good_name before text None f following e g = refl
+good_name before text (Some k) f following e g =
+    let b : FormalFault k ≡ Good f following = sym (ap (λ (x : Option DefineKind). formal_by x (formal_name text) (default_in (after_name text))) e) ∙ g in
     absurd (cc)
 
-good_alone : (before : List Formal) (text : List ℕ) (f : Formal) (behind : List ℕ) → formal_in before text ≡ Good f behind → formal_in [] text ≡ Good f behind
+good_alone : (before : List Formal) (text : List ℕ) (f : Formal) (following : List ℕ) → formal_in before text ≡ Good f following → formal_in [] text ≡ Good f following
 unfolding formal_in
-good_alone before text f behind g =
-    let e : formal_fault before (formal_name text) ≡ None = good_name before text (formal_fault before (formal_name text)) f behind refl g in
-    ap (λ (x : Option DefineKind). formal_by x (formal_name text) (default_in (behind_name text))) (fault_alone before (formal_name text) e)
-    ∙ (sym (ap (λ (x : Option DefineKind). formal_by x (formal_name text) (default_in (behind_name text))) e) ∙ g)
+good_alone before text f following g =
+    let e : formal_fault before (formal_name text) ≡ None = good_name before text (formal_fault before (formal_name text)) f following refl g in
+    ap (λ (x : Option DefineKind). formal_by x (formal_name text) (default_in (after_name text))) (fault_alone before (formal_name text) e)
+    ∙ (sym (ap (λ (x : Option DefineKind). formal_by x (formal_name text) (default_in (after_name text))) e) ∙ g)
 
 -- whether a list was read
 abbrev pub is_listed : FormalList → Bool
@@ -426,8 +426,8 @@ pub record IsFirst (room : ℕ) (before : List Formal) (text : List ℕ) : Type 
   pub left : ℕ
   pub room_is : room ≡ suc left
   pub told : is_told text ≡ true
-  pub next : eqb (get_or (behind_told text) 0 0) 44 ≡ true → formals_in room before text ≡ formals_in left (before ++ formal_told text ∷ []) (drop 1 (behind_told text))
-  pub last : eqb (get_or (behind_told text) 0 0) 44 ≡ false → formals_in room before text ≡ Listed (Some (before ++ formal_told text ∷ [])) (drop 1 (behind_told text))
+  pub next : eqb (get_or (after_told text) 0 0) 44 ≡ true → formals_in room before text ≡ formals_in left (before ++ formal_told text ∷ []) (drop 1 (after_told text))
+  pub last : eqb (get_or (after_told text) 0 0) 44 ≡ false → formals_in room before text ≡ Listed (Some (before ++ formal_told text ∷ [])) (drop 1 (after_told text))
 
 closed_by : (c : Bool) (fs : List Formal) (after : List ℕ) (k : DefineKind) → is_listed (cond c (Listed (Some fs) after) (FormalListFault k)) ≡ true → cond c (Listed (Some fs) after) (FormalListFault k) ≡ Listed (Some fs) after
 unfolding listed
@@ -440,19 +440,19 @@ not_listed k = refl
 
 first_by : (left : ℕ) (before : List Formal) (text : List ℕ) (o : OneFormal) → formal_in before text ≡ o → is_listed (list_by left before o) ≡ true → IsFirst (suc left) before text
 first_by left before text (FormalFault k) e h = absurd (false≢true (sym (not_listed k) ∙ h))
-first_by left before text (Good f behind) e h =
-    let g = told_good text f behind (good_alone before text f behind e) in
-    let step : formals_in (suc left) before text ≡ list_by left before (Good (formal_told text) (behind_told text)) =
-    list_step left before text ∙ (ap (list_by left before) e ∙ (ap (λ (x : Formal). list_by left before (Good x behind)) (sym g.0) ∙ ap (λ (x : List ℕ). list_by left before (Good (formal_told text) x)) (sym g.1))) in
-    let here : is_listed (list_by left before (Good (formal_told text) (behind_told text))) ≡ true =
-    ap (λ (x : Formal). is_listed (list_by left before (Good x (behind_told text)))) g.0 ∙ (ap (λ (x : List ℕ). is_listed (list_by left before (Good f x))) g.1 ∙ h) in
+first_by left before text (Good f following) e h =
+    let g = told_good text f following (good_alone before text f following e) in
+    let step : formals_in (suc left) before text ≡ list_by left before (Good (formal_told text) (after_told text)) =
+    list_step left before text ∙ (ap (list_by left before) e ∙ (ap (λ (x : Formal). list_by left before (Good x following)) (sym g.0) ∙ ap (λ (x : List ℕ). list_by left before (Good (formal_told text) x)) (sym g.1))) in
+    let here : is_listed (list_by left before (Good (formal_told text) (after_told text))) ≡ true =
+    ap (λ (x : Formal). is_listed (list_by left before (Good x (after_told text)))) g.0 ∙ (ap (λ (x : List ℕ). is_listed (list_by left before (Good f x))) g.1 ∙ h) in
     record {
       left = left;
       room_is = refl;
       told = g.2;
       next = λ c. step ∙ cond-true _ _ _ c;
       last = λ c.
-          let closed : is_listed (cond (eqb (get_or (behind_told text) 0 0) 41) (Listed (Some (before ++ formal_told text ∷ [])) (drop 1 (behind_told text))) (FormalListFault kind.BadFormals)) ≡ true =
+          let closed : is_listed (cond (eqb (get_or (after_told text) 0 0) 41) (Listed (Some (before ++ formal_told text ∷ [])) (drop 1 (after_told text))) (FormalListFault kind.BadFormals)) ≡ true =
           sym (ap is_listed (cond-false _ _ _ c)) ∙ here in
           step ∙ (cond-false _ _ _ c ∙ closed_by _ _ _ _ closed);
     }
@@ -471,19 +471,19 @@ size_in zero before text h = absurd (false≢true (sym (ap is_listed (list_full 
 size_in (suc left) before text h =
     let f : IsFirst (suc left) before text = first_of_list (suc left) before text h in
     let n : left ≡ f.left = omega (arith, f.room_is) in
-    elim (cases_Bool (eqb (get_or (behind_told text) 0 0) 44)) [
+    elim (cases_Bool (eqb (get_or (after_told text) 0 0) 44)) [
       | inl c ↦
-          let e : formals_in (suc left) before text ≡ formals_in left (before ++ formal_told text ∷ []) (drop 1 (behind_told text)) = f.next c ∙ ap (λ (k : ℕ). formals_in k (before ++ formal_told text ∷ []) (drop 1 (behind_told text))) (sym n) in
-          omega (arith, size_in left (before ++ formal_told text ∷ []) (drop 1 (behind_told text)) (sym (ap is_listed e) ∙ h), ap (λ (l : FormalList). sum_by formal_size (all_of l)) e, sum_by-append formal_size before (formal_told text ∷ []))
-      | inr c ↦ omega (arith, ap (λ (l : FormalList). sum_by formal_size (all_of l)) (f.last c), ap (sum_by formal_size) (all_listed (before ++ formal_told text ∷ []) (drop 1 (behind_told text))), sum_by-append formal_size before (formal_told text ∷ []))
+          let e : formals_in (suc left) before text ≡ formals_in left (before ++ formal_told text ∷ []) (drop 1 (after_told text)) = f.next c ∙ ap (λ (k : ℕ). formals_in k (before ++ formal_told text ∷ []) (drop 1 (after_told text))) (sym n) in
+          omega (arith, size_in left (before ++ formal_told text ∷ []) (drop 1 (after_told text)) (sym (ap is_listed e) ∙ h), ap (λ (l : FormalList). sum_by formal_size (all_of l)) e, sum_by-append formal_size before (formal_told text ∷ []))
+      | inr c ↦ omega (arith, ap (λ (l : FormalList). sum_by formal_size (all_of l)) (f.last c), ap (sum_by formal_size) (all_listed (before ++ formal_told text ∷ []) (drop 1 (after_told text))), sum_by-append formal_size before (formal_told text ∷ []))
     ]
 
 pub first_size : (room : ℕ) (before : List Formal) (text : List ℕ) → is_listed (formals_in room before text) ≡ true → sum_by formal_size before + formal_size (formal_told text) ≤ sum_by formal_size (all_of (formals_in room before text))
 first_size room before text h =
     let f : IsFirst room before text = first_of_list room before text h in
-    elim (cases_Bool (eqb (get_or (behind_told text) 0 0) 44)) [
-      | inl c ↦ omega (arith, size_in f.left (before ++ formal_told text ∷ []) (drop 1 (behind_told text)) (sym (ap is_listed (f.next c)) ∙ h), ap (λ (l : FormalList). sum_by formal_size (all_of l)) (f.next c), sum_by-append formal_size before (formal_told text ∷ []), one_size (formal_told text))
-      | inr c ↦ omega (arith, ap (λ (l : FormalList). sum_by formal_size (all_of l)) (f.last c), ap (sum_by formal_size) (all_listed (before ++ formal_told text ∷ []) (drop 1 (behind_told text))), sum_by-append formal_size before (formal_told text ∷ []), one_size (formal_told text))
+    elim (cases_Bool (eqb (get_or (after_told text) 0 0) 44)) [
+      | inl c ↦ omega (arith, size_in f.left (before ++ formal_told text ∷ []) (drop 1 (after_told text)) (sym (ap is_listed (f.next c)) ∙ h), ap (λ (l : FormalList). sum_by formal_size (all_of l)) (f.next c), sum_by-append formal_size before (formal_told text ∷ []), one_size (formal_told text))
+      | inr c ↦ omega (arith, ap (λ (l : FormalList). sum_by formal_size (all_of l)) (f.last c), ap (sum_by formal_size) (all_listed (before ++ formal_told text ∷ []) (drop 1 (after_told text))), sum_by-append formal_size before (formal_told text ∷ []), one_size (formal_told text))
     ]
 
 -- the bytes of the formals before the rest of a list were appended
@@ -516,10 +516,10 @@ more_bytes old items more before f e m =
     ∙ (ap (λ (l : List ℕ). old ++ (flat_map formal_bytes before ++ l)) (sym (append-nil (formal_bytes f)))
     ∙ ap (λ (l : List ℕ). old ++ l) (sym (flat_map-append formal_bytes before (f ∷ []))))))
 
-pub append_next : (text rest old items more behind : List ℕ) → IsAppended text rest old items → is_listed (formals_in 255 [] text) ≡ true → more ≡ items ++ formal_bytes (formal_told rest) → behind_told rest ≡ 44 ∷ behind → IsAppended text behind old more
-append_next text rest old items more behind a h m b =
+pub append_next : (text rest old items more following : List ℕ) → IsAppended text rest old items → is_listed (formals_in 255 [] text) ≡ true → more ≡ items ++ formal_bytes (formal_told rest) → after_told rest ≡ 44 ∷ following → IsAppended text following old more
+append_next text rest old items more following a h m b =
     let f : IsFirst a.room a.before rest = first_of_list a.room a.before rest (listed_rest text rest old items a h) in
-    let c : eqb (get_or (behind_told rest) 0 0) 44 ≡ true = ap (λ (x : List ℕ). eqb (get_or x 0 0) 44) b in
+    let c : eqb (get_or (after_told rest) 0 0) 44 ≡ true = ap (λ (x : List ℕ). eqb (get_or x 0 0) 44) b in
     record {
       room = f.left;
       before = a.before ++ formal_told rest ∷ [];
@@ -527,11 +527,11 @@ append_next text rest old items more behind a h m b =
       bytes = more_bytes old items more a.before (formal_told rest) a.bytes m;
     }
 
-pub append_last : (text rest old items more : List ℕ) → IsAppended text rest old items → is_listed (formals_in 255 [] text) ≡ true → more ≡ items ++ formal_bytes (formal_told rest) → eqb (get_or (behind_told rest) 0 0) 44 ≡ false → more ≡ old ++ flat_map formal_bytes (all_of (formals_in 255 [] text))
+pub append_last : (text rest old items more : List ℕ) → IsAppended text rest old items → is_listed (formals_in 255 [] text) ≡ true → more ≡ items ++ formal_bytes (formal_told rest) → eqb (get_or (after_told rest) 0 0) 44 ≡ false → more ≡ old ++ flat_map formal_bytes (all_of (formals_in 255 [] text))
 append_last text rest old items more a h m c =
     let f : IsFirst a.room a.before rest = first_of_list a.room a.before rest (listed_rest text rest old items a h) in
     more_bytes old items more a.before (formal_told rest) a.bytes m
-    ∙ ap (λ (fs : List Formal). old ++ flat_map formal_bytes fs) (sym (ap all_of (sym a.same ∙ f.last c) ∙ all_listed (a.before ++ formal_told rest ∷ []) (drop 1 (behind_told rest))))
+    ∙ ap (λ (fs : List Formal). old ++ flat_map formal_bytes fs) (sym (ap all_of (sym a.same ∙ f.last c) ∙ all_listed (a.before ++ formal_told rest ∷ []) (drop 1 (after_told rest))))
 
 -- a formal but for its comma was appended
 pub record IsMid (text old items : List ℕ) : Type 0 where
@@ -541,8 +541,8 @@ left_is : (from : List ℕ) → trimmed_left (trims true) (cleared (start_level 
 unfolding start_level default_left
 left_is from = refl
 
-pub mid_long : (text name from behind old named signed items : List ℕ) (size : ℕ) → IsTold text name from behind size → 0 < size → named ≡ old ++ name → signed ≡ named ++ 61 ∷ [] → items ≡ signed ++ trimmed_left (trims true) (cleared (start_level true) from) → IsMid text old items
-mid_long text name from behind old named signed items size t h e f g = record {
+pub mid_long : (text name from following old named signed items : List ℕ) (size : ℕ) → IsTold text name from following size → 0 < size → named ≡ old ++ name → signed ≡ named ++ 61 ∷ [] → items ≡ signed ++ trimmed_left (trims true) (cleared (start_level true) from) → IsMid text old items
+mid_long text name from following old named signed items size t h e f g = record {
   whole =
       ap (λ (l : List ℕ). l ++ 44 ∷ []) (g ∙ (ap (λ (l : List ℕ). signed ++ l) (left_is from) ∙ ap (λ (l : List ℕ). l ++ default_left from) (f ∙ ap (λ (l : List ℕ). l ++ 61 ∷ []) e)))
       ∙ (append_assoc ((old ++ name) ++ 61 ∷ []) (default_left from) (44 ∷ [])
@@ -551,8 +551,8 @@ mid_long text name from behind old named signed items size t h e f g = record {
       ∙ ap (λ (l : List ℕ). old ++ l) (sym (t.long h)))));
 }
 
-pub mid_short : (text name from behind old items : List ℕ) (size : ℕ) → IsTold text name from behind size → size ≡ 0 → items ≡ old ++ name → IsMid text old items
-mid_short text name from behind old items size t z e = record {
+pub mid_short : (text name from following old items : List ℕ) (size : ℕ) → IsTold text name from following size → size ≡ 0 → items ≡ old ++ name → IsMid text old items
+mid_short text name from following old items size t z e = record {
   whole = ap (λ (l : List ℕ). l ++ 44 ∷ []) e ∙ (append_assoc old name (44 ∷ []) ∙ ap (λ (l : List ℕ). old ++ l) (sym (t.short z)));
 }
 
@@ -560,12 +560,12 @@ pub mid_length : (text old items : List ℕ) → IsMid text old items → length
 mid_length text old items m =
     omega (arith, ap (length {A = ℕ}) m.whole, length-append items (44 ∷ []), length-append old (formal_bytes (formal_told text)), length_formal_bytes (formal_told text))
 
-pub behind_comma : (text behind after : List ℕ) (b : ℕ) → behind_told text ≡ behind → behind ≡ b ∷ after → b ≡ 44 → behind_told text ≡ 44 ∷ after
-behind_comma text behind after b e f g = e ∙ (f ∙ ap (λ (x : ℕ). x ∷ after) g)
+pub after_comma : (text following after : List ℕ) (b : ℕ) → after_told text ≡ following → following ≡ b ∷ after → b ≡ 44 → after_told text ≡ 44 ∷ after
+after_comma text following after b e f g = e ∙ (f ∙ ap (λ (x : ℕ). x ∷ after) g)
 
-pub behind_other : (text behind : List ℕ) → behind_told text ≡ behind → eqb (get_or behind 0 0) 44 ≡ false → get_or (behind_told text) 0 0 ≡ 44 → ⊥
-behind_other text behind e f g =
-    false≢true (sym (ap (λ (x : List ℕ). eqb (get_or x 0 0) 44) e ∙ f) ∙ eq-eqb (get_or (behind_told text) 0 0) 44 g)
+pub after_other : (text following : List ℕ) → after_told text ≡ following → eqb (get_or following 0 0) 44 ≡ false → get_or (after_told text) 0 0 ≡ 44 → ⊥
+after_other text following e f g =
+    false≢true (sym (ap (λ (x : List ℕ). eqb (get_or x 0 0) 44) e ∙ f) ∙ eq-eqb (get_or (after_told text) 0 0) 44 g)
 
-pub append_end : (text rest old items more : List ℕ) → IsAppended text rest old items → is_listed (formals_in 255 [] text) ≡ true → more ≡ items ++ formal_bytes (formal_told rest) → (get_or (behind_told rest) 0 0 ≡ 44 → ⊥) → more ≡ old ++ flat_map formal_bytes (all_of (formals_in 255 [] text))
-append_end text rest old items more a h m n = append_last text rest old items more a h m (ne_eqb (get_or (behind_told rest) 0 0) 44 n)
+pub append_end : (text rest old items more : List ℕ) → IsAppended text rest old items → is_listed (formals_in 255 [] text) ≡ true → more ≡ items ++ formal_bytes (formal_told rest) → (get_or (after_told rest) 0 0 ≡ 44 → ⊥) → more ≡ old ++ flat_map formal_bytes (all_of (formals_in 255 [] text))
+append_end text rest old items more a h m n = append_last text rest old items more a h m (ne_eqb (get_or (after_told rest) 0 0) 44 n)

@@ -13,14 +13,14 @@ use Rattle.rdlpp_scan.specs.declared.token.Directive.{Directive}
 use Rattle.rdlpp_scan.specs.declared.token.Directive.TheVariants.{Define, Else, Elsif, Endif, Ifdef, Ifndef, Include, Line, Undef}
 use Rattle.rdlpp_scan.proofs.Seams.{word_ten}
 use Rattle.rdlpp_lines.specs.Continuations.{joined}
-use Rattle.rdlpp_lines.specs.Texts.{text_behind}
+use Rattle.rdlpp_lines.specs.Texts.{text_after}
 use Rattle.rdlpp_lines.proofs.Joins.{SameRun, first_in, first_out, joined_none, same_run, word_back}
 use Rattle.rdlpp_table.specs.Define.{Accepted, Draft, FormalList, Listed, DefinedFault, DraftFault, FormalListFault, after_space, define_of, formal_list, formals_of_list, is_space, leading_name, logical_text, macro_from, macro_of, name_fault, observed, refused_word, stored, stored_draft, unended, with_body, with_list}
 use Rattle.rdlpp_table.specs.Entries.{offsets_len}
 use Rattle.rdlpp_table.specs.Formals.{IsPart}
 use Rattle.rdlpp_table.specs.Layout.{IsHeld, view_of}
 use Rattle.rdlpp_table.specs.FormalOffsets.{macro_offsets, offsets_of, table_offsets}
-use Rattle.rdlpp_table.specs.Store.{AreStoredFormals, IsStored, StoredFormal, behind_stored, body_of, body_start, entries_of, entry_end, entry_of, formal_behind, formal_read, formals_read, is_default, is_name_byte, is_plain_formal, is_plain_macro, list_of, list_size, list_start, macro_in, macros_in, name_of}
+use Rattle.rdlpp_table.specs.Store.{AreStoredFormals, IsStored, StoredFormal, after_stored, body_of, body_start, entries_of, entry_end, entry_of, formal_after, formal_read, formals_read, is_default, is_name_byte, is_plain_formal, is_plain_macro, list_of, list_size, list_start, macro_in, macros_in, name_of}
 use Rattle.rdlpp_table.specs.Table.{Formal, Macro, default_bytes, formal_bytes, formal_size, macro_bytes, macro_size, table_bytes, table_size, without}
 use Rattle.rdlpp_table.specs.View.{IsSound, IsSoundMacro, TableView, formals_of, macro_at, place_named}
 use Rattle.rdlpp_table.specs.Words.{spelled}
@@ -42,33 +42,33 @@ name_read (b ∷ name) rest h e =
     let p = and_parts (is_name_byte b) (list_all is_name_byte name) h in
     cond-true _ _ _ p.0 ∙ (let n : 1 + prefix_len is_name_byte (name ++ rest) ≡ length (b ∷ name) = omega (arith, name_read name rest p.1 e) in n)
 
-named_read : (name rest : List ℕ) → list_all is_name_byte name ≡ true → is_name_byte (get_or rest 0 0) ≡ false → formal_read (name ++ rest) ≡ formal_behind name rest
+named_read : (name rest : List ℕ) → list_all is_name_byte name ≡ true → is_name_byte (get_or rest 0 0) ≡ false → formal_read (name ++ rest) ≡ formal_after name rest
 unfolding formal_read
 named_read name rest h e =
     let n : prefix_len is_name_byte (name ++ rest) ≡ length name = name_read name rest h e in
-    ap (λ (k : ℕ). formal_behind (take k (name ++ rest)) (drop k (name ++ rest))) n
-    ∙ (ap (λ (x : List ℕ). formal_behind x (drop (length name) (name ++ rest))) (take_at name rest (length name) refl)
-    ∙ ap (formal_behind name) (drop_at name rest (length name) refl))
+    ap (λ (k : ℕ). formal_after (take k (name ++ rest)) (drop k (name ++ rest))) n
+    ∙ (ap (λ (x : List ℕ). formal_after x (drop (length name) (name ++ rest))) (take_at name rest (length name) refl)
+    ∙ ap (formal_after name) (drop_at name rest (length name) refl))
 
-stored_behind : (text rest : List ℕ) → is_default text ≡ true → behind_stored (text ++ 44 ∷ rest) ≡ 44 ∷ rest
-unfolding behind_stored text_behind
-stored_behind text rest h = ap text_behind (default_read_back text rest h)
+stored_after : (text rest : List ℕ) → is_default text ≡ true → after_stored (text ++ 44 ∷ rest) ≡ 44 ∷ rest
+unfolding after_stored text_after
+stored_after text rest h = ap text_after (default_read_back text rest h)
 
-default_read : (name text rest : List ℕ) → is_default text ≡ true → formal_behind name (61 ∷ text ++ 44 ∷ rest) ≡ record { formal = record { name = name; text = text }; behind = rest }
-unfolding formal_behind
+default_read : (name text rest : List ℕ) → is_default text ≡ true → formal_after name (61 ∷ text ++ 44 ∷ rest) ≡ record { formal = record { name = name; text = text }; following = rest }
+unfolding formal_after
 default_read name text rest h =
-    let e : behind_stored (text ++ 44 ∷ rest) ≡ 44 ∷ rest = stored_behind text rest h in
+    let e : after_stored (text ++ 44 ∷ rest) ≡ 44 ∷ rest = stored_after text rest h in
     let n : length (text ++ 44 ∷ rest) - length (44 ∷ rest) ≡ length text = omega (arith, length-append text (44 ∷ rest)) in
-    ap (λ (x : List ℕ). let s : StoredFormal = record { formal = record { name = name; text = take (length (text ++ 44 ∷ rest) - length x) (text ++ 44 ∷ rest) }; behind = drop 1 x } in s) e
-    ∙ (ap (λ (k : ℕ). let s : StoredFormal = record { formal = record { name = name; text = take k (text ++ 44 ∷ rest) }; behind = rest } in s) n
-    ∙ ap (λ (x : List ℕ). let s : StoredFormal = record { formal = record { name = name; text = x }; behind = rest } in s) (take_at text (44 ∷ rest) (length text) refl))
+    ap (λ (x : List ℕ). let s : StoredFormal = record { formal = record { name = name; text = take (length (text ++ 44 ∷ rest) - length x) (text ++ 44 ∷ rest) }; following = drop 1 x } in s) e
+    ∙ (ap (λ (k : ℕ). let s : StoredFormal = record { formal = record { name = name; text = take k (text ++ 44 ∷ rest) }; following = rest } in s) n
+    ∙ ap (λ (x : List ℕ). let s : StoredFormal = record { formal = record { name = name; text = x }; following = rest } in s) (take_at text (44 ∷ rest) (length text) refl))
 
-by_default : (name text rest : List ℕ) → is_default text ≡ true → (is_name_byte (get_or (default_bytes text ++ 44 ∷ rest) 0 0) ≡ false) × (formal_behind name (default_bytes text ++ 44 ∷ rest) ≡ record { formal = record { name = name; text = text }; behind = rest })
-unfolding default_bytes is_name_byte formal_behind
+by_default : (name text rest : List ℕ) → is_default text ≡ true → (is_name_byte (get_or (default_bytes text ++ 44 ∷ rest) 0 0) ≡ false) × (formal_after name (default_bytes text ++ 44 ∷ rest) ≡ record { formal = record { name = name; text = text }; following = rest })
+unfolding default_bytes is_name_byte formal_after
 by_default name [] rest h = (refl, refl)
 by_default name (b ∷ bs) rest h = (refl, default_read name (b ∷ bs) rest h)
 
-pub read_formal : (f : Formal) (rest : List ℕ) → is_plain_formal f ≡ true → formal_read (formal_bytes f ++ rest) ≡ record { formal = f; behind = rest }
+pub read_formal : (f : Formal) (rest : List ℕ) → is_plain_formal f ≡ true → formal_read (formal_bytes f ++ rest) ≡ record { formal = f; following = rest }
 unfolding formal_bytes is_plain_formal
 read_formal f rest h =
     let p = and_parts (list_all is_name_byte f.name) (is_default f.text) h in
@@ -82,8 +82,8 @@ read_list [] h = refl
 read_list (f ∷ fs) h =
     let parts = and_parts (is_plain_formal f) (list_all is_plain_formal fs) h in
     let bytes : List ℕ = formal_bytes f ++ flat_map formal_bytes fs in
-    let r : formal_read bytes ≡ record { formal = f; behind = flat_map formal_bytes fs } = read_formal f (flat_map formal_bytes fs) parts.0 in
-    ap (λ (s : StoredFormal). s.formal ∷ formals_read (length fs) s.behind) r
+    let r : formal_read bytes ≡ record { formal = f; following = flat_map formal_bytes fs } = read_formal f (flat_map formal_bytes fs) parts.0 in
+    ap (λ (s : StoredFormal). s.formal ∷ formals_read (length fs) s.following) r
     ∙ ap (λ (l : List Formal). f ∷ l) (read_list fs parts.1)
 
 same_formals : (o : Option (List Formal)) (list : List ℕ) → list ≡ flat_map formal_bytes (unwrap_or o []) → list_all is_plain_formal (unwrap_or o []) ≡ true → option_map (λ (n : ℕ). formals_read n list) (option_map length o) ≡ o
@@ -166,13 +166,13 @@ plain_at : (ms : List Macro) (place : ℕ) → place < length ms → list_all is
 unfolding is_plain_macro
 plain_at ms place h e =
     let front : List Macro = take place ms in
-    let behind : List Macro = macro_at ms place ∷ drop (place + 1) ms in
-    let parts = and_parts (list_all is_plain_macro front) (list_all is_plain_macro behind) (sym (list_all-append is_plain_macro front behind) ∙ (ap (list_all is_plain_macro) (sym (split_at ms place h)) ∙ e)) in
+    let following : List Macro = macro_at ms place ∷ drop (place + 1) ms in
+    let parts = and_parts (list_all is_plain_macro front) (list_all is_plain_macro following) (sym (list_all-append is_plain_macro front following) ∙ (ap (list_all is_plain_macro) (sym (split_at ms place h)) ∙ e)) in
     (and_parts (is_plain_macro (macro_at ms place)) (list_all is_plain_macro (drop (place + 1) ms)) parts.1).0
 
 -- an entry's list and its offsets among those of all, where the entry counts so many that are given up
 pub record IsEntryListed (ahead : ℕ) (bytes formal_offsets : List ℕ) (entry : Entry) : Type 0 where
-  pub behind : ahead ≤ entry.formal_offsets
+  pub following : ahead ≤ entry.formal_offsets
   pub within : entry.formal_offsets - ahead + offsets_len entry ≤ length formal_offsets
   pub listed : AreStoredFormals (unwrap_or entry.arity 0) (list_of bytes entry) (slice_range formal_offsets (entry.formal_offsets - ahead) (entry.formal_offsets - ahead + offsets_len entry))
 
@@ -223,7 +223,7 @@ entry_listed {from = from} {ahead = ahead} bytes formal_offsets entries place en
     let same : macro_in bytes entry ≡ macro_at ms place = ap (macro_in bytes) q ∙ sym (macro_at_entry bytes entries 0 0 (view_of bytes entries 0 0) place entry refl h) in
     let read : formals_read (unwrap_or entry.arity 0) (list_of bytes entry) ≡ formals_of (macro_at ms place) = read_here bytes entry ∙ ap formals_of same in
     record {
-      behind = omega (arith, offsets_from from ahead bytes ms place entry inside is);
+      following = omega (arith, offsets_from from ahead bytes ms place entry inside is);
       within = omega (arith, offsets_fit from ahead bytes ms place entry inside is, ap (length {A = ℕ}) e);
       listed = record {
         whole = ap (flat_map formal_bytes) read ∙ sym (list_here from ahead bytes ms place entry inside is s.inside (whole_bytes bytes entries ms s));
@@ -240,7 +240,7 @@ listed_as count n list bytes formal_offsets kept p q r l = rw (p, q, r) l
 pub count_read : (count : ℕ) (list : List ℕ) → length (formals_read count list) ≡ count
 unfolding formals_read
 count_read zero list = refl
-count_read (suc n) list = ap suc (count_read n (formal_read list).behind)
+count_read (suc n) list = ap suc (count_read n (formal_read list).following)
 
 -- how many bytes and how many entries there are
 pub stored_length : {from ahead : ℕ} (bytes : List ℕ) (entries : List Entry) (ms : List Macro) → IsStored from ahead bytes entries ms → length bytes ≡ from + table_size ms
@@ -403,15 +403,15 @@ sound_with view m s sound h k =
 space_len : (b : ℕ) (bs : List ℕ) → is_space b ≡ true → prefix_len is_space (b ∷ bs) ≡ suc (prefix_len is_space bs)
 space_len b bs e = ap (λ (t : Bool). cond t (1 + prefix_len is_space bs) 0) e ∙ one-add (prefix_len is_space bs)
 
-pub skip_space : (text : List ℕ) (b : ℕ) (behind : List ℕ) → text ≡ b ∷ behind → is_space b ≡ true → after_space behind ≡ after_space text
+pub skip_space : (text : List ℕ) (b : ℕ) (following : List ℕ) → text ≡ b ∷ following → is_space b ≡ true → after_space following ≡ after_space text
 unfolding after_space
-skip_space text b behind t e = sym (ap (λ (l : List ℕ). drop (prefix_len is_space l) l) t ∙ ap (λ (n : ℕ). drop n (b ∷ behind)) (space_len b behind e))
+skip_space text b following t e = sym (ap (λ (l : List ℕ). drop (prefix_len is_space l) l) t ∙ ap (λ (n : ℕ). drop n (b ∷ following)) (space_len b following e))
 
-pub point_space : (text : List ℕ) (b : ℕ) (behind : List ℕ) → text ≡ b ∷ behind → is_space b ≡ false → after_space text ≡ text
+pub point_space : (text : List ℕ) (b : ℕ) (following : List ℕ) → text ≡ b ∷ following → is_space b ≡ false → after_space text ≡ text
 unfolding after_space
-point_space text b behind t e =
+point_space text b following t e =
     ap (λ (l : List ℕ). drop (prefix_len is_space l) l) t
-    ∙ (ap (λ (n : ℕ). drop n (b ∷ behind)) (ap (λ (t : Bool). cond t (1 + prefix_len is_space behind) 0) e)
+    ∙ (ap (λ (n : ℕ). drop n (b ∷ following)) (ap (λ (t : Bool). cond t (1 + prefix_len is_space following) 0) e)
     ∙ sym t)
 
 pub none_space : (text : List ℕ) → text ≡ [] → after_space text ≡ text
@@ -445,9 +445,9 @@ name_joined text =
     ∙ ap (λ (l : List ℕ). cond (is_letter (get_or text 0 0)) l []) (ap (λ (n : ℕ). take n (joined true text)) (same_word text).len ∙ (same_word text).front)
 
 -- what stands behind the name
-pub name_behind : (text : List ℕ) → joined true (drop (length (leading_name text)) text) ≡ drop (length (leading_name text)) (joined true text)
+pub name_after : (text : List ℕ) → joined true (drop (length (leading_name text)) text) ≡ drop (length (leading_name text)) (joined true text)
 unfolding leading_name
-name_behind text =
+name_after text =
     elim (cases_Bool (is_letter (get_or text 0 0))) [
       | inl e ↦
           let n : length (cond (is_letter (get_or text 0 0)) (take (prefix_len is_word text) text) []) ≡ prefix_len is_word text =
@@ -460,14 +460,14 @@ name_behind text =
     ]
 
 -- what was read of a part
-pub part_read : (text rest name tail behind : List ℕ) → joined true rest ≡ after_space (joined true text) → name ≡ leading_name rest → tail ≡ take (length rest - length name) (drop (length name) rest) → joined true behind ≡ after_space (joined true tail) → IsPart (joined true text) name (joined true behind)
-part_read text rest name tail behind r n t b = record {
+pub part_read : (text rest name tail following : List ℕ) → joined true rest ≡ after_space (joined true text) → name ≡ leading_name rest → tail ≡ take (length rest - length name) (drop (length name) rest) → joined true following ≡ after_space (joined true tail) → IsPart (joined true text) name (joined true following)
+part_read text rest name tail following r n t b = record {
   name_is = n ∙ (sym (name_joined rest) ∙ ap leading_name r);
-  behind_is =
+  after_is =
       b
       ∙ (ap (λ (l : List ℕ). after_space (joined true l)) (t ∙ take_rest rest (length name))
       ∙ (ap (λ (l : List ℕ). after_space (joined true (drop (length l) rest))) n
-      ∙ (ap after_space (name_behind rest)
+      ∙ (ap after_space (name_after rest)
       ∙ (ap (λ (l : List ℕ). after_space (drop (length l) (joined true rest))) (sym n)
       ∙ ap (λ (l : List ℕ). after_space (drop (length name) l)) r))));
 }
@@ -549,14 +549,14 @@ named_draft name after fault = elim fault [ Some k ↦ DraftFault k (refused_wor
 macro_by_name : (rest line text name after : List ℕ) → line ≡ unended rest → joined true text ≡ after_space (joined true line) → name ≡ leading_name text → after ≡ drop (length name) text → macro_of rest ≡ named_draft name (joined true after) (name_fault name)
 unfolding macro_of logical_text macro_from joined
 macro_by_name rest line text name after e f g h =
-    let behind : drop (length name) (joined true text) ≡ joined true after =
+    let following : drop (length name) (joined true text) ≡ joined true after =
     ap (λ (n : List ℕ). drop (length n) (joined true text)) g
-    ∙ (sym (name_behind text)
+    ∙ (sym (name_after text)
     ∙ (ap (λ (n : List ℕ). joined true (drop (length n) text)) (sym g)
     ∙ ap (joined true) (sym h))) in
     ap macro_from (ap (λ (l : List ℕ). after_space (joined true l)) (sym e) ∙ sym f)
     ∙ (ap (λ (n : List ℕ). named_draft n (drop (length n) (joined true text)) (name_fault n)) (name_joined text ∙ sym g)
-    ∙ ap (λ (l : List ℕ). named_draft name l (name_fault name)) behind)
+    ∙ ap (λ (l : List ℕ). named_draft name l (name_fault name)) following)
 
 pub define_stores : (a b : ℕ) (ms : List Macro) (rest line text name after : List ℕ) → line ≡ unended rest → joined true text ≡ after_space (joined true line) → name ≡ leading_name text → after ≡ drop (length name) text → name_fault name ≡ None → stored_draft a b ms (with_list name (joined true after)) ≡ define_of a b ms rest
 unfolding define_of

@@ -15,7 +15,7 @@ use Rattle.rdlpp_table.proofs.Sizes.{table_size-cons, stored_within, length_macr
 use Rattle.rdlpp_table.specs.declared.entry.Entry.{Entry}
 use Rattle.rdlpp_table.specs.Store.{entry_of, entries_of, entry_end, body_start, list_start, list_size, is_plain_macro, macros_in, IsStored}
 use Rattle.rdlpp_table.specs.FormalOffsets.{macro_offsets, table_offsets}
-use Rattle.rdlpp_table.specs.Entries.{offsets_len, moved_down, moved_up, AreBehind, AreLow}
+use Rattle.rdlpp_table.specs.Entries.{offsets_len, moved_down, moved_up, AreAfter, AreLow}
 
 -- The macros but the one of a name: what stays, and that it is the list without one place.
 
@@ -216,13 +216,13 @@ pub offsets_at : (n k : ℕ) (m : Macro) → (entry_of n k m).formal_offsets ≡
 unfolding entry_of
 offsets_at n k m = refl
 
-starts_behind : (low few n k : ℕ) (ms : List Macro) → low ≤ n → few ≤ k → All (λ e. (low ≤ e.start) × (few ≤ e.formal_offsets)) (entries_of n k ms)
+starts_after : (low few n k : ℕ) (ms : List Macro) → low ≤ n → few ≤ k → All (λ e. (low ≤ e.start) × (few ≤ e.formal_offsets)) (entries_of n k ms)
 unfolding entries_of
-starts_behind low few n k [] h g = All-nil _
-starts_behind low few n k (m ∷ ms) h g =
+starts_after low few n k [] h g = All-nil _
+starts_after low few n k (m ∷ ms) h g =
     All-cons (λ e. (low ≤ e.start) × (few ≤ e.formal_offsets)) _ _
     (omega (arith, start_of n k m), omega (arith, offsets_at n k m))
-    (starts_behind low few (n + macro_size m) (k + length (macro_offsets m)) ms (omega arith) (omega arith))
+    (starts_after low few (n + macro_size m) (k + length (macro_offsets m)) ms (omega arith) (omega arith))
 
 -- a part of a text between two others
 pub between_parts : (a b c : List ℕ) (i j : ℕ) → length a ≡ i → i + length b ≡ j → slice_range (a ++ (b ++ c)) i j ≡ b
@@ -371,7 +371,7 @@ covered_stored {from = from} {ahead = ahead} bytes entries rest entry ms place s
     let moved : slice_range bytes from entry.start ≡ table_bytes xs =
     ap (λ (bs : List ℕ). slice_range bs from entry.start) (round ∙ append_assoc before (table_bytes xs) _)
     ∙ between_parts before (table_bytes xs) _ from entry.start long (omega (arith, t.start, length_table_bytes xs)) in
-    let behind : drop (entry.start + size) bytes ≡ table_bytes ys =
+    let following : drop (entry.start + size) bytes ≡ table_bytes ys =
     ap (drop (entry.start + size)) (round ∙ sym (append_assoc (before ++ table_bytes xs) (macro_bytes m) (table_bytes ys)))
     ∙ drop_at ((before ++ table_bytes xs) ++ macro_bytes m) (table_bytes ys) _ past in
     let k : ℕ = ahead + formal_offsets + length (table_offsets xs) in
@@ -387,7 +387,7 @@ covered_stored {from = from} {ahead = ahead} bytes entries rest entry ms place s
       bytes_are =
           b
           ∙ (ap (λ (bs : List ℕ). bs ++ drop (entry.start + size) bytes) moved
-          ∙ (ap (λ (bs : List ℕ). table_bytes xs ++ bs) behind
+          ∙ (ap (λ (bs : List ℕ). table_bytes xs ++ bs) following
           ∙ (sym (table_bytes-append xs ys) ∙ ap table_bytes (sym (removed_parts ms place)))));
       entries_are =
           e
@@ -414,14 +414,14 @@ settled_stored {from = from} {ahead = ahead} bytes entries ms bytes' entries' s 
     }
 
 -- each entry lies behind what is given up
-pub stored_behind : {from ahead : ℕ} (bytes : List ℕ) (entries : List Entry) (ms : List Macro) → IsStored from ahead bytes entries ms → AreBehind from ahead entries
-stored_behind {from = from} {ahead = ahead} bytes entries ms s =
-    let P : List Entry → Type 0 = λ l. AreBehind from ahead l in
-    subst P (sym s.entries_are) (starts_behind from ahead from ahead ms (omega arith) (omega arith))
+pub stored_after : {from ahead : ℕ} (bytes : List ℕ) (entries : List Entry) (ms : List Macro) → IsStored from ahead bytes entries ms → AreAfter from ahead entries
+stored_after {from = from} {ahead = ahead} bytes entries ms s =
+    let P : List Entry → Type 0 = λ l. AreAfter from ahead l in
+    subst P (sym s.entries_are) (starts_after from ahead from ahead ms (omega arith) (omega arith))
 
-pub taken_behind : {from ahead : ℕ} (entries rest : List Entry) (entry : Entry) (ms : List Macro) (place size formal_offsets : ℕ) → Taken from ahead entries rest entry ms place size formal_offsets → AreBehind size formal_offsets (drop place rest)
-taken_behind entries rest entry ms place size formal_offsets t =
-    rw (t.back, t.size_is, t.offsets_are) (starts_behind (macro_size (macro_at ms place)) (length (macro_offsets (macro_at ms place))) _ _ _ (omega arith) (omega arith))
+pub taken_after : {from ahead : ℕ} (entries rest : List Entry) (entry : Entry) (ms : List Macro) (place size formal_offsets : ℕ) → Taken from ahead entries rest entry ms place size formal_offsets → AreAfter size formal_offsets (drop place rest)
+taken_after entries rest entry ms place size formal_offsets t =
+    rw (t.back, t.size_is, t.offsets_are) (starts_after (macro_size (macro_at ms place)) (length (macro_offsets (macro_at ms place))) _ _ _ (omega arith) (omega arith))
 
 low_entries : (n k last most : ℕ) (ms : List Macro) → n + table_size ms ≤ last → k + length (table_offsets ms) ≤ most → All (λ e. (e.start ≤ last) × (e.formal_offsets ≤ most)) (entries_of n k ms)
 unfolding entries_of
@@ -447,7 +447,7 @@ taken_live {from = from} {ahead = ahead} bytes items front place entry size form
 pub record IsRanged (from ahead len : ℕ) (entry : Entry) (size formal_offsets : ℕ) : Type 0 where
   pub start : from ≤ entry.start
   pub end : entry.start + size ≤ len
-  pub behind : ahead ≤ entry.formal_offsets
+  pub following : ahead ≤ entry.formal_offsets
   pub few : entry.formal_offsets + formal_offsets ≤ entry.start + size
 
 pub taken_range : {from ahead : ℕ} (bytes : List ℕ) (items : List Entry) (front place : ℕ) (entry : Entry) (size formal_offsets : ℕ) → IsStored from ahead bytes (drop front items) (macros_in bytes (drop front items)) → place < length (drop front items) → entry ≡ get_or items (front + place) entry → size ≡ entry.name_len + entry.list_len + entry.body_len → formal_offsets ≡ offsets_len entry → IsRanged from ahead (length bytes) entry size formal_offsets
@@ -458,7 +458,7 @@ taken_range {from = from} bytes items front place entry size formal_offsets s h 
     record {
       start = omega (arith, t.start);
       end = omega (arith, z, end_within bytes (drop front items) ms place entry s h (q ∙ sym (get_or-drop front items place entry)));
-      behind = omega (arith, t.offsets_from);
+      following = omega (arith, t.offsets_from);
       few = omega (arith, t.start, t.offsets_from, s.few, few_offsets (take place ms), few_offsets_in (macro_at ms place), t.size_is, t.offsets_are);
     }
 

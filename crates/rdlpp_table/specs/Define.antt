@@ -15,7 +15,7 @@ use Rattle.rdlpp_scan.specs.SourceTokens.{logical_len}
 use Rattle.rdlpp_scan.specs.Names.{is_name}
 use Rattle.rdlpp_scan.specs.Reserved.{is_reserved}
 unfoldable pub use Rattle.rdlpp_lines.specs.Continuations.{continuation_len, without_continuations}
-unfoldable pub use Rattle.rdlpp_lines.specs.Texts.{is_space, onto_trimmed, without_end, trimmed_of, ends_default, level_behind}
+unfoldable pub use Rattle.rdlpp_lines.specs.Texts.{is_space, onto_trimmed, without_end, trimmed_of, ends_default, level_after}
 use Rattle.rdlpp_table.specs.Table.{Formal, Macro, macro_size, table_size, without}
 use Rattle.rdlpp_table.specs.declared.fault.DefineKind.{DefineKind}
 use Rattle.rdlpp_table.specs.declared.fault.DefineFault.{DefineFault}
@@ -75,14 +75,14 @@ lexical OpenComment = kind.OpenComment
 -- a default text, and what stands behind it
 pub record DefaultText : Type 0 where
   pub text : List ℕ
-  pub behind : List ℕ
+  pub following : List ℕ
 
 -- the bytes of a token in front of a default text; a `//` comment goes (this project's profile)
 unfoldable pub onto_default : Token → List ℕ → Option DefaultText → Option DefaultText
 onto_default t text None = None
 onto_default t text (Some d) = elim t.kind [
   | LineComment ↦ Some d
-  | _ ↦ Some (record { text = take t.len text ++ d.text; behind = d.behind })
+  | _ ↦ Some (record { text = take t.len text ++ d.text; following = d.following })
 ]
 
 -- the default text with which a text begins, by its tokens, from a level on: up to the first `,` or `)` at level 0, without its
@@ -92,18 +92,18 @@ unfoldable pub default_of_tokens : ℕ → List Token → List ℕ → Option De
 default_of_tokens level [] text = None
 default_of_tokens level (t ∷ ts) text =
     if is_perl t.kind then None
-    else (if level == 0 && ends_default t.kind (slice_index text 0) then Some (record { text = []; behind = text })
-    else onto_default t text (default_of_tokens (level_behind t.kind level) ts (drop t.len text)))
+    else (if level == 0 && ends_default t.kind (slice_index text 0) then Some (record { text = []; following = text })
+    else onto_default t text (default_of_tokens (level_after t.kind level) ts (drop t.len text)))
 
 -- a default text without the blanks and LF at both ends (this project's profile)
 unfoldable pub trimmed_default : DefaultText → DefaultText
-trimmed_default d = record { text = trimmed_of is_space d.text; behind = d.behind }
+trimmed_default d = record { text = trimmed_of is_space d.text; following = d.following }
 
 -- the default text of a formal, by what stands behind its name: empty where no `=` stands there (this project's profile)
 unfoldable pub default_in : List ℕ → Option DefaultText
-default_in behind =
-    if slice_index behind 0 == 61 then option_map trimmed_default (default_of_tokens 0 (tokens_from Plain 0 (drop 1 behind)) (drop 1 behind))
-    else Some (record { text = []; behind = behind })
+default_in following =
+    if slice_index following 0 == 61 then option_map trimmed_default (default_of_tokens 0 (tokens_from Plain 0 (drop 1 following)) (drop 1 following))
+    else Some (record { text = []; following = following })
 
 -- a formal that was read and what stands behind it, or what is wrong with it
 pub data OneFormal : Type 0 where
@@ -120,8 +120,8 @@ unfoldable pub formal_name : List ℕ → List ℕ
 formal_name text = leading_name (after_space text)
 
 -- what stands behind that name and the white space after it
-unfoldable pub behind_name : List ℕ → List ℕ
-behind_name text = after_space (drop (length (formal_name text)) (after_space text))
+unfoldable pub after_name : List ℕ → List ℕ
+after_name text = after_space (drop (length (formal_name text)) (after_space text))
 
 -- what is wrong with the name of a formal, behind other formals: no name stands there, it is too long, it was given before
 -- (this project's profile)
@@ -135,13 +135,13 @@ formal_fault before name =
 -- a formal of a name with its default text, where that has no fault (this project's profile)
 unfoldable pub with_default : List ℕ → Option DefaultText → OneFormal
 with_default name None = FormalFault kind.BadFormals
-with_default name (Some d) = Good (record { name = name; text = d.text }) d.behind
+with_default name (Some d) = Good (record { name = name; text = d.text }) d.following
 
 -- the formal with which a list's text begins, behind other formals (this project's profile)
 unfoldable pub formal_in : List Formal → List ℕ → OneFormal
 formal_in before text = elim (formal_fault before (formal_name text)) [
   | Some k ↦ FormalFault k
-  | None ↦ with_default (formal_name text) (default_in (behind_name text))
+  | None ↦ with_default (formal_name text) (default_in (after_name text))
 ]
 
 -- the formals of a list's text, behind other formals, up to the first fault, where so many more may follow; `,` stands between two
@@ -150,8 +150,8 @@ unfoldable pub formals_in : ℕ → List Formal → List ℕ → FormalList
 formals_in zero before text = FormalListFault (unwrap_or (formal_fault before (formal_name text)) kind.TooManyFormals)
 formals_in (suc room) before text = elim (formal_in before text) [
   | FormalFault k ↦ FormalListFault k
-  | Good f behind ↦ if slice_index behind 0 == 44 then formals_in room (before ++ f ∷ []) (drop 1 behind)
-      else (if slice_index behind 0 == 41 then Listed (Some (before ++ f ∷ [])) (drop 1 behind)
+  | Good f following ↦ if slice_index following 0 == 44 then formals_in room (before ++ f ∷ []) (drop 1 following)
+      else (if slice_index following 0 == 41 then Listed (Some (before ++ f ∷ [])) (drop 1 following)
       else FormalListFault kind.BadFormals)
 ]
 

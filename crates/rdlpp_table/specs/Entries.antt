@@ -22,8 +22,8 @@ abbrev pub AreLow : ℕ → ℕ → List Entry → Type 0
 AreLow n k entries = All (λ e. (e.start + n < 2 ^ 32) × (e.formal_offsets + k < 2 ^ 32)) entries
 
 -- each entry's bytes lie behind so many, and its offsets behind as many as another number says
-abbrev pub AreBehind : ℕ → ℕ → List Entry → Type 0
-AreBehind n k entries = All (λ e. (n ≤ e.start) × (k ≤ e.formal_offsets)) entries
+abbrev pub AreAfter : ℕ → ℕ → List Entry → Type 0
+AreAfter n k entries = All (λ e. (n ≤ e.start) × (k ≤ e.formal_offsets)) entries
 
 -- how many offsets an entry has
 unfoldable pub offsets_len : Entry → ℕ

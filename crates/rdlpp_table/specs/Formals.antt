@@ -13,8 +13,8 @@ use Rattle.rdlpp_table.specs.declared.fault.DefineKind.{DefineKind}
 use Rattle.rdlpp_table.specs.declared.fault.DefineKind.TheVariants as kind
 
 -- what is wrong with a formal of a name, behind formals of such names (this project's profile)
-unfoldable pub fault_behind : List (List ℕ) → List ℕ → Option DefineKind
-fault_behind names name =
+unfoldable pub fault_after : List (List ℕ) → List ℕ → Option DefineKind
+fault_after names name =
     if is_nothing name then Some kind.BadFormals
     else (if nat_lt 128 (length name) then Some kind.NameTooLong
     else (if list_any (λ n. bytes_eq n name) names then Some kind.FormalTwice
@@ -26,41 +26,41 @@ unfoldable pub default_left : List ℕ → List ℕ
 default_left text = trimmed_left (trims true) (cleared (Some 0) text)
 
 -- the default text, and what stands behind it, from behind its `=` on
-unfoldable pub default_behind : List ℕ → Option DefaultText
-default_behind text = option_map trimmed_default (default_of_tokens 0 (tokens_from Plain 0 text) text)
+unfoldable pub default_after : List ℕ → Option DefaultText
+default_after text = option_map trimmed_default (default_of_tokens 0 (tokens_from Plain 0 text) text)
 
 -- a default text that counts so much was read from a text, and so much stands behind it
-pub record IsDefault (default : Option DefaultText) (from behind : List ℕ) (size : ℕ) : Type 0 where
-  pub is : default ≡ Some (record { text = default_left from; behind = behind })
+pub record IsDefault (default : Option DefaultText) (from following : List ℕ) (size : ℕ) : Type 0 where
+  pub is : default ≡ Some (record { text = default_left from; following = following })
   pub size_is : default_size (default_left from) ≡ size
   pub len_is : trimmed_len (trims true) (cleared (start_level true) from) ≡ Ok (length (default_left from))
   pub plain : is_default (default_left from) ≡ true
 
 -- a list of so many formals with so many bytes was read, and so much stands behind it
-pub record IsRead (list : FormalList) (behind : List ℕ) (count size : ℕ) (formals : List Formal) : Type 0 where
-  pub is : list ≡ Listed (Some formals) behind
+pub record IsRead (list : FormalList) (following : List ℕ) (count size : ℕ) (formals : List Formal) : Type 0 where
+  pub is : list ≡ Listed (Some formals) following
   pub count_is : length formals ≡ count
   pub size_is : sum_by formal_size formals ≡ size
   pub plain : list_all is_plain_formal formals ≡ true
 
 -- the formal with which a list's text begins, where it has no fault
 unfoldable pub formal_told : List ℕ → Formal
-formal_told text = elim (formal_in [] text) [ Good f behind ↦ f | FormalFault k ↦ record { name = []; text = [] } ]
+formal_told text = elim (formal_in [] text) [ Good f following ↦ f | FormalFault k ↦ record { name = []; text = [] } ]
 
 -- what stands behind it
-unfoldable pub behind_told : List ℕ → List ℕ
-behind_told text = elim (formal_in [] text) [ Good f behind ↦ behind | FormalFault k ↦ [] ]
+unfoldable pub after_told : List ℕ → List ℕ
+after_told text = elim (formal_in [] text) [ Good f following ↦ following | FormalFault k ↦ [] ]
 
 -- whether it has no fault
 unfoldable pub is_told : List ℕ → Bool
-is_told text = elim (formal_in [] text) [ Good f behind ↦ true | FormalFault k ↦ false ]
+is_told text = elim (formal_in [] text) [ Good f following ↦ true | FormalFault k ↦ false ]
 
 -- the formals of a list that was read
 unfoldable pub listed : FormalList → Option (List Formal)
-listed (Listed formals behind) = formals
+listed (Listed formals following) = formals
 listed (FormalListFault k) = None
 
 -- what a list's text begins with: white space, a name or nothing, white space, and what stands behind them
-pub record IsPart (text name behind : List ℕ) : Type 0 where
+pub record IsPart (text name following : List ℕ) : Type 0 where
   pub name_is : name ≡ leading_name (after_space text)
-  pub behind_is : behind ≡ after_space (drop (length name) (after_space text))
+  pub after_is : following ≡ after_space (drop (length name) (after_space text))

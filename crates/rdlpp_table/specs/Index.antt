@@ -92,7 +92,7 @@ pub record IsMiddle (low high middle : ℕ) : Type 0 where
   pub from : low ≤ middle
   pub to : middle < high
   pub before : 2 * (middle - low) ≤ high - low
-  pub behind : 2 * (high - (middle + 1)) ≤ high - low
+  pub following : 2 * (high - (middle + 1)) ≤ high - low
 
 -- how many comparisons a search adds
 pub record IsCounted (old new : ℕ) : Type 0 where

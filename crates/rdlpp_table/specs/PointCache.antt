@@ -71,13 +71,13 @@ kept_from formals text from =
     if nat_lt from 65535 then kept_point (point_of formals from (drop from text)) from (drop from text) else endless kept.Unknown 0
 
 -- so many first expansion points of a text from a place on, each of them the first one behind the one before
-unfoldable pub points_behind : ℕ → List Formal → List ℕ → ℕ → List PackedPoint
-points_behind zero formals text from = []
-points_behind (suc n) formals text from = kept_from formals text from ∷ points_behind n formals text (kept_from formals text from).end
+unfoldable pub points_after : ℕ → List Formal → List ℕ → ℕ → List PackedPoint
+points_after zero formals text from = []
+points_after (suc n) formals text from = kept_from formals text from ∷ points_after n formals text (kept_from formals text from).end
 
 -- the first expansion points of a text
 unfoldable pub cached_points : List Formal → List ℕ → PointCache
-cached_points formals text = record { all = points_behind 10 formals text 0 }
+cached_points formals text = record { all = points_after 10 formals text 0 }
 
 -- whether it is known that no token goes on at a place of a text that is read from another one on, behind plain argument bytes: it is that place,
 -- or an inert byte stands before it

@@ -7,7 +7,7 @@ use Rattle.rdlpp_scan.specs.declared.token.Token.{Token}
 use Rattle.rdlpp_scan.specs.Comments.{is_line_comment}
 use Rattle.rdlpp_scan.specs.LexFaults.{lex_fault_from}
 use Rattle.rdlpp_scan.specs.Tokens.{tokens_from}
-use Rattle.rdlpp_lines.specs.Texts.{cleared, ends_default, level_behind, text_behind}
+use Rattle.rdlpp_lines.specs.Texts.{cleared, ends_default, level_after, text_after}
 use Rattle.rdlpp_table.specs.Table.{Formal, Macro, macro_size, table_bytes, formal_bytes, formal_size}
 use Rattle.rdlpp_table.specs.FormalOffsets.{macro_offsets, offsets_of}
 use Rattle.rdlpp_table.specs.View.{formals_of}
@@ -32,29 +32,29 @@ unfoldable pub is_name_byte : ℕ → Bool
 is_name_byte b = not (b == 44 || b == 61)
 
 -- what stands behind a default text with which bytes of a table begin, from its `,` on
-unfoldable pub behind_stored : List ℕ → List ℕ
-behind_stored bytes = text_behind (cleared (Some 0) bytes)
+unfoldable pub after_stored : List ℕ → List ℕ
+after_stored bytes = text_after (cleared (Some 0) bytes)
 
 -- a formal that was read from a table's bytes, and what stands behind its `,`
 pub record StoredFormal : Type 0 where
   pub formal : Formal
-  pub behind : List ℕ
+  pub following : List ℕ
 
 -- a formal of a name, by what stands behind the name: a default text behind `=`, or a `,` at once
-unfoldable pub formal_behind : List ℕ → List ℕ → StoredFormal
-formal_behind name bytes =
+unfoldable pub formal_after : List ℕ → List ℕ → StoredFormal
+formal_after name bytes =
     let text = drop 1 bytes in
-    if slice_index bytes 0 == 61 then record { formal = record { name = name; text = take (length text - length (behind_stored text)) text }; behind = drop 1 (behind_stored text) }
-    else record { formal = record { name = name; text = [] }; behind = text }
+    if slice_index bytes 0 == 61 then record { formal = record { name = name; text = take (length text - length (after_stored text)) text }; following = drop 1 (after_stored text) }
+    else record { formal = record { name = name; text = [] }; following = text }
 
 -- the formal with which bytes of a table begin
 unfoldable pub formal_read : List ℕ → StoredFormal
-formal_read bytes = formal_behind (take (prefix_len is_name_byte bytes) bytes) (drop (prefix_len is_name_byte bytes) bytes)
+formal_read bytes = formal_after (take (prefix_len is_name_byte bytes) bytes) (drop (prefix_len is_name_byte bytes) bytes)
 
 -- so many formals with which bytes of a table begin
 unfoldable pub formals_read : ℕ → List ℕ → List Formal
 formals_read zero bytes = []
-formals_read (suc n) bytes = (formal_read bytes).formal ∷ formals_read n (formal_read bytes).behind
+formals_read (suc n) bytes = (formal_read bytes).formal ∷ formals_read n (formal_read bytes).following
 
 -- where the list of an entry's macro begins, where its body does, and where its bytes end
 unfoldable pub list_start : Entry → ℕ
@@ -91,7 +91,7 @@ macros_in bytes entries = map (macro_in bytes) entries
 -- whether tokens of a text go on from a level up to its end and are at level 0 there, and none of them ends a default text before
 unfoldable pub fills : ℕ → List Token → List ℕ → Bool
 fills level [] text = level == 0
-fills level (t ∷ ts) text = not (level == 0 && ends_default t.kind (slice_index text 0)) && fills (level_behind t.kind level) ts (drop t.len text)
+fills level (t ∷ ts) text = not (level == 0 && ends_default t.kind (slice_index text 0)) && fills (level_after t.kind level) ts (drop t.len text)
 
 -- whether a text is read whole: no lexical fault, and no `//` comment
 unfoldable pub is_clean : List ℕ → Bool

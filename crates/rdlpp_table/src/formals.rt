@@ -27,7 +27,7 @@ ghost use Rattle.std.specs.Prelude.{
 ghost use Rattle.std.specs.List.{flat_map, list_any};
 ghost use Rattle.rdlpp_lines.specs.Continuations.{joined};
 ghost use Rattle.rdlpp_table.specs.Define.{default_in, formals_in, formals_of_list, FormalListFault};
-ghost use Rattle.rdlpp_table.specs.Formals.{behind_told, default_behind, fault_behind, formal_told, is_told, listed, IsDefault, IsPart, IsRead};
+ghost use Rattle.rdlpp_table.specs.Formals.{after_told, default_after, fault_after, formal_told, is_told, listed, IsDefault, IsPart, IsRead};
 ghost use Rattle.rdlpp_table.specs.Table.{formal_bytes, formal_size, Formal};
 
 use crate::fault::DefineKind;
@@ -48,7 +48,7 @@ fn is_among(names: &[&[u8]], name: &[u8]) -> bool
 
 // What is wrong with the name of a formal, behind formals of such names.
 fn formal_fault(names: &[&[u8]], name: &[u8]) -> Option<DefineKind>
-    ensures { result ≡ fault_behind (map (λ n. n.now) names.now) name.now }
+    ensures { result ≡ fault_after (map (λ n. n.now) names.now) name.now }
 {
     if name.is_empty() {
         return Some(DefineKind::BadFormals);
@@ -69,19 +69,19 @@ fn formal_fault(names: &[&[u8]], name: &[u8]) -> Option<DefineKind>
 #[derive(Clone, Copy, Drop)]
 struct Part<'a> {
     name: &'a [u8],
-    behind: &'a [u8],
+    following: &'a [u8],
 }
 
 // The formal with which the text of a list begins.
 fn first_part(text: &[u8]) -> Part<'_>
-    ensures part { IsPart (joined true text.now) result.name.now (joined true result.behind.now) }
-    ensures inside { length result.name.now + length result.behind.now ≤ length text.now }
+    ensures part { IsPart (joined true text.now) result.name.now (joined true result.following.now) }
+    ensures inside { length result.name.now + length result.following.now ≤ length text.now }
 {
     let rest = after_space(text);
     let name = leading_name(rest);
     Part {
         name,
-        behind: after_space(&rest[name.len()..]),
+        following: after_space(&rest[name.len()..]),
     }
 }
 
@@ -90,19 +90,19 @@ fn first_part(text: &[u8]) -> Part<'_>
 struct DefaultText<'a> {
     from: &'a [u8],
     size: usize,
-    behind: &'a [u8],
+    following: &'a [u8],
 }
 
 // The default text behind the `=` of a formal; `None` where it has a fault or no end.
 fn read_default(from: &[u8]) -> Option<DefaultText<'_>>
     requires { length from.now < 18446744073709551615 }
-    ensures is { MatchOption result (default_behind (joined true from.now) ≡ None) (λ d. IsDefault (default_behind (joined true from.now)) (joined true d.from.now) (joined true d.behind.now) d.size) }
-    ensures inside { IfSome result (λ d. d.size + length d.behind.now ≤ length from.now + 1) }
+    ensures is { MatchOption result (default_after (joined true from.now) ≡ None) (λ d. IsDefault (default_after (joined true from.now)) (joined true d.from.now) (joined true d.following.now) d.size) }
+    ensures inside { IfSome result (λ d. d.size + length d.following.now ≤ length from.now + 1) }
 {
     let Ok(measured) = trimmed_len(from, true, true) else {
         return None;
     };
-    if measured.behind.is_empty() {
+    if measured.following.is_empty() {
         return None;
     }
     let size = if measured.len == 0 {
@@ -113,14 +113,14 @@ fn read_default(from: &[u8]) -> Option<DefaultText<'_>>
     Some(DefaultText {
         from,
         size,
-        behind: measured.behind,
+        following: measured.following,
     })
 }
 
 // The default text of a formal, by what stands behind its name; `None` where it has a fault or no end.
 fn default_in(text: &[u8]) -> Option<DefaultText<'_>>
-    ensures is { MatchOption result (default_in (joined true text.now) ≡ None) (λ d. IsDefault (default_in (joined true text.now)) (joined true d.from.now) (joined true d.behind.now) d.size) }
-    ensures inside { IfSome result (λ d. d.size + length d.behind.now ≤ length text.now) }
+    ensures is { MatchOption result (default_in (joined true text.now) ≡ None) (λ d. IsDefault (default_in (joined true text.now)) (joined true d.from.now) (joined true d.following.now) d.size) }
+    ensures inside { IfSome result (λ d. d.size + length d.following.now ≤ length text.now) }
 {
     if let Some((b, from)) = split_first(text, true) {
         if b == b'=' {
@@ -130,7 +130,7 @@ fn default_in(text: &[u8]) -> Option<DefaultText<'_>>
     Some(DefaultText {
         from: &[],
         size: 0,
-        behind: text,
+        following: text,
     })
 }
 
@@ -139,12 +139,12 @@ fn default_in(text: &[u8]) -> Option<DefaultText<'_>>
 pub(crate) struct ReadList<'a> {
     pub(crate) count: usize,
     pub(crate) size: usize,
-    pub(crate) behind: &'a [u8],
+    pub(crate) following: &'a [u8],
 }
 
 // Reads the formals of a list that has some.
 fn read_some(text: &[u8]) -> Result<ReadList<'_>, DefineKind>
-    ensures read { MatchResult result (λ read. (formals : List Formal) × IsRead (formals_in 255 [] (joined true text.now)) (joined true read.behind.now) read.count read.size formals) (λ kind. formals_in 255 [] (joined true text.now) ≡ FormalListFault kind) }
+    ensures read { MatchResult result (λ read. (formals : List Formal) × IsRead (formals_in 255 [] (joined true text.now)) (joined true read.following.now) read.count read.size formals) (λ kind. formals_in 255 [] (joined true text.now) ≡ FormalListFault kind) }
 {
     let mut names: ArrayVec<&[u8], MOST_FORMALS> = ArrayVec::new();
     let mut rest = text;
@@ -154,38 +154,38 @@ fn read_some(text: &[u8]) -> Result<ReadList<'_>, DefineKind>
         if let Some(kind) = formal_fault(names.as_slice(), part.name) {
             return Err(kind);
         }
-        let Some(default) = default_in(part.behind) else {
+        let Some(default) = default_in(part.following) else {
             return Err(DefineKind::BadFormals);
         };
         names.push(part.name);
         size += part.name.len() + default.size + 1;
-        let Some((b, behind)) = split_first(default.behind, true) else {
+        let Some((b, following)) = split_first(default.following, true) else {
             return Err(DefineKind::BadFormals);
         };
         if b == b')' {
             return Ok(ReadList {
                 count: names.len(),
                 size,
-                behind,
+                following,
             });
         }
         if b != b',' {
             return Err(DefineKind::BadFormals);
         }
-        rest = behind;
+        rest = following;
     }
 }
 
 // Reads a formal list, behind its `(`.
 pub(crate) fn read_list(text: &[u8]) -> Result<ReadList<'_>, DefineKind>
-    ensures read { MatchResult result (λ read. (formals : List Formal) × IsRead (formals_of_list (joined true text.now)) (joined true read.behind.now) read.count read.size formals) (λ kind. formals_of_list (joined true text.now) ≡ FormalListFault kind) }
+    ensures read { MatchResult result (λ read. (formals : List Formal) × IsRead (formals_of_list (joined true text.now)) (joined true read.following.now) read.count read.size formals) (λ kind. formals_of_list (joined true text.now) ≡ FormalListFault kind) }
 {
-    if let Some((b, behind)) = split_first(after_space(text), true) {
+    if let Some((b, following)) = split_first(after_space(text), true) {
         if b == b')' {
             return Ok(ReadList {
                 count: 0,
                 size: 0,
-                behind,
+                following,
             });
         }
     }
@@ -198,20 +198,20 @@ fn append_formal<'a>(to: &mut Vec<u8>, text: &'a [u8]) -> Option<&'a [u8]>
     requires room { vec_len to.old + formal_size (formal_told (joined true text.now)) ≤ vec_capacity to.old }
     ensures items { to.new.items ≡ to.old.items ++ formal_bytes (formal_told (joined true text.now)) }
     ensures capacity { vec_capacity to.new ≡ vec_capacity to.old }
-    ensures behind { MatchOption result (slice_index (behind_told (joined true text.now)) 0 ≢ 44) (λ behind. behind_told (joined true text.now) ≡ 44 ∷ joined true behind.now) }
-    ensures less { IfSome result (λ behind. length behind.now < length text.now) }
+    ensures following { MatchOption result (slice_index (after_told (joined true text.now)) 0 ≢ 44) (λ following. after_told (joined true text.now) ≡ 44 ∷ joined true following.now) }
+    ensures less { IfSome result (λ following. length following.now < length text.now) }
 {
     let part = first_part(text);
-    let default = default_in(part.behind)?;
+    let default = default_in(part.following)?;
     append_part(to, part.name);
     if default.size > 0 {
         to.push_reserved(b'=');
         append_trimmed(to, default.from, true, true, default.size - 1);
     }
     to.push_reserved(b',');
-    if let Some((b, behind)) = split_first(default.behind, true) {
+    if let Some((b, following)) = split_first(default.following, true) {
         if b == b',' {
-            return Some(behind);
+            return Some(following);
         }
     }
     None
@@ -225,7 +225,7 @@ pub(crate) fn append_list(to: &mut Vec<u8>, text: &[u8])
     ensures capacity { vec_capacity to.new ≡ vec_capacity to.old }
 {
     let mut rest = text;
-    while let Some(behind) = append_formal(to, rest) {
-        rest = behind;
+    while let Some(following) = append_formal(to, rest) {
+        rest = following;
     }
 }

@@ -50,7 +50,7 @@ pub(crate) fn leading_name(bytes: &[u8]) -> &[u8]
 }
 
 // The text of a formal list, behind its `(`, where one follows the name at once.
-pub(crate) fn list_behind(after: &[u8]) -> Option<&[u8]>
+pub(crate) fn list_after(after: &[u8]) -> Option<&[u8]>
     ensures { MatchOption result (formal_list (joined true after.now) ≡ Listed None (joined true after.now)) (λ list. formal_list (joined true after.now) ≡ formals_of_list (joined true list.now)) }
 {
     match split_first(after, true) {

@@ -8,7 +8,7 @@ ghost use Rattle.rdlpp_table.specs.Table.{formal_bytes};
 ghost use Rattle.rdlpp_table.specs.View.{formal_at, formal_named};
 
 use crate::stored::{
-    SHAPES, behind_formal, default_in_list, formal_name, name_len, place_in_list, shape,
+    SHAPES, after_formal, default_in_list, formal_name, name_len, place_in_list, shape,
 };
 
 // How many bytes each formal takes, on average, where it is kept where they begin.
@@ -57,7 +57,7 @@ pub(crate) fn push_offsets(formal_offsets: &mut Vec<u16>, list: &[u8], count: us
     let mut rest = list;
     for _ in 0..count {
         push_offset(formal_offsets, list.len() - rest.len());
-        rest = behind_formal(rest, name_len(rest));
+        rest = after_formal(rest, name_len(rest));
     }
 }
 
@@ -103,7 +103,7 @@ pub(crate) fn shapes(formals: &StoredFormals) -> [bool; SHAPES]
         for _ in 0..formals.count {
             let name = formal_name(rest);
             told[shape(name)] = true;
-            rest = behind_formal(rest, name.len());
+            rest = after_formal(rest, name.len());
         }
     }
     told

@@ -2,7 +2,7 @@
 ghost use Rattle.std.specs.Prelude.{◌≡◌, ◌+◌, ◌-◌, ◌*◌, ◌<◌, ◌≤◌, ◌++◌, ◌^◌, drop, length, map, remove, slice_range, take, vec_len, vec_capacity, bytes_eq, is_some, nat_le, nat_lt, ◌&&◌, ◌||◌};
 ghost use Rattle.rdlpp_table.specs.Table.{macro_named, without};
 ghost use Rattle.std.specs.List.{remove_range, IsDistinct};
-ghost use Rattle.rdlpp_table.specs.Entries.{moved_down, moved_up, AreBehind, AreLow};
+ghost use Rattle.rdlpp_table.specs.Entries.{moved_down, moved_up, AreAfter, AreLow};
 ghost use Rattle.rdlpp_table.specs.Index.{names_of, IsGap, IsIndexed};
 ghost use Rattle.rdlpp_table.specs.FormalOffsets.{table_offsets};
 ghost use Rattle.rdlpp_table.specs.Store.{live, macros_in, IsStored};
@@ -28,7 +28,7 @@ fn move_down(entry: &mut Entry, size: usize, formal_offsets: usize)
 // entries is read once.
 fn draw_down(entries: &mut [Entry], by: usize, size: usize, formal_offsets: usize)
     requires some { by ≤ length entries.old }
-    requires behind { AreBehind size formal_offsets (drop by entries.old) }
+    requires following { AreAfter size formal_offsets (drop by entries.old) }
     ensures { entries.new ≡ map (moved_down size formal_offsets) (drop by entries.old) ++ drop (length entries.old - by) entries.old }
 {
     for at in 0..entries.len() - by {
@@ -40,7 +40,7 @@ fn draw_down(entries: &mut [Entry], by: usize, size: usize, formal_offsets: usiz
 // Takes out the entry at a place; the bytes and the offsets of those behind it were moved so much further to the front.
 fn take_entry(entries: &mut Vec<Entry>, place: usize, size: usize, formal_offsets: usize)
     requires place { place < vec_len entries.old }
-    requires behind { AreBehind size formal_offsets (drop place (remove entries.old.items place)) }
+    requires following { AreAfter size formal_offsets (drop place (remove entries.old.items place)) }
     ensures items { entries.new.items ≡ take place (remove entries.old.items place) ++ map (moved_down size formal_offsets) (drop place (remove entries.old.items place)) }
     ensures len { vec_len entries.new + 1 ≡ vec_len entries.old }
     ensures capacity { vec_capacity entries.new ≡ vec_capacity entries.old }
@@ -158,8 +158,8 @@ fn take_stored(bytes: &mut Vec<u8>, entries: &mut Vec<Entry>, front: &mut GivenU
     let formal_offsets = offsets_len(&entry);
     let start = entry.start as usize;
     let before = (start - front.bytes) + ENTRY_BYTES * place;
-    let behind = (bytes.len() - (start + size)) + ENTRY_BYTES * (entries.len() - (at + 1));
-    if before < behind / 3 && has_room(bytes, entries, front, size) {
+    let following = (bytes.len() - (start + size)) + ENTRY_BYTES * (entries.len() - (at + 1));
+    if before < following / 3 && has_room(bytes, entries, front, size) {
         cover(bytes, front.bytes, start, size);
         cover_entry(entries, front.entries, place, size, formal_offsets);
         front.bytes += size;

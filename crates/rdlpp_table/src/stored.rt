@@ -5,7 +5,7 @@ ghost use Rattle.rdlpp_table.specs.Shapes.{shape};
 ghost use Rattle.rdlpp_table.specs.Store.{formal_read, formals_read, is_name_byte};
 ghost use Rattle.rdlpp_table.specs.View.{formal_at, formal_named};
 
-use rdlpp_lines::behind_default;
+use rdlpp_lines::after_default;
 use rdlpp_scan::byte_at;
 
 // How many shapes names have.
@@ -34,7 +34,7 @@ fn after_first(bytes: &[u8]) -> &[u8]
 }
 
 // The name of the formal with which bytes begin.
-#[tactic(auto, unfolding(crate::specs::Store::formal_read, crate::specs::Store::formal_behind))]
+#[tactic(auto, unfolding(crate::specs::Store::formal_read, crate::specs::Store::formal_after))]
 pub(crate) fn formal_name(bytes: &[u8]) -> &[u8]
     ensures name { result.now ≡ (formal_read bytes.now).formal.name }
     ensures len { length result.now ≡ prefix_len is_name_byte bytes.now }
@@ -44,14 +44,14 @@ pub(crate) fn formal_name(bytes: &[u8]) -> &[u8]
 }
 
 // The default text of the formal with which bytes begin.
-#[tactic(auto, unfolding(crate::specs::Store::formal_read, crate::specs::Store::formal_behind, crate::specs::Store::behind_stored))]
+#[tactic(auto, unfolding(crate::specs::Store::formal_read, crate::specs::Store::formal_after, crate::specs::Store::after_stored))]
 fn formal_text(bytes: &[u8]) -> &[u8]
     ensures { result.now ≡ (formal_read bytes.now).formal.text }
 {
     let rest = &bytes[name_len(bytes)..];
     let text = after_first(rest);
     if rest.first().copied().unwrap_or(0) == b'=' {
-        &text[..text.len() - behind_default(text).len()]
+        &text[..text.len() - after_default(text).len()]
     } else {
         &[]
     }
@@ -59,16 +59,16 @@ fn formal_text(bytes: &[u8]) -> &[u8]
 
 // What stands behind the comma of the formal with which bytes begin, whose name has so many bytes.
 #[inline(always)]
-#[tactic(auto, unfolding(crate::specs::Store::formal_read, crate::specs::Store::formal_behind, crate::specs::Store::behind_stored))]
-pub(crate) fn behind_formal(bytes: &[u8], name_len: usize) -> &[u8]
+#[tactic(auto, unfolding(crate::specs::Store::formal_read, crate::specs::Store::formal_after, crate::specs::Store::after_stored))]
+pub(crate) fn after_formal(bytes: &[u8], name_len: usize) -> &[u8]
     requires len { name_len ≡ prefix_len is_name_byte bytes.now }
     requires inside { name_len ≤ length bytes.now }
-    ensures { result.now ≡ (formal_read bytes.now).behind }
+    ensures { result.now ≡ (formal_read bytes.now).following }
 {
     let rest = &bytes[name_len..];
     let text = after_first(rest);
     if rest.first().copied().unwrap_or(0) == b'=' {
-        after_first(behind_default(text))
+        after_first(after_default(text))
     } else {
         text
     }
@@ -84,7 +84,7 @@ pub(crate) fn place_in_list(bytes: &[u8], count: usize, name: &[u8]) -> Option<u
         if found == name {
             return Some(place);
         }
-        rest = behind_formal(rest, found.len());
+        rest = after_formal(rest, found.len());
     }
     None
 }
@@ -96,7 +96,7 @@ pub(crate) fn default_in_list(bytes: &[u8], count: usize, place: usize) -> &[u8]
 {
     let mut rest = bytes;
     for _ in 0..place {
-        rest = behind_formal(rest, name_len(rest));
+        rest = after_formal(rest, name_len(rest));
     }
     formal_text(rest)
 }

@@ -16,7 +16,7 @@ use crate::entry::{Entry, arity_in, body_in, listed_in, name_in};
 use crate::fault::{DefineFault, DefineKind, NoMemory, lexical, refusal};
 use crate::formals::read_list;
 use crate::given_up::{GivenUp, live};
-use crate::header::{after_space, leading_name, list_behind, unended};
+use crate::header::{after_space, leading_name, list_after, unended};
 use crate::index::place_in;
 use crate::point_cache::cached_point;
 use crate::limits::Limits;
@@ -422,11 +422,11 @@ impl Table {
         ensures refused { OnErr result (self.new ≡ self.old) }
         ensures limits { (self.new.most_bytes ≡ self.old.most_bytes) × (self.new.most_macros ≡ self.old.most_macros) }
     {
-        let Some(text) = list_behind(after) else {
+        let Some(text) = list_after(after) else {
             return self.store_body(name, None, &[], 0, true, after);
         };
         match read_list(text) {
-            Ok(read) => self.store_body(name, Some(read.count), text, read.size, true, read.behind),
+            Ok(read) => self.store_body(name, Some(read.count), text, read.size, true, read.following),
             Err(kind) => Err(refusal(kind)),
         }
     }

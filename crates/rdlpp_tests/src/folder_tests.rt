@@ -69,7 +69,7 @@ fn searches_the_folders_in_order(rt: HostRuntime) -> Result<(), Fail> {
 fn tells_what_is_not_there(rt: HostRuntime) -> Result<(), Fail> {
     let folder = scratch(&rt, "absent")?;
     let main = write_file(&rt, folder.as_str(), "m", b"main")?;
-    let behind = format!(in rt.alloc(); "{main}/i")?;
+    let following = format!(in rt.alloc(); "{main}/i")?;
     let missing = format!(in rt.alloc(); "{folder}/none/i")?;
     let split = format!(in rt.alloc(); "{main}\n")?;
     let mut long = String::new(rt.alloc());
@@ -79,7 +79,7 @@ fn tells_what_is_not_there(rt: HostRuntime) -> Result<(), Fail> {
     let mut folders = Folders::new(&rt, rt.alloc(), &[])?;
     for (path, fault) in [
         (main, None),
-        (behind, Some(SourceFault::Device)),
+        (following, Some(SourceFault::Device)),
         (missing, Some(SourceFault::Absent)),
         (split, Some(SourceFault::Absent)),
         (long, Some(SourceFault::PathTooLong)),

@@ -73,7 +73,7 @@ fn output_of<R: Abort + AllocGlobal>(
 
 // Each search fails once, that for the main text first.
 #[test]
-fn goes_on_behind_each_search_that_failed(rt: HostRuntime) -> Result<(), Fail> {
+fn goes_on_after_each_search_that_failed(rt: HostRuntime) -> Result<(), Fail> {
     let files: [(&str, &[u8]); 4] = [
         ("m", b"a\n`include \"i\"\nb`include \"k\"\n`include \"i\"c"),
         ("i", b"q\n`include \"j\""),

@@ -63,7 +63,7 @@ fn takes_a_text_of_every_byte(rt: HostRuntime) {
     ];
     expect_tokens(&rt, &text, &to_quote);
     assert_eq!(rt; lex_fault(&text), Some(LexFault::OpenString));
-    let behind_quote = [
+    let after_quote = [
         (Kind::Other, 1, 5),
         (Kind::Opener, 1, 1),
         (Kind::Closer, 1, 1),
@@ -84,7 +84,7 @@ fn takes_a_text_of_every_byte(rt: HostRuntime) {
         (Kind::Closer, 1, 1),
         (Kind::Other, 1, 130),
     ];
-    expect_tokens(&rt, &text[35..], &behind_quote);
+    expect_tokens(&rt, &text[35..], &after_quote);
     assert_eq!(rt; lex_fault(&text[35..]), None);
     assert_eq!(rt; plain_text_len(&text), 34);
     assert_eq!(rt; line_ends_in(&text), 1);

@@ -9,14 +9,14 @@ use Rattle.std.proofs.lemmas.List.Elements.{All-cons, All-drop, All-head, All-ni
 use Rattle.std.proofs.lemmas.Slice.{between_to_end}
 use Rattle.rdlpp_scan.specs.SourceTokens.{SourceToken}
 use Rattle.rdlpp_table.specs.Table.{Formal, Macro}
-use Rattle.rdlpp_meaning.specs.Actuals.{Bound as CallBound, Call, Cut, CallFault, Role, actual_of, behind_space, is_space, level_behind, not_kept, text_reads, token_role, trimmed}
+use Rattle.rdlpp_meaning.specs.Actuals.{Bound as CallBound, Call, Cut, CallFault, Role, actual_of, after_leading_space, is_space, level_after, not_kept, text_reads, token_role, trimmed}
 use Rattle.rdlpp_meaning.specs.CallScan.{Closed, Split, all_parts, call_of, call_of_scan, is_kept, split, split_by}
 use Rattle.rdlpp_meaning.specs.Expansion.{Opens, UsageFault, bound_parts, bytes_of, is_count, usage_of_call, usage_of_formals}
 use Rattle.rdlpp_meaning.specs.Opens.{part_tokens}
 use Rattle.rdlpp_meaning.specs.State.{Rules}
 use Rattle.rdlpp_meaning.specs.Substitution.{body_tokens}
 use Rattle.rdlpp_meaning.specs.declared.fault.FaultKind.TheVariants.{ArgumentCount, ArgumentsMissing, ArgumentsOpen}
-use Rattle.rdlpp_meaning.proofs.OpenScopes.{range_behind}
+use Rattle.rdlpp_meaning.proofs.OpenScopes.{range_after}
 use Rattle.rdlpp_meaning.proofs.KeptTexts.{body_text}
 use Rattle.rdlpp_meaning.proofs.SourceCalls.{actuals-body}
 use Rattle.rdlpp_texts.specs.BoundCalls.{AreWithin, IsBound, IsBoundAt, IsBoundCall, IsBoundTo, IsMiscounted, IsOpen, KeepsAll, actuals_of, added, range_part, ranges_tokens, usage_in}
@@ -342,18 +342,18 @@ split_keeps : (P : SourceToken → Type 0) (k : ℕ) (xs : List SourceToken) →
 unfolding split
 split_keeps P k [] all = (All-nil P, tt)
 split_keeps P k (x ∷ xs) all =
-    let rest = split_keeps P (level_behind (token_role x) k) xs (All-tail P x xs all) in
-    by_keeps P (token_role x) k x (split token_role (level_behind (token_role x) k) xs) (All-head P x xs all) rest.0 rest.1
+    let rest = split_keeps P (level_after (token_role x) k) xs (All-tail P x xs all) in
+    by_keeps P (token_role x) k x (split token_role (level_after (token_role x) k) xs) (All-head P x xs all) rest.0 rest.1
 
 -- and of those that are left of trimming
 trimmed_keeps : (P : SourceToken → Type 0) (xs : List SourceToken) → All P xs → All P (trimmed token_role xs)
-unfolding behind_space
+unfolding after_leading_space
 trimmed_keeps P xs all =
-    let behind = behind_space token_role xs in
-    let left : All P behind = All-drop P (prefix_len (λ x. is_space (token_role x)) xs) xs all in
-    let h = has_solid token_role behind in
+    let following = after_leading_space token_role xs in
+    let left : All P following = All-drop P (prefix_len (λ x. is_space (token_role x)) xs) xs all in
+    let h = has_solid token_role following in
     subst (λ (ys : List SourceToken). All P ys) (sym (trimmed_is token_role xs))
-    (front_all P (solid token_role behind) h.tail (subst (λ (ys : List SourceToken). All P ys) h.whole left))
+    (front_all P (solid token_role following) h.tail (subst (λ (ys : List SourceToken). All P ys) h.whole left))
 
 -- so of each trimmed part
 parts_keep : (P : SourceToken → Type 0) (parts : List (List SourceToken)) → AllByRecursion (All P) parts → AllByRecursion (All P) (map (trimmed token_role) parts)
@@ -376,7 +376,7 @@ actuals_keep text all = keeps_each_part (body_tokens text) all
 kept_inner : (ts : List SourceToken) (level : ℕ) → inner_tokens false level ts ≡ ts
 unfolding inner_tokens ends_text
 kept_inner [] level = refl
-kept_inner (t ∷ ts) level = ap (λ (us : List SourceToken). t ∷ us) (kept_inner ts (level_behind (token_role t) level))
+kept_inner (t ∷ ts) level = ap (λ (us : List SourceToken). t ∷ us) (kept_inner ts (level_after (token_role t) level))
 
 pub kept_actuals : (text : List ℕ) → actuals_in false text ≡ actuals_of text
 unfolding actuals_in actuals_of
@@ -452,27 +452,27 @@ pub record IsOpenedAt (text : List ℕ) (at end len : ℕ) : Type 0 where
   pub inside : len ≤ length (slice_range text at end)
 
 -- the text behind its `(`, in the front of the text and in the part
-record IsBehind (text : List ℕ) (at end len : ℕ) : Type 0 where
+record IsAfter (text : List ℕ) (at end len : ℕ) : Type 0 where
   fits : at + len ≤ end
   rest : drop (at + len) (take end text) ≡ drop len (slice_range text at end)
   size : length (drop len (slice_range text at end)) ≡ end - (at + len)
   front : length (take end text) ≡ end
 
-behind_opener : (text : List ℕ) (at end len : ℕ) → IsOpenedAt text at end len → IsBehind text at end len
-behind_opener text at end len o =
+after_opener : (text : List ℕ) (at end len : ℕ) → IsOpenedAt text at end len → IsAfter text at end len
+after_opener text at end len o =
     let part = length-take (end - at) (drop at text) in
     let left = length-drop at text in
     let high = o.high in
     let fits : at + len ≤ end = let i = o.inside in let l = o.low in omega (arith, i, part, left, high, l) in
     let whole : end ≡ (at + len) + (end - (at + len)) = omega (arith, fits) in
-    let behind = length-drop len (slice_range text at end) in
+    let following = length-drop len (slice_range text at end) in
     let front = length-take end text in
     record {
       fits = fits;
       rest = ap (λ (n : ℕ). drop (at + len) (take n text)) whole
           ∙ drop-take (at + len) (end - (at + len)) text
-          ∙ sym (range_behind text at end len (omega (arith, fits)));
-      size = omega (arith, behind, part, left, high, fits);
+          ∙ sym (range_after text at end len (omega (arith, fits)));
+      size = omega (arith, following, part, left, high, fits);
       front = omega (arith, front, high);
     }
 
@@ -488,7 +488,7 @@ pub unclosed : (text : List ℕ) (at end formals len : ℕ) (old new ranges : Li
     → IsBoundCall text at end formals ranges (Err ArgumentsOpen)
 unfolding IsBoundCall usage_of_call
 unclosed text at end formals len old new ranges o b = λ rules line name m fs is.
-    let h = behind_opener text at end len o in
+    let h = after_opener text at end len o in
     let full = b.end ∙ h.front in
     let same = ap (inner_size true) h.rest in
     ⊎_elim (λ u. usage_by_call rules line name m fs text at end (CallFault ArgumentsOpen) u.call)
@@ -499,7 +499,7 @@ pub miscounted : (text : List ℕ) (at end formals len : ℕ) (old new ranges : 
     → KeepsAll (body_tokens (slice_range text at end)) → IsBoundCall text at end formals ranges (Err ArgumentCount)
 unfolding IsBoundCall
 miscounted text at end formals len old new ranges o b all = λ rules line name m fs is.
-    let h = behind_opener text at end len o in
+    let h = after_opener text at end len o in
     let less = b.closed refl in
     let same = ap (inner_size true) h.rest in
     let front = h.front in
@@ -517,8 +517,8 @@ bound text at end formals len to ranges o b all =
     W : List ℕ
     W = slice_range text at end
 
-    h : IsBehind text at end len
-    h = behind_opener text at end len o
+    h : IsAfter text at end len
+    h = after_opener text at end len o
 
     less : to < end
     less = let i = b.closed refl in let front = h.front in omega (arith, i, front)
@@ -538,8 +538,8 @@ bound text at end formals len to ranges o b all =
         let place = b.end in
         let after : at + (len + inner_size true (drop len W) + 1) ≡ to + 1 = omega (arith, place, same) in
         let later : drop c.used (body_tokens W) ≡ body_tokens (slice_range text (to + 1) end) =
-        c.behind
-        ∙ ap body_tokens (range_behind text at end (len + inner_size true (drop len W) + 1) (omega (arith, less, after)))
+        c.following
+        ∙ ap body_tokens (range_after text at end (len + inner_size true (drop len W) + 1) (omega (arith, less, after)))
         ∙ ap (λ (n : ℕ). body_tokens (slice_range text n end)) after in
         let fs = replicate formals (record { name = []; text = [] }) in
         let long = length-replicate formals (record { name = []; text = [] }) in
@@ -552,10 +552,10 @@ bound text at end formals len to ranges o b all =
           opens = λ rules line name m fs n.
               usage_closed rules line name m fs text at end len c true all (count fs n)
               ∙ ap (λ (xs : List (List SourceToken)). Opens m xs c.used) (actuals fs n);
-          behind_is = later;
+          after_is = later;
           keeps = ranges_keep text ranges (subst (λ (xs : List (List SourceToken)). AllByRecursion KeepsAll xs) (actuals fs long)
               (all_bound KeepsAll fs (actuals_in true (drop len W)) (keeps_each_part (inner_tokens true 0 (body_tokens (drop len W))) kept)));
-          keeps_behind = subst (λ (ts : List SourceToken). All P ts) later (All-drop P c.used (body_tokens W) all);
+          keeps_after = subst (λ (ts : List SourceToken). All P ts) later (All-drop P c.used (body_tokens W) all);
           count = omega (arith, long, many, ranged);
         }
 
@@ -563,7 +563,7 @@ bound text at end formals len to ranges o b all =
 pub bound_place : (text : List ℕ) (at end formals len to : ℕ) (ranges : List Range) → IsOpenedAt text at end len → IsBoundTo true (take end text) (at + len) formals ranges to
     → (at ≤ to + 1) × (to + 1 ≤ end)
 bound_place text at end formals len to ranges o b =
-    let h = behind_opener text at end len o in
+    let h = after_opener text at end len o in
     let front = h.front in
     let inside = b.closed refl in
     let place = b.end in

@@ -11,16 +11,16 @@ use Rattle.rdlpp_scan.specs.declared.token.Kind.TheVariants.{Closer, Opener}
 use Rattle.rdlpp_scan.specs.declared.token.Mode.{Mode}
 use Rattle.rdlpp_scan.specs.declared.token.Mode.TheVariants.{Plain}
 use Rattle.rdlpp_scan.specs.declared.token.Token.{Token}
-use Rattle.rdlpp_meaning.specs.Actuals.{Down, Dropped, End, Ends, Halt, CallFault, KeptComment, Role, Space, Start, Stops, Up, kept_size, kind_role, level_behind, not_kept, token_role}
-use Rattle.rdlpp_meaning.specs.CallScan.{Before, Closed, Closes, Inside, Keeps, Passes, ScanFault, Scanned, CallState, Turn, call_of, call_of_scan, fault_at_end, is_call_text, is_kept, room_behind, scan, scan_onto, scanned, call_state_behind, call_state_behind_lead, turn, turn_before, turn_fitting, turn_inside}
+use Rattle.rdlpp_meaning.specs.Actuals.{Down, Dropped, End, Ends, Halt, CallFault, KeptComment, Role, Space, Start, Stops, Up, kept_size, kind_role, level_after, not_kept, token_role}
+use Rattle.rdlpp_meaning.specs.CallScan.{Before, Closed, Closes, Inside, Keeps, Passes, ScanFault, Scanned, CallState, Turn, call_of, call_of_scan, fault_at_end, is_call_text, is_kept, room_after, scan, scan_onto, scanned, call_state_after, call_state_after_lead, turn, turn_before, turn_fitting, turn_inside}
 use Rattle.rdlpp_meaning.specs.Expansion.{bytes_of}
 use Rattle.rdlpp_meaning.specs.Substitution.{body_tokens, spelled}
 use Rattle.rdlpp_meaning.specs.TextTokens.{text_tokens}
 use Rattle.rdlpp_meaning.specs.declared.fault.FaultKind.{FaultKind}
 use Rattle.rdlpp_meaning.specs.declared.fault.FaultKind.TheVariants.{ArgumentsMissing, ArgumentsOpen}
-use Rattle.rdlpp_meaning.proofs.ReadCalls.{behind_cut}
+use Rattle.rdlpp_meaning.proofs.ReadCalls.{after_cut}
 use Rattle.rdlpp_meaning.proofs.LiteralSubstitution.{body_covered}
-use Rattle.rdlpp_meaning.proofs.KeptTexts.{body_text, closes_text, first_spelled, is_one_role, text_behind, text_cut, text_one, text_step}
+use Rattle.rdlpp_meaning.proofs.KeptTexts.{body_text, closes_text, first_spelled, is_one_role, text_after, text_cut, text_one, text_step}
 use Rattle.rdlpp_texts.specs.CallParts.{ends_call, ends_text, inner_size, inner_tokens, opener_by, opener_from}
 
 -- Where the parentheses of a call stand in a text is where its scan opens and closes.
@@ -67,8 +67,8 @@ pub record IsLed (at n : ℕ) (ts : List SourceToken) : Type 0 where
 -- where no `(` follows, by the role of the first token
 none_by : (r : Role) (t : SourceToken) (here : ℕ) (found : Option ℕ) (s : CallState → Scanned SourceToken) → is_call_text r ≡ true
     → (found ≡ None → s Before ≡ ScanFault ArgumentsMissing) → opener_by r here found ≡ None
-    → scanned (turn_before r) t (s (call_state_behind_lead r)) ≡ ScanFault ArgumentsMissing
-unfolding opener_by scanned turn_before call_state_behind_lead is_call_text scan_onto
+    → scanned (turn_before r) t (s (call_state_after_lead r)) ≡ ScanFault ArgumentsMissing
+unfolding opener_by scanned turn_before call_state_after_lead is_call_text scan_onto
 none_by Space t here found s text rest e = ap (scan_onto []) (rest e)
 none_by Dropped t here found s text rest e = ap (scan_onto []) (rest e)
 none_by KeptComment t here found s text rest e = ap (scan_onto []) (rest e)
@@ -79,7 +79,7 @@ none_by r t here found s text rest e = refl
 -- where no `(` follows, arguments are missing
 pub opener_none : (ts : List SourceToken) (at room : ℕ) → All (λ t. is_call_text (token_role t) ≡ true) ts → opener_from at ts ≡ None
     → scan token_role not_kept Before room ts ≡ ScanFault ArgumentsMissing
-unfolding opener_from scan fault_at_end turn call_state_behind room_behind
+unfolding opener_from scan fault_at_end turn call_state_after room_after
 opener_none [] at room all e = refl
 opener_none (t ∷ ts) at room all e =
     let P : SourceToken → Type 0 = λ u. is_call_text (token_role u) ≡ true in
@@ -88,9 +88,9 @@ opener_none (t ∷ ts) at room all e =
 
 -- the scan before the `(` at a token, by its role
 scan_before : (room : ℕ) (t : SourceToken) (ts : List SourceToken) (r : Role) → token_role t ≡ r
-    → scan token_role not_kept Before room (t ∷ ts) ≡ scanned (turn_before r) t (scan token_role not_kept (call_state_behind_lead r) room ts)
-unfolding scan turn call_state_behind room_behind
-scan_before room t ts r e = ap (λ (q : Role). scanned (turn_before q) t (scan token_role not_kept (call_state_behind_lead q) room ts)) e
+    → scan token_role not_kept Before room (t ∷ ts) ≡ scanned (turn_before r) t (scan token_role not_kept (call_state_after_lead r) room ts)
+unfolding scan turn call_state_after room_after
+scan_before room t ts r e = ap (λ (q : Role). scanned (turn_before q) t (scan token_role not_kept (call_state_after_lead q) room ts)) e
 
 -- a token in front of such a front of a call
 led : (t : SourceToken) (ts : List SourceToken) (at n : ℕ) → ((room : ℕ) → scan token_role not_kept Before room (t ∷ ts) ≡ scan_onto [] (scan token_role not_kept Before room ts))
@@ -111,7 +111,7 @@ led t ts at n step c =
 -- the front of a call by the role of the first token
 led_by : (r : Role) (t : SourceToken) (ts : List SourceToken) (at n : ℕ) (found : Option ℕ) → token_role t ≡ r
     → (found ≡ Some n → IsLed (at + length t.bytes) n ts) → opener_by r (at + length t.bytes) found ≡ Some n → IsLed at n (t ∷ ts)
-unfolding opener_by passing turn_before call_state_behind_lead scanned
+unfolding opener_by passing turn_before call_state_after_lead scanned
 led_by Space t ts at n found is rest e = led t ts at n (λ room. scan_before room t ts Space is) (rest e)
 led_by Dropped t ts at n found is rest e = led t ts at n (λ room. scan_before room t ts Dropped is) (rest e)
 led_by KeptComment t ts at n found is rest e = led t ts at n (λ room. scan_before room t ts KeptComment is) (rest e)
@@ -150,11 +150,11 @@ turn_text r k e = refl
 scan_inside : (k room : ℕ) (t : SourceToken) (ts : List SourceToken) → is_call_text (token_role t) ≡ true
     → scan token_role not_kept (Inside k) room (t ∷ ts)
     ≡ scanned (cond (ends_call (token_role t) k) Closes (cond (is_kept (token_role t)) Keeps Passes)) t
-    (scan token_role not_kept (Inside (level_behind (token_role t) k)) (room - kept_size (token_role t) 0) ts)
-unfolding scan turn call_state_behind room_behind not_kept
+    (scan token_role not_kept (Inside (level_after (token_role t) k)) (room - kept_size (token_role t) 0) ts)
+unfolding scan turn call_state_after room_after not_kept
 scan_inside k room t ts text =
     let r = token_role t in
-    let rest = scan token_role not_kept (Inside (level_behind r k)) (room - kept_size r 0) ts in
+    let rest = scan token_role not_kept (Inside (level_after r k)) (room - kept_size r 0) ts in
     let fits : nat_le 0 room ≡ true = grind (arith, nat_tests) in
     ap (λ b. scanned (turn_inside r k b) t rest) fits ∙ ap (λ (q : Turn). scanned q t rest) (turn_text r k text)
 
@@ -194,18 +194,18 @@ closed_front false t ks n = let e : suc (n + 1) ≡ suc n + 1 = omega arith in a
 
 -- a call, by whether the first token is its `)`
 ended_by : (ends : Bool) (t : SourceToken) (ts : List SourceToken) (k : ℕ) → ends_call (token_role t) k ≡ ends → is_call_text (token_role t) ≡ true
-    → IsUnclosed (level_behind (token_role t) k) ts ⊎ IsEnded (level_behind (token_role t) k) ts → IsUnclosed k (t ∷ ts) ⊎ IsEnded k (t ∷ ts)
+    → IsUnclosed (level_after (token_role t) k) ts ⊎ IsEnded (level_after (token_role t) k) ts → IsUnclosed k (t ∷ ts) ⊎ IsEnded k (t ∷ ts)
 unfolding inner_tokens ends_text scanned
 ended_by true t ts k is text rest =
     let r = token_role t in
-    let none : inner_tokens true k (t ∷ ts) ≡ [] = ap (λ (b : Bool). cond b [] (t ∷ inner_tokens true (level_behind r k) ts)) is in
+    let none : inner_tokens true k (t ∷ ts) ≡ [] = ap (λ (b : Bool). cond b [] (t ∷ inner_tokens true (level_after r k) ts)) is in
     inr (record {
       closer = t;
       rest = ts;
       whole = sym (ap (λ (us : List SourceToken). us ++ t ∷ ts) none);
       closes = ends_is r k is;
       scans = λ room. scan_inside k room t ts text
-          ∙ ap (λ b. scanned (cond b Closes (cond (is_kept r) Keeps Passes)) t (scan token_role not_kept (Inside (level_behind r k)) (room - kept_size r 0) ts)) is
+          ∙ ap (λ b. scanned (cond b Closes (cond (is_kept r) Keeps Passes)) t (scan token_role not_kept (Inside (level_after r k)) (room - kept_size r 0) ts)) is
           ∙ sym (ap (λ (us : List SourceToken). Closed (filter (λ u. is_kept (token_role u)) us) (length us + 1)) none);
     })
 ended_by false t ts k is text rest = ⊎_elim unclosed closed rest
@@ -214,23 +214,23 @@ ended_by false t ts k is text rest = ⊎_elim unclosed closed rest
     r = token_role t
 
     inner : List SourceToken
-    inner = inner_tokens true (level_behind r k) ts
+    inner = inner_tokens true (level_after r k) ts
 
     more : inner_tokens true k (t ∷ ts) ≡ t ∷ inner
     more = ap (λ (b : Bool). cond b [] (t ∷ inner)) is
 
     step : (room : ℕ) → scan token_role not_kept (Inside k) room (t ∷ ts)
-        ≡ scanned (cond (is_kept r) Keeps Passes) t (scan token_role not_kept (Inside (level_behind r k)) (room - kept_size r 0) ts)
+        ≡ scanned (cond (is_kept r) Keeps Passes) t (scan token_role not_kept (Inside (level_after r k)) (room - kept_size r 0) ts)
     step room = scan_inside k room t ts text
-        ∙ ap (λ b. scanned (cond b Closes (cond (is_kept r) Keeps Passes)) t (scan token_role not_kept (Inside (level_behind r k)) (room - kept_size r 0) ts)) is
+        ∙ ap (λ b. scanned (cond b Closes (cond (is_kept r) Keeps Passes)) t (scan token_role not_kept (Inside (level_after r k)) (room - kept_size r 0) ts)) is
 
-    unclosed : IsUnclosed (level_behind r k) ts → IsUnclosed k (t ∷ ts) ⊎ IsEnded k (t ∷ ts)
+    unclosed : IsUnclosed (level_after r k) ts → IsUnclosed k (t ∷ ts) ⊎ IsEnded k (t ∷ ts)
     unclosed u = inl (record {
       all = more ∙ ap (λ (us : List SourceToken). t ∷ us) u.all;
       scans = λ room. step room ∙ ap (scanned (cond (is_kept r) Keeps Passes) t) (u.scans (room - kept_size r 0)) ∙ refused_front (is_kept r) t;
     })
 
-    closed : IsEnded (level_behind r k) ts → IsUnclosed k (t ∷ ts) ⊎ IsEnded k (t ∷ ts)
+    closed : IsEnded (level_after r k) ts → IsUnclosed k (t ∷ ts) ⊎ IsEnded k (t ∷ ts)
     closed c = inr (record {
       closer = c.closer;
       rest = c.rest;
@@ -248,7 +248,7 @@ unfolding inner_tokens scan fault_at_end
 ended [] k all = inl (record { all = refl; scans = λ room. refl })
 ended (t ∷ ts) k all =
     let P : SourceToken → Type 0 = λ u. is_call_text (token_role u) ≡ true in
-    ended_by (ends_call (token_role t) k) t ts k refl (All-head P t ts all) (ended ts (level_behind (token_role t) k) (All-tail P t ts all))
+    ended_by (ends_call (token_role t) k) t ts k refl (All-head P t ts all) (ended ts (level_after (token_role t) k) (All-tail P t ts all))
 
 -- all tokens may stand between the parentheses of a call
 AllText : List SourceToken → Type 0
@@ -271,7 +271,7 @@ unfolding closes_text
 opened text from e =
     let c = opener_some (body_tokens text) 0 from e in
     let closed : closes_text (token_role c.opener) ≡ true = ap closes_text c.opens in
-    let b = text_behind Plain text c.lead c.opener c.rest (sym (body_text text) ∙ c.whole) closed in
+    let b = text_after Plain text c.lead c.opener c.rest (sym (body_text text) ∙ c.whole) closed in
     let place : from ≡ length (bytes_of c.lead) + length c.opener.bytes = let p = c.place in omega arith in
     record {
       led = c;
@@ -338,7 +338,7 @@ pub record IsClosedAt (text : List ℕ) (from : ℕ) : Type 0 where
   pub used : ℕ
   pub call : (room : ℕ) → call_of token_role not_kept room (body_tokens text)
       ≡ call_of_scan token_role 0 (Closed (filter (λ t. is_kept (token_role t)) (inner_tokens true 0 (body_tokens (drop from text)))) used)
-  pub behind : drop used (body_tokens text) ≡ body_tokens (drop (from + inner_size true (drop from text) + 1) text)
+  pub following : drop used (body_tokens text) ≡ body_tokens (drop (from + inner_size true (drop from text) + 1) text)
   pub keeps : filter (λ t. is_kept (token_role t)) (body_tokens text) ≡ body_tokens text
       → filter (λ t. is_kept (token_role t)) (inner_tokens true 0 (body_tokens (drop from text))) ≡ inner_tokens true 0 (body_tokens (drop from text))
   pub own : body_tokens (bytes_of (inner_tokens true 0 (body_tokens (drop from text)))) ≡ inner_tokens true 0 (body_tokens (drop from text))
@@ -368,7 +368,7 @@ closed_at text from o c =
     let used = length lead + (length inner + 2) in
     let whole = sym (body_text T) ∙ c.whole in
     let cut = text_cut Plain T inner (c.closer ∷ c.rest) whole in
-    let b = text_behind Plain T inner c.closer c.rest whole (ap closes_text c.closes) in
+    let b = text_after Plain T inner c.closer c.rest whole (ap closes_text c.closes) in
     let one : length c.closer.bytes ≡ 1 = text_one Plain T inner c.closer c.rest whole (ap is_one_role c.closes) in
     let count : suc (length lead) + (length inner + 1) ≡ used = omega arith in
     let place : length (bytes_of inner) + length c.closer.bytes + from ≡ from + length (bytes_of inner) + 1 = omega (arith, one) in
@@ -383,9 +383,9 @@ closed_at text from o c =
           ∙ ap (passing (suc (length lead))) (c.scans room)
           ∙ passing_closed (suc (length lead)) kept (length inner + 1)
           ∙ ap (λ (n : ℕ). Closed kept n) count);
-      behind =
+      following =
           ap (drop used) all
-          ∙ behind_cut lead o.led.opener inner c.closer c.rest
+          ∙ after_cut lead o.led.opener inner c.closer c.rest
           ∙ sym b.0
           ∙ ap (λ (x : List ℕ). text_tokens Plain x) (drop-drop (length (bytes_of inner) + length c.closer.bytes) from text)
           ∙ ap (λ (n : ℕ). text_tokens Plain (drop n text)) (sum from (length (bytes_of inner) + length c.closer.bytes) ∙ place)

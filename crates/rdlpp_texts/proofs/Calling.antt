@@ -16,7 +16,7 @@ use Rattle.rdlpp_meaning.specs.Expansion.{Opens, UsageFault, Usage, bound_parts,
 use Rattle.rdlpp_meaning.specs.Items.{unlined}
 use Rattle.rdlpp_meaning.specs.Meaning.{Passage, Progress, goes_on, leaves}
 use Rattle.rdlpp_meaning.specs.OpenItems.{open_left}
-use Rattle.rdlpp_meaning.specs.Opens.{Open, OpenActual, OpenBody, OpenDefault, OpenKind, Part, Texts, open_behind, open_body, open_bytes, open_scope, own_text, part_tokens, scope_text, text_around}
+use Rattle.rdlpp_meaning.specs.Opens.{Open, OpenActual, OpenBody, OpenDefault, OpenKind, Part, Texts, open_after, open_body, open_bytes, open_scope, own_text, part_tokens, scope_text, text_around}
 use Rattle.rdlpp_meaning.specs.Outcome.{Outcome}
 use Rattle.rdlpp_meaning.specs.Parts.{only_blanks}
 use Rattle.rdlpp_meaning.specs.Resumed.{Live, leading, resumed}
@@ -25,7 +25,7 @@ use Rattle.rdlpp_meaning.specs.Substitution.{body_tokens}
 use Rattle.rdlpp_meaning.specs.TextTokens.{text_tokens}
 use Rattle.rdlpp_meaning.specs.declared.fault.FaultKind.{FaultKind}
 use Rattle.rdlpp_meaning.specs.declared.fault.FaultKind.TheVariants.{ArgumentCount, DepthPassed, DirectiveInText, RecursiveMacro, UndefinedMacro}
-use Rattle.rdlpp_meaning.proofs.OpenSteps.{first-left, first_usage, step-refused as left-refused, step-usage as left-usage, step-usage_deep as left-usage_deep, tokens_behind}
+use Rattle.rdlpp_meaning.proofs.OpenSteps.{first-left, first_usage, step-refused as left-refused, step-usage as left-usage, step-usage_deep as left-usage_deep, tokens_after}
 use Rattle.rdlpp_meaning.proofs.OpenScopes.{next_is, part-whole, text-around}
 use Rattle.rdlpp_meaning.proofs.ReadCalls.{IsReadCall}
 use Rattle.rdlpp_meaning.proofs.SourceCalls.{actuals-unlined, resumed_opens}
@@ -85,12 +85,12 @@ parts_inside size from to [] inside all = tt
 parts_inside size from to (r ∷ rs) inside all = let h = all.0.1.1 in (omega (arith, inside, h), parts_inside size from to rs inside all.1)
 
 -- what is left of an open text behind a bound call is read as plain text
-pub behind_part : (text : List ℕ) (from at end formals behind : ℕ) (ranges : List Range) (b : IsBoundAt text at end formals ranges behind) → from ≤ behind
-    → drop b.used (body_tokens (slice_range text at end)) ≡ part_tokens text (record { from = from + (behind - from); end = end; mode = Plain })
+pub after_part : (text : List ℕ) (from at end formals following : ℕ) (ranges : List Range) (b : IsBoundAt text at end formals ranges following) → from ≤ following
+    → drop b.used (body_tokens (slice_range text at end)) ≡ part_tokens text (record { from = from + (following - from); end = end; mode = Plain })
 unfolding part_tokens
-behind_part text from at end formals behind ranges b low =
-    let place : behind ≡ from + (behind - from) = omega (arith, low) in
-    b.behind_is ∙ body_text (slice_range text behind end) ∙ ap (λ (n : ℕ). part_tokens text (record { from = n; end = end; mode = Plain })) place
+after_part text from at end formals following ranges b low =
+    let place : following ≡ from + (following - from) = omega (arith, low) in
+    b.after_is ∙ body_text (slice_range text following end) ∙ ap (λ (n : ℕ). part_tokens text (record { from = n; end = end; mode = Plain })) place
 
 -- A call in a source whose kept bytes were bound part by part: the usage opens those ranges, but for the lines of its tokens.
 
@@ -124,9 +124,9 @@ record HasActuals (room : ℕ) (ts : List SourceToken) (bytes : List ℕ) (used 
   same : map (actual_of source_reads) (first ∷ further) ≡ actuals_of bytes
 
 -- it has them
-has_actuals : (room : ℕ) (ts : List SourceToken) (bytes : List ℕ) (behind : List SourceToken) (c : IsReadCall room ts bytes behind) → HasActuals room ts bytes c.used
+has_actuals : (room : ℕ) (ts : List SourceToken) (bytes : List ℕ) (following : List SourceToken) (c : IsReadCall room ts bytes following) → HasActuals room ts bytes c.used
 unfolding call_of_scan actuals_of all_parts actual_of kept
-has_actuals room ts bytes behind c =
+has_actuals room ts bytes following c =
     let s = split token_role 0 (body_tokens bytes) in
     let h = has_parts (call_of token_role kept room (leading ts)) s.first s.further c.used c.call in
     record {
@@ -150,12 +150,12 @@ usage_counted m fs line name first further used right parts same e =
     ∙ ap (λ (b : Bool). cond b (Opens m (bound_parts fs parts) used) (UsageFault ArgumentCount name line)) (sym e)
 
 -- a call that was read and bound opens its macro so
-pub source_bound : (rules : Rules) (line : ℕ) (name : List ℕ) (ts : List SourceToken) (m : Macro) (fs : List Formal) (bytes : List ℕ) (ranges : List Range) (behind : List SourceToken)
-    → IsReadCall rules.argument_bytes ts bytes behind → true ≡ is_count fs (actuals_of bytes) → bound_parts fs (actuals_of bytes) ≡ ranges_tokens bytes ranges
-    → OpensBound rules line name ts m fs bytes ranges behind
+pub source_bound : (rules : Rules) (line : ℕ) (name : List ℕ) (ts : List SourceToken) (m : Macro) (fs : List Formal) (bytes : List ℕ) (ranges : List Range) (following : List SourceToken)
+    → IsReadCall rules.argument_bytes ts bytes following → true ≡ is_count fs (actuals_of bytes) → bound_parts fs (actuals_of bytes) ≡ ranges_tokens bytes ranges
+    → OpensBound rules line name ts m fs bytes ranges following
 unfolding usage_of_formals
-source_bound rules line name ts m fs bytes ranges behind c count tokens =
-    let h = has_actuals rules.argument_bytes ts bytes behind c in
+source_bound rules line name ts m fs bytes ranges following c count tokens =
+    let h = has_actuals rules.argument_bytes ts bytes following c in
     record {
       used = c.used;
       opens = ap (usage_of_call source_reads m fs line name) h.call
@@ -165,12 +165,12 @@ source_bound rules line name ts m fs bytes ranges behind c count tokens =
     }
 
 -- one with more or fewer parts than formals is refused for that
-pub source_counted : (rules : Rules) (line : ℕ) (name : List ℕ) (ts : List SourceToken) (m : Macro) (fs : List Formal) (bytes : List ℕ) (behind : List SourceToken)
-    → IsReadCall rules.argument_bytes ts bytes behind → false ≡ is_count fs (actuals_of bytes)
+pub source_counted : (rules : Rules) (line : ℕ) (name : List ℕ) (ts : List SourceToken) (m : Macro) (fs : List Formal) (bytes : List ℕ) (following : List SourceToken)
+    → IsReadCall rules.argument_bytes ts bytes following → false ≡ is_count fs (actuals_of bytes)
     → usage_of_formals rules source_reads line name (leading ts) m (Some fs) ≡ UsageFault ArgumentCount name line
 unfolding usage_of_formals
-source_counted rules line name ts m fs bytes behind c count =
-    let h = has_actuals rules.argument_bytes ts bytes behind c in
+source_counted rules line name ts m fs bytes following c count =
+    let h = has_actuals rules.argument_bytes ts bytes following c in
     ap (usage_of_call source_reads m fs line name) h.call
     ∙ usage_counted m fs line name h.first h.further c.used false (actuals_of bytes) h.same count
 
@@ -189,13 +189,13 @@ source_breaks rules line name ts m fs f own e = ap (usage_of_call source_reads m
 -- in live text, a usage of the macro at a place, whose call was read and bound, comes to what remains of that body with those
 -- ranges of the kept text as actuals, and then what remains behind its call
 pub resumed_open : (rules : Rules) (os : List Progress) (first : Bool) (name : List ℕ) (line : ℕ) (ts : List SourceToken) (s : State) (d : ℕ) (texts : Texts) (id : ℕ)
-    (fs : List Formal) (ranges : List Range) (behind : List SourceToken) (b : OpensBound rules line name ts (macro_at texts.macros id) fs texts.arguments ranges behind)
+    (fs : List Formal) (ranges : List Range) (following : List SourceToken) (b : OpensBound rules line name ts (macro_at texts.macros id) fs texts.arguments ranges following)
     → is_reserved name ≡ false → rules.depth ≡ suc d → macro_named s.macros name ≡ Some (macro_at texts.macros id)
     → (macro_at texts.macros id).formals ≡ Some fs
     → resumed rules (Live os) first (usage_token name line ∷ ts) s
     ≡ goes_on (leaves (open_left rules s line (suc d) texts (open_body texts id (map range_part ranges) 0 ∷ [])) s)
-    (λ after. resumed rules (Live os) (only_blanks first (bytes_of (take (suc b.used) (usage_token name line ∷ ts)))) behind after)
-resumed_open rules os first name line ts s d texts id fs ranges behind b reserved depth found formals =
+    (λ after. resumed rules (Live os) (only_blanks first (bytes_of (take (suc b.used) (usage_token name line ∷ ts)))) following after)
+resumed_open rules os first name line ts s d texts id fs ranges following b reserved depth found formals =
     let m = macro_at texts.macros id in
     let flag = only_blanks first (bytes_of (take (suc b.used) (usage_token name line ∷ ts))) in
     let further : List SourceToken → State → Passage = λ rest after. resumed rules (Live os) flag rest after in
@@ -284,8 +284,8 @@ call-place texts x below peek len text at h l e is k =
 -- the tokens behind a usage
 call-tokens : (texts : Texts) (x : Open) (below : List Open) (len : ℕ) (text : List ℕ) (at end : ℕ) → AreSound texts (x ∷ below) → IsCallPlace texts x below len text at end
     → IsTextItem (source_formals texts (front_source (x ∷ below))) (open_bytes texts x below) (front.Usage len)
-    → tokens_behind texts x below ≡ body_tokens (slice_range text at end)
-unfolding IsTextItem tokens_behind part_tokens open_behind
+    → tokens_after texts x below ≡ body_tokens (slice_range text at end)
+unfolding IsTextItem tokens_after part_tokens open_after
 call-tokens texts x below len text at end h p f =
     let mode = (h.are_inside).1.1.0 in
     ap (λ (y : Open). part_tokens (text_around texts x.kind x.parent below) y.part) (first-moved texts x below len mode (back-closes _ f.1) f.2)
@@ -359,7 +359,7 @@ step-call_deep line depth texts x below len id text at end new fault h p f used 
     let name = front_name texts (x ∷ below) len in
     let own = macro_at texts.macros id in
     let fs = has-list own.formals list in
-    let b : IsBoundAt text at end (length (formals_of own)) c.ranges c.behind = c.bound in
+    let b : IsBoundAt text at end (length (formals_of own)) c.ranges c.following = c.bound in
     left-usage_deep rules s line depth texts x below own (ranges_tokens text c.ranges) b.used f.0 (kind-first texts x below Back mode f.1)
     (call-usage rules s line texts x below len id text at end fs.0 h p f used fs.1 m ∙ b.opens rules line name own fs.0 (list-count own fs.0 fs.1)) deep
     ∙ sym (fault-same s line texts fault DepthPassed [] k w)
@@ -380,18 +380,18 @@ scope-text texts x below part h = by x.kind
     by (OpenDefault id place) = own (OpenDefault id place)
 
 -- what is left behind a call that is bound
-call-left : (texts : Texts) (x : Open) (below : List Open) (len : ℕ) (text : List ℕ) (at end formals : ℕ) (ranges : List Range) (behind : ℕ) (b : IsBoundAt text at end formals ranges behind)
+call-left : (texts : Texts) (x : Open) (below : List Open) (len : ℕ) (text : List ℕ) (at end formals : ℕ) (ranges : List Range) (following : ℕ) (b : IsBoundAt text at end formals ranges following)
     → AreSound texts (x ∷ below) → IsCallPlace texts x below len text at end
-    → IsTextItem (source_formals texts (front_source (x ∷ below))) (open_bytes texts x below) (front.Usage len) → at ≤ behind
-    → drop b.used (tokens_behind texts x below) ≡ part_tokens (text_around texts x.kind x.parent below) (open_behind x (behind - x.part.from) Plain).part
-unfolding open_behind
-call-left texts x below len text at end formals ranges behind b h p f low =
+    → IsTextItem (source_formals texts (front_source (x ∷ below))) (open_bytes texts x below) (front.Usage len) → at ≤ following
+    → drop b.used (tokens_after texts x below) ≡ part_tokens (text_around texts x.kind x.parent below) (open_after x (following - x.part.from) Plain).part
+unfolding open_after
+call-left texts x below len text at end formals ranges following b h p f low =
     let from = x.part.from in
     let place = p.at_is in
     ap (λ (ts : List SourceToken). drop b.used ts) (call-tokens texts x below len text at end h p f)
-    ∙ behind_part text from at end formals behind ranges b (omega (arith, place, low))
-    ∙ ap (λ (t : List ℕ). part_tokens t (record { from = from + (behind - from); end = end; mode = Plain })) p.text_is
-    ∙ ap (λ (n : ℕ). part_tokens (text_around texts x.kind x.parent below) (record { from = from + (behind - from); end = n; mode = Plain })) p.end_is
+    ∙ after_part text from at end formals following ranges b (omega (arith, place, low))
+    ∙ ap (λ (t : List ℕ). part_tokens t (record { from = from + (following - from); end = end; mode = Plain })) p.text_is
+    ∙ ap (λ (n : ℕ). part_tokens (text_around texts x.kind x.parent below) (record { from = from + (following - from); end = n; mode = Plain })) p.end_is
 
 -- a usage whose call is bound opens its body, where there is room
 step-call_opened : (line depth : ℕ) (texts : Texts) (x : Open) (below : List Open) (len id : ℕ) (text : List ℕ) (at end : ℕ) (c : IsCallBound texts.macros text at end id)
@@ -399,24 +399,24 @@ step-call_opened : (line depth : ℕ) (texts : Texts) (x : Open) (below : List O
     → IsTextItem (source_formals texts (front_source (x ∷ below))) (open_bytes texts x below) (front.Usage len)
     → IsUsed texts (x ∷ below) (front_name texts (x ∷ below) len) id → is_some (macro_at texts.macros id).formals ≡ true
     → length (x ∷ below) < depth
-    → IsStep line depth texts (x ∷ below) Silent (open_body texts id (map range_part c.ranges) (open_scope x below) ∷ moved_to c.behind (x ∷ below))
-unfolding IsStep StepsTo IsTextItem IsBoundCall moved_to open_behind
+    → IsStep line depth texts (x ∷ below) Silent (open_body texts id (map range_part c.ranges) (open_scope x below) ∷ moved_to c.following (x ∷ below))
+unfolding IsStep StepsTo IsTextItem IsBoundCall moved_to open_after
 step-call_opened line depth texts x below len id text at end c h p f used list room rules s m =
     let mode = (h.are_inside).1.1.0 in
     let name = front_name texts (x ∷ below) len in
     let own = macro_at texts.macros id in
     let fs = has-list own.formals list in
-    let b : IsBoundAt text at end (length (formals_of own)) c.ranges c.behind = c.bound in
+    let b : IsBoundAt text at end (length (formals_of own)) c.ranges c.following = c.bound in
     let from = x.part.from in
     let place = p.at_is in
     let low = (c.place).0 in
     let parts = map range_part c.ranges in
-    let is : from + (c.behind - from) ≡ c.behind = omega (arith, place, low) in
-    left-usage rules s line depth texts x below id parts b.used (c.behind - from) Plain (h.are_open).0 f.0 (kind-first texts x below Back mode f.1)
+    let is : from + (c.following - from) ≡ c.following = omega (arith, place, low) in
+    left-usage rules s line depth texts x below id parts b.used (c.following - from) Plain (h.are_open).0 f.0 (kind-first texts x below Back mode f.1)
     (call-usage rules s line texts x below len id text at end fs.0 h p f used fs.1 m
     ∙ b.opens rules line name own fs.0 (list-count own fs.0 fs.1)
     ∙ ap (λ (t : List ℕ). Opens own (map (part_tokens t) parts) b.used) p.text_is)
-    (call-left texts x below len text at end (length (formals_of own)) c.ranges c.behind b h p f low) room
+    (call-left texts x below len text at end (length (formals_of own)) c.ranges c.following b h p f low) room
     ∙ ap (λ (n : ℕ). open_left rules s line depth texts
     (open_body texts id parts (open_scope x below) ∷ record { part = record { from = n; end = x.part.end; mode = Plain }; parent = x.parent; kind = x.kind } ∷ below)) is
 
@@ -435,15 +435,15 @@ left-keeps text from end h = subst (λ (ts : List SourceToken). KeepsAll ts) (bo
 sound-called : (table : TableView) (arguments : List ℕ) (x : Open) (below : List Open) (len id : ℕ) (text : List ℕ) (at end : ℕ) (c : IsCallBound table.macros text at end id)
     → IsSound table → AreSound (texts_of table.macros arguments) (x ∷ below) → IsCallPlace (texts_of table.macros arguments) x below len text at end
     → id < length table.macros
-    → AreSound (texts_of table.macros arguments) (open_body (texts_of table.macros arguments) id (map range_part c.ranges) (open_scope x below) ∷ moved_to c.behind (x ∷ below))
+    → AreSound (texts_of table.macros arguments) (open_body (texts_of table.macros arguments) id (map range_part c.ranges) (open_scope x below) ∷ moved_to c.following (x ∷ below))
 unfolding open_body IsBoundCall moved_to open_scope front_scope text_around own_text
 sound-called table arguments x below len id text at end c sound h p inside =
     let texts = texts_of table.macros arguments in
     let own = macro_at table.macros id in
     let around = text_around texts x.kind x.parent below in
-    let rest : Part = record { from = c.behind; end = x.part.end; mode = Plain } in
-    let scoped : text ≡ scope_text texts (moved_to c.behind (x ∷ below)) (open_scope x below) = p.text_is ∙ sym (scope-text texts x below rest (h.are_open).0) in
-    let b : IsBoundAt text at end (length (formals_of own)) c.ranges c.behind = c.bound in
+    let rest : Part = record { from = c.following; end = x.part.end; mode = Plain } in
+    let scoped : text ≡ scope_text texts (moved_to c.following (x ∷ below)) (open_scope x below) = p.text_is ∙ sym (scope-text texts x below rest (h.are_open).0) in
+    let b : IsBoundAt text at end (length (formals_of own)) c.ranges c.following = c.bound in
     let parts = map range_part c.ranges in
     let count = length-map c.ranges range_part in
     let many = b.count in
@@ -453,9 +453,9 @@ sound-called table arguments x below len id text at end c sound h p inside =
     let fits : end ≤ length text = subst (λ (t : List ℕ). end ≤ length t) (sym p.text_is) (omega (arith, ends, end_is)) in
     let left : KeepsAll (part_tokens around rest) =
     subst (λ (t : List ℕ). KeepsAll (part_tokens t rest)) p.text_is
-    (subst (λ (n : ℕ). KeepsAll (part_tokens text (record { from = c.behind; end = n; mode = Plain }))) p.end_is
-    (left-keeps text c.behind end b.keeps_behind)) in
-    let moved = sound-moved texts x below c.behind h left in
+    (subst (λ (n : ℕ). KeepsAll (part_tokens text (record { from = c.following; end = n; mode = Plain }))) p.end_is
+    (left-keeps text c.following end b.keeps_after)) in
+    let moved = sound-moved texts x below c.following h left in
     record {
       are_open = (
         scope,
@@ -544,8 +544,8 @@ peek-call_deep line depth texts (x ∷ below) peek len id text at h c deep =
 -- one that opens its body
 peek-call_opened : (line depth : ℕ) (table : TableView) (arguments : List ℕ) (opens : List Open) (peek : Peek) (len id : ℕ) (text : List ℕ) (at : ℕ) (c : IsCallBound table.macros text at peek.end id)
     → IsSound table → IsListUsed (texts_of table.macros arguments) opens peek len id text at → length opens < depth
-    → IsStep line depth (texts_of table.macros arguments) opens Silent (open_body (texts_of table.macros arguments) id (map range_part c.ranges) (front_scope opens) ∷ moved_to c.behind opens)
-    × AreSound (texts_of table.macros arguments) (open_body (texts_of table.macros arguments) id (map range_part c.ranges) (front_scope opens) ∷ moved_to c.behind opens)
+    → IsStep line depth (texts_of table.macros arguments) opens Silent (open_body (texts_of table.macros arguments) id (map range_part c.ranges) (front_scope opens) ∷ moved_to c.following opens)
+    × AreSound (texts_of table.macros arguments) (open_body (texts_of table.macros arguments) id (map range_part c.ranges) (front_scope opens) ∷ moved_to c.following opens)
 unfolding front_scope IsPeek
 peek-call_opened line depth table arguments [] peek len id text at c sound h room = absurd (h.look_is)
 peek-call_opened line depth table arguments (x ∷ below) peek len id text at c sound h room =
@@ -594,8 +594,8 @@ unfolding IsOpening IsFalling StaysRefused open_body
 pass-call_opened table arguments view new peek len id parent text at o sound h scope e b =
     let texts = texts_of table.macros arguments in
     let c : IsCallOpened table.macros text at peek.end id parent view new = subst (λ (r : Opening). IsOpening table.macros text at peek.end id parent view r new) e b in
-    let own : CursorsView = record view { opens = open_body texts id (map range_part (c.call).ranges) (front_scope view.opens) ∷ moved_to (c.call).behind view.opens } in
-    let is : new ≡ own = c.opens ∙ ap (λ (n : ℕ). record view { opens = open_body texts id (map range_part (c.call).ranges) n ∷ moved_to (c.call).behind view.opens }) scope in
+    let own : CursorsView = record view { opens = open_body texts id (map range_part (c.call).ranges) (front_scope view.opens) ∷ moved_to (c.call).following view.opens } in
+    let is : new ≡ own = c.opens ∙ ap (λ (n : ℕ). record view { opens = open_body texts id (map range_part (c.call).ranges) n ∷ moved_to (c.call).following view.opens }) scope in
     let both = peek-call_opened view.line view.depth table arguments view.opens peek len id text at c.call sound h c.room in
     let place = usage-place texts view.opens peek len h.sound h.look_is h.front_is in
     let some = place.some in
@@ -606,7 +606,7 @@ pass-call_opened table arguments view new peek len id parent text at o sound h s
       is_step = both.0;
       sound = both.1;
       kept = (refl, refl);
-      digits = peek-opens texts view.opens peek (c.call).behind (open_body texts id (map range_part (c.call).ranges) (front_scope view.opens)) h.look_is
+      digits = peek-opens texts view.opens peek (c.call).following (open_body texts id (map range_part (c.call).ranges) (front_scope view.opens)) h.look_is
           (omega (arith, some, at_is, low)) high;
       refused = tt;
     })

@@ -282,7 +282,7 @@ outer-opened opens new x at some e =
 -- where a call is opened or not
 pub outer-called : (macros : List Macro) (text : List ℕ) (view new : CursorsView) (end id parent at : ℕ) (o : Opening) → 0 < length view.opens → IsOpening macros text at end id parent view o new → StaysOutermost view.opens new.opens
 unfolding IsOpening
-outer-called macros text view new end id parent at Opened some b = outer-opened view.opens new.opens _ b.call.behind some (ap (λ (v : CursorsView). v.opens) b.opens)
+outer-called macros text view new end id parent at Opened some b = outer-opened view.opens new.opens _ b.call.following some (ap (λ (v : CursorsView). v.opens) b.opens)
 outer-called macros text view new end id parent at (Lacks kind) some b = outer-same view new b.0
 outer-called macros text view new end id parent at Deep some b = outer-same view new b.0
 
@@ -304,12 +304,12 @@ pub turned-formal : (texts : Texts) (opens new : List Open) (peek : Peek) (len p
 turned-formal texts opens new peek len place x l f is e = OpensStanding peek.at len place x (peek-front texts opens peek (front.Formal len place) l f) (sym is) e
 
 -- the body of a macro without a list is opened
-pub turned-usage : (macros : List Macro) (arguments : List ℕ) (opens new : List Open) (peek : Peek) (len id behind : ℕ) → IsPeek (texts_of macros arguments) opens peek → peek.front ≡ front.Usage len
+pub turned-usage : (macros : List Macro) (arguments : List ℕ) (opens new : List Open) (peek : Peek) (len id following : ℕ) → IsPeek (texts_of macros arguments) opens peek → peek.front ≡ front.Usage len
     → IsUsed (texts_of macros arguments) opens (front_name (texts_of macros arguments) opens len) id → (macro_at macros id).formals ≡ None
-    → new ≡ open_body (texts_of macros []) id [] (front_scope opens) ∷ moved_to behind opens → Turned (texts_of macros arguments) opens new
+    → new ≡ open_body (texts_of macros []) id [] (front_scope opens) ∷ moved_to following opens → Turned (texts_of macros arguments) opens new
 unfolding open_body
-turned-usage macros arguments opens new peek len id behind l f used none e =
-    OpensBody peek.at len id behind [] (peek-front (texts_of macros arguments) opens peek (front.Usage len) l f) used
+turned-usage macros arguments opens new peek len id following l f used none e =
+    OpensBody peek.at len id following [] (peek-front (texts_of macros arguments) opens peek (front.Usage len) l f) used
     (sym (ap (λ (o : Option (List Formal)). length (unwrap_or o [])) none)) e
 
 -- a call has bound as many ranges as its macro has formals
@@ -324,9 +324,9 @@ pub turned-call : (macros : List Macro) (arguments text : List ℕ) (view new : 
 unfolding IsOpening open_body
 turned-call macros arguments text view new peek len at end id parent Opened l f used scope b =
     let parts = map range_part b.call.ranges in
-    OpensBody peek.at len id b.call.behind parts (peek-front (texts_of macros arguments) view.opens peek (front.Usage len) l f) used
+    OpensBody peek.at len id b.call.following parts (peek-front (texts_of macros arguments) view.opens peek (front.Usage len) l f) used
     (bound-count macros text at end id b.call)
-    (ap (λ (v : CursorsView). v.opens) b.opens ∙ ap (λ (h : ℕ). open_body (texts_of macros []) id parts h ∷ moved_to b.call.behind view.opens) scope)
+    (ap (λ (v : CursorsView). v.opens) b.opens ∙ ap (λ (h : ℕ). open_body (texts_of macros []) id parts h ∷ moved_to b.call.following view.opens) scope)
 turned-call macros arguments text view new peek len at end id parent (Lacks kind) l f used scope b = Stays (ap (λ (v : CursorsView). v.opens) b.0)
 turned-call macros arguments text view new peek len at end id parent Deep l f used scope b = Stays (ap (λ (v : CursorsView). v.opens) b.0)
 

@@ -9,12 +9,12 @@ use Rattle.std.proofs.lemmas.List.Elements.{All-cons, All-head, All-nil, All-tai
 use Rattle.rdlpp_scan.specs.SourceTokens.{SourceToken}
 use Rattle.rdlpp_scan.specs.Tokens.{token_of}
 use Rattle.rdlpp_scan.specs.declared.token.Mode.TheVariants.{Plain}
-use Rattle.rdlpp_meaning.specs.Actuals.{Cut, Role, Space, behind_space, is_space, level_behind, token_role, trimmed}
+use Rattle.rdlpp_meaning.specs.Actuals.{Cut, Role, Space, after_leading_space, is_space, level_after, token_role, trimmed}
 use Rattle.rdlpp_meaning.specs.CallScan.{Split, all_parts, split, split_by}
 use Rattle.rdlpp_meaning.specs.Expansion.{bytes_of}
 use Rattle.rdlpp_meaning.specs.Substitution.{body_tokens}
 use Rattle.rdlpp_meaning.specs.TextTokens.{text_tokens}
-use Rattle.rdlpp_meaning.proofs.KeptTexts.{body_text, closes_text, first_behind, is_one_role, text_behind, text_cut, text_nil, text_one, text_step}
+use Rattle.rdlpp_meaning.proofs.KeptTexts.{body_text, closes_text, first_after, is_one_role, text_after, text_cut, text_nil, text_one, text_step}
 use Rattle.rdlpp_texts.specs.CallParts.{Follows, IsNextPart, ends_call, ends_part, ends_text, inner_size, inner_tokens, part_from, parts_in, space_from}
 use Rattle.rdlpp_texts.specs.declared.parts.Part.{Part}
 use Rattle.rdlpp_texts.specs.declared.parts.PartEnd.{PartEnd}
@@ -41,10 +41,10 @@ solid_last true x z (y ∷ ys) = refl
 solid_last false x z ys = refl
 
 -- a last thing behind what is behind white space
-unfoldable last_behind : {A : Type 0} → Bool → List A → A → List A
-last_behind true [] x = []
-last_behind false [] x = x ∷ []
-last_behind b (y ∷ ys) x = y ∷ (ys ++ x ∷ [])
+unfoldable last_after : {A : Type 0} → Bool → List A → A → List A
+last_after true [] x = []
+last_after false [] x = x ∷ []
+last_after b (y ∷ ys) x = y ∷ (ys ++ x ∷ [])
 
 -- white space in front is dropped of a thing and the things behind it, by whether it is white space
 space_by : {A : Type 0} (b : Bool) (x : A) (n : ℕ) (xs : List A) → drop (cond b (1 + n) 0) (x ∷ xs) ≡ cond b (drop n xs) (x ∷ xs)
@@ -52,49 +52,49 @@ space_by true x n xs = let e : 1 + n ≡ suc n = omega arith in ap (λ i. drop i
 space_by false x n xs = refl
 
 -- white space in front is dropped of a thing and the things behind it
-pub space_front : {A : Type 0} (role : A → Role) (x : A) (xs : List A) → behind_space role (x ∷ xs) ≡ cond (is_space (role x)) (behind_space role xs) (x ∷ xs)
-unfolding behind_space
+pub space_front : {A : Type 0} (role : A → Role) (x : A) (xs : List A) → after_leading_space role (x ∷ xs) ≡ cond (is_space (role x)) (after_leading_space role xs) (x ∷ xs)
+unfolding after_leading_space
 space_front role x xs = space_by (is_space (role x)) x (prefix_len (λ y. is_space (role y)) xs) xs
 
 -- of one thing, by whether it is white space
-one_by : {A : Type 0} (b : Bool) (x : A) → cond b [] (x ∷ []) ≡ last_behind b [] x
-unfolding last_behind
+one_by : {A : Type 0} (b : Bool) (x : A) → cond b [] (x ∷ []) ≡ last_after b [] x
+unfolding last_after
 one_by true x = refl
 one_by false x = refl
 
 -- a last thing behind a thing that isn't white space
-last_more : {A : Type 0} (b : Bool) (y : A) (ys : List A) (x : A) → y ∷ (ys ++ x ∷ []) ≡ last_behind b (y ∷ ys) x
-unfolding last_behind
+last_more : {A : Type 0} (b : Bool) (y : A) (ys : List A) (x : A) → y ∷ (ys ++ x ∷ []) ≡ last_after b (y ∷ ys) x
+unfolding last_after
 last_more true y ys x = refl
 last_more false y ys x = refl
 
 -- nothing is behind white space of nothing
-pub space_nil : {A : Type 0} (role : A → Role) → behind_space {A = A} role [] ≡ []
-unfolding behind_space
+pub space_nil : {A : Type 0} (role : A → Role) → after_leading_space {A = A} role [] ≡ []
+unfolding after_leading_space
 space_nil role = refl
 
 -- what is behind white space, with one more thing at the end, by whether the first thing is white space
 space_last_by : {A : Type 0} (role : A → Role) (b : Bool) (y : A) (ys : List A) (x : A)
-    → behind_space role (ys ++ x ∷ []) ≡ last_behind (is_space (role x)) (behind_space role ys) x
-    → cond b (behind_space role (ys ++ x ∷ [])) (y ∷ (ys ++ x ∷ [])) ≡ last_behind (is_space (role x)) (cond b (behind_space role ys) (y ∷ ys)) x
+    → after_leading_space role (ys ++ x ∷ []) ≡ last_after (is_space (role x)) (after_leading_space role ys) x
+    → cond b (after_leading_space role (ys ++ x ∷ [])) (y ∷ (ys ++ x ∷ [])) ≡ last_after (is_space (role x)) (cond b (after_leading_space role ys) (y ∷ ys)) x
 space_last_by role true y ys x e = e
 space_last_by role false y ys x e = last_more (is_space (role x)) y ys x
 
 -- what is behind white space, with one more thing at the end
-space_last : {A : Type 0} (role : A → Role) (ys : List A) (x : A) → behind_space role (ys ++ x ∷ []) ≡ last_behind (is_space (role x)) (behind_space role ys) x
+space_last : {A : Type 0} (role : A → Role) (ys : List A) (x : A) → after_leading_space role (ys ++ x ∷ []) ≡ last_after (is_space (role x)) (after_leading_space role ys) x
 space_last {A = A} role [] x =
     space_front role x []
     ∙ ap (λ (zs : List A). cond (is_space (role x)) zs (x ∷ [])) (space_nil role)
     ∙ one_by (is_space (role x)) x
-    ∙ ap (λ (zs : List A). last_behind (is_space (role x)) zs x) (sym (space_nil role))
+    ∙ ap (λ (zs : List A). last_after (is_space (role x)) zs x) (sym (space_nil role))
 space_last {A = A} role (y ∷ ys) x =
     space_front role y (ys ++ x ∷ [])
     ∙ space_last_by role (is_space (role y)) y ys x (space_last role ys x)
-    ∙ ap (λ (zs : List A). last_behind (is_space (role x)) zs x) (sym (space_front role y ys))
+    ∙ ap (λ (zs : List A). last_after (is_space (role x)) zs x) (sym (space_front role y ys))
 
 -- the reverse of what ends with a thing that may be white space
-last_reverse : {A : Type 0} (b : Bool) (zs : List A) (x : A) (s : List A) → reverse zs ≡ s → reverse (last_behind b zs x) ≡ solid_front b x s
-unfolding last_behind solid_front
+last_reverse : {A : Type 0} (b : Bool) (zs : List A) (x : A) (s : List A) → reverse zs ≡ s → reverse (last_after b zs x) ≡ solid_front b x s
+unfolding last_after solid_front
 last_reverse {A = A} true [] x s e = ap (λ (ys : List A). solid_front true x ys) e
 last_reverse {A = A} false [] x s e = ap (λ (ys : List A). x ∷ ys) e
 last_reverse {A = A} true (y ∷ ys) x s e =
@@ -104,18 +104,18 @@ last_reverse {A = A} true (y ∷ ys) x s e =
 last_reverse {A = A} false (y ∷ ys) x s e = reverse-append (y ∷ ys) (x ∷ []) ∙ ap (λ (zs : List A). x ∷ zs) e
 
 -- things without the white space at their end, by their reverse
-solid_is : {A : Type 0} (role : A → Role) (xs : List A) → reverse (behind_space role (reverse xs)) ≡ solid role xs
+solid_is : {A : Type 0} (role : A → Role) (xs : List A) → reverse (after_leading_space role (reverse xs)) ≡ solid role xs
 unfolding solid
 solid_is {A = A} role [] = ap (λ (ys : List A). reverse ys) (space_nil role)
 solid_is {A = A} role (x ∷ xs) =
-    ap (λ (ys : List A). reverse (behind_space role ys)) (reverse-append (x ∷ []) xs)
+    ap (λ (ys : List A). reverse (after_leading_space role ys)) (reverse-append (x ∷ []) xs)
     ∙ ap (λ (ys : List A). reverse ys) (space_last role (reverse xs) x)
-    ∙ last_reverse (is_space (role x)) (behind_space role (reverse xs)) x (solid role xs) (solid_is role xs)
+    ∙ last_reverse (is_space (role x)) (after_leading_space role (reverse xs)) x (solid role xs) (solid_is role xs)
 
 -- trimmed things are those behind white space, without it at their end
-pub trimmed_is : {A : Type 0} (role : A → Role) (xs : List A) → trimmed role xs ≡ solid role (behind_space role xs)
+pub trimmed_is : {A : Type 0} (role : A → Role) (xs : List A) → trimmed role xs ≡ solid role (after_leading_space role xs)
 unfolding trimmed
-trimmed_is role xs = solid_is role (behind_space role xs)
+trimmed_is role xs = solid_is role (after_leading_space role xs)
 
 -- things are those without the white space at their end, and then that
 pub record HasSolid {A : Type 0} (role : A → Role) (xs : List A) : Type 0 where
@@ -186,13 +186,13 @@ ends_is Cut (suc k) e = absurd (false≢true e)
 ends_is r k e = absurd (false≢true e)
 
 -- it leaves no opener open
-cut_level : (r : Role) (k : ℕ) → r ≡ Cut → k ≡ 0 → level_behind r k ≡ 0
-unfolding level_behind
-cut_level r k e f = ap (λ (q : Role). level_behind q k) e ∙ f
+cut_level : (r : Role) (k : ℕ) → r ≡ Cut → k ≡ 0 → level_after r k ≡ 0
+unfolding level_after
+cut_level r k e f = ap (λ (q : Role). level_after q k) e ∙ f
 
 -- and nothing of the part behind it
 cut_here : (closes : Bool) (r : Role) (k : ℕ) (t : SourceToken) (ts : List SourceToken) → r ≡ Cut → k ≡ 0
-    → split_by r k t (split token_role (level_behind r k) (inner_tokens closes (level_behind r k) ts))
+    → split_by r k t (split token_role (level_after r k) (inner_tokens closes (level_after r k) ts))
     ≡ record { first = []; further = all_parts (split token_role 0 (inner_tokens closes 0 ts)) }
 unfolding split_by all_parts
 cut_here closes r k t ts e f =
@@ -245,8 +245,8 @@ follows_step closes at (Last n) t ts inner first further c =
 
 -- a part that is found, by whether the first token ends the call, and by whether it ends the part
 part_by : (ends cuts : Bool) (closes : Bool) (start at level end : ℕ) (t : SourceToken) (ts : List SourceToken) (p : Part) → ends_part (token_role t) level ≡ cuts
-    → IsPartIn closes start (at + length t.bytes) (level_behind (token_role t) level) (cond (is_space (token_role t)) end (at + length t.bytes)) ts (inner_tokens closes (level_behind (token_role t) level) ts) p
-    → IsPartIn closes start at level end (t ∷ ts) (cond ends [] (t ∷ inner_tokens closes (level_behind (token_role t) level) ts))
+    → IsPartIn closes start (at + length t.bytes) (level_after (token_role t) level) (cond (is_space (token_role t)) end (at + length t.bytes)) ts (inner_tokens closes (level_after (token_role t) level) ts) p
+    → IsPartIn closes start at level end (t ∷ ts) (cond ends [] (t ∷ inner_tokens closes (level_after (token_role t) level) ts))
     (cond ends (record { from = start; to = end; end = Last at }) (cond cuts (record { from = start; to = end; end = Comma (at + length t.bytes) }) p))
 unfolding split solid solid_end FollowsIn all_parts
 part_by true cuts closes start at level end t ts p is rest = record {
@@ -256,7 +256,7 @@ part_by true cuts closes start at level end t ts p is rest = record {
 }
 part_by false true closes start at level end t ts p is rest =
     let e = ends_is (token_role t) level is in
-    let inner = inner_tokens closes (level_behind (token_role t) level) ts in
+    let inner = inner_tokens closes (level_after (token_role t) level) ts in
     let cut = cut_here closes (token_role t) level t ts e.0 e.1 in
     let same : length (bytes_of inner) ≡ length (bytes_of (inner_tokens closes 0 ts)) =
     ap (λ (n : ℕ). length (bytes_of (inner_tokens closes n ts))) (cut_level (token_role t) level e.0 e.1) in
@@ -268,8 +268,8 @@ part_by false true closes start at level end t ts p is rest =
           (record { comma = t; more = ts; whole = refl; cuts = e.0; place = omega arith; size = omega (arith, same, size); parts = refl });
     }
 part_by false false closes start at level end t ts p is rest =
-    let inner = inner_tokens closes (level_behind (token_role t) level) ts in
-    let s : Split SourceToken = split token_role (level_behind (token_role t) level) inner in
+    let inner = inner_tokens closes (level_after (token_role t) level) ts in
+    let s : Split SourceToken = split token_role (level_after (token_role t) level) inner in
     let same = not_cut (token_role t) level t s is in
     record {
       from_is = rest.from_is;
@@ -292,7 +292,7 @@ part_in [] closes start at level end = record {
 part_in (t ∷ ts) closes start at level end =
     let here = at + length t.bytes in
     let e = cond (is_space (token_role t)) end here in
-    let k = level_behind (token_role t) level in
+    let k = level_after (token_role t) level in
     part_by (ends_text closes (token_role t) level) (ends_part (token_role t) level) closes start at level end t ts (part_from closes start here k e ts) refl
     (part_in ts closes start here k e)
 
@@ -304,7 +304,7 @@ record HasLead (closes : Bool) (at : ℕ) (ts : List SourceToken) : Type 0 where
   spaces : All (λ t. token_role t ≡ Space) lead
   place : space_from at ts ≡ at + length (bytes_of lead)
   inner : inner_tokens closes 0 ts ≡ lead ++ inner_tokens closes 0 rest
-  first : behind_space token_role (split token_role 0 (inner_tokens closes 0 ts)).first ≡ (split token_role 0 (inner_tokens closes 0 rest)).first
+  first : after_leading_space token_role (split token_role 0 (inner_tokens closes 0 ts)).first ≡ (split token_role 0 (inner_tokens closes 0 rest)).first
   further : (split token_role 0 (inner_tokens closes 0 ts)).further ≡ (split token_role 0 (inner_tokens closes 0 rest)).further
 
 -- a role that is white space
@@ -315,9 +315,9 @@ space_is r e = absurd (false≢true e)
 
 -- it ends no call, and opens nothing
 space_inner : (closes : Bool) (t : SourceToken) (ts : List SourceToken) → token_role t ≡ Space → inner_tokens closes 0 (t ∷ ts) ≡ t ∷ inner_tokens closes 0 ts
-unfolding inner_tokens level_behind ends_text ends_call
+unfolding inner_tokens level_after ends_text ends_call
 space_inner closes t ts is =
-    ap (λ (r : Role). cond (ends_text closes r 0) [] (t ∷ inner_tokens closes (level_behind r 0) ts)) is
+    ap (λ (r : Role). cond (ends_text closes r 0) [] (t ∷ inner_tokens closes (level_after r 0) ts)) is
     ∙ ap (λ (b : Bool). cond b [] (t ∷ inner_tokens closes 0 ts)) (none closes)
   where
     none : (closes : Bool) → ends_text closes Space 0 ≡ false
@@ -326,36 +326,36 @@ space_inner closes t ts is =
 
 -- the first part that begins with what isn't white space has none in front
 solid_first : (cuts : Bool) (t : SourceToken) (s : Split SourceToken) → ends_part (token_role t) 0 ≡ cuts → is_space (token_role t) ≡ false
-    → behind_space token_role (split_by (token_role t) 0 t s).first ≡ (split_by (token_role t) 0 t s).first
+    → after_leading_space token_role (split_by (token_role t) 0 t s).first ≡ (split_by (token_role t) 0 t s).first
 unfolding split_by
 solid_first true t s e other =
     let c = ends_is (token_role t) 0 e in
     let empty : (split_by (token_role t) 0 t s).first ≡ [] = ap (λ (q : Role). (split_by q 0 t s).first) c.0 in
-    ap (behind_space token_role) empty ∙ space_nil token_role ∙ sym empty
+    ap (after_leading_space token_role) empty ∙ space_nil token_role ∙ sym empty
 solid_first false t s e other =
     let first : (split_by (token_role t) 0 t s).first ≡ t ∷ s.first = ap (λ (x : Split SourceToken). x.first) (not_cut (token_role t) 0 t s e) in
-    ap (behind_space token_role) first
+    ap (after_leading_space token_role) first
     ∙ space_front token_role t s.first
-    ∙ ap (λ b. cond b (behind_space token_role s.first) (t ∷ s.first)) other
+    ∙ ap (λ b. cond b (after_leading_space token_role s.first) (t ∷ s.first)) other
     ∙ sym first
 
 -- or it is empty
 inner_first : (ends : Bool) (t : SourceToken) (ts : List SourceToken) → is_space (token_role t) ≡ false
-    → behind_space token_role (split token_role 0 (cond ends [] (t ∷ ts))).first ≡ (split token_role 0 (cond ends [] (t ∷ ts))).first
+    → after_leading_space token_role (split token_role 0 (cond ends [] (t ∷ ts))).first ≡ (split token_role 0 (cond ends [] (t ∷ ts))).first
 unfolding split
 inner_first true t ts other = space_nil token_role
-inner_first false t ts other = solid_first (ends_part (token_role t) 0) t (split token_role (level_behind (token_role t) 0) ts) refl other
+inner_first false t ts other = solid_first (ends_part (token_role t) 0) t (split token_role (level_after (token_role t) 0) ts) refl other
 
 -- white space in front of parts, by whether the first token is
 lead_by : (space : Bool) (closes : Bool) (at : ℕ) (t : SourceToken) (ts : List SourceToken) → is_space (token_role t) ≡ space → HasLead closes (at + length t.bytes) ts → HasLead closes at (t ∷ ts)
-unfolding space_from split split_by level_behind inner_tokens
+unfolding space_from split split_by level_after inner_tokens
 lead_by true closes at t ts e h =
     let is = space_is (token_role t) e in
     let s : Split SourceToken = split token_role 0 (inner_tokens closes 0 ts) in
     let inner = space_inner closes t ts is in
     let here : split token_role 0 (inner_tokens closes 0 (t ∷ ts)) ≡ record { first = t ∷ s.first; further = s.further } =
     ap (split token_role 0) inner
-    ∙ ap (λ (q : Role). split_by q 0 t (split token_role (level_behind q 0) (inner_tokens closes 0 ts))) is in
+    ∙ ap (λ (q : Role). split_by q 0 t (split token_role (level_after q 0) (inner_tokens closes 0 ts))) is in
     let size = length-append t.bytes (bytes_of h.lead) in
     let there : space_from at (t ∷ ts) ≡ space_from (at + length t.bytes) ts =
     ap (λ b. cond b (space_from (at + length t.bytes) ts) at) e in
@@ -367,9 +367,9 @@ lead_by true closes at t ts e h =
       place = omega (arith, there, h.place, size);
       inner = inner ∙ ap (λ (us : List SourceToken). t ∷ us) h.inner;
       first =
-          ap (λ (x : Split SourceToken). behind_space token_role x.first) here
+          ap (λ (x : Split SourceToken). after_leading_space token_role x.first) here
           ∙ space_front token_role t s.first
-          ∙ ap (λ b. cond b (behind_space token_role s.first) (t ∷ s.first)) e
+          ∙ ap (λ b. cond b (after_leading_space token_role s.first) (t ∷ s.first)) e
           ∙ h.first;
       further = ap (λ (x : Split SourceToken). x.further) here ∙ h.further;
     }
@@ -382,7 +382,7 @@ lead_by false closes at t ts e h =
       spaces = All-nil (λ u. token_role u ≡ Space);
       place = omega (arith, there);
       inner = refl;
-      first = inner_first (ends_text closes (token_role t) 0) t (inner_tokens closes (level_behind (token_role t) 0) ts) e;
+      first = inner_first (ends_text closes (token_role t) 0) t (inner_tokens closes (level_after (token_role t) 0) ts) e;
       further = refl;
     }
 
@@ -403,15 +403,15 @@ has_lead [] closes at =
 has_lead (t ∷ ts) closes at = lead_by (is_space (token_role t)) closes at t ts refl (has_lead ts closes (at + length t.bytes))
 
 -- behind white space a text goes on as plain text
-lead_behind : (lead rest : List SourceToken) (bs : List ℕ) → text_tokens Plain bs ≡ lead ++ rest → All (λ t. token_role t ≡ Space) lead
+lead_after : (lead rest : List SourceToken) (bs : List ℕ) → text_tokens Plain bs ≡ lead ++ rest → All (λ t. token_role t ≡ Space) lead
     → (text_tokens Plain (drop (length (bytes_of lead)) bs) ≡ rest) × (length (bytes_of lead) ≤ length bs)
 unfolding closes_text
-lead_behind [] rest bs e spaces = (e, omega arith)
-lead_behind (t ∷ lead) rest bs e spaces =
+lead_after [] rest bs e spaces = (e, omega arith)
+lead_after (t ∷ lead) rest bs e spaces =
     let P : SourceToken → Type 0 = λ u. token_role u ≡ Space in
-    let f = first_behind Plain bs t (lead ++ rest) e (ap closes_text (All-head P t lead spaces)) in
+    let f = first_after Plain bs t (lead ++ rest) e (ap closes_text (All-head P t lead spaces)) in
     let later = drop (length t.bytes) bs in
-    let h = lead_behind lead rest later f.0 (All-tail P t lead spaces) in
+    let h = lead_after lead rest later f.0 (All-tail P t lead spaces) in
     let size = length-append t.bytes (bytes_of lead) in
     let left = length-drop (length t.bytes) bs in (
       ap (λ (n : ℕ). text_tokens Plain (drop n bs)) size
@@ -426,7 +426,7 @@ follows_at : (closes : Bool) (text : List ℕ) (start to : ℕ) (end : PartEnd) 
     → FollowsIn closes start end ts (inner_tokens closes 0 ts) first further → Follows closes text to end further
 unfolding FollowsIn Follows closes_text is_one_role inner_size
 follows_at closes text start to (Comma n) ts first further inside e low size c =
-    let b = text_behind Plain (drop start text) first c.comma c.more (e ∙ c.whole) (ap closes_text c.cuts) in
+    let b = text_after Plain (drop start text) first c.comma c.more (e ∙ c.whole) (ap closes_text c.cuts) in
     let one : length c.comma.bytes ≡ 1 = text_one Plain (drop start text) first c.comma c.more (e ∙ c.whole) (ap is_one_role c.cuts) in
     let left = length-drop start text in
     let k = length (bytes_of first) + length c.comma.bytes in
@@ -488,7 +488,7 @@ unfolding inner_size
 next_part_is closes text start p at is =
     let h = has_lead (body_tokens text) closes 0 in
     let place : start ≡ length (bytes_of h.lead) = omega (arith, at, h.place) in
-    let b = lead_behind h.lead h.rest text (sym (body_text text) ∙ h.whole) h.spaces in
+    let b = lead_after h.lead h.rest text (sym (body_text text) ∙ h.whole) h.spaces in
     let inside : start ≤ length text = omega (arith, place, b.1) in
     let tokens : text_tokens Plain (drop start text) ≡ h.rest = ap (λ (n : ℕ). text_tokens Plain (drop n text)) place ∙ b.0 in
     let found : body_tokens (drop start text) ≡ h.rest = body_text (drop start text) ∙ tokens in

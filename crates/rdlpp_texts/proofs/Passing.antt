@@ -22,14 +22,14 @@ use Rattle.rdlpp_meaning.specs.Actuals.{token_role}
 use Rattle.rdlpp_meaning.specs.CallScan.{is_kept}
 use Rattle.rdlpp_meaning.specs.Expansion.{is_copied}
 use Rattle.rdlpp_meaning.specs.OpenItems.{open_left}
-use Rattle.rdlpp_meaning.specs.Opens.{AreOpen, Open, Texts, found_standing, open_behind, open_body, open_bytes, open_scope, own_text, part_tokens, scope_formals, scope_open, text_around}
+use Rattle.rdlpp_meaning.specs.Opens.{AreOpen, Open, Texts, found_standing, open_after, open_body, open_bytes, open_scope, own_text, part_tokens, scope_formals, scope_open, text_around}
 use Rattle.rdlpp_meaning.specs.Outcome.{Outcome, and_then, fails, gives}
 use Rattle.rdlpp_meaning.specs.State.{Rules, State, fault_at}
 use Rattle.rdlpp_meaning.specs.Substitution.{body_tokens}
 use Rattle.rdlpp_meaning.specs.TextTokens.{text_tokens}
 use Rattle.rdlpp_meaning.specs.declared.fault.FaultKind.{FaultKind}
 use Rattle.rdlpp_meaning.specs.declared.fault.FaultKind.TheVariants.{BareBackquote as NoName, DepthPassed}
-use Rattle.rdlpp_meaning.proofs.OpenScopes.{Alone, behind-formals, behind-open, first_behind, first_bytes, first_kind, part-whole, range_behind, standing-found}
+use Rattle.rdlpp_meaning.proofs.OpenScopes.{Alone, following-formals, following-open, first_after, first_bytes, first_kind, part-whole, range_after, standing-found}
 use Rattle.rdlpp_meaning.proofs.OpenSteps.{first_token, left-mode, step-bare as left-bare, step-closes, step-copies, step-formal as left-formal, step-formal_deep as left-formal_deep}
 use Rattle.rdlpp_meaning.proofs.Outcomes.{and_then-gives_gives, and_then-gives_nil}
 use Rattle.rdlpp_meaning.proofs.KeptTexts.{HasCleanTexts, clean_keeps_all, clean_table, first_spelled, text_nil, text_step}
@@ -123,21 +123,21 @@ point-plain formals at InBlock text bytes e =
     holds-fails (is_none (point_at formals at (block_token 0 text) bytes)) (block-none formals at 0 text bytes) e
 
 -- a part of a text behind some of its bytes
-pub slice-behind : (text : List ℕ) (from to n : ℕ) → n ≤ length (slice_range text from to) → slice_range text (from + n) to ≡ drop n (slice_range text from to)
-slice-behind text from to n h =
+pub slice-following : (text : List ℕ) (from to n : ℕ) → n ≤ length (slice_range text from to) → slice_range text (from + n) to ≡ drop n (slice_range text from to)
+slice-following text from to n h =
     let size = length-take (to - from) (drop from text) in
-    sym (range_behind text from to n (omega (arith, h, size)))
+    sym (range_after text from to n (omega (arith, h, size)))
 
 -- what is left of an open text behind some of its bytes
-pub bytes-behind : (texts : Texts) (x : Open) (below : List Open) (n : ℕ) (mode : Mode) → n ≤ length (open_bytes texts x below)
-    → open_bytes texts (open_behind x n mode) below ≡ drop n (open_bytes texts x below)
-unfolding open_bytes open_behind
-bytes-behind texts x below n mode h = slice-behind (text_around texts x.kind x.parent below) x.part.from x.part.end n h
+pub bytes-following : (texts : Texts) (x : Open) (below : List Open) (n : ℕ) (mode : Mode) → n ≤ length (open_bytes texts x below)
+    → open_bytes texts (open_after x n mode) below ≡ drop n (open_bytes texts x below)
+unfolding open_bytes open_after
+bytes-following texts x below n mode h = slice-following (text_around texts x.kind x.parent below) x.part.from x.part.end n h
 
 -- an open text behind some bytes and then others
-behind-behind : (x : Open) (n m : ℕ) (mode next : Mode) → open_behind (open_behind x n mode) m next ≡ open_behind x (n + m) next
-unfolding open_behind
-behind-behind x n m mode next =
+following-following : (x : Open) (n m : ℕ) (mode next : Mode) → open_after (open_after x n mode) m next ≡ open_after x (n + m) next
+unfolding open_after
+following-following x n m mode next =
     let e : x.part.from + n + m ≡ x.part.from + (n + m) = omega arith in
     ap (λ (from : ℕ). record { part = record { from = from; end = x.part.end; mode = next }; parent = x.parent; kind = x.kind }) e
 
@@ -146,17 +146,17 @@ abbrev pub HasFormals : Texts → List Formal → Open → List Open → Type 0
 HasFormals texts formals x below = formals ≡ scope_formals texts.macros (x ∷ below) (open_scope x below)
 
 -- they are so behind some of its bytes too
-formals-behind : (texts : Texts) (formals : List Formal) (x : Open) (below : List Open) (n : ℕ) (mode : Mode) → HasFormals texts formals x below
-    → HasFormals texts formals (open_behind x n mode) below
-unfolding open_scope open_behind
-formals-behind texts formals x below n mode h = h ∙ sym (behind-formals texts.macros x below (open_scope x below) n mode)
+formals-following : (texts : Texts) (formals : List Formal) (x : Open) (below : List Open) (n : ℕ) (mode : Mode) → HasFormals texts formals x below
+    → HasFormals texts formals (open_after x n mode) below
+unfolding open_scope open_after
+formals-following texts formals x below n mode h = h ∙ sym (following-formals texts.macros x below (open_scope x below) n mode)
 
 -- the first token of an open text is lent where it is no stop
 first-goes : (rules : Rules) (s : State) (line depth : ℕ) (texts : Texts) (formals : List Formal) (x : Open) (below : List Open)
     → AreOpen texts (x ∷ below) → HasFormals texts formals x below → 0 < length (open_bytes texts x below)
     → is_none (point_at formals 0 (token_of x.part.mode (open_bytes texts x below)) (first_bytes texts x below)) ≡ true
     → open_left rules s line depth texts (x ∷ below)
-    ≡ and_then (gives (first_bytes texts x below)) (open_left rules s line depth texts (first_behind texts x below ∷ below))
+    ≡ and_then (gives (first_bytes texts x below)) (open_left rules s line depth texts (first_after texts x below ∷ below))
 unfolding first_kind first_bytes first_token of_kind
 first-goes rules s line depth texts formals x below h f some e =
     let t = token_of x.part.mode (open_bytes texts x below) in
@@ -171,22 +171,22 @@ pub record IsRun (rules : Rules) (s : State) (line depth : ℕ) (texts : Texts) 
   pub mode : Mode
   pub plain : text_tokens mode (drop n (open_bytes texts x below)) ≡ text_tokens Plain (drop n (open_bytes texts x below))
   pub goes : open_left rules s line depth texts (x ∷ below)
-      ≡ and_then (gives (take n (open_bytes texts x below))) (open_left rules s line depth texts (open_behind x n mode ∷ below))
+      ≡ and_then (gives (take n (open_bytes texts x below))) (open_left rules s line depth texts (open_after x n mode ∷ below))
 
 -- no tokens
 run-none : (rules : Rules) (s : State) (line depth : ℕ) (texts : Texts) (x : Open) (below : List Open)
     → text_tokens x.part.mode (open_bytes texts x below) ≡ text_tokens Plain (open_bytes texts x below)
     → IsRun rules s line depth texts x below 0
-unfolding open_behind
+unfolding open_after
 run-none rules s line depth texts x below e = record {
   inside = omega arith;
   mode = x.part.mode;
   plain = e;
   goes = ap (λ (y : Open). open_left rules s line depth texts (y ∷ below)) same
-      ∙ sym (and_then-gives_nil (open_left rules s line depth texts (open_behind x 0 x.part.mode ∷ below)));
+      ∙ sym (and_then-gives_nil (open_left rules s line depth texts (open_after x 0 x.part.mode ∷ below)));
 }
   where
-    same : x ≡ open_behind x 0 x.part.mode
+    same : x ≡ open_after x 0 x.part.mode
     same =
         let e : x.part.from ≡ x.part.from + 0 = omega arith in
         ap (λ (from : ℕ). record { part = record { from = from; end = x.part.end; mode = x.part.mode }; parent = x.parent; kind = x.kind }) e
@@ -195,28 +195,28 @@ run-none rules s line depth texts x below e = record {
 run-more : (rules : Rules) (s : State) (line depth : ℕ) (texts : Texts) (formals : List Formal) (x : Open) (below : List Open) (n : ℕ)
     → AreOpen texts (x ∷ below) → HasFormals texts formals x below → 0 < length (open_bytes texts x below)
     → is_none (point_at formals 0 (token_of x.part.mode (open_bytes texts x below)) (first_bytes texts x below)) ≡ true
-    → IsRun rules s line depth texts (first_behind texts x below) below n
+    → IsRun rules s line depth texts (first_after texts x below) below n
     → IsRun rules s line depth texts x below ((token_of x.part.mode (open_bytes texts x below)).len + n)
-unfolding first_bytes first_behind
+unfolding first_bytes first_after
 run-more rules s line depth texts formals x below n h f some e r =
     let bytes = open_bytes texts x below in
     let t = token_of x.part.mode bytes in
     let part = token_of-part x.part.mode bytes some in
-    let rest : open_bytes texts (open_behind x t.len t.next_mode) below ≡ drop t.len bytes = bytes-behind texts x below t.len t.next_mode part.inside in
-    let own : take t.len bytes ++ take n (open_bytes texts (open_behind x t.len t.next_mode) below) ≡ take (t.len + n) bytes =
+    let rest : open_bytes texts (open_after x t.len t.next_mode) below ≡ drop t.len bytes = bytes-following texts x below t.len t.next_mode part.inside in
+    let own : take t.len bytes ++ take n (open_bytes texts (open_after x t.len t.next_mode) below) ≡ take (t.len + n) bytes =
     ap (λ (b : List ℕ). take t.len bytes ++ take n b) rest ∙ sym (take-add t.len n bytes) in
-    let left : drop n (open_bytes texts (open_behind x t.len t.next_mode) below) ≡ drop (t.len + n) bytes =
+    let left : drop n (open_bytes texts (open_after x t.len t.next_mode) below) ≡ drop (t.len + n) bytes =
     ap (λ (b : List ℕ). drop n b) rest ∙ drop-drop n t.len bytes in
-    let last : Outcome = open_left rules s line depth texts (open_behind (open_behind x t.len t.next_mode) n r.mode ∷ below) in
+    let last : Outcome = open_left rules s line depth texts (open_after (open_after x t.len t.next_mode) n r.mode ∷ below) in
     record {
-      inside = fits t.len n (open_bytes texts (open_behind x t.len t.next_mode) below) bytes rest part.inside r.inside;
+      inside = fits t.len n (open_bytes texts (open_after x t.len t.next_mode) below) bytes rest part.inside r.inside;
       mode = r.mode;
       plain = subst (λ (b : List ℕ). text_tokens r.mode b ≡ text_tokens Plain b) left r.plain;
       goes = first-goes rules s line depth texts formals x below h f some e
           ∙ ap (λ (o : Outcome). and_then (gives (take t.len bytes)) o) r.goes
-          ∙ and_then-gives_gives (take t.len bytes) (take n (open_bytes texts (open_behind x t.len t.next_mode) below)) last
+          ∙ and_then-gives_gives (take t.len bytes) (take n (open_bytes texts (open_after x t.len t.next_mode) below)) last
           ∙ ap (λ (b : List ℕ). and_then (gives b) last) own
-          ∙ ap (λ (y : Open). and_then (gives (take (t.len + n) bytes)) (open_left rules s line depth texts (y ∷ below))) (behind-behind x t.len n t.next_mode r.mode);
+          ∙ ap (λ (y : Open). and_then (gives (take (t.len + n) bytes)) (open_left rules s line depth texts (y ∷ below))) (following-following x t.len n t.next_mode r.mode);
     }
   where
     fits : (a b : ℕ) (xs ys : List ℕ) → xs ≡ drop a ys → a ≤ length ys → b ≤ length xs → a + b ≤ length ys
@@ -236,7 +236,7 @@ nil-same m (b ∷ bs) e =
 run-by : (rules : Rules) (s : State) (line depth : ℕ) (texts : Texts) (formals : List Formal) (ts : List Token) (x : Open) (below : List Open) (none : Bool)
     → AreOpen texts (x ∷ below) → HasFormals texts formals x below → 0 < length (open_bytes texts x below)
     → is_none (point_at formals 0 (token_of x.part.mode (open_bytes texts x below)) (first_bytes texts x below)) ≡ none
-    → IsRun rules s line depth texts (first_behind texts x below) below (run_len formals ts (drop (token_of x.part.mode (open_bytes texts x below)).len (open_bytes texts x below)))
+    → IsRun rules s line depth texts (first_after texts x below) below (run_len formals ts (drop (token_of x.part.mode (open_bytes texts x below)).len (open_bytes texts x below)))
     → IsRun rules s line depth texts x below (if none then (token_of x.part.mode (open_bytes texts x below)).len + run_len formals ts (drop (token_of x.part.mode (open_bytes texts x below)).len (open_bytes texts x below)) else 0)
 run-by rules s line depth texts formals ts x below true h f some e r =
     run-more rules s line depth texts formals x below _ h f some e r
@@ -249,22 +249,22 @@ pub run-is : (rules : Rules) (s : State) (line depth : ℕ) (texts : Texts) (for
     → AreOpen texts (x ∷ below) → HasFormals texts formals x below
     → tokens_from x.part.mode 0 (open_bytes texts x below) ≡ ts
     → IsRun rules s line depth texts x below (run_len formals ts (open_bytes texts x below))
-unfolding run_len first_bytes first_behind open_behind
+unfolding run_len first_bytes first_after open_after
 run-is rules s line depth texts formals [] x below h f e =
     run-none rules s line depth texts x below (nil-same x.part.mode (open_bytes texts x below) e)
 run-is rules s line depth texts formals (t ∷ ts) x below h f e =
     let bytes = open_bytes texts x below in
     let p = tokens_from-first x.part.mode bytes t ts e in
     let T = token_of x.part.mode bytes in
-    let rest : open_bytes texts (first_behind texts x below) below ≡ drop T.len bytes =
-    bytes-behind texts x below T.len T.next_mode (token_of-part x.part.mode bytes p.0).inside in
+    let rest : open_bytes texts (first_after texts x below) below ≡ drop T.len bytes =
+    bytes-following texts x below T.len T.next_mode (token_of-part x.part.mode bytes p.0).inside in
     let same : T ≡ t = p.1.0 in
-    let tokens : tokens_from T.next_mode 0 (open_bytes texts (first_behind texts x below) below) ≡ ts =
+    let tokens : tokens_from T.next_mode 0 (open_bytes texts (first_after texts x below) below) ≡ ts =
     ap (λ (b : List ℕ). tokens_from T.next_mode 0 b) rest ∙ ap (λ (u : Token). tokens_from u.next_mode 0 (drop u.len bytes)) same ∙ p.1.1 in
-    let inner : IsRun rules s line depth texts (first_behind texts x below) below (run_len formals ts (drop T.len bytes)) =
-    subst (λ (b : List ℕ). IsRun rules s line depth texts (first_behind texts x below) below (run_len formals ts b)) rest
-    (run-is rules s line depth texts formals ts (first_behind texts x below) below (behind-open texts x below T.len T.next_mode h)
-    (formals-behind texts formals x below T.len T.next_mode f) tokens) in
+    let inner : IsRun rules s line depth texts (first_after texts x below) below (run_len formals ts (drop T.len bytes)) =
+    subst (λ (b : List ℕ). IsRun rules s line depth texts (first_after texts x below) below (run_len formals ts b)) rest
+    (run-is rules s line depth texts formals ts (first_after texts x below) below (following-open texts x below T.len T.next_mode h)
+    (formals-following texts formals x below T.len T.next_mode f) tokens) in
     subst (λ (u : Token). IsRun rules s line depth texts x below
     (if is_none (point_at formals 0 u (take u.len bytes)) then u.len + run_len formals ts (drop u.len bytes) else 0)) same
     (run-by rules s line depth texts formals ts x below (is_none (point_at formals 0 T (take T.len bytes))) h f p.0 refl inner)
@@ -274,7 +274,7 @@ pub run-goes : (rules : Rules) (s : State) (line depth : ℕ) (texts : Texts) (f
     → AreOpen texts (x ∷ below) → HasFormals texts formals x below
     → run_len formals (tokens_from x.part.mode 0 (open_bytes texts x below)) (open_bytes texts x below) ≡ n
     → open_left rules s line depth texts (x ∷ below)
-    ≡ and_then (gives (take n (open_bytes texts x below))) (open_left rules s line depth texts (open_behind x n Plain ∷ below))
+    ≡ and_then (gives (take n (open_bytes texts x below))) (open_left rules s line depth texts (open_after x n Plain ∷ below))
 run-goes rules s line depth texts formals x below n h f e =
     let r : IsRun rules s line depth texts x below n =
     subst (λ (k : ℕ). IsRun rules s line depth texts x below k) e
@@ -282,7 +282,7 @@ run-goes rules s line depth texts formals x below n h f e =
     r.goes
     ∙ ap (λ (o : Outcome). and_then (gives (take n (open_bytes texts x below))) o)
     (left-mode rules s line depth texts x below n r.mode Plain
-    (subst (λ (b : List ℕ). text_tokens r.mode b ≡ text_tokens Plain b) (sym (bytes-behind texts x below n r.mode r.inside)) r.plain))
+    (subst (λ (b : List ℕ). text_tokens r.mode b ≡ text_tokens Plain b) (sym (bytes-following texts x below n r.mode r.inside)) r.plain))
 
 -- Open texts in which no call drops a token.
 
@@ -308,34 +308,34 @@ default-keeps table id place sound h k =
     (at-each (λ (f : Formal). IsCleanText f.text) fs place no_formal clean.defaults k))
 
 -- what holds of the tokens of a text holds of those behind the first
-behind-first : (P : SourceToken → Type 0) (m : Mode) (bytes : List ℕ) → 0 < length bytes → All P (text_tokens m bytes)
+following-first : (P : SourceToken → Type 0) (m : Mode) (bytes : List ℕ) → 0 < length bytes → All P (text_tokens m bytes)
     → All P (text_tokens (token_of m bytes).next_mode (drop (token_of m bytes).len bytes))
-behind-first P m bytes some all =
+following-first P m bytes some all =
     let rest = text_tokens (token_of m bytes).next_mode (drop (token_of m bytes).len bytes) in
     All-tail P (first_spelled m bytes) rest (subst (λ (ts : List SourceToken). All P ts) (text_step m bytes some) all)
 
 -- and of those behind a run, by whether the first is of it
-behind-by : (P : SourceToken → Type 0) (formals : List Formal) (m : Mode) (bytes : List ℕ) (n : ℕ) (none : Bool)
+following-by : (P : SourceToken → Type 0) (formals : List Formal) (m : Mode) (bytes : List ℕ) (n : ℕ) (none : Bool)
     → is_none (point_at formals 0 (token_of m bytes) (take (token_of m bytes).len bytes)) ≡ none → All P (text_tokens m bytes)
     → All P (text_tokens Plain (drop n (drop (token_of m bytes).len bytes)))
     → All P (text_tokens Plain (drop (if none then (token_of m bytes).len + n else 0) bytes))
-behind-by P formals m bytes n true e all rest = subst (λ (b : List ℕ). All P (text_tokens Plain b)) (drop-drop n (token_of m bytes).len bytes) rest
-behind-by P formals m bytes n false e all rest =
+following-by P formals m bytes n true e all rest = subst (λ (b : List ℕ). All P (text_tokens Plain b)) (drop-drop n (token_of m bytes).len bytes) rest
+following-by P formals m bytes n false e all rest =
     subst (λ (mode : Mode). All P (text_tokens mode bytes)) (point-plain formals 0 m bytes (take (token_of m bytes).len bytes) e) all
 
 -- and of those behind a run
-behind-run : (P : SourceToken → Type 0) (formals : List Formal) (ts : List Token) (m : Mode) (bytes : List ℕ) → tokens_from m 0 bytes ≡ ts → All P (text_tokens m bytes)
+following-run : (P : SourceToken → Type 0) (formals : List Formal) (ts : List Token) (m : Mode) (bytes : List ℕ) → tokens_from m 0 bytes ≡ ts → All P (text_tokens m bytes)
     → All P (text_tokens Plain (drop (run_len formals ts bytes) bytes))
 unfolding run_len
-behind-run P formals [] m bytes e all = subst (λ (us : List SourceToken). All P us) (nil-same m bytes e) all
-behind-run P formals (t ∷ ts) m bytes e all =
+following-run P formals [] m bytes e all = subst (λ (us : List SourceToken). All P us) (nil-same m bytes e) all
+following-run P formals (t ∷ ts) m bytes e all =
     let p = tokens_from-first m bytes t ts e in
     let T = token_of m bytes in
     let same : T ≡ t = p.1.0 in
     let tokens : tokens_from T.next_mode 0 (drop T.len bytes) ≡ ts = ap (λ (u : Token). tokens_from u.next_mode 0 (drop u.len bytes)) same ∙ p.1.1 in
-    let rest = behind-run P formals ts T.next_mode (drop T.len bytes) tokens (behind-first P m bytes p.0 all) in
+    let rest = following-run P formals ts T.next_mode (drop T.len bytes) tokens (following-first P m bytes p.0 all) in
     subst (λ (u : Token). All P (text_tokens Plain (drop (if is_none (point_at formals 0 u (take u.len bytes)) then u.len + run_len formals ts (drop u.len bytes) else 0) bytes))) same
-    (behind-by P formals m bytes (run_len formals ts (drop T.len bytes)) (is_none (point_at formals 0 T (take T.len bytes))) refl all rest)
+    (following-by P formals m bytes (run_len formals ts (drop T.len bytes)) (is_none (point_at formals 0 T (take T.len bytes))) refl all rest)
 
 -- open texts of which the innermost goes on at a place are sound, where no call in what is left then drops a token
 pub sound-moved : (texts : Texts) (x : Open) (below : List Open) (at : ℕ) → AreSound texts (x ∷ below)
@@ -351,10 +351,10 @@ sound-moved texts x below at h keeps = record {
 -- they are behind some bytes, where it is so of these bytes
 bytes-sound : (texts : Texts) (x : Open) (below : List Open) (n : ℕ) → AreSound texts (x ∷ below) → n ≤ length (open_bytes texts x below)
     → KeepsAll (text_tokens Plain (drop n (open_bytes texts x below))) → AreSound texts (moved_to (x.part.from + n) (x ∷ below))
-unfolding part_tokens open_bytes open_behind
+unfolding part_tokens open_bytes open_after
 bytes-sound texts x below n h inside keeps =
     sound-moved texts x below (x.part.from + n) h
-    (subst (λ (b : List ℕ). KeepsAll (text_tokens Plain b)) (sym (bytes-behind texts x below n Plain inside)) keeps)
+    (subst (λ (b : List ℕ). KeepsAll (text_tokens Plain b)) (sym (bytes-following texts x below n Plain inside)) keeps)
 
 -- no call in the bytes that are left of the innermost drops a token
 pub left-keeps : (texts : Texts) (x : Open) (below : List Open) → AreSound texts (x ∷ below) → KeepsAll (text_tokens Plain (open_bytes texts x below))
@@ -369,7 +369,7 @@ run-sound texts formals x below n h inside e =
     let bytes = open_bytes texts x below in
     bytes-sound texts x below n h inside
     (subst (λ (k : ℕ). KeepsAll (text_tokens Plain (drop k bytes))) e
-    (behind-run (λ u. is_kept (token_role u) ≡ true) formals (tokens_from Plain 0 bytes) Plain bytes refl (left-keeps texts x below h)))
+    (following-run (λ u. is_kept (token_role u) ≡ true) formals (tokens_from Plain 0 bytes) Plain bytes refl (left-keeps texts x below h)))
 
 -- and behind a first token of a kind that closes, as a name and a usage do
 pub first-sound : (texts : Texts) (x : Open) (below : List Open) (len : ℕ) → AreSound texts (x ∷ below) → 0 < length (open_bytes texts x below)
@@ -381,7 +381,7 @@ first-sound texts x below len h some closes e =
     subst (λ (n : ℕ). AreSound texts (moved_to (x.part.from + n) (x ∷ below))) e
     (bytes-sound texts x below (token_of Plain bytes).len h part.inside
     (subst (λ (m : Mode). KeepsAll (text_tokens m (drop (token_of Plain bytes).len bytes))) (closed_kind_plain Plain bytes closes)
-    (behind-first (λ u. is_kept (token_role u) ≡ true) Plain bytes some (left-keeps texts x below h))))
+    (following-first (λ u. is_kept (token_role u) ≡ true) Plain bytes some (left-keeps texts x below h))))
 
 -- One step of open texts, by what stands at the front of the innermost.
 
@@ -398,12 +398,12 @@ pub step-run : (line depth : ℕ) (texts : Texts) (x : Open) (below : List Open)
     → 0 < n → AreCopied (source_formals texts (front_source (x ∷ below))) (open_bytes texts x below) n
     → take n (open_bytes texts x below) ≡ place_bytes texts place
     → IsStep line depth texts (x ∷ below) (Lends place) (moved_to (x.part.from + n) (x ∷ below))
-unfolding IsStep StepsTo AreCopied moved_to open_behind
+unfolding IsStep StepsTo AreCopied moved_to open_after
 step-run line depth texts x below n place h some f p rules s m =
     let mode : x.part.mode ≡ Plain = (h.are_inside).1.1.0 in
     (run-goes rules s line depth texts (source_formals texts (front_source (x ∷ below))) x below n h.are_open (front-formals texts x below (h.are_open).0)
     (ap (λ (md : Mode). run_len (source_formals texts (front_source (x ∷ below))) (tokens_from md 0 (open_bytes texts x below)) (open_bytes texts x below)) mode ∙ f.1))
-    ∙ ap (λ (bytes : List ℕ). and_then (gives bytes) (open_left rules s line depth texts (open_behind x n Plain ∷ below))) p
+    ∙ ap (λ (bytes : List ℕ). and_then (gives bytes) (open_left rules s line depth texts (open_after x n Plain ∷ below))) p
 
 -- the kind of the first token
 pub kind-first : (texts : Texts) (x : Open) (below : List Open) (kind : Kind) → x.part.mode ≡ Plain → (token_of Plain (open_bytes texts x below)).kind ≡ kind
@@ -437,13 +437,13 @@ bytes-first texts x below len m e =
 
 -- behind a first token of a kind that closes, the open text goes on as plain text
 pub first-moved : (texts : Texts) (x : Open) (below : List Open) (len : ℕ) → x.part.mode ≡ Plain → opens_mode (token_of Plain (open_bytes texts x below)).kind ≡ false
-    → (token_of Plain (open_bytes texts x below)).len ≡ len → first_behind texts x below ≡ open_behind x len Plain
-unfolding first_behind
+    → (token_of Plain (open_bytes texts x below)).len ≡ len → first_after texts x below ≡ open_after x len Plain
+unfolding first_after
 first-moved texts x below len m k e =
     let bytes = open_bytes texts x below in
-    ap (λ (md : Mode). open_behind x (token_of md bytes).len (token_of md bytes).next_mode) m
-    ∙ ap (λ (md : Mode). open_behind x (token_of Plain bytes).len md) (closed_kind_plain Plain bytes k)
-    ∙ ap (λ (n : ℕ). open_behind x n Plain) e
+    ap (λ (md : Mode). open_after x (token_of md bytes).len (token_of md bytes).next_mode) m
+    ∙ ap (λ (md : Mode). open_after x (token_of Plain bytes).len md) (closed_kind_plain Plain bytes k)
+    ∙ ap (λ (n : ℕ). open_after x n Plain) e
 
 -- a name closes
 pub name-closes : (kind : Kind) → kind ≡ Name → opens_mode kind ≡ false
@@ -466,7 +466,7 @@ pub step-formal : (line depth : ℕ) (texts : Texts) (x : Open) (below : List Op
     → found_standing texts.macros (scope_open (x ∷ below) (open_scope x below)) (open_scope x below) place ≡ Some new
     → length (x ∷ below) < depth
     → IsStep line depth texts (x ∷ below) Silent (new ∷ moved_to (x.part.from + len) (x ∷ below))
-unfolding IsStep StepsTo IsTextItem moved_to open_behind
+unfolding IsStep StepsTo IsTextItem moved_to open_after
 step-formal line depth texts x below len place new h f standing room rules s m =
     let mode : x.part.mode ≡ Plain = (h.are_inside).1.1.0 in
     let named : formal_named (scope_formals texts.macros (x ∷ below) (open_scope x below)) (first_bytes texts x below) ≡ Some place = first-formal texts x below len place mode (h.are_open).0 f.2 f.3 in
@@ -652,9 +652,9 @@ pass-on texts view mid new place p q = record {
 }
 
 -- so they are where that step is refused, and nothing changes
-pub pass-behind : (texts : Texts) (view mid new : CursorsView) (place : TextPlace) (step : CursorStep) → IsPassed texts view mid (Lends place) → IsPassed texts mid new step
+pub pass-following : (texts : Texts) (view mid new : CursorsView) (place : TextPlace) (step : CursorStep) → IsPassed texts view mid (Lends place) → IsPassed texts mid new step
     → IsUnlent step → IsPassed texts view new (Lends place)
 unfolding StaysRefused
-pass-behind texts view mid new place (Lends other) p q none = absurd none
-pass-behind texts view mid new place Silent p q none = pass-on texts view mid new place p q
-pass-behind texts view mid new place (Refused fault) p q none = subst (λ (v : CursorsView). IsPassed texts view v (Lends place)) (sym q.refused) p
+pass-following texts view mid new place (Lends other) p q none = absurd none
+pass-following texts view mid new place Silent p q none = pass-on texts view mid new place p q
+pass-following texts view mid new place (Refused fault) p q none = subst (λ (v : CursorsView). IsPassed texts view v (Lends place)) (sym q.refused) p

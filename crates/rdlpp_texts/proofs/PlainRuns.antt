@@ -6,7 +6,7 @@ use Rattle.std.proofs.lemmas.List.{drop_all, drop_more}
 use Rattle.std.proofs.lemmas.List.Sums.{prefix_len-le-length}
 use Rattle.memchr.specs.Find.{IsFirstByte, is_byte, is_byte2}
 use Rattle.rdlpp_scan.specs.Bytes.{begins_perl, is_blank, is_closer, is_digit, is_letter, is_line_end, is_opener, is_word, takes_word}
-use Rattle.rdlpp_scan.specs.TokenParts.{kind_of, len_of, mark_kind, mode_behind, plain_kind, stop_of}
+use Rattle.rdlpp_scan.specs.TokenParts.{kind_of, len_of, mark_kind, mode_after, plain_kind, stop_of}
 use Rattle.rdlpp_scan.specs.Tokens.{plain_token, token_of, tokens_from, whole}
 use Rattle.rdlpp_scan.specs.declared.token.Kind.{Kind}
 use Rattle.rdlpp_scan.specs.declared.token.Kind.TheVariants.{Back, BareBackquote, Blank, Closer, Comma, LineComment, LineEnd, Name, Opener, Other, Perl, Word}
@@ -16,7 +16,7 @@ use Rattle.rdlpp_scan.specs.declared.token.Token.{Token}
 use Rattle.rdlpp_scan.proofs.StopKinds.{both_first, digit_token, letter_token, parts, token_parts}
 use Rattle.rdlpp_scan.proofs.OrdinaryLaws.{no_first}
 use Rattle.rdlpp_scan.proofs.TokenLens.{token_of-part, tokens_from-step}
-use Rattle.rdlpp_meaning.specs.Actuals.{Down, End, Start, Up, is_space, kind_role, level_behind, token_role}
+use Rattle.rdlpp_meaning.specs.Actuals.{Down, End, Start, Up, is_space, kind_role, level_after, token_role}
 use Rattle.rdlpp_meaning.specs.CallScan.{is_kept}
 use Rattle.rdlpp_meaning.specs.Substitution.{body_tokens}
 use Rattle.rdlpp_meaning.specs.TextTokens.{text_tokens}
@@ -187,14 +187,14 @@ control_class level b low = sym (ap (λ (t : Bool). cond (is_white b) White (con
 -- the search at a token of text
 text_turn : (closes : Bool) (start at level end : ℕ) (text : List ℕ) (n : ℕ) → IsFirstToken Plain text (call.plain_token role.Text n)
     → part_from closes start at level end (text_tokens Plain text) ≡ part_from closes start (at + n) level (at + n) (text_tokens Plain (drop n text))
-unfolding role_meant ends_text ends_call ends_part level_behind is_space
+unfolding role_meant ends_text ends_call ends_part level_after is_space
 text_turn true start at level end text n f = rest_turn true Plain text start at level end (call.plain_token role.Text n) f
 text_turn false start at level end text n f = rest_turn false Plain text start at level end (call.plain_token role.Text n) f
 
 -- and at white space
 space_turn : (closes : Bool) (start at level end : ℕ) (text : List ℕ) (n : ℕ) → IsFirstToken Plain text (call.plain_token role.Space n)
     → part_from closes start at level end (text_tokens Plain text) ≡ part_from closes start (at + n) level end (text_tokens Plain (drop n text))
-unfolding role_meant ends_text ends_call ends_part level_behind is_space
+unfolding role_meant ends_text ends_call ends_part level_after is_space
 space_turn true start at level end text n f = rest_turn true Plain text start at level end (call.plain_token role.Space n) f
 space_turn false start at level end text n f = rest_turn false Plain text start at level end (call.plain_token role.Space n) f
 
@@ -303,7 +303,7 @@ along b bs k e r =
 -- by the rows of the token table
 mark_first : (b : ℕ) (bs : List ℕ) → is_plain_argument b ≡ true → is_line_end b ≡ false → is_digit b ≡ false
     → token_of Plain (b ∷ bs) ≡ parts Plain (mark_kind b (get_or (b ∷ bs) 1 0)) (b ∷ bs) → IsPlainArgumentFirst b bs
-unfolding is_plain_argument parts stop_of mode_behind len_of mark_kind whole kind_role role_meant
+unfolding is_plain_argument parts stop_of mode_after len_of mark_kind whole kind_role role_meant
 mark_first b bs plain_argument line digit =
     let T = b ∷ bs in
     let c = get_or T 1 0 in
@@ -355,7 +355,7 @@ plain_argument_step closes start at level end b bs plain_argument =
 -- a comma within an opener is a token that the search passes
 comma_turn : (closes : Bool) (start at k end : ℕ) (bs : List ℕ)
     → part_from closes start at (suc k) end (text_tokens Plain (44 ∷ bs)) ≡ part_from closes start (at + 1) (suc k) (at + 1) (text_tokens Plain bs)
-unfolding role_meant ends_text ends_call ends_part level_behind is_space
+unfolding role_meant ends_text ends_call ends_part level_after is_space
 comma_turn true start at k end bs = rest_turn true Plain (44 ∷ bs) start at (suc k) end (call.plain_token role.Comma 1) (comma_here bs)
 comma_turn false start at k end bs = rest_turn false Plain (44 ∷ bs) start at (suc k) end (call.plain_token role.Comma 1) (comma_here bs)
 
@@ -548,7 +548,7 @@ run_taken b bs e =
 
 -- a `%` is a token by itself
 percent : (bs : List ℕ) → token_of Plain (37 ∷ bs) ≡ whole Other 1
-unfolding parts kind_of plain_kind mark_kind stop_of mode_behind len_of whole is_blank is_line_end is_letter is_digit is_opener is_closer takes_word
+unfolding parts kind_of plain_kind mark_kind stop_of mode_after len_of whole is_blank is_line_end is_letter is_digit is_opener is_closer takes_word
 percent bs = token_parts Plain (37 ∷ bs)
 
 -- so `<%` is copied byte by byte
@@ -563,7 +563,7 @@ perl_step b (x ∷ bs) c e =
 -- a byte that stands in no run is copied, if it is no backquote and begins no string and no comment
 run_mark : (b : ℕ) (bs : List ℕ) → (b == 96) ≡ false → (b == 34) ≡ false → (b == 47) ≡ false → is_digit b ≡ false
     → token_of Plain (b ∷ bs) ≡ parts Plain (mark_kind b (get_or (b ∷ bs) 1 0)) (b ∷ bs) → run (b ∷ bs) ≡ 1 + run bs
-unfolding parts stop_of mode_behind len_of mark_kind whole is_back
+unfolding parts stop_of mode_after len_of mark_kind whole is_back
 run_mark b bs back quote slash digit =
     let T = b ∷ bs in
     let c = get_or T 1 0 in
@@ -637,16 +637,16 @@ run_found text at None first e h =
     let size : length (take at text) ≡ at = length-take-le at text (omega arith) in
     let inert = inert_before text at at first (omega arith) (λ i l. h i (omega arith) (omega (arith, size, l))) in
     let whole : at + run (drop at text) ≡ run text = sym (inert_run text at (omega arith) inert) in
-    let zero_behind : at + 0 ≡ at = omega arith in
-    let here : get_or (drop at text) 0 0 ≡ 96 = get_or-drop at text 0 0 ∙ ap (λ (k : ℕ). get_or text k 0) zero_behind ∙ eqb-true (get_or text at 0) 96 first.1 in
+    let zero_after : at + 0 ≡ at = omega arith in
+    let here : get_or (drop at text) 0 0 ≡ 96 = get_or-drop at text 0 0 ∙ ap (λ (k : ℕ). get_or text k 0) zero_after ∙ eqb-true (get_or text at 0) 96 first.1 in
     running-point text Plain at (token_of Plain (drop at text)) (record { inside = omega arith; same = whole }) inside refl (back_first (drop at text) here)
 
 -- and else goes on at the first of these, as in a text that begins there
-pub run_behind : (text : List ℕ) (at near : ℕ) (marks : Option ℕ) → IsFirstByte (is_byte 96) text (Some at) → marks ≡ Some near
+pub run_after : (text : List ℕ) (at near : ℕ) (marks : Option ℕ) → IsFirstByte (is_byte 96) text (Some at) → marks ≡ Some near
     → IsFirstByte (is_byte2 34 47) (take at text) marks → (near < length text) × (run_len [] (tokens_from Plain 0 text) text ≡ near + run_len [] (tokens_from Plain 0 (drop near text)) (drop near text))
 unfolding run
-run_behind text at near None first e h = absurd (cc)
-run_behind text at near (Some k) first e h =
+run_after text at near None first e h = absurd (cc)
+run_after text at near (Some k) first e h =
     let same : k ≡ near = cc in
     let inside : at < length text = first.0.high in
     let size : length (take at text) ≡ at = length-take-le at text (omega arith) in

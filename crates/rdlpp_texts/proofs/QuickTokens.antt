@@ -7,7 +7,7 @@ use Rattle.std.proofs.lemmas.List.Folds.{length-prefix_len}
 use Rattle.std.proofs.lemmas.Slice.{between_to_end}
 use Rattle.rdlpp_scan.specs.Bytes.{begins_block_comment, begins_line_comment, begins_perl, is_blank, is_closer, is_digit, is_letter, is_line_end, is_opener, is_word, takes_word}
 use Rattle.rdlpp_scan.specs.SourceTokens.{SourceToken}
-use Rattle.rdlpp_scan.specs.TokenParts.{kind_of, len_of, mark_kind, mode_behind, plain_kind, stop_of}
+use Rattle.rdlpp_scan.specs.TokenParts.{kind_of, len_of, mark_kind, mode_after, plain_kind, stop_of}
 use Rattle.rdlpp_scan.specs.Tokens.{block_token, plain_token, string_token, token_of, whole}
 use Rattle.rdlpp_scan.specs.declared.token.Kind.{Kind}
 use Rattle.rdlpp_scan.specs.declared.token.Kind.TheVariants.{Blank, Closer, Comma, Name, Opener, Word}
@@ -17,7 +17,7 @@ use Rattle.rdlpp_scan.specs.declared.token.Token.{Token}
 use Rattle.rdlpp_scan.proofs.StopKinds.{block_token-kind, digit_token, letter_token, parts, string_token-kind, token_parts}
 use Rattle.rdlpp_scan.proofs.CleanTexts.{blank-step, line-step}
 use Rattle.rdlpp_table.proofs.Defaults.{comma_token}
-use Rattle.rdlpp_meaning.specs.Actuals.{Down, End, Role, Start, Up, is_space, kind_role, level_behind, token_role}
+use Rattle.rdlpp_meaning.specs.Actuals.{Down, End, Role, Start, Up, is_space, kind_role, level_after, token_role}
 use Rattle.rdlpp_meaning.specs.Substitution.{body_tokens, spelled}
 use Rattle.rdlpp_meaning.specs.TextTokens.{text_tokens}
 use Rattle.rdlpp_meaning.proofs.KeptTexts.{body_text, first_size, first_spelled, text_nil, text_step}
@@ -73,7 +73,7 @@ first_token_is mode text t r some is long inside role =
 
 -- the token of blanks
 pub blank_token : (b : ℕ) (bs : List ℕ) → is_letter b ≡ false → is_blank b ≡ true → token_of Plain (b ∷ bs) ≡ whole Blank (prefix_len is_blank (b ∷ bs))
-unfolding kind_of parts stop_of mode_behind len_of plain_kind whole
+unfolding kind_of parts stop_of mode_after len_of plain_kind whole
 blank_token b bs l d =
     let T = b ∷ bs in
     let kind : plain_kind b (get_or T 1 0) ≡ Blank =
@@ -162,8 +162,8 @@ token_at mode text at token inside f =
     subst (λ (x : List ℕ). IsFirstToken mode x token) (between_to_end text at (length text) (omega arith)) f
 
 -- behind a token lies the rest of the text
-rest_behind : (mode : Mode) (text : List ℕ) (at : ℕ) (token : CallToken) → drop token.len (drop at text) ≡ drop (at + token.len) text
-rest_behind mode text at token = drop-drop token.len at text
+rest_after : (mode : Mode) (text : List ℕ) (at : ℕ) (token : CallToken) → drop token.len (drop at text) ≡ drop (at + token.len) text
+rest_after mode text at token = drop-drop token.len at text
 
 -- the search for the `(` at a token
 pub opener_turn : (mode : Mode) (text : List ℕ) (at : ℕ) (token : CallToken) → IsFirstToken mode (drop at text) token
@@ -176,20 +176,20 @@ opener_turn mode text at token f =
     ∙ ap (λ (r : Role). opener_by r (at + length f.first.bytes) (later (length f.first.bytes))) f.role_is
     ∙ ap (λ (n : ℕ). opener_by (role_meant token.role) (at + n) (later n)) f.size
     ∙ ap (λ (x : List ℕ). opener_by (role_meant token.role) (at + token.len) (opener_from (at + token.len) (text_tokens token.next_mode x)))
-    (rest_behind mode text at token)
+    (rest_after mode text at token)
 
 -- the search for the end of a part at a token with which a text begins
 pub rest_turn : (closes : Bool) (mode : Mode) (text : List ℕ) (start at level end : ℕ) (token : CallToken) → IsFirstToken mode text token
     → part_from closes start at level end (text_tokens mode text)
     ≡ cond (ends_text closes (role_meant token.role) level) (record { from = start; to = end; end = Last at })
     (cond (ends_part (role_meant token.role) level) (record { from = start; to = end; end = AtComma (at + token.len) })
-    (part_from closes start (at + token.len) (level_behind (role_meant token.role) level)
+    (part_from closes start (at + token.len) (level_after (role_meant token.role) level)
     (cond (is_space (role_meant token.role)) end (at + token.len)) (text_tokens token.next_mode (drop token.len text))))
 unfolding part_from
 rest_turn closes mode text start at level end token f =
     let later : Role → ℕ → List ℕ → Part = λ r n x. cond (ends_text closes r level) (record { from = start; to = end; end = Last at })
     (cond (ends_part r level) (record { from = start; to = end; end = AtComma (at + n) })
-    (part_from closes start (at + n) (level_behind r level) (cond (is_space r) end (at + n)) (text_tokens token.next_mode x))) in
+    (part_from closes start (at + n) (level_after r level) (cond (is_space r) end (at + n)) (text_tokens token.next_mode x))) in
     ap (part_from closes start at level end) f.tokens
     ∙ ap (λ (r : Role). later r (length f.first.bytes) (drop token.len text)) f.role_is
     ∙ ap (λ (n : ℕ). later (role_meant token.role) n (drop token.len text)) f.size
@@ -199,13 +199,13 @@ pub part_turn : (closes : Bool) (mode : Mode) (text : List ℕ) (start at level 
     → part_from closes start at level end (text_tokens mode (drop at text))
     ≡ cond (ends_text closes (role_meant token.role) level) (record { from = start; to = end; end = Last at })
     (cond (ends_part (role_meant token.role) level) (record { from = start; to = end; end = AtComma (at + token.len) })
-    (part_from closes start (at + token.len) (level_behind (role_meant token.role) level)
+    (part_from closes start (at + token.len) (level_after (role_meant token.role) level)
     (cond (is_space (role_meant token.role)) end (at + token.len)) (text_tokens token.next_mode (drop (at + token.len) text))))
 part_turn closes mode text start at level end token f =
     let later : List ℕ → Part = λ x. cond (ends_text closes (role_meant token.role) level) (record { from = start; to = end; end = Last at })
     (cond (ends_part (role_meant token.role) level) (record { from = start; to = end; end = AtComma (at + token.len) })
-    (part_from closes start (at + token.len) (level_behind (role_meant token.role) level) (cond (is_space (role_meant token.role)) end (at + token.len)) (text_tokens token.next_mode x))) in
-    rest_turn closes mode (drop at text) start at level end token f ∙ ap later (rest_behind mode text at token)
+    (part_from closes start (at + token.len) (level_after (role_meant token.role) level) (cond (is_space (role_meant token.role)) end (at + token.len)) (text_tokens token.next_mode x))) in
+    rest_turn closes mode (drop at text) start at level end token f ∙ ap later (rest_after mode text at token)
 
 -- a token lies in its text
 pub token_inside : (mode : Mode) (text : List ℕ) (at : ℕ) (token : CallToken) → at ≤ length text → IsFirstToken mode (drop at text) token
@@ -238,8 +238,8 @@ opener_lacks role.Comma here rest a b c d = refl
 opener_lacks role.Text here rest a b c d = refl
 
 -- the level is at most one higher behind a token, and so at most the place behind it
-pub level_low : (r : CallRole) (level at len now : ℕ) → 0 < len → level ≤ at → now ≡ level_behind (role_meant r) level → now ≤ at + len
-unfolding level_behind role_meant
+pub level_low : (r : CallRole) (level at len now : ℕ) → 0 < len → level ≤ at → now ≡ level_after (role_meant r) level → now ≤ at + len
+unfolding level_after role_meant
 level_low role.Space level at len now some low e = omega (arith, e)
 level_low role.LineComment level at len now some low e = omega (arith, e)
 level_low role.BlockComment level at len now some low e = omega (arith, e)
@@ -275,7 +275,7 @@ word_here text at n w =
 -- the search for the end of a part passes it
 part_word : (closes : Bool) (text : List ℕ) (at n : ℕ) → IsWordAt text at n
     → part_from closes at at 0 at (text_tokens Plain (drop at text)) ≡ part_from closes at (at + n) 0 (at + n) (text_tokens Plain (drop (at + n) text))
-unfolding role_meant ends_text ends_call ends_part level_behind is_space
+unfolding role_meant ends_text ends_call ends_part level_after is_space
 part_word closes text at zero w =
     let e : at ≡ at + 0 = omega arith in
     ap (λ (k : ℕ). part_from closes at k 0 k (text_tokens Plain (drop k text))) e
@@ -285,8 +285,8 @@ part_word false text at (suc n) w = part_turn false Plain text at at 0 at (call.
 -- a byte that stands at a place is the first from there on
 first_at : (text : List ℕ) (at b : ℕ) → get_or text at 0 ≡ b → get_or (drop at text) 0 0 ≡ b
 first_at text at b e =
-    let zero_behind : at + 0 ≡ at = omega arith in
-    get_or-drop at text 0 0 ∙ ap (λ (k : ℕ). get_or text k 0) zero_behind ∙ e
+    let zero_after : at + 0 ≡ at = omega arith in
+    get_or-drop at text 0 0 ∙ ap (λ (k : ℕ). get_or text k 0) zero_after ∙ e
 
 comma_at : (text : List ℕ) (at : ℕ) → get_or text at 0 ≡ 44 → IsFirstToken Plain (drop at text) (call.plain_token role.Comma 1)
 comma_at text at e = peek_in 44 (drop at text) (call.plain_token role.Comma 1) (omega arith) (first_at text at 44 e) comma_here

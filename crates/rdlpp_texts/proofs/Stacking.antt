@@ -573,29 +573,29 @@ stack-entered frames wide memory same_memory depth first place bindings new more
 
 -- the frames where the innermost goes on at a place
 abbrev pub moved : List Frame → ℕ → ℕ → Frame → List Frame
-moved frames first behind own = set frames first (record own { from = behind })
+moved frames first following own = set frames first (record own { from = following })
 
 -- the open texts where the body of a call is opened then
-pub called-opens : (frames wide : List Frame) (depth first place behind : ℕ) (bindings more new : List Range) (own : Frame) (id end parent n : ℕ) (bounds : Bounds)
-    → IsFree (moved frames first behind own) wide depth first place → first < length frames
+pub called-opens : (frames wide : List Frame) (depth first place following : ℕ) (bindings more new : List Range) (own : Frame) (id end parent n : ℕ) (bounds : Bounds)
+    → IsFree (moved frames first following own) wide depth first place → first < length frames
     → own ≡ get_or frames first own → n ≡ length bindings → new ≡ bindings ++ more
     → opens_of (drop place (set wide place (body-frame id end parent n bounds))) new
-    ≡ record { part = record { from = 0; end = end; mode = Plain }; parent = parent; kind = OpenBody id (map range_part more) } ∷ moved_to behind (opens_of (drop first frames) bindings)
-called-opens frames wide depth first place behind bindings more new own id end parent n bounds free inside e is whole =
-    entered-opens (moved frames first behind own) wide depth first place bindings more new id end parent n bounds free is whole
+    ≡ record { part = record { from = 0; end = end; mode = Plain }; parent = parent; kind = OpenBody id (map range_part more) } ∷ moved_to following (opens_of (drop first frames) bindings)
+called-opens frames wide depth first place following bindings more new own id end parent n bounds free inside e is whole =
+    entered-opens (moved frames first following own) wide depth first place bindings more new id end parent n bounds free is whole
     ∙ ap (λ (os : List Open). record { part = record { from = 0; end = end; mode = Plain }; parent = parent; kind = OpenBody id (map range_part more) } ∷ os)
-    (moved-opens frames first behind bindings own inside e)
+    (moved-opens frames first following bindings own inside e)
 
 -- they lie as frames do, with their room
-pub stack-called : (frames wide : List Frame) (memory same_memory depth first place behind : ℕ) (bindings new : Vec Range Global) (more : List Range) (own : Frame) (id end parent n m : ℕ) (bounds : Bounds)
-    → IsFree (moved frames first behind own) wide depth first place → same_memory ≡ memory → first < length frames
+pub stack-called : (frames wide : List Frame) (memory same_memory depth first place following : ℕ) (bindings new : Vec Range Global) (more : List Range) (own : Frame) (id end parent n m : ℕ) (bounds : Bounds)
+    → IsFree (moved frames first following own) wide depth first place → same_memory ≡ memory → first < length frames
     → own ≡ get_or frames first own → n ≡ vec_len bindings → m ≤ 255 → vec_len new ≤ vec_len bindings + m
     → new.items ≡ bindings.items ++ more → vec_capacity new ≡ vec_capacity bindings
     → IsBoundedOn (body-frame id end parent n bounds) (drop first frames) → IsStack frames memory depth first bindings
     → IsStack (set wide place (body-frame id end parent n bounds)) same_memory depth place new
-stack-called frames wide memory same_memory depth first place behind bindings new more own id end parent n m bounds free kept inside e is few size whole same on h =
-    stack-entered (moved frames first behind own) wide memory same_memory depth first place bindings new more id end parent n m bounds free kept is few size whole same
-    (moved-on (body-frame id end parent n bounds) frames first behind own inside e on) (stack-moved frames memory depth first behind bindings own inside e h)
+stack-called frames wide memory same_memory depth first place following bindings new more own id end parent n m bounds free kept inside e is few size whole same on h =
+    stack-entered (moved frames first following own) wide memory same_memory depth first place bindings new more id end parent n m bounds free kept is few size whole same
+    (moved-on (body-frame id end parent n bounds) frames first following own inside e on) (stack-moved frames memory depth first following bindings own inside e h)
 
 -- a call that is refused
 pub opening-refused : (macros : List Macro) (text : List ℕ) (at end id parent n : ℕ) (old new : CursorsView) (ranges : List Range) (kind : FaultKind) (r : Result ℕ FaultKind)
@@ -606,15 +606,15 @@ opening-refused macros text at end id parent n old new ranges kind r e k b is =
     (is, subst (λ (m : ℕ). IsBoundCall text at end m ranges (Err kind)) k (subst (λ (x : Result ℕ FaultKind). IsBoundCall text at end n ranges x) e b))
 
 -- a call that is bound
-pub call-bound : (macros : List Macro) (text : List ℕ) (at end id n : ℕ) (ranges : List Range) (behind : ℕ) (r : Result ℕ FaultKind)
-    → r ≡ Ok behind → n ≡ length (formals_of (macro_at macros id)) → IsBoundCall text at end n ranges r → AreWithin at end ranges → (at ≤ behind) × (behind ≤ end)
+pub call-bound : (macros : List Macro) (text : List ℕ) (at end id n : ℕ) (ranges : List Range) (following : ℕ) (r : Result ℕ FaultKind)
+    → r ≡ Ok following → n ≡ length (formals_of (macro_at macros id)) → IsBoundCall text at end n ranges r → AreWithin at end ranges → (at ≤ following) × (following ≤ end)
     → IsCallBound macros text at end id
-call-bound macros text at end id n ranges behind r e k b within place = record {
+call-bound macros text at end id n ranges following r e k b within place = record {
   ranges = ranges;
-  behind = behind;
+  following = following;
   within = within;
   place = place;
-  bound = subst (λ (m : ℕ). IsBoundCall text at end m ranges (Ok behind)) k (subst (λ (x : Result ℕ FaultKind). IsBoundCall text at end n ranges x) e b);
+  bound = subst (λ (m : ℕ). IsBoundCall text at end m ranges (Ok following)) k (subst (λ (x : Result ℕ FaultKind). IsBoundCall text at end n ranges x) e b);
 }
 
 -- a call that is bound where no further text may be open
@@ -624,23 +624,23 @@ unfolding IsOpening
 opening-deep macros text at end id parent old new call is deep = (is, (deep, call))
 
 -- a call that is bound opens its body
-pub opening-opened : (macros : List Macro) (text body : List ℕ) (at end id parent n : ℕ) (old new : CursorsView) (ranges : List Range) (behind : ℕ) (r : Result ℕ FaultKind)
-    → r ≡ Ok behind → n ≡ length (formals_of (macro_at macros id)) → IsBoundCall text at end n ranges r → AreWithin at end ranges → (at ≤ behind) × (behind ≤ end)
+pub opening-opened : (macros : List Macro) (text body : List ℕ) (at end id parent n : ℕ) (old new : CursorsView) (ranges : List Range) (following : ℕ) (r : Result ℕ FaultKind)
+    → r ≡ Ok following → n ≡ length (formals_of (macro_at macros id)) → IsBoundCall text at end n ranges r → AreWithin at end ranges → (at ≤ following) × (following ≤ end)
     → body ≡ (macro_at macros id).body → length old.opens < old.depth
-    → new ≡ record old { opens = record { part = record { from = 0; end = length body; mode = Plain }; parent = parent; kind = OpenBody id (map range_part ranges) } ∷ moved_to behind old.opens }
+    → new ≡ record old { opens = record { part = record { from = 0; end = length body; mode = Plain }; parent = parent; kind = OpenBody id (map range_part ranges) } ∷ moved_to following old.opens }
     → IsOpening macros text at end id parent old Opened new
 unfolding IsOpening open_body
-opening-opened macros text body at end id parent n old new ranges behind r e k b within place same room is = record {
+opening-opened macros text body at end id parent n old new ranges following r e k b within place same room is = record {
   call = record {
     ranges = ranges;
-    behind = behind;
+    following = following;
     within = within;
     place = place;
-    bound = subst (λ (m : ℕ). IsBoundCall text at end m ranges (Ok behind)) k (subst (λ (x : Result ℕ FaultKind). IsBoundCall text at end n ranges x) e b);
+    bound = subst (λ (m : ℕ). IsBoundCall text at end m ranges (Ok following)) k (subst (λ (x : Result ℕ FaultKind). IsBoundCall text at end n ranges x) e b);
   };
   room = room;
   opens = is ∙ ap (λ (bytes : List ℕ). record old {
-    opens = record { part = record { from = 0; end = length bytes; mode = Plain }; parent = parent; kind = OpenBody id (map range_part ranges) } ∷ moved_to behind old.opens;
+    opens = record { part = record { from = 0; end = length bytes; mode = Plain }; parent = parent; kind = OpenBody id (map range_part ranges) } ∷ moved_to following old.opens;
   }) same;
 }
 

@@ -171,15 +171,15 @@ bare-by formals at len next BareBackquote bytes p e = refl
 bare-by formals at len next kind bytes p e = absurd (cc)
 
 -- the first expansion point of a text is that of what stands behind the tokens before it, which is read from plain text on
-point-behind : (formals : List Formal) (at : ℕ) (ts : List Token) (mode : Mode) (text : List ℕ) → tokens_from mode 0 text ≡ ts
+point-following : (formals : List Formal) (at : ℕ) (ts : List Token) (mode : Mode) (text : List ℕ) → tokens_from mode 0 text ≡ ts
     → is_none (next_expansion_point formals at ts text) ≡ false
     → next_expansion_point formals (at + run_len formals ts text) (tokens_from Plain 0 (drop (run_len formals ts text) text)) (drop (run_len formals ts text) text)
     ≡ next_expansion_point formals at ts text
 unfolding run_len next_expansion_point is_none
-point-behind formals at [] mode text e found = absurd (true≢false found)
-point-behind formals at (t ∷ ts) mode text e found =
+point-following formals at [] mode text e found = absurd (true≢false found)
+point-following formals at (t ∷ ts) mode text e found =
     let p = tokens_from-first mode text t ts e in
-    by (is_none (point_at formals 0 t (take t.len text))) refl p.1.0 (λ some. point-behind formals (at + t.len) ts t.next_mode (drop t.len text) p.1.1 some) found
+    by (is_none (point_at formals 0 t (take t.len text))) refl p.1.0 (λ some. point-following formals (at + t.len) ts t.next_mode (drop t.len text) p.1.1 some) found
   where
     by : (none : Bool) → is_none (point_at formals 0 t (take t.len text)) ≡ none → token_of mode text ≡ t
         → (is_none (next_expansion_point formals (at + t.len) ts (drop t.len text)) ≡ false
@@ -226,7 +226,7 @@ point-moved formals from at text s e p =
     let here : at ≡ from + n = tells.0 in
     let less : n ≡ at - from = omega (arith, here) in
     e
-    ∙ sym (point-behind formals from ts Plain text refl (place-some (point_of formals from text) at (ap (λ (o : ExpansionPoint). point_place o) (sym e) ∙ p)))
+    ∙ sym (point-following formals from ts Plain text refl (place-some (point_of formals from text) at (ap (λ (o : ExpansionPoint). point_place o) (sym e) ∙ p)))
     ∙ ap (λ (k : ℕ). next_expansion_point formals k (tokens_from Plain 0 (drop n text)) (drop n text)) (sym here)
     ∙ ap (λ (k : ℕ). next_expansion_point formals at (tokens_from Plain 0 (drop k text)) (drop k text)) less
 
@@ -237,10 +237,10 @@ run-empty formals [] h = refl
 run-empty formals (b ∷ bs) h = absurd (omega (arith, h))
 
 -- no run stands behind a run
-pub run-behind : (formals : List Formal) (text : List ℕ) (n : ℕ) → n ≡ run_len formals (tokens_from Plain 0 text) text
+pub run-following : (formals : List Formal) (text : List ℕ) (n : ℕ) → n ≡ run_len formals (tokens_from Plain 0 text) text
     → run_len formals (tokens_from Plain 0 (drop n text)) (drop n text) ≡ 0
 unfolding point_of PlaceTells
-run-behind formals text n e =
+run-following formals text n e =
     by (point_place (point_of formals 0 text)) refl (subst (λ (k : ℕ). PlaceTells 0 k (length text) (point_place (point_of formals 0 text))) (sym e) (points-at formals 0 (tokens_from Plain 0 text) Plain text refl))
   where
     by : (place : Option ℕ) → point_place (point_of formals 0 text) ≡ place → PlaceTells 0 n (length text) place
@@ -374,10 +374,10 @@ running-more text mode at t r more e back =
     let n : is_none (point_at [] 0 T (take T.len rest)) ≡ true =
     back-none T.len T.next_mode T.kind (take T.len rest) ∙ ap (λ (u : Token). not (is_back u.kind)) (sym e) ∙ ap (λ (b : Bool). not b) back in
     let step = run-step [] mode rest true some n in
-    let behind : drop T.len rest ≡ drop (at + T.len) text = drop-drop T.len at text in
+    let following : drop T.len rest ≡ drop (at + T.len) text = drop-drop T.len at text in
     let whole : at + T.len + run_len [] (tokens_from T.next_mode 0 (drop (at + T.len) text)) (drop (at + T.len) text) ≡ run_len [] (tokens_from Plain 0 text) text =
     sum at T.len (run_len [] (tokens_from T.next_mode 0 (drop (at + T.len) text)) (drop (at + T.len) text)) (run_len [] (tokens_from mode 0 rest) rest) (run_len [] (tokens_from Plain 0 text) text)
-    (step ∙ ap (λ (b : List ℕ). T.len + run_len [] (tokens_from T.next_mode 0 b) b) behind) r.same in
+    (step ∙ ap (λ (b : List ℕ). T.len + run_len [] (tokens_from T.next_mode 0 b) b) following) r.same in
     subst (λ (u : Token). IsRunning text u.next_mode (at + u.len)) (sym e)
     (record { inside = (let inside = part.inside in omega (arith, inside, size, more)); same = whole })
   where
@@ -509,9 +509,9 @@ unlisted-token text from n e some =
         let all : n ≡ length text = h in
         absurd (omega (arith, length-drop n text, some, all))
     by (Some at) p h =
-        point-token [] (from + n) Plain (drop n text) some (run-behind [] text n e)
+        point-token [] (from + n) Plain (drop n text) some (run-following [] text n e)
         ∙ (ap (λ (k : ℕ). next_expansion_point [] (from + k) (tokens_from Plain 0 (drop k text)) (drop k text)) e
-        ∙ point-behind [] from (tokens_from Plain 0 text) Plain text refl (place-some (point_of [] from text) at p))
+        ∙ point-following [] from (tokens_from Plain 0 text) Plain text refl (place-some (point_of [] from text) at p))
 
 usage-at : (at : ℕ) (t : Token) (bytes : List ℕ) → t.kind ≡ Back → point.Usage at t.len ≡ point_at [] at t bytes
 unfolding point_at

@@ -43,7 +43,7 @@ use Rattle.rdlpp_texts.specs.declared.step.CursorFault.{CursorFault}
 use Rattle.rdlpp_texts.specs.declared.step.CursorStep.{CursorStep}
 use Rattle.rdlpp_texts.specs.declared.step.CursorStep.TheVariants.{Lends, Refused, Silent}
 use Rattle.rdlpp_texts.proofs.Falling.{falls-twice, formal-inside, peek-opens, outer-ahead, outer-closed, outer-same, turned-unlent}
-use Rattle.rdlpp_texts.proofs.Passing.{IsPassed, at-each, default-keeps, first-sound, peek-passed, name-closes, no-word, pass-behind, pass-ended, pass-run, silent-on, sound-tail, step-formal, step-formal_deep}
+use Rattle.rdlpp_texts.proofs.Passing.{IsPassed, at-each, default-keeps, first-sound, peek-passed, name-closes, no-word, pass-following, pass-ended, pass-run, silent-on, sound-tail, step-formal, step-formal_deep}
 use Rattle.rdlpp_texts.proofs.Scoping.{front-formals, source-scope}
 use Rattle.rdlpp_texts.proofs.Usages.{moved-room, open-run, placed-run, placed-word, placed-wordless, usage-word}
 
@@ -366,17 +366,17 @@ usage-len bs t (AtBare h g e) is = absurd (let k : BareBackquote ≡ Back = sym 
 usage-len bs t (AtPlain h q) is = absurd (false≢true (sym (ap is_plain_kind is) ∙ h))
 
 -- what stands behind the first of so many bytes
-behind-one : (n : ℕ) (bs : List ℕ) → drop 1 (take (suc n) bs) ≡ take n (drop 1 bs)
-behind-one zero [] = refl
-behind-one (suc n) [] = refl
-behind-one n (b ∷ bs) = refl
+following-one : (n : ℕ) (bs : List ℕ) → drop 1 (take (suc n) bs) ≡ take n (drop 1 bs)
+following-one zero [] = refl
+following-one (suc n) [] = refl
+following-one n (b ∷ bs) = refl
 
 -- the name of a usage is a word
 name-word : (bs : List ℕ) (len : ℕ) → (token_of Plain bs).kind ≡ Back → (token_of Plain bs).len ≡ len → list_all is_word (drop 1 (take len bs)) ≡ true
 name-word bs len kind e =
     let n = prefix_len is_word (drop 1 bs) in
     let same : len ≡ suc n = sym e ∙ usage-len bs (token_of Plain bs) (token_of-row bs) kind in
-    ap (λ (k : ℕ). list_all is_word (drop 1 (take k bs))) same ∙ ap (λ (word : List ℕ). list_all is_word word) (behind-one n bs) ∙ list_all-prefix is_word (drop 1 bs)
+    ap (λ (k : ℕ). list_all is_word (drop 1 (take k bs))) same ∙ ap (λ (word : List ℕ). list_all is_word word) (following-one n bs) ∙ list_all-prefix is_word (drop 1 bs)
 
 -- so is that of a usage in front of open texts
 front-word : (texts : Texts) (opens : List Open) (peek : Peek) (len : ℕ) → IsPeek texts opens peek → peek.front ≡ front.Usage len → list_all is_word (front_name texts opens len) ≡ true
@@ -551,10 +551,10 @@ moved-same texts view mid peek h l less is = is ∙ ap (λ (opens : List Open). 
         ∙ ap (λ (mode : Mode). record { part = record { from = x.part.from; end = x.part.end; mode = mode }; parent = x.parent; kind = x.kind } ∷ below) (sym (h.are_inside).1.1.0)
 
 -- what a look tells of the open texts that go on behind what is copied
-peek-behind : (texts : Texts) (opens : List Open) (peek : Peek) → IsPeekAhead texts opens peek → IsPeek texts (moved_to peek.at opens) peek
+peek-following : (texts : Texts) (opens : List Open) (peek : Peek) → IsPeekAhead texts opens peek → IsPeek texts (moved_to peek.at opens) peek
 unfolding IsPeekAhead
-peek-behind texts [] peek l = absurd l
-peek-behind texts (x ∷ below) peek l = l.4
+peek-following texts [] peek l = absurd l
+peek-following texts (x ∷ below) peek l = l.4
 
 -- what a look tells that lies ahead begins where the innermost text stands
 stands-ahead : (texts : Texts) (opens : List Open) (peek : Peek) (end : ℕ) → IsPeekAhead texts opens peek → IsFrontPlace opens (record { source = peek.source; from = peek.from; end = end })
@@ -581,7 +581,7 @@ on-peek texts view mid peek bytes h l some text short is = record {
   looks = record {
     some = open-run view mid peek.at some is;
     sound = subst (λ (v : CursorsView). AreSound texts v.opens) (sym is) (peek-passed texts view.opens peek h l);
-    peek = subst (λ (v : CursorsView). IsPeek texts v.opens peek) (sym is) (peek-behind texts view.opens peek l);
+    peek = subst (λ (v : CursorsView). IsPeek texts v.opens peek) (sym is) (peek-following texts view.opens peek l);
     text = text;
     short = short;
   };
@@ -597,8 +597,8 @@ pub on-lent : (texts : Texts) (view mid new : CursorsView) (peek : Peek) (bytes 
     → 0 < length new.opens → IsUnlent step → TakesStep texts view (Lends (record { source = peek.source; from = peek.from; end = peek.at })) new
 on-lent texts view mid new peek bytes lent step on more taken idle some unlent = by (is_idle lent (length mid.opens) peek.front) refl
   where
-    behind : IsPassed texts view new (Lends (run_of peek)) → StaysOutermost mid.opens new.opens → Turned texts mid.opens new.opens → TakesStep texts view (Lends (run_of peek)) new
-    behind p outer turned = record {
+    following : IsPassed texts view new (Lends (run_of peek)) → StaysOutermost mid.opens new.opens → Turned texts mid.opens new.opens → TakesStep texts view (Lends (run_of peek)) new
+    following p outer turned = record {
       step = p.is_step;
       sound = p.sound;
       kept = p.kept;
@@ -616,10 +616,10 @@ on-lent texts view mid new peek bytes lent step on more taken idle some unlent =
     by : (none : Bool) → is_idle lent (length mid.opens) peek.front ≡ none → TakesStep texts view (Lends (run_of peek)) new
     by true e =
         let same = idle e in
-        behind (subst (λ (v : CursorsView). IsPassed texts view v (Lends (run_of peek))) (sym same) (on.runs more).0) (outer-same mid new same) (Stays (ap (λ (v : CursorsView). v.opens) same))
+        following (subst (λ (v : CursorsView). IsPassed texts view v (Lends (run_of peek))) (sym same) (on.runs more).0) (outer-same mid new same) (Stays (ap (λ (v : CursorsView). v.opens) same))
     by false e =
         let t = taken e in
-        behind (pass-behind texts view mid new (run_of peek) step (on.runs more).0 (taken-passed texts mid new step t) unlent) t.outer (turned-unlent texts mid.opens new.opens step unlent t.turns)
+        following (pass-following texts view mid new (run_of peek) step (on.runs more).0 (taken-passed texts mid new step t) unlent) t.outer (turned-unlent texts mid.opens new.opens step unlent t.turns)
 
 -- where no run is lent, what is opened is the step
 pub on-taken : (texts : Texts) (view mid new : CursorsView) (peek : Peek) (bytes : List ℕ) (lent : Bool) (step : CursorStep) → IsOn texts view mid peek bytes → peek.at ≤ peek.from → lent ≡ false

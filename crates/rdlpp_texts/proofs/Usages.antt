@@ -16,11 +16,11 @@ use Rattle.rdlpp_table.specs.View.{IsSound, IsSoundMacro, TableView, macro_at, n
 use Rattle.rdlpp_table.proofs.Orders.{place_of_name}
 use Rattle.rdlpp_meaning.specs.Actuals.{Reads, text_reads}
 use Rattle.rdlpp_meaning.specs.Expansion.{Opens, UsageFault, usage_of, usage_of_formals, usage_of_macro}
-use Rattle.rdlpp_meaning.specs.Opens.{AreOpen, Open, OpenActual, OpenBody, OpenDefault, OpenKind, Texts, open_behind, open_body, open_bytes, open_scope, own_text, own_hide_set, part_tokens, scope_open, text_around, hide_set}
+use Rattle.rdlpp_meaning.specs.Opens.{AreOpen, Open, OpenActual, OpenBody, OpenDefault, OpenKind, Texts, open_after, open_body, open_bytes, open_scope, own_text, own_hide_set, part_tokens, scope_open, text_around, hide_set}
 use Rattle.rdlpp_meaning.specs.State.{Rules, State}
 use Rattle.rdlpp_meaning.specs.declared.fault.FaultKind.{FaultKind}
 use Rattle.rdlpp_meaning.specs.declared.fault.FaultKind.TheVariants.{ArgumentCount, ArgumentsMissing, ArgumentsOpen, BareBackquote, DepthPassed, DirectiveInText, RecursiveMacro, UndefinedMacro}
-use Rattle.rdlpp_meaning.proofs.OpenSteps.{first_usage, step-refused as left-refused, step-usage as left-usage, step-usage_deep as left-usage_deep, tokens_behind}
+use Rattle.rdlpp_meaning.proofs.OpenSteps.{first_usage, step-refused as left-refused, step-usage as left-usage, step-usage_deep as left-usage_deep, tokens_after}
 use Rattle.rdlpp_meaning.proofs.OpenScopes.{part-whole}
 use Rattle.rdlpp_texts.specs.BoundCalls.{KeepsAll, is_call_fault}
 use Rattle.rdlpp_texts.specs.Digits.{IsFalling}
@@ -43,7 +43,7 @@ use Rattle.rdlpp_texts.specs.declared.step.CursorFault.{CursorFault}
 use Rattle.rdlpp_texts.specs.declared.step.CursorStep.{CursorStep}
 use Rattle.rdlpp_texts.specs.declared.step.CursorStep.TheVariants.{Lends, Refused, Silent}
 use Rattle.rdlpp_texts.proofs.Falling.{peek-opens, run-ends, usage-inside as falls-inside}
-use Rattle.rdlpp_texts.proofs.Passing.{IsPassed, body-keeps, bytes-behind, bytes-first, fault-same, first-moved, first-sound, kind-first, no-formals, no-word, same-front, slice-behind}
+use Rattle.rdlpp_texts.proofs.Passing.{IsPassed, body-keeps, bytes-following, bytes-first, fault-same, first-moved, first-sound, kind-first, no-formals, no-word, same-front, slice-following}
 use Rattle.rdlpp_texts.proofs.Scoping.{opens-length, source-around}
 use Rattle.rdlpp_texts.proofs.Stacking.{tail-is}
 
@@ -116,7 +116,7 @@ peek-front texts x below source f h e is =
 peek-ahead : (texts : Texts) (x : Open) (below : List Open) (peek : Peek) → peek.source ≡ front_source (x ∷ below) → peek.from ≡ x.part.from → peek.end ≡ x.part.end
     → IsNextItem (source_formals texts (front_source (x ∷ below))) (open_bytes texts x below) x.part.from (record { at = peek.at; front = peek.front })
     → IsPeekAhead texts (x ∷ below) peek
-unfolding IsNextItem AreCopied IsPeekAhead IsPeek moved_to front_source open_behind
+unfolding IsNextItem AreCopied IsPeekAhead IsPeek moved_to front_source open_after
 peek-ahead texts x below peek source from end f =
     let formals = source_formals texts (front_source (x ∷ below)) in
     let order = f.0 in
@@ -130,7 +130,7 @@ peek-ahead texts x below peek source from end f =
         refl,
         end,
         subst (λ (bytes : List ℕ). IsTextItem formals bytes peek.front)
-            (sym (bytes-behind texts x below (peek.at - x.part.from) Plain f.1.0) ∙ ap (λ (k : ℕ). open_bytes texts (record { part = record { from = k; end = x.part.end; mode = Plain }; parent = x.parent; kind = x.kind }) below) back)
+            (sym (bytes-following texts x below (peek.at - x.part.from) Plain f.1.0) ∙ ap (λ (k : ℕ). open_bytes texts (record { part = record { from = k; end = x.part.end; mode = Plain }; parent = x.parent; kind = x.kind }) below) back)
             f.2,
       ),
     )
@@ -221,11 +221,11 @@ usage-place texts (x ∷ below) peek len h l e =
     }
 
 -- a part of a text behind its first byte
-behind-first : (text : List ℕ) (from n : ℕ) → from + n ≤ length text → 0 < n → slice_range text (from + 1) (from + n) ≡ drop 1 (slice_range text from (from + n))
-behind-first text from n h some =
+following-first : (text : List ℕ) (from n : ℕ) → from + n ≤ length text → 0 < n → slice_range text (from + 1) (from + n) ≡ drop 1 (slice_range text from (from + n))
+following-first text from n h some =
     let size = length-take (from + n - from) (drop from text) in
     let rest = length-drop from text in
-    slice-behind text from (from + n) 1 (omega (arith, h, some, size, rest))
+    slice-following text from (from + n) 1 (omega (arith, h, some, size, rest))
 
 -- the name of a usage is what stands behind its backquote
 pub usage-word : (texts : Texts) (opens : List Open) (peek : Peek) (len from end : ℕ) → AreSound texts opens → IsPeek texts opens peek → peek.front ≡ front.Usage len
@@ -243,7 +243,7 @@ usage-word texts (x ∷ below) peek len from end h l e f g =
     ap (λ (t : TextSource). slice_range (source_text texts t) from end) l.0
     ∙ ap (λ (n : ℕ). slice_range own n end) f
     ∙ ap (λ (n : ℕ). slice_range own (peek.at + 1) n) g
-    ∙ behind-first own peek.at len
+    ∙ following-first own peek.at len
     (subst (λ (t : TextSource). peek.at + len ≤ length (source_text texts t)) l.0 (omega (arith, inside, ends))) s.0
     ∙ ap (λ (n : ℕ). drop 1 (slice_range own n (n + len))) at
     ∙ ap (λ (bytes : List ℕ). drop 1 bytes)
@@ -254,10 +254,10 @@ first-is : (rules : Rules) (s : State) (line : ℕ) (texts : Texts) (x : Open) (
     → (token_of Plain (open_bytes texts x below)).len ≡ len
     → first_usage rules s line texts x below
     ≡ usage_of rules s text_reads line (hide_set texts (x ∷ below) (front_scope (x ∷ below))) (front_name texts (x ∷ below) len)
-    (tokens_behind texts x below)
+    (tokens_after texts x below)
 unfolding first_usage front_name front_scope
 first-is rules s line texts x below len m e =
-    ap (λ (bytes : List ℕ). usage_of rules s text_reads line (hide_set texts (x ∷ below) (open_scope x below)) (drop 1 bytes) (tokens_behind texts x below)) (bytes-first texts x below len m e)
+    ap (λ (bytes : List ℕ). usage_of rules s text_reads line (hide_set texts (x ∷ below) (open_scope x below)) (drop 1 bytes) (tokens_after texts x below)) (bytes-first texts x below len m e)
 
 -- the name of a directive is refused
 reserved-is : (reads : Reads SourceToken) (rules : Rules) (s : State) (line : ℕ) (o : List (List ℕ)) (name : List ℕ) (ts : List SourceToken) → is_reserved name ≡ true
@@ -308,11 +308,11 @@ pub first-used : (rules : Rules) (s : State) (line : ℕ) (texts : Texts) (x : O
     → (token_of Plain (open_bytes texts x below)).len ≡ len
     → IsUsed texts (x ∷ below) (front_name texts (x ∷ below) len) id → s.macros ≡ texts.macros
     → first_usage rules s line texts x below
-    ≡ usage_of_formals rules text_reads line (front_name texts (x ∷ below) len) (tokens_behind texts x below)
+    ≡ usage_of_formals rules text_reads line (front_name texts (x ∷ below) len) (tokens_after texts x below)
     (macro_at texts.macros id) (macro_at texts.macros id).formals
 first-used rules s line texts x below len id mode e used m =
     let name = front_name texts (x ∷ below) len in
-    let ts = tokens_behind texts x below in
+    let ts = tokens_after texts x below in
     first-is rules s line texts x below len mode e
     ∙ unreserved-is text_reads rules s line _ name ts (Some (macro_at texts.macros id)) used.unreserved (ap (λ (macros : List Macro). macro_named macros name) m ∙ used.named)
     ∙ apart-is text_reads rules line _ name ts (macro_at texts.macros id) used.apart
@@ -328,7 +328,7 @@ step-refused line depth texts x below len kind new fault h f r k w rules s m =
     let mode : x.part.mode ≡ Plain = (h.are_inside).1.1.0 in
     let name = front_name texts (x ∷ below) len in
     left-refused rules s line depth texts x below kind name line f.0 (kind-first texts x below Back mode f.1)
-    (first-is rules s line texts x below len mode f.2 ∙ r rules s line (tokens_behind texts x below) m)
+    (first-is rules s line texts x below len mode f.2 ∙ r rules s line (tokens_after texts x below) m)
     ∙ sym (fault-same s line texts fault kind name k w)
 
 -- a usage of a macro without a list opens its body, whatever it is told by
@@ -348,10 +348,10 @@ pub step-opened : (line depth : ℕ) (texts : Texts) (x : Open) (below : List Op
     → IsUsed texts (x ∷ below) (front_name texts (x ∷ below) len) id → (macro_at texts.macros id).formals ≡ None
     → length (x ∷ below) < depth
     → IsStep line depth texts (x ∷ below) Silent (open_body texts id [] (open_scope x below) ∷ moved_to (x.part.from + len) (x ∷ below))
-unfolding IsStep StepsTo IsTextItem moved_to open_behind tokens_behind
+unfolding IsStep StepsTo IsTextItem moved_to open_after tokens_after
 step-opened line depth texts x below len id h f used none room rules s m =
     let mode : x.part.mode ≡ Plain = (h.are_inside).1.1.0 in
-    let ts = tokens_behind texts x below in
+    let ts = tokens_after texts x below in
     left-usage rules s line depth texts x below id [] 0 len Plain (h.are_open).0 f.0 (kind-first texts x below Back mode f.1)
     (first-used rules s line texts x below len id mode f.2 used m ∙ plain-opens text_reads rules line _ ts (macro_at texts.macros id) none)
     (ap (λ (y : Open). part_tokens (text_around texts x.kind x.parent below) y.part) (first-moved texts x below len mode (back-closes _ f.1) f.2)) room
@@ -365,7 +365,7 @@ pub step-opened_deep : (line depth : ℕ) (texts : Texts) (x : Open) (below : Li
 unfolding IsStep StepsTo IsTextItem
 step-opened_deep line depth texts x below len id new fault h f used none deep k w rules s m =
     let mode : x.part.mode ≡ Plain = (h.are_inside).1.1.0 in
-    let ts = tokens_behind texts x below in
+    let ts = tokens_after texts x below in
     left-usage_deep rules s line depth texts x below (macro_at texts.macros id) [] 0 f.0 (kind-first texts x below Back mode f.1)
     (first-used rules s line texts x below len id mode f.2 used m ∙ plain-opens text_reads rules line _ ts (macro_at texts.macros id) none) deep
     ∙ sym (fault-same s line texts fault DepthPassed [] k w)
@@ -482,11 +482,11 @@ moved-length [] at = refl
 moved-length (x ∷ below) at = refl
 
 -- behind a usage open texts are sound
-pub sound-behind : (texts : Texts) (opens : List Open) (peek : Peek) (len at : ℕ) → AreSound texts opens → IsPeek texts opens peek → peek.front ≡ front.Usage len
+pub sound-following : (texts : Texts) (opens : List Open) (peek : Peek) (len at : ℕ) → AreSound texts opens → IsPeek texts opens peek → peek.front ≡ front.Usage len
     → at ≡ peek.at + len → AreSound texts (moved_to at opens)
 unfolding IsPeek IsTextItem
-sound-behind texts [] peek len at h l e k = absurd l
-sound-behind texts (x ∷ below) peek len at h l e k =
+sound-following texts [] peek len at h l e k = absurd l
+sound-following texts (x ∷ below) peek len at h l e k =
     let f = front-is texts x below peek len e l.3 in
     let place : at ≡ x.part.from + len = k ∙ ap (λ (n : ℕ). n + len) l.1 in
     subst (λ (n : ℕ). AreSound texts (moved_to n (x ∷ below))) (sym place) (first-sound texts x below len h f.0 (back-closes _ f.1) f.2)
@@ -581,7 +581,7 @@ pass-opened table arguments view new peek len id at sound h l e used none room k
     let inside = further.1 in
     subst (λ (v : CursorsView). IsPassed texts view v Silent) (sym is) (record {
       is_step = peek-opened view.line view.depth texts view.opens peek len id at h l e used none room k;
-      sound = sound-used table arguments view.opens id at sound (sound-behind texts view.opens peek len at h l e k) (scope-inside view.opens (parents-out texts view.opens h.are_open)) used.inside none;
+      sound = sound-used table arguments view.opens id at sound (sound-following texts view.opens peek len at h l e k) (scope-inside view.opens (parents-out texts view.opens h.are_open)) used.inside none;
       kept = (refl, refl);
       digits = peek-opens texts view.opens peek at (open_body texts id [] (front_scope view.opens)) l (omega (arith, less, k)) (omega (arith, inside, k));
       refused = tt;

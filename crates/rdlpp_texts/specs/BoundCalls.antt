@@ -82,19 +82,19 @@ usage_in rules line name m formals text at end =
 
 -- a call of a macro with so many formals that is bound to ranges of its text: those are its actuals, behind it stands the text
 -- from a place on, and no call in them or behind it drops a token either
-pub record IsBoundAt (text : List ℕ) (at end formals : ℕ) (ranges : List Range) (behind : ℕ) : Type 0 where
+pub record IsBoundAt (text : List ℕ) (at end formals : ℕ) (ranges : List Range) (following : ℕ) : Type 0 where
   pub used : ℕ
   pub opens : (rules : Rules) (line : ℕ) (name : List ℕ) (m : Macro) (fs : List Formal) → length fs ≡ formals
       → usage_in rules line name m fs text at end ≡ Opens m (ranges_tokens text ranges) used
-  pub behind_is : drop used (body_tokens (slice_range text at end)) ≡ body_tokens (slice_range text behind end)
+  pub after_is : drop used (body_tokens (slice_range text at end)) ≡ body_tokens (slice_range text following end)
   pub keeps : AllByRecursion (λ r. KeepsAll (part_tokens text (range_part r))) ranges
-  pub keeps_behind : KeepsAll (body_tokens (slice_range text behind end))
+  pub keeps_after : KeepsAll (body_tokens (slice_range text following end))
   pub count : length ranges ≡ formals
 
 -- what binding the call of a macro with so many formals comes to, in a part of a text: ranges and the place behind it, or what
 -- the usage is refused for (source: this project's profile)
 unfoldable pub IsBoundCall : List ℕ → ℕ → ℕ → ℕ → List Range → Result ℕ FaultKind → Type 0
-IsBoundCall text at end formals ranges (Ok behind) = IsBoundAt text at end formals ranges behind
+IsBoundCall text at end formals ranges (Ok following) = IsBoundAt text at end formals ranges following
 IsBoundCall text at end formals ranges (Err kind) =
     (rules : Rules) (line : ℕ) (name : List ℕ) (m : Macro) (fs : List Formal) → length fs ≡ formals
     → usage_in rules line name m fs text at end ≡ UsageFault kind name line

@@ -3,7 +3,7 @@
 use Rattle.std.specs.Prelude.{◌≡◌, ℕ, zero, ◌+◌, ◌<◌, ◌≤◌, ◌||◌, Bool, true, false, nat_lt, List, [], ◌∷◌, map, length, drop, slice_range, Option, None, Some, if◌then◌else◌}
 use Rattle.rdlpp_scan.specs.Bytes.{is_blank, is_line_end}
 use Rattle.rdlpp_scan.specs.SourceTokens.{SourceToken}
-use Rattle.rdlpp_meaning.specs.Actuals.{Role, Space, Dropped, KeptComment, Start, End, Cut, level_behind, is_space, trimmed, token_role}
+use Rattle.rdlpp_meaning.specs.Actuals.{Role, Space, Dropped, KeptComment, Start, End, Cut, level_after, is_space, trimmed, token_role}
 use Rattle.rdlpp_meaning.specs.CallScan.{Split, split, all_parts}
 use Rattle.rdlpp_meaning.specs.Expansion.{bytes_of}
 use Rattle.rdlpp_meaning.specs.Substitution.{body_tokens}
@@ -53,7 +53,7 @@ is_white b = is_blank b || is_line_end b
 unfoldable pub inner_tokens : Bool → ℕ → List SourceToken → List SourceToken
 inner_tokens closes level [] = []
 inner_tokens closes level (t ∷ ts) =
-    if ends_text closes (token_role t) level then [] else t ∷ inner_tokens closes (level_behind (token_role t) level) ts
+    if ends_text closes (token_role t) level then [] else t ∷ inner_tokens closes (level_after (token_role t) level) ts
 
 -- the parts of a call in a text after its `(`
 abbrev pub parts_in : Bool → List ℕ → Split SourceToken
@@ -74,7 +74,7 @@ part_from closes start at level end [] = record { from = start; to = end; end = 
 part_from closes start at level end (t ∷ ts) =
     if ends_text closes (token_role t) level then record { from = start; to = end; end = Last at }
     else (if ends_part (token_role t) level then record { from = start; to = end; end = Comma (at + length t.bytes) }
-    else part_from closes start (at + length t.bytes) (level_behind (token_role t) level)
+    else part_from closes start (at + length t.bytes) (level_after (token_role t) level)
     (if is_space (token_role t) then end else at + length t.bytes) ts)
 
 -- after a comma, at which a part ends, the call goes on with its further parts

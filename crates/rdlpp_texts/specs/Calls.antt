@@ -20,17 +20,17 @@ use Rattle.rdlpp_texts.specs.declared.cursors.call.Opening.TheVariants.{Opened, 
 -- goes on behind it
 pub record IsCallBound (macros : List Macro) (text : List ℕ) (at end id : ℕ) : Type 0 where
   pub ranges : List Range
-  pub behind : ℕ
+  pub following : ℕ
   pub within : AreWithin at end ranges
-  pub place : (at ≤ behind) × (behind ≤ end)
-  pub bound : IsBoundCall text at end (length (formals_of (macro_at macros id))) ranges (Ok behind)
+  pub place : (at ≤ following) × (following ≤ end)
+  pub bound : IsBoundCall text at end (length (formals_of (macro_at macros id))) ranges (Ok following)
 
 -- a call in the innermost of open texts opens the body of its macro, with those ranges, in front of the texts that go on
 -- behind it
 pub record IsCallOpened (macros : List Macro) (text : List ℕ) (at end id parent : ℕ) (old new : CursorsView) : Type 0 where
   pub call : IsCallBound macros text at end id
   pub room : length old.opens < old.depth
-  pub opens : new ≡ record old { opens = open_body (texts_of macros []) id (map range_part call.ranges) parent ∷ moved_to call.behind old.opens }
+  pub opens : new ≡ record old { opens = open_body (texts_of macros []) id (map range_part call.ranges) parent ∷ moved_to call.following old.opens }
 
 -- what a call in the innermost of open texts comes to: the body is opened; the call is refused for what it lacks, or since no
 -- further text may be open, and nothing changes

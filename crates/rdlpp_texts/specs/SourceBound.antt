@@ -12,7 +12,7 @@ use Rattle.rdlpp_texts.specs.declared.bindings.Range.{Range}
 
 -- a usage in a source that opens a macro with these ranges of the kept bytes as actuals, with the tokens behind it
 pub record OpensBound (rules : Rules) (line : ℕ) (name : List ℕ) (ts : List SourceToken) (m : Macro) (fs : List Formal) (bytes : List ℕ) (ranges : List Range)
-    (behind : List SourceToken) : Type 0 where
+    (following : List SourceToken) : Type 0 where
   pub used : ℕ
   pub opens : usage_of_formals rules source_reads line name (leading ts) m (Some fs) ≡ Opens m (ranges_tokens bytes ranges) used
-  pub rest : drop used ts ≡ behind
+  pub rest : drop used ts ≡ following

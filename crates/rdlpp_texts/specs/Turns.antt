@@ -31,15 +31,15 @@ pub data Turned (texts : Texts) (old new : List Open) : Type 0 where
   Closed : is_spent old ≡ true → Closes old new → Turned texts old new
   OpensStanding : (at len place : ℕ) (x : Open) → HasFront texts old at (FormalName len place) → found_standing texts.macros (scope_open old (front_scope old)) (front_scope old) place ≡ Some x
       → new ≡ x ∷ moved_to (at + len) old → Turned texts old new
-  OpensBody : (at len id behind : ℕ) (parts : List Part) → HasFront texts old at (Usage len) → IsUsed texts old (front_name texts old len) id → length parts ≡ length (formals_of (macro_at texts.macros id))
-      → new ≡ open_body texts id parts (front_scope old) ∷ moved_to behind old → Turned texts old new
+  OpensBody : (at len id following : ℕ) (parts : List Part) → HasFront texts old at (Usage len) → IsUsed texts old (front_name texts old len) id → length parts ≡ length (formals_of (macro_at texts.macros id))
+      → new ≡ open_body texts id parts (front_scope old) ∷ moved_to following old → Turned texts old new
 
 -- where the open texts stand behind what a step lends
-abbrev pub behind_lent : List Open → CursorStep → List Open
-behind_lent opens (Lends place) = moved_to place.end opens
-behind_lent opens Silent = opens
-behind_lent opens (Refused fault) = opens
+abbrev pub after_lent : List Open → CursorStep → List Open
+after_lent opens (Lends place) = moved_to place.end opens
+after_lent opens Silent = opens
+after_lent opens (Refused fault) = opens
 
 -- what a step lends, and what it opens or closes behind that
 abbrev pub TurnsOver : Texts → List Open → CursorStep → List Open → Type 0
-TurnsOver texts old step new = Turned texts (behind_lent old step) new
+TurnsOver texts old step new = Turned texts (after_lent old step) new

@@ -59,7 +59,7 @@ pub fn bind_call(
     ensures binds { Binds at end formals bindings.old bindings.new }
     ensures refused { IfErr result (λ _. bindings.new.items ≡ bindings.old.items) }
     ensures kind { IfErr result (λ kind. is_call_fault kind ≡ true) }
-    ensures place { IfOk result (λ behind. (at ≤ behind) × (behind ≤ end)) }
+    ensures place { IfOk result (λ following. (at ≤ following) × (following ≤ end)) }
     ensures call { KeepsAll (body_tokens (slice_range text.now at end)) → IsBoundCall text.now at end formals (added bindings.old.items bindings.new.items) result }
 {
     let Some(len) = call_start(&text[at..end]) else {

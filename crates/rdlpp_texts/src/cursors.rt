@@ -235,7 +235,7 @@ impl Cursors {
     }
 
     // Goes on at a place of the innermost text, and opens the body of a macro whose call is written in a scope and binds nothing.
-    fn push_behind(&mut self, at: usize, id: MacroId, end: usize, parent: usize)
+    fn push_after(&mut self, at: usize, id: MacroId, end: usize, parent: usize)
         requires some { 0 < length self.old.opens }
         requires room { length self.old.opens < self.old.depth }
         ensures { self.new ≡ record self.old { opens = record { part = record { from = 0; end = end; mode = Plain }; parent = parent; kind = OpenBody id [] } ∷ moved_to at self.old.opens } }

@@ -23,4 +23,4 @@ pub use parts::{Part, PartEnd, call_start, next_part};
 pub use place::{TextPlace, TextSource};
 pub use scopes::text_at;
 pub use step::{CursorFault, CursorStep};
-pub use tokens::{CallRole, ends_call, level_behind, role_of};
+pub use tokens::{CallRole, ends_call, level_after, role_of};

@@ -6,7 +6,7 @@ ghost use Rattle.rdlpp_texts.specs.CallParts.{IsNextPart, ends_text, is_white, o
 ghost use Rattle.rdlpp_texts.specs.CallTokens.{role_meant};
 
 use crate::plain_argument::{Passed, is_white, pass_plain_argument};
-use crate::tokens::{CallRole, ends_call, ends_part, level_behind, token_in_call};
+use crate::tokens::{CallRole, ends_call, ends_part, level_after, token_in_call};
 use rdlpp_scan::{Mode, byte_at, word_bytes};
 
 /// Where a part of a call ends.
@@ -137,19 +137,19 @@ fn part_by_tokens(text: &[u8], from: usize, closes: bool) -> Part
         if ends_text(closes, token.role, level) {
             break;
         }
-        let behind = passed.at + token.len;
+        let following = passed.at + token.len;
         if ends_part(token.role, level) {
             return Part {
                 from,
                 to: passed.to,
-                end: PartEnd::Comma(behind),
+                end: PartEnd::Comma(following),
             };
         }
         passed = Passed {
-            at: behind,
-            to: behind,
+            at: following,
+            to: following,
         };
-        level = level_behind(token.role, level);
+        level = level_after(token.role, level);
         mode = token.next_mode;
     }
     Part {

@@ -2,7 +2,7 @@
 ghost use Rattle.std.specs.Prelude.{◌≡◌, ◌+◌, ◌-◌, ◌<◌, ◌∷◌, ◌==◌, ◌||◌, [], length};
 ghost use Rattle.rdlpp_scan.specs.Bytes.{is_closer, is_opener};
 ghost use Rattle.rdlpp_scan.specs.declared.token.Mode.TheVariants.{Plain};
-ghost use Rattle.rdlpp_meaning.specs.Actuals.{kind_role, level_behind};
+ghost use Rattle.rdlpp_meaning.specs.Actuals.{kind_role, level_after};
 ghost use Rattle.rdlpp_texts.specs.CallParts.{ends_call, ends_part};
 ghost use Rattle.rdlpp_texts.specs.CallTokens.{quick_role, role_meant, IsFirstToken};
 
@@ -123,10 +123,10 @@ pub fn role_of(kind: Kind, first: u8) -> CallRole
 
 /// How many openers are open behind a token, where so many are in front of it. `level` is less than
 /// `usize::MAX`.
-#[tactic(auto, unfolding(crate::specs::CallTokens::role_meant, rdlpp_meaning::specs::Actuals::level_behind))]
-pub fn level_behind(role: CallRole, level: usize) -> usize
+#[tactic(auto, unfolding(crate::specs::CallTokens::role_meant, rdlpp_meaning::specs::Actuals::level_after))]
+pub fn level_after(role: CallRole, level: usize) -> usize
     requires { level < usize.MAX }
-    ensures { result ≡ level_behind (role_meant role) level }
+    ensures { result ≡ level_after (role_meant role) level }
 {
     match role {
         CallRole::Start | CallRole::Opener => level + 1,

@@ -17,7 +17,7 @@ use Rattle.rdlpp_read.specs.declared.files.File.{File}
 use Rattle.rdlpp_read.proofs.BufferTokens.{ends_line, moves-on, moves-past, moves-told, text-on, text-past, ends_mid_line_after-append}
 use Rattle.rdlpp_usages.specs.CallReads.{TellsCall, used_buffer, with_used, IsEndOfText, IsEnded, IsExactCall, IsTaken, ReadsCall, ReadsUpTo, is_failed_call, IsCallOf, MeansCall}
 use Rattle.rdlpp_usages.specs.Reads.{Closes, GoesOn, reading}
-use Rattle.rdlpp_usages.specs.CallActions.{Around, IsAround, IsClose, IsConsumed, kept_of, call_state_meant, tokens_at, tokens_behind, IsAction, level_in}
+use Rattle.rdlpp_usages.specs.CallActions.{Around, IsAround, IsClose, IsConsumed, kept_of, call_state_meant, tokens_at, tokens_after, IsAction, level_in}
 use Rattle.rdlpp_usages.specs.declared.reading.CallRead.{CallRead}
 use Rattle.rdlpp_usages.specs.declared.reading.CallRead.TheVariants.{Closed, Refused, Broken as BrokenCall, Failed, Broken}
 use Rattle.rdlpp_usages.specs.declared.action.Consumed.{Consumed}
@@ -43,20 +43,20 @@ is_around : {R : Type 0} (unread : R → List ℕ) (f : BufferView R) → EndsHe
 is_around unread f ends = record { ends = ends_line unread f ends }
 
 -- the tokens behind used bytes
-behind_used : {R : Type 0} (unread : R → List ℕ) (f : BufferView R) (len : ℕ) (next : Mode)
-    → tokens_behind (around_of unread f) f.mode (held_of f) len next ≡ tokens_left unread (used_buffer f len next)
+after_used : {R : Type 0} (unread : R → List ℕ) (f : BufferView R) (len : ℕ) (next : Mode)
+    → tokens_after (around_of unread f) f.mode (held_of f) len next ≡ tokens_left unread (used_buffer f len next)
 unfolding tokens_left rest_of ahead_of held_of entered_mode
-behind_used unread f len next = rw (drop-drop len f.at (take f.accepted f.window)) refl
+after_used unread f len next = rw (drop-drop len f.at (take f.accepted f.window)) refl
 
 -- what is held behind used bytes
-behind_held : {R : Type 0} (f : BufferView R) (len : ℕ) (next : Mode) → held_of (used_buffer f len next) ≡ drop len (held_of f)
+after_held : {R : Type 0} (f : BufferView R) (len : ℕ) (next : Mode) → held_of (used_buffer f len next) ≡ drop len (held_of f)
 unfolding held_of entered_mode
-behind_held f len next = sym (drop-drop len f.at (take f.accepted f.window))
+after_held f len next = sym (drop-drop len f.at (take f.accepted f.window))
 
 -- and what isn't held
-behind_rest : {R : Type 0} (unread : R → List ℕ) (f : BufferView R) (len : ℕ) (next : Mode) → rest_of unread (used_buffer f len next) ≡ rest_of unread f
+after_rest : {R : Type 0} (unread : R → List ℕ) (f : BufferView R) (len : ℕ) (next : Mode) → rest_of unread (used_buffer f len next) ≡ rest_of unread f
 unfolding rest_of ahead_of entered_mode
-behind_rest unread f len next = refl
+after_rest unread f len next = refl
 
 -- what isn't used behind used bytes
 less_unused : {R : Type 0} (f : BufferView R) (len : ℕ) (next : Mode) → len ≤ length (held_of f)
@@ -74,7 +74,7 @@ used_moves has_known_texts exact unread f len next inside =
 
 -- the text behind them
 pub used_text : {R : Type 0} (unread : R → List ℕ) (f : BufferView R) (len : ℕ) (next : Mode) → text_left unread f ≡ take len (held_of f) ++ text_left unread (used_buffer f len next)
-used_text unread f len next = text-past unread f (used_buffer f len next) len (behind_held f len next) (behind_rest unread f len next)
+used_text unread f len next = text-past unread f (used_buffer f len next) len (after_held f len next) (after_rest unread f len next)
 
 -- a token that is used
 pub token_goes_on : {R : Type 0} (unread : R → List ℕ) (at : CallState) (room : ℕ) (f : BufferView R) (u : Consumed) → EndsHeld f → IsConsumed at f.mode room (held_of f) u
@@ -87,10 +87,10 @@ token_goes_on unread at room f u ends how =
       fits = how.fits;
       reads = λ _.
           how.reads (around_of unread f) (is_around unread f ends)
-          ∙ ap (λ ts. onto_kept kept (read (call_state_meant u.call_state) (is_open u.next_mode) (room - length kept) ts)) (behind_used unread f u.len u.next_mode);
+          ∙ ap (λ ts. onto_kept kept (read (call_state_meant u.call_state) (is_open u.next_mode) (room - length kept) ts)) (after_used unread f u.len u.next_mode);
       bytes = λ _.
           how.bytes (around_of unread f) (is_around unread f ends)
-          ∙ ap (λ ts. take u.len (held_of f) ++ bytes_of ts) (behind_used unread f u.len u.next_mode);
+          ∙ ap (λ ts. take u.len (held_of f) ++ bytes_of ts) (after_used unread f u.len u.next_mode);
     }
 
 -- the `)`
@@ -103,10 +103,10 @@ close_closes unread at room f ends some close =
       fits = omega arith;
       plain = refl;
       reads = λ _.
-          close.reads (around_of unread f) (is_around unread f ends) ∙ ap (ReadClosed []) (behind_used unread f 1 Plain);
+          close.reads (around_of unread f) (is_around unread f ends) ∙ ap (ReadClosed []) (after_used unread f 1 Plain);
       bytes = λ _.
           close.bytes (around_of unread f) (is_around unread f ends)
-          ∙ ap (λ ts. take 1 (held_of f) ++ bytes_of ts) (behind_used unread f 1 Plain);
+          ∙ ap (λ ts. take 1 (held_of f) ++ bytes_of ts) (after_used unread f 1 Plain);
     }
 
 -- a refusal at a token
@@ -162,10 +162,10 @@ goes_on_twice has_known_texts unread at to last room k l u v f g h a b =
     }
 
 -- reading went on, and then came to an answer
-pub tells_behind : {R : Type 0} (has_known_texts : Type 0) (unread : R → List ℕ) (at to : CallState) (room : ℕ) (k l u v : List ℕ) (f g h : BufferView R) (result : CallRead)
+pub tells_after : {R : Type 0} (has_known_texts : Type 0) (unread : R → List ℕ) (at to : CallState) (room : ℕ) (k l u v : List ℕ) (f g h : BufferView R) (result : CallRead)
     → GoesOn has_known_texts unread at to room k u f g → TellsCall has_known_texts unread to (room - length k) l v g h result → TellsCall has_known_texts unread at room (k ++ l) (u ++ v) f h result
 unfolding onto_kept
-tells_behind has_known_texts unread at to room k l u v f g h Closed a b =
+tells_after has_known_texts unread at to room k l u v f g h Closed a b =
     record {
       unused = omega (arith, a.unused, b.unused, length-append u v);
       fits = omega (arith, a.fits, b.fits, length-append k l);
@@ -174,9 +174,9 @@ tells_behind has_known_texts unread at to room k l u v f g h Closed a b =
       bytes = λ t.
           a.bytes t ∙ ap (λ z. u ++ z) (b.bytes t) ∙ sym (append_assoc u v (bytes_of (tokens_left unread h)));
     }
-tells_behind has_known_texts unread at to room k l u v f g h (Refused kind) a b = λ t. a.reads t ∙ ap (onto_kept k) (b t)
-tells_behind has_known_texts unread at to room k l u v f g h (BrokenCall kind line) a b = λ t. a.reads t ∙ ap (onto_kept k) (b t)
-tells_behind has_known_texts unread at to room k l u v f g h Failed a b =
+tells_after has_known_texts unread at to room k l u v f g h (Refused kind) a b = λ t. a.reads t ∙ ap (onto_kept k) (b t)
+tells_after has_known_texts unread at to room k l u v f g h (BrokenCall kind line) a b = λ t. a.reads t ∙ ap (onto_kept k) (b t)
+tells_after has_known_texts unread at to room k l u v f g h Failed a b =
     record { to = b.to; goes_on = goes_on_twice has_known_texts unread at to b.to room k l u v f g h a b.goes_on }
 
 -- what needs no word of the sources holds with it
@@ -377,7 +377,7 @@ answered g first now old mid new most store at used result r inner unused moves 
           text-on r.used used (text_left g.unread (inner_buffer old.include_stack)) (text_left g.unread (inner_buffer mid.include_stack)) (text_left g.unread (inner_buffer new))
           (r.text t) (text exact t);
       answer = subst (λ (k : List ℕ). TellsCall (g.has_known_texts first) g.unread Before most k (r.used ++ used) (inner_buffer old.include_stack) (inner_buffer new) result) (append-nil store.bytes)
-          (tells_behind (g.has_known_texts first) g.unread Before at most store.bytes [] r.used used (inner_buffer old.include_stack) (inner_buffer mid.include_stack) (inner_buffer new) result r.goes_on has_known_texts);
+          (tells_after (g.has_known_texts first) g.unread Before at most store.bytes [] r.used used (inner_buffer old.include_stack) (inner_buffer mid.include_stack) (inner_buffer new) result r.goes_on has_known_texts);
     }
 
 -- an answer at a token
@@ -592,13 +592,13 @@ unfolding reading is_open
 plain_reading unread room f r plain e = ap (λ b. read Before b room (tokens_left unread f)) (sym (ap is_open plain)) ∙ e
 
 -- a call that was closed
-closed_call : {R : Type 0} (unread : R → List ℕ) (room : ℕ) (f : BufferView R) (bytes : List ℕ) (behind : List SourceToken)
-    → read Before false room (tokens_left unread f) ≡ ReadClosed bytes behind → IsCallOf room (tokens_left unread f) bytes behind
+closed_call : {R : Type 0} (unread : R → List ℕ) (room : ℕ) (f : BufferView R) (bytes : List ℕ) (following : List SourceToken)
+    → read Before false room (tokens_left unread f) ≡ ReadClosed bytes following → IsCallOf room (tokens_left unread f) bytes following
 unfolding tokens_left remaining_tokens
-closed_call unread room f bytes behind e =
+closed_call unread room f bytes following e =
     let c =
     read_closed (course f.line_bytes f.bytes_left (rest_of unread f)) f.mode f.open_token_line f.line (held_of f ++ (front f.line_bytes f.bytes_left (rest_of unread f)).text)
-    room (tokens_left unread f) bytes behind refl e in
+    room (tokens_left unread f) bytes following refl e in
     record { used = c.used; call = c.call; rest = c.rest; keeps = c.keeps }
 
 -- each answer

@@ -12,7 +12,7 @@ use Rattle.rdlpp_scan.specs.Front.{Breach, PerlFound, DefineLong, DefineCut, Bre
 use Rattle.rdlpp_scan.specs.Resumed.{onto_tokens, opening, with_part, line_with}
 use Rattle.rdlpp_scan.specs.SourceTokens.{SourceToken, Ordinary, Broken, line_ends, remaining_tokens, Course, Step, Last, Next, Definition, broken, define_step, line_step, logical_len, source_tokens, source_step}
 use Rattle.rdlpp_scan.specs.Tokens.{token_of, whole}
-use Rattle.rdlpp_scan.proofs.RemainingLaws.{remaining-opened, behind, course, remaining-perl, remaining-closed, remaining-open_string, remaining-open_comment, remaining-cut_string, remaining-perl_in_string, after_step, tokens_step, perl_in_string}
+use Rattle.rdlpp_scan.proofs.RemainingLaws.{remaining-opened, following, course, remaining-perl, remaining-closed, remaining-open_string, remaining-open_comment, remaining-cut_string, remaining-perl_in_string, after_step, tokens_step, perl_in_string}
 use Rattle.rdlpp_scan.specs.Ordinary.{is_plain_kind}
 use Rattle.rdlpp_scan.specs.Pieces.{is_open}
 use Rattle.rdlpp_scan.proofs.Seams.{Seam, Closed, BeforePerl, OpenString, OpenComment}
@@ -21,14 +21,14 @@ use Rattle.rdlpp_scan.proofs.StopKinds.{block_token-kind, Row, AtPerl, AtLineCom
 use Rattle.rdlpp_scan.proofs.TokenLens.{token_of-part}
 use Rattle.rdlpp_scan.proofs.TokenSteps.{is_kept_kind, back_held, next_held}
 use Rattle.rdlpp_meaning.specs.declared.fault.FaultKind.TheVariants.{ArgumentsMissing, EmbeddedPerl}
-use Rattle.rdlpp_meaning.specs.Actuals.{Role, KeptComment, Text, kind_role, kept_size, level_behind, token_role, Halt, broken_role}
+use Rattle.rdlpp_meaning.specs.Actuals.{Role, KeptComment, Text, kind_role, kept_size, level_after, token_role, Halt, broken_role}
 use Rattle.rdlpp_meaning.specs.CallReading.{Reading, ReadRefused, is_part_sort, part_kept, read, read_by, rest_role, role_in, ReadStopped, is_part_breach}
-use Rattle.rdlpp_meaning.specs.CallScan.{CallState, Before, Inside, Keeps, turn, turn_before, turn_inside, turn_fitting, call_state_behind, call_state_behind_lead, room_behind, source_role, fault_at_end}
+use Rattle.rdlpp_meaning.specs.CallScan.{CallState, Before, Inside, Keeps, turn, turn_before, turn_inside, turn_fitting, call_state_after, call_state_after_lead, room_after, source_role, fault_at_end}
 use Rattle.rdlpp_meaning.specs.Expansion.{bytes_of, usage_token}
 use Rattle.rdlpp_meaning.specs.Parts.{directive_of, directive_named}
 use Rattle.rdlpp_meaning.proofs.ReadCalls.{BrokenRest, IsRest, WholeRest, comment_part_before, comment_remains, open_comment_before, open_string_before, part_inside, string_before, string_remains}
 use Rattle.rdlpp_meaning.proofs.LargerRuns.{row-string}
-use Rattle.rdlpp_usages.specs.CallActions.{Around, IsAround, tokens_at, tokens_behind}
+use Rattle.rdlpp_usages.specs.CallActions.{Around, IsAround, tokens_at, tokens_after}
 use Rattle.rdlpp_scan.specs.declared.token.Directive.{Directive}
 use Rattle.rdlpp_scan.specs.declared.token.Directive.TheVariants.{Undef, Ifdef, Ifndef, Elsif, Else, Endif, Include}
 use Rattle.rdlpp_scan.specs.Reserved.{is_reserved, reserved_names}
@@ -44,9 +44,9 @@ own_token t held line = record { sort = Ordinary t.kind; bytes = take t.len held
 -- the first token of held bytes is read by its role, and then what stands behind it
 pub record IsFirst (at : CallState) (m : Mode) (room : ℕ) (held : List ℕ) (t : Token) (r : Role) (a : Around) : Type 0 where
   pub reads : read at (is_open m) room (tokens_at a m held)
-      ≡ read_by (turn at r (nat_le t.len room)) (own_token t held a.line) (tokens_behind a m held t.len t.next_mode)
-      (read (call_state_behind at r) (is_open t.next_mode) (room_behind at room r t.len) (tokens_behind a m held t.len t.next_mode))
-  pub bytes : bytes_of (tokens_at a m held) ≡ take t.len held ++ bytes_of (tokens_behind a m held t.len t.next_mode)
+      ≡ read_by (turn at r (nat_le t.len room)) (own_token t held a.line) (tokens_after a m held t.len t.next_mode)
+      (read (call_state_after at r) (is_open t.next_mode) (room_after at room r t.len) (tokens_after a m held t.len t.next_mode))
+  pub bytes : bytes_of (tokens_at a m held) ≡ take t.len held ++ bytes_of (tokens_after a m held t.len t.next_mode)
 
 -- the role of a token of a kind that stands in the list as it is
 kept_role_by : (k : Kind) (bytes : List ℕ) (line : ℕ) → is_kept_kind k ≡ true → source_role (record { sort = Ordinary k; bytes = bytes; line = line }) ≡ kind_role k bytes
@@ -64,10 +64,10 @@ kept_role InBlock k bytes line h = refl
 -- the first of tokens is read by its role
 pub head_read : (at : CallState) (p : Bool) (room : ℕ) (t : SourceToken) (ts : List SourceToken) (r : Role) (n : ℕ) (next : Mode)
     → role_in p t ≡ r → length t.bytes ≡ n → next ≡ Plain
-    → read at p room (t ∷ ts) ≡ read_by (turn at r (nat_le n room)) t ts (read (call_state_behind at r) (is_open next) (room_behind at room r n) ts)
+    → read at p room (t ∷ ts) ≡ read_by (turn at r (nat_le n room)) t ts (read (call_state_after at r) (is_open next) (room_after at room r n) ts)
 unfolding read is_open
 head_read at p room t ts r n next role size plain =
-    let F : Role → ℕ → Bool → Reading = λ q i b. read_by (turn at q (nat_le i room)) t ts (read (call_state_behind at q) b (room_behind at room q i) ts) in
+    let F : Role → ℕ → Bool → Reading = λ q i b. read_by (turn at q (nat_le i room)) t ts (read (call_state_after at q) b (room_after at room q i) ts) in
     ap (λ q. F q (length t.bytes) false) role ∙ ap (λ i. F r i false) size ∙ ap (F r n) (sym (ap is_open plain))
 
 -- a token that is whole in held bytes
@@ -78,11 +78,11 @@ pub whole_first : (at : CallState) (m : Mode) (room : ℕ) (held : List ℕ) (t 
 whole_first at m room held t r a size closed role e =
     let own = take t.len held in
     let T = own_token t held a.line in
-    let us = tokens_behind a m held t.len t.next_mode in
-    let behind : remaining_tokens a.most Plain a.line (a.line + line_ends own) (drop t.len held) a.left a.rest ≡ us =
+    let us = tokens_after a m held t.len t.next_mode in
+    let following : remaining_tokens a.most Plain a.line (a.line + line_ends own) (drop t.len held) a.left a.rest ≡ us =
     remaining-opened a.most a.line (opening m a.opened a.line) (a.line + line_ends own) (drop t.len held) a.left a.rest
-    ∙ ap (λ (n : Mode). tokens_behind a m held t.len n) (sym closed) in
-    let all : tokens_at a m held ≡ T ∷ us = e ∙ ap (λ ts. T ∷ ts) behind in
+    ∙ ap (λ (n : Mode). tokens_after a m held t.len n) (sym closed) in
+    let all : tokens_at a m held ≡ T ∷ us = e ∙ ap (λ ts. T ∷ ts) following in
     record {
       reads = ap (read at (is_open m) room) all ∙ head_read at (is_open m) room T us r t.len t.next_mode role size closed;
       bytes = ap bytes_of all;
@@ -141,14 +141,14 @@ part_read k room line p part t ts us h own =
 
 -- a string or comment of which a part is held, behind the `(`
 open_inside : (k : ℕ) (m : Mode) (room : ℕ) (held : List ℕ) (t : Token) (r : Role) (a : Around) → t.len ≤ length held
-    → ((fits : Bool) → turn_inside r k fits ≡ turn_fitting fits Keeps) → level_behind r k ≡ k → kept_size r t.len ≡ t.len → is_open t.next_mode ≡ true
-    → IsHead (tokens_behind a m held t.len t.next_mode)
-    → tokens_at a m held ≡ onto_tokens (take t.len held) a.line (tokens_behind a m held t.len t.next_mode)
+    → ((fits : Bool) → turn_inside r k fits ≡ turn_fitting fits Keeps) → level_after r k ≡ k → kept_size r t.len ≡ t.len → is_open t.next_mode ≡ true
+    → IsHead (tokens_after a m held t.len t.next_mode)
+    → tokens_at a m held ≡ onto_tokens (take t.len held) a.line (tokens_after a m held t.len t.next_mode)
     → IsFirst (Inside k) m room held t r a
-unfolding turn call_state_behind room_behind
+unfolding turn call_state_after room_after
 open_inside k m room held t r a inside turns level kept open_ head e =
     let own = take t.len held in
-    let us = tokens_behind a m held t.len t.next_mode in
+    let us = tokens_after a m held t.len t.next_mode in
     let T = own_token t held a.line in
     let size : length own ≡ t.len = length-take-le t.len held inside in
     record {
@@ -159,7 +159,7 @@ open_inside k m room held t r a inside turns level kept open_ head e =
           ∙ ap (λ n. read_by (turn_fitting (nat_le t.len room) Keeps) T us (read (Inside k) true (room - n) us)) (sym kept)
           ∙ ap (λ w. read_by w T us (read (Inside k) true (room - kept_size r t.len) us)) (sym (turns (nat_le t.len room)))
           ∙ ap (λ n. read_by (turn_inside r k (nat_le t.len room)) T us (read (Inside n) true (room - kept_size r t.len) us)) (sym level)
-          ∙ ap (λ b. read_by (turn_inside r k (nat_le t.len room)) T us (read (Inside (level_behind r k)) b (room - kept_size r t.len) us)) (sym open_);
+          ∙ ap (λ b. read_by (turn_inside r k (nat_le t.len room)) T us (read (Inside (level_after r k)) b (room - kept_size r t.len) us)) (sym open_);
       bytes = ap bytes_of e ∙ onto_bytes own a.line us head;
     }
 
@@ -214,51 +214,51 @@ comment_slash bs t (AtPlain h q) is = absurd (false≢true (sym (ap is_plain_kin
 all_held : (held : List ℕ) (n : ℕ) → n ≡ length held → take n held ≡ held
 all_held held n e = take_all n held (omega (arith, e))
 
-none_behind : (held : List ℕ) (n : ℕ) → n ≡ length held → drop n held ≡ []
-none_behind held n e = drop_all n held (omega (arith, e))
+none_after : (held : List ℕ) (n : ℕ) → n ≡ length held → drop n held ≡ []
+none_after held n e = drop_all n held (omega (arith, e))
 
 -- a part that is all of held bytes, in front of what remains of its token
 whole_part : (m next : Mode) (held : List ℕ) (n : ℕ) (a : Around) (mode : Mode) → n ≡ length held → mode ≡ next
     → tokens_at a m held ≡ onto_tokens held a.line (remaining_tokens a.most next (opening m a.opened a.line) (a.line + line_ends held) [] a.left a.rest)
-    → tokens_at a m held ≡ onto_tokens (take n held) a.line (tokens_behind a m held n mode)
+    → tokens_at a m held ≡ onto_tokens (take n held) a.line (tokens_after a m held n mode)
 whole_part m next held n a mode len is e =
     let F : List ℕ → List ℕ → Mode → List SourceToken =
     λ own left d. onto_tokens own a.line (remaining_tokens a.most d (opening m a.opened a.line) (a.line + line_ends own) left a.left a.rest) in
-    e ∙ ap (λ own. F own [] next) (sym (all_held held n len)) ∙ ap (λ left. F (take n held) left next) (sym (none_behind held n len))
+    e ∙ ap (λ own. F own [] next) (sym (all_held held n len)) ∙ ap (λ left. F (take n held) left next) (sym (none_after held n len))
     ∙ ap (F (take n held) (drop n held)) (sym is)
 
 -- a string that `<%` cuts, in front of what remains behind its part
 cut_part : (m : Mode) (held : List ℕ) (a : Around) → IsAround held a → 0 < length held → (token_of m held).kind ≡ Str → (token_of m held).next_mode ≡ InStr → (token_of m held).len < length held → begins_perl (drop (token_of m held).len held) ≡ true
-    → tokens_at a m held ≡ onto_tokens (take (token_of m held).len held) a.line (tokens_behind a m held (token_of m held).len (token_of m held).next_mode)
+    → tokens_at a m held ≡ onto_tokens (take (token_of m held).len held) a.line (tokens_after a m held (token_of m held).len (token_of m held).next_mode)
 unfolding onto_tokens with_part line_with
 cut_part m held a around some kind mode lt perl =
     let t = token_of m held in
     let own = take t.len held in
     let left = drop t.len held in
     let there : 0 < length left = omega (arith, length-drop t.len held) in
-    let rest : tokens_behind a m held t.len InStr ≡ record { sort = Broken PerlFound; bytes = []; line = a.line + line_ends own } ∷ [] =
+    let rest : tokens_after a m held t.len InStr ≡ record { sort = Broken PerlFound; bytes = []; line = a.line + line_ends own } ∷ [] =
     remaining-perl_in_string a.most (opening m a.opened a.line) (a.line + line_ends own) left a.left a.rest there perl in
     remaining-cut_string a.most m a.opened a.line held a.left a.rest some around.ends kind mode lt
     ∙ ap (λ (z : List ℕ). record { sort = Broken PerlFound; bytes = z; line = a.line + line_ends own } ∷ []) (sym (append-nil own))
     ∙ ap (onto_tokens own a.line) (sym rest)
-    ∙ ap (λ (d : Mode). onto_tokens own a.line (tokens_behind a m held t.len d)) (sym mode)
+    ∙ ap (λ (d : Mode). onto_tokens own a.line (tokens_after a m held t.len d)) (sym mode)
 
 -- a string in held bytes that isn't closed there, by where the call stands
 string_by : (at : CallState) (m : Mode) (room : ℕ) (held : List ℕ) (t : Token) (a : Around) → 0 < length held → 0 < t.len → t.len ≤ length held
     → (at ≡ Before → m ≡ Plain) → (m ≡ Plain → (slice_index held 0 == 34) ≡ true) → t.next_mode ≡ InStr
-    → tokens_at a m held ≡ onto_tokens (take t.len held) a.line (tokens_behind a m held t.len t.next_mode)
+    → tokens_at a m held ≡ onto_tokens (take t.len held) a.line (tokens_after a m held t.len t.next_mode)
     → IsFirst at m room held t Text a
-unfolding turn turn_before turn_inside read_by level_behind kept_size is_open
+unfolding turn turn_before turn_inside read_by level_after kept_size is_open
 string_by (Inside k) m room held t a some long inside lead quote mode e =
-    let rest : IsRest Str (tokens_behind a m held t.len t.next_mode) =
-    subst (λ (d : Mode). IsRest Str (tokens_behind a m held t.len d)) (sym mode)
+    let rest : IsRest Str (tokens_after a m held t.len t.next_mode) =
+    subst (λ (d : Mode). IsRest Str (tokens_after a m held t.len d)) (sym mode)
     (string_remains a.most (opening m a.opened a.line) (a.line + line_ends (take t.len held)) (drop t.len held) a.left a.rest) in
-    open_inside k m room held t Text a inside (λ fits. refl) refl refl (ap is_open mode) (string_head (tokens_behind a m held t.len t.next_mode) rest) e
+    open_inside k m room held t Text a inside (λ fits. refl) refl refl (ap is_open mode) (string_head (tokens_after a m held t.len t.next_mode) rest) e
 string_by Before m room held t a some long inside lead quote mode e =
     let own = take t.len held in
-    let us = tokens_behind a m held t.len t.next_mode in
+    let us = tokens_after a m held t.len t.next_mode in
     let rest : IsRest Str us =
-    subst (λ (d : Mode). IsRest Str (tokens_behind a m held t.len d)) (sym mode)
+    subst (λ (d : Mode). IsRest Str (tokens_after a m held t.len d)) (sym mode)
     (string_remains a.most (opening m a.opened a.line) (a.line + line_ends own) (drop t.len held) a.left a.rest) in
     let size : length own ≡ t.len = length-take-le t.len held inside in
     let plain = lead refl in
@@ -274,19 +274,19 @@ string_by Before m room held t a some long inside lead quote mode e =
 -- a comment in held bytes that isn't closed there, by where the call stands
 comment_by : (at : CallState) (m : Mode) (room : ℕ) (held : List ℕ) (t : Token) (a : Around) → 0 < length held → 0 < t.len → t.len ≤ length held
     → (is_open m ≡ false → (slice_index held 0 == 34) ≡ false) → t.next_mode ≡ InBlock
-    → tokens_at a m held ≡ onto_tokens (take t.len held) a.line (tokens_behind a m held t.len t.next_mode)
+    → tokens_at a m held ≡ onto_tokens (take t.len held) a.line (tokens_after a m held t.len t.next_mode)
     → IsFirst at m room held t KeptComment a
-unfolding turn turn_before turn_inside read_by level_behind kept_size is_open call_state_behind call_state_behind_lead room_behind
+unfolding turn turn_before turn_inside read_by level_after kept_size is_open call_state_after call_state_after_lead room_after
 comment_by (Inside k) m room held t a some long inside slash mode e =
-    let rest : IsRest BlockComment (tokens_behind a m held t.len t.next_mode) =
-    subst (λ (d : Mode). IsRest BlockComment (tokens_behind a m held t.len d)) (sym mode)
+    let rest : IsRest BlockComment (tokens_after a m held t.len t.next_mode) =
+    subst (λ (d : Mode). IsRest BlockComment (tokens_after a m held t.len d)) (sym mode)
     (comment_remains a.most (opening m a.opened a.line) (a.line + line_ends (take t.len held)) (drop t.len held) a.left a.rest) in
-    open_inside k m room held t KeptComment a inside (λ fits. refl) refl refl (ap is_open mode) (comment_head (tokens_behind a m held t.len t.next_mode) rest) e
+    open_inside k m room held t KeptComment a inside (λ fits. refl) refl refl (ap is_open mode) (comment_head (tokens_after a m held t.len t.next_mode) rest) e
 comment_by Before m room held t a some long inside slash mode e =
     let own = take t.len held in
-    let us = tokens_behind a m held t.len t.next_mode in
+    let us = tokens_after a m held t.len t.next_mode in
     let rest : IsRest BlockComment us =
-    subst (λ (d : Mode). IsRest BlockComment (tokens_behind a m held t.len d)) (sym mode)
+    subst (λ (d : Mode). IsRest BlockComment (tokens_after a m held t.len d)) (sym mode)
     (comment_remains a.most (opening m a.opened a.line) (a.line + line_ends own) (drop t.len held) a.left a.rest) in
     let size : length own ≡ t.len = length-take-le t.len held inside in
     let first : is_open m ≡ false → (slice_index own 0 == 34) ≡ false = λ h. ap (λ (z : ℕ). z == 34) (front_byte t.len held long) ∙ slash h in
@@ -395,9 +395,9 @@ perl_reads at m room held a around some is =
 halt_reads : (at : CallState) (room : ℕ) (t : SourceToken) (ts : List SourceToken) → source_role t ≡ Halt → read at false room (t ∷ ts) ≡ ReadRefused (fault_at_end at)
 unfolding read role_in turn turn_before turn_inside fault_at_end read_by
 halt_reads Before room t ts h =
-    ap (λ (r : Role). read_by (turn Before r (nat_le (length t.bytes) room)) t ts (read (call_state_behind Before r) false (room_behind Before room r (length t.bytes)) ts)) h
+    ap (λ (r : Role). read_by (turn Before r (nat_le (length t.bytes) room)) t ts (read (call_state_after Before r) false (room_after Before room r (length t.bytes)) ts)) h
 halt_reads (Inside k) room t ts h =
-    ap (λ (r : Role). read_by (turn (Inside k) r (nat_le (length t.bytes) room)) t ts (read (call_state_behind (Inside k) r) false (room_behind (Inside k) room r (length t.bytes)) ts)) h
+    ap (λ (r : Role). read_by (turn (Inside k) r (nat_le (length t.bytes) room)) t ts (read (call_state_after (Inside k) r) false (room_after (Inside k) room r (length t.bytes)) ts)) h
 
 -- a step that halts
 unfoldable Halts : Step → Type 0
@@ -448,8 +448,8 @@ test_or : (b : Bool) (d : Directive) (others : Option Directive) (rest : Bool) �
 test_or true d others rest h e = refl
 test_or false d others rest h e = h e
 
-behind_test : (b rest : Bool) → b ≡ false → (b || rest) ≡ true → rest ≡ true
-behind_test b rest h e = sym (ap (λ t. t || rest) h) ∙ e
+after_test : (b rest : Bool) → b ≡ false → (b || rest) ≡ true → rest ≡ true
+after_test b rest h e = sym (ap (λ t. t || rest) h) ∙ e
 
 -- a reserved name but `define` and `line` is one of the other directives
 named_directive : (name : List ℕ) → is_reserved name ≡ true → bytes_eq (96 ∷ name) (codes "`define") ≡ false → bytes_eq (96 ∷ name) (codes "`line") ≡ false
@@ -463,8 +463,8 @@ named_directive name reserved other also =
     (test_or (bytes_eq name (codes "else")) Else _ _
     (test_or (bytes_eq name (codes "endif")) Endif _ _
     (test_or (bytes_eq name (codes "include")) Include None (bytes_eq name (codes "line") || false)
-    (λ e. absurd (false≢true (behind_test (bytes_eq name (codes "line")) false also e)))))))))
-    (behind_test (bytes_eq name (codes "define")) _ other reserved)
+    (λ e. absurd (false≢true (after_test (bytes_eq name (codes "line")) false also e)))))))))
+    (after_test (bytes_eq name (codes "define")) _ other reserved)
 
 -- an option that is there
 there : (o : Option Directive) → is_some o ≡ true → (d : Directive) × (o ≡ Some d)
@@ -511,7 +511,7 @@ directive_reads at room held a around some is reserved =
     let own = take t.len held in
     let name = take (t.len - 1) (drop 1 held) in
     let more = (front a.most a.left a.rest).text in
-    let b = behind a.most a.left held a.rest around.ends in
+    let b = following a.most a.left held a.rest around.ends in
     let c = course a.most a.left a.rest in
     let bs = held ++ more in
     let text : own ≡ 96 ∷ name = back_bytes held is some in
@@ -551,7 +551,7 @@ name_first at room held a around some is closed free =
     let own = take t.len held in
     let name = take (t.len - 1) (drop 1 held) in
     let more = (front a.most a.left a.rest).text in
-    let b = behind a.most a.left held a.rest around.ends in
+    let b = following a.most a.left held a.rest around.ends in
     let c = course a.most a.left a.rest in
     let bs = held ++ more in
     let part = token_of-part Plain held some in

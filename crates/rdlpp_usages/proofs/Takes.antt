@@ -22,9 +22,9 @@ use Rattle.rdlpp_scan.proofs.Seams.{BeforePerl, Closed, OpenComment, OpenString,
 use Rattle.rdlpp_scan.proofs.TokenLens.{token_of-part}
 use Rattle.rdlpp_scan.proofs.TokenSteps.{is_kept_kind}
 use Rattle.rdlpp_meaning.specs.Actuals as role
-use Rattle.rdlpp_meaning.specs.Actuals.{Dropped, End, Ends, Halt, KeptComment, Role, Space, Start, Stops, Text, kept_size, kind_role, level_behind}
+use Rattle.rdlpp_meaning.specs.Actuals.{Dropped, End, Ends, Halt, KeptComment, Role, Space, Start, Stops, Text, kept_size, kind_role, level_after}
 use Rattle.rdlpp_meaning.specs.CallReading.{ReadClosed, Reading, ReadRefused, ReadStopped, onto_kept, read, read_by, role_in}
-use Rattle.rdlpp_meaning.specs.CallScan.{Before, Breaks, Closes, Inside, Keeps, Passes, TurnFault, CallState, Turn, fault_at_end, room_behind, call_state_behind, call_state_behind_lead, turn, turn_before, turn_fitting, turn_inside}
+use Rattle.rdlpp_meaning.specs.CallScan.{Before, Breaks, Closes, Inside, Keeps, Passes, TurnFault, CallState, Turn, fault_at_end, room_after, call_state_after, call_state_after_lead, turn, turn_before, turn_fitting, turn_inside}
 use Rattle.rdlpp_meaning.specs.Expansion.{bytes_of}
 use Rattle.rdlpp_meaning.specs.declared.fault.FaultKind.{FaultKind}
 use Rattle.rdlpp_meaning.specs.declared.fault.FaultKind.TheVariants as fault
@@ -40,7 +40,7 @@ use Rattle.rdlpp_read.specs.Files.{inner_buffer}
 use Rattle.rdlpp_read.specs.declared.files.File.{File}
 use Rattle.rdlpp_usages.specs.CallReads.{IsEnded, is_read_fault}
 use Rattle.rdlpp_usages.specs.Reads.{reading}
-use Rattle.rdlpp_usages.specs.CallActions.{Answers, Around, IsAround, IsClose, IsKeptAt, IsStep, IsAction, IsConsumed, is_plain_argument, kept_len, kept_of, level_in, call_state_meant, tokens_at, tokens_behind}
+use Rattle.rdlpp_usages.specs.CallActions.{Answers, Around, IsAround, IsClose, IsKeptAt, IsStep, IsAction, IsConsumed, is_plain_argument, kept_len, kept_of, level_in, call_state_meant, tokens_at, tokens_after}
 use Rattle.rdlpp_usages.specs.declared.reading.CallRead.TheVariants as call
 use Rattle.rdlpp_usages.specs.declared.action.CallState.TheVariants.{Inside as InsideCall}
 use Rattle.rdlpp_usages.specs.declared.action.CallAction.{CallAction}
@@ -71,8 +71,8 @@ unfolding turn turn_fitting
 passes_room r k room n kept more = kept.turns (nat_le n room) ∙ ap (λ b. turn_fitting b Keeps) (lt-leb n room more)
 
 -- a token adds a level at most
-one_level : (r : Role) (k : ℕ) → level_behind r k ≤ k + 1
-unfolding level_behind
+one_level : (r : Role) (k : ℕ) → level_after r k ≤ k + 1
+unfolding level_after
 one_level role.Start k = omega arith
 one_level role.Up k = omega arith
 one_level role.End k = omega arith
@@ -80,9 +80,9 @@ one_level role.Down k = omega arith
 one_level r k = omega arith
 
 -- and is kept where it fits
-pub keeps_step : (r : Role) (k room : ℕ) (t : Token) (level : ℕ) → IsKeptAt r k → t.len ≤ room → 0 < t.len → level ≡ level_behind r k
+pub keeps_step : (r : Role) (k room : ℕ) (t : Token) (level : ℕ) → IsKeptAt r k → t.len ≤ room → 0 < t.len → level ≡ level_after r k
     → IsStep (Inside k) r room t (record { len = t.len; next_mode = t.next_mode; call_state = InsideCall level; is_kept = true })
-unfolding turn turn_fitting call_state_meant call_state_behind room_behind level_in
+unfolding turn turn_fitting call_state_meant call_state_after room_after level_in
 keeps_step r k room t level kept fits some is =
     record {
       len = refl;
@@ -96,7 +96,7 @@ keeps_step r k room t level kept fits some is =
 
 -- a `//` comment is passed
 pub comment_step : (k room : ℕ) (t : Token) → IsStep (Inside k) role.Dropped room t (record { len = t.len; next_mode = t.next_mode; call_state = InsideCall k; is_kept = false })
-unfolding turn turn_inside call_state_meant call_state_behind room_behind level_in level_behind kept_size
+unfolding turn turn_inside call_state_meant call_state_after room_after level_in level_after kept_size
 comment_step k room t =
     record { len = refl; mode = refl; call_state = refl; turns = refl; left = refl; fits = omega arith; level = omega arith }
 
@@ -115,7 +115,7 @@ kept_size_of false bytes n e = refl
 
 -- a token that is used
 uses_taken : (at : CallState) (m : Mode) (room : ℕ) (held : List ℕ) (t : Token) (r : Role) (u : Consumed) → 0 < t.len → t.len ≤ length held
-    → (call_state_behind at r ≡ Before → turn at r (nat_le t.len room) ≡ cond u.is_kept Keeps Passes → t.next_mode ≢ InStr)
+    → (call_state_after at r ≡ Before → turn at r (nat_le t.len room) ≡ cond u.is_kept Keeps Passes → t.next_mode ≢ InStr)
     → ((a : Around) → IsAround held a → IsFirst at m room held t r a) → IsStep at r room t u → IsConsumed at m room held u
 uses_taken at m room held t r u some inside lead first step =
     let b = u.is_kept in
@@ -130,20 +130,20 @@ uses_taken at m room held t r u some inside lead first step =
       lead = λ before open_. lead (sym step.call_state ∙ before) step.turns (sym step.mode ∙ open_);
       reads = λ a around.
           let f = first a around in
-          let us = tokens_behind a m held t.len t.next_mode in
+          let us = tokens_after a m held t.len t.next_mode in
           let T = own_token t held a.line in
-          let G : ℕ → Mode → CallState → ℕ → Reading = λ n d st left. onto_kept (kept_of b (take n held)) (read st (is_open d) left (tokens_behind a m held n d)) in
+          let G : ℕ → Mode → CallState → ℕ → Reading = λ n d st left. onto_kept (kept_of b (take n held)) (read st (is_open d) left (tokens_after a m held n d)) in
           f.reads
-          ∙ ap (λ (w : Turn). read_by w T us (read (call_state_behind at r) (is_open t.next_mode) (room_behind at room r t.len) us)) step.turns
-          ∙ read_used b T us (read (call_state_behind at r) (is_open t.next_mode) (room_behind at room r t.len) us)
-          ∙ ap (G t.len t.next_mode (call_state_behind at r)) (step.left ∙ ap (λ n. room - n) (sym own))
+          ∙ ap (λ (w : Turn). read_by w T us (read (call_state_after at r) (is_open t.next_mode) (room_after at room r t.len) us)) step.turns
+          ∙ read_used b T us (read (call_state_after at r) (is_open t.next_mode) (room_after at room r t.len) us)
+          ∙ ap (G t.len t.next_mode (call_state_after at r)) (step.left ∙ ap (λ n. room - n) (sym own))
           ∙ ap (λ st. G t.len t.next_mode st (room - length (kept_of b (take u.len held)))) (sym step.call_state)
           ∙ ap (λ d. G t.len d (call_state_meant u.call_state) (room - length (kept_of b (take u.len held)))) (sym step.mode)
           ∙ ap (λ n. G n u.next_mode (call_state_meant u.call_state) (room - length (kept_of b (take u.len held)))) (sym step.len);
       bytes = λ a around.
           (first a around).bytes
-          ∙ ap (λ d. take t.len held ++ bytes_of (tokens_behind a m held t.len d)) (sym step.mode)
-          ∙ ap (λ n. take n held ++ bytes_of (tokens_behind a m held n u.next_mode)) (sym step.len);
+          ∙ ap (λ d. take t.len held ++ bytes_of (tokens_after a m held t.len d)) (sym step.mode)
+          ∙ ap (λ n. take n held ++ bytes_of (tokens_after a m held n u.next_mode)) (sym step.len);
     }
 
 -- the call closes at a `)` alone
@@ -176,15 +176,15 @@ unfolding read_by
 closes_taken at m room held t r one plain first closes =
     record {
       reads = λ a around.
-          let us = tokens_behind a m held t.len t.next_mode in
+          let us = tokens_after a m held t.len t.next_mode in
           (first a around).reads
-          ∙ ap (λ (w : Turn). read_by w (own_token t held a.line) us (read (call_state_behind at r) (is_open t.next_mode) (room_behind at room r t.len) us)) closes
-          ∙ ap (λ d. ReadClosed [] (tokens_behind a m held t.len d)) plain
-          ∙ ap (λ n. ReadClosed [] (tokens_behind a m held n Plain)) one;
+          ∙ ap (λ (w : Turn). read_by w (own_token t held a.line) us (read (call_state_after at r) (is_open t.next_mode) (room_after at room r t.len) us)) closes
+          ∙ ap (λ d. ReadClosed [] (tokens_after a m held t.len d)) plain
+          ∙ ap (λ n. ReadClosed [] (tokens_after a m held n Plain)) one;
       bytes = λ a around.
           (first a around).bytes
-          ∙ ap (λ d. take t.len held ++ bytes_of (tokens_behind a m held t.len d)) plain
-          ∙ ap (λ n. take n held ++ bytes_of (tokens_behind a m held n Plain)) one;
+          ∙ ap (λ d. take t.len held ++ bytes_of (tokens_after a m held t.len d)) plain
+          ∙ ap (λ n. take n held ++ bytes_of (tokens_after a m held n Plain)) one;
     }
 
 -- a token at which the call is refused
@@ -193,13 +193,13 @@ refused_taken : (at : CallState) (m : Mode) (room : ℕ) (held : List ℕ) (t : 
     → (a : Around) → IsAround held a → read at (is_open m) room (tokens_at a m held) ≡ ReadRefused f
 unfolding read_by
 refused_taken at m room held t r f first refuses a around =
-    let us = tokens_behind a m held t.len t.next_mode in
+    let us = tokens_after a m held t.len t.next_mode in
     (first a around).reads
-    ∙ ap (λ (w : Turn). read_by w (own_token t held a.line) us (read (call_state_behind at r) (is_open t.next_mode) (room_behind at room r t.len) us)) refuses
+    ∙ ap (λ (w : Turn). read_by w (own_token t held a.line) us (read (call_state_after at r) (is_open t.next_mode) (room_after at room r t.len) us)) refuses
 
 -- each answer, by the role of the first token
 taken_by : (at : CallState) (m : Mode) (room : ℕ) (held : List ℕ) (t : Token) (r : Role) (x : CallAction) → 0 < t.len → t.len ≤ length held
-    → (call_state_behind at r ≡ Before → (b : Bool) → turn at r (nat_le t.len room) ≡ cond b Keeps Passes → t.next_mode ≢ InStr)
+    → (call_state_after at r ≡ Before → (b : Bool) → turn at r (nat_le t.len room) ≡ cond b Keeps Passes → t.next_mode ≢ InStr)
     → (r ≡ End → (t.len ≡ 1) × (t.next_mode ≡ Plain))
     → ((a : Around) → IsAround held a → IsFirst at m room held t r a) → Answers at r room t x → IsAction at m room held x
 taken_by at m room held t r (Consumes u) some inside lead end first answer = uses_taken at m room held t r u some inside (λ h e. lead h u.is_kept e) first answer
@@ -209,26 +209,26 @@ taken_by at m room held t r (Refused f) some inside lead end first answer = refu
 taken_by at m room held t r PerlFound some inside lead end first answer = absurd answer
 
 -- text before the `(` is refused
-text_refused : (at : CallState) (fits b : Bool) → call_state_behind at Text ≡ Before → turn at Text fits ≡ cond b Keeps Passes → at ≢ at
-unfolding turn turn_before call_state_behind call_state_behind_lead
+text_refused : (at : CallState) (fits b : Bool) → call_state_after at Text ≡ Before → turn at Text fits ≡ cond b Keeps Passes → at ≢ at
+unfolding turn turn_before call_state_after call_state_after_lead
 text_refused Before fits true is e = absurd (cc)
 text_refused Before fits false is e = absurd (cc)
 text_refused (Inside k) fits b is e = absurd (cc)
 
 -- behind what is used before the `(` no string is open
 no_string : (at : CallState) (m : Mode) (held : List ℕ) (fits b : Bool) (own : List ℕ) → Seam held [] (token_of m held) (token_of m (held ++ []))
-    → call_state_behind at (kind_role (token_of m held).kind own) ≡ Before → turn at (kind_role (token_of m held).kind own) fits ≡ cond b Keeps Passes → (token_of m held).next_mode ≢ InStr
+    → call_state_after at (kind_role (token_of m held).kind own) ≡ Before → turn at (kind_role (token_of m held).kind own) fits ≡ cond b Keeps Passes → (token_of m held).next_mode ≢ InStr
 unfolding kind_role
 no_string at m held fits b own (Closed e closed) before turns open_ = (let no : Plain ≡ InStr = sym closed ∙ open_ in cc)
 no_string at m held fits b own (OpenComment is e) before turns open_ = (let mode = ap (λ (v : Token). v.next_mode) is in let no : InBlock ≡ InStr = sym mode ∙ open_ in cc)
 no_string at m held fits b own (BeforePerl e is lt perl) before turns open_ =
     let kind = ap (λ (v : Token). v.kind) is in
     let role = ap (λ k. kind_role k own) kind in
-    text_refused at fits b (ap (call_state_behind at) (sym role) ∙ before) (ap (λ r. turn at r fits) (sym role) ∙ turns) refl
+    text_refused at fits b (ap (call_state_after at) (sym role) ∙ before) (ap (λ r. turn at r fits) (sym role) ∙ turns) refl
 no_string at m held fits b own (OpenString is e) before turns open_ =
     let kind = ap (λ (v : Token). v.kind) is in
     let role = ap (λ k. kind_role k own) kind in
-    text_refused at fits b (ap (call_state_behind at) (sym role) ∙ before) (ap (λ r. turn at r fits) (sym role) ∙ turns) refl
+    text_refused at fits b (ap (call_state_after at) (sym role) ∙ before) (ap (λ r. turn at r fits) (sym role) ∙ turns) refl
 
 -- the first token of held bytes, by its role: neither `<%` nor a backquoted name
 pub role_taken : (at : CallState) (m : Mode) (room : ℕ) (held : List ℕ) (t : Token) (r : Role) (x : CallAction) → 0 < length held → t ≡ token_of m held
@@ -315,13 +315,13 @@ longer p q h (b ∷ bs) = elim (cases_Bool (p b)) [
 ]
 
 -- it passes behind its first bytes for as long as it did
-behind : (p : ℕ → Bool) (m : ℕ) (bs : List ℕ) → m ≤ prefix_len p bs → prefix_len p (drop m bs) + m ≡ prefix_len p bs
-behind p zero bs inside = omega arith
-behind p (suc m) [] inside = absurd (omega (arith, inside))
-behind p (suc m) (b ∷ bs) inside = elim (cases_Bool (p b)) [
+following : (p : ℕ → Bool) (m : ℕ) (bs : List ℕ) → m ≤ prefix_len p bs → prefix_len p (drop m bs) + m ≡ prefix_len p bs
+following p zero bs inside = omega arith
+following p (suc m) [] inside = absurd (omega (arith, inside))
+following p (suc m) (b ∷ bs) inside = elim (cases_Bool (p b)) [
   | inl e ↦
       let first : prefix_len p (b ∷ bs) ≡ 1 + prefix_len p bs = ap (λ (t : Bool). cond t (1 + prefix_len p bs) 0) e in
-      let rest = behind p m bs (omega (arith, first, inside)) in
+      let rest = following p m bs (omega (arith, first, inside)) in
       omega (arith, first, rest)
   | inr e ↦
       let first : prefix_len p (b ∷ bs) ≡ 0 = ap (λ (t : Bool). cond t (1 + prefix_len p bs) 0) e in
@@ -348,26 +348,26 @@ record IsPlainArgumentKind (kind : Kind) : Type 0 where
   kept : is_kept_kind kind ≡ true
   turns : (own : List ℕ) (k : ℕ) (fits : Bool) → turn_inside (kind_role kind own) k fits ≡ turn_fitting fits Keeps
   size : (own : List ℕ) (n : ℕ) → kept_size (kind_role kind own) n ≡ n
-  level : (own : List ℕ) (k : ℕ) → level_behind (kind_role kind own) k ≡ k
+  level : (own : List ℕ) (k : ℕ) → level_after (kind_role kind own) k ≡ k
 
 plain_argument_name : IsPlainArgumentKind Name
-unfolding is_kept_kind kind_role turn_inside kept_size level_behind
+unfolding is_kept_kind kind_role turn_inside kept_size level_after
 plain_argument_name = record { kept = refl; turns = λ own k fits. refl; size = λ own n. refl; level = λ own k. refl }
 
 plain_argument_word : IsPlainArgumentKind Word
-unfolding is_kept_kind kind_role turn_inside kept_size level_behind
+unfolding is_kept_kind kind_role turn_inside kept_size level_after
 plain_argument_word = record { kept = refl; turns = λ own k fits. refl; size = λ own n. refl; level = λ own k. refl }
 
 plain_argument_blank : IsPlainArgumentKind Blank
-unfolding is_kept_kind kind_role turn_inside kept_size level_behind
+unfolding is_kept_kind kind_role turn_inside kept_size level_after
 plain_argument_blank = record { kept = refl; turns = λ own k fits. refl; size = λ own n. refl; level = λ own k. refl }
 
 plain_argument_comma : IsPlainArgumentKind Comma
-unfolding is_kept_kind kind_role turn_inside kept_size level_behind
+unfolding is_kept_kind kind_role turn_inside kept_size level_after
 plain_argument_comma = record { kept = refl; turns = λ own k fits. refl; size = λ own n. refl; level = λ own k. refl }
 
 plain_argument_other : IsPlainArgumentKind Other
-unfolding is_kept_kind kind_role turn_inside kept_size level_behind
+unfolding is_kept_kind kind_role turn_inside kept_size level_after
 plain_argument_other = record { kept = refl; turns = λ own k fits. refl; size = λ own n. refl; level = λ own k. refl }
 
 -- the first token of such bytes is one of them, and plain text stands behind it
@@ -456,11 +456,11 @@ first_used k room held some plain_argument fits =
     (keeps_step r k room t k kept fits (token_of-part Plain held some).not_empty (sym (plain_argument.kind.level own k))))
 
 -- the tokens behind two parts of held bytes, the first of which has no line end
-behind_both : (a : Around) (held : List ℕ) (m n : ℕ) → line_ends (take m held) ≡ 0
-    → tokens_behind (record { most = a.most; opened = opening Plain a.opened a.line; line = a.line + line_ends (take m held); left = a.left; rest = a.rest }) Plain (drop m held) n Plain
-    ≡ tokens_behind a Plain held (m + n) Plain
+after_both : (a : Around) (held : List ℕ) (m n : ℕ) → line_ends (take m held) ≡ 0
+    → tokens_after (record { most = a.most; opened = opening Plain a.opened a.line; line = a.line + line_ends (take m held); left = a.left; rest = a.rest }) Plain (drop m held) n Plain
+    ≡ tokens_after a Plain held (m + n) Plain
 unfolding opening
-behind_both a held m n none =
+after_both a held m n none =
     let R : ℕ → ℕ → List ℕ → List SourceToken = λ opened line bytes. remaining_tokens a.most Plain opened line bytes a.left a.rest in
     let part : line_ends (take m held) + line_ends (take n (drop m held)) ≡ line_ends (take (m + n) held) =
     ap (λ (k : ℕ). line_ends (take m held) + line_ends (take k (drop m held))) (same m n) ∙ line_ends-part held m n in
@@ -487,27 +487,27 @@ used_both k room m n held p q none inside fits =
       level = omega arith;
       lead = λ before (no : Plain ≡ InStr). (cc);
       reads = λ a around.
-          let b = around_behind a held m in
+          let b = around_after a held m in
           let split = take-add m n held in
           let left : room - m - length (take n (drop m held)) ≡ room - length (take (m + n) held) = omega (arith, second, size) in
           p.reads a around
-          ∙ ap (λ (x : ℕ). onto_kept (take m held) (read (Inside k) (is_open Plain) (room - x) (tokens_behind a Plain held m Plain))) first
+          ∙ ap (λ (x : ℕ). onto_kept (take m held) (read (Inside k) (is_open Plain) (room - x) (tokens_after a Plain held m Plain))) first
           ∙ ap (λ (r : Reading). onto_kept (take m held) r) (q.reads b (record { ends = EndsLine-drop m held a.rest around.ends }))
           ∙ sym (onto_kept-append (take m held) (take n (drop m held)) _)
-          ∙ ap (λ (bytes : List ℕ). onto_kept bytes (read (Inside k) (is_open Plain) (room - m - length (take n (drop m held))) (tokens_behind b Plain (drop m held) n Plain))) (sym split)
-          ∙ ap (λ (x : ℕ). onto_kept (take (m + n) held) (read (Inside k) (is_open Plain) x (tokens_behind b Plain (drop m held) n Plain))) left
-          ∙ ap (λ (ts : List SourceToken). onto_kept (take (m + n) held) (read (Inside k) (is_open Plain) (room - length (take (m + n) held)) ts)) (behind_both a held m n none);
+          ∙ ap (λ (bytes : List ℕ). onto_kept bytes (read (Inside k) (is_open Plain) (room - m - length (take n (drop m held))) (tokens_after b Plain (drop m held) n Plain))) (sym split)
+          ∙ ap (λ (x : ℕ). onto_kept (take (m + n) held) (read (Inside k) (is_open Plain) x (tokens_after b Plain (drop m held) n Plain))) left
+          ∙ ap (λ (ts : List SourceToken). onto_kept (take (m + n) held) (read (Inside k) (is_open Plain) (room - length (take (m + n) held)) ts)) (after_both a held m n none);
       bytes = λ a around.
-          let b = around_behind a held m in
+          let b = around_after a held m in
           p.bytes a around
           ∙ ap (λ (bytes : List ℕ). take m held ++ bytes) (q.bytes b (record { ends = EndsLine-drop m held a.rest around.ends }))
           ∙ sym (append_assoc (take m held) (take n (drop m held)) _)
-          ∙ ap (λ (bytes : List ℕ). bytes ++ bytes_of (tokens_behind b Plain (drop m held) n Plain)) (sym (take-add m n held))
-          ∙ ap (λ (ts : List SourceToken). take (m + n) held ++ bytes_of ts) (behind_both a held m n none);
+          ∙ ap (λ (bytes : List ℕ). bytes ++ bytes_of (tokens_after b Plain (drop m held) n Plain)) (sym (take-add m n held))
+          ∙ ap (λ (ts : List SourceToken). take (m + n) held ++ bytes_of ts) (after_both a held m n none);
     }
   where
-    around_behind : Around → List ℕ → ℕ → Around
-    around_behind a bytes at = record { most = a.most; opened = opening Plain a.opened a.line; line = a.line + line_ends (take at bytes); left = a.left; rest = a.rest }
+    around_after : Around → List ℕ → ℕ → Around
+    around_after a bytes at = record { most = a.most; opened = opening Plain a.opened a.line; line = a.line + line_ends (take at bytes); left = a.left; rest = a.rest }
 
 -- all such bytes are used at once
 plain_argument_run : (fuel k room : ℕ) (held : List ℕ) → prefix_len is_plain_argument held ≤ fuel → 0 < prefix_len is_plain_argument held → prefix_len is_plain_argument held ≤ room
@@ -520,7 +520,7 @@ plain_argument_run (suc fuel) k room held most some fits =
     let m = (token_of Plain held).len in
     let long = (token_of-part Plain held (omega (arith, some, all))).not_empty in
     let first = first_used k room held (omega (arith, some, all)) plain_argument (omega (arith, size, fits)) in
-    let rest = behind is_plain_argument m held size in
+    let rest = following is_plain_argument m held size in
     elim (cases_Bool (nat_le (prefix_len is_plain_argument (drop m held)) 0)) [
       | inl e ↦
           let none = leb-true (prefix_len is_plain_argument (drop m held)) 0 e in
@@ -594,7 +594,7 @@ without_kept : (bytes : List ℕ) (r : Reading) (f : FaultKind) → onto_kept by
 unfolding onto_kept
 without_kept bytes (ReadRefused g) f e = e
 without_kept bytes (ReadStopped g line) f e = cc
-without_kept bytes (ReadClosed kept behind) f e = cc
+without_kept bytes (ReadClosed kept following) f e = cc
 
 -- one fault
 same_fault : (g f : FaultKind) → ReadRefused g ≡ ReadRefused f → g ≡ f
@@ -616,8 +616,8 @@ unfolding read
 refused_fault at part room [] f e = subst (λ (k : FaultKind). is_read_fault k ≡ true) (same_fault (fault_at_end at) f e) (end_fault at)
 refused_fault at part room (t ∷ ts) f e =
     let r = role_in part t in
-    by_turn (turn at r (nat_le (length t.bytes) room)) t ts (read (call_state_behind at r) false (room_behind at room r (length t.bytes)) ts) f
-    (at_turn at r (nat_le (length t.bytes) room)) (refused_fault (call_state_behind at r) false (room_behind at room r (length t.bytes)) ts f) e
+    by_turn (turn at r (nat_le (length t.bytes) room)) t ts (read (call_state_after at r) false (room_after at room r (length t.bytes)) ts) f
+    (at_turn at r (nat_le (length t.bytes) room)) (refused_fault (call_state_after at r) false (room_after at room r (length t.bytes)) ts f) e
 
 -- so it is where a call ends at a token
 pub ended_fault : {R : Type 0} (at : CallState) (room : ℕ) (old_bytes new_bytes : List ℕ) (old new : List (File R)) (f : FaultKind)

@@ -59,19 +59,19 @@ use Rattle.rdlpp_usages.proofs.CallLoop.{used_twice}
 -- What remains at a usage in a source: its open body and then what remains behind the usage, or the fault of its call.
 
 -- the bytes of tokens up to those that remain
-bytes_before : (ts behind : List SourceToken) (n : ℕ) (used : List ℕ) → drop n ts ≡ behind → bytes_of ts ≡ used ++ bytes_of behind → bytes_of (take n ts) ≡ used
-bytes_before ts behind n used rest bytes =
-    append_cancel_right (bytes_of (take n ts)) used (bytes_of behind)
+bytes_before : (ts following : List SourceToken) (n : ℕ) (used : List ℕ) → drop n ts ≡ following → bytes_of ts ≡ used ++ bytes_of following → bytes_of (take n ts) ≡ used
+bytes_before ts following n used rest bytes =
+    append_cancel_right (bytes_of (take n ts)) used (bytes_of following)
     (ap (λ (xs : List SourceToken). bytes_of (take n ts) ++ bytes_of xs) (sym rest)
     ∙ sym (flat_map-append (λ (t : SourceToken). t.bytes) (take n ts) (drop n ts))
     ∙ ap bytes_of (take-append-drop n ts)
     ∙ bytes)
 
 -- whether only blanks stand before what is behind a usage and its call, on its physical line
-blanks_behind : (first : Bool) (name : List ℕ) (line : ℕ) (ts behind : List SourceToken) (n : ℕ) (used : List ℕ) → drop n ts ≡ behind → bytes_of ts ≡ used ++ bytes_of behind
+blanks_after : (first : Bool) (name : List ℕ) (line : ℕ) (ts following : List SourceToken) (n : ℕ) (used : List ℕ) → drop n ts ≡ following → bytes_of ts ≡ used ++ bytes_of following
     → only_blanks first (bytes_of (take (suc n) (usage_token name line ∷ ts))) ≡ only_blanks (only_blanks first (96 ∷ name)) used
-blanks_behind first name line ts behind n used rest bytes =
-    ap (λ (bs : List ℕ). only_blanks first ((96 ∷ name) ++ bs)) (bytes_before ts behind n used rest bytes)
+blanks_after first name line ts following n used rest bytes =
+    ap (λ (bs : List ℕ). only_blanks first ((96 ∷ name) ++ bs)) (bytes_before ts following n used rest bytes)
     ∙ only_blanks-append first (96 ∷ name) used
 
 -- a usage of a macro without a list opens its macro
@@ -87,17 +87,17 @@ usage_without_list rules s line name ts m reserved found formals =
     ∙ ap (usage_of_formals rules source_reads line name ts m) formals
 
 -- what a source goes on with, it goes on with in front of those that wait
-all_resumed_on : (rules : Rules) (ws : List Waiting) (os : List Progress) (first flag : Bool) (ts behind : List SourceToken) (s : State) (p : Passage)
-    → resumed rules (Live os) first ts s ≡ goes_on p (λ after. resumed rules (Live os) flag behind after)
-    → all_resumed rules ws (Live os) first ts s ≡ goes_on p (λ after. all_resumed rules ws (Live os) flag behind after)
+all_resumed_on : (rules : Rules) (ws : List Waiting) (os : List Progress) (first flag : Bool) (ts following : List SourceToken) (s : State) (p : Passage)
+    → resumed rules (Live os) first ts s ≡ goes_on p (λ after. resumed rules (Live os) flag following after)
+    → all_resumed rules ws (Live os) first ts s ≡ goes_on p (λ after. all_resumed rules ws (Live os) flag following after)
 unfolding all_resumed
-all_resumed_on rules ws os first flag ts behind s p e =
+all_resumed_on rules ws os first flag ts following s p e =
     let next : State → Passage = λ after. unwound rules ws after in
     ap (λ (q : Passage). goes_on q next) e
-    ∙ goes_on-assoc p (λ after. resumed rules (Live os) flag behind after) next
+    ∙ goes_on-assoc p (λ after. resumed rules (Live os) flag following after) next
 
 -- a source of which a usage and its call were used: what is behind them
-pub record IsBehind {R : Type 0} (unread : R → List ℕ) (f new : File R) (len : ℕ) (used : List ℕ) : Type 0 where
+pub record IsAfter {R : Type 0} (unread : R → List ℕ) (f new : File R) (len : ℕ) (used : List ℕ) : Type 0 where
   pub blanks : new.blanks ≡ only_blanks (only_blanks f.blanks (take len (held_of f.buffer))) used
   pub bytes : bytes_of (tokens_left unread (consumed_file len 0 f).buffer) ≡ used ++ bytes_of (tokens_left unread new.buffer)
 
@@ -132,12 +132,12 @@ module _ {R : Type 0} (rules : Rules) (unread : R → List ℕ) (ws : List Waiti
       → rules.depth ≡ suc d → macro_named s.macros (usage_name (held_of f.buffer) len) ≡ Some (macro_at texts.macros id)
       → (macro_at texts.macros id).formals ≡ Some fs
       → OpensBound rules f.buffer.line (usage_name (held_of f.buffer) len) (tokens_left unread (consumed_file len 0 f).buffer) (macro_at texts.macros id) fs texts.arguments ranges (tokens_left unread new.buffer)
-      → IsBehind unread f new len used
+      → IsAfter unread f new len used
       → source_left rules unread ws (Live os) f s
       ≡ goes_on (leaves (open_left rules s f.buffer.line (suc d) texts (open_body texts id (map range_part ranges) 0 ∷ [])) s)
       (λ after. source_left rules unread ws (Live os) new after)
   unfolding source_left
-  call_opens holds plain usage d texts id fs ranges new used depth found formals b behind =
+  call_opens holds plain usage d texts id fs ranges new used depth found formals b following =
       let name = usage_name (held_of f.buffer) len in
       let line = f.buffer.line in
       let ts = tokens_left unread (consumed_file len 0 f).buffer in
@@ -145,9 +145,9 @@ module _ {R : Type 0} (rules : Rules) (unread : R → List ℕ) (ws : List Waiti
       let opened : Passage = leaves (open_left rules s line (suc d) texts (open_body texts id (map range_part ranges) 0 ∷ [])) s in
       let flag : Bool = only_blanks f.blanks (bytes_of (take (suc b.used) (usage_token name line ∷ ts))) in
       let same : flag ≡ new.blanks =
-      blanks_behind f.blanks name line ts rest b.used used b.rest behind.bytes
+      blanks_after f.blanks name line ts rest b.used used b.rest following.bytes
       ∙ ap (λ (bs : List ℕ). only_blanks (only_blanks f.blanks bs) used) (sym (usage_text (held_of f.buffer) len usage))
-      ∙ sym behind.blanks in
+      ∙ sym following.blanks in
       usage_left rules unread ws os f s len holds plain usage
       ∙ all_resumed_on rules ws os f.blanks flag (usage_token name line ∷ ts) rest s opened
       (resumed_open rules os f.blanks name line ts s d texts id fs ranges rest b usage.free depth found formals)
@@ -171,7 +171,7 @@ module _ {R : Type 0} (rules : Rules) (unread : R → List ℕ) (ws : List Waiti
       let body : Outcome = expand rules s d (Some line) (m.name ∷ []) (substituted m [] []) in
       let flag : Bool = only_blanks f.blanks (bytes_of (take 1 (usage_token name line ∷ ts))) in
       let same : flag ≡ (consumed_file len 0 f).blanks =
-      blanks_behind f.blanks name line ts ts 0 [] refl refl
+      blanks_after f.blanks name line ts ts 0 [] refl refl
       ∙ ap (λ (bs : List ℕ). only_blanks (only_blanks f.blanks bs) []) (sym (usage_text (held_of f.buffer) len usage)) in
       usage_left rules unread ws os f s len holds plain usage
       ∙ all_resumed_on rules ws os f.blanks flag (usage_token name line ∷ ts) ts s (opened body)
@@ -182,10 +182,10 @@ module _ {R : Type 0} (rules : Rules) (unread : R → List ℕ) (ws : List Waiti
 -- A call that is read and bound, as a usage in a source.
 
 -- a call that was read, in a run with that limit on kept bytes
-read_call : (rules : Rules) (most : ℕ) (ts : List SourceToken) (bytes : List ℕ) (behind : List SourceToken) → rules.argument_bytes ≡ most
-    → IsCallOf most ts bytes behind → IsReadCall rules.argument_bytes ts bytes behind
-read_call rules most ts bytes behind limit c =
-    subst (λ (n : ℕ). IsReadCall n ts bytes behind) (sym limit) (record { used = c.used; call = c.call; rest = c.rest; keeps = c.keeps })
+read_call : (rules : Rules) (most : ℕ) (ts : List SourceToken) (bytes : List ℕ) (following : List SourceToken) → rules.argument_bytes ≡ most
+    → IsCallOf most ts bytes following → IsReadCall rules.argument_bytes ts bytes following
+read_call rules most ts bytes following limit c =
+    subst (λ (n : ℕ). IsReadCall n ts bytes following) (sym limit) (record { used = c.used; call = c.call; rest = c.rest; keeps = c.keeps })
 
 -- a call that was read and bound opens its body
 pub kept_bound : {R : Type 0} (has_known_texts : Type 0) (unread : R → List ℕ) (most : ℕ) (macros : List Macro) (id line : ℕ) (bytes now : List ℕ) (c : CursorsView) (old new : BufferView R)
@@ -197,10 +197,10 @@ kept_bound has_known_texts unread most macros id line bytes now c old new means 
       body = subst (λ (bs : List ℕ). c.opens ≡ open_body (texts_of macros bs) id (map range_part binds.ranges) 0 ∷ []) (sym binds.stays) binds.body;
       bound = λ rules at name fs limit formals t.
           let ts = tokens_left unread old in
-          let behind = tokens_left unread new in
-          subst (λ (bs : List ℕ). OpensBound rules at name ts (macro_at macros id) fs bs binds.ranges behind) (sym binds.stays)
-          (source_bound rules at name ts (macro_at macros id) fs bytes binds.ranges behind
-          (read_call rules most ts bytes behind limit (means t)) (sym (binds.count fs formals)) (binds.actuals fs formals));
+          let following = tokens_left unread new in
+          subst (λ (bs : List ℕ). OpensBound rules at name ts (macro_at macros id) fs bs binds.ranges following) (sym binds.stays)
+          (source_bound rules at name ts (macro_at macros id) fs bytes binds.ranges following
+          (read_call rules most ts bytes following limit (means t)) (sym (binds.count fs formals)) (binds.actuals fs formals));
     }
 
 -- one that was read and isn't bound is refused
@@ -210,10 +210,10 @@ pub kept_unbound : {R : Type 0} (has_known_texts : Type 0) (unread : R → List 
 kept_unbound has_known_texts unread most macros id line bytes now kind c old new means binds =
     λ rules at name fs limit formals t.
     let ts = tokens_left unread old in
-    let behind = tokens_left unread new in
+    let following = tokens_left unread new in
     let m = macro_at macros id in
     let read = means t in
-    source_counted rules at name ts m fs bytes behind (read_call rules most ts bytes behind limit read) (sym (binds.count read.keeps fs formals))
+    source_counted rules at name ts m fs bytes following (read_call rules most ts bytes following limit read) (sym (binds.count read.keeps fs formals))
     ∙ ap (λ (k : FaultKind). UsageFault k name at) (sym binds.kind_is)
 
 -- one that lacks something is refused
@@ -272,17 +272,17 @@ module _ {R : Type 0} (rules : Rules) (unread : R → List ℕ) (ws : List Waiti
   pub usage_opens_call : (new : File R) (used : List ℕ) (e : ExpansionView) (has_known_texts : Type 0) (name : List ℕ) (fs : List Formal)
       → HoldsFront f.buffer → f.buffer.mode ≡ Plain → IsUsage (held_of f.buffer) len → IsRun rules s macros depth most → 0 < depth
       → macro_named macros (usage_name (held_of f.buffer) len) ≡ Some (macro_at macros id) → (macro_at macros id).formals ≡ Some fs
-      → TellsCallUsage has_known_texts unread most macros id Opened e.opens e.arguments (consumed_file len 0 f).buffer new.buffer → IsBehind unread f new len used → has_known_texts
+      → TellsCallUsage has_known_texts unread most macros id Opened e.opens e.arguments (consumed_file len 0 f).buffer new.buffer → IsAfter unread f new len used → has_known_texts
       → e.line ≡ f.buffer.line → e.depth ≡ depth
       → TellsUsage rules s unread ws os macros f.buffer.line name Opened e (f ∷ outer) (new ∷ outer)
   unfolding inner_left
-  usage_opens_call new used e has_known_texts name fs holds plain usage run some found formals opens behind t line same =
+  usage_opens_call new used e has_known_texts name fs holds plain usage run some found formals opens following t line same =
       let d = deeper depth some in
       let texts = texts_of macros e.arguments in
       let own = usage_name (held_of f.buffer) len in
       call_opens rules unread ws os f s len holds plain usage d.0 texts id fs opens.ranges new used (run.depth_is ∙ d.1)
       (run_named rules s macros depth most own (macro_at macros id) run found) formals
-      (opens.bound rules f.buffer.line own fs run.most_is formals t) behind
+      (opens.bound rules f.buffer.line own fs run.most_is formals t) following
       ∙ texts_same rules s macros e (open_body texts id (map range_part opens.ranges) 0 ∷ []) f.buffer.line d.0 depth _ opens.body line same d.1
 
   -- a call that isn't is a fault

@@ -14,7 +14,7 @@ use Rattle.rdlpp_meaning.specs.declared.fault.FaultKind.TheVariants.{EmbeddedPer
 use Rattle.rdlpp_meaning.specs.Actuals.{Role, kept_size}
 use Rattle.rdlpp_meaning.specs.CallReading.{ReadRefused, ReadStopped, ReadClosed, onto_kept, read}
 use Rattle.rdlpp_meaning.specs.CallScan as scan
-use Rattle.rdlpp_meaning.specs.CallScan.{Keeps, Passes, turn, call_state_behind, room_behind}
+use Rattle.rdlpp_meaning.specs.CallScan.{Keeps, Passes, turn, call_state_after, room_after}
 use Rattle.rdlpp_meaning.specs.Expansion.{bytes_of}
 use Rattle.rdlpp_usages.specs.declared.action.CallState.{CallState}
 use Rattle.rdlpp_usages.specs.declared.action.CallState.TheVariants.{Before, Inside}
@@ -50,8 +50,8 @@ abbrev pub tokens_at : Around → Mode → List ℕ → List SourceToken
 tokens_at a mode held = remaining_tokens a.most mode a.opened a.line held a.left a.rest
 
 -- the tokens behind the first `len` of held bytes, where a text stands in a mode
-abbrev pub tokens_behind : Around → Mode → List ℕ → ℕ → Mode → List SourceToken
-tokens_behind a mode held len next =
+abbrev pub tokens_after : Around → Mode → List ℕ → ℕ → Mode → List SourceToken
+tokens_after a mode held len next =
     remaining_tokens a.most next (opening mode a.opened a.line) (a.line + line_ends (take len held)) (drop len held) a.left a.rest
 
 -- how many of so many bytes are kept
@@ -66,11 +66,11 @@ kept_of is_kept bytes = if is_kept then bytes else []
 pub record IsStep (at : scan.CallState) (r : Role) (room : ℕ) (t : Token) (u : Consumed) : Type 0 where
   pub len : u.len ≡ t.len
   pub mode : u.next_mode ≡ t.next_mode
-  pub call_state : call_state_meant u.call_state ≡ call_state_behind at r
+  pub call_state : call_state_meant u.call_state ≡ call_state_after at r
   pub turns : turn at r (nat_le t.len room) ≡ (if u.is_kept then Keeps else Passes)
-  pub left : room_behind at room r t.len ≡ room - kept_len u.is_kept t.len
+  pub left : room_after at room r t.len ≡ room - kept_len u.is_kept t.len
   pub fits : kept_len u.is_kept t.len ≤ room
-  pub level : level_in (call_state_behind at r) ≤ level_in at + kept_len u.is_kept t.len
+  pub level : level_in (call_state_after at r) ≤ level_in at + kept_len u.is_kept t.len
 
 -- the same of each answer
 abbrev pub Answers : scan.CallState → Role → ℕ → Token → CallAction → Type 0
@@ -89,9 +89,9 @@ pub record IsConsumed (at : scan.CallState) (mode : Mode) (room : ℕ) (held : L
   pub reads : (a : Around) → IsAround held a
       → read at (is_open mode) room (tokens_at a mode held)
       ≡ onto_kept (kept_of u.is_kept (take u.len held))
-      (read (call_state_meant u.call_state) (is_open u.next_mode) (room - length (kept_of u.is_kept (take u.len held))) (tokens_behind a mode held u.len u.next_mode))
+      (read (call_state_meant u.call_state) (is_open u.next_mode) (room - length (kept_of u.is_kept (take u.len held))) (tokens_after a mode held u.len u.next_mode))
   pub bytes : (a : Around) → IsAround held a
-      → bytes_of (tokens_at a mode held) ≡ take u.len held ++ bytes_of (tokens_behind a mode held u.len u.next_mode)
+      → bytes_of (tokens_at a mode held) ≡ take u.len held ++ bytes_of (tokens_after a mode held u.len u.next_mode)
 
 -- whether a byte is neither LF nor a bracket, and begins no string, no comment, no usage and no `<%`: tokens of such bytes open
 -- nothing and close nothing (source: this project's profile)
@@ -102,9 +102,9 @@ is_plain_argument b =
 -- the first byte closes the call
 pub record IsClose (at : scan.CallState) (mode : Mode) (room : ℕ) (held : List ℕ) : Type 0 where
   pub reads : (a : Around) → IsAround held a
-      → read at (is_open mode) room (tokens_at a mode held) ≡ ReadClosed [] (tokens_behind a mode held 1 Plain)
+      → read at (is_open mode) room (tokens_at a mode held) ≡ ReadClosed [] (tokens_after a mode held 1 Plain)
   pub bytes : (a : Around) → IsAround held a
-      → bytes_of (tokens_at a mode held) ≡ take 1 held ++ bytes_of (tokens_behind a mode held 1 Plain)
+      → bytes_of (tokens_at a mode held) ≡ take 1 held ++ bytes_of (tokens_after a mode held 1 Plain)
 
 -- what is done with the first token of held bytes is what reading the call comes to there (source: this project's profile)
 abbrev pub IsAction : scan.CallState → Mode → ℕ → List ℕ → CallAction → Type 0

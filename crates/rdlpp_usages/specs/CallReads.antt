@@ -112,10 +112,10 @@ IsEndOfText at room f Failed = ⊥
 
 -- a call that was read is that of the definition: the parts of its kept bytes are its parts, but for the lines of tokens that
 -- aren't broken, none of their tokens is dropped, and behind it are the tokens that remain (source: this project's profile)
-pub record IsCallOf (room : ℕ) (ts : List SourceToken) (bytes : List ℕ) (behind : List SourceToken) : Type 0 where
+pub record IsCallOf (room : ℕ) (ts : List SourceToken) (bytes : List ℕ) (following : List SourceToken) : Type 0 where
   pub used : ℕ
   pub call : map_call unlined (call_of token_role kept_token room (leading ts)) ≡ call_of_scan token_role 0 (scan.Closed (body_tokens bytes) used)
-  pub rest : drop used ts ≡ behind
+  pub rest : drop used ts ≡ following
   pub keeps : All (λ t. is_kept (token_role t) ≡ true) (body_tokens bytes)
 
 -- the call that the definition has there (source: this project's profile)

@@ -10,7 +10,7 @@ ghost use Rattle.rdlpp_usages.specs.CallActions.{is_plain_argument, Answers, IsK
 
 use rdlpp_meaning::FaultKind;
 use rdlpp_scan::{Kind, Mode, Token, first_token, reserved};
-use rdlpp_texts::{CallRole, ends_call, level_behind, role_of};
+use rdlpp_texts::{CallRole, ends_call, level_after, role_of};
 
 // Where the reading of a call stands.
 #[derive(Clone, Copy)]
@@ -73,7 +73,7 @@ fn passes(token: Token, call_state: CallState) -> CallAction
 }
 
 // What is done before the `(` with a token of a role.
-#[tactic(auto, unfolding(crate::specs::CallActions::call_state_meant, crate::specs::CallActions::level_in, rdlpp_texts::specs::CallTokens::role_meant, rdlpp_meaning::specs::CallScan::turn, rdlpp_meaning::specs::CallScan::turn_before, rdlpp_meaning::specs::CallScan::call_state_behind, rdlpp_meaning::specs::CallScan::call_state_behind_lead, rdlpp_meaning::specs::CallScan::room_behind))]
+#[tactic(auto, unfolding(crate::specs::CallActions::call_state_meant, crate::specs::CallActions::level_in, rdlpp_texts::specs::CallTokens::role_meant, rdlpp_meaning::specs::CallScan::turn, rdlpp_meaning::specs::CallScan::turn_before, rdlpp_meaning::specs::CallScan::call_state_after, rdlpp_meaning::specs::CallScan::call_state_after_lead, rdlpp_meaning::specs::CallScan::room_after))]
 fn lead_action(role: CallRole, token: Token) -> CallAction
     ensures { (room : ℕ) → Answers Before (role_meant role) room token result }
 {
@@ -114,7 +114,7 @@ fn kept_action(level: usize, room: usize, role: CallRole, token: Token) -> CallA
     CallAction::Consumes(Consumed {
         len: token.len,
         next_mode: token.next_mode,
-        call_state: CallState::Inside(level_behind(role, level)),
+        call_state: CallState::Inside(level_after(role, level)),
         is_kept: true,
     })
 }

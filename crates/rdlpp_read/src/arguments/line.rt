@@ -36,10 +36,10 @@ pub fn given_line(bytes: &[u8]) -> Option<GivenLine>
     ensures { IsLineGiven result bytes.now }
 {
     let stop = rest_of_line(bytes).unwrap_or(bytes.len());
-    let behind_word = past_blanks(&bytes[..stop]);
-    let len = digits(behind_word);
-    let number = line_number(&behind_word[..len])?;
-    let name = shown_name(past_blanks(&behind_word[len..]))?;
+    let after_word = past_blanks(&bytes[..stop]);
+    let len = digits(after_word);
+    let number = line_number(&after_word[..len])?;
+    let name = shown_name(past_blanks(&after_word[len..]))?;
     Some(GivenLine { number, name, stop })
 }
 

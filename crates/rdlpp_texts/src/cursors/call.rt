@@ -123,16 +123,16 @@ impl Cursors {
         let full = self.is_full();
         let bound = self.bindings.len();
         let bounds = body_bounds(&self.frames.as_slice()[first..], parent, id);
-        let behind = match bind_call(text, at, end, formals, &mut self.bindings) {
-            Ok(behind) => behind,
+        let following = match bind_call(text, at, end, formals, &mut self.bindings) {
+            Ok(following) => following,
             Err(kind) => return Opening::Refused(kind),
         };
         if full {
             self.bindings.truncate(bound);
             return Opening::Deep;
         }
-        self.read = behind - at;
-        self.frames[first].from = behind;
+        self.read = following - at;
+        self.frames[first].from = following;
         let place = free_frame(&mut self.frames, first, self.depth);
         self.frames[place] = Frame {
             from: 0,

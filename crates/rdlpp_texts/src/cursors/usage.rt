@@ -98,7 +98,7 @@ impl Cursors {
         ensures { self.new ≡ record self.old { opens = open_body (texts_of table.now.macros []) id [] (front_scope self.old.opens) ∷ moved_to at self.old.opens } }
     {
         let parent = self.scope();
-        self.push_behind(at, id, table.body(id).len(), parent);
+        self.push_after(at, id, table.body(id).len(), parent);
     }
 
     // The scope of the innermost text.

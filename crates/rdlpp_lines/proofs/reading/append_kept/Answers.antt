@@ -1,7 +1,7 @@
 use Rattle.std.proofs.Common.{◌≡◌, ◌-◌, ◌∙◌, arith, refl}
 use Rattle.rdlpp_lines.specs.Reading.{left}
 use Rattle.rdlpp_lines.specs.Texts.{trims}
-use Rattle.rdlpp_lines.proofs.Measures.{copied_same, copied_start, copied_more, copied_short, found_is, found_some, found_none, sound_len, sound_behind}
+use Rattle.rdlpp_lines.proofs.Measures.{copied_same, copied_start, copied_more, copied_short, found_is, found_some, found_none, sound_len, sound_after}
 use Rattle.rdlpp_lines.proofs.reading.append_kept.Goals as goal
 
 pub loop-init : goal.loop-init
@@ -22,7 +22,7 @@ returns-in_default-clause-items c = copied_short _ _ _ _ _ (found_none _ _ c.in_
 pub loop-preserved : goal.loop-preserved
 loop-preserved c =
     let some = found_some _ _ (left c.loop.bytes) c.in-Some.is in
-    let found = found_is _ _ _ _ c.next.ensures.next (sound_behind _ _ _ some c.loop.invariant.copied.sound) c.unwrap_or-found-in-loop.ensures in
+    let found = found_is _ _ _ _ c.next.ensures.next (sound_after _ _ _ some c.loop.invariant.copied.sound) c.unwrap_or-found-in-loop.ensures in
     let more = copied_more _ _ _ c.args.len c.loop.counter c.in-Some.b _ _ _ c.loop-test.true c.loop.invariant.copied some found in
     record {
       copied = copied_same _ _ _ _ _ _ _ c.push_reserved.ensures.items refl more;

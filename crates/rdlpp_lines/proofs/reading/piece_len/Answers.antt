@@ -12,6 +12,6 @@ returns-in-None c =
     let sound : cleared None (joined c.args.is_logical c.args.text.now) ≡ Sound c.args.text.now [] = piece_sound c.args.is_logical c.args.text.now c.requires (sym c.lex_fault.ensures ∙ c.in-None.is) in
     record {
       len = sound_measured _ c.args.text.now c.trimmed.result.now sound c.trimmed.ensures.value;
-      behind = sound_nothing c.args.is_logical _ c.args.text.now sound;
+      following = sound_nothing c.args.is_logical _ c.args.text.now sound;
       inside = omega (arith, c.trimmed.ensures.inside);
     }

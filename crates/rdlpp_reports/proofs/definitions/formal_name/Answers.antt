@@ -4,7 +4,7 @@ use Rattle.std.specs.Option.{option_map_or}
 use Rattle.std.proofs.lemmas.List.{length-append}
 use Rattle.std.proofs.lemmas.List.Elements.{All-get_or}
 use Rattle.rdlpp_table.specs.View.{formal_at, formal_named, formals_of, macro_at, no_formal}
-use Rattle.rdlpp_reports.proofs.Written.{behind_name, formal_longer, found_name, name_in_front, second_holds}
+use Rattle.rdlpp_reports.proofs.Written.{after_name, formal_longer, found_name, name_in_front, second_holds}
 use Rattle.std.proofs.Common.{refl, slice_index}
 use Rattle.rdlpp_reports.specs.Definitions.{ends_name}
 use Rattle.rdlpp_reports.proofs.definitions.formal_name.Goals as goal
@@ -29,5 +29,5 @@ returns c s h b =
     let name = (formal_at (formals_of (macro_at c.args.table.now.macros c.args.id)) c.args.place).name in
     let f = formal_at (formals_of (macro_at c.args.table.now.macros c.args.id)) c.args.place in
     let short : length name ≤ 128 = All-get_or (λ f. length f.name ≤ 128) (formals_of (macro_at c.args.table.now.macros c.args.id)) c.args.place no_formal h s.short in
-    let inside : length name ≤ length c.args.bytes.now = omega (arith, ap length (name_in_front c.args.bytes.now b.0 f b.1), length-append name (behind_name f b.0)) in
+    let inside : length name ≤ length c.args.bytes.now = omega (arith, ap length (name_in_front c.args.bytes.now b.0 f b.1), length-append name (after_name f b.0)) in
     absurd (omega (arith, short, inside, c.loop-len.invariant s h b, c.loop-len-test.false, c.min-len-end.ensures))

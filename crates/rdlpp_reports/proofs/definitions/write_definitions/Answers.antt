@@ -52,4 +52,4 @@ loop-place-preserved g c =
     let formals = (All-get_or IsSoundMacro ms id no_macro (omega (arith, same, h)) sound.each).formals in
     let begins = front ∙ ap (λ n. macro_bytes (macro_at ms n) ++ after) (sym same) in
     let line = ap (λ n. definition_line (macro_at ms n)) same in
-    (c.behind_macro-rest.ensures formals after begins, flat-grows definition_line ms place no_macro _ _ _ _ h c.loop-place.invariant.1 (writes_by _ _ _ _ _ line (c.in_ok-write_macro.ensures formals (after, begins))))
+    (c.after_macro-rest.ensures formals after begins, flat-grows definition_line ms place no_macro _ _ _ _ h c.loop-place.invariant.1 (writes_by _ _ _ _ _ line (c.in_ok-write_macro.ensures formals (after, begins))))

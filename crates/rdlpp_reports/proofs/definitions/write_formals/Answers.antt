@@ -36,7 +36,7 @@ loop-place-preserved g c s b =
     let tail = flat_map formal_bytes (drop (place + 1) fs) ++ inv.0.0 in
     let front = formals_from fs no_formal place c.loop-place.rest.now inv.0.0 h inv.0.1 in
     let part = part_by place c.formal_name-name.result.now c.default_text.result.now (formal_at fs place) (c.formal_name-name.ensures s h (tail, front)) c.default_text.ensures in
-    ((inv.0.0, c.behind_formal-rest.ensures s tail front), formal-grows fs no_formal place _ _ _ _ h inv.1 (writes_by _ _ _ _ _ part c.in_ok-write_formal_at.ensures))
+    ((inv.0.0, c.after_formal-rest.ensures s tail front), formal-grows fs no_formal place _ _ _ _ h inv.1 (writes_by _ _ _ _ _ part c.in_ok-write_formal_at.ensures))
 
 pub returns : goal.returns
 returns g c s b =

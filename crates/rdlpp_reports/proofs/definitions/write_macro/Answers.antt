@@ -20,7 +20,7 @@ pub returns-in_err-write_list : goal.returns-in_err-write_list
 returns-in_err-write_list g c s b =
     let m = macro_at c.args.table.now.macros c.args.id in
     let line = whole_line m c.name-name.result.now c.body-body.result.now c.name-name.ensures c.body-body.ensures (sym c.ends_in_slash.ensures ∙ c.if-ends_in_slash.false) in
-    let front = formals_in_front c.args.bytes.now c.name-name.result.now c.behind.result.now m b c.name-name.ensures c.behind.ensures in
+    let front = formals_in_front c.args.bytes.now c.name-name.result.now c.following.result.now m b c.name-name.ensures c.following.ensures in
     let p = err_from_is_err_and c.from_residual-in_err-write_list.result c.from_residual-in_err-write_list.ensures.1 in
     rw p.1
     (writes_by _ _ _ _ _ line (writes_then _ _ _ _ _ _ (writes_whole _ _ _ _ c.in_ok-write_parts.ensures) (writes_part _ _ _ _ _ _ (c.in_err-write_list.ensures s front))))
@@ -29,7 +29,7 @@ pub returns-in_err-write_continued : goal.returns-in_err-write_continued
 returns-in_err-write_continued g c s b =
     let m = macro_at c.args.table.now.macros c.args.id in
     let line = whole_line m c.name-name.result.now c.body-body.result.now c.name-name.ensures c.body-body.ensures (sym c.ends_in_slash.ensures ∙ c.if-ends_in_slash.false) in
-    let front = formals_in_front c.args.bytes.now c.name-name.result.now c.behind.result.now m b c.name-name.ensures c.behind.ensures in
+    let front = formals_in_front c.args.bytes.now c.name-name.result.now c.following.result.now m b c.name-name.ensures c.following.ensures in
     let p = err_from_is_err_and c.from_residual-in_err-write_continued.result c.from_residual-in_err-write_continued.ensures.1 in
     rw p.1
     (writes_by _ _ _ _ _ line
@@ -41,7 +41,7 @@ pub returns : goal.returns
 returns g c s b =
     let m = macro_at c.args.table.now.macros c.args.id in
     let line = whole_line m c.name-name.result.now c.body-body.result.now c.name-name.ensures c.body-body.ensures (sym c.ends_in_slash.ensures ∙ c.if-ends_in_slash.false) in
-    let front = formals_in_front c.args.bytes.now c.name-name.result.now c.behind.result.now m b c.name-name.ensures c.behind.ensures in
+    let front = formals_in_front c.args.bytes.now c.name-name.result.now c.following.result.now m b c.name-name.ensures c.following.ensures in
     writes_by _ _ _ _ _ line
     (writes_then _ _ _ _ _ _ (writes_whole _ _ _ _ c.in_ok-write_parts.ensures)
     (writes_then _ _ _ _ _ _ (writes_whole _ _ _ _ (c.in_ok-write_list.ensures s front))

@@ -10,12 +10,12 @@ pub returns-in_err-write_parts : goal.returns-in_err-write_parts
 returns-in_err-write_parts g c =
     let p = err_from_is_err_and c.from_residual.result c.from_residual.ensures.1 in
     rw p.1
-    (name-fails c.args.name.now c.loop-byte.rest.now c.in-Some.behind.now c.args.end.now c.in-Some.byte.now _ _ _ _ _ c.in-Some.ensures.cases.0 c.loop-byte.invariant
+    (name-fails c.args.name.now c.loop-byte.rest.now c.in-Some.following.now c.args.end.now c.in-Some.byte.now _ _ _ _ _ c.in-Some.ensures.cases.0 c.loop-byte.invariant
     (writes_by _ _ _ _ _ (ap (λ q. concat (q ∷ (c.in-Some.byte.now ∷ []) ∷ [])) c.quote.ensures) c.in_err-write_parts.ensures))
 
 pub loop-byte-preserved : goal.loop-byte-preserved
 loop-byte-preserved g c =
-    name-grows c.args.name.now c.loop-byte.rest.now c.in-Some.behind.now c.in-Some.byte.now _ _ _ _ c.in-Some.ensures.cases.0 c.loop-byte.invariant
+    name-grows c.args.name.now c.loop-byte.rest.now c.in-Some.following.now c.in-Some.byte.now _ _ _ _ c.in-Some.ensures.cases.0 c.loop-byte.invariant
     (writes_by _ _ _ _ _ (ap (λ q. concat (q ∷ (c.in-Some.byte.now ∷ []) ∷ [])) c.quote.ensures) c.in_ok-write_parts.ensures)
 
 pub returns : goal.returns

@@ -49,8 +49,8 @@ loop-at-preserved c =
     let passed = plain_argument_passed t.next_mode (drop here bs) in
     let skipped = ap (λ (n : ℕ). fault_of_tokens t.next_mode (tokens_from t.next_mode 0 (drop n (drop here bs))))
     (ap (plain_argument_len t.next_mode) (sym text) ∙ sym c.plain_argument_len-at.ensures.value) in
-    let behind = ap (λ xs. fault_of_tokens t.next_mode (tokens_from t.next_mode 0 xs)) (drop-drop plain_argument here bs) in
-    (omega (arith, size, c.plain_argument_len-at.ensures.inside), c.loop-at.invariant.1 ∙ next ∙ same ∙ dropped ∙ passed ∙ skipped ∙ behind)
+    let following = ap (λ xs. fault_of_tokens t.next_mode (tokens_from t.next_mode 0 xs)) (drop-drop plain_argument here bs) in
+    (omega (arith, size, c.plain_argument_len-at.ensures.inside), c.loop-at.invariant.1 ∙ next ∙ same ∙ dropped ∙ passed ∙ skipped ∙ following)
 
 pub returns : goal.returns
 returns c =

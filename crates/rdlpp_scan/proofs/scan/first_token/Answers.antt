@@ -9,18 +9,18 @@ use Rattle.rdlpp_scan.proofs.scan.first_token.Goals as goal
 
 pub returns-clause-value : goal.returns-clause-value
 returns-clause-value c =
-    sym (built_token c.args.mode c.args.bytes.now _ _ _ _ c.kind_of-kind.ensures c.stop_of-stop.ensures c.mode_behind-next_mode.ensures c.len_of-len.ensures)
+    sym (built_token c.args.mode c.args.bytes.now _ _ _ _ c.kind_of-kind.ensures c.stop_of-stop.ensures c.mode_after-next_mode.ensures c.len_of-len.ensures)
 
 pub returns-clause-not_empty : goal.returns-clause-not_empty
 returns-clause-not_empty c =
     subst (λ (t : Token). 0 < t.len)
-    (built_token c.args.mode c.args.bytes.now _ _ _ _ c.kind_of-kind.ensures c.stop_of-stop.ensures c.mode_behind-next_mode.ensures c.len_of-len.ensures)
+    (built_token c.args.mode c.args.bytes.now _ _ _ _ c.kind_of-kind.ensures c.stop_of-stop.ensures c.mode_after-next_mode.ensures c.len_of-len.ensures)
     (token_of-part c.args.mode c.args.bytes.now c.requires).not_empty
 
 pub returns-clause-inside : goal.returns-clause-inside
 returns-clause-inside c =
     subst (λ (t : Token). t.len ≤ length c.args.bytes.now)
-    (built_token c.args.mode c.args.bytes.now _ _ _ _ c.kind_of-kind.ensures c.stop_of-stop.ensures c.mode_behind-next_mode.ensures c.len_of-len.ensures)
+    (built_token c.args.mode c.args.bytes.now _ _ _ _ c.kind_of-kind.ensures c.stop_of-stop.ensures c.mode_after-next_mode.ensures c.len_of-len.ensures)
     (token_of-part c.args.mode c.args.bytes.now c.requires).inside
 
 pub returns-clause-pieces : goal.returns-clause-pieces

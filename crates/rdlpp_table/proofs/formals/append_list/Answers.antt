@@ -3,21 +3,21 @@ use Rattle.rdlpp_table.proofs.Sizes.{count_items}
 use Rattle.rdlpp_table.proofs.Reading.{append_starts, append_told, append_room, append_next, append_end}
 use Rattle.rdlpp_table.proofs.formals.append_list.Goals as goal
 
-pub loop-behind-init : goal.loop-behind-init
-loop-behind-init c = record { appended = append_starts _ _; room = omega arith }
+pub loop-following-init : goal.loop-following-init
+loop-following-init c = record { appended = append_starts _ _; room = omega arith }
 
 pub append_formal-requires-clause-good : goal.append_formal-requires-clause-good
-append_formal-requires-clause-good c = append_told _ _ _ _ c.loop-behind.invariant.appended c.requires.listed
+append_formal-requires-clause-good c = append_told _ _ _ _ c.loop-following.invariant.appended c.requires.listed
 
 pub append_formal-requires-clause-room : goal.append_formal-requires-clause-room
 append_formal-requires-clause-room c =
-    omega (arith, append_room _ _ _ _ c.loop-behind.invariant.appended c.requires.listed, c.requires.room, c.loop-behind.invariant.room, count_items c.loop-behind.to, count_items c.args.to.now)
+    omega (arith, append_room _ _ _ _ c.loop-following.invariant.appended c.requires.listed, c.requires.room, c.loop-following.invariant.room, count_items c.loop-following.to, count_items c.args.to.now)
 
-pub loop-behind-preserved : goal.loop-behind-preserved
-loop-behind-preserved c = record {
-  appended = append_next _ _ _ _ _ _ c.loop-behind.invariant.appended c.requires.listed c.in-Some.ensures.items c.in-Some.ensures.behind;
-  room = omega (arith, c.loop-behind.invariant.room, c.in-Some.ensures.capacity);
+pub loop-following-preserved : goal.loop-following-preserved
+loop-following-preserved c = record {
+  appended = append_next _ _ _ _ _ _ c.loop-following.invariant.appended c.requires.listed c.in-Some.ensures.items c.in-Some.ensures.following;
+  room = omega (arith, c.loop-following.invariant.room, c.in-Some.ensures.capacity);
 }
 
 pub returns-clause-items : goal.returns-clause-items
-returns-clause-items c = append_end _ _ _ _ _ c.loop-behind.invariant.appended c.requires.listed c.in_default.ensures.items c.in_default.ensures.behind
+returns-clause-items c = append_end _ _ _ _ _ c.loop-following.invariant.appended c.requires.listed c.in_default.ensures.items c.in_default.ensures.following

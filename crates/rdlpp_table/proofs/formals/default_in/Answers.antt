@@ -9,7 +9,7 @@ use Rattle.rdlpp_table.proofs.formals.default_in.Goals.{in-Some+else-b-eq61, in_
 
 pub returns-then-b-eq61-clause-is : goal.returns-then-b-eq61-clause-is
 returns-then-b-eq61-clause-is c =
-    let P : Option DefaultText → Type 0 = λ o. MatchOption c.read_default.result (o ≡ None) (λ d. IsDefault o (joined true d.from.now) (joined true d.behind.now) d.size) in
+    let P : Option DefaultText → Type 0 = λ o. MatchOption c.read_default.result (o ≡ None) (λ d. IsDefault o (joined true d.from.now) (joined true d.following.now) d.size) in
     subst P (sym (default_at _ _ _ c.in-Some.ensures.0 (eq-eqb _ _ c.if-b-eq61.true))) c.read_default.ensures.is
 
 pub returns-clause-is : goal.returns-clause-is

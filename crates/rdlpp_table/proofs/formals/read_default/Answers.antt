@@ -9,7 +9,7 @@ pub returns-in_default-clause-is : goal.returns-in_default-clause-is
 returns-in_default-clause-is c = default_fault _ _ c.in_default.ensures.len
 
 pub returns-then-is_empty-clause-is : goal.returns-then-is_empty-clause-is
-returns-then-is_empty-clause-is c = default_endless _ (c.in-Ok.ensures.behind ∙ none_first true _ (eqb-true _ _ (sym c.is_empty.ensures ∙ c.if-is_empty.true)))
+returns-then-is_empty-clause-is c = default_endless _ (c.in-Ok.ensures.following ∙ none_first true _ (eqb-true _ _ (sym c.is_empty.ensures ∙ c.if-is_empty.true)))
 
 pub returns-clause-is : goal.returns-clause-is
 returns-clause-is c =
@@ -17,5 +17,5 @@ returns-clause-is c =
       | then-measured-eq0 w ↦ w.size-is ∙ sym (cond-true (eqb c.in-Ok.measured.len 0) 0 (1 + c.in-Ok.measured.len) (eq-eqb _ _ w.if-measured-eq0.true))
       | else-measured-eq0 w ↦ w.size-is ∙ sym (cond-false (eqb c.in-Ok.measured.len 0) 0 (1 + c.in-Ok.measured.len) (ne_eqb _ _ w.if-measured-eq0.false))
     ] in
-    let some : 0 < length c.in-Ok.measured.behind.now = omega (arith, eqb-false (length c.in-Ok.measured.behind.now) 0 (sym c.is_empty.ensures ∙ c.if-is_empty.false)) in
-    default_found _ _ _ _ _ _ c.in-Ok.ensures.len c.in-Ok.ensures.behind (reads_first true c.in-Ok.measured.behind.now some).first size
+    let some : 0 < length c.in-Ok.measured.following.now = omega (arith, eqb-false (length c.in-Ok.measured.following.now) 0 (sym c.is_empty.ensures ∙ c.if-is_empty.false)) in
+    default_found _ _ _ _ _ _ c.in-Ok.ensures.len c.in-Ok.ensures.following (reads_first true c.in-Ok.measured.following.now some).first size

@@ -18,5 +18,5 @@ returns c =
       | in-Some+else-b-eq41 w ↦ ap (λ (x : List ℕ). eqb (get_or x 0 0) 41) w.in-Some.ensures.0 ∙ ne_eqb _ _ w.if-b-eq41.false
       | in_default w ↦ ap (λ (x : List ℕ). eqb (get_or x 0 0) 41) w.in_default.ensures
     ] in e) in
-    let P : FormalList → Type 0 = λ l. MatchResult c.read_some.result (λ read. (formals : List Formal) × IsRead l (joined true read.behind.now) read.count read.size formals) (λ kind. l ≡ FormalListFault kind) in
+    let P : FormalList → Type 0 = λ l. MatchResult c.read_some.result (λ read. (formals : List Formal) × IsRead l (joined true read.following.now) read.count read.size formals) (λ kind. l ≡ FormalListFault kind) in
     record { read = subst P (read_formals _ other) c.read_some.ensures.read }

@@ -1,5 +1,5 @@
 use Rattle.std.proofs.Common.{◌∙◌, refl, sym}
-use Rattle.rdlpp_table.proofs.Orders.{bytes_behind, order_apart, order_behind}
+use Rattle.rdlpp_table.proofs.Orders.{bytes_after, order_apart, order_after}
 use Rattle.rdlpp_table.proofs.lookup.order_of.Goals as goal
 
 pub loop-left-init : goal.loop-left-init
@@ -17,8 +17,8 @@ loop-left-preserved c =
     let old = c.loop-left.invariant in
     let left = c.loop-left.left.now in
     let right = c.loop-left.right.now in (
-      old.0 ∙ order_behind left right _ _ _ c.loop-left-test.true c.if-right-ge8.true old.1 old.2
+      old.0 ∙ order_after left right _ _ _ c.loop-left-test.true c.if-right-ge8.true old.1 old.2
           c.front_number.ensures c.front_number-in-loop-left.ensures c.cmp-order.ensures (sym (c.if-is_ne.ensures)),
-      bytes_behind left c.loop-left-test.true old.1,
-      bytes_behind right c.if-right-ge8.true old.2,
+      bytes_after left c.loop-left-test.true old.1,
+      bytes_after right c.if-right-ge8.true old.2,
     )

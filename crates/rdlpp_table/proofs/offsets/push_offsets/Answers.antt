@@ -26,7 +26,7 @@ push_offset-requires-clause-room c =
 
 pub loop-preserved : goal.loop-preserved
 loop-preserved c = record {
-  marking = marking_more _ c.args.list.now c.loop.rest.now _ _ _ _ c.loop.counter _ c.requires.whole c.requires.plain (omega (arith, count_read c.args.count c.args.list.now)) c.loop.invariant.marking refl c.push_offset.ensures.items c.behind_formal-rest.ensures;
+  marking = marking_more _ c.args.list.now c.loop.rest.now _ _ _ _ c.loop.counter _ c.requires.whole c.requires.plain (omega (arith, count_read c.args.count c.args.list.now)) c.loop.invariant.marking refl c.push_offset.ensures.items c.after_formal-rest.ensures;
   capacity = c.push_offset.ensures.capacity ∙ c.loop.invariant.capacity;
 }
 

@@ -26,23 +26,23 @@ loop-place-preserved c =
     let i = c.loop-place.place in
     let list = c.args.formals.now.list.now in
     let told = c.loop-place.told in
-    let behind = flat_map formal_bytes (drop (i + 1) (formals_read count list)) in
+    let following = flat_map formal_bytes (drop (i + 1) (formals_read count list)) in
     let here = bytes_from _ _ _ _ i c.requires (sym c.has_offsets.ensures ∙ c.if-has_offsets.true) (omega arith) (take_rest list c.offset_at.result ∙ ap (λ (n : ℕ). drop n list) c.offset_at.ensures) in (
       length-set told c.shape.result true ∙ c.loop-place.invariant.0,
       c.loop-place.invariant.1
           ∙ told_at count i list c.args.formals.now.formal_offsets.now _ told c.requires (omega arith) (c.formal_name-name.ensures.name ∙ ap (λ (l : List ℕ). (formal_read l).formal.name) here)
-          ∙ ap (λ (k : ℕ). shapes_of (formals_read (count - (i + 1)) behind) (set told k true)) (sym c.shape.ensures.value),
+          ∙ ap (λ (k : ℕ). shapes_of (formals_read (count - (i + 1)) following) (set told k true)) (sym c.shape.ensures.value),
     )
 
 pub loop-preserved : goal.loop-preserved
 loop-preserved c =
     let count = c.args.formals.now.count in
     let i = c.loop.counter in
-    let behind = c.behind_formal-rest.result.now in (
+    let following = c.after_formal-rest.result.now in (
       length-set c.loop.told c.shape-in-loop.result true ∙ c.loop.invariant.0,
       c.loop.invariant.1
-          ∙ told_more c.loop.rest.now count i c.loop.told c.formal_name-name-in-loop.result.now behind (omega arith) c.formal_name-name-in-loop.ensures.name c.behind_formal-rest.ensures
-          ∙ ap (λ (k : ℕ). shapes_of (formals_read (count - (i + 1)) behind) (set c.loop.told k true)) (sym c.shape-in-loop.ensures.value),
+          ∙ told_more c.loop.rest.now count i c.loop.told c.formal_name-name-in-loop.result.now following (omega arith) c.formal_name-name-in-loop.ensures.name c.after_formal-rest.ensures
+          ∙ ap (λ (k : ℕ). shapes_of (formals_read (count - (i + 1)) following) (set c.loop.told k true)) (sym c.shape-in-loop.ensures.value),
     )
 
 pub returns-after-loop-place : goal.returns-after-loop-place

@@ -10,7 +10,7 @@ move_down-requires c =
     let h : c.loop-at.at + c.args.by < length c.args.entries.now = omega arith in
     let g : c.loop-at.at < length (drop c.args.by c.args.entries.now) = omega (arith, length-drop c.args.by c.args.entries.now) in
     let P : Entry → Type 0 = λ e. (c.args.size ≤ e.start) × (c.args.formal_offsets ≤ e.formal_offsets) in
-    subst P (sym (drawn (moved_down c.args.size c.args.formal_offsets) c.args.entries.now c.loop-at.entries c.args.by c.loop-at.at no_entry no_entry h c.loop-at.invariant)) (c.requires.behind c.loop-at.at no_entry g)
+    subst P (sym (drawn (moved_down c.args.size c.args.formal_offsets) c.args.entries.now c.loop-at.entries c.args.by c.loop-at.at no_entry no_entry h c.loop-at.invariant)) (c.requires.following c.loop-at.at no_entry g)
 
 pub loop-at-preserved : goal.loop-at-preserved
 loop-at-preserved c =

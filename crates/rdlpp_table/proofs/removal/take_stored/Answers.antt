@@ -1,10 +1,10 @@
 use Rattle.std.proofs.Common.{◌<◌, ◌+◌, ◌∙◌, ◌^◌, length, drop, sym, subst, List, arith}
 use Rattle.rdlpp_table.specs.declared.entry.Entry.{Entry}
-use Rattle.rdlpp_table.specs.Entries.{moved_down, AreBehind}
+use Rattle.rdlpp_table.specs.Entries.{moved_down, AreAfter}
 use Rattle.rdlpp_table.specs.Store.{macros_in}
-use Rattle.rdlpp_table.proofs.Orders.{live_behind, live_taken}
+use Rattle.rdlpp_table.proofs.Orders.{live_after, live_taken}
 use Rattle.rdlpp_table.proofs.Sizes.{count_items, length_macros_in, live_count}
-use Rattle.rdlpp_table.proofs.Taken.{bytes_fit, covered_stored, taken_behind, taken_live, taken_low, taken_range, taken_stored}
+use Rattle.rdlpp_table.proofs.Taken.{bytes_fit, covered_stored, taken_after, taken_live, taken_low, taken_range, taken_stored}
 use Rattle.rdlpp_table.proofs.removal.take_stored.Goals as goal
 
 pub overflow_cast-start : goal.overflow_cast-start
@@ -22,13 +22,13 @@ overflow_add-before c =
     let r = taken_range c.args.bytes.now.items c.args.entries.now.items _ _ _ _ _ c.requires.stored c.requires.place c.index.ensures c.size_of_entry-size.ensures c.offsets_len-formal_offsets.ensures in
     omega (arith, r.end, bytes_fit c.args.bytes.now, c.requires.few, c.requires.place, c.requires.narrow, count_items c.args.bytes.now, c.args.bytes.now.ok.0)
 
-pub overflow_add-behind : goal.overflow_add-behind
-overflow_add-behind c =
+pub overflow_add-following : goal.overflow_add-following
+overflow_add-following c =
     let r = taken_range c.args.bytes.now.items c.args.entries.now.items _ _ _ _ _ c.requires.stored c.requires.place c.index.ensures c.size_of_entry-size.ensures c.offsets_len-formal_offsets.ensures in
     omega (arith, r.end, bytes_fit c.args.bytes.now)
 
-pub overflow_sub-behind : goal.overflow_sub-behind
-overflow_sub-behind c =
+pub overflow_sub-following : goal.overflow_sub-following
+overflow_sub-following c =
     let r = taken_range c.args.bytes.now.items c.args.entries.now.items _ _ _ _ _ c.requires.stored c.requires.place c.index.ensures c.size_of_entry-size.ensures c.offsets_len-formal_offsets.ensures in
     omega (arith, r.end, c.len.ensures, count_items c.args.bytes.now)
 
@@ -55,7 +55,7 @@ overflow_add-front c =
 pub overflow_add-front-then-has_room-2 : goal.overflow_add-front-then-has_room-2
 overflow_add-front-then-has_room-2 c =
     let r = taken_range c.args.bytes.now.items c.args.entries.now.items _ _ _ _ _ c.requires.stored c.requires.place c.index.ensures c.size_of_entry-size.ensures c.offsets_len-formal_offsets.ensures in
-    omega (arith, r.few, r.behind, r.end, bytes_fit c.args.bytes.now)
+    omega (arith, r.few, r.following, r.end, bytes_fit c.args.bytes.now)
 
 pub overflow_add-start : goal.overflow_add-start
 overflow_add-start c =
@@ -67,12 +67,12 @@ cut-requires c =
     let r = taken_range c.args.bytes.now.items c.args.entries.now.items _ _ _ _ _ c.requires.stored c.requires.place c.index.ensures c.size_of_entry-size.ensures c.offsets_len-formal_offsets.ensures in
     (omega arith, omega (arith, r.end, count_items c.args.bytes.now))
 
-pub take_entry-requires-clause-behind : goal.take_entry-requires-clause-behind
-take_entry-requires-clause-behind c =
+pub take_entry-requires-clause-following : goal.take_entry-requires-clause-following
+take_entry-requires-clause-following c =
     let h : c.args.front.now.entries + c.args.place < length c.args.entries.now.items = omega (arith, c.requires.place, live_count c.args.front.now.entries c.args.entries.now, count_items c.args.entries.now) in
     let t = taken_live c.args.bytes.now.items c.args.entries.now.items _ _ _ _ _ c.requires.stored c.requires.place c.index.ensures c.size_of_entry-size.ensures c.offsets_len-formal_offsets.ensures in
-    let P : List Entry → Type 0 = λ l. AreBehind c.size_of_entry-size.result c.offsets_len-formal_offsets.result l in
-    subst P (sym (live_behind c.args.entries.now.items c.args.front.now.entries c.args.place h)) (taken_behind _ _ _ _ _ _ _ t)
+    let P : List Entry → Type 0 = λ l. AreAfter c.size_of_entry-size.result c.offsets_len-formal_offsets.result l in
+    subst P (sym (live_after c.args.entries.now.items c.args.front.now.entries c.args.place h)) (taken_after _ _ _ _ _ _ _ t)
 
 pub returns-then-has_room-clause-stored : goal.returns-then-has_room-clause-stored
 returns-then-has_room-clause-stored c =
@@ -80,8 +80,8 @@ returns-then-has_room-clause-stored c =
     let t = taken_live c.args.bytes.now.items c.args.entries.now.items _ _ _ _ _ c.requires.stored c.requires.place c.index.ensures c.size_of_entry-size.ensures c.offsets_len-formal_offsets.ensures in
     covered_stored _ _ _ _ _ _ _ _ _ _ c.requires.stored t m c.cover.ensures.items (sym (count_items c.cover.new.bytes) ∙ (c.cover.ensures.len ∙ count_items c.args.bytes.now)) c.cover_entry.ensures.items
 
-pub returns-else-before-behind-clause-stored : goal.returns-else-before-behind-clause-stored
-returns-else-before-behind-clause-stored c =
+pub returns-else-before-following-clause-stored : goal.returns-else-before-following-clause-stored
+returns-else-before-following-clause-stored c =
     let h : c.args.front.now.entries + c.args.place < length c.args.entries.now.items = omega (arith, c.requires.place, live_count c.args.front.now.entries c.args.entries.now, count_items c.args.entries.now) in
     let m : c.args.place < length (macros_in c.args.bytes.now.items (drop c.args.front.now.entries c.args.entries.now.items)) = omega (arith, c.requires.place, length_macros_in c.args.bytes.now.items (drop c.args.front.now.entries c.args.entries.now.items)) in
     let t = taken_live c.args.bytes.now.items c.args.entries.now.items _ _ _ _ _ c.requires.stored c.requires.place c.index.ensures c.size_of_entry-size.ensures c.offsets_len-formal_offsets.ensures in

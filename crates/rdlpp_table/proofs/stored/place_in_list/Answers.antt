@@ -9,7 +9,7 @@ pub returns-then-eq : goal.returns-then-eq
 returns-then-eq c = reached_found _ _ _ _ c.args.count c.loop-place.place (omega arith) c.loop-place.invariant c.formal_name-found.ensures.name (sym c.eq.ensures ∙ c.if-eq.true)
 
 pub loop-place-preserved : goal.loop-place-preserved
-loop-place-preserved c = reached_more _ _ _ _ _ c.args.count c.loop-place.place (omega arith) c.loop-place.invariant c.formal_name-found.ensures.name (sym c.eq.ensures ∙ c.if-eq.false) c.behind_formal-rest.ensures
+loop-place-preserved c = reached_more _ _ _ _ _ c.args.count c.loop-place.place (omega arith) c.loop-place.invariant c.formal_name-found.ensures.name (sym c.eq.ensures ∙ c.if-eq.false) c.after_formal-rest.ensures
 
 pub returns : goal.returns
 returns c = reached_none _ _ _ c.args.count c.loop-place.place (omega arith) c.loop-place.invariant

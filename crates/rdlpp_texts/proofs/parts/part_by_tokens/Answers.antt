@@ -1,5 +1,5 @@
 use Rattle.std.proofs.Common.{◌≡◌, ℕ, ◌+◌, false, cond, drop, sym, ap, ◌∙◌, arith, length-drop}
-use Rattle.rdlpp_meaning.specs.Actuals.{level_behind, is_space}
+use Rattle.rdlpp_meaning.specs.Actuals.{level_after, is_space}
 use Rattle.rdlpp_meaning.specs.TextTokens.{text_tokens}
 use Rattle.rdlpp_meaning.proofs.KeptTexts.{body_text}
 use Rattle.rdlpp_texts.specs.CallParts.{ends_part, part_from}
@@ -41,7 +41,7 @@ returns-then-ends_text c =
     let here = p.at + token.len in
     let r = role_meant token.role in
     let rest = cond (ends_part r level) (record { from = start; to = p.to; end = Comma here })
-    (part_from c.args.closes start here (level_behind r level) (cond (is_space r) p.to here) (text_tokens token.next_mode (drop here text))) in
+    (part_from c.args.closes start here (level_after r level) (cond (is_space r) p.to here) (text_tokens token.next_mode (drop here text))) in
     let last : Part = record { from = start; to = p.to; end = Last p.at } in
     sym (part_turn c.args.closes mode text start p.at level p.to token f
     ∙ ap (λ b. cond b last rest) (sym c.ends_text.ensures ∙ c.if-ends_text.true))
@@ -58,7 +58,7 @@ returns-then-ends_part c =
     let f = token_at mode text p.at token c.pass_plain_argument-passed.ensures.inside c.token_in_call-token.ensures in
     let here = p.at + token.len in
     let r = role_meant token.role in
-    let rest = part_from c.args.closes start here (level_behind r level) (cond (is_space r) p.to here) (text_tokens token.next_mode (drop here text)) in
+    let rest = part_from c.args.closes start here (level_after r level) (cond (is_space r) p.to here) (text_tokens token.next_mode (drop here text)) in
     let last : Part = record { from = start; to = p.to; end = Last p.at } in
     let cut : Part = record { from = start; to = p.to; end = Comma here } in
     sym (part_turn c.args.closes mode text start p.at level p.to token f
@@ -83,13 +83,13 @@ loop-passed-preserved c =
     let cut : Part = record { from = start; to = p.to; end = Comma here } in
     record {
       inside = token_inside mode text p.at token c.pass_plain_argument-passed.ensures.inside f;
-      low = level_low token.role level p.at token.len c.level_behind-level.result f.not_empty
-          (omega (arith, c.loop-passed.invariant.low, c.pass_plain_argument-passed.ensures.order)) c.level_behind-level.ensures;
+      low = level_low token.role level p.at token.len c.level_after-level.result f.not_empty
+          (omega (arith, c.loop-passed.invariant.low, c.pass_plain_argument-passed.ensures.order)) c.level_after-level.ensures;
       found =
-          ap (λ (n : ℕ). rest n here) c.level_behind-level.ensures
+          ap (λ (n : ℕ). rest n here) c.level_after-level.ensures
           ∙ sym (part_turn c.args.closes mode text start p.at level p.to token f
-          ∙ ap (λ b. cond b last (cond (ends_part r level) cut (rest (level_behind r level) (cond (is_space r) p.to here)))) (sym c.ends_text.ensures ∙ c.if-ends_text.false)
-          ∙ ap (λ b. cond b cut (rest (level_behind r level) (cond (is_space r) p.to here))) (sym c.ends_part.ensures ∙ c.if-ends_part.false)
-          ∙ ap (λ b. rest (level_behind r level) (cond b p.to here)) dark)
+          ∙ ap (λ b. cond b last (cond (ends_part r level) cut (rest (level_after r level) (cond (is_space r) p.to here)))) (sym c.ends_text.ensures ∙ c.if-ends_text.false)
+          ∙ ap (λ b. cond b cut (rest (level_after r level) (cond (is_space r) p.to here))) (sym c.ends_part.ensures ∙ c.if-ends_part.false)
+          ∙ ap (λ b. rest (level_after r level) (cond b p.to here)) dark)
           ∙ c.pass_plain_argument-passed.ensures.same c.args.closes start ∙ c.loop-passed.invariant.found;
     }

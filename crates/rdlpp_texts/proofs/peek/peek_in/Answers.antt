@@ -5,7 +5,7 @@ use Rattle.rdlpp_scan.specs.Tokens.{tokens_from}
 use Rattle.rdlpp_texts.specs.TextItems.{run_len, IsNextItem, IsTextItem}
 use Rattle.rdlpp_texts.specs.declared.peek.NextItem.{NextItem}
 use Rattle.rdlpp_texts.specs.Places.{texts_of}
-use Rattle.rdlpp_texts.proofs.Stopping.{body-inside, ahead-body, ahead-ended, ahead-plain, plain-source, run-behind}
+use Rattle.rdlpp_texts.proofs.Stopping.{body-inside, ahead-body, ahead-ended, ahead-plain, plain-source, run-following}
 use Rattle.rdlpp_texts.proofs.peek.peek_in.Goals as goal
 
 pub returns-then-end-from : goal.returns-then-end-from
@@ -22,7 +22,7 @@ returns-in-Body c =
 pub plain_point-requires : goal.plain_point-requires
 plain_point-requires c =
     let text = slice_range c.args.text.now c.args.from c.args.end in
-    ap (λ (b : List ℕ). run_len [] (tokens_from Plain 0 b) b) (take_rest text c.run_len-len.result) ∙ run-behind [] text _ c.run_len-len.ensures.value
+    ap (λ (b : List ℕ). run_len [] (tokens_from Plain 0 b) b) (take_rest text c.run_len-len.result) ∙ run-following [] text _ c.run_len-len.ensures.value
 
 pub returns : goal.returns
 returns c =

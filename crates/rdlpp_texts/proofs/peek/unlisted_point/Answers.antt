@@ -3,12 +3,12 @@ use Rattle.std.proofs.lemmas.List.{take_rest}
 use Rattle.rdlpp_scan.specs.declared.token.Mode.TheVariants.{Plain}
 use Rattle.rdlpp_scan.specs.Tokens.{tokens_from}
 use Rattle.rdlpp_texts.specs.TextItems.{run_len, IsTextItem}
-use Rattle.rdlpp_texts.proofs.Stopping.{run-behind, unlisted-bare, unlisted-formal, unlisted-none, unlisted-usage}
+use Rattle.rdlpp_texts.proofs.Stopping.{run-following, unlisted-bare, unlisted-formal, unlisted-none, unlisted-usage}
 use Rattle.rdlpp_texts.proofs.peek.unlisted_point.Goals as goal
 
 pub plain_point-requires : goal.plain_point-requires
 plain_point-requires c =
-    ap (λ (b : List ℕ). run_len [] (tokens_from Plain 0 b) b) (take_rest c.args.text.now c.run_len-len.result) ∙ run-behind [] c.args.text.now _ c.run_len-len.ensures.value
+    ap (λ (b : List ℕ). run_len [] (tokens_from Plain 0 b) b) (take_rest c.args.text.now c.run_len-len.result) ∙ run-following [] c.args.text.now _ c.run_len-len.ensures.value
 
 pub returns-in-Ended : goal.returns-in-Ended
 unfolding IsTextItem

@@ -7,4 +7,4 @@ returns-then-room-token c = passes_room (role_meant c.args.role) c.args.level c.
 
 pub returns : goal.returns
 returns c =
-    keeps_step (role_meant c.args.role) c.args.level c.args.room c.args.token c.level_behind.result c.requires.text c.if-room-token.false c.requires.some c.level_behind.ensures
+    keeps_step (role_meant c.args.role) c.args.level c.args.room c.args.token c.level_after.result c.requires.text c.if-room-token.false c.requires.some c.level_after.ensures

@@ -1,7 +1,7 @@
 use Rattle.std.proofs.Common.{◌≡◌, refl, sym, ap, ◌∙◌, arith, if◌then◌else◌}
-use Rattle.rdlpp_state.specs.Includes.{left_engine, marks_behind, pending_behind}
+use Rattle.rdlpp_state.specs.Includes.{left_engine, marks_after, pending_after}
 use Rattle.rdlpp_state.specs.Pending.{nothing_pending}
-use Rattle.rdlpp_state.proofs.IncludeSteps.{around_few, ends_few, line_few, marks_two, queues_behind}
+use Rattle.rdlpp_state.proofs.IncludeSteps.{around_few, ends_few, line_few, marks_two, queues_after}
 use Rattle.rdlpp_state.proofs.Soundness.{whole_left}
 use Rattle.rdlpp_expand.proofs.engine.Engine.leave.Goals as goal
 use Rattle.rdlpp_expand.proofs.engine.Engine.leave.Goals.{then-file, else-file}
@@ -33,11 +33,11 @@ returns g c =
       | then-file w ↦ w.line_ends-is ∙ rw w.if-file.true refl
       | else-file w ↦ w.line_ends-is ∙ rw w.if-file.false refl
     ] in
-    let queues : c.queue_origin.new.self ≡ pending_behind c.self.inside.origins c.self.inside.files.include_stack =
-    queues_behind c.self.inside.origins c.self.inside.files.include_stack _ c.file-file.result.now c.file-around.result.now c.self.inside.pending c.queue_line_ends.new.self c.queue_origin.new.self c.if-file.line_ends c.shown_line-shown.result
+    let queues : c.queue_origin.new.self ≡ pending_after c.self.inside.origins c.self.inside.files.include_stack =
+    queues_after c.self.inside.origins c.self.inside.files.include_stack _ c.file-file.result.now c.file-around.result.now c.self.inside.pending c.queue_line_ends.new.self c.queue_origin.new.self c.if-file.line_ends c.shown_line-shown.result
     c.file-file.ensures.inner (sym (ap (λ f. f.include_stack) c.leave.ensures) ∙ c.file-around.ensures.inner) (ap (λ e. e.pending) c.self.view_is ∙ c.requires.nothing) ends c.shown_line-shown.ensures
     c.queue_line_ends.ensures c.queue_origin.ensures in
-    let marks : c.end_line.new.self ≡ marks_behind c.self.inside.files.include_stack c.self.inside.marks =
+    let marks : c.end_line.new.self ≡ marks_after c.self.inside.files.include_stack c.self.inside.marks =
     c.end_line.ensures ∙ marks_two c.self.inside.files.include_stack _ c.file-file.result.now c.file-around.result.now c.self.inside.marks c.if-file.line_ends c.shown_line-shown.result c.file-around.result.now.name.bytes
     c.file-file.ensures.inner (sym (ap (λ f. f.include_stack) c.leave.ensures) ∙ c.file-around.ensures.inner) ends c.shown_line-shown.ensures refl in
     rw (← c.self.view_is, c.leave.ensures, queues, marks) refl

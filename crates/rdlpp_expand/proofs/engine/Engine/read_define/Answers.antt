@@ -6,7 +6,7 @@ use Rattle.rdlpp_read.specs.Files.{inner_buffer}
 use Rattle.rdlpp_read.proofs.Growing.{line_ends_le}
 use Rattle.rdlpp_state.specs.Moves.{define_rest}
 use Rattle.rdlpp_state.specs.Pending.{PendingView, nothing_pending}
-use Rattle.rdlpp_state.proofs.FrontSteps.{behind_word, defined_same, defines_by, owing, reads_refused}
+use Rattle.rdlpp_state.proofs.FrontSteps.{after_word, defined_same, defines_by, owing, reads_refused}
 use Rattle.rdlpp_expand.proofs.engine.Engine.read_define.Goals as goal
 
 pub consume-requires-clause-lines : goal.consume-requires-clause-lines
@@ -32,7 +32,7 @@ returns-in-Err-clause-reads g c =
     let held : c.held.result.now ≡ held_of (inner_buffer e.files.include_stack) = c.held.ensures.value ∙ ap held_of (c.file-file.ensures.buffer ∙ ap (λ e. inner_buffer e.files.include_stack) c.self.view_is) in
     let inside : c.held.result.now ≡ held_of (inner_buffer c.self.inside.files.include_stack) = c.held.ensures.value ∙ ap held_of c.file-file.ensures.buffer in
     let wide : length (take c.args.len c.held.result.now) ≡ c.args.len = length-take-le c.args.len c.held.result.now (rw held c.requires.inside) in
-    let rest = behind_word (take c.args.len c.held.result.now) c.args.len c.min.result wide c.min.ensures in
+    let rest = after_word (take c.args.len c.held.result.now) c.args.len c.min.result wide c.min.ensures in
     let refused : define_of e.table.most_bytes e.table.most_macros e.table.macros (define_rest e c.args.len) ≡ DefinedFault c.in-Err.fault.kind c.in-Err.fault.word.bytes =
     rw (← c.self.view_is) (defined_same _ _ _ _ _ _ c.in-Err.ensures.outcome (rest ∙ ap (λ h. drop 7 (take c.args.len h)) inside)) in
     reads_refused c.args.len e c.record_fault.new.self c.record_fault.result c.record_fault.ensures.place (record {
@@ -49,7 +49,7 @@ returns-in-Ok-clause-reads g c =
     let held : c.held.result.now ≡ held_of (inner_buffer e.files.include_stack) = c.held.ensures.value ∙ ap held_of (c.file-file.ensures.buffer ∙ ap (λ e. inner_buffer e.files.include_stack) c.self.view_is) in
     let inside : c.held.result.now ≡ held_of (inner_buffer c.self.inside.files.include_stack) = c.held.ensures.value ∙ ap held_of c.file-file.ensures.buffer in
     let wide : length (take c.args.len c.held.result.now) ≡ c.args.len = length-take-le c.args.len c.held.result.now (rw held c.requires.inside) in
-    let rest = behind_word (take c.args.len c.held.result.now) c.args.len c.min.result wide c.min.ensures in
+    let rest = after_word (take c.args.len c.held.result.now) c.args.len c.min.result wide c.min.ensures in
     let accepted : define_of e.table.most_bytes e.table.most_macros e.table.macros (define_rest e c.args.len) ≡ Accepted c.read_define.new.self.macros =
     rw (← c.self.view_is) (defined_same _ _ _ _ _ _ c.in-Ok.ensures.outcome (rest ∙ ap (λ h. drop 7 (take c.args.len h)) inside)) in
     let counted : c.line_ends_in-lines.result ≡ line_ends (take c.args.len (held_of (inner_buffer e.files.include_stack))) = c.line_ends_in-lines.ensures ∙ ap (λ h. line_ends (take c.args.len h)) held in

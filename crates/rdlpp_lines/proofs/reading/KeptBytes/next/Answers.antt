@@ -1,7 +1,7 @@
 use Rattle.std.proofs.Common.{◌∙◌, sym, ap, arith}
 use Rattle.rdlpp_lines.specs.Texts.{IsNext}
 use Rattle.rdlpp_lines.specs.Reading.{left, IsAdvanced}
-use Rattle.rdlpp_lines.proofs.Measures.{kept_next, kept_none, more, last, last_left, last_behind, stop_next}
+use Rattle.rdlpp_lines.proofs.Measures.{kept_next, kept_none, more, last, last_left, last_after, stop_next}
 use Rattle.rdlpp_lines.proofs.reading.KeptBytes.next.Goals as goal
 
 pub returns-in-Some-clause-next : goal.returns-in-Some-clause-next
@@ -25,7 +25,7 @@ returns-in-Ok-false-clause-next c =
     stop_next _ _ _ (ap left end.same ∙ c.loop-b.invariant.same) (last_left _ _ end c.in_default.ensures)
 
 pub returns-in-Ok-false-clause-end : goal.returns-in-Ok-false-clause-end
-returns-in-Ok-false-clause-end c = last_behind _ _ (last _ _ _ c.in-Ok-false.ensures.next c.in-Ok-false.field-0-test) c.in_default.ensures
+returns-in-Ok-false-clause-end c = last_after _ _ (last _ _ _ c.in-Ok-false.ensures.next c.in-Ok-false.field-0-test) c.in_default.ensures
 
 pub returns-in-Err-clause-next : goal.returns-in-Err-clause-next
 unfolding IsNext IsAdvanced

@@ -15,10 +15,10 @@ numbered : (rest word : List ℕ) (n number : ℕ) → word ≡ past_blank_bytes
 numbered rest word n number text len j =
     let digits : take n word ≡ take (prefix_len is_digit (past_blank_bytes rest)) (past_blank_bytes rest) =
     ap (λ (k : ℕ). take k word) len ∙ ap (take (prefix_len is_digit (past_blank_bytes rest))) text in
-    let behind : drop n word ≡ drop (prefix_len is_digit (past_blank_bytes rest)) (past_blank_bytes rest) =
+    let following : drop n word ≡ drop (prefix_len is_digit (past_blank_bytes rest)) (past_blank_bytes rest) =
     ap (λ (k : ℕ). drop k word) len ∙ ap (drop (prefix_len is_digit (past_blank_bytes rest))) text in
     line_numbered rest number (j.0 ∙ ap digits_value digits) j.1 j.2
-    ∙ ap (λ (x : List ℕ). renumbered_name number (past_blank_bytes x)) (sym behind)
+    ∙ ap (λ (x : List ℕ). renumbered_name number (past_blank_bytes x)) (sym following)
 
 pub slice_bounds-past_blanks-end : goal.slice_bounds-past_blanks-end
 slice_bounds-past_blanks-end c =
@@ -26,8 +26,8 @@ slice_bounds-past_blanks-end c =
     sym (length-take-le c.unwrap_or-stop.result c.args.bytes.now (omega (arith, stop, line_len-le c.args.bytes.now)))
 
 -- what stands behind the blanks of the rest of the line
-behind_blanks : (bytes text : List ℕ) (stop : ℕ) → stop ≡ line_len bytes → text ≡ past_blank_bytes (take stop bytes) → text ≡ past_blank_bytes (take (line_len bytes) bytes)
-behind_blanks bytes text stop is rest = rest ∙ ap (λ (n : ℕ). past_blank_bytes (take n bytes)) is
+after_blanks : (bytes text : List ℕ) (stop : ℕ) → stop ≡ line_len bytes → text ≡ past_blank_bytes (take stop bytes) → text ≡ past_blank_bytes (take (line_len bytes) bytes)
+after_blanks bytes text stop is rest = rest ∙ ap (λ (n : ℕ). past_blank_bytes (take n bytes)) is
 
 -- the digits there
 digits_there : (rest text : List ℕ) (len : ℕ) → text ≡ past_blank_bytes rest → len ≡ prefix_len is_digit text → len ≡ prefix_len is_digit (past_blank_bytes rest)
@@ -38,20 +38,20 @@ returns-in_err-number c =
     let bytes = c.args.bytes.now in
     let rest = take (line_len bytes) bytes in
     let stop = line_rest bytes c.unwrap_or-stop.result c.rest_of_line.result c.rest_of_line.ensures c.unwrap_or-stop.ensures in
-    let text = behind_blanks bytes c.past_blanks-behind_word.result.now c.unwrap_or-stop.result stop c.past_blanks-behind_word.ensures in
-    let len = digits_there rest c.past_blanks-behind_word.result.now c.digits-len.result text c.digits-len.ensures.value in
-    let digits : take c.digits-len.result c.past_blanks-behind_word.result.now ≡ take (prefix_len is_digit (past_blank_bytes rest)) (past_blank_bytes rest) =
-    ap (λ (n : ℕ). take n c.past_blanks-behind_word.result.now) len ∙ ap (take (prefix_len is_digit (past_blank_bytes rest))) text in
+    let text = after_blanks bytes c.past_blanks-after_word.result.now c.unwrap_or-stop.result stop c.past_blanks-after_word.ensures in
+    let len = digits_there rest c.past_blanks-after_word.result.now c.digits-len.result text c.digits-len.ensures.value in
+    let digits : take c.digits-len.result c.past_blanks-after_word.result.now ≡ take (prefix_len is_digit (past_blank_bytes rest)) (past_blank_bytes rest) =
+    ap (λ (n : ℕ). take n c.past_blanks-after_word.result.now) len ∙ ap (take (prefix_len is_digit (past_blank_bytes rest))) text in
     rw c.from_residual.ensures (line_unnumbered rest (rw digits at c.in_err-number.ensures))
 
 pub returns-in_err-name : goal.returns-in_err-name
 returns-in_err-name c =
     let bytes = c.args.bytes.now in
     let rest = take (line_len bytes) bytes in
-    let word = c.past_blanks-behind_word.result.now in
+    let word = c.past_blanks-after_word.result.now in
     let n = c.digits-len.result in
     let stop = line_rest bytes c.unwrap_or-stop.result c.rest_of_line.result c.rest_of_line.ensures c.unwrap_or-stop.ensures in
-    let text = behind_blanks bytes word c.unwrap_or-stop.result stop c.past_blanks-behind_word.ensures in
+    let text = after_blanks bytes word c.unwrap_or-stop.result stop c.past_blanks-after_word.ensures in
     let len = digits_there rest word n text c.digits-len.ensures.value in
     let j = c.in_ok-number.ensures in
     let name = c.past_blanks.ensures ∙ ap past_blank_bytes (take_rest word n) in
@@ -61,10 +61,10 @@ pub returns : goal.returns
 returns c =
     let bytes = c.args.bytes.now in
     let rest = take (line_len bytes) bytes in
-    let word = c.past_blanks-behind_word.result.now in
+    let word = c.past_blanks-after_word.result.now in
     let n = c.digits-len.result in
     let stop = line_rest bytes c.unwrap_or-stop.result c.rest_of_line.result c.rest_of_line.ensures c.unwrap_or-stop.ensures in
-    let text = behind_blanks bytes word c.unwrap_or-stop.result stop c.past_blanks-behind_word.ensures in
+    let text = after_blanks bytes word c.unwrap_or-stop.result stop c.past_blanks-after_word.ensures in
     let len = digits_there rest word n text c.digits-len.ensures.value in
     let j = c.in_ok-number.ensures in
     let name = c.past_blanks.ensures ∙ ap past_blank_bytes (take_rest word n) in

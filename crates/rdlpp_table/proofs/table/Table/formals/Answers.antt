@@ -35,7 +35,7 @@ listed_in-requires-clause-given_up c =
     ∙ (c.self.invariant.marked
     ∙ ap (λ (bs : List ℕ). table_offsets (macros_in bs (drop c.self.inside.front.entries c.self.inside.entries.items))) (sym c.as_slice.ensures.value)))) in
     let here = entry_listed c.as_slice.result.now c.split_at.result.1.now (drop c.self.inside.front.entries c.self.inside.entries.items) c.id.inside.index (get_or c.live-entries.result.now c.id.inside.index no_entry) (subst P (sym c.as_slice.ensures.value) c.self.invariant.held.stored) formal_offsets h q in
-    here.behind
+    here.following
 
 pub listed_in-requires-clause-formal_offsets : goal.listed_in-requires-clause-formal_offsets
 listed_in-requires-clause-formal_offsets c =

@@ -40,7 +40,7 @@ invariant_of-self-2 c =
     let few = formals-few c.args.table.now c.args.id c.len-macros.ensures.sound c.requires.id in
     let n = c.unwrap_or-formals.ensures ∙ ap (λ (o : Option ℕ). unwrap_or o 0) c.arity.ensures ∙ arity-count (macro_at c.args.table.now.macros c.args.id).formals in
     let some : c.self.inside.first < length c.self.inside.frames.items = some-open c.self.inside.frames.items c.self.inside.first c.self.inside.bindings.items (rw (← c.self.view_is) at c.requires.some) in
-    stack-called c.self.inside.frames.items c.free_frame-place.new.frames.items _ _ c.self.inside.depth c.self.inside.first c.free_frame-place.result c.in-Ok.behind c.self.inside.bindings c.bind_call.new.bindings _
+    stack-called c.self.inside.frames.items c.free_frame-place.new.frames.items _ _ c.self.inside.depth c.self.inside.first c.free_frame-place.result c.in-Ok.following c.self.inside.bindings c.bind_call.new.bindings _
     c.index_mut.result.now c.args.id _ c.args.parent c.len-bound.result
     c.unwrap_or-formals.result c.body_bounds-bounds.result c.free_frame-place.ensures.free c.free_frame-place.ensures.capacity some c.index_mut.ensures.value c.len-bound.ensures (omega (arith, few, n)) c.bind_call.ensures.binds.len c.bind_call.ensures.binds.whole
     c.bind_call.ensures.binds.capacity
@@ -50,11 +50,11 @@ pub returns-clause-opening : goal.returns-clause-opening
 returns-clause-opening c =
     let n = c.unwrap_or-formals.ensures ∙ ap (λ (o : Option ℕ). unwrap_or o 0) c.arity.ensures ∙ arity-count (macro_at c.args.table.now.macros c.args.id).formals in
     let inside : c.self.inside.first < length c.self.inside.frames.items = some-open c.self.inside.frames.items c.self.inside.first c.self.inside.bindings.items (rw (← c.self.view_is) at c.requires.some) in
-    rw (← c.self.view_is) (opening-opened _ _ c.body.result.now _ _ _ _ _ _ _ (added c.self.inside.bindings.items c.bind_call.new.bindings.items) c.in-Ok.behind c.bind_call.result
+    rw (← c.self.view_is) (opening-opened _ _ c.body.result.now _ _ _ _ _ _ _ (added c.self.inside.bindings.items c.bind_call.new.bindings.items) c.in-Ok.following c.bind_call.result
     c.in-Ok.is n (c.bind_call.ensures.call c.requires.keeps) c.bind_call.ensures.binds.within c.in-Ok.ensures.place c.body.ensures
     (leb-false _ _ (rw (← c.self.view_is) at (sym c.is_full-full.ensures ∙ c.if-full.false)))
     (view-is _ _ _ _ _
-    (called-opens c.self.inside.frames.items c.free_frame-place.new.frames.items c.self.inside.depth c.self.inside.first c.free_frame-place.result c.in-Ok.behind c.self.inside.bindings.items _
+    (called-opens c.self.inside.frames.items c.free_frame-place.new.frames.items c.self.inside.depth c.self.inside.first c.free_frame-place.result c.in-Ok.following c.self.inside.bindings.items _
     c.bind_call.new.bindings.items c.index_mut.result.now c.args.id (length c.body.result.now)
     c.args.parent c.len-bound.result c.body_bounds-bounds.result c.free_frame-place.ensures.free inside c.index_mut.ensures.value (c.len-bound.ensures ∙ count_items c.self.inside.bindings) c.bind_call.ensures.binds.whole) refl))
 

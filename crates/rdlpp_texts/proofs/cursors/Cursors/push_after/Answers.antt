@@ -1,7 +1,7 @@
 use Rattle.std.proofs.Common.{◌∙◌, ◌<◌, [], length, refl, sym, arith, append-nil}
 use Rattle.rdlpp_table.proofs.Sizes.{count_items}
 use Rattle.rdlpp_texts.proofs.Stacking.{called-opens, first-inside, lent-body, lent-bounded, room-first, some-open, stack-called, view-is}
-use Rattle.rdlpp_texts.proofs.cursors.Cursors.push_behind.Goals as goal
+use Rattle.rdlpp_texts.proofs.cursors.Cursors.push_after.Goals as goal
 
 pub index_mut-requires : goal.index_mut-requires
 index_mut-requires c = first-inside c.self.inside.frames c.self.inside.first c.self.inside.bindings.items (rw (← c.self.view_is) at c.requires.some)

@@ -1,12 +1,12 @@
 use Rattle.std.proofs.Common.{◌≡◌, ◌≤◌, length, Some}
-use Rattle.rdlpp_lines.specs.Texts.{cleared, text_behind}
-use Rattle.rdlpp_lines.specs.Reading.{left_behind, LevelFits}
+use Rattle.rdlpp_lines.specs.Texts.{cleared, text_after}
+use Rattle.rdlpp_lines.specs.Reading.{left_after, LevelFits}
 use Rattle.std.proofs.Common.{false}
-use Rattle.rdlpp_lines.proofs.reading.behind_by_tokens.Given as goal
+use Rattle.rdlpp_lines.proofs.reading.after_by_tokens.Given as goal
 
 abbrev pub invariant-loop-reader : goal.invariant-loop-reader
 invariant-loop-reader l = record {
-  behind : text_behind (left_behind l.reader) ≡ text_behind (cleared (Some 0) l.fn.bytes);
+  following : text_after (left_after l.reader) ≡ text_after (cleared (Some 0) l.fn.bytes);
   logical : l.reader.is_logical ≡ false;
   shorter : length l.reader.rest.now ≤ length l.fn.bytes;
   fits : LevelFits l.reader;

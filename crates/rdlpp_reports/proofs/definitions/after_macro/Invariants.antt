@@ -2,7 +2,7 @@
 use Rattle.std.proofs.Common.{◌≡◌, ℕ, List, ◌++◌, drop, flat_map}
 use Rattle.rdlpp_table.specs.Table.{formal_bytes, macro_bytes}
 use Rattle.rdlpp_table.specs.View.{AreSoundFormals, formals_of, macro_at}
-use Rattle.rdlpp_reports.proofs.definitions.behind_macro.Given as goal
+use Rattle.rdlpp_reports.proofs.definitions.after_macro.Given as goal
 
 abbrev pub invariant-loop-place : goal.invariant-loop-place
 invariant-loop-place l =

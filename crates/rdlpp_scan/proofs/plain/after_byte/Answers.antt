@@ -1,7 +1,7 @@
 use Rattle.std.proofs.Common.{rules, ◌+◌, ◌∙◌, ap, arith}
 use Rattle.rdlpp_scan.proofs.SourceLaws.{line_ends-most}
 use Rattle.rdlpp_scan.proofs.TokenLens.{inert_through}
-use Rattle.rdlpp_scan.proofs.plain.behind_byte.Goals as goal
+use Rattle.rdlpp_scan.proofs.plain.after_byte.Goals as goal
 
 pub overflow_add-result-2 : goal.overflow_add-result-2
 overflow_add-result-2 c =

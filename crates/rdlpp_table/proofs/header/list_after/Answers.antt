@@ -1,6 +1,6 @@
 use Rattle.std.proofs.Common.{eq-eqb, ne_eqb}
 use Rattle.rdlpp_table.proofs.RoundTrip.{list_follows, no_list, nothing_follows}
-use Rattle.rdlpp_table.proofs.header.list_behind.Goals as goal
+use Rattle.rdlpp_table.proofs.header.list_after.Goals as goal
 
 pub returns-then-b-eq40 : goal.returns-then-b-eq40
 returns-then-b-eq40 c = list_follows _ _ _ c.in-Some.ensures.0 (eq-eqb _ _ c.if-b-eq40.true)

@@ -1,14 +1,14 @@
 use Rattle.std.proofs.Common.{◌∙◌, sym, ap, arith, refl, length}
-use Rattle.rdlpp_lines.specs.Texts.{start_level, text_behind}
+use Rattle.rdlpp_lines.specs.Texts.{start_level, text_after}
 use Rattle.rdlpp_lines.specs.Reading.{IsAdvanced}
 use Rattle.rdlpp_lines.specs.Continuations.{joined}
-use Rattle.rdlpp_lines.proofs.Measures.{more, last, passed_behind, ended_behind, behind_onto, behind_fault}
-use Rattle.rdlpp_lines.proofs.reading.behind_by_tokens.Goals as goal
+use Rattle.rdlpp_lines.proofs.Measures.{more, last, passed_after, ended_after, after_onto, after_fault}
+use Rattle.rdlpp_lines.proofs.reading.after_by_tokens.Goals as goal
 
 pub loop-reader-init : goal.loop-reader-init
 unfolding joined start_level
 loop-reader-init c = record {
-  behind = sym (behind_onto _ _ _ refl) ∙ ap text_behind c.new-reader.ensures.left;
+  following = sym (after_onto _ _ _ refl) ∙ ap text_after c.new-reader.ensures.left;
   logical = c.new-reader.ensures.is_logical;
   shorter = omega (arith, c.new-reader.ensures.unread);
   fits = c.new-reader.ensures.fits;
@@ -19,7 +19,7 @@ loop-reader-smaller c = (more _ _ _ c.in-Ok-true.ensures.next c.in-Ok-true.field
 
 pub loop-reader-preserved : goal.loop-reader-preserved
 loop-reader-preserved c = record {
-  behind = passed_behind _ _ (more _ _ _ c.in-Ok-true.ensures.next c.in-Ok-true.field-0-test) ∙ c.loop-reader.invariant.behind;
+  following = passed_after _ _ (more _ _ _ c.in-Ok-true.ensures.next c.in-Ok-true.field-0-test) ∙ c.loop-reader.invariant.following;
   logical = c.in-Ok-true.ensures.same ∙ c.loop-reader.invariant.logical;
   shorter = omega (arith, (more _ _ _ c.in-Ok-true.ensures.next c.in-Ok-true.field-0-test).less, c.loop-reader.invariant.shorter);
   fits = c.in-Ok-true.ensures.fits;
@@ -27,11 +27,11 @@ loop-reader-preserved c = record {
 
 pub returns-in-Ok-false-clause-value : goal.returns-in-Ok-false-clause-value
 returns-in-Ok-false-clause-value c =
-    c.rest.ensures ∙ (ended_behind _ _ (last _ _ _ c.in-Ok-false.ensures.next c.in-Ok-false.field-0-test) c.loop-reader.invariant.logical ∙ c.loop-reader.invariant.behind)
+    c.rest.ensures ∙ (ended_after _ _ (last _ _ _ c.in-Ok-false.ensures.next c.in-Ok-false.field-0-test) c.loop-reader.invariant.logical ∙ c.loop-reader.invariant.following)
 
 pub returns-in-Ok-false-clause-inside : goal.returns-in-Ok-false-clause-inside
 returns-in-Ok-false-clause-inside c = omega (arith, ap length c.rest.ensures, ap (λ b. length b.rest.now) (last _ _ _ c.in-Ok-false.ensures.next c.in-Ok-false.field-0-test).same, c.loop-reader.invariant.shorter)
 
 pub returns-in-Err-clause-value : goal.returns-in-Err-clause-value
 unfolding IsAdvanced
-returns-in-Err-clause-value c = sym (behind_fault _ _ c.in-Err.ensures.next) ∙ c.loop-reader.invariant.behind
+returns-in-Err-clause-value c = sym (after_fault _ _ c.in-Err.ensures.next) ∙ c.loop-reader.invariant.following
