@@ -94,12 +94,12 @@ ends_after old mid new xs ys e l is = record {
 }
 
 -- what was read so far, and the count of its bytes behind so many
-pub record Passed (old new : View) (before now : ℕ) : Type 0 where
+pub record PassesOver (old new : View) (before now : ℕ) : Type 0 where
   pub bytes : List ℕ
   pub leaves : Leaves text_sources old new bytes None
   pub count : now ≡ min (before + length bytes) (2 ^ 64 - 1)
 
-pub passed_none : (r : View) (count : ℕ) → count ≤ 2 ^ 64 - 1 → Passed r r count count
+pub passed_none : (r : View) (count : ℕ) → count ≤ 2 ^ 64 - 1 → PassesOver r r count count
 unfolding and_then gives
 passed_none r count least = record { bytes = []; leaves = refl; count = grind arith }
 
@@ -114,8 +114,8 @@ after_both a n xs ys c p q = counted_twice a n (length xs) (length ys) c p q ∙
 written : (old new : View) (before after : List ℕ) (len : ℕ) (ending : Option ReadEnd) → Fills text_sources old new before after len ending → length (take len after) ≡ len
 written old new before after len ending f = length-take-le len after (let i = f.inside in let s = f.size in omega arith)
 
-pub passed_more : (old mid new : View) (a n c : ℕ) (before after : List ℕ) (len : ℕ) → Passed old mid a n → Fills text_sources mid new before after len None
-    → Leaves text_sources mid new (take len after) None → c ≡ min (n + len) (2 ^ 64 - 1) → Passed old new a c
+pub passed_more : (old mid new : View) (a n c : ℕ) (before after : List ℕ) (len : ℕ) → PassesOver old mid a n → Fills text_sources mid new before after len None
+    → Leaves text_sources mid new (take len after) None → c ≡ min (n + len) (2 ^ 64 - 1) → PassesOver old new a c
 passed_more old mid new a n c before after len p f l is =
     let ys = take len after in
     record {
@@ -135,7 +135,7 @@ left_falls old new before after len f l some =
     let full = f.full refl in
     omega arith
 
-pub counted_end : (old mid new : View) (a n c : ℕ) (before after : List ℕ) (len : ℕ) (e : ReadEnd) → Passed old mid a n → Fills text_sources mid new before after len (Some e)
+pub counted_end : (old mid new : View) (a n c : ℕ) (before after : List ℕ) (len : ℕ) (e : ReadEnd) → PassesOver old mid a n → Fills text_sources mid new before after len (Some e)
     → Leaves text_sources mid new (take len after) (Some e) → c ≡ min (n + len) (2 ^ 64 - 1) → Counted text_sources old new a c e
 counted_end old mid new a n c before after len e p f l is =
     let ys = take len after in

@@ -246,11 +246,11 @@ module _ {R : Type 0} (rules : Rules) (unread : R → List ℕ) (ws : List Waiti
         ∙ ap (λ (m : Mode). after_bytes (line_ends_of w) (left (consumed_file t.len (line_ends w) (with_file_buffer (entered_mode f.buffer m) f)))) closed
 
     -- what stands in front, in a mode
-    abbrev Front : File R → Mode → Type 0
-    Front f m = let t = token_of m (held_of f.buffer) in Goes t.kind t.next_mode (take t.len (held_of f.buffer))
+    abbrev FrontPasses : File R → Mode → Type 0
+    FrontPasses f m = let t = token_of m (held_of f.buffer) in Goes t.kind t.next_mode (take t.len (held_of f.buffer))
 
     -- one token of plain text that doesn't stop, where no ordinary text stands in front
-    plain_passes : (f : File R) → f.buffer.mode ≡ Plain → HoldsFront f.buffer → plain_len (held_of f.buffer) ≡ 0 → Front f Plain
+    plain_passes : (f : File R) → f.buffer.mode ≡ Plain → HoldsFront f.buffer → plain_len (held_of f.buffer) ≡ 0 → FrontPasses f Plain
         → Case (token_of Plain (held_of f.buffer)).kind → Passes f (token_of Plain (held_of f.buffer)).len
     plain_passes f mode holds none goes (IsBack kind) = back_passes f holds mode kind (goes.back kind) _ refl
     plain_passes f mode holds none goes (IsBare kind) = bare_passes f holds mode kind
@@ -261,7 +261,7 @@ module _ {R : Type 0} (rules : Rules) (unread : R → List ℕ) (ws : List Waiti
         subst (λ (m : Mode). is_text_kind (token_of m held).kind ≡ true → (token_of m held).next_mode ≡ Plain → Passes f (token_of m held).len) mode (text_passes f holds) text goes.closed
 
     -- one token that doesn't stop, by the mode
-    token_passes : (f : File R) (m : Mode) → f.buffer.mode ≡ m → HoldsFront f.buffer → (m ≡ Plain → plain_len (held_of f.buffer) ≡ 0) → Front f m → Passes f (token_of m (held_of f.buffer)).len
+    token_passes : (f : File R) (m : Mode) → f.buffer.mode ≡ m → HoldsFront f.buffer → (m ≡ Plain → plain_len (held_of f.buffer) ≡ 0) → FrontPasses f m → Passes f (token_of m (held_of f.buffer)).len
     token_passes f Plain mode holds none goes = plain_passes f mode holds (none refl) goes (case_of (token_of Plain (held_of f.buffer)).kind)
     token_passes f InStr mode holds none goes =
         subst (λ (m : Mode). is_text_kind (token_of m (held_of f.buffer)).kind ≡ true → (token_of m (held_of f.buffer)).next_mode ≡ Plain → Passes f (token_of m (held_of f.buffer)).len) mode (text_passes f holds)

@@ -61,9 +61,9 @@ pub data Denies {S R : Type 0} (g : Ghosts S R) (e : EngineView S R) (name : Lis
   SearchFault : (fault : SourceFault) → kind ≡ kind_of_source fault → Searches g e name new (Err fault) → Denies g e name new kind
 
 -- what the search of an `include` comes to
-abbrev pub Sought : {S R : Type 0} → Ghosts S R → EngineView S R → List ℕ → S → Result (Found R) FaultKind → Type 0
-Sought g e name new (Ok found) = Searches g e name new (Ok found)
-Sought g e name new (Err kind) = Denies g e name new kind
+abbrev pub SearchMade : {S R : Type 0} → Ghosts S R → EngineView S R → List ℕ → S → Result (Found R) FaultKind → Type 0
+SearchMade g e name new (Ok found) = Searches g e name new (Ok found)
+SearchMade g e name new (Err kind) = Denies g e name new kind
 
 -- an engine whose `include` has found a source: the directive, which has so many bytes, is used, and the source is open inside of the
 -- others, before which its origin line is pending, where asked for (this project's profile)

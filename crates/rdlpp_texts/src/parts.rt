@@ -5,7 +5,7 @@ ghost use Rattle.rdlpp_meaning.specs.Substitution.{body_tokens};
 ghost use Rattle.rdlpp_texts.specs.CallParts.{IsNextPart, ends_text, is_white, opener_from, part_from, space_from};
 ghost use Rattle.rdlpp_texts.specs.CallTokens.{role_meant};
 
-use crate::plain_argument::{Passed, is_white, pass_plain_argument};
+use crate::plain_argument::{PassedBytes, is_white, pass_plain_argument};
 use crate::tokens::{CallRole, ends_call, ends_part, level_after, token_in_call};
 use rdlpp_scan::{Mode, byte_at, word_bytes};
 
@@ -124,7 +124,7 @@ fn part_by_tokens(text: &[u8], from: usize, closes: bool) -> Part
     requires { from ≤ length text.now }
     ensures { result ≡ part_from closes from from 0 from (body_tokens (drop from text.now)) }
 {
-    let mut passed = Passed { at: from, to: from };
+    let mut passed = PassedBytes { at: from, to: from };
     let mut level = 0;
     let mut mode = Mode::Plain;
     loop {
@@ -145,7 +145,7 @@ fn part_by_tokens(text: &[u8], from: usize, closes: bool) -> Part
                 end: PartEnd::Comma(following),
             };
         }
-        passed = Passed {
+        passed = PassedBytes {
             at: following,
             to: following,
         };

@@ -21,7 +21,7 @@ pub(crate) enum ByteClass {
 
 // How far the search for the end of a part came.
 #[derive(Clone, Copy)]
-pub(crate) struct Passed {
+pub(crate) struct PassedBytes {
     // Where what it passed ends.
     pub(crate) at: usize,
     // Where the last of that ends that isn't white space.
@@ -30,7 +30,7 @@ pub(crate) struct Passed {
 
 // Passes the white space and the plain argument bytes that stand from a place on, at a level of openers. None stand in a string or
 // in a comment.
-pub(crate) fn pass_plain_argument(mode: Mode, level: usize, text: &[u8], from: Passed) -> Passed
+pub(crate) fn pass_plain_argument(mode: Mode, level: usize, text: &[u8], from: PassedBytes) -> PassedBytes
     requires { from.at ≤ length text.now }
     ensures order { from.at ≤ result.at }
     ensures inside { result.at ≤ length text.now }
@@ -45,7 +45,7 @@ pub(crate) fn pass_plain_argument(mode: Mode, level: usize, text: &[u8], from: P
 }
 
 // The same in plain text.
-fn pass_plain(level: usize, text: &[u8], from: Passed) -> Passed
+fn pass_plain(level: usize, text: &[u8], from: PassedBytes) -> PassedBytes
     requires { from.at ≤ length text.now }
     ensures order { from.at ≤ result.at }
     ensures inside { result.at ≤ length text.now }
@@ -65,7 +65,7 @@ fn pass_plain(level: usize, text: &[u8], from: Passed) -> Passed
             ByteClass::Mark => break,
         }
     }
-    Passed { at, to }
+    PassedBytes { at, to }
 }
 
 // What a byte of plain text at a level of openers is: a comma cuts nothing within further ones. Letters are told first and then the

@@ -5,7 +5,7 @@ ghost use Rattle.rdlpp_read.specs.Buffer.{held_of};
 ghost use Rattle.rdlpp_read.specs.Files.{inner_buffer};
 ghost use Rattle.rdlpp_front.specs.SourceItems.{HasString, IsGivenString, include_name};
 ghost use Rattle.rdlpp_state.specs.Held.{IsBounded};
-ghost use Rattle.rdlpp_state.specs.Includes.{Sought, included_engine, is_bad_name, left_engine};
+ghost use Rattle.rdlpp_state.specs.Includes.{SearchMade, included_engine, is_bad_name, left_engine};
 ghost use Rattle.rdlpp_state.specs.Moves.{IsReady};
 ghost use Rattle.rdlpp_state.specs.OpenConditionals.{inner_below};
 ghost use Rattle.rdlpp_state.specs.Pending.{nothing_pending};
@@ -65,7 +65,7 @@ impl<S: Sources> Engine<S> {
         requires some { start < stop }
         requires inside { stop ≤ length (held_of (inner_buffer self.old.files.include_stack)) }
         ensures becomes { self.new ≡ record self.old { sources = self.new.sources } }
-        ensures sought { Sought S.Sources self.old (include_name (held_of (inner_buffer self.old.files.include_stack)) start stop) self.new.sources result }
+        ensures sought { SearchMade S.Sources self.old (include_name (held_of (inner_buffer self.old.files.include_stack)) start stop) self.new.sources result }
     {
         let file = self.files.file();
         let Some(name) = name_in(&file.buffer.held()[start..stop]) else {
