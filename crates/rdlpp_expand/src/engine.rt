@@ -55,8 +55,8 @@ use rdlpp_read::{Files, Fill, LogicalLine};
 use rdlpp_scan::{Directive, Mode, line_ends_in, reserved};
 use rdlpp_source::Sources;
 use rdlpp_state::{
-    Held, Marks, Pending, PendingPart, PendingPiece, Phase, Piece, PieceLocation, copied, copied_fault, fault_kind,
-    word_of,
+    Held, Marks, Pending, PendingPart, PendingPiece, Phase, Piece, PieceLocation, copied,
+    copied_fault, fault_kind, word_of,
 };
 use rdlpp_table::{Limits, Table};
 use rdlpp_texts::{CursorFault, TextPlace};
@@ -362,7 +362,10 @@ impl<S: Sources> Engine<S> {
                 self.take_held()
             }
             Fill::End => self.end(),
-            Fill::SourceLong => Some(self.record_fault(FaultKind::SourceTooLong, ArrayString::new())),
+            Fill::SourceLong => Some(self.record_fault(
+                FaultKind::SourceTooLong,
+                ArrayString::new(),
+            )),
             Fill::LineLong => Some(self.record_fault(FaultKind::LineTooLong, ArrayString::new())),
             Fill::Failed => Some(self.record_read_fault()),
         }
@@ -410,7 +413,10 @@ impl<S: Sources> Engine<S> {
                 self.facts();
                 self.read_define(len)
             }
-            LogicalLine::TooLong => Some(self.record_fault(FaultKind::LineTooLong, ArrayString::new())),
+            LogicalLine::TooLong => Some(self.record_fault(
+                FaultKind::LineTooLong,
+                ArrayString::new(),
+            )),
             LogicalLine::SourceLong => Some(self.record_fault(
                 FaultKind::SourceTooLong,
                 ArrayString::new(),
@@ -504,7 +510,11 @@ impl<S: Sources> Engine<S> {
         let opened = buffer.open_token_line();
         match buffer.mode() {
             Mode::Plain => self.end_plain(),
-            Mode::InStr => Some(self.record_fault_at(FaultKind::OpenString, opened, ArrayString::new())),
+            Mode::InStr => Some(self.record_fault_at(
+                FaultKind::OpenString,
+                opened,
+                ArrayString::new(),
+            )),
             Mode::InBlock => Some(self.record_fault_at(
                 FaultKind::OpenComment,
                 opened,
@@ -638,7 +648,12 @@ impl<S: Sources> Engine<S> {
     }
 
     // Keeps a fault at a physical line of the innermost source.
-    fn record_fault_at(&mut self, kind: FaultKind, line: u64, word: ArrayString<128>) -> PieceLocation
+    fn record_fault_at(
+        &mut self,
+        kind: FaultKind,
+        line: u64,
+        word: ArrayString<128>,
+    ) -> PieceLocation
         requires open { 0 < length self.old.files.include_stack }
         requires line { line < 2 ^ 63 }
         ensures place { result ≡ PieceLocation.Fault }
@@ -737,7 +752,9 @@ impl<S: Sources> Engine<S> {
         ensures { piece_bytes result ≡ bytes_at self.now place }
     {
         match place {
-            PieceLocation::Source(start, end) => Piece::Bytes(self.files.file().buffer.part(start, end)),
+            PieceLocation::Source(start, end) => Piece::Bytes(
+                self.files.file().buffer.part(start, end),
+            ),
             PieceLocation::Text(place) => Piece::Bytes(self.text(place)),
             PieceLocation::Pending(piece) => Piece::Bytes(
                 self.pending.bytes(piece, self.files.file().name.as_str()),

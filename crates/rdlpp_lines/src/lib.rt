@@ -8,5 +8,5 @@ mod tokens;
 
 pub use first::split_first;
 pub use piece::append_part;
-pub use reading::{Measured, append_trimmed, after_default, is_space, trimmed_len};
+pub use reading::{Measured, after_default, append_trimmed, is_space, trimmed_len};
 pub use tokens::line_token;

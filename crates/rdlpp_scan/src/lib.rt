@@ -9,8 +9,8 @@ mod plain;
 mod scan;
 mod token;
 
-pub use bytes::{byte_at, is_blank, is_letter, inert_bytes, word_bytes};
-pub use faults::{plain_argument_bytes, is_perl, lex_fault, open_fault};
+pub use bytes::{byte_at, inert_bytes, is_blank, is_letter, word_bytes};
+pub use faults::{is_perl, lex_fault, open_fault, plain_argument_bytes};
 pub use lines::{last_line_end, line_ends_in, line_len, logical_line, rest_of_line};
 pub use names::{is_name, reserved};
 pub use plain::{PlainText, plain_text, plain_text_len, stops_plain_text};

@@ -3,8 +3,8 @@ ghost use Rattle.std.specs.Prelude.{◌≡◌, ◌≤◌, ◌+◌, ◌-◌, leng
 ghost use Rattle.rdlpp_table.specs.Entries.{offsets_len};
 ghost use Rattle.rdlpp_table.specs.Store.{body_of, entry_end, list_of, name_of};
 
-use crate::point_cache::PointCache;
 use crate::offsets::{StoredFormals, has_offsets};
+use crate::point_cache::PointCache;
 
 // A definition's name, its formals with a comma after each, and its body lie one after another.
 #[derive(Clone, Copy, Drop)]

@@ -65,7 +65,14 @@ pub(crate) fn place_in(
     ensures value { result ≡ place_named (macros_in bytes.now entries.now) name.now }
     ensures steps { IsCounted steps.old steps.new }
 {
-    match seek(bytes, entries, order, bucket_starts, &LookupKey::new(name), steps) {
+    match seek(
+        bytes,
+        entries,
+        order,
+        bucket_starts,
+        &LookupKey::new(name),
+        steps,
+    ) {
         Ok(at) => Some(order[at] as usize),
         Err(_) => None,
     }

@@ -187,7 +187,12 @@ fn end_by_offsets(count: usize, size: usize, formal_offsets: &[u16], place: usiz
 }
 
 // The default text of the formal at a place, by where each formal begins.
-fn default_by_offsets<'a>(list: &'a [u8], count: usize, formal_offsets: &[u16], place: usize) -> &'a [u8]
+fn default_by_offsets<'a>(
+    list: &'a [u8],
+    count: usize,
+    formal_offsets: &[u16],
+    place: usize,
+) -> &'a [u8]
     requires listed { AreStoredFormals count list.now formal_offsets.now }
     requires marked { has_offsets count (length list.now) ≡ true }
     requires place { place < count }

@@ -11,7 +11,7 @@ ghost use Rattle.rdlpp_table.specs.Store.{formals_read, AreStoredFormals};
 
 use crate::offsets::{StoredFormals, place_of};
 use crate::stored::shape;
-use rdlpp_scan::{Kind, Mode, Token, first_token, is_letter, inert_bytes, word_bytes};
+use rdlpp_scan::{Kind, Mode, Token, first_token, inert_bytes, is_letter, word_bytes};
 
 /// The first place of a range of a body that isn't copied as it stands.
 ///
@@ -60,7 +60,13 @@ fn has_shape(shapes: &[bool], name: &[u8]) -> bool
 
 // What a token at a place is, among formals as they lie in a table.
 #[tactic(auto, unfolding(crate::specs::ExpansionPoints::point_at))]
-fn point_at(formals: &StoredFormals, shapes: &[bool], at: usize, token: Token, text: &[u8]) -> ExpansionPoint
+fn point_at(
+    formals: &StoredFormals,
+    shapes: &[bool],
+    at: usize,
+    token: Token,
+    text: &[u8],
+) -> ExpansionPoint
     requires listed { AreStoredFormals formals.now.count formals.now.list.now formals.now.formal_offsets.now }
     requires told { AreShapes (formals_read formals.now.count formals.now.list.now) shapes.now }
     ensures { result ≡ point_at (formals_read formals.now.count formals.now.list.now) at token text.now }
@@ -129,7 +135,12 @@ fn plain_token(text: &[u8]) -> Token
 // The first expansion point of a text whose first byte stands at a place, among formals as they lie in a table. It may be told of
 // which shapes their names are, so that most other words are passed without a look at them.
 #[inline(always)]
-pub(crate) fn next_expansion_point(formals: &StoredFormals, shapes: &[bool], text: &[u8], from: usize) -> ExpansionPoint
+pub(crate) fn next_expansion_point(
+    formals: &StoredFormals,
+    shapes: &[bool],
+    text: &[u8],
+    from: usize,
+) -> ExpansionPoint
     requires listed { AreStoredFormals formals.now.count formals.now.list.now formals.now.formal_offsets.now }
     requires told { AreShapes (formals_read formals.now.count formals.now.list.now) shapes.now }
     requires short { from + length text.now < 2 ^ 64 }

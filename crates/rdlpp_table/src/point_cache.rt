@@ -24,7 +24,7 @@ ghost use Rattle.rdlpp_table.specs.Table.{Formal};
 
 use crate::offsets::{StoredFormals, shapes};
 use crate::point::{ExpansionPoint, next_expansion_point};
-use rdlpp_scan::{plain_argument_bytes, inert_bytes, word_bytes};
+use rdlpp_scan::{inert_bytes, plain_argument_bytes, word_bytes};
 
 // What an expansion point is that is kept: unknown, where its numbers are too large.
 #[derive(Clone, Copy, Drop)]
@@ -100,7 +100,13 @@ fn kept_of(point: ExpansionPoint, plain_argument: u8) -> PackedPoint
 {
     match point {
         ExpansionPoint::None => endless(PackedKind::None, plain_argument),
-        ExpansionPoint::Formal { at, len, place } => placed(PackedKind::Formal, at, len, place, plain_argument),
+        ExpansionPoint::Formal { at, len, place } => placed(
+            PackedKind::Formal,
+            at,
+            len,
+            place,
+            plain_argument,
+        ),
         ExpansionPoint::Usage { at, len } => placed(PackedKind::Usage, at, len, 0, plain_argument),
         ExpansionPoint::Bare { at } => placed(PackedKind::Bare, at, 1, 0, plain_argument),
     }
@@ -138,9 +144,9 @@ fn before_point(point: ExpansionPoint, from: usize, text: &[u8]) -> &[u8]
 {
     match point {
         ExpansionPoint::None => text,
-        ExpansionPoint::Formal { at, .. } | ExpansionPoint::Usage { at, .. } | ExpansionPoint::Bare { at } => {
-            &text[..at.saturating_sub(from)]
-        }
+        ExpansionPoint::Formal { at, .. }
+        | ExpansionPoint::Usage { at, .. }
+        | ExpansionPoint::Bare { at } => { &text[..at.saturating_sub(from)] }
     }
 }
 
@@ -176,7 +182,11 @@ fn kept_from(formals: &StoredFormals, shapes: &[bool], body: &[u8], from: u16) -
     if from < 65535 {
         let from = from as usize;
         let text = &body[from..];
-        kept_point(next_expansion_point(formals, shapes, text, from), from, text)
+        kept_point(
+            next_expansion_point(formals, shapes, text, from),
+            from,
+            text,
+        )
     } else {
         endless(PackedKind::Unknown, 0)
     }
@@ -240,7 +250,13 @@ fn point_within(body: &[u8], reach: usize, kept: PackedPoint, to: usize) -> Opti
 
 // The first expansion point of a range of a body, where the one that is kept as the first one from a place on tells it.
 #[tactic(auto, unfolding(crate::specs::PointCache::point_known))]
-fn point_known(body: &[u8], start: u16, kept: PackedPoint, from: usize, to: usize) -> Option<ExpansionPoint>
+fn point_known(
+    body: &[u8],
+    start: u16,
+    kept: PackedPoint,
+    from: usize,
+    to: usize,
+) -> Option<ExpansionPoint>
     requires order { (start ≤ from) × (from ≤ to) }
     requires inside { to ≤ length body.now }
     ensures { result ≡ point_known body.now start kept from to }
@@ -281,7 +297,12 @@ fn candidate_at(points: &PointCache, from: usize) -> Candidate<'_>
 }
 
 // The first expansion point of a range of a body, where one that is kept tells it.
-pub(crate) fn cached_point(points: &PointCache, body: &[u8], from: usize, to: usize) -> Option<ExpansionPoint>
+pub(crate) fn cached_point(
+    points: &PointCache,
+    body: &[u8],
+    from: usize,
+    to: usize,
+) -> Option<ExpansionPoint>
     requires order { from ≤ to }
     requires inside { to ≤ length body.now }
     ensures { (formals : List Formal) → points.now ≡ cached_points formals body.now → IfSome result (λ point. point ≡ point_of formals from (slice_range body.now from to)) }

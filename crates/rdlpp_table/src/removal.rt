@@ -7,10 +7,10 @@ ghost use Rattle.rdlpp_table.specs.Index.{names_of, IsGap, IsIndexed};
 ghost use Rattle.rdlpp_table.specs.FormalOffsets.{table_offsets};
 ghost use Rattle.rdlpp_table.specs.Store.{live, macros_in, IsStored};
 
+use crate::buckets::{begin_sooner, bucket_of};
 use crate::entry::{ENTRY_BYTES, Entry, offsets_len};
 use crate::given_up::{GivenUp, live};
 use crate::index::{leave, seek};
-use crate::buckets::{begin_sooner, bucket_of};
 use crate::lookup::{LookupKey, Steps};
 
 // The bytes of an entry were moved so much further to the front, and its offsets as much as another number says.
@@ -77,7 +77,13 @@ fn draw_up(entries: &mut [Entry], size: usize, formal_offsets: usize)
 // Takes out the entry at a place, counted behind the first `front` ones, which are given up: the entries between these and the place
 // move one place to the back, over the entry that is taken out, and the first place of theirs is given up too. Those behind stay where
 // they are. The bytes of the moved ones were moved so much further to the back.
-fn cover_entry(entries: &mut Vec<Entry>, front: usize, place: usize, size: usize, formal_offsets: usize)
+fn cover_entry(
+    entries: &mut Vec<Entry>,
+    front: usize,
+    place: usize,
+    size: usize,
+    formal_offsets: usize,
+)
     requires place { front + place < vec_len entries.old }
     requires low { AreLow size formal_offsets (take place (remove (drop front entries.old.items) place)) }
     ensures items { drop (front + 1) entries.new.items ≡ map (moved_up size formal_offsets) (take place (remove (drop front entries.old.items) place)) ++ drop place (remove (drop front entries.old.items) place) }
@@ -194,7 +200,8 @@ fn remove_at(
     ensures capacity { (vec_capacity bytes.new ≡ vec_capacity bytes.old) × (vec_capacity entries.new ≡ vec_capacity entries.old) × (vec_capacity order.new ≡ vec_capacity order.old) }
 {
     let entry = live(entries, front)[place];
-    let first = entries.len() - front.entries - 1 + (entry.formal_offsets as usize - front.formal_offsets);
+    let first = entries.len() - front.entries - 1
+        + (entry.formal_offsets as usize - front.formal_offsets);
     cut_offsets(order, first, first + offsets_len(&entry));
     take_stored(bytes, entries, front, place);
 }

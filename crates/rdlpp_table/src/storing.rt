@@ -33,15 +33,15 @@ ghost use Rattle.rdlpp_table.specs.Store.{live, macros_in, AreStoredFormals, IsS
 ghost use Rattle.rdlpp_table.specs.Table.{formal_bytes, table_size, without};
 ghost use Rattle.rdlpp_table.specs.NewMacro.{list_formals, new_macro, points_told, IsList, IsNew};
 
+use crate::buckets::{begin_later, bucket_of};
 use crate::entry::Entry;
 use crate::formals::append_list;
 use crate::given_up::{GivenUp, live};
 use crate::index::{enter, place_in};
-use crate::point_cache::{PointCache, cached_points};
-use crate::offsets::{StoredFormals, push_offsets};
-use crate::buckets::{begin_later, bucket_of};
-use crate::removal::{settle, size_of_entry, remove_named};
 use crate::lookup::Steps;
+use crate::offsets::{StoredFormals, push_offsets};
+use crate::point_cache::{PointCache, cached_points};
+use crate::removal::{remove_named, settle, size_of_entry};
 use rdlpp_lines::{append_part, append_trimmed};
 
 // A macro that is to be stored: its body is read from a text, of a logical line or as it stands.
@@ -70,7 +70,13 @@ fn append_formals(bytes: &mut Vec<u8>, new: &NewMacro)
 }
 
 // The first expansion points of the body behind a place, by the formals between two places and their offsets.
-fn points_at(bytes: &[u8], list: usize, body: usize, count: usize, formal_offsets: &[u16]) -> PointCache
+fn points_at(
+    bytes: &[u8],
+    list: usize,
+    body: usize,
+    count: usize,
+    formal_offsets: &[u16],
+) -> PointCache
     requires order { (list ≤ body) × (body ≤ length bytes.now) }
     requires short { length bytes.now < 2 ^ 64 }
     requires listed { AreStoredFormals count (slice_range bytes.now list body) formal_offsets.now }
@@ -170,7 +176,14 @@ pub(crate) fn usage_without(
 {
     let entries = live(entries, front);
     let size = bytes.len() - front.bytes;
-    match place_in(bytes, entries, order, bucket_starts, name, &mut Steps::new()) {
+    match place_in(
+        bytes,
+        entries,
+        order,
+        bucket_starts,
+        name,
+        &mut Steps::new(),
+    ) {
         Some(place) => UsageWithout {
             size: size - size_of_entry(&entries[place]),
             count: entries.len() - 1,

@@ -12,21 +12,21 @@ ghost use Rattle.rdlpp_table.specs.PointCache.{cached_points};
 ghost use Rattle.rdlpp_table.specs.Store.{entry_end, formals_read, macro_in, AreStoredFormals};
 ghost use Rattle.rdlpp_table.specs.View.{TableView, AreSoundFormals, IsSound, IsSoundMacro, formal_at, formal_named, formals_of, macro_at, place_named};
 
+use crate::buckets::BUCKET_STARTS;
 use crate::entry::{Entry, arity_in, body_in, listed_in, name_in};
 use crate::fault::{DefineFault, DefineKind, NoMemory, lexical, refusal};
 use crate::formals::read_list;
 use crate::given_up::{GivenUp, live};
 use crate::header::{after_space, leading_name, list_after, unended};
 use crate::index::place_in;
-use crate::point_cache::cached_point;
 use crate::limits::Limits;
-use crate::offsets::{LONG_FORMAL, StoredFormals, default_of, place_of};
-use crate::name::check_name;
-use crate::buckets::BUCKET_STARTS;
-use crate::removal::remove_named;
 use crate::lookup::Steps;
+use crate::name::check_name;
+use crate::offsets::{LONG_FORMAL, StoredFormals, default_of, place_of};
 use crate::point::{ExpansionPoint, next_expansion_point};
-use crate::storing::{NewMacro, UsageWithout, usage_without, replace};
+use crate::point_cache::cached_point;
+use crate::removal::remove_named;
+use crate::storing::{NewMacro, UsageWithout, replace, usage_without};
 use rdlpp_lines::trimmed_len;
 use rdlpp_scan::is_name;
 use std::alloc::Global;
@@ -426,7 +426,14 @@ impl Table {
             return self.store_body(name, None, &[], 0, true, after);
         };
         match read_list(text) {
-            Ok(read) => self.store_body(name, Some(read.count), text, read.size, true, read.following),
+            Ok(read) => self.store_body(
+                name,
+                Some(read.count),
+                text,
+                read.size,
+                true,
+                read.following,
+            ),
             Err(kind) => Err(refusal(kind)),
         }
     }

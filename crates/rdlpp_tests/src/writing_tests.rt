@@ -277,7 +277,11 @@ fn lend_text<R: Drop>(
 }
 
 // Takes a usage of one of the macros that are known, of so many bytes.
-fn lend_usage<R: Drop>(include_stack: &mut Files<R>, parts: &mut Parts, len: usize) -> Result<bool, Fail> {
+fn lend_usage<R: Drop>(
+    include_stack: &mut Files<R>,
+    parts: &mut Parts,
+    len: usize,
+) -> Result<bool, Fail> {
     if include_stack.len() == 0 {
         return Ok(false);
     }

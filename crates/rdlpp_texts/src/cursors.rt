@@ -17,12 +17,12 @@ mod call;
 mod usage;
 
 use crate::Range;
-use crate::peek::{PeekedText, peek_at};
-use crate::hints::{LookupHints, NO_HINTS};
-use crate::place::{TextPlace, TextSource};
-use crate::scopes::{body_bounds, innermost_place, scope_bounds};
 use crate::frame::{Frame, FrameKind};
 use crate::frames::{FIRST_FRAMES, free_frame, push_closed};
+use crate::hints::{LookupHints, NO_HINTS};
+use crate::peek::{PeekedText, peek_at};
+use crate::place::{TextPlace, TextSource};
+use crate::scopes::{body_bounds, innermost_place, scope_bounds};
 use crate::step::CursorStep;
 use rdlpp_table::{MacroId, Table};
 use std::alloc::{AllocError, Global};

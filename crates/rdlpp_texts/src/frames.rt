@@ -2,7 +2,7 @@
 ghost use Rattle.std.specs.Prelude.{drop, take, vec_capacity, vec_len, ℕ, ◌+◌, ◌<◌, ◌≡◌, ◌≤◌};
 ghost use Rattle.rdlpp_texts.specs.Opened.{IsFree};
 
-use crate::frame::{NO_BOUNDS, Frame, FrameKind};
+use crate::frame::{Frame, FrameKind, NO_BOUNDS};
 
 // So many frames are made at first: few texts of most runs are open at once.
 pub(crate) const FIRST_FRAMES: usize = 16;

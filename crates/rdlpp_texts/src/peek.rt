@@ -10,12 +10,12 @@ ghost use Rattle.rdlpp_texts.specs.Places.{source_formals, source_text, texts_of
 ghost use Rattle.rdlpp_texts.specs.Steps.{AreSound};
 
 use crate::Range;
+use crate::frame::Frame;
 use crate::place::TextSource;
 use crate::scopes::{front_source, text_of};
-use crate::frame::Frame;
 use memchr::{memchr, memchr2};
 use rdlpp_scan::{Kind, Mode, first_token};
-use rdlpp_table::{MacroId, ExpansionPoint, Table};
+use rdlpp_table::{ExpansionPoint, MacroId, Table};
 
 // What stands at the front of an open text.
 #[derive(Clone, Copy)]

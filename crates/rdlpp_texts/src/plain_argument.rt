@@ -30,7 +30,12 @@ pub(crate) struct PassedBytes {
 
 // Passes the white space and the plain argument bytes that stand from a place on, at a level of openers. None stand in a string or
 // in a comment.
-pub(crate) fn pass_plain_argument(mode: Mode, level: usize, text: &[u8], from: PassedBytes) -> PassedBytes
+pub(crate) fn pass_plain_argument(
+    mode: Mode,
+    level: usize,
+    text: &[u8],
+    from: PassedBytes,
+) -> PassedBytes
     requires { from.at ≤ length text.now }
     ensures order { from.at ≤ result.at }
     ensures inside { result.at ≤ length text.now }

@@ -11,8 +11,8 @@ ghost use Rattle.rdlpp_texts.specs.BoundCalls.{range_part};
 ghost use Rattle.rdlpp_texts.specs.declared.bindings.Range.{Range as Bound};
 
 use crate::Range;
+use crate::frame::{Bounds, Frame, FrameKind, NO_BOUNDS, is_excluded};
 use crate::place::{TextPlace, TextSource};
-use crate::frame::{Bounds, NO_BOUNDS, Frame, FrameKind, is_excluded};
 use rdlpp_table::{MacroId, Table};
 
 // The bytes of a text.

@@ -187,7 +187,12 @@ fn inside_argument_use(level: usize, room: usize, held: &[u8]) -> Option<Consume
 }
 
 // The same in any mode, and wherever the reading stands.
-fn plain_argument_use(call_state: CallState, mode: Mode, room: usize, held: &[u8]) -> Option<Consumed>
+fn plain_argument_use(
+    call_state: CallState,
+    mode: Mode,
+    room: usize,
+    held: &[u8],
+) -> Option<Consumed>
     ensures { IfSome result (λ u. IsConsumed (call_state_meant call_state) mode room held.now u) }
 {
     match call_state {

@@ -20,8 +20,8 @@ ghost use Rattle.rdlpp_usages.specs.CallReads.{
 };
 ghost use Rattle.rdlpp_usages.specs.CallActions.{kept_of, level_in, call_state_meant};
 
+use crate::action::{CallAction, CallState, Consumed, action_at};
 use crate::store::ArgumentStore;
-use crate::action::{CallState, CallAction, Consumed, action_at};
 use rdlpp_meaning::FaultKind;
 use rdlpp_read::{Files, Fill};
 use rdlpp_scan::{Mode, line_ends_in};
@@ -107,7 +107,11 @@ fn kept_part(token: Consumed, held: &[u8]) -> &[u8]
 }
 
 // Takes one token of a call, or the part of it that is held, or a run of plain argument bytes.
-fn take_token<R: Drop>(files: &mut Files<R>, store: &mut ArgumentStore, call_state: CallState) -> Next
+fn take_token<R: Drop>(
+    files: &mut Files<R>,
+    store: &mut ArgumentStore,
+    call_state: CallState,
+) -> Next
     requires some { 0 < length files.old.include_stack }
     requires held { 0 < length (held_of (inner_buffer files.old.include_stack)) }
     requires level { level_in (call_state_meant call_state) ≤ length store.old.bytes }

@@ -144,7 +144,10 @@ impl<S: Sources> Engine<S> {
                 self.pass(len, lines);
                 None
             }
-            LogicalLine::TooLong => Some(self.record_fault(FaultKind::LineTooLong, ArrayString::new())),
+            LogicalLine::TooLong => Some(self.record_fault(
+                FaultKind::LineTooLong,
+                ArrayString::new(),
+            )),
             LogicalLine::SourceLong => Some(self.record_fault(
                 FaultKind::SourceTooLong,
                 ArrayString::new(),

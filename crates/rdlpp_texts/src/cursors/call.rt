@@ -11,10 +11,10 @@ ghost use Rattle.rdlpp_texts.specs.Usages.{front_name, IsUsed};
 
 use crate::cursors::Cursors;
 use crate::cursors::usage::word_of;
-use crate::peek::{TextItem, Peek};
-use crate::scopes::body_bounds;
 use crate::frame::{Frame, FrameKind};
 use crate::frames::free_frame;
+use crate::peek::{Peek, TextItem};
+use crate::scopes::body_bounds;
 use crate::step::{CursorFault, CursorStep, wordless};
 use crate::{bind_call, bind_parts, keeps_each};
 use rdlpp_meaning::FaultKind;

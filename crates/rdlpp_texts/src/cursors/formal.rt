@@ -10,9 +10,9 @@ ghost use Rattle.rdlpp_texts.specs.Steps.{AreSound, IsUnlent};
 ghost use Rattle.rdlpp_texts.specs.TakenSteps.{TakesStep};
 
 use crate::cursors::Cursors;
-use crate::peek::{TextItem, Peek};
-use crate::scopes::{front_scope, standing};
 use crate::frame::Frame;
+use crate::peek::{Peek, TextItem};
+use crate::scopes::{front_scope, standing};
 use crate::step::{CursorStep, wordless};
 use rdlpp_meaning::FaultKind;
 use rdlpp_table::Table;

@@ -5,7 +5,7 @@ ghost use Rattle.rdlpp_texts.specs.Steps.{IsUnlent};
 ghost use Rattle.rdlpp_texts.specs.TakenSteps.{is_idle, PeeksAt, TakesStep};
 
 use crate::cursors::Cursors;
-use crate::peek::{TextItem, Peek};
+use crate::peek::{Peek, TextItem};
 use crate::step::{CursorStep, wordless};
 use rdlpp_meaning::FaultKind;
 use rdlpp_table::Table;

@@ -12,7 +12,7 @@ ghost use Rattle.rdlpp_texts.specs.TakenSteps.{PeeksAt, TakesStep};
 ghost use Rattle.rdlpp_texts.specs.Usages.{front_name, is_text_fault, unknown_kind, IsRefused, IsUsed};
 
 use crate::cursors::Cursors;
-use crate::peek::{TextItem, Peek};
+use crate::peek::{Peek, TextItem};
 use crate::place::TextPlace;
 use crate::scopes::{front_scope, is_front_in};
 use crate::step::{CursorFault, CursorStep, wordless};
