@@ -20,6 +20,8 @@ MAIN = "main_text"
 NOTE = "rdlpp: note: "
 # The note on a limit, by the program's option.
 LIMIT = re.compile(r"(the limit is [0-9]+, set by )--max-([a-z-]+)")
+# The note that the program alone has, which keeps the places of macros.
+DEFINED = re.compile(r"macro '\w+' was defined at .+")
 # What the program writes beside the output, each into a file of this name.
 WRITTEN = {"lines": "--line-map", "sources": "--deps", "definitions": "--definitions"}
 
@@ -52,6 +54,7 @@ def by_program(words, main, outside):
     got = run(["--notes", *options, *words, main], os.getcwd())
     lines = got.faults.decode("utf-8", "replace").split("\n")[:-1]
     notes = [noted(line[len(NOTE) :]) for line in lines if line.startswith(NOTE)]
+    notes = [note for note in notes if not DEFINED.fullmatch(note)]
     lines = [line for line in lines if not line.startswith(NOTE)]
     written = {name: file.read_bytes() for name, file in files.items()}
     sources = prerequisites(written["sources"])
