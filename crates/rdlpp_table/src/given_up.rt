@@ -14,6 +14,13 @@ pub(crate) struct GivenUp {
     pub(crate) formal_offsets: usize,
 }
 
+// Nothing is given up.
+pub(crate) const NOTHING: GivenUp = GivenUp {
+    bytes: 0,
+    entries: 0,
+    formal_offsets: 0,
+};
+
 // The entries that aren't given up.
 #[inline(always)]
 pub(crate) fn live<'a>(entries: &'a [Entry], front: &GivenUp) -> &'a [Entry]

@@ -9,7 +9,7 @@ ghost use Rattle.rdlpp_table.specs.Store.{live, macros_in, IsStored};
 
 use crate::buckets::{begin_sooner, bucket_of};
 use crate::entry::{ENTRY_BYTES, Entry, offsets_len};
-use crate::given_up::{GivenUp, live};
+use crate::given_up::{GivenUp, NOTHING, live};
 use crate::index::{leave, seek};
 use crate::lookup::{LookupKey, Steps};
 
@@ -222,11 +222,7 @@ pub(crate) fn settle(bytes: &mut Vec<u8>, entries: &mut Vec<Entry>, front: &mut 
         front.formal_offsets,
     );
     entries.truncate(entries.len() - front.entries);
-    *front = GivenUp {
-        bytes: 0,
-        entries: 0,
-        formal_offsets: 0,
-    };
+    *front = NOTHING;
 }
 
 // Takes out the macro of a name, and answers whether there was one, and where the name would stand in the index now: where the

@@ -16,7 +16,7 @@ use crate::buckets::BUCKET_STARTS;
 use crate::entry::{Entry, arity_in, body_in, listed_in, name_in};
 use crate::fault::{DefineFault, DefineKind, NoMemory, lexical, refusal};
 use crate::formals::read_list;
-use crate::given_up::{GivenUp, live};
+use crate::given_up::{GivenUp, NOTHING, live};
 use crate::header::{after_space, leading_name, list_after, unended};
 use crate::index::place_in;
 use crate::limits::Limits;
@@ -121,11 +121,7 @@ impl Table {
         Ok(Table {
             bytes,
             entries,
-            front: GivenUp {
-                bytes: 0,
-                entries: 0,
-                formal_offsets: 0,
-            },
+            front: NOTHING,
             order,
             bucket_starts: [0; BUCKET_STARTS],
             most_bytes: limits.definition_bytes,
@@ -331,6 +327,17 @@ impl Table {
             self.front.formal_offsets,
             &entries[id.index],
         )
+    }
+
+    /// Takes out all macros: the table is as a new one, and keeps its memory.
+    pub fn clear(&mut self)
+        ensures { self.new ≡ record self.old { macros = [] } }
+    {
+        self.bytes.clear();
+        self.entries.clear();
+        self.front = NOTHING;
+        self.order.clear();
+        self.bucket_starts = [0; BUCKET_STARTS];
     }
 
     /// Takes out the macro of a name, and answers whether there was one.
