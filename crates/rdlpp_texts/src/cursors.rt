@@ -104,6 +104,17 @@ impl Cursors {
         })
     }
 
+    // Closes all texts: there is none, as when they were made.
+    pub fn clear(&mut self)
+        ensures { self.new ≡ record { opens = []; line = 0; depth = self.old.depth } }
+    {
+        self.first = self.frames.len();
+        self.bindings.clear();
+        self.line = 0;
+        self.read = 0;
+        self.hints = NO_HINTS;
+    }
+
     // Whether no text is open.
     pub fn is_empty(&self) -> bool
         ensures { result ≡ (length self.now.opens == 0) }
