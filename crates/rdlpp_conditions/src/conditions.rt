@@ -84,6 +84,14 @@ impl Conditions {
         })
     }
 
+    /// Closes all conditionals: none is open, and text is live, as in a new one.
+    pub fn clear(&mut self)
+        ensures { self.new ≡ record { open_now = []; skipped = None; limit = self.old.limit } }
+    {
+        self.open.clear();
+        self.skipped = None;
+    }
+
     /// How many conditionals of all open sources are open.
     pub fn len(&self) -> usize
         ensures value { result ≡ length self.now.open_now }
