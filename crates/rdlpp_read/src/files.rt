@@ -231,6 +231,15 @@ impl<R: Drop> Files<R> {
         self.first = at + 1;
     }
 
+    /// Leaves all sources, the innermost first: none is open.
+    pub fn clear(&mut self)
+        ensures { self.new ≡ record self.old { include_stack = [] } }
+    {
+        while self.len() > 0 {
+            self.leave();
+        }
+    }
+
     /// Fills the buffer of the innermost source, as `fill_buffer` does.
     pub fn fill<S: Sources<Reader = R>>(&mut self, sources: &mut S) -> Fill
         requires { 0 < length self.old.include_stack }
