@@ -78,6 +78,14 @@ impl Expansion {
         Ok(Expansion { arguments, texts })
     }
 
+    /// Closes all texts, and lets go of all kept bytes: nothing is open, as in a new one.
+    pub fn clear(&mut self)
+        ensures { self.new ≡ record { opens = []; arguments = []; line = 0; depth = self.old.depth; most = self.old.most } }
+    {
+        self.arguments.clear();
+        self.texts.clear();
+    }
+
     /// Whether no text is open.
     pub fn is_empty(&self) -> bool
         ensures { result ≡ (length self.now.opens == 0) }
