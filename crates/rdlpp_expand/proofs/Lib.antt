@@ -1,3 +1,4 @@
 pub mod RunFacts
 pub mod Readings
 pub mod TextFacts
+pub mod Renewals

@@ -41,6 +41,7 @@ mod line;
 mod looking;
 mod opening;
 mod positions;
+mod renewing;
 mod skipping;
 mod texts;
 mod usage;

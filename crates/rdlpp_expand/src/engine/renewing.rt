@@ -1,0 +1,37 @@
+// How an engine is made fresh again.
+ghost use Rattle.std.specs.Prelude.{◌≡◌};
+ghost use Rattle.rdlpp_state.specs.Opening.{fresh_engine};
+
+use super::Engine;
+use arrayvec::ArrayString;
+use rdlpp_source::Sources;
+use rdlpp_state::{Marks, Pending, Phase};
+use std::mem;
+
+impl<S: Sources> Engine<S> {
+    /// Makes the engine fresh again, over other sources; those that it had are answered.
+    ///
+    /// It may have been anywhere: not started, between two pieces, at the end, or at a fault. Then it is as a new one of the same
+    /// limits, with an empty table, and nothing of an earlier run is left: no macro, no open source, whose readers are dropped, and
+    /// no fault. It asks for no memory and gives none back, and costs what was used of it, not what its limits reserve.
+    #[tactic(auto, unfolding(rdlpp_state::specs::Opening::fresh_engine))]
+    pub fn renew(&mut self, sources: S, origins: bool) -> S
+        ensures fresh { self.new ≡ fresh_engine self.old.limits sources origins }
+        ensures sources { result ≡ self.old.sources }
+    {
+        self.origins = origins;
+        self.phase = Phase::Fresh;
+        self.quota = self.limits.output_bytes;
+        self.kept = None;
+        self.main.clear();
+        self.pending = Pending::nothing();
+        self.marks = Marks::new();
+        self.taken = 0;
+        self.defined = None;
+        self.table.clear();
+        self.conditions.clear();
+        self.files.clear();
+        self.expansion.clear();
+        mem::replace(&mut self.sources, sources)
+    }
+}
