@@ -1,5 +1,6 @@
 -- An engine that is made fresh again.
-use Rattle.std.proofs.Common.{◌≡◌, [], None, refl, arith}
+use Rattle.std.proofs.Common.{◌≡◌, ◌∙◌, [], None, false, refl, sym, arith}
+use Rattle.std.proofs.lemmas.Bool.{false≢true}
 use Rattle.rdlpp_table.specs.Table.{table_size}
 use Rattle.rdlpp_table.specs.View.{TableView}
 use Rattle.rdlpp_table.specs.declared.limits.Limits.{Limits}
@@ -39,3 +40,28 @@ renewed_whole limits phase table files conditions expansion no_macros no_files n
     closed = λ o. refl;
   };
 })
+
+-- an engine over which no main text is open is whole in each other phase in which none is
+pub unopened_whole : {R : Type 0} (limits : Limits) (phase next : Phase) (table : TableView) (files : FilesView R) (conditions : ConditionsView) (expansion : ExpansionView)
+    → is_open phase ≡ false → is_open next ≡ false → IsWholeEngine limits phase table files conditions expansion → IsWholeEngine limits next table files conditions expansion
+unopened_whole limits phase next table files conditions expansion shut stays w = record {
+  sources = record {
+    in_range = w.sources.in_range;
+    definition_bytes = w.sources.definition_bytes;
+    definitions = w.sources.definitions;
+    size = w.sources.size;
+    slots = w.sources.slots;
+    line_bytes = w.sources.line_bytes;
+    lines = w.sources.lines;
+    conditions_of = w.sources.conditions_of;
+    open_ = λ bad. absurd (false≢true (sym stays ∙ bad));
+    closed = λ _. w.sources.closed shut;
+  };
+  texts = record {
+    depth_is = w.texts.depth_is;
+    most_is = w.texts.most_is;
+    sound = w.texts.sound;
+    line = w.texts.line;
+    closed = λ _. w.texts.closed shut;
+  };
+}

@@ -8,6 +8,7 @@ use Rattle.rdlpp_state.specs.Engine.{EngineView}
 use Rattle.rdlpp_state.specs.Pieces.{IsPlaced, bytes_at}
 use Rattle.rdlpp_state.specs.Remaining.{left_of, work_left}
 use Rattle.rdlpp_state.specs.Steps.{Step, IsStarted, is_call_failed, is_memory_kind, is_read_failed}
+use Rattle.rdlpp_state.specs.declared.phase.Phase.TheVariants.{Closed}
 use Rattle.rdlpp_state.specs.declared.place.PieceLocation.{PieceLocation}
 use Rattle.rdlpp_expand.specs.Run.{Begins, Finishes, Going, Stops, StopsAt, is_fresh}
 use Rattle.rdlpp_expand.specs.declared.reading.ReadEnd.{ReadEnd}
@@ -32,6 +33,10 @@ pub record IsHeldAt {S R : Type 0} (e : EngineView S R) (place : PieceLocation) 
 pub record ReadingView (S R : Type 0) : Type 0 where
   pub engine : EngineView S R
   pub rest : List ℕ
+
+-- a reading of an engine that wasn't started: its output has no bytes, and is at its end
+unfoldable pub unstarted : {S R : Type 0} → EngineView S R → ReadingView S R
+unstarted fresh = record { engine = record fresh { phase = Closed }; rest = [] }
 
 -- what remains of the output: what is left of the piece, and then what remains before the engine (this project's profile)
 unfoldable pub reading_left : {S R : Type 0} → Ghosts S R → ReadingView S R → Outcome

@@ -1,17 +1,19 @@
 // Readings: the output, read into buffers of a caller's.
-ghost use Rattle.std.specs.Prelude.{◌≡◌, ◌+◌, ◌-◌, ◌≤◌, ◌++◌, if◌then◌else◌, [], length, min, take, drop};
+ghost use Rattle.std.specs.Prelude.{◌≡◌, ◌+◌, ◌-◌, ◌≤◌, ◌++◌, if◌then◌else◌, [], length, min, take, drop, OnErr};
 ghost use Rattle.std.specs.Option.{option_map};
+ghost use Rattle.rdlpp_table.specs.Define.{observed, set_of};
 ghost use Rattle.rdlpp_meaning.specs.Outcome.{report_of};
 ghost use Rattle.rdlpp_state.specs.Held.{IsBounded, held_told};
 ghost use Rattle.rdlpp_state.specs.Steps.{IsStarted};
-ghost use Rattle.rdlpp_state.specs.Opening.{start_fault};
+ghost use Rattle.rdlpp_state.specs.Opening.{Starts, fresh_engine, start_fault};
 ghost use Rattle.rdlpp_state.specs.Searches.{Retries, StartsAgain, is_failed_start};
-ghost use Rattle.rdlpp_expand.specs.Reading.{Fills, FillsPart, GivesPiece, Leaves, Turns};
+ghost use Rattle.rdlpp_expand.specs.Reading.{Fills, FillsPart, GivesPiece, Leaves, Turns, unstarted};
 
 use crate::engine::{Engine, READ_ALLOWANCE};
 use rdlpp_meaning::Fault;
 use rdlpp_source::Sources;
-use rdlpp_state::{Held, Piece, PieceLocation};
+use rdlpp_state::{Held, Phase, Piece, PieceLocation};
+use rdlpp_table::DefineFault;
 use std::marker::Model;
 
 /// How an output ended.
@@ -117,6 +119,58 @@ impl<S: Sources> Reading<S> {
             self.given = 0;
         }
         self.engine.start_again(path)
+    }
+
+    /// Makes the engine fresh again, over other sources, as `Engine::renew` does; those that it had are answered.
+    ///
+    /// The output has no bytes then, and is at its end, until another main text is started. What was left of the piece that was
+    /// lent last is dropped.
+    pub fn renew(&mut self, sources: S, origins: bool) -> S
+        ensures reading { self.new ≡ unstarted (fresh_engine self.old.engine.limits sources origins) }
+        ensures sources { result ≡ self.old.engine.sources }
+    {
+        self.place = PieceLocation::End;
+        self.given = 0;
+        let before = self.engine.renew(sources, origins);
+        self.engine.end_unstarted();
+        before
+    }
+
+    /// Defines a macro without a formal list in the engine, as `Engine::define` does, before another main text is started.
+    ///
+    /// The main text must have ended, as behind `renew`.
+    ///
+    /// # Errors
+    /// As of `Engine::define`. The engine is unchanged then.
+    pub fn define(&mut self, name: &[u8], text: &[u8]) -> Result<(), DefineFault>
+        requires { self.old.engine.phase ≡ Phase.Closed }
+        ensures outcome { observed result self.new.engine.table.macros ≡ set_of self.old.engine.table.most_bytes self.old.engine.table.most_macros self.old.engine.table.macros name.now text.now }
+        ensures refused { OnErr result (self.new.engine ≡ self.old.engine) }
+        ensures only { self.new ≡ record { engine = record self.old.engine { table = record self.old.engine.table { macros = self.new.engine.table.macros } }; rest = [] } }
+    {
+        self.place = PieceLocation::End;
+        self.given = 0;
+        self.engine.await_start();
+        let outcome = self.engine.define(name, text);
+        self.engine.end_unstarted();
+        outcome
+    }
+
+    /// Opens another main text, whose path is `path`, as `Engine::start` does.
+    ///
+    /// The main text before it must have ended, as behind `renew`; the definitions stay.
+    ///
+    /// # Errors
+    /// As of `Engine::start`.
+    pub fn start(&mut self, path: &str) -> Result<(), Fault>
+        requires { self.old.engine.phase ≡ Phase.Closed }
+        ensures engine { Starts S.Sources (record self.old.engine { phase = Phase.Fresh }) self.new.engine path.now (start_fault result) }
+        ensures rest { self.new.rest ≡ [] }
+    {
+        self.place = PieceLocation::End;
+        self.given = 0;
+        self.engine.await_start();
+        self.engine.start(path)
     }
 
     /// How many bytes of the piece that was lent last weren't given yet.

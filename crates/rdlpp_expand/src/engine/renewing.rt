@@ -34,4 +34,20 @@ impl<S: Sources> Engine<S> {
         self.expansion.clear();
         mem::replace(&mut self.sources, sources)
     }
+
+    // Ends the output of an engine that wasn't started: it has no bytes.
+    pub(crate) fn end_unstarted(&mut self)
+        requires { self.old.phase ≡ Phase.Fresh }
+        ensures { self.new ≡ record self.old { phase = Phase.Closed } }
+    {
+        self.phase = Phase::Closed;
+    }
+
+    // Is as one that wasn't started, where no main text is open.
+    pub(crate) fn await_start(&mut self)
+        requires { self.old.phase ≡ Phase.Closed }
+        ensures { self.new ≡ record self.old { phase = Phase.Fresh } }
+    {
+        self.phase = Phase::Fresh;
+    }
 }
