@@ -7,3 +7,4 @@ pub mod Folders
 pub mod Opening
 pub mod Running
 pub mod Written
+pub mod Renewing

@@ -19,7 +19,8 @@ pub(crate) fn define_all<S: Sources>(
     defines: &[(String, String)],
 ) -> Result<(), RunFault>
     requires { engine.old.phase ≡ phase.Fresh }
-    ensures { AreGiven engine.old engine.new defines.now result }
+    ensures given { AreGiven engine.old engine.new defines.now result }
+    ensures limits { engine.new.limits ≡ engine.old.limits }
 {
     for (index, (name, text)) in defines.iter().enumerate() {
         if let Err(fault) = engine.define(name.as_bytes(), text.as_bytes()) {

@@ -10,6 +10,7 @@ mod invocation;
 mod opening;
 mod options;
 mod preprocessing;
+mod renewing;
 mod reporting;
 mod running;
 mod status;
@@ -30,6 +31,7 @@ pub use rdlpp_reports::{
 };
 pub use rdlpp_source::{Buffered, Counted, Found, Sink, SinkFault, SourceFault, Sources, Texts};
 pub use rdlpp_table::{LimitFault, Limits, NoMemory, Table};
+pub use renewing::Preprocessor;
 pub use reporting::report;
 pub use running::{new_engine, run_watched_from};
 pub use status::exit_status;

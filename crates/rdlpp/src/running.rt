@@ -1,4 +1,5 @@
 // Preprocessing by an engine that stays, so that it can be asked afterwards.
+ghost use Rattle.std.specs.Prelude.{◌≡◌};
 ghost use Rattle.rdlpp_expand.specs.Watching.{Shows};
 ghost use Rattle.rdlpp.specs.Preprocess.{Tells, output_of};
 ghost use Rattle.rdlpp.specs.Running.{IsFreshOf, MakesEngine, RunsFrom};
@@ -48,6 +49,24 @@ pub fn run_watched_from<S: Sources, W: Sink, V: Watcher>(
     ensures output { S.has_known_texts engine.old.sources →
         Tells (W.taken writer.old) (W.taken writer.new) (output_of S.Sources options.now engine.old.sources path.now) result }
     ensures shows { Shows W.Sink V.Watcher writer.old writer.new watcher.old watcher.new }
+{
+    run_fresh(engine, options, path, writer, watcher)
+}
+
+// Does what `run_watched_from` does; the engine keeps its limits, also where a definition is refused.
+pub(crate) fn run_fresh<S: Sources, W: Sink, V: Watcher>(
+    engine: &mut Engine<S>,
+    options: &Options,
+    path: &str,
+    writer: &mut W,
+    watcher: &mut V,
+) -> Result<u64, PrepFault>
+    requires { IsFreshOf options.now engine.old }
+    ensures outcome { RunsFrom S.Sources W.Sink options.now engine.old engine.new path.now writer.old writer.new result }
+    ensures output { S.has_known_texts engine.old.sources →
+        Tells (W.taken writer.old) (W.taken writer.new) (output_of S.Sources options.now engine.old.sources path.now) result }
+    ensures shows { Shows W.Sink V.Watcher writer.old writer.new watcher.old watcher.new }
+    ensures limits { engine.new.limits ≡ engine.old.limits }
 {
     if let Err(fault) = define_all(engine, &options.defines) {
         return Err(PrepFault::Run(fault));

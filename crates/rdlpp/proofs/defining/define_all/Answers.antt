@@ -9,8 +9,8 @@ loop-index-init g c = (refl, refl)
 pub define-requires : goal.define-requires
 define-requires g c = ap (λ e. e.phase) c.loop-index.invariant.0 ∙ c.requires
 
-pub returns-in-Err : goal.returns-in-Err
-returns-in-Err g c = (
+pub returns-in-Err-clause-given : goal.returns-in-Err-clause-given
+returns-in-Err-clause-given g c = (
   declined c.args.engine.now c.loop-index.engine c.define.new.self.table.macros c.loop-index.index c.args.defines.now c.index-defines-index.result _ _
       c.define.result c.in-Err.fault c.loop-index.invariant c.loop-index-test.true c.index-defines-index.is
       c.define.ensures.outcome c.as_bytes.ensures.value c.as_bytes-in-loop-index.ensures.value c.in-Err.is
@@ -24,8 +24,14 @@ loop-index-preserved g c =
     c.define.result c.loop-index.invariant c.loop-index-test.true c.index-defines-index.is
     c.define.ensures.outcome c.as_bytes.ensures.value c.as_bytes-in-loop-index.ensures.value c.define.ensures.only c.in_default.is
 
-pub returns : goal.returns
-returns g c = (
+pub returns-clause-given : goal.returns-clause-given
+returns-clause-given g c = (
   taken_all c.args.engine.now c.loop-index.engine c.loop-index.index c.args.defines.now c.loop-index.invariant (omega arith),
   c.loop-index.invariant.0,
 )
+
+pub returns-in-Err-clause-limits : goal.returns-in-Err-clause-limits
+returns-in-Err-clause-limits g c = ap (λ e. e.limits) c.define.ensures.only ∙ ap (λ e. e.limits) c.loop-index.invariant.0
+
+pub returns-clause-limits : goal.returns-clause-limits
+returns-clause-limits g c = ap (λ e. e.limits) c.loop-index.invariant.0

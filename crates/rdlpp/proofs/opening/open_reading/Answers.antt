@@ -10,21 +10,21 @@ define_all-requires g c = ap (λ e. e.phase) c.in-Ok.ensures.1
 
 pub start-opened-requires : goal.start-opened-requires
 unfolding fresh_engine
-start-opened-requires g c = ap (λ e. e.phase) c.in_default.ensures.1 ∙ ap (λ e. e.phase) c.in-Ok.ensures.1
+start-opened-requires g c = ap (λ e. e.phase) c.in_default.ensures.given.1 ∙ ap (λ e. e.phase) c.in-Ok.ensures.1
 
 pub returns-in-Err-clause-opens : goal.returns-in-Err-clause-opens
 returns-in-Err-clause-opens g c = (
   c.in-Ok.ensures.0,
   declines _ c.args.options.now.defines.items _ c.args.sources c.in-Ok.engine _ c.in-Ok.ensures.1
-      (ap (given_in c.in-Ok.engine) (sym c.deref.ensures.value) ∙ c.in-Err.ensures.0),
-  c.in-Err.ensures.1,
+      (ap (given_in c.in-Ok.engine) (sym c.deref.ensures.value) ∙ c.in-Err.ensures.given.0),
+  c.in-Err.ensures.given.1,
 )
 
 pub returns-clause-opens : goal.returns-clause-opens
 returns-clause-opens g c = (
   c.in-Ok.ensures.0,
   opens_given g.S.Sources _ c.args.options.now.defines.items _ _ _ c.in-Ok.engine c.define_all.new.engine c.start-opened.new.self _ _
-      c.in-Ok.ensures.1 (ap (given_in c.in-Ok.engine) (sym c.deref.ensures.value) ∙ c.in_default.ensures.0) c.in_default.ensures.1
+      c.in-Ok.ensures.1 (ap (given_in c.in-Ok.engine) (sym c.deref.ensures.value) ∙ c.in_default.ensures.given.0) c.in_default.ensures.given.1
       c.start-opened.ensures c.of.ensures,
 )
 
