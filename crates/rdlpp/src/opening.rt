@@ -1,10 +1,11 @@
 // Opening a main text, whose output is read into buffers.
-ghost use Rattle.rdlpp.specs.Opening.{Opens, OpensOutput};
+ghost use Rattle.std.specs.Prelude.{◌≡◌};
+ghost use Rattle.rdlpp.specs.Opening.{Opens, OpensOutput, Reopens, ReopensOutput};
 ghost use Rattle.rdlpp.specs.Preprocess.{output_of};
 
-use crate::defining::define_all;
+use crate::defining::{define_again, define_all};
 use crate::{Options, PrepFault};
-use rdlpp_expand::{Engine, NewFault, Reading};
+use rdlpp_expand::{Engine, NewFault, Reading, RunFault};
 use rdlpp_source::Sources;
 use std::alloc::Global;
 
@@ -37,4 +38,31 @@ pub fn open_reading<S: Sources>(
     // A fault of the opening is kept by the engine.
     let _opened = engine.start(path);
     Ok(Reading::of(engine))
+}
+
+/// Opens the main text at `path` of other sources in a reading, as `open_reading` does, in the engine that it has, which is renewed.
+/// The sources that it had are answered.
+///
+/// Its limits must be those of the options. A fault of the opening is kept, and the first read answers it.
+///
+/// # Errors
+/// The fault of the first definition that is refused, as of `preprocess`. Nothing is opened then: the reading stands at the end of
+/// an output without bytes, over the new sources. Those that it had are dropped.
+pub fn reopen_reading<S: Sources>(
+    reading: &mut Reading<S>,
+    options: &Options,
+    sources: S,
+    path: &str,
+) -> Result<S, RunFault>
+    requires { reading.old.engine.limits ≡ options.now.limits }
+    ensures opens { Reopens S.Sources options.now sources path.now reading.old reading.new result }
+    ensures output { S.has_known_texts sources → ReopensOutput S.Sources (output_of S.Sources options.now sources path.now) reading.new result }
+{
+    let before = reading.renew(sources, options.origins);
+    if let Err(fault) = define_again(reading, &options.defines) {
+        return Err(fault);
+    }
+    // A fault of the opening is kept by the engine.
+    let _opened = reading.start(path);
+    Ok(before)
 }
