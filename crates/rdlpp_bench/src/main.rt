@@ -3,6 +3,7 @@
 //! `rdlpp_bench WORKLOAD SEED ROUNDS` makes the inputs of a workload out of SEED, preprocesses each of them once through
 //! `rdlpp::preprocess`, over texts in memory, and prints one number that stands for all outputs and faults. ROUNDS is how
 //! many inputs of full size there are; with 0 there is one small one. `each` in place of a workload does all of them.
+//! `renewed` has the inputs of `short`, and so its number; one `rdlpp::Preprocessor` takes all of a row.
 #![tactic(auto)]
 
 mod addresses;
@@ -23,19 +24,20 @@ use includes::run_includes;
 use ordinary::run_ordinary;
 use random::Random;
 use registers::run_registers;
-use short::run_shorts;
+use short::{run_renewed, run_shorts};
 use std::alloc::{AllocError, Global};
 use std::env;
 use std::process::ExitCode;
 
 // The workloads by name.
-const WORKLOADS: [&str; 6] = [
+const WORKLOADS: [&str; 7] = [
     "registers",
     "constants",
     "addresses",
     "includes",
     "ordinary",
     "short",
+    "renewed",
 ];
 
 // The size of an input of full size, and that of a small one.
@@ -115,6 +117,7 @@ fn run_one(
         "addresses" => run_addresses(alloc, random, size, total),
         "includes" => run_includes(alloc, random, size, total),
         "ordinary" => run_ordinary(alloc, random, size, total),
-        _ => run_shorts(alloc, random, size, total),
+        "short" => run_shorts(alloc, random, size, total),
+        _ => run_renewed(alloc, random, size, total),
     }
 }

@@ -1,6 +1,6 @@
 //! One call of the library.
 use crate::digest::Digest;
-use rdlpp::{Buffered, Counted, Limits, Options, PrepFault, Texts, preprocess};
+use rdlpp::{Buffered, Counted, Limits, Options, PrepFault, Preprocessor, Texts, preprocess};
 use std::alloc::{AllocError, Global};
 
 // The bytes of the buffer in front of the output, as the program has it.
@@ -37,6 +37,21 @@ pub fn run_short(alloc: Global, text: &[u8], total: &mut Digest) {
     let outcome = preprocess(alloc, &options, sources, "main", &mut output);
     total.number(output.into_writer().value());
     add_outcome(total, &outcome);
+}
+
+/// The same for each text of some files, one after another in one engine.
+pub fn run_each(alloc: Global, files: &[(&str, &[u8])], total: &mut Digest) {
+    let mut preprocessor = Preprocessor::new(alloc, plain_options(alloc, Limits::standard()));
+    for file in files.chunks(1) {
+        let sources = Texts {
+            files: file,
+            folders: &[],
+        };
+        let mut output = Counted::new(Digest::new());
+        let outcome = preprocessor.preprocess(sources, "main", &mut output);
+        total.number(output.into_writer().value());
+        add_outcome(total, &outcome);
+    }
 }
 
 // Options with no definition from outside and no origin comments.

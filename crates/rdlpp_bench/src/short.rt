@@ -1,7 +1,7 @@
-//! Many short runs: small sources, each with an engine of its own.
+//! Many short runs: small sources, each with an engine of its own, or all in one.
 use crate::digest::Digest;
 use crate::random::Random;
-use crate::run::run_short;
+use crate::run::{run_each, run_short};
 use crate::text::Text;
 use std::alloc::{AllocError, Global};
 
@@ -31,6 +31,32 @@ pub fn run_shorts(
         put_source(&mut text, random)?;
         run_short(alloc, text.bytes(), total);
     }
+    Ok(())
+}
+
+/// The same row, in one engine. Its texts are all made before, since the engine borrows them.
+pub fn run_renewed(
+    alloc: Global,
+    random: &mut Random,
+    size: usize,
+    total: &mut Digest,
+) -> Result<(), AllocError> {
+    let mut texts = Vec::new(alloc);
+    for _ in 0..SOURCES / 64 * size.min(64) {
+        let mut text = Text::new(alloc);
+        put_source(&mut text, random)?;
+        texts.push(text)?;
+    }
+    run_texts(alloc, texts.as_slice(), total)
+}
+
+// Preprocesses texts one after another in one engine.
+fn run_texts(alloc: Global, texts: &[Text], total: &mut Digest) -> Result<(), AllocError> {
+    let mut files = Vec::new(alloc);
+    for text in texts {
+        files.push(("main", text.bytes()))?;
+    }
+    run_each(alloc, files.as_slice(), total);
     Ok(())
 }
 
