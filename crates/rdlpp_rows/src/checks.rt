@@ -1,6 +1,7 @@
 // What is checked of each row.
 use crate::devices::{Devices, SLOW, WHOLE};
 use crate::pieces::has_its_pieces;
+use crate::renewed::comes_to_the_same_behind;
 use crate::row::Row;
 use crate::runs::{Ended, Job, preprocess_row, run_row};
 use rdlpp::{FaultKind, Invocation, UsageFault, parse_words};
@@ -22,47 +23,76 @@ enum Failing {
     Flush,
 }
 
-/// What isn't as it has to be with a row; nothing where all is.
-pub fn failed_check(alloc: Global, row: &Row) -> Result<Option<&'static str>, AllocError> {
-    let invocation = match invocation_of(alloc, row) {
-        Ok(invocation) => invocation,
-        Err(UsageFault::NoMemory) => return Err(AllocError),
-        Err(_) => return Ok(Some("its words")),
+/// What isn't as it has to be with a row, alone and behind the row before it; nothing where all is.
+pub fn failed_check(
+    alloc: Global,
+    before: &Row,
+    row: &Row,
+) -> Result<Option<&'static str>, AllocError> {
+    let (Some(earlier), Some(invocation)) = (
+        invocation_of(alloc, before)?,
+        invocation_of(alloc, row)?,
+    ) else {
+        return Ok(Some("its words"));
     };
-    let mut files = Vec::new(alloc);
-    for (path, text) in &row.files {
-        files.push((path.as_str(), text.as_slice()))?;
-    }
-    let mut folders = Vec::new(alloc);
-    for folder in &invocation.folders {
-        folders.push(folder.as_str())?;
-    }
+    let earlier_files = files_of(alloc, before)?;
+    let earlier_folders = folders_of(alloc, &earlier)?;
+    let files = files_of(alloc, row)?;
+    let folders = folders_of(alloc, &invocation)?;
+    let before = Job {
+        row: before,
+        invocation: &earlier,
+        files: earlier_files.as_slice(),
+        folders: earlier_folders.as_slice(),
+    };
     let job = Job {
         row,
         invocation: &invocation,
         files: files.as_slice(),
         folders: folders.as_slice(),
     };
-    failed_job(alloc, &job)
+    if let Some(check) = failed_job(alloc, &job)? {
+        return Ok(Some(check));
+    }
+    if !comes_to_the_same_behind(alloc, &before, &job)? {
+        return Ok(Some("in a renewed engine"));
+    }
+    Ok(None)
 }
 
-// What the words of a row ask for, with its first text as the main one.
-fn invocation_of(alloc: Global, row: &Row) -> Result<Invocation, UsageFault> {
+// The texts of a row by their paths.
+fn files_of(alloc: Global, row: &Row) -> Result<Vec<(&str, &[u8])>, AllocError> {
+    let mut files = Vec::new(alloc);
+    for (path, text) in &row.files {
+        files.push((path.as_str(), text.as_slice()))?;
+    }
+    Ok(files)
+}
+
+// The include folders that the words of a row name.
+fn folders_of(alloc: Global, invocation: &Invocation) -> Result<Vec<&str>, AllocError> {
+    let mut folders = Vec::new(alloc);
+    for folder in &invocation.folders {
+        folders.push(folder.as_str())?;
+    }
+    Ok(folders)
+}
+
+// What the words of a row ask for, with its first text as the main one; none where they ask for nothing.
+fn invocation_of(alloc: Global, row: &Row) -> Result<Option<Invocation>, AllocError> {
     let mut words = Vec::new(alloc);
-    if words.push("rdlpp").is_err() {
-        return Err(UsageFault::NoMemory);
-    }
+    words.push("rdlpp")?;
     for word in &row.words {
-        if words.push(word.as_str()).is_err() {
-            return Err(UsageFault::NoMemory);
-        }
+        words.push(word.as_str())?;
     }
-    if let Some((path, _)) = row.files.as_slice().first()
-        && words.push(path.as_str()).is_err()
-    {
-        return Err(UsageFault::NoMemory);
+    if let Some((path, _)) = row.files.as_slice().first() {
+        words.push(path.as_str())?;
     }
-    parse_words(alloc, words.as_slice())
+    match parse_words(alloc, words.as_slice()) {
+        Ok(invocation) => Ok(Some(invocation)),
+        Err(UsageFault::NoMemory) => Err(AllocError),
+        Err(_) => Ok(None),
+    }
 }
 
 // What isn't as it has to be with a row whose words were read.

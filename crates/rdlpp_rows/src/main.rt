@@ -1,8 +1,8 @@
 //! Runs the rows of `data`: texts with the output and the fault that must come of them.
 //!
 //! `rdlpp_rows FILE ..` runs the rows of each file over texts in memory: whole; by one byte a read and one byte a write; piece
-//! by piece; and where its texts are short, cut short after each byte, and with each search, read, write and flush failing in
-//! turn. It prints a line for each row that isn't as it has to be, and then how many are and aren't. The same rows are run by
+//! by piece; in an engine that ran the row before it, whole or up to a fault or a piece, and was renewed; and where its texts are
+//! short, cut short after each byte, and with each search, read, write and flush failing in turn. It prints a line for each row that isn't as it has to be, and then how many are and aren't. The same rows are run by
 //! the scripts of `checks`.
 #![tactic(auto)]
 
@@ -11,6 +11,7 @@ ghost use Rattle.std.specs.Prelude.{◌≡◌, ◌↔◌, ◌<◌};
 mod checks;
 mod devices;
 mod pieces;
+mod renewed;
 mod row;
 mod runs;
 mod spelling;
@@ -87,8 +88,11 @@ fn check_file(
             return Ok(());
         }
     };
+    let mut before = rows.as_slice().last();
     for row in &rows {
-        match failed_check(rt.alloc(), row)? {
+        let failed = failed_check(rt.alloc(), before.unwrap_or(row), row)?;
+        before = Some(row);
+        match failed {
             None => tally.passed = tally.passed.saturating_add(1),
             Some(check) => {
                 let _told = println!(rt; "{path}: {}: {check}", row.name);

@@ -98,16 +98,25 @@ pub fn engine_of<'a>(
     let Ok(mut engine) = Engine::new(alloc, options.limits, sources, options.origins) else {
         return Err(AllocError);
     };
-    for (name, text) in &options.defines {
+    if define_words(&mut engine, job) {
+        Ok(Some(engine))
+    } else {
+        Ok(None)
+    }
+}
+
+/// Defines what the words of a row define, in an engine before its start, and answers whether none was refused.
+pub fn define_words(engine: &mut Engine<DealtTexts<'_>>, job: &Job<'_>) -> bool {
+    for (name, text) in &job.invocation.options.defines {
         let is_defined = engine.is_fresh()
             && engine
                 .define(name.as_str().as_bytes(), text.as_str().as_bytes())
                 .is_ok();
         if !is_defined {
-            return Ok(None);
+            return false;
         }
     }
-    Ok(Some(engine))
+    true
 }
 
 /// Runs a row's engine, and asks again for its end; none where a definition of its words is refused.
@@ -116,15 +125,25 @@ pub fn run_row(
     job: &Job<'_>,
     devices: Devices,
 ) -> Result<Option<Ended>, AllocError> {
-    let Some(mut engine) = engine_of(alloc, job, devices)? else {
-        return Ok(None);
-    };
+    match engine_of(alloc, job, devices)? {
+        Some(mut engine) => run_engine(alloc, &mut engine, job, devices),
+        None => Ok(None),
+    }
+}
+
+/// Runs an engine that has the definitions of a row, and asks again for its end; none where it was started.
+pub fn run_engine(
+    alloc: Global,
+    engine: &mut Engine<DealtTexts<'_>>,
+    job: &Job<'_>,
+    devices: Devices,
+) -> Result<Option<Ended>, AllocError> {
     if !engine.is_fresh() {
         return Ok(None);
     }
     let _opened = engine.start(job.invocation.source.as_str());
     let mut sink = Counted::new(writer_of(alloc, devices));
-    let (fault, written) = match run(&mut engine, &mut sink) {
+    let (fault, written) = match run(engine, &mut sink) {
         Ok(written) => (None, written),
         Err(run) => (Some(run.fault), run.written),
     };
@@ -133,7 +152,7 @@ pub fn run_row(
         Some(fault) => line_of(alloc, fault)?,
         None => Vec::new(alloc),
     };
-    let is_kept = keeps_end(alloc, &mut engine, line.as_slice())?;
+    let is_kept = keeps_end(alloc, engine, line.as_slice())?;
     Ok(Some(Ended {
         is_sound: is_kept && written == output.len() as u64,
         output,
@@ -174,8 +193,8 @@ pub fn keeps_end(
     Ok(again.as_slice() == line && written == 0 && engine.held() == held)
 }
 
-// The sources of a row, by such devices.
-fn sources_of<'a>(job: &Job<'a>, devices: Devices) -> DealtTexts<'a> {
+/// The sources of a row, by such devices.
+pub fn sources_of<'a>(job: &Job<'a>, devices: Devices) -> DealtTexts<'a> {
     DealtTexts {
         texts: Texts {
             files: job.files,
