@@ -1,8 +1,8 @@
 // Outputs that stop and go on: searches that are made again, and steps without bytes.
 use crate::runs::STANDARD;
 use crate::sources::{After, Asked, AskedTexts, DealtText, NOTHING};
-use rdlpp::{FaultKind, Texts};
-use rdlpp_expand::{Engine, ReadEnd, Reading};
+use rdlpp::{Counted, FaultKind, OpenSource, Position, Table, Texts, Watcher};
+use rdlpp_expand::{Engine, ReadEnd, Reading, run, run_watched};
 use rdlpp_source::Sources;
 use std::alloc::AllocError;
 use std::cell::Cell;
@@ -117,6 +117,50 @@ fn keeps_what_is_no_failed_search(rt: HostRuntime) -> Result<(), Fail> {
             assert_eq!(rt; told, Some(kind));
         }
     }
+    Ok(())
+}
+
+// Counts the definitions that it is told of.
+#[derive(Drop)]
+struct DefinitionCount {
+    told: u64,
+}
+
+impl Watcher for DefinitionCount {
+    ghost use Rattle.std.specs.Prelude.{true};
+
+    ghost looks = { λ _. true };
+
+    fn is_looking(&self) -> bool {
+        true
+    }
+
+    fn saw(&mut self, _piece: &[u8], _position: Position<'_>) {}
+
+    fn defined(&mut self, _table: &Table, _place: OpenSource<'_>) {
+        self.told = self.told.saturating_add(1);
+    }
+}
+
+// A run that goes on where another one stopped is told of its own definitions alone.
+#[test]
+fn tells_no_definition_of_the_run_before(rt: HostRuntime) -> Result<(), Fail> {
+    let files: [(&str, &[u8]); 2] = [
+        ("m", b"`define A 1\n`include \"i\"\n"),
+        ("i", b"`define B 2\n"),
+    ];
+    let asked = Cell::new(NOTHING);
+    let texts = asked_texts(&files, &asked, 1);
+    let mut engine = Engine::new(rt.alloc(), STANDARD, texts, false)?;
+    assert!(rt; engine.is_fresh());
+    assert!(rt; engine.start("m").is_ok());
+    let mut writer = Counted::new(Vec::new(rt.alloc()));
+    assert!(rt; run(&mut engine, &mut writer).is_err());
+    let _spent = engine.replace_sources(asked_texts(&files, &asked, 1));
+    engine.retry();
+    let mut watcher = DefinitionCount { told: 0 };
+    assert!(rt; run_watched(&mut engine, &mut writer, &mut watcher).is_ok());
+    assert_eq!(rt; watcher.told, 1);
     Ok(())
 }
 

@@ -23,6 +23,8 @@ impl<S: Sources> Engine<S> {
     {
         if self.keeps_failed_search() {
             self.kept = None;
+            // A `define` before the stop is no news to a run that goes on.
+            self.defined = None;
         }
     }
 
