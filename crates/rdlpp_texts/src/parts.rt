@@ -51,6 +51,8 @@ pub fn call_start(text: &[u8]) -> Option<usize>
 }
 
 // The same, token by token.
+#[cold]
+#[inline(never)]
 fn spaced_start(text: &[u8]) -> Option<usize>
     ensures value { result ≡ opener_from 0 (body_tokens text.now) }
     ensures inside { IfSome result (λ n. n ≤ length text.now) }

@@ -127,11 +127,22 @@ fn body_point(table: &Table, id: MacroId, from: usize, end: usize) -> ExpansionP
 {
     match table.kept_point(id, from, end) {
         Some(point) => point,
-        None => sought_point(table, id, from, end),
+        None => unkept_point(table, id, from, end),
     }
 }
 
-// The same, where the range has to be read. In a body without formals only a backquote is an expansion point.
+// The same, where the range has to be read. The room for the answer of the call is cleared here, and not where a point is kept.
+#[inline(always)]
+fn unkept_point(table: &Table, id: MacroId, from: usize, end: usize) -> ExpansionPoint
+    requires id { id < length table.now.macros }
+    requires order { from ≤ end }
+    requires inside { end ≤ length (macro_at table.now.macros id).body }
+    ensures { result ≡ point_in (macro_at table.now.macros id) from end }
+{
+    sought_point(table, id, from, end)
+}
+
+// The same by reading. In a body without formals only a backquote is an expansion point.
 #[cold]
 #[inline(never)]
 fn sought_point(table: &Table, id: MacroId, from: usize, end: usize) -> ExpansionPoint

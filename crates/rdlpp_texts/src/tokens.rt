@@ -57,7 +57,7 @@ pub(crate) fn token_in_call(mode: Mode, text: &[u8]) -> CallToken
 }
 
 // The first token of a text that isn't empty, by its kind.
-#[inline(never)]
+#[inline(always)]
 fn other_token(mode: Mode, text: &[u8]) -> CallToken
     requires { 0 < length text.now }
     ensures { IsFirstToken mode text.now result }
