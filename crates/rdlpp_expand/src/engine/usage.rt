@@ -1,14 +1,17 @@
 // Usages of macros in the open sources.
-ghost use Rattle.std.specs.Prelude.{◌≡◌, ◌<◌, ◌≤◌, ◌^◌, true, length, None, Some, IfSome};
+ghost use Rattle.std.specs.Prelude.{[], ◌≡◌, ◌<◌, ◌≤◌, ◌^◌, true, length, None, Some, IfSome};
 ghost use Rattle.rdlpp_table.specs.Table.{macro_named};
 ghost use Rattle.rdlpp_table.specs.View.{macro_at};
+ghost use Rattle.rdlpp_meaning.specs.State.{fault_at};
 ghost use Rattle.rdlpp_read.specs.Buffer.{held_of};
 ghost use Rattle.rdlpp_read.specs.Files.{inner_buffer};
+ghost use Rattle.rdlpp_front.specs.Names.{IsWordBytes};
 ghost use Rattle.rdlpp_front.specs.SourceItems.{IsUsage, usage_name};
 ghost use Rattle.rdlpp_state.specs.Held.{IsBounded};
 ghost use Rattle.rdlpp_state.specs.Moves.{IsReady};
 ghost use Rattle.rdlpp_state.specs.Standing.{OpensUsage};
 ghost use Rattle.rdlpp_state.specs.Pieces.{IsPlaced, lent_answer, step_answer};
+ghost use Rattle.rdlpp_state.specs.Remaining.{state_of};
 ghost use Rattle.rdlpp_state.specs.Steps.{UncutStep};
 
 use super::Engine;
@@ -34,11 +37,49 @@ impl<S: Sources> Engine<S> {
         let name = name_of(self.files.file().buffer.held(), len);
         match self.table.find(name) {
             None => {
-                let word = word_of(name);
-                Some(self.record_fault(FaultKind::UndefinedMacro, word))
+                self.record_undefined(len);
+                Some(PieceLocation::Fault)
             }
             Some(id) => self.open_usage(len, id),
         }
+    }
+
+    // Keeps that the usage of `len` bytes with which the held bytes begin names no macro.
+    #[cold]
+    #[inline(never)]
+    fn record_undefined(&mut self, len: usize)
+        requires include_stack { 0 < length self.old.files.include_stack }
+        requires some { 0 < length (held_of (inner_buffer self.old.files.include_stack)) }
+        requires usage { IsUsage (held_of (inner_buffer self.old.files.include_stack)) len }
+        ensures { self.new ≡ record self.old { kept = Some (fault_at FaultKind.UndefinedMacro (inner_buffer self.old.files.include_stack).line (usage_name (held_of (inner_buffer self.old.files.include_stack)) len) (state_of self.old)) } }
+    {
+        let word = word_of(name_of(self.files.file().buffer.held(), len));
+        let _fault = self.record_fault(FaultKind::UndefinedMacro, word);
+    }
+
+    // Keeps that a usage of a macro, at a physical line of the innermost source, is refused.
+    #[cold]
+    #[inline(never)]
+    fn record_refused(&mut self, kind: FaultKind, line: u64, id: MacroId)
+        requires include_stack { 0 < length self.old.files.include_stack }
+        requires line { line < 2 ^ 63 }
+        requires inside { id < length self.old.table.macros }
+        requires name { IsWordBytes (macro_at self.old.table.macros id).name }
+        ensures { self.new ≡ record self.old { kept = Some (fault_at kind line (macro_at self.old.table.macros id).name (state_of self.old)) } }
+    {
+        let word = word_of(self.table.name(id));
+        let _fault = self.record_fault_at(kind, line, word);
+    }
+
+    // Keeps that the call of a usage is broken, at a physical line of the innermost source.
+    #[cold]
+    #[inline(never)]
+    fn record_broken(&mut self, kind: FaultKind, line: u64)
+        requires include_stack { 0 < length self.old.files.include_stack }
+        requires line { line < 2 ^ 63 }
+        ensures { self.new ≡ record self.old { kept = Some (fault_at kind line [] (state_of self.old)) } }
+    {
+        let _fault = self.record_fault_at(kind, line, ArrayString::new());
     }
 
     // Opens a usage of a macro, and lends nothing yet.
@@ -58,10 +99,13 @@ impl<S: Sources> Engine<S> {
         match self.open_macro(len, id) {
             Opening::Opened => None,
             Opening::Refused(kind) => {
-                let word = word_of(self.table.name(id));
-                Some(self.record_fault_at(kind, line, word))
+                self.record_refused(kind, line, id);
+                Some(PieceLocation::Fault)
             }
-            Opening::Broken(kind, own) => Some(self.record_fault_at(kind, own, ArrayString::new())),
+            Opening::Broken(kind, own) => {
+                self.record_broken(kind, own);
+                Some(PieceLocation::Fault)
+            }
             Opening::Failed => Some(self.record_read_fault()),
         }
     }

@@ -1,11 +1,12 @@
-use Rattle.std.proofs.Common.{◌≡◌, take, ap, ◌∙◌, subst, arith}
+use Rattle.std.proofs.Common.{◌≡◌, ap, ◌∙◌, refl, subst, arith}
+use Rattle.rdlpp_table.specs.View.{macro_at}
 use Rattle.rdlpp_read.specs.Buffer.{held_of}
 use Rattle.rdlpp_read.specs.Files.{inner_buffer}
 use Rattle.rdlpp_front.specs.SourceItems.{usage_name}
 use Rattle.rdlpp_front.proofs.Insides.{usage_word}
 use Rattle.rdlpp_usages.specs.declared.expansion.Opening.{Opening}
 use Rattle.rdlpp_state.specs.Standing.{OpensUsage}
-use Rattle.rdlpp_state.proofs.FrontSteps.{kept_cut}
+use Rattle.rdlpp_state.specs.declared.place.PieceLocation.TheVariants.{Fault}
 use Rattle.rdlpp_state.proofs.UsageSteps.{breaks_step, fails_step, opens_step, refuses_step}
 use Rattle.rdlpp_state.proofs.Soundness.{inner_facts}
 use Rattle.rdlpp_expand.proofs.TextFacts.{used_name}
@@ -20,8 +21,8 @@ returns-in-Opened-clause-uncut_step g c = λ bounded.
 pub returns-in-Broken-clause-uncut_step : goal.returns-in-Broken-clause-uncut_step
 returns-in-Broken-clause-uncut_step g c = λ bounded.
     let e = c.args.self.now in
-    breaks_step g.S.Sources e c.open_macro.new.self c.args.len c.requires.ready c.requires.live c.requires.mode c.requires.usage c.facts.ensures.texts c.record_fault_at-in-Broken.new.self c.record_fault_at-in-Broken.result _ _
-    (subst (λ (o : Opening). OpensUsage g.S.Sources c.args.len e c.open_macro.new.self o) c.in-Broken.is c.open_macro.ensures) bounded c.record_fault_at-in-Broken.ensures.place (rw c.new.ensures at c.record_fault_at-in-Broken.ensures.kept)
+    breaks_step g.S.Sources e c.open_macro.new.self c.args.len c.requires.ready c.requires.live c.requires.mode c.requires.usage c.facts.ensures.texts c.record_broken.new.self Fault _ _
+    (subst (λ (o : Opening). OpensUsage g.S.Sources c.args.len e c.open_macro.new.self o) c.in-Broken.is c.open_macro.ensures) bounded refl c.record_broken.ensures
 
 pub returns-in-Failed-clause-uncut_step : goal.returns-in-Failed-clause-uncut_step
 returns-in-Failed-clause-uncut_step g c = λ bounded.
@@ -35,24 +36,20 @@ returns-in-Refused-clause-uncut_step g c = λ bounded.
     let same = c.file.ensures.buffer ∙ ap (λ e. inner_buffer e.files.include_stack) c.self.view_is in
     let line : c.line-line.result ≡ (inner_buffer e.files.include_stack).line = c.line-line.ensures ∙ ap (λ b. b.line) same in
     let name = usage_name (held_of (inner_buffer e.files.include_stack)) c.args.len in
-    let word : c.word_of-word.result.bytes ≡ take 128 name = c.word_of-word.ensures ∙ ap (take 128)
-    (used_name c.self-in-Refused.inside.table e.table name c.name.result.now c.args.id
-    (ap (λ v. v.table) c.self-in-Refused.view_is ∙ ap (λ v. v.table) c.open_macro.ensures.becomes) c.name.ensures c.requires.named) in
-    refuses_step g.S.Sources e c.open_macro.new.self c.args.len c.requires.ready c.requires.live c.requires.mode c.requires.usage c.facts.ensures.texts c.record_fault_at.new.self c.record_fault_at.result _
-    (subst (λ (o : Opening). OpensUsage g.S.Sources c.args.len e c.open_macro.new.self o) c.in-Refused.is c.open_macro.ensures) bounded c.record_fault_at.ensures.place
-    (kept_cut c.open_macro.new.self c.record_fault_at.new.self _ _ _ _ _ (rw line at c.record_fault_at.ensures.kept) word)
+    let named : (macro_at c.open_macro.new.self.table.macros c.args.id).name ≡ name = used_name c.open_macro.new.self.table e.table name _ c.args.id (ap (λ v. v.table) c.open_macro.ensures.becomes) refl c.requires.named in
+    refuses_step g.S.Sources e c.open_macro.new.self c.args.len c.requires.ready c.requires.live c.requires.mode c.requires.usage c.facts.ensures.texts c.record_refused.new.self Fault _
+    (subst (λ (o : Opening). OpensUsage g.S.Sources c.args.len e c.open_macro.new.self o) c.in-Refused.is c.open_macro.ensures) bounded refl
+    (rw (line, named) at c.record_refused.ensures)
 
-pub word_of-word-requires : goal.word_of-word-requires
-word_of-word-requires g c =
+pub record_refused-requires-clause-name : goal.record_refused-requires-clause-name
+record_refused-requires-clause-name g c =
     let e = c.args.self.now in
     let name = usage_name (held_of (inner_buffer e.files.include_stack)) c.args.len in
-    let own : c.name.result.now ≡ name =
-    used_name c.self-in-Refused.inside.table e.table name c.name.result.now c.args.id
-    (ap (λ v. v.table) c.self-in-Refused.view_is ∙ ap (λ v. v.table) c.open_macro.ensures.becomes) c.name.ensures c.requires.named in
-    rw own (usage_word _ _ c.requires.usage)
+    let named : (macro_at c.open_macro.new.self.table.macros c.args.id).name ≡ name = used_name c.open_macro.new.self.table e.table name _ c.args.id (ap (λ v. v.table) c.open_macro.ensures.becomes) refl c.requires.named in
+    rw named (usage_word _ _ c.requires.usage)
 
-pub record_fault_at-requires-clause-line : goal.record_fault_at-requires-clause-line
-record_fault_at-requires-clause-line g c =
+pub record_refused-requires-clause-line : goal.record_refused-requires-clause-line
+record_refused-requires-clause-line g c =
     let same = c.file.ensures.buffer ∙ ap (λ e. inner_buffer e.files.include_stack) c.self.view_is in
     let counts = (inner_facts c.args.self.now.files c.requires.ready.include_stack c.requires.ready.files).buffer.counts in
     let line = c.line-line.ensures ∙ ap (λ b. b.line) same in
