@@ -11,6 +11,7 @@ use Rattle.rdlpp_expand.specs.Reading.{ReadingView, reading_left}
 use Rattle.rdlpp.specs.Definitions.{Given, Taken, GivenFault}
 use Rattle.rdlpp.specs.Preprocess.{engine_with, given_by}
 use Rattle.rdlpp.specs.declared.options.Options.{Options}
+use Rattle.rdlpp_expand.specs.declared.writing.RunFault.{RunFault}
 use Rattle.rdlpp.specs.declared.fault.PrepFault.{PrepFault}
 use Rattle.rdlpp.specs.declared.fault.PrepFault.TheVariants.{BadLimits, NoMemory, Run}
 
@@ -37,3 +38,14 @@ Opens g options sources path (Err (Run f)) = (limit_fault options.limits ≡ Non
 abbrev pub OpensOutput : {S R : Type 0} → Ghosts S R → Outcome → Result (ReadingView S R) PrepFault → Type 0
 OpensOutput g output (Ok reading) = is_device_fault reading.engine.kept ≡ false → is_memory_fault reading.engine.kept ≡ false → reading_left g reading ≡ output
 OpensOutput g output (Err fault) = ⊤
+
+-- the answer of an opening in an engine that has the limits of the options: the reading of it, fresh again with the definitions, that was
+-- started; or the first definition that is refused (source: this project's profile)
+abbrev pub Reopens : {S R : Type 0} → Ghosts S R → Options → S → List ℕ → ReadingView S R → Result (Unit {0}) RunFault → Type 0
+Reopens g options sources path reading (Ok done) = OpensGiven g options.limits (given_by options) options.origins sources path reading
+Reopens g options sources path reading (Err f) = (given_by options ≡ GivenFault (report_of f.fault)) × (f.written ≡ 0)
+
+-- what remains of such a reading is the output, unless a device failed or memory was refused where it was opened (source: this project's profile)
+abbrev pub ReopensOutput : {S R : Type 0} → Ghosts S R → Outcome → ReadingView S R → Result (Unit {0}) RunFault → Type 0
+ReopensOutput g output reading (Ok done) = OpensOutput g output (Ok reading)
+ReopensOutput g output reading (Err f) = ⊤

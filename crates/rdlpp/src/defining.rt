@@ -6,7 +6,7 @@ ghost use Rattle.rdlpp_state.specs.declared.phase.Phase.TheVariants as phase;
 ghost use Rattle.rdlpp.specs.Definitions.{AreGiven, refused_definition};
 
 use arrayvec::ArrayString;
-use rdlpp_expand::{Engine, Fault, RunFault, fault_kind};
+use rdlpp_expand::{Engine, Fault, Reading, RunFault, fault_kind};
 use rdlpp_source::Sources;
 use rdlpp_table::DefineFault;
 
@@ -24,6 +24,25 @@ pub(crate) fn define_all<S: Sources>(
 {
     for (index, (name, text)) in defines.iter().enumerate() {
         if let Err(fault) = engine.define(name.as_bytes(), text.as_bytes()) {
+            return Err(refused(fault, index as u64 + 1));
+        }
+    }
+    Ok(())
+}
+
+/// Defines macros in a reading that was renewed, in order, as `define_all` does in an engine.
+///
+/// # Errors
+/// As of `define_all`.
+pub(crate) fn define_all_again<S: Sources>(
+    reading: &mut Reading<S>,
+    defines: &[(String, String)],
+) -> Result<(), RunFault>
+    requires { reading.old.engine.phase ≡ phase.Closed }
+    ensures { AreGiven reading.old.engine reading.new.engine defines.now result }
+{
+    for (index, (name, text)) in defines.iter().enumerate() {
+        if let Err(fault) = reading.define(name.as_bytes(), text.as_bytes()) {
             return Err(refused(fault, index as u64 + 1));
         }
     }

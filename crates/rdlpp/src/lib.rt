@@ -19,7 +19,7 @@ mod written;
 pub use fault::PrepFault;
 pub use folders::{FileFailure, FolderReader, Folders};
 pub use invocation::{Invocation, Reports, UsageFault, parse_words};
-pub use opening::open_reading;
+pub use opening::{open_reading, reopen_reading};
 pub use options::Options;
 pub use preprocessing::preprocess;
 pub use rdlpp_expand::{

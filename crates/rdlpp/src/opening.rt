@@ -1,10 +1,11 @@
 // Opening a main text, whose output is read into buffers.
-ghost use Rattle.rdlpp.specs.Opening.{Opens, OpensOutput};
+ghost use Rattle.std.specs.Prelude.{◌≡◌};
+ghost use Rattle.rdlpp.specs.Opening.{Opens, OpensOutput, Reopens, ReopensOutput};
 ghost use Rattle.rdlpp.specs.Preprocess.{output_of};
 
-use crate::defining::define_all;
+use crate::defining::{define_all, define_all_again};
 use crate::{Options, PrepFault};
-use rdlpp_expand::{Engine, NewFault, Reading};
+use rdlpp_expand::{Engine, NewFault, Reading, RunFault};
 use rdlpp_source::Sources;
 use std::alloc::Global;
 
@@ -37,4 +38,30 @@ pub fn open_reading<S: Sources>(
     // A fault of the opening is kept by the engine.
     let _opened = engine.start(path);
     Ok(Reading::of(engine))
+}
+
+/// Opens the main text at `path` of other sources in the engine of a reading, as `open_reading` does, and asks for no memory
+/// (this project's profile).
+///
+/// The engine must have the limits of the options. Nothing of the output before is seen, wherever it ended.
+///
+/// # Errors
+/// The fault of the first definition that is refused, as of `preprocess`. Nothing is opened then, and the reading is at its end.
+pub fn reopen_reading<S: Sources>(
+    reading: &mut Reading<S>,
+    options: &Options,
+    sources: S,
+    path: &str,
+) -> Result<(), RunFault>
+    requires { reading.old.engine.limits ≡ options.now.limits }
+    ensures opens { Reopens S.Sources options.now sources path.now reading.new result }
+    ensures output { S.has_known_texts sources → ReopensOutput S.Sources (output_of S.Sources options.now sources path.now) reading.new result }
+{
+    let _before = reading.renew(sources, options.origins);
+    if let Err(fault) = define_all_again(reading, &options.defines) {
+        return Err(fault);
+    }
+    // A fault of the opening is kept by the engine.
+    let _opened = reading.start(path);
+    Ok(())
 }
