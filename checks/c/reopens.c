@@ -267,6 +267,30 @@ static void sees_nothing_of_the_text_before(void)
     check(memcmp(name, "m#", 2) == 0, "a name");
 }
 
+/* A line map begins at the first line, wherever the one before ended. */
+static void maps_anew(void)
+{
+    static const struct run run = {"", "a\n`define M 1\nb\nc\n", "", "W", NOTHING, 64, 0, false, false, false, 0, 100};
+    static const char wanted[] = "1\t1\t1\tm\n";
+    static struct told told;
+    rdlpp_handle handle = RDLPP_CLOSED_HANDLE;
+    char out[64], map[2 * RDLPP_MAP_ROOM], name[64], word[64];
+    size_t room, turn;
+    for (room = 1; room < 8; room += 1) {
+        rdlpp_mapped mapped;
+        carry_out(rdlpp_reopen, &run, &told, &handle);
+        rdlpp_read_mapped(&handle, out, room, map, sizeof map, name, sizeof name, word, sizeof word);
+        carry_out(rdlpp_reopen, &run, &told, &handle);
+        for (turn = 0; turn < 2; turn += 1) {
+            mapped = rdlpp_read_mapped(&handle, out, sizeof out, map, sizeof map, name, sizeof name, word, sizeof word);
+            check(mapped.outcome.status == RDLPP_WHOLE, "a mapped read is whole");
+            check(mapped.outcome.length == (turn == 0 ? 7 : 0), "its output");
+            check(mapped.map_length == (turn == 0 ? strlen(wanted) : 0) && memcmp(map, wanted, mapped.map_length) == 0, "its map");
+        }
+    }
+    rdlpp_close(&handle);
+}
+
 int main(void)
 {
     size_t at;
@@ -277,5 +301,6 @@ int main(void)
     }
     follows_each_run();
     sees_nothing_of_the_text_before();
+    maps_anew();
     return failures == 0 ? EXIT_SUCCESS : EXIT_FAILURE;
 }
