@@ -1,16 +1,15 @@
 -- What is opened in the place of another output is what a call asks for.
-use Rattle.std.proofs.Common.{◌≡◌, ◌∙◌, ℕ, List, IfOk, IfSome, Option, None, Some, Result, Ok, Err, ap, refl, subst, sym, string_bytes}
+use Rattle.std.proofs.Common.{◌≡◌, ◌∙◌, ℕ, List, IfOk, IfSome, Option, Result, Ok, Err, ap, refl, subst, sym, string_bytes}
 use Rattle.rdlpp_table.specs.Limits.{limit_fault}
-use Rattle.rdlpp_meaning.specs.Outcome.{report_of}
 use Rattle.rdlpp_source.specs.declared.asked.AskedTexts.{AskedTexts}
 use Rattle.rdlpp_expand.specs.Reading.{ReadingView}
 use Rattle.rdlpp_expand.specs.declared.writing.RunFault.{RunFault}
-use Rattle.rdlpp.specs.Opening.{OpensOutput, Reopens, ReopensOutput}
+use Rattle.rdlpp.specs.Opening.{Reopens, ReopensOutput}
 use Rattle.rdlpp.specs.Preprocess.{given_by, output_of}
 use Rattle.rdlpp.specs.declared.fault.PrepFault.TheVariants.{Run}
-use Rattle.rdlpp_c.specs.Reopening.{IsUnread, TellsOpening, reopened}
+use Rattle.rdlpp_c.specs.Reopening.{IsUnread, TellsOpening}
 use Rattle.rdlpp_c.specs.Request.{Asked}
-use Rattle.rdlpp_c.specs.Streaming.{AreOwned, FaultBuffers, Opens, OpensOwned, OpensStream, opened, owned_sources}
+use Rattle.rdlpp_c.specs.Streaming.{FaultBuffers, Opens, OpensOwned, OpensStream, opened, owned_sources}
 use Rattle.rdlpp_c.specs.declared.asking.Answer.{Answer}
 use Rattle.rdlpp_c.specs.declared.asking.Answer.TheVariants.{Stopped}
 use Rattle.rdlpp_c.specs.declared.opening.Owned.{Owned}
