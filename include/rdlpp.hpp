@@ -207,7 +207,8 @@ public:
      * Opens the main text of another request, as a new stream does, but in the memory of this one where the limits are the same,
      * as rdlpp_reopen does. Nothing of the output before is seen, wherever it ended. A stream that was moved from is open then.
      *
-     * Throws what the constructor throws. The stream isn't open then, and each read throws std::logic_error, until it is opened again.
+     * Throws what the constructor throws. Where the library refused the request, the stream isn't open then, and each read throws
+     * std::logic_error, until it is opened again; where the request's reader or its lists couldn't be copied, it is as before.
      */
     void reopen(const request &given)
     {
