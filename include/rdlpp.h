@@ -3,7 +3,7 @@
  *
  * NAME
  *     rdlpp_standard_limits, rdlpp_standard_request, rdlpp_preprocess,
- *     rdlpp_open, rdlpp_read, rdlpp_read_mapped, rdlpp_position, rdlpp_definitions, rdlpp_notes, rdlpp_close,
+ *     rdlpp_open, rdlpp_reopen, rdlpp_read, rdlpp_read_mapped, rdlpp_position, rdlpp_definitions, rdlpp_notes, rdlpp_close,
  *     rdlpp_give, rdlpp_give_once, rdlpp_give_absent, rdlpp_give_failed,
  *     rdlpp_fault_text, rdlpp_version
  *
@@ -28,9 +28,10 @@
  *     stay as they are.
  *
  * HANDLES
- *     A handle begins closed, as RDLPP_CLOSED_HANDLE makes it. rdlpp_open opens it, and what it then owns
- *     is given back by rdlpp_close, by the next rdlpp_open of it, and by nothing else. A handle that is
- *     closed may be passed to each call: rdlpp_close does nothing, and the others tell so.
+ *     A handle begins closed, as RDLPP_CLOSED_HANDLE makes it. rdlpp_open and rdlpp_reopen open it, and what
+ *     it then owns is given back by rdlpp_close, by the next rdlpp_open of it, by an rdlpp_reopen that needs
+ *     other memory or is refused, and by nothing else. A handle that is closed may be passed to each call:
+ *     rdlpp_close does nothing, rdlpp_open and rdlpp_reopen open it, and the others tell so.
  *     Nobody changes what is in a handle, and of an open one nobody uses a copy: only the object that
  *     was opened is passed on. A handle may be used in any thread, by one call at a time.
  *
@@ -44,7 +45,9 @@
  *     size; the output goes straight to `out`. An open handle holds copies of the arrays that were lent
  *     and of all that it was given, and that same text and those tables. Of what was given by rdlpp_give_once
  *     it holds the texts that are being read, each as often as it is open, and the one that was given last.
- *     rdlpp_read and rdlpp_read_mapped ask for no memory.
+ *     rdlpp_read and rdlpp_read_mapped ask for no memory; rdlpp_reopen of an open handle with the limits by which
+ *     it was opened asks for what it copies of the request and for no more, and holds what the handle held
+ *     of the request before until these copies are made.
  */
 #ifndef RDLPP_H
 #define RDLPP_H
@@ -240,6 +243,21 @@ typedef struct rdlpp_handle {
  * A handle that is open is closed first.
  */
 rdlpp_outcome rdlpp_open(
+    const rdlpp_request *request,
+    char *name, size_t name_length,
+    char *word, size_t word_length,
+    rdlpp_handle *handle);
+
+/*
+ * Opens the main text of a request as rdlpp_open does, with the same answers, but uses the memory of an open handle
+ * again where the request has the limits by which it was opened: all of them, also `output_bytes`. So a loop over
+ * many sources asks once for the tables. Nothing of the output before is seen, wherever it ended: no macro, no fault, no
+ * text that was given, and no path that was asked for.
+ *
+ * A closed handle, and one of other limits, is opened as by rdlpp_open. With each answer but RDLPP_WHOLE the handle is
+ * closed, and what it owned is given back.
+ */
+rdlpp_outcome rdlpp_reopen(
     const rdlpp_request *request,
     char *name, size_t name_length,
     char *word, size_t word_length,

@@ -6,7 +6,16 @@
  *     request.read = [](std::string_view path) -> std::optional<std::string> { .. };
  *     std::string text = rdlpp::preprocess(request);
  *
- * A stream is used by one thread at a time. What goes wrong is thrown: rdlpp::error for a fault of the text,
+ * One source after another is read by one rdlpp::preprocessor, which asks for its tables once:
+ *
+ *     rdlpp::preprocessor preprocessor;
+ *     for (const std::string &path : paths) {
+ *         request.path = path;
+ *         std::string text = preprocessor.preprocess(request);
+ *         ..
+ *     }
+ *
+ * A stream, and so a preprocessor, is used by one thread at a time. What goes wrong is thrown: rdlpp::error for a fault of the text,
  * std::invalid_argument for a request that has a limit out of its range or text that isn't UTF-8, and std::bad_alloc
  * where memory was refused.
  */
@@ -126,7 +135,7 @@ inline void refuse(const rdlpp_outcome &outcome)
     case RDLPP_NO_MEMORY:
         throw std::bad_alloc();
     case RDLPP_CLOSED:
-        throw std::logic_error("the stream was moved from");
+        throw std::logic_error("the stream isn't open");
     default:
         return;
     }
@@ -190,11 +199,31 @@ class stream {
 public:
     /* Opens the main text of a request, all of which is copied. Throws rdlpp::error for a definition that is refused. */
     explicit stream(const request &given)
-        : handle_(new rdlpp_handle(RDLPP_CLOSED_HANDLE)), read_(given.read), reads_again_(given.reads_again)
+    {
+        reopen(given);
+    }
+
+    /*
+     * Opens the main text of another request, as a new stream does, but in the memory of this one where the limits are the same,
+     * as rdlpp_reopen does. Nothing of the output before is seen, wherever it ended. A stream that was moved from is open then.
+     *
+     * Throws what the constructor throws. Where the library refused the request, the stream isn't open then, and each read throws
+     * std::logic_error, until it is opened again; where the request's reader or its lists couldn't be copied, it is as before.
+     */
+    void reopen(const request &given)
     {
         const detail::lent_request lent(given);
+        reader read = given.read;
+        if (handle_ == nullptr) {
+            handle_.reset(new rdlpp_handle(RDLPP_CLOSED_HANDLE));
+        }
+        read_.swap(read);
+        reads_again_ = given.reads_again;
+        wanted_.reset();
+        is_done_ = false;
+        stopped_.reset();
         const rdlpp_outcome outcome =
-            rdlpp_open(&lent.value, name_, sizeof name_, word_, sizeof word_, handle_.get());
+            rdlpp_reopen(&lent.value, name_, sizeof name_, word_, sizeof word_, handle_.get());
         detail::refuse(outcome);
         if (outcome.status == RDLPP_STOPPED) {
             throw error(fault_of(outcome));
@@ -351,7 +380,7 @@ private:
 
     std::unique_ptr<rdlpp_handle, detail::closes> handle_;
     reader read_;
-    bool reads_again_;
+    bool reads_again_ = false;
     std::optional<std::string> wanted_;
     bool is_done_ = false;
     std::optional<rdlpp::fault> stopped_;
@@ -365,25 +394,51 @@ struct result {
     std::optional<rdlpp::fault> stopped;
 };
 
+/*
+ * Preprocesses one main text after another, by one stream that is opened again. It holds the memory of that stream, and what the
+ * last request gave, until it goes. It may be moved, and isn't copied.
+ */
+class preprocessor {
+public:
+    /* Preprocesses the main text of a request, as rdlpp::run does. */
+    result run(const request &given)
+    {
+        if (opened_) {
+            opened_->reopen(given);
+        } else {
+            opened_.emplace(given);
+        }
+        result made;
+        while (opened_->read(made.text)) {
+        }
+        made.stopped = opened_->stopped();
+        return made;
+    }
+
+    /* Preprocesses the main text of a request, as rdlpp::preprocess does. */
+    std::string preprocess(const request &given)
+    {
+        result made = run(given);
+        if (made.stopped) {
+            throw error(std::move(*made.stopped));
+        }
+        return std::move(made.text);
+    }
+
+private:
+    std::optional<stream> opened_;
+};
+
 /* Preprocesses the main text of a request. */
 inline result run(const request &given)
 {
-    result made;
-    stream opened(given);
-    while (opened.read(made.text)) {
-    }
-    made.stopped = opened.stopped();
-    return made;
+    return preprocessor().run(given);
 }
 
 /* Preprocesses the main text of a request. Throws rdlpp::error for a fault, which ended the output. */
 inline std::string preprocess(const request &given)
 {
-    result made = run(given);
-    if (made.stopped) {
-        throw error(std::move(*made.stopped));
-    }
-    return std::move(made.text);
+    return preprocessor().preprocess(given);
 }
 
 } // namespace rdlpp

@@ -98,6 +98,54 @@ static rdlpp_outcome open_twice(char *out, size_t room)
     return outcome;
 }
 
+/* Opens, and then opens again with these limits, where each allocation may be refused, and reads to the end. A refusal
+   leaves the handle closed, with nothing kept. */
+static rdlpp_outcome reopen_by(rdlpp_limits limits, char *out, size_t room)
+{
+    rdlpp_request request = asked();
+    rdlpp_handle handle = RDLPP_CLOSED_HANDLE;
+    const long left = granted;
+    rdlpp_outcome outcome;
+    granted = -1;
+    outcome = rdlpp_open(&request, out, 0, out, 0, &handle);
+    if (outcome.status != RDLPP_WHOLE || rdlpp_read(&handle, out, 1, out, 0, out, 0).length != 1) {
+        outcome.status = RDLPP_CLOSED;
+        return outcome;
+    }
+    out[0] = '#';
+    request.limits = limits;
+    granted = left;
+    outcome = rdlpp_reopen(&request, out, 0, out, 0, &handle);
+    if (outcome.status == RDLPP_WHOLE) {
+        granted = 0;
+        outcome = rdlpp_read(&handle, out, room, out, 0, out, 0);
+    } else if (blocks != 0 || handle.is_open) {
+        fprintf(stderr, "refusals.c: %ld blocks kept behind a refused rdlpp_reopen\n", blocks);
+        outcome.status = RDLPP_CLOSED;
+    }
+    rdlpp_close(&handle);
+    return outcome;
+}
+
+static rdlpp_outcome reopen_same(char *out, size_t room)
+{
+    return reopen_by(rdlpp_standard_limits(), out, room);
+}
+
+static rdlpp_outcome reopen_smaller(char *out, size_t room)
+{
+    rdlpp_limits limits = rdlpp_standard_limits();
+    limits.depth -= 1;
+    return reopen_by(limits, out, room);
+}
+
+static rdlpp_outcome reopen_larger(char *out, size_t room)
+{
+    rdlpp_limits limits = rdlpp_standard_limits();
+    limits.line_bytes += 1;
+    return reopen_by(limits, out, room);
+}
+
 /* A call that gives a text. */
 typedef uint32_t give(rdlpp_handle *, const char *, size_t, const char *, size_t);
 
@@ -204,9 +252,17 @@ static long refuse_each(rdlpp_outcome (*way)(char *, size_t))
     return refused;
 }
 
+/* Opening again by the same limits asks for what is copied of the request alone, which opening by others does beside the rest. */
+static int reopens(void)
+{
+    const long whole = refuse_each(read_all), copies = refuse_each(reopen_same);
+    return whole > 8 && copies > 8 && copies + 8 < whole
+        && refuse_each(reopen_smaller) == whole && refuse_each(reopen_larger) == whole;
+}
+
 int main(void)
 {
     return refuse_each(call) > 8 && refuse_each(read_all) > 8 && refuse_each(pull_all) > 8
-            && refuse_each(pull_once) > 8 && refuse_each(open_twice) > 16 && give_again() > 4
+            && refuse_each(pull_once) > 8 && refuse_each(open_twice) > 16 && give_again() > 4 && reopens()
         ? EXIT_SUCCESS : EXIT_FAILURE;
 }

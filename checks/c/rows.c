@@ -1,5 +1,5 @@
-/* The rows of crates/rdlpp_rows/data, in one call, by reads of one and of seven bytes, and with texts that are
-   asked for, once or at each include; `calls` writes rows.inc. */
+/* The rows of crates/rdlpp_rows/data, in one call, by reads of one and of seven bytes, with texts that are asked for, once or
+   at each include, and by a handle that another row was read by, to its end or halfway; `calls` writes rows.inc. */
 #include "row.h"
 
 #include <stdio.h>
@@ -63,36 +63,55 @@ static void give(gives *by, const struct row *row, rdlpp_handle *handle, const c
     check(status == RDLPP_WHOLE, row, "what a give answers");
 }
 
-/* Reads so many bytes at a time; where there is a call that gives texts, each is given by it when it is asked for. */
-static void reads(const struct row *row, char *out, size_t room, gives *by, bool pieces)
+/* Opens a handle, again where it is open, and reads so many bytes at a time; where there is a call that gives texts, each is given
+   by it when it is asked for. */
+static void reads_by(rdlpp_handle *handle, const struct row *row, char *out, size_t room, gives *by, bool pieces)
 {
     char name[NAME_ROOM], word[WORD_ROOM];
     rdlpp_request request = asked(row);
-    rdlpp_handle handle = RDLPP_CLOSED_HANDLE;
     size_t length = 0;
     rdlpp_outcome outcome;
     request.asks = by != NULL;
     request.pieces = pieces;
     request.texts_length = request.asks ? 0 : request.texts_length;
-    outcome = rdlpp_open(&request, name, sizeof name, word, sizeof word, &handle);
+    outcome = (handle->is_open ? rdlpp_reopen : rdlpp_open)(&request, name, sizeof name, word, sizeof word, handle);
     if (outcome.status == RDLPP_WHOLE) {
         do {
             const size_t left = row->output_length + room - length;
             const size_t most = left < room ? left : room;
-            outcome = rdlpp_read(&handle, out + length, most, name, sizeof name, word, sizeof word);
+            outcome = rdlpp_read(handle, out + length, most, name, sizeof name, word, sizeof word);
             length += outcome.length;
             if (outcome.status == RDLPP_WANTED) {
-                give(by, row, &handle, name, outcome.name_length);
+                give(by, row, handle, name, outcome.name_length);
             }
         } while ((outcome.status == RDLPP_MORE || outcome.status == RDLPP_WANTED) && length <= row->output_length);
     }
     check(ends(row, &outcome, name, word), row, "how reads end");
     check(length == row->output_length && memcmp(out, row->output, row->output_length) == 0, row, "what reads give");
+}
+
+static void reads(const struct row *row, char *out, size_t room, gives *by, bool pieces)
+{
+    rdlpp_handle handle = RDLPP_CLOSED_HANDLE;
+    reads_by(&handle, row, out, room, by, pieces);
     rdlpp_close(&handle);
+}
+
+/* Opens a handle that another row was read by, and reads half of the output. */
+static void begins(rdlpp_handle *handle, const struct row *row, char *out)
+{
+    char name[NAME_ROOM], word[WORD_ROOM];
+    const rdlpp_request request = asked(row);
+    const size_t half = row->output_length / 2;
+    const rdlpp_outcome outcome = rdlpp_reopen(&request, name, sizeof name, word, sizeof word, handle);
+    if (outcome.status == RDLPP_WHOLE) {
+        rdlpp_read(handle, out, half, name, sizeof name, word, sizeof word);
+    }
 }
 
 int main(void)
 {
+    rdlpp_handle whole = RDLPP_CLOSED_HANDLE, half = RDLPP_CLOSED_HANDLE;
     size_t at;
     for (at = 0; at < sizeof rows / sizeof rows[0]; at += 1) {
         const struct row *row = &rows[at];
@@ -105,7 +124,13 @@ int main(void)
         reads(row, out, 7, NULL, true);
         reads(row, out, 7, rdlpp_give, false);
         reads(row, out, 7, rdlpp_give_once, false);
+        reads_by(&whole, row, out, 7, NULL, true);
+        reads_by(&whole, row, out, 7, rdlpp_give_once, false);
+        reads_by(&half, row, out, 7, NULL, false);
+        begins(&half, row, out);
         free(out);
     }
+    rdlpp_close(&whole);
+    rdlpp_close(&half);
     return failures == 0 ? 0 : 1;
 }

@@ -276,6 +276,67 @@ void tells_places()
     check(map == "1\t1\t1\tm\n5\t4\t1\tm\n", "the line map");
 }
 
+// One stream for many outputs: behind a whole one, a fault, a part, refusals and a source that is asked for, none is seen.
+void opens_again()
+{
+    rdlpp::preprocessor preprocessor;
+    for (int turn = 0; turn < 3; ++turn) {
+        check(preprocessor.preprocess(asked("`define M 1\n`M`W\n")) == "\n18\n", "a whole output");
+        const rdlpp::result made = preprocessor.run(asked("a\n`M"));
+        check(made.text == "a\n" && made.stopped && made.stopped->word == "M", "a macro of the text before");
+        rdlpp::request refused = asked("a");
+        refused.definitions = {{"1x", ""}};
+        try {
+            preprocessor.run(refused);
+            check(false, "a refused definition is thrown");
+        } catch (const rdlpp::error &error) {
+            check(error.fault().kind == RDLPP_FAULT_NAME_EXPECTED && error.fault().name == "-D", "a refused definition");
+        }
+        refused = asked("a");
+        refused.limits.depth = 0;
+        try {
+            preprocessor.preprocess(refused);
+            check(false, "a limit out of its range is thrown");
+        } catch (const std::invalid_argument &) {
+        }
+    }
+}
+
+// A stream that is opened again while a source is asked for, after a refusal, and after it was moved from.
+void reopens_streams()
+{
+    rdlpp::request asking;
+    asking.path = "top";
+    asking.read = [](std::string_view) -> std::optional<std::string> { throw std::runtime_error("never"); };
+    rdlpp::stream stream(asking);
+    std::string out;
+    try {
+        stream.read(out); // keeps what is asked for
+        check(false, "what the callable throws");
+    } catch (const std::runtime_error &) {
+    }
+    stream.reopen(asked("abc"));
+    check(stream.read(out) && out == "abc" && !stream.read(out) && stream.is_done(), "nothing is asked for any more");
+    rdlpp::request refused = asked("a");
+    refused.path = "\xff";
+    try {
+        stream.reopen(refused);
+        check(false, "a path that isn't UTF-8");
+    } catch (const std::invalid_argument &) {
+    }
+    check(!stream.is_done() && !stream.stopped(), "nothing is left of the output before");
+    try {
+        stream.read(out);
+        check(false, "a stream that isn't open");
+    } catch (const std::logic_error &) {
+    }
+    stream.reopen(asked("`Q"));
+    check(!stream.read(out) && stream.stopped() && out == "abc", "a fault behind a refusal");
+    rdlpp::stream moved(std::move(stream));
+    stream.reopen(asked("xy"));
+    check(stream.read(out) && out == "abcxy" && moved.stopped(), "a stream that was moved from is opened");
+}
+
 } // namespace
 
 int main()
@@ -290,5 +351,7 @@ int main()
     moves_a_stream_that_asks();
     reads_files();
     tells_places();
+    opens_again();
+    reopens_streams();
     return good ? EXIT_SUCCESS : EXIT_FAILURE;
 }

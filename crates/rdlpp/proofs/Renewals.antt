@@ -1,18 +1,18 @@
 -- An engine that is renewed does what options ask for.
-use Rattle.std.proofs.Common.{◌≡◌, ◌∙◌, ℕ, Bool, List, [], Option, None, Some, Ok, ap, subst, sym}
-use Rattle.rdlpp_state.specs.Engine.{EngineView}
-use Rattle.rdlpp_table.specs.declared.limits.Limits.{Limits}
-use Rattle.rdlpp_meaning.specs.Outcome.{Report}
+use Rattle.std.proofs.Common.{◌≡◌, ◌∙◌, ℕ, List, [], Option, Some, Ok, ap, refl, subst, sym}
 use Rattle.rdlpp_source.specs.declared.sources.Sources.{Ghosts}
+use Rattle.rdlpp_meaning.specs.Outcome.{Report}
+use Rattle.rdlpp_state.specs.Engine.{EngineView}
 use Rattle.rdlpp_state.specs.Opening.{Starts, fresh_engine}
-use Rattle.rdlpp_state.specs.declared.phase.Phase.TheVariants.{Fresh}
+use Rattle.rdlpp_state.specs.declared.phase.Phase.TheVariants.{Closed, Fresh}
 use Rattle.rdlpp_expand.specs.Reading.{ReadingView, unstarted}
-use Rattle.rdlpp.specs.Definitions.{GivenFault, Pair, Taken, given, given_in, with_macros}
-use Rattle.rdlpp.specs.Opening.{EndsUnopened, OpensGiven}
+use Rattle.rdlpp.specs.Definitions.{GivenFault, Taken, given_in, with_macros}
+use Rattle.rdlpp.specs.Opening.{OpensGiven}
+use Rattle.rdlpp.specs.Preprocess.{given_by}
 use Rattle.rdlpp.specs.Renewing.{HasLimitsOf}
 use Rattle.rdlpp.specs.Running.{MakesEngine}
 use Rattle.rdlpp.specs.declared.options.Options.{Options}
-use Rattle.rdlpp.proofs.Runs.{fresh_of}
+use Rattle.rdlpp.proofs.Runs.{declines, fresh_of, opens_given}
 
 -- an engine of the limits of options that is renewed is as one that was made
 pub renewed_makes : {S R : Type 0} (options : Options) (sources : S) (kept : Option (EngineView S R)) (old new : EngineView S R) → HasLimitsOf options kept → kept ≡ Some old
@@ -28,41 +28,43 @@ pub made_keeps : {S R : Type 0} (options : Options) (sources : S) (old new : Eng
 unfolding fresh_engine
 made_keeps options sources old new made same = (made.0, same ∙ ap (λ e. e.limits) made.1)
 
--- What opening another main text in a reading says of the output.
+-- A reading whose engine is renewed for another main text.
 
--- a reading that was renewed was given definitions and started
-pub reopens_given : {S R : Type 0} (g : Ghosts S R) (limits : Limits) (defines : List Pair) (origins : Bool) (sources : S)
-    (path : List ℕ) (renewed given_to started : ReadingView S R) (opening : Option Report)
-    → renewed ≡ unstarted (fresh_engine limits sources origins)
-    → given_in renewed.engine defines ≡ Taken given_to.engine.table.macros → given_to.engine ≡ with_macros renewed.engine given_to.engine.table.macros
+-- it is renewed by the options, where its engine has their limits
+pub renewed_by : {S R : Type 0} (options : Options) (sources : S) (old : EngineView S R) (renewed : ReadingView S R) → old.limits ≡ options.limits
+    → renewed ≡ unstarted (fresh_engine old.limits sources options.origins) → renewed ≡ unstarted (fresh_engine options.limits sources options.origins)
+renewed_by options sources old renewed same is = is ∙ ap (λ l. unstarted (fresh_engine l sources options.origins)) same
+
+-- no main text is open in it
+pub renewed_closed : {S R : Type 0} (fresh : EngineView S R) (renewed : ReadingView S R) → renewed ≡ unstarted fresh → renewed.engine.phase ≡ Closed
+unfolding unstarted
+renewed_closed fresh renewed is = ap (λ r. r.engine.phase) is
+
+-- definitions come in it to what they come to in a fresh engine
+given_again : {S R : Type 0} (options : Options) (fresh : EngineView S R) (renewed : ReadingView S R) → renewed ≡ unstarted fresh
+    → given_in fresh options.defines.items ≡ given_in renewed.engine options.defines.items
+unfolding unstarted
+given_again options fresh renewed is = ap (λ r. given_in r.engine options.defines.items) (sym is)
+
+-- a definition was refused in it
+pub redeclines : {S R : Type 0} (options : Options) (sources : S) (renewed : ReadingView S R) (f : Report)
+    → renewed ≡ unstarted (fresh_engine options.limits sources options.origins)
+    → given_in renewed.engine options.defines.items ≡ GivenFault f → given_by options ≡ GivenFault f
+redeclines {S} {R} options sources renewed f is d =
+    let fresh : EngineView S R = fresh_engine options.limits sources options.origins in
+    declines options.limits options.defines.items options.origins sources fresh f refl (given_again options fresh renewed is ∙ d)
+
+-- it was given definitions and started
+pub reopens_given : {S R : Type 0} (g : Ghosts S R) (options : Options) (sources : S) (path : List ℕ) (renewed given_to started : ReadingView S R) (opening : Option Report)
+    → renewed ≡ unstarted (fresh_engine options.limits sources options.origins)
+    → given_in renewed.engine options.defines.items ≡ Taken given_to.engine.table.macros → given_to.engine ≡ with_macros renewed.engine given_to.engine.table.macros
     → Starts g (record given_to.engine { phase = Fresh }) started.engine path opening → started.rest ≡ []
-    → OpensGiven g limits (given limits.definition_bytes limits.definitions 0 [] defines) origins sources path started
+    → OpensGiven g options.limits (given_by options) options.origins sources path started
 unfolding fresh_engine unstarted
-reopens_given {S} {R} g limits defines origins sources path renewed given_to started opening e d m s r =
+reopens_given {S} {R} g options sources path renewed given_to started opening is d m s whole =
+    let fresh : EngineView S R = fresh_engine options.limits sources options.origins in
     let macros = given_to.engine.table.macros in
-    let is : given_to.engine ≡ with_macros (unstarted (fresh_engine {R = R} limits sources origins)).engine macros = m ∙ ap (λ (x : ReadingView S R). with_macros x.engine macros) e in
-    subst (λ w. OpensGiven g limits w origins sources path started) (sym (ap (λ (x : ReadingView S R). given_in x.engine defines) (sym e) ∙ d))
-    record {
-      opening = opening;
-      starts = subst (λ (x : EngineView S R). Starts g (record x { phase = Fresh }) started.engine path opening) is s;
-      whole = r;
-    }
-
--- a definition was refused in one
-pub reopens_refused : {S R : Type 0} (limits : Limits) (defines : List Pair) (origins : Bool) (sources : S) (renewed refused : ReadingView S R) (f : Report)
-    → renewed ≡ unstarted (fresh_engine limits sources origins) → given_in renewed.engine defines ≡ GivenFault f
-    → refused.engine ≡ with_macros renewed.engine refused.engine.table.macros → refused.rest ≡ []
-    → (given limits.definition_bytes limits.definitions 0 [] defines ≡ GivenFault f) × EndsUnopened limits sources refused
-unfolding fresh_engine unstarted
-reopens_refused {S} {R} limits defines origins sources renewed refused f e d m r =
-    let macros = refused.engine.table.macros in
-    let is : refused.engine ≡ with_macros (unstarted (fresh_engine {R = R} limits sources origins)).engine macros = m ∙ ap (λ (x : ReadingView S R). with_macros x.engine macros) e in (
-      ap (λ (x : ReadingView S R). given_in x.engine defines) (sym e) ∙ d,
-      record {
-        limits_are = ap (λ (x : EngineView S R). x.limits) is;
-        sources_are = ap (λ (x : EngineView S R). x.sources) is;
-        closed = ap (λ (x : EngineView S R). x.phase) is;
-        free = ap (λ (x : EngineView S R). x.kept) is;
-        whole = r;
-      },
-    )
+    opens_given g options.limits options.defines.items options.origins sources path fresh (record given_to.engine { phase = Fresh }) started.engine opening started
+    refl (given_again options fresh renewed is ∙ d)
+    (ap {A = EngineView S R} {B = EngineView S R} (λ e. record e { phase = Fresh }) (m ∙ ap (λ (r : ReadingView S R). with_macros r.engine macros) is))
+    s (ap {A = List ℕ} {B = ReadingView S R} (λ xs. record { engine = started.engine; rest = xs }) whole)

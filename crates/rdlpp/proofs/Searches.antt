@@ -1,5 +1,5 @@
 -- A search goes over its candidates in order.
-use Rattle.std.proofs.Common.{◌≡◌, ℕ, zero, suc, ◌<◌, ◌≤◌, true, false, List, [], ◌∷◌, length, map, drop, None, Some, Result, Ok, Err, slice_get, inl, inr, sym, ap, subst, ◌∙◌, arith, length-drop}
+use Rattle.std.proofs.Common.{◌≡◌, ℕ, zero, suc, ◌≤◌, true, false, List, [], ◌∷◌, length, map, drop, None, Some, Result, Ok, Err, slice_get, inl, inr, sym, ap, subst, ◌∙◌, arith, length-drop}
 use Rattle.std.proofs.lemmas.Bool.{cases_lt}
 use Rattle.rdlpp_source.specs.Search.{joined_path}
 use Rattle.rdlpp_source.specs.declared.sources.Found.{Found}

@@ -10,9 +10,8 @@ use Rattle.rdlpp_state.specs.Opening.{Starts, is_device_fault, is_memory_fault}
 use Rattle.rdlpp_expand.specs.Reading.{ReadingView, reading_left}
 use Rattle.rdlpp.specs.Definitions.{Given, Taken, GivenFault}
 use Rattle.rdlpp.specs.Preprocess.{engine_with, given_by}
-use Rattle.rdlpp_state.specs.declared.phase.Phase.TheVariants.{Closed}
-use Rattle.rdlpp_expand.specs.declared.writing.RunFault.{RunFault}
 use Rattle.rdlpp.specs.declared.options.Options.{Options}
+use Rattle.rdlpp_expand.specs.declared.writing.RunFault.{RunFault}
 use Rattle.rdlpp.specs.declared.fault.PrepFault.{PrepFault}
 use Rattle.rdlpp.specs.declared.fault.PrepFault.TheVariants.{BadLimits, NoMemory, Run}
 
@@ -40,21 +39,13 @@ abbrev pub OpensOutput : {S R : Type 0} → Ghosts S R → Outcome → Result (R
 OpensOutput g output (Ok reading) = is_device_fault reading.engine.kept ≡ false → is_memory_fault reading.engine.kept ≡ false → reading_left g reading ≡ output
 OpensOutput g output (Err fault) = ⊤
 
--- a reading at the end of an output without bytes: its engine has these limits and sources, and keeps no fault (source: this project's profile)
-pub record EndsUnopened {S R : Type 0} (limits : Limits) (sources : S) (reading : ReadingView S R) : Type 0 where
-  pub limits_are : reading.engine.limits ≡ limits
-  pub sources_are : reading.engine.sources ≡ sources
-  pub closed : reading.engine.phase ≡ Closed
-  pub free : reading.engine.kept ≡ None
-  pub whole : reading.rest ≡ []
+-- the answer of an opening in an engine that has the limits of the options: the reading of it, fresh again with the definitions, that was
+-- started; or the first definition that is refused (source: this project's profile)
+abbrev pub Reopens : {S R : Type 0} → Ghosts S R → Options → S → List ℕ → ReadingView S R → Result (Unit {0}) RunFault → Type 0
+Reopens g options sources path reading (Ok done) = OpensGiven g options.limits (given_by options) options.origins sources path reading
+Reopens g options sources path reading (Err f) = (given_by options ≡ GivenFault (report_of f.fault)) × (f.written ≡ 0)
 
--- the answer of an opening in a reading that was there: the sources that it had, where it is then as one of a fresh engine with the definitions that was started; or the first definition
--- that is refused (source: this project's profile)
-abbrev pub Reopens : {S R : Type 0} → Ghosts S R → Options → S → List ℕ → ReadingView S R → ReadingView S R → Result S RunFault → Type 0
-Reopens g options sources path old new (Ok before) = OpensGiven g options.limits (given_by options) options.origins sources path new × (before ≡ old.engine.sources)
-Reopens g options sources path old new (Err f) = (given_by options ≡ GivenFault (report_of f.fault)) × (f.written ≡ 0) × EndsUnopened options.limits sources new
-
--- what remains of it is the output, unless a device failed or memory was refused where it was opened (source: this project's profile)
-abbrev pub ReopensOutput : {S R : Type 0} → Ghosts S R → Outcome → ReadingView S R → Result S RunFault → Type 0
-ReopensOutput g output new (Ok before) = is_device_fault new.engine.kept ≡ false → is_memory_fault new.engine.kept ≡ false → reading_left g new ≡ output
-ReopensOutput g output new (Err f) = ⊤
+-- what remains of such a reading is the output, unless a device failed or memory was refused where it was opened (source: this project's profile)
+abbrev pub ReopensOutput : {S R : Type 0} → Ghosts S R → Outcome → ReadingView S R → Result (Unit {0}) RunFault → Type 0
+ReopensOutput g output reading (Ok done) = OpensOutput g output (Ok reading)
+ReopensOutput g output reading (Err f) = ⊤

@@ -1,9 +1,9 @@
 // Definitions from outside.
-ghost use Rattle.std.specs.Prelude.{◌≡◌, []};
+ghost use Rattle.std.specs.Prelude.{◌≡◌};
 ghost use Rattle.rdlpp_meaning.specs.Outcome.{report_of};
 ghost use Rattle.rdlpp_state.specs.Engine.{EngineView};
 ghost use Rattle.rdlpp_state.specs.declared.phase.Phase.TheVariants as phase;
-ghost use Rattle.rdlpp.specs.Definitions.{AreGiven, refused_definition, with_macros};
+ghost use Rattle.rdlpp.specs.Definitions.{AreGiven, refused_definition};
 
 use arrayvec::ArrayString;
 use rdlpp_expand::{Engine, Fault, Reading, RunFault, fault_kind};
@@ -30,18 +30,16 @@ pub(crate) fn define_all<S: Sources>(
     Ok(())
 }
 
-/// Defines macros in the engine of a reading whose main text has ended, in order.
+/// Defines macros in a reading that was renewed, in order, as `define_all` does in an engine.
 ///
 /// # Errors
 /// As of `define_all`.
-pub(crate) fn define_again<S: Sources>(
+pub(crate) fn define_all_again<S: Sources>(
     reading: &mut Reading<S>,
     defines: &[(String, String)],
 ) -> Result<(), RunFault>
     requires { reading.old.engine.phase ≡ phase.Closed }
-    ensures given { AreGiven reading.old.engine reading.new.engine defines.now result }
-    ensures only { reading.new.engine ≡ with_macros reading.old.engine reading.new.engine.table.macros }
-    ensures rest { reading.old.rest ≡ [] → reading.new.rest ≡ [] }
+    ensures { AreGiven reading.old.engine reading.new.engine defines.now result }
 {
     for (index, (name, text)) in defines.iter().enumerate() {
         if let Err(fault) = reading.define(name.as_bytes(), text.as_bytes()) {

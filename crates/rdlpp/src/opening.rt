@@ -3,7 +3,7 @@ ghost use Rattle.std.specs.Prelude.{◌≡◌};
 ghost use Rattle.rdlpp.specs.Opening.{Opens, OpensOutput, Reopens, ReopensOutput};
 ghost use Rattle.rdlpp.specs.Preprocess.{output_of};
 
-use crate::defining::{define_again, define_all};
+use crate::defining::{define_all, define_all_again};
 use crate::{Options, PrepFault};
 use rdlpp_expand::{Engine, NewFault, Reading, RunFault};
 use rdlpp_source::Sources;
@@ -40,29 +40,28 @@ pub fn open_reading<S: Sources>(
     Ok(Reading::of(engine))
 }
 
-/// Opens the main text at `path` of other sources in a reading, as `open_reading` does, in the engine that it has, which is renewed.
-/// The sources that it had are answered.
+/// Opens the main text at `path` of other sources in the engine of a reading, as `open_reading` does, and asks for no memory
+/// (this project's profile).
 ///
-/// Its limits must be those of the options. A fault of the opening is kept, and the first read answers it.
+/// The engine must have the limits of the options. Nothing of the output before is seen, wherever it ended.
 ///
 /// # Errors
-/// The fault of the first definition that is refused, as of `preprocess`. Nothing is opened then: the reading stands at the end of
-/// an output without bytes, over the new sources. Those that it had are dropped.
+/// The fault of the first definition that is refused, as of `preprocess`. Nothing is opened then, and the reading is at its end.
 pub fn reopen_reading<S: Sources>(
     reading: &mut Reading<S>,
     options: &Options,
     sources: S,
     path: &str,
-) -> Result<S, RunFault>
+) -> Result<(), RunFault>
     requires { reading.old.engine.limits ≡ options.now.limits }
-    ensures opens { Reopens S.Sources options.now sources path.now reading.old reading.new result }
+    ensures opens { Reopens S.Sources options.now sources path.now reading.new result }
     ensures output { S.has_known_texts sources → ReopensOutput S.Sources (output_of S.Sources options.now sources path.now) reading.new result }
 {
-    let before = reading.renew(sources, options.origins);
-    if let Err(fault) = define_again(reading, &options.defines) {
+    let _before = reading.renew(sources, options.origins);
+    if let Err(fault) = define_all_again(reading, &options.defines) {
         return Err(fault);
     }
     // A fault of the opening is kept by the engine.
     let _opened = reading.start(path);
-    Ok(before)
+    Ok(())
 }

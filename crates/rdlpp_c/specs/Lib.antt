@@ -9,6 +9,7 @@ pub mod Knowing
 pub mod Digest
 pub mod Once
 pub mod Streaming
+pub mod Reopening
 pub mod Giving
 pub mod Placing
 pub mod Reporting

@@ -32,5 +32,5 @@ pub use placing::rdlpp_position;
 pub use reporting::{rdlpp_definitions, rdlpp_notes};
 pub use slot::Slot;
 pub use stream::Stream;
-pub use streaming::{rdlpp_close, rdlpp_open, rdlpp_read};
+pub use streaming::{rdlpp_close, rdlpp_open, rdlpp_read, rdlpp_reopen};
 pub use telling::Outcome;

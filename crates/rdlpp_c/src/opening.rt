@@ -1,9 +1,12 @@
 // How an output is opened: the lists that a call asks for, as sources that own their texts.
-ghost use Rattle.std.specs.Prelude.{◌≡◌, IsUtf8, map, MatchResult};
+ghost use Rattle.std.specs.Prelude.{◌≡◌, Err, IfOk, IfSome, IsUtf8, None, OnOk, map, MatchResult};
 ghost use Rattle.std.specs.List.{All};
+ghost use Rattle.std.specs.Option.{option_map};
 ghost use Rattle.std.specs.String.{string_bytes};
+ghost use Rattle.rdlpp_table.specs.Limits.{limit_fault};
 ghost use Rattle.rdlpp_c.specs.Request.{AreUtf8, definition_given, requested};
-ghost use Rattle.rdlpp_c.specs.Streaming.{AreOwned, OpensOwned, OpensStream, boxed_answer, refused_answer};
+ghost use Rattle.rdlpp_c.specs.Reopening.{IsUnread, reopened};
+ghost use Rattle.rdlpp_c.specs.Streaming.{AreOwned, OpensOwned, OpensStream, boxed, boxed_answer, refused_answer};
 ghost use Rattle.rdlpp_c.specs.declared.asking.Refusal.TheVariants.{BadText, NoMemory};
 
 use crate::arrays::{Folder, Request, limits_of};
@@ -11,7 +14,7 @@ use crate::asking::{Answer, Refusal, definitions_of};
 use crate::giving::owned_path;
 use crate::knowing::asked_texts;
 use crate::stream::Stream;
-use rdlpp::{Options, PrepFault, open_reading};
+use rdlpp::{Limits, Options, PrepFault, RunFault, open_reading, reopen_reading};
 use rdlpp_source::AskedTexts;
 use std::alloc::Global;
 
@@ -79,24 +82,89 @@ pub(crate) fn refused_answer(fault: PrepFault) -> Answer
     }
 }
 
-// Opens what is asked for.
-pub(crate) fn open_stream(alloc: Global, request: &Request<'_>) -> Result<Box<Stream>, Answer>
-    ensures { OpensStream (requested request.now) (boxed_answer result) }
+// What a request asks for, with texts of its own, where its limits are in their ranges.
+fn checked_of(alloc: Global, request: &Request<'_>) -> Result<Owned, Answer>
+    ensures { MatchResult result (λ owned. AreOwned (requested request.now) owned × (limit_fault (requested request.now).limits ≡ None))
+        (λ answer. OpensStream (requested request.now) (Err answer)) }
 {
     if let Err(limit) = limits_of(&request.limits).check() {
         return Err(Answer::BadLimit(limit));
     }
-    let owned = match owned_of(alloc, request) {
-        Ok(owned) => owned,
-        Err(Refusal::BadText) => return Err(Answer::BadText),
-        Err(Refusal::NoMemory) => return Err(Answer::NoMemory),
+    match owned_of(alloc, request) {
+        Ok(owned) => Ok(owned),
+        Err(Refusal::BadText) => Err(Answer::BadText),
+        Err(Refusal::NoMemory) => Err(Answer::NoMemory),
+    }
+}
+
+// Opens what is asked for.
+pub(crate) fn open_stream(alloc: Global, request: &Request<'_>) -> Result<Box<Stream>, Answer>
+    ensures opens { OpensStream (requested request.now) (boxed_answer result) }
+    ensures unread { IfOk (boxed_answer result) IsUnread }
+{
+    match checked_of(alloc, request) {
+        Ok(owned) => stream_of(alloc, owned),
+        Err(answer) => Err(answer),
+    }
+}
+
+// Opens what is asked for in the place of what was open before, which is closed first where it has other limits.
+pub(crate) fn reopen_stream(
+    alloc: Global,
+    request: &Request<'_>,
+    before: Option<Box<Stream>>,
+) -> Result<Box<Stream>, Answer>
+    ensures opens { OpensStream (requested request.now) (boxed_answer result) }
+    ensures unread { IfOk (boxed_answer result) IsUnread }
+{
+    let Some(mut stream) = with_limits(before, &limits_of(&request.limits)) else {
+        return open_stream(alloc, request);
     };
-    stream_of(alloc, owned)
+    let owned = match checked_of(alloc, request) {
+        Ok(owned) => owned,
+        Err(answer) => return Err(answer),
+    };
+    match reopen_owned(alloc, &mut stream, owned) {
+        Ok(()) => Ok(stream),
+        Err(fault) => Err(Answer::Stopped(fault)),
+    }
+}
+
+// What was open before, where it has these limits; else it is closed.
+fn with_limits(before: Option<Box<Stream>>, limits: &Limits) -> Option<Box<Stream>>
+    ensures { IfSome (option_map boxed result) (λ s. s.reading.engine.limits ≡ limits.now) }
+{
+    let stream = before?;
+    if stream.has_limits(limits) {
+        Some(stream)
+    } else {
+        None
+    }
+}
+
+// Opens an output over what was made of a request, in the engine of another output that has the same limits.
+fn reopen_owned(alloc: Global, stream: &mut Stream, owned: Owned) -> Result<(), RunFault>
+    requires { stream.old.reading.engine.limits ≡ owned.options.limits }
+    ensures opens { OpensOwned owned (reopened result stream.new) }
+    ensures unread { OnOk result (IsUnread stream.new) }
+{
+    let Owned {
+        sources,
+        options,
+        path,
+        pieces,
+    } = owned;
+    if let Err(fault) = reopen_reading(&mut stream.reading, &options, sources, path.as_str()) {
+        return Err(fault);
+    }
+    stream.begin(alloc, path, pieces);
+    Ok(())
 }
 
 // Opens an output over what was made of a request.
 fn stream_of(alloc: Global, owned: Owned) -> Result<Box<Stream>, Answer>
-    ensures { OpensOwned owned (boxed_answer result) }
+    ensures opens { OpensOwned owned (boxed_answer result) }
+    ensures unread { IfOk (boxed_answer result) IsUnread }
 {
     let Owned {
         sources,

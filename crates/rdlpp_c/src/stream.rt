@@ -1,5 +1,5 @@
 // What a handle owns, and how a read of it is told.
-ghost use Rattle.std.specs.Prelude.{◌≡◌, ◌≤◌, ◌==◌, None, Some, length};
+ghost use Rattle.std.specs.Prelude.{◌≡◌, ◌≤◌, ◌==◌, None, Some, true, length};
 ghost use Rattle.std.specs.List.{count_by};
 ghost use Rattle.std.specs.Option.{option_map};
 ghost use Rattle.rdlpp_meaning.specs.Outcome.{report_of};
@@ -9,12 +9,13 @@ ghost use Rattle.rdlpp_state.specs.Positions.{position_of};
 ghost use Rattle.rdlpp_expand.specs.Reading.{ended_with};
 ghost use Rattle.rdlpp_c.specs.Buffers.{overwritten};
 ghost use Rattle.rdlpp_c.specs.Placing.{part_position, stream_place};
+ghost use Rattle.rdlpp_c.specs.Reopening.{IsUnread, no_part};
 ghost use Rattle.rdlpp_c.specs.Streaming.{IsQuiet, ReadsBytes, ReadsPiece, ReadsStream, SearchesAgain, StaysQuiet, TakesUp, TellsRead, fault_name, fault_word, read_numbers, read_wanted, stream_fault, told_numbers, wanted_by};
 
 use crate::once::Once;
 use crate::telling::{MORE, Outcome, STOPPED, WANTED, WHOLE, numbered, tell_text};
 use arrayvec::ArrayString;
-use rdlpp::{Fault, FaultKind, ReadEnd, ReadPart, Reading};
+use rdlpp::{Fault, FaultKind, Limits, ReadEnd, ReadPart, Reading};
 use rdlpp_expand::{LineStep, Position, READ_ALLOWANCE};
 use rdlpp_reports::MappedLines;
 use rdlpp_scan::line_ends_in;
@@ -50,6 +51,19 @@ pub(crate) struct Part {
     is_empty: bool,
 }
 
+impl Part {
+    // What is given before the first read.
+    fn none() -> Part
+        ensures { result ≡ no_part }
+    {
+        Part {
+            lines_before: 0,
+            lines: 0,
+            is_empty: true,
+        }
+    }
+}
+
 impl Stream {
     // An output of which nothing was read.
     pub(crate) fn of(
@@ -61,6 +75,7 @@ impl Stream {
         ensures reading { result.reading ≡ reading }
         ensures path { result.path ≡ path }
         ensures pieces { result.pieces ≡ pieces }
+        ensures unread { IsUnread result }
     {
         Stream {
             reading,
@@ -68,13 +83,31 @@ impl Stream {
             once: Once::empty(alloc),
             changed: None,
             pieces,
-            part: Part {
-                lines_before: 0,
-                lines: 0,
-                is_empty: true,
-            },
+            part: Part::none(),
             lines: MappedLines::new(),
         }
+    }
+
+    // Is an output of which nothing was read, of another main text that its reading has opened.
+    pub(crate) fn begin(&mut self, alloc: Global, path: String, pieces: bool)
+        ensures reading { self.new.reading ≡ self.old.reading }
+        ensures path { self.new.path ≡ path }
+        ensures pieces { self.new.pieces ≡ pieces }
+        ensures unread { IsUnread self.new }
+    {
+        self.path = path;
+        self.once = Once::empty(alloc);
+        self.changed = None;
+        self.pieces = pieces;
+        self.part = Part::none();
+        self.lines = MappedLines::new();
+    }
+
+    // Whether it was opened by these limits.
+    pub(crate) fn has_limits(&self, limits: &Limits) -> bool
+        ensures { result ≡ true → self.now.reading.engine.limits ≡ limits.now }
+    {
+        *self.reading.engine().limits() == *limits
     }
 
     // Searches again for what was asked for.

@@ -1,12 +1,14 @@
 // The calls that a program in C makes to read an output piece by piece.
-ghost use Rattle.std.specs.Prelude.{◌≡◌, None};
+ghost use Rattle.std.specs.Prelude.{◌≡◌, IfSome, None};
 ghost use Rattle.rdlpp_c.specs.Request.{requested};
-ghost use Rattle.rdlpp_c.specs.Streaming.{Opens, Reads, ReadsQuietly};
+ghost use Rattle.rdlpp_c.specs.Reopening.{IsUnread, TellsOpening};
+ghost use Rattle.rdlpp_c.specs.Streaming.{Opens, Reads, ReadsQuietly, boxed_answer};
 
 use crate::arrays::Request;
+use crate::asking::Answer;
 use crate::handle::{Handle, put, take};
-use crate::opening::open_stream;
-use crate::stream::read_stream;
+use crate::opening::{open_stream, reopen_stream};
+use crate::stream::{Stream, read_stream};
 use crate::telling::{CLOSED, Outcome, WHOLE, numbered, outcome_of, tell_fault};
 use std::alloc::Global;
 
@@ -29,7 +31,46 @@ pub extern "C" fn rdlpp_open(
         (record { name = name.old; word = word.old }) (record { name = name.new; word = word.new }) handle.new.slot.value result }
 {
     let _before = take(alloc, handle);
-    match open_stream(alloc, request) {
+    let opened = open_stream(alloc, request);
+    tell_opening(opened, name, word, handle)
+}
+
+/// Opens the main text of a request as `rdlpp_open` does, with the same answers, but in the engine of an open handle where the
+/// limits are those by which it was opened (this project's profile).
+///
+/// No memory is asked for then but for what is copied of the request. Nothing of the output before is seen, wherever it ended:
+/// no macro, no fault, no line of a map, no text that was given, and no path that was asked for. A closed handle, and one of
+/// other limits, is opened as by `rdlpp_open`. Where the output isn't opened the handle is closed, and all that it owned is
+/// given back.
+#[unsafe(no_mangle)]
+pub extern "C" fn rdlpp_reopen(
+    alloc: Global,
+    request: &Request<'_>,
+    name: &mut [u8],
+    word: &mut [u8],
+    handle: &mut Handle,
+) -> Outcome
+    ensures opens { Opens (requested request.now)
+        (record { name = name.old; word = word.old }) (record { name = name.new; word = word.new }) handle.new.slot.value result }
+    ensures unread { IfSome handle.new.slot.value IsUnread }
+{
+    let before = take(alloc, handle);
+    let opened = reopen_stream(alloc, request, before);
+    tell_opening(opened, name, word, handle)
+}
+
+// Puts what was opened into a closed handle, or tells why nothing was.
+fn tell_opening(
+    opened: Result<Box<Stream>, Answer>,
+    name: &mut [u8],
+    word: &mut [u8],
+    handle: &mut Handle,
+) -> Outcome
+    requires { handle.old.slot.value ≡ None }
+    ensures { TellsOpening (boxed_answer opened)
+        (record { name = name.old; word = word.old }) (record { name = name.new; word = word.new }) handle.new.slot.value result }
+{
+    match opened {
         Ok(stream) => {
             put(handle, stream);
             numbered(WHOLE, 0)
