@@ -2,6 +2,7 @@
 
 import ctypes
 import os
+from functools import lru_cache
 from typing import Any, Callable, Sequence, Tuple, Union
 
 from ._asked import Bytes
@@ -86,6 +87,7 @@ class Handle(ctypes.Structure):
     _fields_ = [("is_open", ctypes.c_bool), ("at", ctypes.c_void_p)]
 
 
+_NO_PAIRS, _NO_FOLDERS = (Pair * 1)(), (Folder * 1)()
 _FILE = os.environ.get("RDLPP_LIBRARY") or os.path.join(os.path.dirname(__file__), "librdlpp_c.so")
 _library = ctypes.CDLL(_FILE)
 _handle = ctypes.POINTER(Handle)
@@ -108,7 +110,7 @@ def _frequent(name: str, answer: Any) -> Callable[..., Any]:
 
 
 standard_limits = _declared("rdlpp_standard_limits", GivenLimits)
-open_handle = _declared("rdlpp_open", Outcome, ctypes.POINTER(Request), *_buffer, *_buffer, _handle)
+reopen_handle = _frequent("rdlpp_reopen", Outcome)
 read_handle = _frequent("rdlpp_read", Outcome)
 read_mapped = _frequent("rdlpp_read_mapped", Mapped)
 give = _frequent("rdlpp_give", ctypes.c_uint32)
@@ -135,12 +137,30 @@ def lent(text: Union[Bytes, Part]) -> Tuple[Any, int]:
     return ctypes.byref(ctypes.c_char.from_buffer(view)), view.nbytes
 
 
-def array(kind: Any, items: Sequence[Tuple[bytes, ...]]) -> Any:
-    """An array of structures, with one empty place more, so that its address is never null."""
-    made = (kind * (len(items) + 1))()
-    for place, texts in enumerate(items):
-        made[place] = kind(*(part for text in texts for part in (text, len(text))))
+def pairs(items: Sequence[Tuple[bytes, bytes]]) -> Any:
+    """An array of pairs of texts. It has a place at least, so that its address is never null."""
+    if not items:
+        return _NO_PAIRS
+    made = (Pair * len(items))()
+    for place, (first, second) in enumerate(items):
+        made[place] = Pair(first, len(first), second, len(second))
     return made
+
+
+def folders(paths: Sequence[bytes]) -> Any:
+    """An array of folders, as `pairs` makes one of pairs."""
+    if not paths:
+        return _NO_FOLDERS
+    made = (Folder * len(paths))()
+    for place, path in enumerate(paths):
+        made[place] = Folder(path, len(path))
+    return made
+
+
+@lru_cache(maxsize=8)
+def given_limits(limits: Limits) -> GivenLimits:
+    """Limits as a request takes them, which copies them."""
+    return GivenLimits(*limits)
 
 
 def told(call: Callable[..., int], *given: Any) -> bytes:

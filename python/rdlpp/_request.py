@@ -65,10 +65,11 @@ def _main(source: Any) -> Tuple[bytes, List[Tuple[bytes, bytes]]]:
 
 
 def _folders(include_dirs: Any) -> List[bytes]:
-    if isinstance(include_dirs, (str, bytes, os.PathLike)):
-        raise TypeError(f"include_dirs must be a list of paths, not one path: write [{include_dirs!r}]")
-    if not isinstance(include_dirs, AnyIterable):
-        raise _wrong("include_dirs", "a list of paths", include_dirs)
+    if not isinstance(include_dirs, (list, tuple)):
+        if isinstance(include_dirs, (str, bytes, os.PathLike)):
+            raise TypeError(f"include_dirs must be a list of paths, not one path: write [{include_dirs!r}]")
+        if not isinstance(include_dirs, AnyIterable):
+            raise _wrong("include_dirs", "a list of paths", include_dirs)
     return [_path(f"include_dirs[{place}]", folder) for place, folder in enumerate(include_dirs)]
 
 

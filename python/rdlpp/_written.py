@@ -83,7 +83,7 @@ class Written:
     def take(self) -> bytes:
         """The bytes that were written."""
         _resize(ctypes.byref(self._held), self.filled)
-        return cast(bytes, ctypes.cast(self._held, ctypes.py_object).value)
+        return cast(bytes, ctypes.py_object.from_buffer(self._held).value)
 
     def _grow(self, room: int) -> None:
         # A zero byte is written behind the room, for which no huge page should be made.

@@ -1,0 +1,153 @@
+"""Handles of the library. Each thread keeps one from a call to the next, so that its memory is used again."""
+
+import atexit
+import ctypes
+import os
+import threading
+from typing import Any, Callable, List, Tuple
+
+from . import _library as library
+from ._limits import Limits
+
+# The text that the limits of a kept handle allow; with all its tables it has less than 16 MB then.
+MOST_HELD = 4_000_000
+# What was given to it at most, of which it has copies.
+MOST_GIVEN = 1_000_000
+
+
+class OwnedHandle:
+    """A handle, open or closed, with the buffers that its calls write to. What is open is closed when its owner drops it."""
+
+    _handle = library.Handle()
+    # what a class has is there while an interpreter ends, which the names of a module needn't be
+    _close: Callable[..., None] = library.close_handle
+
+    def __init__(self) -> None:
+        self._handle = library.Handle()
+        self.at = ctypes.byref(self._handle)
+        self._buffers: Any = (ctypes.c_char * (library.NAME_ROOM + library.WORD_ROOM))()
+        self._name = ctypes.addressof(self._buffers)
+        self._word = self._name + library.NAME_ROOM
+        self._told = (
+            ctypes.c_void_p(self._name),
+            library.NAME_LENGTH,
+            ctypes.c_void_p(self._word),
+            library.WORD_LENGTH,
+        )
+        # where a read writes to, and what it is given
+        self._place, self._most = ctypes.c_void_p(), ctypes.c_size_t()
+        self._read = (self.at, self._place, self._most, *self._told)
+        self._map: Any = None
+        self._read_mapped: Tuple[Any, ...] = ()
+        # the lengths of a path and of the text that is given of it
+        self._lengths = ctypes.c_size_t(), ctypes.c_size_t()
+
+    def open(self, given: library.Request) -> library.Outcome:
+        """Opens it anew, in the memory that it has where the limits are the same."""
+        return library.reopen_handle(ctypes.byref(given), *self._told, self.at)  # type: ignore[no-any-return]
+
+    def read(self, place: int, most: int) -> library.Outcome:
+        """Reads once, at most so many bytes."""
+        self._place.value, self._most.value = place, most
+        return library.read_handle(*self._read)  # type: ignore[no-any-return]
+
+    def read_mapped(self, place: int, most: int) -> Tuple[library.Outcome, bytes]:
+        """Reads once, and answers the lines of the line map too."""
+        if self._map is None:
+            self._map = (ctypes.c_char * library.MAP_ROOM)()
+            self._read_mapped = (*self._read[:3], self._map, library.MAP_LENGTH, *self._told)
+        self._place.value, self._most.value = place, most
+        mapped = library.read_mapped(*self._read_mapped)
+        return mapped.outcome, self._map[: mapped.map_length]
+
+    def give(self, call: Callable[..., int], path: bytes, place: Any, length: int) -> int:
+        """Gives the text of a path, by one of the calls that do."""
+        path_length, text_length = self._lengths
+        path_length.value, text_length.value = len(path), length
+        return call(self.at, path, path_length, place, text_length)
+
+    def position(self) -> library.Outcome:
+        """The place of what was read last."""
+        return library.position(self.at, *self._told[:2])  # type: ignore[no-any-return]
+
+    def name(self, outcome: library.Outcome) -> bytes:
+        """The name that a call told last."""
+        name: bytes = self._buffers[: outcome.name_length]
+        return name
+
+    def word(self, outcome: library.Outcome) -> bytes:
+        """The word that a call told last."""
+        return ctypes.string_at(self._word, outcome.word_length)
+
+    def close(self) -> None:
+        """Gives back what is open."""
+        if self._handle.is_open:
+            type(self)._close(self.at)
+
+    def __del__(self) -> None:
+        self.close()
+
+
+class _Thread(threading.local):
+    """What belongs to a thread, and goes with it.
+
+    Attributes:
+        kept: the handle that it keeps, or none.
+    """
+
+    def __init__(self) -> None:
+        self.kept: List[OwnedHandle] = []
+
+
+_thread = _Thread()
+
+
+def kept_here() -> List[OwnedHandle]:
+    """What this thread keeps: one handle, or none."""
+    return _thread.kept
+
+
+def taken(kept: List[OwnedHandle]) -> OwnedHandle:
+    """The handle that is kept, and no longer is, since a call has it now; or a new one."""
+    # a signal's handler may make a call anywhere here: so it is one step that takes it
+    try:
+        return kept.pop()
+    except IndexError:
+        return OwnedHandle()
+
+
+def may_be_kept(limits: Limits, given: int) -> bool:
+    """Whether a handle with these limits, to which so many bytes were given, is small enough."""
+    held = limits.definition_bytes + limits.argument_bytes + (limits.includes + 1) * limits.line_bytes
+    return held <= MOST_HELD and given <= MOST_GIVEN
+
+
+def release() -> None:
+    """Gives back the memory that this thread keeps for its next call.
+
+        >>> import rdlpp
+        >>> rdlpp.preprocess(b"reg[`W];\\n", defines={"W": "8"})
+        b'reg[8];\\n'
+        >>> rdlpp.release()
+
+    `preprocess`, `run` and `stream` use memory by their limits, 4.2 MB by the standard ones. When a call has ended, its
+    thread keeps this for its next one, and with it copies of what the call was given; a call with other limits gives it
+    back first. So a thread keeps the memory of one call, and only where that is small: `definition_bytes +
+    argument_bytes + (includes + 1) * line_bytes` are at most 4,000,000, by which it is less than 16 MB; and the sources,
+    with their paths and the definitions, had at most 1,000,000 bytes. It is given back by this call and where the thread
+    ends. A stream leaves it to the thread that made it where it is read to its end, or closed, there; else it is given
+    back. The child of a fork gives it back at once.
+    """
+    kept = _thread.kept
+    while kept:
+        taken(kept).close()
+
+
+def _leave_the_parent() -> None:
+    """In the child of a fork nothing is kept that the parent opened, also of what is still in use."""
+    release()
+    _thread.kept = []
+
+
+os.register_at_fork(after_in_child=_leave_the_parent)
+atexit.register(release)
