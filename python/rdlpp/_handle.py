@@ -4,10 +4,11 @@ import atexit
 import ctypes
 import os
 import threading
-from typing import Any, Callable, List, Tuple
+from typing import Any, Callable, List, Optional, Tuple
 
 from . import _library as library
 from ._limits import Limits
+from ._request import Request
 
 # The text that the limits of a kept handle allow; with all its tables it has less than 16 MB then.
 MOST_HELD = 4_000_000
@@ -16,7 +17,11 @@ MOST_GIVEN = 1_000_000
 
 
 class OwnedHandle:
-    """A handle, open or closed, with the buffers that its calls write to. What is open is closed when its owner drops it."""
+    """A handle, open or closed, with what its calls are given and write to. What is open is closed when its owner drops it.
+
+    Attributes:
+        is_small: whether the limits by which it was opened last let it have so little memory that it may be kept.
+    """
 
     _handle = library.Handle()
     # what a class has is there while an interpreter ends, which the names of a module needn't be
@@ -34,6 +39,11 @@ class OwnedHandle:
             ctypes.c_void_p(self._word),
             library.WORD_LENGTH,
         )
+        self._limits: Optional[Limits] = None
+        self.is_small = False
+        self._request = library.Request()
+        self._request.asks = True
+        self._open = (ctypes.byref(self._request), *self._told, self.at)
         # where a read writes to, and what it is given
         self._place, self._most = ctypes.c_void_p(), ctypes.c_size_t()
         self._read = (self.at, self._place, self._most, *self._told)
@@ -42,9 +52,25 @@ class OwnedHandle:
         # the lengths of a path and of the text that is given of it
         self._lengths = ctypes.c_size_t(), ctypes.c_size_t()
 
-    def open(self, given: library.Request) -> library.Outcome:
+    def open(self, request: Request, pieces: bool) -> library.Outcome:
         """Opens it anew, in the memory that it has where the limits are the same."""
-        return library.reopen_handle(ctypes.byref(given), *self._told, self.at)  # type: ignore[no-any-return]
+        texts, folders = library.pairs(request.texts), library.folders(request.folders)
+        definitions = library.pairs(request.definitions)
+        given = self._request
+        if request.limits is not self._limits:
+            self._take_limits(request.limits)
+        given.origins, given.pieces = request.origins, pieces
+        given.texts, given.texts_length = ctypes.addressof(texts), len(request.texts)
+        given.folders, given.folders_length = ctypes.addressof(folders), len(request.folders)
+        given.definitions, given.definitions_length = ctypes.addressof(definitions), len(request.definitions)
+        given.path, given.path_length = request.path, len(request.path)
+        return library.reopen_handle(*self._open)  # type: ignore[no-any-return]
+
+    def _take_limits(self, limits: Limits) -> None:
+        self._request.limits = library.GivenLimits(*limits)
+        held = limits.definition_bytes + limits.argument_bytes + (limits.includes + 1) * limits.line_bytes
+        self.is_small = held <= MOST_HELD
+        self._limits = limits
 
     def read(self, place: int, most: int) -> library.Outcome:
         """Reads once, at most so many bytes."""
@@ -114,12 +140,6 @@ def taken(kept: List[OwnedHandle]) -> OwnedHandle:
         return kept.pop()
     except IndexError:
         return OwnedHandle()
-
-
-def may_be_kept(limits: Limits, given: int) -> bool:
-    """Whether a handle with these limits, to which so many bytes were given, is small enough."""
-    held = limits.definition_bytes + limits.argument_bytes + (limits.includes + 1) * limits.line_bytes
-    return held <= MOST_HELD and given <= MOST_GIVEN
 
 
 def release() -> None:

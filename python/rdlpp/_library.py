@@ -2,7 +2,6 @@
 
 import ctypes
 import os
-from functools import lru_cache
 from typing import Any, Callable, Sequence, Tuple, Union
 
 from ._asked import Bytes
@@ -44,18 +43,18 @@ class Folder(ctypes.Structure):
 
 
 class Request(ctypes.Structure):
-    """`rdlpp_request`."""
+    """`rdlpp_request`; each list is its address, so that the request doesn't keep it."""
 
     _fields_ = [
         ("limits", GivenLimits),
         ("origins", ctypes.c_bool),
         ("asks", ctypes.c_bool),
         ("pieces", ctypes.c_bool),
-        ("texts", ctypes.POINTER(Pair)),
+        ("texts", ctypes.c_void_p),
         ("texts_length", ctypes.c_size_t),
-        ("folders", ctypes.POINTER(Folder)),
+        ("folders", ctypes.c_void_p),
         ("folders_length", ctypes.c_size_t),
-        ("definitions", ctypes.POINTER(Pair)),
+        ("definitions", ctypes.c_void_p),
         ("definitions_length", ctypes.c_size_t),
         ("path", ctypes.c_char_p),
         ("path_length", ctypes.c_size_t),
@@ -155,12 +154,6 @@ def folders(paths: Sequence[bytes]) -> Any:
     for place, path in enumerate(paths):
         made[place] = Folder(path, len(path))
     return made
-
-
-@lru_cache(maxsize=8)
-def given_limits(limits: Limits) -> GivenLimits:
-    """Limits as a request takes them, which copies them."""
-    return GivenLimits(*limits)
 
 
 def told(call: Callable[..., int], *given: Any) -> bytes:

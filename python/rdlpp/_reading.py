@@ -5,7 +5,7 @@ from typing import Dict, List, Optional, Set, Tuple
 from . import _library as library
 from ._asked import FileId, Unreadable
 from ._faults import Fault, FaultKind
-from ._handle import OwnedHandle, kept_here, may_be_kept, taken
+from ._handle import MOST_GIVEN, OwnedHandle, kept_here, taken
 from ._limits import OPTIONS, Limits
 from ._output import Position
 from ._request import Request
@@ -51,21 +51,7 @@ class Reading:
             self._given += len(name) + len(body)
         for folder in request.folders:
             self._given += len(folder)
-        given = library.Request(
-            library.given_limits(request.limits),
-            request.origins,
-            True,
-            pieces,
-            library.pairs(request.texts),
-            len(request.texts),
-            library.folders(request.folders),
-            len(request.folders),
-            library.pairs(request.definitions),
-            len(request.definitions),
-            request.path,
-            len(request.path),
-        )
-        outcome = self._handle.open(given)
+        outcome = self._handle.open(request, pieces)
         if outcome.status == library.STOPPED:
             raise self._fault(outcome)
         _raise_refusal(outcome.status)
@@ -113,7 +99,7 @@ class Reading:
             handle = self._owned.pop()
         except IndexError:
             return
-        if self._home is kept_here() and may_be_kept(self._limits, self._given):
+        if handle.is_small and self._given <= MOST_GIVEN and self._home is kept_here():
             self._home[:] = [handle]
         else:
             handle.close()

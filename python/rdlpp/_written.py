@@ -28,6 +28,7 @@ _advise.restype = ctypes.c_int
 _advise.argtypes = [ctypes.c_void_p, ctypes.c_size_t, ctypes.c_int]
 
 MARGIN = 65_536
+FEW = 1_024
 PAGE = 4_096
 HUGE_PAGES, SMALL_PAGES = 14, 15
 # From here on the system's making of small pages costs more than writing into them.
@@ -81,7 +82,9 @@ class Written:
         return self._place + self.filled
 
     def take(self) -> bytes:
-        """The bytes that were written."""
+        """The bytes that were written. A few are copied, which takes less time than to give their object another length."""
+        if self.filled <= FEW:
+            return ctypes.string_at(self._place, self.filled)
         _resize(ctypes.byref(self._held), self.filled)
         return cast(bytes, ctypes.py_object.from_buffer(self._held).value)
 

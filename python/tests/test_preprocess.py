@@ -243,9 +243,9 @@ class Limits(unittest.TestCase):
     def opened(self, limit, value):
         """The status and the number by which the library opens an empty text with a limit."""
         room = ctypes.create_string_buffer(1)
-        none, no_folders, length = _library.pairs([]), _library.folders([]), ctypes.c_size_t(1)
-        limits = _library.standard_limits()
+        length, limits = ctypes.c_size_t(1), _library.standard_limits()
         setattr(limits, limit, value)
+        none, no_folders = ctypes.addressof(_library.pairs([])), ctypes.addressof(_library.folders([]))
         request = _library.Request(limits, False, True, False, none, 0, no_folders, 0, none, 0, b"", 0)
         handle = _library.Handle()
         outcome = _library.reopen_handle(ctypes.byref(request), room, length, room, length, ctypes.byref(handle))
