@@ -54,7 +54,8 @@ class Reading:
         outcome = self._handle.open(request, pieces)
         if outcome.status == library.STOPPED:
             raise self._fault(outcome)
-        _raise_refusal(outcome.status)
+        if outcome.status != library.WHOLE:
+            _raise_refusal(outcome.status)
 
     @property
     def _handle(self) -> OwnedHandle:

@@ -14,7 +14,7 @@ Key = TypeVar("Key", bound=Path)
 Source = Union[Bytes, Path]
 Read = Callable[[str], Optional[Bytes]]
 
-TEXT_PATH = "-"
+TEXT_PATH = b"-"
 STANDARD = Limits()
 
 
@@ -57,8 +57,7 @@ def _path(name: str, value: Any) -> bytes:
 def _main(source: Any) -> Tuple[bytes, List[Tuple[bytes, bytes]]]:
     """The path of the main text, and that text where it is given."""
     if isinstance(source, (bytes, bytearray, memoryview)):
-        path = TEXT_PATH.encode()
-        return path, [(path, bytes(source))]
+        return TEXT_PATH, [(TEXT_PATH, bytes(source))]
     if not isinstance(source, (str, os.PathLike)):
         raise _wrong("source", "a path (str or os.PathLike) or a text (bytes)", source)
     return _path("source", source), []
