@@ -5,7 +5,7 @@ from typing import Dict, List, Optional, Set, Tuple
 from . import _library as library
 from ._asked import FileId, Unreadable
 from ._faults import Fault, FaultKind
-from ._handle import MOST_GIVEN, OwnedHandle, kept_here, taken
+from ._handle import BESIDE, MOST_GIVEN, OwnedHandle, kept_here, taken
 from ._limits import OPTIONS, Limits
 from ._output import Position
 from ._request import Request
@@ -39,7 +39,7 @@ class Reading:
         for _, text in request.texts:
             self.text_bytes += len(text)
         # how many bytes the handle was given, of texts and of all else
-        self._given = self.text_bytes + len(request.path)
+        self._given = self.text_bytes + len(request.path) + BESIDE
         self.runs: List[bytes] = []
         self._asked, self._main = request.asked, request.path
         self._limits = request.limits
@@ -48,9 +48,9 @@ class Reading:
 
     def _open(self, request: Request, pieces: bool) -> None:
         for name, body in request.definitions:
-            self._given += len(name) + len(body)
+            self._given += len(name) + len(body) + BESIDE
         for folder in request.folders:
-            self._given += len(folder)
+            self._given += len(folder) + BESIDE
         outcome = self._handle.open(request, pieces)
         if outcome.status == library.STOPPED:
             raise self._fault(outcome)
@@ -127,6 +127,7 @@ class Reading:
     def _give(self, path: bytes, written: Written) -> None:
         """Tells the library what stands at a path: a text may stand behind what was written, since it is copied."""
         shown = path.decode()
+        self._given += len(path) + BESIDE
         try:
             text = self._asked(shown, written)
         except Unreadable as unreadable:
@@ -135,7 +136,6 @@ class Reading:
                 self._note(shown)
             _raise_refusal(library.give_failed(self._handle.at, path, len(path)))
             return
-        self._given += len(path)
         if text is None:
             _raise_refusal(library.give_absent(self._handle.at, path, len(path)))
             return

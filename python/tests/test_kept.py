@@ -47,7 +47,7 @@ FAULTS = {
     "at a source that is not there": b'`include "no"\n',
     "in a source": b'`include "bad"\n',
     "in its own source": b'`include "again"\n',
-    "by a definition's bytes": b"`define A " + b"x" * 200 + b"\n" + b"".join(b"`define B%d %s\n" % (n, b"y" * 90) for n in range(20)),
+    "by a definition's bytes": b"".join(b"`define B%d %s\n" % (n, b"y" * 200) for n in range(10)),
     "by the definitions": b"".join(b"`define B%d\n" % n for n in range(20)),
     "by the depth": DEEP + b"`A",
     "by the output": b"`define V x\n" * 8 + b"long text\n" * 20,
@@ -237,7 +237,7 @@ class Sizes(Kept):
         least = {**rdlpp.Limits(1, 0, 256, 1, 16, 1_024, 1, 1, 0)._asdict()}
         for limit, value in least.items():
             with self.subTest(limit):
-                text = b"`define A(x) `B\n`define B x\n`ifndef Q\n`ifndef P\n`A(1234567890abcdefg)`include \"i\"\n"
+                text = b'`define A(x) `B\n`define B x\n`ifndef Q\n`ifndef P\n`A(1234567890abcdefg)`include "i"\n'
                 text += b"y" * 300 + b"\n`define C " + b"z" * 1_024 + b"\n"
                 fault = told(text, files={"i": b"i"}, limits=rdlpp.Limits(**{limit: value}))[1]
                 self.assertIn(f"the limit is {value}, set by {limit}", fault[1])
@@ -277,8 +277,21 @@ class Sizes(Kept):
                 self.assertEqual(len(kept()), length == 10)
 
     def test_large_definitions_and_paths(self):
-        for given in ({"defines": {"W": "x" * 1_000_000}}, {"include_dirs": ["x" * 1_000] * 1_000}):
+        many = {f"W{number}": "" for number in range(12_000)}
+        for given in (
+            {"defines": {"W": "x" * 1_000_000}},
+            {"defines": many, "limits": rdlpp.Limits(definitions=20_000)},
+            {"include_dirs": ["x" * 1_000] * 1_000},
+            {"include_dirs": ["x"] * 12_000},
+        ):
             self.assertEqual((rdlpp.preprocess(b"a", **given), kept()), (b"a", []))
+
+    def test_many_empty_sources(self):
+        for count in (100, 12_000):
+            main = b"".join(b'`include "i%d"\n' % number for number in range(count))
+            for read in (lambda path: b"", lambda path: None if path.startswith("no/") else b""):
+                output = rdlpp.preprocess(main, ["no"], read=read)
+                self.assertEqual((output, len(kept())), (b"\n" * count, int(count == 100)))
 
 
 class Nested(Kept):
@@ -316,22 +329,28 @@ class Nested(Kept):
 
         def handler(*_signal):
             count[0] += 1
-            wrong.extend(output for output in (self.call(), rdlpp.preprocess(b"b`V", defines={"V": "2"})) if output not in (WHOLE, b"b2"))
+            outputs = self.call(), rdlpp.preprocess(b"b`V", defines={"V": "2"})
+            if outputs != (WHOLE, b"b2"):
+                wrong.append(outputs)
 
         self.addCleanup(signal.signal, signal.SIGALRM, signal.signal(signal.SIGALRM, handler))
         self.addCleanup(signal.setitimer, signal.ITIMER_REAL, 0)
         signal.setitimer(signal.ITIMER_REAL, 0.0003, 0.0003)
         for number in range(3_000):
-            text = str(number)
-            wrong.extend(output for output in [rdlpp.preprocess(b"`V", defines={"V": text})] if output != text.encode())
+            output = rdlpp.preprocess(b"`V", defines={"V": str(number)})
+            if output != str(number).encode():
+                wrong.append(output)
         signal.setitimer(signal.ITIMER_REAL, 0)
         self.assertEqual(wrong, [])
         self.assertGreater(count[0], 10)
         self.assertLessEqual(len(kept()), 1)
 
     def test_a_call_that_an_error_of_a_handler_ends_anywhere(self):
+        armed = []
+
         def leave(*_signal):
-            raise TimeoutError
+            if armed:
+                raise TimeoutError
 
         self.addCleanup(signal.signal, signal.SIGALRM, signal.signal(signal.SIGALRM, leave))
         self.addCleanup(signal.setitimer, signal.ITIMER_REAL, 0)
@@ -340,12 +359,14 @@ class Nested(Kept):
         sys.unraisablehook = lambda _told: None
         for number in range(1_000):
             try:
-                signal.setitimer(signal.ITIMER_REAL, 1e-6 * (number % 100 + 1))
-                self.call()
-                signal.setitimer(signal.ITIMER_REAL, 0)
+                try:
+                    armed.append(True)
+                    signal.setitimer(signal.ITIMER_REAL, 1e-6 * (number % 100 + 1))
+                    self.call()
+                finally:
+                    armed.clear()
             except TimeoutError:
                 pass
-            signal.setitimer(signal.ITIMER_REAL, 0)
             self.assertEqual(self.call(), WHOLE)
 
 
@@ -446,13 +467,18 @@ class Forks(Kept):
     def test_a_child_begins_with_none(self):
         self.call()
         before = kept()
-        self.assertEqual(in_child(lambda: (kept(), self.call(), len(kept()), kept() == before)), repr(([], WHOLE, 1, False)))
+        answer = in_child(lambda: (kept(), self.call(), len(kept()), kept() == before))
+        self.assertEqual(answer, repr(([], WHOLE, 1, False)))
         self.assertEqual((kept(), self.call()), (before, WHOLE))
 
     def test_a_child_of_another_thread(self):
         self.call()
-        wanted = repr(([], WHOLE, 1))
-        self.assertEqual(in_thread(lambda: (self.call(), in_child(lambda: (kept(), self.call(), len(kept()))))[1]), wanted)
+
+        def forked():
+            self.call()
+            return in_child(lambda: (kept(), self.call(), len(kept())))
+
+        self.assertEqual(in_thread(forked), repr(([], WHOLE, 1)))
 
     def test_a_stream_of_the_parent(self):
         with rdlpp.stream(b"abc", room=1) as pieces:
@@ -461,15 +487,15 @@ class Forks(Kept):
             self.assertEqual(list(pieces), [b"b", b"c"])
 
     def test_a_call_that_forks(self):
-        told = []
+        answers = []
 
         def read(path):
-            told.append(in_child(lambda: (kept(), self.call(), len(kept()))))
+            answers.append(in_child(lambda: (kept(), self.call(), len(kept()))))
             return b"a\n"
 
         for _ in range(2):
             self.assertEqual(rdlpp.preprocess("m", read=read), b"a\n")
-        self.assertEqual(told, [repr(([], WHOLE, 1))] * 2)
+        self.assertEqual(answers, [repr(([], WHOLE, 1))] * 2)
 
     def test_a_call_that_ends_in_the_child(self):
         """What the parent opened isn't kept by the child."""
