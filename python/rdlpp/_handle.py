@@ -22,6 +22,13 @@ class OwnedHandle:
 
     Attributes:
         is_small: whether the limits by which it was opened last let it have so little memory that it may be kept.
+        at: where the handle is, as calls take it.
+        buffers: the room for a name and, behind it, for a word.
+        word: where the word stands.
+        told: the room for both, as calls take it.
+        place, most: where a read writes to, and how many bytes at most.
+        read: all that a read takes.
+        path_length, text_length: the lengths of a path and of the text that is given of it.
     """
 
     _handle = library.Handle()
@@ -31,27 +38,19 @@ class OwnedHandle:
     def __init__(self) -> None:
         self._handle = library.Handle()
         self.at = ctypes.byref(self._handle)
-        self._buffers: Any = (ctypes.c_char * (library.NAME_ROOM + library.WORD_ROOM))()
-        self._name = ctypes.addressof(self._buffers)
-        self._word = self._name + library.NAME_ROOM
-        self._told = (
-            ctypes.c_void_p(self._name),
-            library.NAME_LENGTH,
-            ctypes.c_void_p(self._word),
-            library.WORD_LENGTH,
-        )
-        self._limits: Optional[Limits] = None
-        self.is_small = False
+        self.buffers: Any = (ctypes.c_char * (library.NAME_ROOM + library.WORD_ROOM))()
+        name = ctypes.addressof(self.buffers)
+        self.word = name + library.NAME_ROOM
+        self.told = (ctypes.c_void_p(name), library.NAME_LENGTH, ctypes.c_void_p(self.word), library.WORD_LENGTH)
         self._request = library.Request()
         self._request.asks = True
-        self._open = (ctypes.byref(self._request), *self._told, self.at)
-        # where a read writes to, and what it is given
-        self._place, self._most = ctypes.c_void_p(), ctypes.c_size_t()
-        self._read = (self.at, self._place, self._most, *self._told)
-        self._map: Any = None
-        self._read_mapped: Tuple[Any, ...] = ()
-        # the lengths of a path and of the text that is given of it
-        self._lengths = ctypes.c_size_t(), ctypes.c_size_t()
+        self._open = (ctypes.byref(self._request), *self.told, self.at)
+        self._limits: Optional[Limits] = None
+        self.is_small = False
+        self.place, self.most = ctypes.c_void_p(), ctypes.c_size_t()
+        self.read = (self.at, self.place, self.most, *self.told)
+        self._mapped: Optional[Tuple[Any, Tuple[Any, ...]]] = None
+        self.path_length, self.text_length = ctypes.c_size_t(), ctypes.c_size_t()
 
     def open(self, request: Request, pieces: bool) -> library.Outcome:
         """Opens it anew, in the memory that it has where the limits are the same."""
@@ -73,38 +72,12 @@ class OwnedHandle:
         self.is_small = held <= MOST_HELD
         self._limits = limits
 
-    def read(self, place: int, most: int) -> library.Outcome:
-        """Reads once, at most so many bytes."""
-        self._place.value, self._most.value = place, most
-        return library.read_handle(*self._read)  # type: ignore[no-any-return]
-
-    def read_mapped(self, place: int, most: int) -> Tuple[library.Outcome, bytes]:
-        """Reads once, and answers the lines of the line map too."""
-        if self._map is None:
-            self._map = (ctypes.c_char * library.MAP_ROOM)()
-            self._read_mapped = (*self._read[:3], self._map, library.MAP_LENGTH, *self._told)
-        self._place.value, self._most.value = place, most
-        mapped = library.read_mapped(*self._read_mapped)
-        return mapped.outcome, self._map[: mapped.map_length]
-
-    def give(self, call: Callable[..., int], path: bytes, place: Any, length: int) -> int:
-        """Gives the text of a path, by one of the calls that do."""
-        path_length, text_length = self._lengths
-        path_length.value, text_length.value = len(path), length
-        return call(self.at, path, path_length, place, text_length)
-
-    def position(self) -> library.Outcome:
-        """The place of what was read last."""
-        return library.position(self.at, *self._told[:2])  # type: ignore[no-any-return]
-
-    def name(self, outcome: library.Outcome) -> bytes:
-        """The name that a call told last."""
-        name: bytes = self._buffers[: outcome.name_length]
-        return name
-
-    def word(self, outcome: library.Outcome) -> bytes:
-        """The word that a call told last."""
-        return ctypes.string_at(self._word, outcome.word_length)
+    def mapped(self) -> Tuple[Any, Tuple[Any, ...]]:
+        """The room for the lines of a line map, and all that a read takes which writes them."""
+        if self._mapped is None:
+            room = (ctypes.c_char * library.MAP_ROOM)()
+            self._mapped = room, (*self.read[:3], room, library.MAP_LENGTH, *self.told)
+        return self._mapped
 
     def close(self) -> None:
         """Gives back what is open."""
@@ -127,6 +100,8 @@ class _Thread(threading.local):
 
 
 _thread = _Thread()
+# It is never opened, so that each call tells that it is closed.
+CLOSED = OwnedHandle()
 
 
 def kept_here() -> List[OwnedHandle]:

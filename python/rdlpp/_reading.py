@@ -1,11 +1,12 @@
 """An output that is read from the library, which asks for the sources that it needs."""
 
+import ctypes
 from typing import Dict, List, Optional, Set, Tuple
 
 from . import _library as library
 from ._asked import FileId, Unreadable
 from ._faults import Fault, FaultKind
-from ._handle import BESIDE, MOST_GIVEN, OwnedHandle, kept_here, taken
+from ._handle import BESIDE, CLOSED, MOST_GIVEN, kept_here, taken
 from ._limits import OPTIONS, Limits
 from ._output import Position
 from ._request import Request
@@ -29,8 +30,9 @@ class Reading:
 
     def __init__(self, request: Request, *, pieces: bool = False):
         self._home = kept_here()
-        # the handle while this is open, else nothing: it is taken out in one step
+        # the handle while it is this one's to leave, which one step takes out
         self._owned = [taken(self._home)]
+        self._handle = self._owned[0]
         self.is_over = False
         self.fault: Optional[Fault] = None
         self.sources: Dict[str, None] = {}
@@ -57,38 +59,37 @@ class Reading:
         if outcome.status != library.WHOLE:
             _raise_refusal(outcome.status)
 
-    @property
-    def _handle(self) -> OwnedHandle:
-        """The handle of what is open."""
-        if not self._owned:
-            raise ValueError("the output is closed")
-        return self._owned[0]
-
     def read(self, written: Written, most: int) -> None:
         """Reads once, at most so many bytes.
 
         It may be none, also where more follow: `is_over` tells the end.
         """
-        outcome = self._handle.read(written.end(most), most)
+        handle = self._handle
+        handle.place.value, handle.most.value = written.end(most), most
+        outcome = library.read_handle(*handle.read)
         written.filled += outcome.length
         if outcome.status != library.MORE:
             self._go_on(outcome, written)
 
     def read_mapped(self, written: Written, most: int) -> None:
         """Reads once, as `read` does, and adds the lines of the line map for what it wrote to `runs`."""
-        outcome, lines = self._handle.read_mapped(written.end(most), most)
-        if lines:
-            self.runs.append(lines)
+        handle = self._handle
+        lines, words = handle.mapped()
+        handle.place.value, handle.most.value = written.end(most), most
+        mapped = library.read_mapped(*words)
+        if mapped.map_length:
+            self.runs.append(lines[: mapped.map_length])
+        outcome = mapped.outcome
         written.filled += outcome.length
         if outcome.status != library.MORE:
             self._go_on(outcome, written)
 
     def position(self) -> Optional[Position]:
         """The place of the first byte of what was read last, where there is one."""
-        outcome = self._handle.position()
+        outcome = library.position(self._handle.at, *self._handle.told[:2])
         if outcome.status != library.WHOLE:
             return None
-        return Position(self._handle.name(outcome).decode(), outcome.line, outcome.number)
+        return Position(self._shown_name(outcome), outcome.line, outcome.number)
 
     def definitions(self) -> bytes:
         """The live definitions, as `define` lines."""
@@ -100,6 +101,7 @@ class Reading:
             handle = self._owned.pop()
         except IndexError:
             return
+        self._handle = CLOSED
         if handle.is_small and self._given <= MOST_GIVEN and self._home is kept_here():
             self._home[:] = [handle]
         else:
@@ -115,7 +117,7 @@ class Reading:
         """Does what the outcome of a read asks for, which ended before its room was full, so that the next one goes on."""
         status = outcome.status
         if status == library.WANTED:
-            self._give(self._handle.name(outcome), written)
+            self._give(self._handle.buffers[: outcome.name_length], written)
         elif status == library.WHOLE:
             self.is_over = True
         elif status == library.STOPPED:
@@ -144,8 +146,10 @@ class Reading:
         self.text_bytes += length
         self._given += length
         # the main text is open up to the end
-        call = library.give if self._asked.stays or path == self._main else library.give_once
-        status = self._handle.give(call, path, place, length)
+        give = library.give if self._asked.stays or path == self._main else library.give_once
+        handle = self._handle
+        handle.path_length.value, handle.text_length.value = len(path), length
+        status = give(handle.at, path, handle.path_length, place, handle.text_length)
         if status not in (library.WHOLE, library.CHANGED):
             _raise_refusal(status)
 
@@ -158,10 +162,15 @@ class Reading:
             self._files.add(file)
         self.sources[path] = None
 
+    def _shown_name(self, outcome: library.Outcome) -> str:
+        name: bytes = self._handle.buffers[: outcome.name_length]
+        return name.decode()
+
     def _fault(self, outcome: library.Outcome) -> Fault:
         """The fault that an outcome tells."""
         kind, line = FaultKind(outcome.number), outcome.line
-        name, word = self._handle.name(outcome).decode(), self._handle.word(outcome).decode()
+        name = self._shown_name(outcome)
+        word = ctypes.string_at(self._handle.word, outcome.word_length).decode()
         notes = _notes(library.told(library.notes, self._handle.at), self._limits)
         fault = Fault(kind, name, line, word, library.fault_text(kind), notes)
         unreadable, self._unreadable = self._unreadable, None

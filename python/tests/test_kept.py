@@ -335,8 +335,8 @@ class Nested(Kept):
 
         self.addCleanup(signal.signal, signal.SIGALRM, signal.signal(signal.SIGALRM, handler))
         self.addCleanup(signal.setitimer, signal.ITIMER_REAL, 0)
-        signal.setitimer(signal.ITIMER_REAL, 0.0003, 0.0003)
         for number in range(3_000):
+            signal.setitimer(signal.ITIMER_REAL, 1e-6 * (number % 100 + 1))
             output = rdlpp.preprocess(b"`V", defines={"V": str(number)})
             if output != str(number).encode():
                 wrong.append(output)
