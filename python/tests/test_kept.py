@@ -14,6 +14,9 @@ import weakref
 
 import rdlpp
 from rdlpp import _handle
+from rdlpp._reading import Reading
+from rdlpp._request import request_of
+from rdlpp._written import Written
 
 SOURCE = b'`define A(x) <x>\n`A(long body)`include "i"\n`W\n'
 FILES = {"m": SOURCE, "inc/i": b"q"}
@@ -208,6 +211,19 @@ class Calls(Kept):
             self.assertEqual(caught.exception.number, 32)
             self.assertIsInstance(caught.exception.__cause__, OSError)
             self.assertEqual(self.call(), WHOLE)
+
+    def test_an_output_that_is_closed_reads_no_other_one(self):
+        first, room = Reading(request_of(b"first", (), None, None, False, None, None)), Written(100)
+        first.close()
+        second = Reading(request_of(b"second", (), None, None, False, None, None))
+        for read in (first.read, first.read_mapped):
+            with self.assertRaisesRegex(ValueError, "the output is closed"):
+                read(room, 100)
+        first.close()
+        second.read(room, 100)
+        self.assertEqual((room.take(), second.is_over, first.position(), kept()), (b"second", True, None, []))
+        second.close()
+        self.assertEqual(len(kept()), 1)
 
     def test_arguments_that_are_refused(self):
         self.call()
