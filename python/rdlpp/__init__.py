@@ -13,6 +13,7 @@ archive has a guide, `docs/GUIDE.md`, and larger examples, `python/examples`: on
 """
 
 from ._faults import Fault, FaultKind, LimitError
+from ._handle import release
 from ._library import version
 from ._limits import Limits
 from ._output import Lines, Output, Place, Position
@@ -30,6 +31,7 @@ __all__ = [
     "Position",
     "Stream",
     "preprocess",
+    "release",
     "run",
     "stream",
     "version",

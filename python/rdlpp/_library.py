@@ -43,18 +43,18 @@ class Folder(ctypes.Structure):
 
 
 class Request(ctypes.Structure):
-    """`rdlpp_request`."""
+    """`rdlpp_request`; each list is its address, so that the request doesn't keep it."""
 
     _fields_ = [
         ("limits", GivenLimits),
         ("origins", ctypes.c_bool),
         ("asks", ctypes.c_bool),
         ("pieces", ctypes.c_bool),
-        ("texts", ctypes.POINTER(Pair)),
+        ("texts", ctypes.c_void_p),
         ("texts_length", ctypes.c_size_t),
-        ("folders", ctypes.POINTER(Folder)),
+        ("folders", ctypes.c_void_p),
         ("folders_length", ctypes.c_size_t),
-        ("definitions", ctypes.POINTER(Pair)),
+        ("definitions", ctypes.c_void_p),
         ("definitions_length", ctypes.c_size_t),
         ("path", ctypes.c_char_p),
         ("path_length", ctypes.c_size_t),
@@ -86,6 +86,7 @@ class Handle(ctypes.Structure):
     _fields_ = [("is_open", ctypes.c_bool), ("at", ctypes.c_void_p)]
 
 
+_NO_PAIRS, _NO_FOLDERS = (Pair * 1)(), (Folder * 1)()
 _FILE = os.environ.get("RDLPP_LIBRARY") or os.path.join(os.path.dirname(__file__), "librdlpp_c.so")
 _library = ctypes.CDLL(_FILE)
 _handle = ctypes.POINTER(Handle)
@@ -108,7 +109,7 @@ def _frequent(name: str, answer: Any) -> Callable[..., Any]:
 
 
 standard_limits = _declared("rdlpp_standard_limits", GivenLimits)
-open_handle = _declared("rdlpp_open", Outcome, ctypes.POINTER(Request), *_buffer, *_buffer, _handle)
+reopen_handle = _frequent("rdlpp_reopen", Outcome)
 read_handle = _frequent("rdlpp_read", Outcome)
 read_mapped = _frequent("rdlpp_read_mapped", Mapped)
 give = _frequent("rdlpp_give", ctypes.c_uint32)
@@ -135,11 +136,23 @@ def lent(text: Union[Bytes, Part]) -> Tuple[Any, int]:
     return ctypes.byref(ctypes.c_char.from_buffer(view)), view.nbytes
 
 
-def array(kind: Any, items: Sequence[Tuple[bytes, ...]]) -> Any:
-    """An array of structures, with one empty place more, so that its address is never null."""
-    made = (kind * (len(items) + 1))()
-    for place, texts in enumerate(items):
-        made[place] = kind(*(part for text in texts for part in (text, len(text))))
+def pairs(items: Sequence[Tuple[bytes, bytes]]) -> Any:
+    """An array of pairs of texts. It has a place at least, so that its address is never null."""
+    if not items:
+        return _NO_PAIRS
+    made = (Pair * len(items))()
+    for place, (first, second) in enumerate(items):
+        made[place] = Pair(first, len(first), second, len(second))
+    return made
+
+
+def folders(paths: Sequence[bytes]) -> Any:
+    """An array of folders, as `pairs` makes one of pairs."""
+    if not paths:
+        return _NO_FOLDERS
+    made = (Folder * len(paths))()
+    for place, path in enumerate(paths):
+        made[place] = Folder(path, len(path))
     return made
 
 

@@ -14,7 +14,7 @@ Key = TypeVar("Key", bound=Path)
 Source = Union[Bytes, Path]
 Read = Callable[[str], Optional[Bytes]]
 
-TEXT_PATH = "-"
+TEXT_PATH = b"-"
 STANDARD = Limits()
 
 
@@ -57,18 +57,18 @@ def _path(name: str, value: Any) -> bytes:
 def _main(source: Any) -> Tuple[bytes, List[Tuple[bytes, bytes]]]:
     """The path of the main text, and that text where it is given."""
     if isinstance(source, (bytes, bytearray, memoryview)):
-        path = TEXT_PATH.encode()
-        return path, [(path, bytes(source))]
+        return TEXT_PATH, [(TEXT_PATH, bytes(source))]
     if not isinstance(source, (str, os.PathLike)):
         raise _wrong("source", "a path (str or os.PathLike) or a text (bytes)", source)
     return _path("source", source), []
 
 
 def _folders(include_dirs: Any) -> List[bytes]:
-    if isinstance(include_dirs, (str, bytes, os.PathLike)):
-        raise TypeError(f"include_dirs must be a list of paths, not one path: write [{include_dirs!r}]")
-    if not isinstance(include_dirs, AnyIterable):
-        raise _wrong("include_dirs", "a list of paths", include_dirs)
+    if not isinstance(include_dirs, (list, tuple)):
+        if isinstance(include_dirs, (str, bytes, os.PathLike)):
+            raise TypeError(f"include_dirs must be a list of paths, not one path: write [{include_dirs!r}]")
+        if not isinstance(include_dirs, AnyIterable):
+            raise _wrong("include_dirs", "a list of paths", include_dirs)
     return [_path(f"include_dirs[{place}]", folder) for place, folder in enumerate(include_dirs)]
 
 

@@ -62,6 +62,8 @@ def preprocess(
     and a digest of 64 bits, which is no protection against someone who makes two texts of one digest. The texts of
     `files`, and those of pipes and devices, are asked for once, and held.
 
+    The thread keeps the memory of a small call, with copies of what it was given, for its next one (`rdlpp.release`).
+
     Args:
         source: bytes are the text itself, whose shown name is `-`; anything else is its path.
         include_dirs: the include folders, in the order of the search.

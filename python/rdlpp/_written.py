@@ -14,9 +14,6 @@ if sys.implementation.name != "cpython":
 _new = ctypes.pythonapi.PyBytes_FromStringAndSize
 _new.restype = ctypes.c_void_p
 _new.argtypes = [ctypes.c_void_p, ctypes.c_ssize_t]
-_place_of = ctypes.pythonapi.PyBytes_AsString
-_place_of.restype = ctypes.c_void_p
-_place_of.argtypes = [ctypes.c_void_p]
 _resize = ctypes.pythonapi._PyBytes_Resize
 _resize.restype = ctypes.c_int
 _resize.argtypes = [ctypes.POINTER(ctypes.c_void_p), ctypes.c_ssize_t]
@@ -28,6 +25,9 @@ _advise.restype = ctypes.c_int
 _advise.argtypes = [ctypes.c_void_p, ctypes.c_size_t, ctypes.c_int]
 
 MARGIN = 65_536
+FEW = 1_024
+# Where the bytes of an object stand in it: it has all of them but one, a zero byte, behind its head.
+HEAD = bytes.__basicsize__ - 1
 PAGE = 4_096
 HUGE_PAGES, SMALL_PAGES = 14, 15
 # From here on the system's making of small pages costs more than writing into them.
@@ -68,8 +68,9 @@ class Written:
         self.filled = 0
         self.room = room
         # The one object without bytes is everybody's, so there is room for one byte more.
-        self._held = ctypes.c_void_p(_new(None, room + 1))
-        self._place: int = _place_of(self._held)
+        held = _new(None, room + 1)
+        self._held = ctypes.c_void_p(held)
+        self._place: int = held + HEAD
         _prefer(HUGE_PAGES, self._place, room)
 
     def end(self, least: int) -> int:
@@ -81,15 +82,17 @@ class Written:
         return self._place + self.filled
 
     def take(self) -> bytes:
-        """The bytes that were written."""
+        """The bytes that were written. A few are copied, which takes less time than to give their object another length."""
+        if self.filled <= FEW:
+            return ctypes.string_at(self._place, self.filled)
         _resize(ctypes.byref(self._held), self.filled)
-        return cast(bytes, ctypes.cast(self._held, ctypes.py_object).value)
+        return cast(bytes, ctypes.py_object.from_buffer(self._held).value)
 
     def _grow(self, room: int) -> None:
         # A zero byte is written behind the room, for which no huge page should be made.
         _prefer(SMALL_PAGES, self._place, self.room)
         _resize(ctypes.byref(self._held), room + 1)
-        self._place, self.room = _place_of(self._held), room
+        self._place, self.room = cast(int, self._held.value) + HEAD, room
         _prefer(HUGE_PAGES, self._place, room)
 
     def __del__(self) -> None:

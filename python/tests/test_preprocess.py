@@ -243,11 +243,12 @@ class Limits(unittest.TestCase):
     def opened(self, limit, value):
         """The status and the number by which the library opens an empty text with a limit."""
         room = ctypes.create_string_buffer(1)
-        request, handle = _library.Request(limits=_library.standard_limits(), path=b""), _library.Handle()
-        for field in ("texts", "folders", "definitions"):
-            setattr(request, field, _library.array(type(getattr(request, field))._type_, []))
-        setattr(request.limits, limit, value)
-        outcome = _library.open_handle(request, room, 1, room, 1, handle)
+        length, limits = ctypes.c_size_t(1), _library.standard_limits()
+        setattr(limits, limit, value)
+        none, no_folders = ctypes.addressof(_library.pairs([])), ctypes.addressof(_library.folders([]))
+        request = _library.Request(limits, False, True, False, none, 0, no_folders, 0, none, 0, b"", 0)
+        handle = _library.Handle()
+        outcome = _library.reopen_handle(ctypes.byref(request), room, length, room, length, ctypes.byref(handle))
         _library.close_handle(handle)
         return outcome.status, outcome.number
 

@@ -87,6 +87,18 @@ class Rows(unittest.TestCase):
             with self.subTest(row.name):
                 self.check_row(row)
 
+    def test_each_row_after_another_one_that_was_left(self):
+        """Its handle is opened again by the same limits, after one piece of the row before."""
+        for before, row in zip([GIVEN[-1], *GIVEN], GIVEN):
+            given = {**asked(before.words), "limits": asked(row.words)["limits"]}
+            with self.subTest(row.name, before=before.name):
+                try:
+                    with rdlpp.stream(before.main, files=before.files, room=1, **given) as pieces:
+                        next(pieces, None)
+                except rdlpp.Fault:
+                    pass
+                self.check_row(row)
+
     def test_each_row_in_pieces(self):
         for row in GIVEN:
             for room in ROOMS if len(row.output) < LONG else ROOMS[-1:]:
