@@ -103,7 +103,7 @@ impl<'r, R: Files + Input> Folders<'r, R> {
     /// Sources over the files of `rt`, with these include folders in the order of the search.
     ///
     /// Nothing is opened here. Each later search asks `alloc` for one growth for each file that it tries
-    /// to open.
+    /// to open, and standard input for one that has its reader.
     ///
     /// # Errors
     /// `NoMemory` where there was no memory for the folders.
@@ -172,7 +172,7 @@ impl<'r, R: Files + Input> Folders<'r, R> {
         &self,
         folder: &str,
         name: &str,
-    ) -> Result<Found<FolderReader<R::Reader, R::File>>, SourceFault>
+    ) -> Result<Found<FolderReader<Box<R::Reader>, R::File>>, SourceFault>
         ensures path { OpensPath (joined_path folder.now name.now) result }
         ensures file { IfOk result (λ found. IsFile found.reader) }
     {
@@ -203,13 +203,17 @@ impl<'r, R: Files + Input> Folders<'r, R> {
     }
 
     // The main text: standard input, or the file at its path.
-    fn open_main(&self, path: &str) -> Result<Found<FolderReader<R::Reader, R::File>>, SourceFault>
+    fn open_main(&self, path: &str) -> Result<Found<FolderReader<Box<R::Reader>, R::File>>, SourceFault>
         ensures path { OpensPath path.now result }
         ensures reader { IfOk result (λ found. IsReaderOf path.now found.reader) }
     {
         if path == STANDARD_INPUT {
             let path = candidate("", path)?;
-            let reader = FolderReader::Input(self.rt.reader());
+            let Ok(input) = Box::new(self.alloc, self.rt.reader()) else {
+                self.keep_failure(path, io::Error::from(ErrorKind::OutOfMemory));
+                return Err(SourceFault::NoMemory);
+            };
+            let reader = FolderReader::Input(input);
             return Ok(Found { path, reader });
         }
         self.open_in("", path)
@@ -220,7 +224,7 @@ impl<'r, R: Files + Input> Folders<'r, R> {
         &self,
         from: &str,
         name: &str,
-    ) -> Result<Found<FolderReader<R::Reader, R::File>>, SourceFault>
+    ) -> Result<Found<FolderReader<Box<R::Reader>, R::File>>, SourceFault>
         ensures paths { SearchesPaths (candidates (include_folders self.now) from.now name.now) result }
         ensures file { IfOk result (λ found. IsFile found.reader) }
     {
@@ -250,7 +254,7 @@ impl<'r, R: Files + Input> Folders<'r, R> {
 }
 
 impl<'r, R: Files + Input> Sources for Folders<'r, R> {
-    type Reader = FolderReader<R::Reader, R::File>;
+    type Reader = FolderReader<Box<R::Reader>, R::File>;
 
     ghost use Rattle.std.specs.Prelude.{[]};
     ghost use Rattle.rdlpp_source.specs.Sources.{Missing};
@@ -266,7 +270,7 @@ impl<'r, R: Files + Input> Sources for Folders<'r, R> {
 
     ghost refusals = { memory_refusals };
 
-    fn top(&mut self, path: &str) -> Result<Found<FolderReader<R::Reader, R::File>>, SourceFault>
+    fn top(&mut self, path: &str) -> Result<Found<FolderReader<Box<R::Reader>, R::File>>, SourceFault>
         ensures path { OpensPath path.now result }
         ensures reader { IfOk result (λ found. IsReaderOf path.now found.reader) }
         ensures folders { include_folders self.new ≡ include_folders self.old }
@@ -281,7 +285,7 @@ impl<'r, R: Files + Input> Sources for Folders<'r, R> {
         &mut self,
         from: &str,
         name: &str,
-    ) -> Result<Found<FolderReader<R::Reader, R::File>>, SourceFault>
+    ) -> Result<Found<FolderReader<Box<R::Reader>, R::File>>, SourceFault>
         ensures path { SearchesPaths (candidates (include_folders self.old) from.now name.now) result }
         ensures file { IfOk result (λ found. IsFile found.reader) }
         ensures folders { include_folders self.new ≡ include_folders self.old }
@@ -294,13 +298,13 @@ impl<'r, R: Files + Input> Sources for Folders<'r, R> {
 
     fn read(
         &mut self,
-        reader: &mut FolderReader<R::Reader, R::File>,
+        reader: &mut FolderReader<Box<R::Reader>, R::File>,
         to: &mut [u8],
     ) -> Result<usize, SourceFault>
         ensures bound { ReadsAtMost result to.new }
         ensures only { IfErr result (λ fault. fault ≡ SourceFault.Device) }
-        ensures consumes { ReadConsumes (unread_bytes R.Reader.remaining R.File.remaining reader.old)
-            (unread_bytes R.Reader.remaining R.File.remaining reader.new) result to.new }
+        ensures consumes { ReadConsumes (unread_bytes (λ input. R.Reader.remaining input.value) R.File.remaining reader.old)
+            (unread_bytes (λ input. R.Reader.remaining input.value) R.File.remaining reader.new) result to.new }
         ensures folders { include_folders self.new ≡ include_folders self.old }
         ensures failures { Counts (is_device result) (device_failures self.old) (device_failures self.new) }
         ensures refusals { memory_refusals self.new ≡ memory_refusals self.old }
@@ -322,7 +326,7 @@ impl<'r, R: Files + Input> FileSources for Folders<'r, R> {
 
     ghost lies_in = { known_file };
 
-    fn file(&self, reader: &FolderReader<R::Reader, R::File>) -> Option<FileId> {
+    fn file(&self, reader: &FolderReader<Box<R::Reader>, R::File>) -> Option<FileId> {
         match reader {
             FolderReader::Input(_) => None,
             FolderReader::File(_, id) => *id,
