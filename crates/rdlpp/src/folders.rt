@@ -203,7 +203,10 @@ impl<'r, R: Files + Input> Folders<'r, R> {
     }
 
     // The main text: standard input, or the file at its path.
-    fn open_main(&self, path: &str) -> Result<Found<FolderReader<Box<R::Reader>, R::File>>, SourceFault>
+    fn open_main(
+        &self,
+        path: &str,
+    ) -> Result<Found<FolderReader<Box<R::Reader>, R::File>>, SourceFault>
         ensures path { OpensPath path.now result }
         ensures reader { IfOk result (λ found. IsReaderOf path.now found.reader) }
     {
@@ -270,7 +273,10 @@ impl<'r, R: Files + Input> Sources for Folders<'r, R> {
 
     ghost refusals = { memory_refusals };
 
-    fn top(&mut self, path: &str) -> Result<Found<FolderReader<Box<R::Reader>, R::File>>, SourceFault>
+    fn top(
+        &mut self,
+        path: &str,
+    ) -> Result<Found<FolderReader<Box<R::Reader>, R::File>>, SourceFault>
         ensures path { OpensPath path.now result }
         ensures reader { IfOk result (λ found. IsReaderOf path.now found.reader) }
         ensures folders { include_folders self.new ≡ include_folders self.old }
