@@ -60,18 +60,33 @@ impl<S: Sources> Preprocessor<S> {
         ensures output { S.has_known_texts sources →
             Tells (W.taken writer.old) (W.taken writer.new) (output_of S.Sources self.old sources path.now) result }
     {
-        let mut nobody = Unwatched {};
         if let Some(engine) = &mut self.engine {
             let _before = engine.renew(sources, self.options.origins);
-            return run_fresh(engine, &self.options, path, writer, &mut nobody);
+            return run_fresh(engine, &self.options, path, writer, &mut Unwatched {});
         }
-        match new_engine(self.alloc, &self.options, sources) {
-            Ok(mut engine) => {
-                let outcome = run_fresh(&mut engine, &self.options, path, writer, &mut nobody);
-                self.engine = Some(engine);
-                outcome
-            }
-            Err(fault) => Err(fault),
-        }
+        self.preprocess_first(sources, path, writer)
+    }
+
+    // Preprocesses a main text in an engine that is made for it.
+    #[cold]
+    #[inline(never)]
+    fn preprocess_first<W: Sink>(
+        &mut self,
+        sources: S,
+        path: &str,
+        writer: &mut W,
+    ) -> Result<u64, PrepFault>
+        ensures options { self.new ≡ self.old }
+        ensures outcome { Preprocesses S.Sources W.Sink self.old sources path.now writer.old writer.new result }
+        ensures output { S.has_known_texts sources →
+            Tells (W.taken writer.old) (W.taken writer.new) (output_of S.Sources self.old sources path.now) result }
+    {
+        let mut engine = match new_engine(self.alloc, &self.options, sources) {
+            Ok(engine) => engine,
+            Err(fault) => return Err(fault),
+        };
+        let outcome = run_fresh(&mut engine, &self.options, path, writer, &mut Unwatched {});
+        self.engine = Some(engine);
+        outcome
     }
 }

@@ -24,11 +24,3 @@ returns-in-Some-clause-output g c = λ has_known_texts.
     rw (← c.self.view_is)
     (subst (λ s. Tells (g.W.Sink.taken c.args.writer.now) (g.W.Sink.taken c.run_fresh.new.writer) (output_of g.S.Sources c.self.inside.options s c.args.path.now) c.run_fresh.result) same
     (c.run_fresh.ensures.output (subst (λ s. g.S.Sources.has_known_texts s) (sym same) has_known_texts)))
-
-pub invariant_of-self-in-Ok : goal.invariant_of-self-in-Ok
-invariant_of-self-in-Ok g c = made_keeps c.self.inside.options c.args.sources c.in-Ok.engine c.run_fresh-outcome.new.engine c.in-Ok.ensures c.run_fresh-outcome.ensures.limits
-
-pub returns-in-Ok-clause-outcome : goal.returns-in-Ok-clause-outcome
-returns-in-Ok-clause-outcome g c =
-    rw (← c.self.view_is)
-    (preprocesses_of g.S.Sources g.W.Sink c.self.inside.options c.args.sources c.in-Ok.engine _ _ _ _ _ c.in-Ok.ensures c.run_fresh-outcome.ensures.outcome)
