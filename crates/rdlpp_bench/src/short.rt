@@ -34,27 +34,34 @@ pub fn run_shorts(
     Ok(())
 }
 
-/// The same row, in one engine. Its texts are all made before, since the engine borrows them.
+/// The same row, in one engine. Its texts are all made before, one behind the other, since the engine borrows them.
 pub fn run_renewed(
     alloc: Global,
     random: &mut Random,
     size: usize,
     total: &mut Digest,
 ) -> Result<(), AllocError> {
-    let mut texts = Vec::new(alloc);
+    let mut texts = Text::new(alloc);
+    let mut ends = Vec::new(alloc);
     for _ in 0..SOURCES / 64 * size.min(64) {
-        let mut text = Text::new(alloc);
-        put_source(&mut text, random)?;
-        texts.push(text)?;
+        put_source(&mut texts, random)?;
+        ends.push(texts.len())?;
     }
-    run_texts(alloc, texts.as_slice(), total)
+    run_texts(alloc, texts.bytes(), ends.as_slice(), total)
 }
 
-// Preprocesses texts one after another in one engine.
-fn run_texts(alloc: Global, texts: &[Text], total: &mut Digest) -> Result<(), AllocError> {
+// Preprocesses texts one after another in one engine: each begins where the one before it ends.
+fn run_texts(
+    alloc: Global,
+    texts: &[u8],
+    ends: &[usize],
+    total: &mut Digest,
+) -> Result<(), AllocError> {
     let mut files = Vec::new(alloc);
-    for text in texts {
-        files.push(("main", text.bytes()))?;
+    let mut start = 0;
+    for end in ends {
+        files.push(("main", texts.get(start..*end).unwrap_or(&[])))?;
+        start = *end;
     }
     run_each(alloc, files.as_slice(), total);
     Ok(())
