@@ -1,13 +1,13 @@
 -- The index of a table: a place taken out or put in, and the names to which it leads.
-use Rattle.std.proofs.Common.{◌≡◌, ℕ, suc, ◌+◌, ◌-◌, ◌<◌, ◌≤◌, List, ◌∷◌, ◌++◌, length, length-append, map, take, drop, insert, remove, ap, sym, ◌∙◌, arith, append_assoc, ◌≢◌, ◌⊎◌, [], get_or, refl, inl, inr, All, bytes_eq, subst, Option, Some, None, Ordering, Less, le-ltb, lt-ltb, drop_at, get_or-drop, get_or-take, length-drop, length-take, length-take-le, take-append-drop, take_at}
+use Rattle.std.proofs.Common.{◌≡◌, ℕ, suc, replicate, ◌+◌, ◌-◌, ◌<◌, ◌≤◌, List, ◌∷◌, ◌++◌, length, length-append, map, take, drop, insert, remove, ap, sym, ◌∙◌, arith, append_assoc, ◌≢◌, ◌⊎◌, [], get_or, refl, inl, inr, All, bytes_eq, subst, Option, Some, None, Ordering, Less, le-ltb, lt-ltb, drop_at, length-drop, length-take, length-take-le, take-append-drop, take_at}
 use Rattle.std.specs.List.{IsDistinct}
 use Rattle.std.proofs.Math.Nat.{min-le_left, min-le_right}
 use Rattle.std.proofs.Math.Seq.{get_or-append_seam}
 use Rattle.std.proofs.lemmas.Bool.{cases_lt, cond-false, cond-true}
-use Rattle.std.proofs.lemmas.List.{drop-append-le, drop-map, get_or-append_right, get_or-map, get_or_append_left, get_or_default, length-map, map-append, nil_from_length, take-append-le, take-map}
+use Rattle.std.proofs.lemmas.List.{drop-append-le, drop-map, get_or-map, get_or-replicate, get_or_append_left, get_or_default, length-map, length-replicate, map-append, nil_from_length, take-append-le, take-map}
 use Rattle.std.proofs.lemmas.List.Edits.{get_or-insert_above, get_or-insert_at, get_or-insert_below, get_or-remove_above, get_or-remove_below, length-insert, length-remove}
 use Rattle.rdlpp_table.specs.Entries.{AreWithin}
-use Rattle.rdlpp_table.specs.Index.{IsDivided, IsGap, IsIndex, IsIndexed, IsPlace, closed, index_order, key_at, name_at, name_order, names_of, bucket_of}
+use Rattle.rdlpp_table.specs.Index.{IsDivided, IsGap, IsIndex, IsIndexed, IsLater, IsPlace, IsSooner, closed, index_order, key_at, name_at, name_order, names_of, bucket_of}
 use Rattle.rdlpp_table.specs.Layout.{IsHeld, view_of}
 use Rattle.rdlpp_table.specs.FormalOffsets.{table_offsets}
 use Rattle.rdlpp_table.specs.Store.{IsStored, entry_end, macro_in, macros_in, name_of}
@@ -315,90 +315,32 @@ entered_index names order name gap n x g e =
 
 -- Where the buckets of an index begin, once a place was taken out of it or put into it.
 
--- each bucket behind one begins a place later
-pub record IsLater (bucket : ℕ) (bucket_starts new : List ℕ) : Type 0 where
-  pub long : length new ≡ length bucket_starts
-  pub before : (p : ℕ) → p ≤ bucket → get_or new p 0 ≡ get_or bucket_starts p 0
-  pub following : (p : ℕ) → bucket < p → p < length bucket_starts → get_or new p 0 ≡ get_or bucket_starts p 0 + 1
-
--- each bucket behind one begins a place sooner
-pub record IsSooner (bucket : ℕ) (bucket_starts new : List ℕ) : Type 0 where
-  pub long : length new ≡ length bucket_starts
-  pub before : (p : ℕ) → p ≤ bucket → get_or new p 0 ≡ get_or bucket_starts p 0
-  pub following : (p : ℕ) → bucket < p → p < length bucket_starts → get_or new p 0 ≡ get_or bucket_starts p 0 - 1
-
-module _ (f : ℕ → ℕ) (bucket : ℕ) (bucket_starts new : List ℕ) (h : bucket < length bucket_starts)
-    (e : new ≡ take (bucket + 1) bucket_starts ++ map f (drop (bucket + 1) bucket_starts)) where
-  abbrev front : List ℕ
-  front = take (bucket + 1) bucket_starts
-
-  abbrev back : List ℕ
-  back = map f (drop (bucket + 1) bucket_starts)
-
-  front_long : length front ≡ bucket + 1
-  front_long = length-take-le (bucket + 1) bucket_starts (omega arith)
-
-  back_long : length back ≡ length bucket_starts - (bucket + 1)
-  back_long = length-map (drop (bucket + 1) bucket_starts) f ∙ length-drop (bucket + 1) bucket_starts
-
-  moved_long : length new ≡ length bucket_starts
-  moved_long = ap length e ∙ (length-append front back ∙ omega (arith, front_long, back_long))
-
-  moved_before : (p : ℕ) → p ≤ bucket → get_or new p 0 ≡ get_or bucket_starts p 0
-  moved_before p l =
-      ap (λ (xs : List ℕ). get_or xs p 0) e
-      ∙ (get_or_append_left front back 0 p (omega (arith, front_long))
-      ∙ get_or-take (bucket + 1) bucket_starts p 0 (omega arith))
-
-  moved_after : (p : ℕ) → bucket < p → p < length bucket_starts → get_or new p 0 ≡ f (get_or bucket_starts p 0)
-  moved_after p l g =
-      let same : bucket + 1 + (p - (bucket + 1)) ≡ p = omega arith in
-      let inside : p - (bucket + 1) < length (drop (bucket + 1) bucket_starts) = omega (arith, length-drop (bucket + 1) bucket_starts) in
-      ap (λ (xs : List ℕ). get_or xs p 0) e
-      ∙ (get_or-append_right front back (bucket + 1) p 0 front_long (omega arith)
-      ∙ (get_or-map f (drop (bucket + 1) bucket_starts) (p - (bucket + 1)) 0 0 inside
-      ∙ ap f (get_or-drop (bucket + 1) bucket_starts (p - (bucket + 1)) 0 ∙ ap (λ (i : ℕ). get_or bucket_starts i 0) same)))
-
-pub later_is : (bucket : ℕ) (bucket_starts new : List ℕ) → bucket < length bucket_starts → new ≡ take (bucket + 1) bucket_starts ++ map (λ s. s + 1) (drop (bucket + 1) bucket_starts) → IsLater bucket bucket_starts new
-later_is bucket bucket_starts new h e = record {
-  long = moved_long (λ s. s + 1) bucket bucket_starts new h e;
-  before = moved_before (λ s. s + 1) bucket bucket_starts new h e;
-  following = moved_after (λ s. s + 1) bucket bucket_starts new h e;
-}
-
--- the buckets behind that of a name in the index begin behind its place
-pub sooner_more : (names : List (List ℕ)) (order bucket_starts name : List ℕ) (at bucket : ℕ) → IsDivided names order bucket_starts → IsPlace names order name at → bucket ≡ bucket_of name → All (λ s. 0 < s) (drop (bucket + 1) bucket_starts)
-sooner_more names order bucket_starts name at bucket v p e k d h =
-    let far : bucket + 1 + k < length bucket_starts = omega (arith, length-drop (bucket + 1) bucket_starts) in
-    let here : get_or (drop (bucket + 1) bucket_starts) k d ≡ get_or bucket_starts (bucket + 1 + k) 0 = get_or-drop (bucket + 1) bucket_starts k d ∙ get_or_default bucket_starts (bucket + 1 + k) d 0 far in
-    elim (cases_lt 0 (get_or bucket_starts (bucket + 1 + k) 0)) [
-      | inl l ↦ omega arith
-      | inr l ↦
-          let above : bucket + 1 + k ≤ bucket_of (key_at names order at) = v.above (bucket + 1 + k) at (omega (arith, v.long)) (omega arith) p.inside in
-          absurd (omega (arith, ap bucket_of p.same))
+-- the bucket of a name in the index begins up to its place, and those behind it begin behind its place
+pub sooner_more : (names : List (List ℕ)) (order bucket_starts name : List ℕ) (at bucket : ℕ) → IsDivided names order bucket_starts → IsPlace names order name at → bucket ≡ bucket_of name → (p : ℕ) → bucket < p → p ≤ 1024 → get_or bucket_starts bucket 0 < get_or bucket_starts p 0
+sooner_more names order bucket_starts name at bucket v x e p h l =
+    let here : bucket_of (key_at names order at) ≡ bucket = ap bucket_of x.same ∙ sym e in
+    let up_to : get_or bucket_starts bucket 0 ≤ at = elim (cases_lt at (get_or bucket_starts bucket 0)) [
+      | inl b ↦ absurd (omega (arith, here, v.below bucket at (omega arith) b))
+      | inr b ↦ b
+    ] in
+    elim (cases_lt at (get_or bucket_starts p 0)) [
+      | inl b ↦ omega arith
+      | inr b ↦ absurd (omega (arith, here, v.above p at l b x.inside))
     ]
 
-pub sooner_is : (bucket : ℕ) (bucket_starts new : List ℕ) → bucket < length bucket_starts → new ≡ take (bucket + 1) bucket_starts ++ map (λ s. s - 1) (drop (bucket + 1) bucket_starts) → IsSooner bucket bucket_starts new
-sooner_is bucket bucket_starts new h e = record {
-  long = moved_long (λ s. s - 1) bucket bucket_starts new h e;
-  before = moved_before (λ s. s - 1) bucket bucket_starts new h e;
-  following = moved_after (λ s. s - 1) bucket bucket_starts new h e;
-}
-
-pub nothing_divided : (names : List (List ℕ)) (bucket_starts : List ℕ) → length bucket_starts ≡ 1025 → ((p : ℕ) → p < 1025 → get_or bucket_starts p 0 ≡ 0) → IsDivided names [] bucket_starts
-nothing_divided names bucket_starts l z = record {
-  long = l;
-  inside = λ p h. omega (arith, z p (omega arith));
-  below = λ p k h g. absurd (omega (arith, z p (omega arith)));
-  above = λ p k h g i. absurd (omega arith);
-}
+pub nothing_divided : (names : List (List ℕ)) (bucket_starts : List ℕ) → bucket_starts ≡ replicate 1025 0 → IsDivided names [] bucket_starts
+nothing_divided names bucket_starts e =
+    let z : (p : ℕ) → p ≤ 1024 → get_or bucket_starts p 0 ≡ 0 = λ p h. ap (λ (l : List ℕ). get_or l p 0) e ∙ get_or-replicate 1025 p 0 0 (omega arith) in
+    record {
+      long = ap (length {A = ℕ}) e ∙ length-replicate {A = ℕ} 1025 0;
+      inside = λ p h. omega (arith, z p h);
+      below = λ p k h g. absurd (omega (arith, z p h));
+      above = λ p k h g i. absurd (omega arith);
+    }
 
 -- no bucket begins past the end of the index
-pub few_starts : (names : List (List ℕ)) (order bucket_starts : List ℕ) (from : ℕ) → IsDivided names order bucket_starts → length order ≤ 65536 → All (λ s. s ≤ 65536) (drop from bucket_starts)
-few_starts names order bucket_starts from d h = λ i b l.
-    let inside : from + i < length bucket_starts = omega (arith, length-drop from bucket_starts) in
-    let fits : get_or bucket_starts (from + i) 0 ≤ length order = d.inside (from + i) (omega (arith, d.long)) in
-    omega (arith, get_or-drop from bucket_starts i b, get_or_default bucket_starts (from + i) b 0 inside)
+pub few_starts : (names : List (List ℕ)) (order bucket_starts : List ℕ) → IsDivided names order bucket_starts → length order ≤ 65536 → All (λ s. s ≤ 65536) bucket_starts
+few_starts names order bucket_starts d h = λ i b l. omega (arith, d.long, d.inside i (omega (arith, d.long)), get_or_default bucket_starts i b 0 l)
 
 -- where a place lies in the index with one place more: among those before, in its middle, or among those behind
 module _ (names : List (List ℕ)) (order bucket_starts new name : List ℕ) (gap n bucket : ℕ) (x : IsIndex names order) (g : IsGap names order name gap)
@@ -649,12 +591,12 @@ entered_with bs es os bytes entries order bucket_starts ms m gap n bucket new be
     let R : List ℕ → Type 0 = λ o. IsIndexed (names_of (ms ++ m ∷ [])) o begun in
     subst R (sym f) (subst Q (sym (map-append (λ (x : Macro). x.name) ms (m ∷ []))) more)
 
-pub index_of_nothing : (bytes : List ℕ) (entries : List Entry) (order bucket_starts : List ℕ) → entries ≡ [] → order ≡ [] → length bucket_starts ≡ 1025 → ((p : ℕ) → p < 1025 → get_or bucket_starts p 0 ≡ 0) → IsIndexed (names_of (macros_in bytes entries)) order bucket_starts
-index_of_nothing bytes entries order bucket_starts e f l z =
+pub index_of_nothing : (bytes : List ℕ) (entries : List Entry) (order bucket_starts : List ℕ) → entries ≡ [] → order ≡ [] → bucket_starts ≡ replicate 1025 0 → IsIndexed (names_of (macros_in bytes entries)) order bucket_starts
+index_of_nothing bytes entries order bucket_starts e f g =
     let nothing : List ℕ = [] in
     let none : IsIndexed (names_of []) nothing bucket_starts = record {
       index = record { long = refl; inside = λ k h. absurd (omega arith); whole = λ i h. absurd (omega arith); sorted = λ j k h l. absurd (omega arith) };
-      divided = nothing_divided (names_of []) bucket_starts l z;
+      divided = nothing_divided (names_of []) bucket_starts g;
     } in
     let P : List ℕ → Type 0 = λ o. IsIndexed (names_of []) o bucket_starts in
     let Q : List Macro → Type 0 = λ l. IsIndexed (names_of l) order bucket_starts in

@@ -67,6 +67,18 @@ pub record IsDivided (names : List (List ℕ)) (order bucket_starts : List ℕ) 
   pub below : (p k : ℕ) → p ≤ 1024 → k < slice_index bucket_starts p → bucket_of (key_at names order k) < p
   pub above : (p k : ℕ) → p ≤ 1024 → slice_index bucket_starts p ≤ k → k < length order → p ≤ bucket_of (key_at names order k)
 
+-- each bucket behind one begins a place later
+pub record IsLater (bucket : ℕ) (bucket_starts new : List ℕ) : Type 0 where
+  pub long : length new ≡ length bucket_starts
+  pub before : (p : ℕ) → p ≤ bucket → slice_index new p ≡ slice_index bucket_starts p
+  pub following : (p : ℕ) → bucket < p → p < length bucket_starts → slice_index new p ≡ slice_index bucket_starts p + 1
+
+-- each bucket behind one begins a place sooner
+pub record IsSooner (bucket : ℕ) (bucket_starts new : List ℕ) : Type 0 where
+  pub long : length new ≡ length bucket_starts
+  pub before : (p : ℕ) → p ≤ bucket → slice_index new p ≡ slice_index bucket_starts p
+  pub following : (p : ℕ) → bucket < p → p < length bucket_starts → slice_index new p ≡ slice_index bucket_starts p - 1
+
 -- the index and where its buckets begin
 pub record IsIndexed (names : List (List ℕ)) (order bucket_starts : List ℕ) : Type 0 where
   pub index : IsIndex names order

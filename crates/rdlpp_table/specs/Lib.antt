@@ -10,6 +10,7 @@ pub mod Define
 pub mod Store
 pub mod Entries
 pub mod Index
+pub mod Buckets
 pub mod NewMacro
 pub mod Layout
 pub mod Formals

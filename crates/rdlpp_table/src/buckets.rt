@@ -1,11 +1,9 @@
 // The buckets of an index: names whose bytes are mixed to numbers that begin alike stand together.
-ghost use Rattle.std.specs.Prelude.{◌≡◌, ◌+◌, ◌++◌, ◌-◌, ◌<◌, ◌≤◌, All, drop, length, map, take};
-ghost use Rattle.rdlpp_table.specs.Index.{bucket_of, fold_bytes, mix};
+ghost use Rattle.std.specs.Prelude.{◌≡◌, ℕ, ◌+◌, ◌-◌, ◌<◌, ◌≤◌, All, map, replicate, slice_index};
+ghost use Rattle.rdlpp_table.specs.Index.{bucket_of, fold_bytes, mix, IsLater, IsSooner};
 
 use crate::lookup::front_number;
-
-// How many places are kept: where each of the 1,024 buckets begins, and where the last one ends.
-pub(crate) const BUCKET_STARTS: usize = 1_025;
+use std::marker::Model;
 
 // A number that is mixed with another one.
 #[tactic(auto, unfolding(crate::specs::Index::mix))]
@@ -42,40 +40,98 @@ pub(crate) fn bucket_of(name: &[u8]) -> usize
     (mix(number, fold_bytes(rest)) / 18_014_398_509_481_984) as usize
 }
 
-// These buckets begin a place later.
-fn move_up(bucket_starts: &mut [u32])
-    requires { All (λ s. s ≤ 65536) bucket_starts.old }
-    ensures { bucket_starts.new ≡ map (λ s. s + 1) bucket_starts.old }
+// These numbers are each one more.
+fn move_up(starts: &mut [u32])
+    requires { All (λ s. s ≤ 65536) starts.old }
+    ensures { starts.new ≡ map (λ s. s + 1) starts.old }
 {
-    for start in bucket_starts.iter_mut() {
+    for start in starts.iter_mut() {
         *start += 1;
     }
 }
 
-// These buckets begin a place sooner.
-fn move_down(bucket_starts: &mut [u32])
-    requires { All (λ s. 0 < s) bucket_starts.old }
-    ensures { bucket_starts.new ≡ map (λ s. s - 1) bucket_starts.old }
+// These numbers are each one less.
+fn move_down(starts: &mut [u32])
+    requires { All (λ s. 0 < s) starts.old }
+    ensures { starts.new ≡ map (λ s. s - 1) starts.old }
 {
-    for start in bucket_starts.iter_mut() {
+    for start in starts.iter_mut() {
         *start -= 1;
     }
 }
 
-// The buckets behind one begin a place later, once a name was put into it.
-pub(crate) fn begin_later(bucket_starts: &mut [u32], bucket: usize)
-    requires bucket { bucket < length bucket_starts.old }
-    requires few { All (λ s. s ≤ 65536) (drop (bucket + 1) bucket_starts.old) }
-    ensures { bucket_starts.new ≡ take (bucket + 1) bucket_starts.old ++ map (λ s. s + 1) (drop (bucket + 1) bucket_starts.old) }
-{
-    move_up(&mut bucket_starts[bucket + 1..]);
+// How many buckets a group has.
+const GROUP: usize = 32;
+
+// Where each of the 1,024 buckets of an index begins, and behind them where the last one ends. Buckets stand in groups of 32, so
+// that a name that comes or goes moves the starts of 31 buckets and of 32 groups at most.
+#[derive(Drop)]
+pub(crate) struct BucketStarts {
+    // Where each group begins, and where the last one ends.
+    group_starts: [u32; 33],
+    // How far behind the start of its group each bucket begins, and where the last one ends behind itself.
+    within: [u32; 1_025],
 }
 
-// The buckets behind one begin a place sooner, once a name was taken out of it.
-pub(crate) fn begin_sooner(bucket_starts: &mut [u32], bucket: usize)
-    requires bucket { bucket < length bucket_starts.old }
-    requires more { All (λ s. 0 < s) (drop (bucket + 1) bucket_starts.old) }
-    ensures { bucket_starts.new ≡ take (bucket + 1) bucket_starts.old ++ map (λ s. s - 1) (drop (bucket + 1) bucket_starts.old) }
-{
-    move_down(&mut bucket_starts[bucket + 1..]);
+impl Model for BucketStarts {
+    ghost use Rattle.std.specs.Prelude.{ℕ, List};
+    ghost use Rattle.rdlpp_table.specs.Buckets.{starts_in, IsGrouped};
+
+    ghost Value = { List ℕ };
+
+    ghost view = { λ s. starts_in s.group_starts s.within };
+
+    ghost invariant = { λ s. IsGrouped s.group_starts s.within };
+}
+
+impl BucketStarts {
+    // The index has no name yet.
+    #[inline(always)]
+    pub(crate) fn new() -> BucketStarts
+        ensures { result ≡ replicate 1025 0 }
+    {
+        BucketStarts {
+            group_starts: [0; 33],
+            within: [0; 1_025],
+        }
+    }
+
+    // The index has no name any more.
+    pub(crate) fn clear(&mut self)
+        ensures { self.new ≡ replicate 1025 0 }
+    {
+        self.group_starts = [0; 33];
+        self.within = [0; 1_025];
+    }
+
+    // Where a bucket begins, or where the last one ends.
+    #[inline(always)]
+    pub(crate) fn start(&self, bucket: usize) -> usize
+        requires { bucket ≤ 1024 }
+        ensures { result ≡ slice_index self.now bucket }
+    {
+        self.group_starts[bucket / GROUP] as usize + self.within[bucket] as usize
+    }
+
+    // The buckets behind one begin a place later, once a name was put into it.
+    pub(crate) fn begin_later(&mut self, bucket: usize)
+        requires bucket { bucket < 1024 }
+        requires few { All (λ s. s ≤ 65536) self.old }
+        ensures { IsLater bucket self.old self.new }
+    {
+        let group = bucket / GROUP;
+        move_up(&mut self.within[bucket + 1..GROUP * (group + 1)]);
+        move_up(&mut self.group_starts[group + 1..]);
+    }
+
+    // The buckets behind one begin a place sooner, once a name was taken out of it.
+    pub(crate) fn begin_sooner(&mut self, bucket: usize)
+        requires bucket { bucket < 1024 }
+        requires some { (p : ℕ) → bucket < p → p ≤ 1024 → slice_index self.old bucket < slice_index self.old p }
+        ensures { IsSooner bucket self.old self.new }
+    {
+        let group = bucket / GROUP;
+        move_down(&mut self.within[bucket + 1..GROUP * (group + 1)]);
+        move_down(&mut self.group_starts[group + 1..]);
+    }
 }

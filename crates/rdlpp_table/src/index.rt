@@ -7,6 +7,7 @@ ghost use Rattle.rdlpp_table.specs.Index.{closed, names_of, IsCounted, IsGap, Is
 ghost use Rattle.rdlpp_table.specs.Store.{macros_in};
 ghost use Rattle.rdlpp_table.specs.View.{place_named};
 
+use crate::buckets::BucketStarts;
 use crate::entry::{Entry, name_in};
 use crate::lookup::{LookupKey, Steps};
 use std::cmp::Ordering;
@@ -25,7 +26,7 @@ pub(crate) fn seek(
     bytes: &[u8],
     entries: &[Entry],
     order: &[u16],
-    bucket_starts: &[u32],
+    bucket_starts: &BucketStarts,
     key: &LookupKey,
     steps: &mut Steps,
 ) -> Result<usize, usize>
@@ -36,8 +37,8 @@ pub(crate) fn seek(
     ensures steps { IsCounted steps.old steps.new }
 {
     let bucket = key.bucket();
-    let mut low = bucket_starts[bucket] as usize;
-    let mut high = bucket_starts[bucket + 1] as usize;
+    let mut low = bucket_starts.start(bucket);
+    let mut high = bucket_starts.start(bucket + 1);
     while low < high {
         let middle = middle_of(low, high);
         let name = name_in(bytes, &entries[order[middle] as usize]);
@@ -55,7 +56,7 @@ pub(crate) fn place_in(
     bytes: &[u8],
     entries: &[Entry],
     order: &[u16],
-    bucket_starts: &[u32],
+    bucket_starts: &BucketStarts,
     name: &[u8],
     steps: &mut Steps,
 ) -> Option<usize>

@@ -7,7 +7,7 @@ ghost use Rattle.rdlpp_table.specs.Index.{names_of, IsGap, IsIndexed};
 ghost use Rattle.rdlpp_table.specs.FormalOffsets.{table_offsets};
 ghost use Rattle.rdlpp_table.specs.Store.{live, macros_in, IsStored};
 
-use crate::buckets::{begin_sooner, bucket_of};
+use crate::buckets::{BucketStarts, bucket_of};
 use crate::entry::{ENTRY_BYTES, Entry, offsets_len};
 use crate::given_up::{GivenUp, NOTHING, live};
 use crate::index::{leave, seek};
@@ -232,7 +232,7 @@ pub(crate) fn remove_named(
     entries: &mut Vec<Entry>,
     front: &mut GivenUp,
     order: &mut Vec<u16>,
-    bucket_starts: &mut [u32],
+    bucket_starts: &mut BucketStarts,
     name: &[u8],
 ) -> (bool, usize)
     requires stored { IsStored front.old.bytes front.old.formal_offsets bytes.old.items (live front.old.entries entries.old.items) (macros_in bytes.old.items (live front.old.entries entries.old.items)) }
@@ -262,7 +262,7 @@ pub(crate) fn remove_named(
     ) {
         Ok(at) => {
             let place = leave(order, count, at);
-            begin_sooner(bucket_starts, bucket_of(name));
+            bucket_starts.begin_sooner(bucket_of(name));
             remove_at(bytes, entries, front, order, place);
             (true, at)
         }

@@ -33,7 +33,7 @@ ghost use Rattle.rdlpp_table.specs.Store.{live, macros_in, AreStoredFormals, IsS
 ghost use Rattle.rdlpp_table.specs.Table.{formal_bytes, table_size, without};
 ghost use Rattle.rdlpp_table.specs.NewMacro.{list_formals, new_macro, points_told, IsList, IsNew};
 
-use crate::buckets::{begin_later, bucket_of};
+use crate::buckets::{BucketStarts, bucket_of};
 use crate::entry::Entry;
 use crate::formals::append_list;
 use crate::given_up::{GivenUp, live};
@@ -163,7 +163,7 @@ pub(crate) fn usage_without(
     entries: &[Entry],
     front: &GivenUp,
     order: &[u16],
-    bucket_starts: &[u32],
+    bucket_starts: &BucketStarts,
     name: &[u8],
 ) -> UsageWithout
     requires stored { IsStored front.now.bytes front.now.formal_offsets bytes.now (live front.now.entries entries.now) (macros_in bytes.now (live front.now.entries entries.now)) }
@@ -232,7 +232,7 @@ pub(crate) fn replace(
     entries: &mut Vec<Entry>,
     front: &mut GivenUp,
     order: &mut Vec<u16>,
-    bucket_starts: &mut [u32],
+    bucket_starts: &mut BucketStarts,
     new: &NewMacro,
 )
     requires stored { IsStored front.old.bytes front.old.formal_offsets bytes.old.items (live front.old.entries entries.old.items) (macros_in bytes.old.items (live front.old.entries entries.old.items)) }
@@ -259,7 +259,7 @@ pub(crate) fn replace(
 {
     let (_, gap) = remove_named(bytes, entries, front, order, bucket_starts, new.name);
     enter(order, gap, entries.len() - front.entries);
-    begin_later(bucket_starts, bucket_of(new.name));
+    bucket_starts.begin_later(bucket_of(new.name));
     make_room(
         bytes,
         entries,

@@ -12,7 +12,7 @@ ghost use Rattle.rdlpp_table.specs.PointCache.{cached_points};
 ghost use Rattle.rdlpp_table.specs.Store.{entry_end, formals_read, macro_in, AreStoredFormals};
 ghost use Rattle.rdlpp_table.specs.View.{TableView, AreSoundFormals, IsSound, IsSoundMacro, formal_at, formal_named, formals_of, macro_at, place_named};
 
-use crate::buckets::BUCKET_STARTS;
+use crate::buckets::BucketStarts;
 use crate::entry::{Entry, arity_in, body_in, listed_in, name_in};
 use crate::fault::{DefineFault, DefineKind, NoMemory, lexical, refusal};
 use crate::formals::read_list;
@@ -45,7 +45,7 @@ pub struct Table {
     // the formals of each macro begin among their bytes, where these are long: two numbers for each formal.
     order: Vec<u16>,
     // Where each part of the index begins, and where the last one ends.
-    bucket_starts: [u32; BUCKET_STARTS],
+    bucket_starts: BucketStarts,
     most_bytes: usize,
     most_macros: usize,
 }
@@ -123,7 +123,7 @@ impl Table {
             entries,
             front: NOTHING,
             order,
-            bucket_starts: [0; BUCKET_STARTS],
+            bucket_starts: BucketStarts::new(),
             most_bytes: limits.definition_bytes,
             most_macros: limits.definitions,
         })
@@ -337,7 +337,7 @@ impl Table {
         self.entries.clear();
         self.front = NOTHING;
         self.order.clear();
-        self.bucket_starts = [0; BUCKET_STARTS];
+        self.bucket_starts.clear();
     }
 
     /// Takes out the macro of a name, and answers whether there was one.

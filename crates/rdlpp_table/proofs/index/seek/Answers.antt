@@ -1,11 +1,11 @@
-use Rattle.std.proofs.Common.{◌<◌, length, arith, refl}
+use Rattle.std.proofs.Common.{◌<◌, length, arith}
 use Rattle.rdlpp_table.proofs.Indexed.{compared_key, end_of_entry, entry_inside, index_length}
 use Rattle.rdlpp_table.proofs.Orders.{start_seeking, seek_down, seek_found, seek_up}
 use Rattle.rdlpp_table.proofs.Sizes.{no_entry}
 use Rattle.rdlpp_table.proofs.index.seek.Goals as goal
 
 pub loop-low-init : goal.loop-low-init
-loop-low-init c = start_seeking _ _ _ _ _ _ _ _ c.requires.indexed.divided c.bucket-bucket.ensures.value c.bucket-bucket.ensures.small refl refl (omega (arith, index_length _ _ _ c.requires.indexed.index, c.requires.few))
+loop-low-init c = start_seeking _ _ _ _ _ _ _ _ c.requires.indexed.divided c.bucket-bucket.ensures.value c.bucket-bucket.ensures.small c.start-low.ensures c.start-high.ensures (omega (arith, index_length _ _ _ c.requires.indexed.index, c.requires.few))
 
 pub bounds-entries-order : goal.bounds-entries-order
 bounds-entries-order c =

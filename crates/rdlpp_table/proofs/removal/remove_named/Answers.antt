@@ -2,7 +2,7 @@ use Rattle.std.proofs.Common.{◌≡◌, ◌-◌, ◌∙◌, ℕ, Some, None, ap
 use Rattle.rdlpp_table.specs.Index.{closed}
 use Rattle.rdlpp_table.proofs.Sizes.{count_items, live_count, is_named, stored_slices_within}
 use Rattle.rdlpp_table.proofs.RoundTrip.{stored_without, stored_nowhere}
-use Rattle.rdlpp_table.proofs.Indexed.{entry_inside, gap_without, gapped, index_front, left_nowhere, left_without, length_front, offsets_nowhere, offsets_without, placed, sooner_is, sooner_more}
+use Rattle.rdlpp_table.proofs.Indexed.{entry_inside, gap_without, gapped, index_front, left_nowhere, left_without, length_front, offsets_nowhere, offsets_without, placed, sooner_more}
 use Rattle.rdlpp_table.proofs.Orders.{indexed_gap, indexed_place}
 use Rattle.rdlpp_table.proofs.removal.remove_named.Goals as goal
 
@@ -26,8 +26,8 @@ leave-place-requires-clause-count c =
     let n : c.len.result - c.args.front.now.entries ≡ length (drop c.args.front.now.entries c.args.entries.now.items) = omega (arith, c.len.ensures, live_count c.args.front.now.entries c.args.entries.now) in
     omega (arith, index_front c.args.bytes.now.items (drop c.args.front.now.entries c.args.entries.now.items) c.args.order.now.items c.requires.indexed.index, n, count_items c.args.order.now)
 
-pub begin_sooner-requires-clause-more : goal.begin_sooner-requires-clause-more
-begin_sooner-requires-clause-more c =
+pub begin_sooner-requires-clause-some : goal.begin_sooner-requires-clause-some
+begin_sooner-requires-clause-some c =
     let n : c.len.result - c.args.front.now.entries ≡ length (drop c.args.front.now.entries c.args.entries.now.items) = omega (arith, c.len.ensures, live_count c.args.front.now.entries c.args.entries.now) in
     let p = placed _ _ _ _ _ _ _ _ _ c.deref.ensures.value (c.live.ensures ∙ ap (drop c.args.front.now.entries) c.deref-2.ensures.value) (ap (take (c.len.result - c.args.front.now.entries)) c.deref-3.ensures.value ∙ ap (λ (n : ℕ). take n c.args.order.now.items) n) c.new.ensures c.in-Ok.ensures.found in
     sooner_more _ _ _ _ _ _ c.requires.indexed.divided p c.bucket_of.ensures.value
@@ -71,7 +71,7 @@ returns-in-Ok-clause-indexed c =
     ∙ (ap (λ (n : ℕ). take (n - 1) c.leave-place.new.order.items) (sym n)
     ∙ (c.leave-place.ensures.index
     ∙ ap (λ (n : ℕ). map (closed c.leave-place.result) (remove (take n c.args.order.now.items) c.in-Ok.at)) n)) in
-    left_without _ _ _ _ _ _ _ _ _ c.requires.distinct c.requires.indexed p value left c.bucket_of.ensures.value (sooner_is _ _ _ (omega (arith, c.bucket_of.ensures.small, c.requires.indexed.divided.long)) c.begin_sooner.ensures)
+    left_without _ _ _ _ _ _ _ _ _ c.requires.distinct c.requires.indexed p value left c.bucket_of.ensures.value c.begin_sooner.ensures
 
 pub returns-in-Ok-clause-gap : goal.returns-in-Ok-clause-gap
 returns-in-Ok-clause-gap c =

@@ -3,7 +3,7 @@ use Rattle.rdlpp_table.specs.FormalOffsets.{table_offsets}
 use Rattle.rdlpp_table.specs.Table.{Macro, table_size, without}
 use Rattle.rdlpp_table.specs.NewMacro.{new_macro}
 use Rattle.rdlpp_table.specs.Store.{IsStored, macros_in}
-use Rattle.rdlpp_table.proofs.Indexed.{entered_front, entered_with, few_left, few_starts, index_front, indexed_after, later_is}
+use Rattle.rdlpp_table.proofs.Indexed.{entered_front, entered_with, few_left, few_starts, index_front, indexed_after}
 use Rattle.rdlpp_table.proofs.Sizes.{count_items, few_offsets, length_macros_in, live_count}
 use Rattle.rdlpp_table.proofs.RoundTrip.{read_back, stored_again, stored_count}
 use Rattle.rdlpp_table.proofs.Orders.{count_names}
@@ -28,7 +28,7 @@ enter-requires-clause-place c =
 
 pub begin_later-requires-clause-few : goal.begin_later-requires-clause-few
 begin_later-requires-clause-few c =
-    few_starts _ _ _ _ c.remove_named-gap.ensures.indexed.divided
+    few_starts _ _ _ c.remove_named-gap.ensures.indexed.divided
     (omega (arith, c.remove_named-gap.ensures.indexed.index.long, count_names (without c.args.new.now.name.now (macros_in c.args.bytes.now.items (drop c.args.front.now.entries c.args.entries.now.items))), stored_count _ _ _ c.remove_named-gap.ensures.stored, few_left _ _ (drop c.args.front.now.entries c.args.entries.now.items) _ _ c.remove_named-gap.ensures.stored c.requires.few))
 
 pub make_room-requires-clause-stored : goal.make_room-requires-clause-stored
@@ -84,7 +84,7 @@ returns-clause-indexed c =
     let fits = entered_front c.remove_named-gap.new.order.items (length (drop c.remove_named-gap.new.front.entries c.remove_named-gap.new.entries.items)) c.remove_named-gap.result.1 (c.len.result - c.remove_named-gap.new.front.entries) (omega (arith, c.remove_named-gap.ensures.gap.fits, length-take-le (length (drop c.remove_named-gap.new.front.entries c.remove_named-gap.new.entries.items)) c.remove_named-gap.new.order.items inside)) inside in
     let m : Macro = new_macro c.args.new.now.name.now c.args.new.now.arity c.args.new.now.list.now c.args.new.now.is_logical c.args.new.now.text.now in
     let left : take (length (drop c.make_room.new.front.entries c.put.new.entries.items)) c.put.new.order.items ≡ insert (take (length (drop c.remove_named-gap.new.front.entries c.remove_named-gap.new.entries.items)) c.remove_named-gap.new.order.items) c.remove_named-gap.result.1 (c.len.result - c.remove_named-gap.new.front.entries) = c.put.ensures.index ∙ (ap (λ (k : ℕ). take (k + 1) c.enter.new.order.items) many ∙ (ap (take (length (drop c.remove_named-gap.new.front.entries c.remove_named-gap.new.entries.items) + 1)) c.enter.ensures.items ∙ fits.0)) in
-    entered_with _ _ _ _ _ _ _ _ m _ _ _ _ _ refl refl refl c.remove_named-gap.ensures.stored c.remove_named-gap.ensures.indexed c.remove_named-gap.ensures.gap n left c.bucket_of.ensures.value (later_is _ _ _ (omega (arith, c.bucket_of.ensures.small, c.remove_named-gap.ensures.indexed.divided.long)) c.begin_later.ensures)
+    entered_with _ _ _ _ _ _ _ _ m _ _ _ _ _ refl refl refl c.remove_named-gap.ensures.stored c.remove_named-gap.ensures.indexed c.remove_named-gap.ensures.gap n left c.bucket_of.ensures.value c.begin_later.ensures
 
 pub returns-clause-marked : goal.returns-clause-marked
 returns-clause-marked c =

@@ -1,5 +1,4 @@
-use Rattle.std.proofs.Common.{◌∙◌, arith, refl}
-use Rattle.std.proofs.lemmas.List.{get_or-replicate}
+use Rattle.std.proofs.Common.{◌∙◌, arith}
 use Rattle.rdlpp_table.proofs.Sizes.{held_when_empty, empty_view}
 use Rattle.rdlpp_table.proofs.Indexed.{index_of_nothing, nothing_front, nothing_marked}
 use Rattle.rdlpp_table.proofs.table.Table.clear.Goals as goal
@@ -10,7 +9,7 @@ invariant_of-self c = record {
   given_up = omega arith;
   room = c.clear.ensures.capacity ∙ c.self.invariant.room;
   entry_room = c.clear-2.ensures.capacity ∙ c.self.invariant.entry_room;
-  indexed = index_of_nothing _ _ _ _ c.clear-2.ensures.items (nothing_front _ _ c.clear-3.ensures.items) refl (λ p h. get_or-replicate 1025 p 0 0 h);
+  indexed = index_of_nothing _ _ _ _ c.clear-2.ensures.items (nothing_front _ _ c.clear-3.ensures.items) c.clear-4.ensures;
   marked = nothing_marked _ _ _ _ c.clear-2.ensures.items c.clear-3.ensures.items;
   index_room = c.clear-3.ensures.capacity ∙ c.self.invariant.index_room;
   few = c.self.invariant.few;

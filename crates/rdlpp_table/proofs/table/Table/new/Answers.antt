@@ -1,5 +1,4 @@
-use Rattle.std.proofs.Common.{arith, refl}
-use Rattle.std.proofs.lemmas.List.{get_or-replicate}
+use Rattle.std.proofs.Common.{arith}
 use Rattle.rdlpp_table.proofs.Sizes.{held_when_empty, empty_view}
 use Rattle.rdlpp_table.proofs.Indexed.{index_of_nothing, nothing_front, nothing_marked}
 use Rattle.rdlpp_table.proofs.table.Table.new.Goals as goal
@@ -10,7 +9,7 @@ invariant_of-result c = record {
   given_up = omega arith;
   room = c.in-Ok.ensures.exact;
   entry_room = c.in-Ok-with_capacity.ensures.exact;
-  indexed = index_of_nothing _ _ _ _ c.in-Ok-with_capacity.ensures.items (nothing_front _ _ c.in-Ok-with_capacity-2.ensures.items) refl (λ p h. get_or-replicate 1025 p 0 0 h);
+  indexed = index_of_nothing _ _ _ _ c.in-Ok-with_capacity.ensures.items (nothing_front _ _ c.in-Ok-with_capacity-2.ensures.items) c.new.ensures;
   marked = nothing_marked _ _ _ _ c.in-Ok-with_capacity.ensures.items c.in-Ok-with_capacity-2.ensures.items;
   index_room = c.in-Ok-with_capacity-2.ensures.exact;
   few = c.requires.definitions.1;
