@@ -1,10 +1,9 @@
 -- The index of a table: a place taken out or put in, and the names to which it leads.
-use Rattle.std.proofs.Common.{◌≡◌, ℕ, suc, replicate, ◌+◌, ◌-◌, ◌<◌, ◌≤◌, List, ◌∷◌, ◌++◌, length, length-append, map, take, drop, insert, remove, ap, sym, ◌∙◌, arith, append_assoc, ◌≢◌, ◌⊎◌, [], get_or, refl, inl, inr, All, bytes_eq, subst, Option, Some, None, Ordering, Less, le-ltb, lt-ltb, drop_at, length-drop, length-take, length-take-le, take-append-drop, take_at}
+use Rattle.std.proofs.Common.{◌≡◌, ℕ, suc, replicate, ◌+◌, ◌-◌, ◌<◌, ◌≤◌, List, ◌∷◌, ◌++◌, length, length-append, map, take, drop, insert, remove, ap, sym, ◌∙◌, arith, ◌≢◌, ◌⊎◌, [], get_or, refl, inl, inr, All, bytes_eq, subst, Option, Some, None, Ordering, Less, le-ltb, lt-ltb}
 use Rattle.std.specs.List.{IsDistinct}
-use Rattle.std.proofs.Math.Nat.{min-le_left, min-le_right}
 use Rattle.std.proofs.Math.Seq.{get_or-append_seam}
 use Rattle.std.proofs.lemmas.Bool.{cases_lt, cond-false, cond-true}
-use Rattle.std.proofs.lemmas.List.{drop-append-le, drop-map, get_or-map, get_or-replicate, get_or_append_left, get_or_default, length-map, length-replicate, map-append, nil_from_length, take-append-le, take-map}
+use Rattle.std.proofs.lemmas.List.{drop-map, get_or-map, get_or-replicate, get_or_append_left, get_or_default, length-map, length-replicate, map-append, take-map}
 use Rattle.std.proofs.lemmas.List.Edits.{get_or-insert_above, get_or-insert_at, get_or-insert_below, get_or-remove_above, get_or-remove_below, length-insert, length-remove}
 use Rattle.rdlpp_table.specs.Entries.{AreWithin}
 use Rattle.rdlpp_table.specs.Index.{IsDivided, IsGap, IsIndex, IsIndexed, IsLater, IsPlace, IsSooner, closed, index_order, key_at, name_at, name_order, names_of, bucket_of}
@@ -18,56 +17,6 @@ use Rattle.rdlpp_table.proofs.Orders.{count_names, indexed_place, less_part, mor
 use Rattle.rdlpp_table.proofs.RoundTrip.{read_back, stored_count}
 use Rattle.rdlpp_table.proofs.Sizes.{length_macros_in, macros_of_none}
 use Rattle.rdlpp_table.proofs.Taken.{without_at, without_length, without_nowhere}
-
--- An index that has something behind it, in one list.
-
-remove_front : (front following : List ℕ) (at : ℕ) → at < length front → remove (front ++ following) at ≡ remove front at ++ following
-remove_front front following at h =
-    ap (λ (l : List ℕ). l ++ drop (suc at) (front ++ following)) (take-append-le at front following (omega arith))
-    ∙ (ap (λ (l : List ℕ). take at front ++ l) (drop-append-le (suc at) front following (omega arith))
-    ∙ sym (append_assoc (take at front) (drop (suc at) front) following))
-
-insert_front : (front following : List ℕ) (at x : ℕ) → at ≤ length front → insert (front ++ following) at x ≡ insert front at x ++ following
-insert_front front following at x h =
-    ap (λ (l : List ℕ). l ++ x ∷ drop at (front ++ following)) (take-append-le at front following h)
-    ∙ (ap (λ (l : List ℕ). take at front ++ x ∷ l) (drop-append-le at front following h)
-    ∙ sym (append_assoc (take at front) (x ∷ drop at front) following))
-
--- a place taken out of an index with so many
-pub left_front : (items : List ℕ) (count at : ℕ) → at < count → count ≤ length items → (take (count - 1) (remove items at) ≡ remove (take count items) at) × (drop (count - 1) (remove items at) ≡ drop count items)
-left_front items count at h l =
-    let front : List ℕ = take count items in
-    let long : length front ≡ count = length-take-le count items l in
-    let n : length (remove front at) ≡ count - 1 = omega (arith, length-remove front at (omega arith)) in
-    let whole : remove items at ≡ remove front at ++ drop count items = ap (λ (x : List ℕ). remove x at) (sym (take-append-drop count items)) ∙ remove_front front (drop count items) at (omega arith) in
-    (ap (take (count - 1)) whole ∙ take_at (remove front at) (drop count items) (count - 1) n, ap (drop (count - 1)) whole ∙ drop_at (remove front at) (drop count items) (count - 1) n)
-
--- a place put into an index with so many
-pub entered_front : (items : List ℕ) (count gap x : ℕ) → gap ≤ count → count ≤ length items → (take (count + 1) (insert items gap x) ≡ insert (take count items) gap x) × (drop (count + 1) (insert items gap x) ≡ drop count items)
-entered_front items count gap x h l =
-    let front : List ℕ = take count items in
-    let long : length front ≡ count = length-take-le count items l in
-    let n : length (insert front gap x) ≡ count + 1 = omega (arith, length-insert front gap x (omega arith)) in
-    let whole : insert items gap x ≡ insert front gap x ++ drop count items = ap (λ (y : List ℕ). insert y gap x) (sym (take-append-drop count items)) ∙ insert_front front (drop count items) gap x (omega arith) in
-    (ap (take (count + 1)) whole ∙ take_at (insert front gap x) (drop count items) (count + 1) n, ap (drop (count + 1)) whole ∙ drop_at (insert front gap x) (drop count items) (count + 1) n)
-
--- the same, once the places that stay lie closer
-pub closed_front : (items removed am given : List ℕ) (len count at taken : ℕ) → at < count → count ≤ length items → removed ≡ remove items at → length removed ≡ len → am ≡ removed → given ≡ map (closed taken) (take (count - 1) am) ++ drop (count - 1) am → (take (count - 1) (take len (given ++ drop (length given) removed)) ≡ map (closed taken) (remove (take count items) at)) × (drop (count - 1) (take len (given ++ drop (length given) removed)) ≡ drop count items)
-closed_front items removed am given len count at taken h l r n a g =
-    let f = left_front items count at h l in
-    let front : List ℕ = map (closed taken) (take (count - 1) removed) in
-    let whole : given ≡ front ++ drop (count - 1) removed = g ∙ ap (λ (x : List ℕ). map (closed taken) (take (count - 1) x) ++ drop (count - 1) x) a in
-    let short : count - 1 ≤ length removed = omega (arith, ap (length {A = ℕ}) r, length-remove items at (omega arith)) in
-    let long : length front ≡ count - 1 = length-map (take (count - 1) removed) (closed taken) ∙ length-take-le (count - 1) removed short in
-    let size : length given ≡ len = omega (arith, ap (length {A = ℕ}) whole, length-append front (drop (count - 1) removed), length-drop (count - 1) removed) in
-    let kept : take len (given ++ drop (length given) removed) ≡ front ++ drop (count - 1) removed = take_at given (drop (length given) removed) len size ∙ whole in (
-      ap (take (count - 1)) kept
-          ∙ (take_at front (drop (count - 1) removed) (count - 1) long
-          ∙ ap (map (closed taken)) (ap (take (count - 1)) r ∙ f.0)),
-      ap (drop (count - 1)) kept
-          ∙ (drop_at front (drop (count - 1) removed) (count - 1) long
-          ∙ (ap (drop (count - 1)) r ∙ f.1)),
-    )
 
 -- An index, once a place was taken out of it or put into it.
 
@@ -510,12 +459,12 @@ unfolding macros_in macro_in
 key_of_entry bytes entries order k d h =
     name_of_macro (macros_in bytes entries) (get_or order k 0) ∙ ap (λ m. m.name) (get_or-map (macro_in bytes) entries (get_or order k 0) d no_macro h)
 
-pub compared_key : (bytes : List ℕ) (entries : List Entry) (order : List ℕ) (k : ℕ) (d : Entry) (other name : List ℕ) (o : Ordering) → IsIndex (names_of (macros_in bytes entries)) order → k < length order → other ≡ name_of bytes (get_or entries (get_or order k 0) d) → o ≡ name_order other name → name_order (key_at (names_of (macros_in bytes entries)) order k) name ≡ o
-compared_key bytes entries order k d other name o x h e f =
-    ap (λ (n : List ℕ). name_order n name) (key_of_entry bytes entries order k d (entry_inside bytes entries order k x h) ∙ sym e) ∙ sym f
+pub compared_key : (bytes : List ℕ) (entries : List Entry) (order : List ℕ) (k place : ℕ) (d : Entry) (other name : List ℕ) (o : Ordering) → IsIndex (names_of (macros_in bytes entries)) order → k < length order → place ≡ get_or order k 0 → other ≡ name_of bytes (get_or entries place d) → o ≡ name_order other name → name_order (key_at (names_of (macros_in bytes entries)) order k) name ≡ o
+compared_key bytes entries order k place d other name o x h p e f =
+    ap (λ (n : List ℕ). name_order n name) (key_of_entry bytes entries order k d (entry_inside bytes entries order k x h) ∙ sym (e ∙ ap (λ (i : ℕ). name_of bytes (get_or entries i d)) p)) ∙ sym f
 
-pub end_of_entry : (bytes : List ℕ) (entries : List Entry) (order : List ℕ) (k : ℕ) (d : Entry) → AreWithin (length bytes) entries → IsIndex (names_of (macros_in bytes entries)) order → k < length order → entry_end (get_or entries (get_or order k 0) d) ≤ length bytes
-end_of_entry bytes entries order k d w x h = w (get_or order k 0) d (entry_inside bytes entries order k x h)
+pub end_of_entry : (bytes : List ℕ) (entries : List Entry) (order : List ℕ) (k place : ℕ) (d : Entry) → AreWithin (length bytes) entries → IsIndex (names_of (macros_in bytes entries)) order → k < length order → place ≡ get_or order k 0 → entry_end (get_or entries place d) ≤ length bytes
+end_of_entry bytes entries order k place d w x h p = w place d (omega (arith, entry_inside bytes entries order k x h))
 
 -- what a search through slices of the lists found, of the lists themselves
 pub placed : (bs : List ℕ) (es : List Entry) (os : List ℕ) (bytes : List ℕ) (entries : List Entry) (order sought name : List ℕ) (at : ℕ) → bs ≡ bytes → es ≡ entries → os ≡ order → sought ≡ name → IsPlace (names_of (macros_in bs es)) os sought at → IsPlace (names_of (macros_in bytes entries)) order name at
@@ -556,15 +505,6 @@ gap_without ms order name at taken new bytes entries d x p e f s =
     let Q : List ℕ → Type 0 = λ o. IsGap (names_of (macros_in bytes entries)) o name at in
     subst Q (sym f) (subst P back (subst P names (left_gap (names_of ms) order name at taken x p e)))
 
--- so many places of a list that has them
-pub length_front : (items : List ℕ) (n : ℕ) → length (take n items) ≤ n
-length_front items n = omega (arith, length-take n items, min-le_left n (length items))
-
--- an index has as many places as there are entries, and so has the list that it begins
-pub index_front : (bytes : List ℕ) (entries : List Entry) (items : List ℕ) → IsIndex (names_of (macros_in bytes entries)) (take (length entries) items) → length entries ≤ length items
-index_front bytes entries items x =
-    omega (arith, index_length bytes entries (take (length entries) items) x, length-take (length entries) items, min-le_right (length entries) (length items))
-
 -- the offsets of the macros without the one of a name
 pub offsets_without : (ms : List Macro) (name : List ℕ) (place : ℕ) → IsDistinct bytes_eq (map (λ m. m.name) ms) → place_named ms name ≡ Some place → table_offsets (remove ms place) ≡ table_offsets (without name ms)
 offsets_without ms name place d e = ap table_offsets (sym (without_at name ms place d e))
@@ -602,14 +542,9 @@ index_of_nothing bytes entries order bucket_starts e f g =
     let Q : List Macro → Type 0 = λ l. IsIndexed (names_of l) order bucket_starts in
     subst Q (sym (macros_of_none bytes entries e)) (subst P (sym f) none)
 
--- a list without anything has nothing behind it, and no offsets
-pub nothing_front : (order : List ℕ) (n : ℕ) → order ≡ [] → take n order ≡ []
-nothing_front order n e = nil_from_length (take n order) (omega (arith, length-take n order, min-le_right n (length order), ap (length {A = ℕ}) e))
-
-pub nothing_marked : (bytes : List ℕ) (entries : List Entry) (order : List ℕ) (n : ℕ) → entries ≡ [] → order ≡ [] → drop n order ≡ table_offsets (macros_in bytes entries)
+pub nothing_marked : (bytes : List ℕ) (entries : List Entry) → entries ≡ [] → [] ≡ table_offsets (macros_in bytes entries)
 unfolding table_offsets
-nothing_marked bytes entries order n e f =
-    nil_from_length (drop n order) (omega (arith, length-drop n order, ap (length {A = ℕ}) f)) ∙ sym (ap table_offsets (macros_of_none bytes entries e))
+nothing_marked bytes entries e = sym (ap table_offsets (macros_of_none bytes entries e))
 
 -- the offsets of macros, as they are read back
 pub marked_after : {from ahead : ℕ} (bytes : List ℕ) (entries : List Entry) (formal_offsets : List ℕ) (ms : List Macro) → IsStored from ahead bytes entries ms → formal_offsets ≡ table_offsets ms → formal_offsets ≡ table_offsets (macros_in bytes entries)

@@ -2,7 +2,7 @@
 use Rattle.std.proofs.Common.{◌≡◌, ℕ, ◌+◌, ◌-◌, true, false, List, [], ◌∷◌, ◌++◌, length, take, drop, map, get_or, Option, Some, None, option_map, unwrap_or, refl, ap, sym, ◌∙◌, arith, length-append, append_assoc, slice_range, sum_by, zero, suc, ◌<◌, ◌≤◌, remove, bytes_eq, subst, append-nil, add-one, Ok, Err, le_trans, Bool, cond, eqb, one-add, inl, inr, All, flat_map, is_some, le-ltb, lt-ltb, drop_at, length-drop, length-take-le, take_at}
 use Rattle.std.specs.List.{IsDistinct, list_all, prefix_len}
 use Rattle.std.proofs.lemmas.Bool.{and_from, and_parts, cases_Bool, cond-false, cond-true}
-use Rattle.std.proofs.lemmas.List.{drop-append-le, take-append-le, take_rest}
+use Rattle.std.proofs.lemmas.List.{drop-append-le, take_rest}
 use Rattle.std.proofs.lemmas.List.Elements.{All-filter, All-push}
 use Rattle.std.proofs.lemmas.List.Folds.{length-prefix_len, list_all-append}
 use Rattle.std.proofs.lemmas.Slice.Eq.{bytes_eq-Decides}
@@ -280,16 +280,12 @@ put_stored {from = from} {ahead = ahead} bytes entries ms m start formal_offsets
       plain = list_all-append is_plain_macro ms (m ∷ []) ∙ and_from _ _ s.plain (and_from _ _ p refl);
     }
 
--- the offsets of a macro that was put behind the others, behind an index of so many places
-pub put_offsets : (order formal_offsets order' : List ℕ) (ms : List Macro) (m : Macro) (n : ℕ) → n ≤ length order → drop n order ≡ table_offsets ms → formal_offsets ≡ macro_offsets m → order' ≡ order ++ formal_offsets → (take n order' ≡ take n order) × (drop n order' ≡ table_offsets (ms ++ m ∷ []))
-put_offsets order formal_offsets order' ms m n l d e o = (
-  ap (take n) o ∙ take-append-le n order formal_offsets l,
-  ap (drop n) o
-      ∙ (drop-append-le n order formal_offsets l
-      ∙ (ap (λ (x : List ℕ). x ++ formal_offsets) d
-      ∙ (ap (λ (x : List ℕ). table_offsets ms ++ x) (e ∙ sym (one_offsets m))
-      ∙ sym (table_offsets-append ms (m ∷ []))))),
-)
+-- the offsets of a macro that was put behind the others
+pub put_offsets : (formal_offsets more : List ℕ) (ms : List Macro) (m : Macro) → formal_offsets ≡ table_offsets ms → more ≡ macro_offsets m → formal_offsets ++ more ≡ table_offsets (ms ++ m ∷ [])
+put_offsets formal_offsets more ms m d e =
+    ap (λ (x : List ℕ). x ++ more) d
+    ∙ (ap (λ (x : List ℕ). table_offsets ms ++ x) (e ∙ sym (one_offsets m))
+    ∙ sym (table_offsets-append ms (m ∷ [])))
 
 size_of_remove : (ms : List Macro) (place : ℕ) → place < length ms → macro_size (macro_at ms place) + table_size (remove ms place) ≡ table_size ms
 size_of_remove ms place h =

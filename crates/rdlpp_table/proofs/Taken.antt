@@ -1,5 +1,5 @@
 -- The macros but the one of a name, and that macro taken out of the lists in which a table lies.
-use Rattle.std.proofs.Common.{◌≡◌, ℕ, ◌+◌, ◌<◌, ◌≤◌, Bool, true, false, cond, not, ◌||◌, List, [], ◌∷◌, ◌++◌, length, map, remove, bytes_eq, Option, Some, None, refl, ap, sym, ◌∙◌, subst, arith, one-add, inl, inr, suc, ◌-◌, take, drop, get_or, length-append, append_assoc, add-zero, add-one, zero-add, ◌^◌, Vec, Global, vec_capacity, slice_range, filter, All, get_or-drop, length-drop, take_at, drop_at, take-append-drop, length-take-le, lt-ltb, le-ltb}
+use Rattle.std.proofs.Common.{◌≡◌, ℕ, ◌+◌, ◌<◌, ◌≤◌, Bool, true, false, cond, not, ◌||◌, List, [], ◌∷◌, ◌++◌, length, map, remove, bytes_eq, Option, Some, None, refl, ap, sym, ◌∙◌, subst, arith, one-add, inl, inr, suc, ◌-◌, take, drop, get_or, length-append, append_assoc, add-zero, add-one, zero-add, ◌^◌, Vec, Global, vec_capacity, slice_range, filter, All, get_or-drop, take_at, drop_at, take-append-drop, length-take-le, lt-ltb, le-ltb}
 use Rattle.std.specs.List.{IsDistinct, AllByRecursion, position_or_len, list_any, list_all, remove_range}
 use Rattle.std.proofs.lemmas.List.{map-append, drop_more}
 use Rattle.std.proofs.lemmas.Cmp.{nat_list_eq_equiv}
@@ -473,34 +473,22 @@ taken_low {from = from} {ahead = ahead} bytes items front place entry size forma
     low_entries from ahead entry.start entry.formal_offsets (take place ms) (omega (arith, t.start)) (omega (arith, t.offsets_from)) in
     subst P (sym t.front) (λ k d g. (omega (arith, low k d g, r.end, n), omega (arith, low k d g, r.few, r.end, n)))
 
--- the offsets of the macros that stay, behind an index of so many places
-pub taken_offsets : {from ahead : ℕ} (order : List ℕ) (entries rest : List Entry) (entry : Entry) (ms : List Macro) (place size formal_offsets n : ℕ) (order' : List ℕ) → n ≤ length order → drop n order ≡ table_offsets ms → Taken from ahead entries rest entry ms place size formal_offsets → place < length ms → order' ≡ remove_range order (n + (entry.formal_offsets - ahead)) (n + (entry.formal_offsets - ahead) + formal_offsets) → (take n order' ≡ take n order) × (drop n order' ≡ table_offsets (remove ms place))
-taken_offsets {ahead = ahead} order entries rest entry ms place size formal_offsets n order' l d t h o =
+-- the offsets of the macros that stay
+pub taken_offsets : {from ahead : ℕ} (formal_offsets : List ℕ) (entries rest : List Entry) (entry : Entry) (ms : List Macro) (place size count : ℕ) → formal_offsets ≡ table_offsets ms → Taken from ahead entries rest entry ms place size count → place < length ms → remove_range formal_offsets (entry.formal_offsets - ahead) (entry.formal_offsets - ahead + count) ≡ table_offsets (remove ms place)
+taken_offsets {ahead = ahead} formal_offsets entries rest entry ms place size count d t h =
     let xs : List Macro = take place ms in
     let m : Macro = macro_at ms place in
     let ys : List Macro = drop (place + 1) ms in
-    let front : List ℕ = take n order in
-    let long : length front ≡ n = length-take-le n order l in
-    let whole : order ≡ (front ++ table_offsets xs) ++ (macro_offsets m ++ table_offsets ys) =
-    sym (take-append-drop n order)
-    ∙ (ap (λ (x : List ℕ). front ++ x) (d ∙ (ap table_offsets (split_at ms place h) ∙ (table_offsets-append xs (m ∷ ys) ∙ ap (λ (x : List ℕ). table_offsets xs ++ x) (table_offsets-cons m ys))))
-    ∙ sym (append_assoc front (table_offsets xs) _)) in
-    let left : order' ≡ front ++ table_offsets (remove ms place) =
-    o
-    ∙ (ap (λ (x : List ℕ). remove_range x (n + (entry.formal_offsets - ahead)) (n + (entry.formal_offsets - ahead) + formal_offsets)) whole
-    ∙ (cut_middle (front ++ table_offsets xs) (macro_offsets m) (table_offsets ys) _ _ (omega (arith, length-append front (table_offsets xs), t.offsets_from)) (omega (arith, t.offsets_are))
-    ∙ (append_assoc front (table_offsets xs) (table_offsets ys)
-    ∙ ap (λ (x : List ℕ). front ++ x) (sym (table_offsets-append xs ys) ∙ ap (λ (k : ℕ). table_offsets (xs ++ drop k ms)) (add-one place))))) in
-    (ap (take n) left ∙ take_at front _ n long, ap (drop n) left ∙ drop_at front _ n long)
+    let whole : formal_offsets ≡ table_offsets xs ++ (macro_offsets m ++ table_offsets ys) =
+    d ∙ (ap table_offsets (split_at ms place h) ∙ (table_offsets-append xs (m ∷ ys) ∙ ap (λ (x : List ℕ). table_offsets xs ++ x) (table_offsets-cons m ys))) in
+    ap (λ (x : List ℕ). remove_range x (entry.formal_offsets - ahead) (entry.formal_offsets - ahead + count)) whole
+    ∙ (cut_middle (table_offsets xs) (macro_offsets m) (table_offsets ys) _ _ (omega (arith, t.offsets_from)) (omega (arith, t.offsets_are))
+    ∙ (sym (table_offsets-append xs ys) ∙ ap (λ (k : ℕ). table_offsets (xs ++ drop k ms)) (add-one place)))
 
 -- the offsets of an entry lie among those of all
 pub offsets_within : {from ahead : ℕ} (entries rest : List Entry) (entry : Entry) (ms : List Macro) (place size formal_offsets : ℕ) → Taken from ahead entries rest entry ms place size formal_offsets → place < length ms → entry.formal_offsets - ahead + formal_offsets ≤ length (table_offsets ms)
 offsets_within entries rest entry ms place size formal_offsets t h =
     omega (arith, t.offsets_from, t.offsets_are, ap (λ (l : List Macro). length (table_offsets l)) (split_at ms place h), ap (length {A = ℕ}) (table_offsets-append (take place ms) (macro_at ms place ∷ drop (place + 1) ms)), length-append (table_offsets (take place ms)) (table_offsets (macro_at ms place ∷ drop (place + 1) ms)), length_offsets-cons (macro_at ms place) (drop (place + 1) ms))
-
-pub offsets_end : {from ahead : ℕ} (order : List ℕ) (entries rest : List Entry) (entry : Entry) (ms : List Macro) (place size formal_offsets n : ℕ) → n ≤ length order → drop n order ≡ table_offsets ms → Taken from ahead entries rest entry ms place size formal_offsets → place < length ms → n + (entry.formal_offsets - ahead) + formal_offsets ≤ length order
-offsets_end order entries rest entry ms place size formal_offsets n l d t h =
-    omega (arith, offsets_within entries rest entry ms place size formal_offsets t h, ap (length {A = ℕ}) d, length-drop n order)
 
 pub bytes_fit : (v : Vec ℕ Global) → length v.items < 2 ^ 63
 bytes_fit v = omega (arith, v.ok.0, v.ok.1, v.small)

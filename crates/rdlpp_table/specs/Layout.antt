@@ -1,6 +1,6 @@
 -- The fields of a table, and the table that they stand for.
 -- A definition that names no source is this project's own.
-use Rattle.std.specs.Prelude.{◌≡◌, ℕ, ◌+◌, ◌*◌, ◌/◌, ◌≤◌, List, drop, length, take, vec_capacity, vec_len}
+use Rattle.std.specs.Prelude.{◌≡◌, ℕ, ◌*◌, ◌/◌, ◌≤◌, List, vec_capacity, vec_len}
 use Rattle.rdlpp_table.specs.View.{TableView, IsSound}
 use Rattle.rdlpp_table.specs.FormalOffsets.{table_offsets}
 use Rattle.rdlpp_table.specs.Index.{IsIndexed, names_of}
@@ -27,8 +27,8 @@ pub record IsLaidOut (t : Inside) : Type 0 where
   pub given_up : t.front.entries ≤ vec_len t.entries
   pub room : vec_capacity t.bytes ≡ t.most_bytes
   pub entry_room : vec_capacity t.entries ≡ t.most_macros
-  pub indexed : IsIndexed (names_of (macros_in t.bytes.items (live t.front.entries t.entries.items))) (take (length (live t.front.entries t.entries.items)) t.order.items) t.bucket_starts
-  pub marked : drop (length (live t.front.entries t.entries.items)) t.order.items ≡ table_offsets (macros_in t.bytes.items (live t.front.entries t.entries.items))
-  pub index_room : vec_capacity t.order ≡ 2 * (t.most_macros + t.most_bytes / 8)
+  pub indexed : IsIndexed (names_of (macros_in t.bytes.items (live t.front.entries t.entries.items))) t.index.places t.index.bucket_starts
+  pub marked : t.index.formal_offsets ≡ table_offsets (macros_in t.bytes.items (live t.front.entries t.entries.items))
+  pub index_room : t.index.room ≡ record { places = t.most_macros; formal_offsets = 2 * (t.most_bytes / 8) }
   pub few : t.most_macros ≤ 65536
   pub small : t.most_bytes ≤ 16777216

@@ -11,6 +11,7 @@ pub mod Store
 pub mod Entries
 pub mod Index
 pub mod Buckets
+pub mod IndexView
 pub mod NewMacro
 pub mod Layout
 pub mod Formals

@@ -1,16 +1,54 @@
 // The index of a table: the places of its entries, sorted by the buckets in which their names stand, and then by name. A table has
-// at most 65,536 macros, so that two bytes are enough for a place. Behind it, in the same list, lie the offsets of its macros; a
-// definition moves two bytes for each place behind its own, and the offsets.
-ghost use Rattle.std.specs.Prelude.{◌≡◌, ◌+◌, ◌<◌, ◌≤◌, ◌^◌, ◌-◌, ◌++◌, MatchResult, drop, insert, length, map, remove, slice_index, take, vec_capacity, vec_len};
+// at most 65,536 macros, so that two bytes are enough for a place. Behind it, in the same list, lie the offsets of its macros. A
+// definition moves two bytes for each place before its own or for each one behind it and the offsets, whichever are fewer.
+ghost use Rattle.std.specs.Prelude.{◌≡◌, ℕ, ◌+◌, ◌<◌, ◌≤◌, ◌^◌, ◌*◌, ◌-◌, ◌++◌, All, IfOk, MatchResult, drop, insert, length, map, remove, slice_index, take, true, vec_capacity, vec_len};
+ghost use Rattle.std.specs.List.{flat_map, list_all, remove_range};
 ghost use Rattle.rdlpp_table.specs.Entries.{AreWithin};
+ghost use Rattle.rdlpp_table.specs.FormalOffsets.{offsets_of};
 ghost use Rattle.rdlpp_table.specs.Index.{closed, names_of, IsCounted, IsGap, IsIndexed, IsMiddle, IsPlace};
-ghost use Rattle.rdlpp_table.specs.Store.{macros_in};
+ghost use Rattle.rdlpp_table.specs.IndexView.{empty_index, Enters, Leaves};
+ghost use Rattle.rdlpp_table.specs.Store.{formals_read, is_plain_formal, macros_in};
+ghost use Rattle.rdlpp_table.specs.Table.{formal_bytes};
 ghost use Rattle.rdlpp_table.specs.View.{place_named};
 
 use crate::buckets::BucketStarts;
 use crate::entry::{Entry, name_in};
+use crate::fault::NoMemory;
 use crate::lookup::{LookupKey, Steps};
+use crate::offsets::push_offsets;
+use std::alloc::Global;
 use std::cmp::Ordering;
+use std::marker::Model;
+
+// The index of a table.
+#[derive(Drop)]
+pub(crate) struct Index {
+    // Spare items; the places of the entries, sorted by the buckets in which their names stand, and then by name; and behind them
+    // where the formals of each macro begin among their bytes, where these are long: two numbers for each formal.
+    order: Vec<u16>,
+    // How many items at the front are spare.
+    spare: usize,
+    // How many places there are, and how many at most.
+    count: usize,
+    most_places: usize,
+    bucket_starts: BucketStarts,
+}
+
+impl Model for Index {
+    ghost use Rattle.std.specs.Prelude.{drop, take, vec_capacity, vec_len, ◌*◌, ◌-◌};
+    ghost use Rattle.rdlpp_table.specs.IndexView.{IndexView, IsArranged};
+
+    ghost Value = { IndexView };
+
+    ghost view = { λ x. record {
+      places = take x.count (drop x.spare x.order.items);
+      bucket_starts = x.bucket_starts;
+      formal_offsets = drop x.count (drop x.spare x.order.items);
+      room = record { places = x.most_places; formal_offsets = vec_capacity x.order - 2 * x.most_places };
+    } };
+
+    ghost invariant = { λ x. IsArranged (vec_len x.order) (vec_capacity x.order) x.spare x.count x.most_places };
+}
 
 // A place between two others, with at most half of what is between them on either side.
 fn middle_of(low: usize, high: usize) -> usize
@@ -25,23 +63,22 @@ fn middle_of(low: usize, high: usize) -> usize
 pub(crate) fn seek(
     bytes: &[u8],
     entries: &[Entry],
-    order: &[u16],
-    bucket_starts: &BucketStarts,
+    index: &Index,
     key: &LookupKey,
     steps: &mut Steps,
 ) -> Result<usize, usize>
     requires within { AreWithin (length bytes.now) entries.now }
-    requires indexed { IsIndexed (names_of (macros_in bytes.now entries.now)) order.now bucket_starts.now }
+    requires indexed { IsIndexed (names_of (macros_in bytes.now entries.now)) index.now.places index.now.bucket_starts }
     requires few { length entries.now ≤ 65536 }
-    ensures found { MatchResult result (λ at. IsPlace (names_of (macros_in bytes.now entries.now)) order.now key.now.name.now at) (λ gap. IsGap (names_of (macros_in bytes.now entries.now)) order.now key.now.name.now gap) }
+    ensures found { MatchResult result (λ at. IsPlace (names_of (macros_in bytes.now entries.now)) index.now.places key.now.name.now at) (λ gap. IsGap (names_of (macros_in bytes.now entries.now)) index.now.places key.now.name.now gap) }
     ensures steps { IsCounted steps.old steps.new }
 {
     let bucket = key.bucket();
-    let mut low = bucket_starts.start(bucket);
-    let mut high = bucket_starts.start(bucket + 1);
+    let mut low = index.start(bucket);
+    let mut high = index.start(bucket + 1);
     while low < high {
         let middle = middle_of(low, high);
-        let name = name_in(bytes, &entries[order[middle] as usize]);
+        let name = name_in(bytes, &entries[index.place(middle)]);
         match key.compare(name, steps) {
             Ordering::Less => low = middle + 1,
             Ordering::Greater => high = middle,
@@ -55,26 +92,18 @@ pub(crate) fn seek(
 pub(crate) fn place_in(
     bytes: &[u8],
     entries: &[Entry],
-    order: &[u16],
-    bucket_starts: &BucketStarts,
+    index: &Index,
     name: &[u8],
     steps: &mut Steps,
 ) -> Option<usize>
     requires within { AreWithin (length bytes.now) entries.now }
-    requires indexed { IsIndexed (names_of (macros_in bytes.now entries.now)) order.now bucket_starts.now }
+    requires indexed { IsIndexed (names_of (macros_in bytes.now entries.now)) index.now.places index.now.bucket_starts }
     requires few { length entries.now ≤ 65536 }
     ensures value { result ≡ place_named (macros_in bytes.now entries.now) name.now }
     ensures steps { IsCounted steps.old steps.new }
 {
-    match seek(
-        bytes,
-        entries,
-        order,
-        bucket_starts,
-        &LookupKey::new(name),
-        steps,
-    ) {
-        Ok(at) => Some(order[at] as usize),
+    match seek(bytes, entries, index, &LookupKey::new(name), steps) {
+        Ok(at) => Some(index.place(at)),
         Err(_) => None,
     }
 }
@@ -87,39 +116,209 @@ fn closed(taken: u16, place: u16) -> u16
     if taken < place { place - 1 } else { place }
 }
 
-// The first places, so many of them, lie closer, once one was taken out.
-fn close_up(order: &mut [u16], count: usize, taken: u16)
-    requires { count ≤ length order.old }
-    ensures { order.new ≡ map (closed taken) (take count order.old) ++ drop count order.old }
+// These places lie closer, once one was taken out.
+fn close_up(places: &mut [u16], taken: u16)
+    ensures { places.new ≡ map (closed taken) places.old }
 {
-    for at in 0..count {
-        order[at] = closed(taken, order[at]);
+    for place in places.iter_mut() {
+        *place = closed(taken, *place);
     }
 }
 
-// Takes a place out of the index, which has so many, and answers it.
-pub(crate) fn leave(order: &mut Vec<u16>, count: usize, at: usize) -> usize
+// Takes a place out of a list, which has so many behind its spare items, and answers it.
+fn take_place(order: &mut Vec<u16>, spare: usize, count: usize, at: usize) -> u16
     requires at { at < count }
-    requires count { count ≤ vec_len order.old }
-    ensures value { result ≡ slice_index (take count order.old.items) at }
-    ensures index { take (count - 1) order.new.items ≡ map (closed result) (remove (take count order.old.items) at) }
-    ensures formal_offsets { drop (count - 1) order.new.items ≡ drop count order.old.items }
+    requires count { spare + count ≤ vec_len order.old }
+    ensures value { result ≡ slice_index (take count (drop spare order.old.items)) at }
+    ensures places { take (count - 1) (drop spare order.new.items) ≡ map (closed result) (remove (take count (drop spare order.old.items)) at) }
+    ensures formal_offsets { drop (count - 1) (drop spare order.new.items) ≡ drop count (drop spare order.old.items) }
     ensures len { vec_len order.new + 1 ≡ vec_len order.old }
     ensures capacity { vec_capacity order.new ≡ vec_capacity order.old }
 {
-    let taken = order.remove(at);
-    close_up(order.as_mut_slice(), count - 1, taken);
-    taken as usize
+    let taken = order.remove(spare + at);
+    close_up(&mut order[spare..spare + (count - 1)], taken);
+    taken
 }
 
-// Puts a place into the index.
-pub(crate) fn enter(order: &mut Vec<u16>, gap: usize, place: usize)
-    requires gap { gap ≤ vec_len order.old }
+// Puts a place into a list; what stands behind it moves one to the back.
+fn insert_behind(order: &mut Vec<u16>, at: usize, place: u16)
+    requires at { at ≤ vec_len order.old }
     requires room { vec_len order.old < vec_capacity order.old }
-    requires place { place < 2 ^ 16 }
-    ensures items { order.new.items ≡ insert order.old.items gap place }
+    ensures items { order.new.items ≡ insert order.old.items at place }
     ensures len { vec_len order.new ≡ vec_len order.old + 1 }
     ensures capacity { vec_capacity order.new ≡ vec_capacity order.old }
 {
-    let _ = order.insert(gap, place as u16);
+    let _ = order.insert(at, place);
+}
+
+// Puts a place into a list; what stands before it, behind the spare items, moves one to the front.
+fn insert_before(order: &mut Vec<u16>, spare: usize, gap: usize, place: u16)
+    requires some { 0 < spare }
+    requires gap { spare + gap ≤ vec_len order.old }
+    ensures items { drop (spare - 1) order.new.items ≡ insert (drop spare order.old.items) gap place }
+    ensures len { vec_len order.new ≡ vec_len order.old }
+    ensures capacity { vec_capacity order.new ≡ vec_capacity order.old }
+{
+    order.copy_within(spare..spare + gap, spare - 1);
+    order[spare + gap - 1] = place;
+}
+
+// Moves all of a list so many places to the back, so that as many items at the front are spare.
+fn move_back(order: &mut Vec<u16>, by: usize)
+    requires { vec_len order.old + by ≤ vec_capacity order.old }
+    ensures items { drop by order.new.items ≡ order.old.items }
+    ensures len { vec_len order.new ≡ vec_len order.old + by }
+    ensures capacity { vec_capacity order.new ≡ vec_capacity order.old }
+{
+    let len = order.len();
+    for _ in 0..by {
+        order.push_reserved(0);
+    }
+    order.copy_within(0..len, by);
+}
+
+// Puts a place into a list, behind its spare items and so many places, and answers how many items are spare then. What stands before
+// it moves, where that is less than what stands behind it. Where nothing is spare then, all moves once, so that one more than there
+// are places is spare: as many places can come then without that.
+fn insert_place(order: &mut Vec<u16>, spare: usize, count: usize, gap: usize, place: u16) -> usize
+    requires gap { spare + gap ≤ vec_len order.old }
+    requires room { vec_len order.old < vec_capacity order.old }
+    requires spare_room { vec_len order.old + (count + 1) ≤ vec_capacity order.old + spare }
+    ensures items { drop result order.new.items ≡ insert (drop spare order.old.items) gap place }
+    ensures few { (most : ℕ) → spare ≤ most → count ≤ most → result ≤ most }
+    ensures len { vec_len order.new + spare ≡ vec_len order.old + 1 + result }
+    ensures capacity { vec_capacity order.new ≡ vec_capacity order.old }
+{
+    if gap >= order.len() - spare - gap {
+        insert_behind(order, spare + gap, place);
+        return spare;
+    }
+    if spare == 0 {
+        move_back(order, count + 1);
+        insert_before(order, count + 1, gap, place);
+        return count;
+    }
+    insert_before(order, spare, gap, place);
+    spare - 1
+}
+
+// Takes numbers out of the middle of a list: those behind move to the front as one block.
+fn cut_numbers(order: &mut Vec<u16>, from: usize, to: usize)
+    requires { (from ≤ to) × (to ≤ vec_len order.old) }
+    ensures items { order.new.items ≡ remove_range order.old.items from to }
+    ensures capacity { vec_capacity order.new ≡ vec_capacity order.old }
+{
+    let count = order.len();
+    order.copy_within(to..count, from);
+    order.truncate(count - (to - from));
+}
+
+impl Index {
+    // An index with room for so many places and for so many offsets.
+    #[inline(always)]
+    pub(crate) fn new(
+        alloc: Global,
+        most_places: usize,
+        most_offsets: usize,
+    ) -> Result<Index, NoMemory>
+        requires { 2 * most_places + most_offsets < 2 ^ 32 }
+        ensures { IfOk result (λ index. index ≡ empty_index (record { places = most_places; formal_offsets = most_offsets })) }
+    {
+        match Vec::with_capacity(alloc, 2 * most_places + most_offsets) {
+            Ok(order) => Ok(Index {
+                order,
+                spare: 0,
+                count: 0,
+                most_places,
+                bucket_starts: BucketStarts::new(),
+            }),
+            Err(_) => Err(NoMemory),
+        }
+    }
+
+    // Takes out all places and all offsets.
+    pub(crate) fn clear(&mut self)
+        ensures { self.new ≡ empty_index self.old.room }
+    {
+        self.order.clear();
+        self.spare = 0;
+        self.count = 0;
+        self.bucket_starts.clear();
+    }
+
+    // The place that stands at a place of the index.
+    #[inline(always)]
+    fn place(&self, at: usize) -> usize
+        requires { at < length self.now.places }
+        ensures { result ≡ slice_index self.now.places at }
+    {
+        self.order[self.spare + at] as usize
+    }
+
+    // The offsets of the formals of all macros.
+    #[inline(always)]
+    pub(crate) fn formal_offsets(&self) -> &[u16]
+        ensures { result.now ≡ self.now.formal_offsets }
+    {
+        &self.order[self.spare + self.count..]
+    }
+
+    // Where a bucket begins, or where the last one ends.
+    #[inline(always)]
+    fn start(&self, bucket: usize) -> usize
+        requires { bucket ≤ 1024 }
+        ensures { result ≡ slice_index self.now.bucket_starts bucket }
+    {
+        self.bucket_starts.start(bucket)
+    }
+
+    // Puts in a place, that of a name of a bucket.
+    pub(crate) fn enter(&mut self, gap: usize, place: usize, bucket: usize)
+        requires gap { gap ≤ length self.old.places }
+        requires place { place < 2 ^ 16 }
+        requires room { length self.old.places < self.old.room.places }
+        requires bucket { bucket < 1024 }
+        requires few { All (λ s. s ≤ 65536) self.old.bucket_starts }
+        ensures { Enters gap place bucket self.old self.new }
+    {
+        self.spare = insert_place(&mut self.order, self.spare, self.count, gap, place as u16);
+        self.count += 1;
+        self.bucket_starts.begin_later(bucket);
+    }
+
+    // Takes out the place at which a name of a bucket stands, and answers it.
+    pub(crate) fn leave(&mut self, at: usize, bucket: usize) -> usize
+        requires at { at < length self.old.places }
+        requires bucket { bucket < 1024 }
+        requires some { (p : ℕ) → bucket < p → p ≤ 1024 → slice_index self.old.bucket_starts bucket < slice_index self.old.bucket_starts p }
+        ensures value { result ≡ slice_index self.old.places at }
+        ensures leaves { Leaves at result bucket self.old self.new }
+    {
+        let place = take_place(&mut self.order, self.spare, self.count, at);
+        self.count -= 1;
+        self.bucket_starts.begin_sooner(bucket);
+        place as usize
+    }
+
+    // Puts the offsets of a macro behind the others: of so many formals, which lie in bytes, where they are long.
+    pub(crate) fn push_offsets(&mut self, list: &[u8], count: usize)
+        requires whole { flat_map formal_bytes (formals_read count list.now) ≡ list.now }
+        requires plain { list_all is_plain_formal (formals_read count list.now) ≡ true }
+        requires short { length list.now < 2 ^ 32 }
+        requires room { length self.old.formal_offsets + length (offsets_of (formals_read count list.now)) ≤ self.old.room.formal_offsets }
+        ensures { self.new ≡ record self.old { formal_offsets = self.old.formal_offsets ++ offsets_of (formals_read count list.now) } }
+    {
+        push_offsets(&mut self.order, list, count);
+    }
+
+    // Takes offsets out of the middle. Most macros have none, and then nothing moves.
+    pub(crate) fn cut_offsets(&mut self, from: usize, to: usize)
+        requires { (from ≤ to) × (to ≤ length self.old.formal_offsets) }
+        ensures { self.new ≡ record self.old { formal_offsets = remove_range self.old.formal_offsets from to } }
+    {
+        if from < to {
+            let first = self.spare + self.count;
+            cut_numbers(&mut self.order, first + from, first + to);
+        }
+    }
 }

@@ -7,10 +7,10 @@ ghost use Rattle.rdlpp_table.specs.Index.{names_of, IsGap, IsIndexed};
 ghost use Rattle.rdlpp_table.specs.FormalOffsets.{table_offsets};
 ghost use Rattle.rdlpp_table.specs.Store.{live, macros_in, IsStored};
 
-use crate::buckets::{BucketStarts, bucket_of};
+use crate::buckets::bucket_of;
 use crate::entry::{ENTRY_BYTES, Entry, offsets_len};
 use crate::given_up::{GivenUp, NOTHING, live};
-use crate::index::{leave, seek};
+use crate::index::{Index, seek};
 use crate::lookup::{LookupKey, Steps};
 
 // The bytes of an entry were moved so much further to the front, and its offsets as much as another number says.
@@ -114,19 +114,6 @@ fn cover(bytes: &mut Vec<u8>, from: usize, to: usize, size: usize)
     bytes.copy_within(from..to, from + size);
 }
 
-// Takes offsets out of the middle: those behind move to the front as one block. Most macros have none, and then nothing moves.
-fn cut_offsets(order: &mut Vec<u16>, from: usize, to: usize)
-    requires { (from ≤ to) × (to ≤ vec_len order.old) }
-    ensures items { order.new.items ≡ remove_range order.old.items from to }
-    ensures capacity { vec_capacity order.new ≡ vec_capacity order.old }
-{
-    if from < to {
-        let count = order.len();
-        order.copy_within(to..count, from);
-        order.truncate(count - (to - from));
-    }
-}
-
 // How many bytes a definition has.
 pub(crate) fn size_of_entry(entry: &Entry) -> usize
     ensures { result ≡ entry.now.name_len + entry.now.list_len + entry.now.body_len }
@@ -182,7 +169,7 @@ fn remove_at(
     bytes: &mut Vec<u8>,
     entries: &mut Vec<Entry>,
     front: &mut GivenUp,
-    order: &mut Vec<u16>,
+    index: &mut Index,
     place: usize,
 )
     requires stored { IsStored front.old.bytes front.old.formal_offsets bytes.old.items (live front.old.entries entries.old.items) (macros_in bytes.old.items (live front.old.entries entries.old.items)) }
@@ -190,19 +177,16 @@ fn remove_at(
     requires given_up { front.old.entries ≤ vec_len entries.old }
     requires place { place < length (live front.old.entries entries.old.items) }
     requires few { length (live front.old.entries entries.old.items) ≤ 65536 }
-    requires index { length (live front.old.entries entries.old.items) ≤ vec_len order.old + 1 }
-    requires marked { drop (length (live front.old.entries entries.old.items) - 1) order.old.items ≡ table_offsets (macros_in bytes.old.items (live front.old.entries entries.old.items)) }
+    requires marked { index.old.formal_offsets ≡ table_offsets (macros_in bytes.old.items (live front.old.entries entries.old.items)) }
     ensures stored { IsStored front.new.bytes front.new.formal_offsets bytes.new.items (live front.new.entries entries.new.items) (remove (macros_in bytes.old.items (live front.old.entries entries.old.items)) place) }
     ensures given_up { front.new.entries ≤ vec_len entries.new }
     ensures no_longer { (vec_len bytes.new ≤ vec_len bytes.old) × (vec_len entries.new ≤ vec_len entries.old) }
-    ensures index { take (length (live front.new.entries entries.new.items)) order.new.items ≡ take (length (live front.old.entries entries.old.items) - 1) order.old.items }
-    ensures marked { drop (length (live front.new.entries entries.new.items)) order.new.items ≡ table_offsets (remove (macros_in bytes.old.items (live front.old.entries entries.old.items)) place) }
-    ensures capacity { (vec_capacity bytes.new ≡ vec_capacity bytes.old) × (vec_capacity entries.new ≡ vec_capacity entries.old) × (vec_capacity order.new ≡ vec_capacity order.old) }
+    ensures index { index.new ≡ record index.old { formal_offsets = table_offsets (remove (macros_in bytes.old.items (live front.old.entries entries.old.items)) place) } }
+    ensures capacity { (vec_capacity bytes.new ≡ vec_capacity bytes.old) × (vec_capacity entries.new ≡ vec_capacity entries.old) }
 {
     let entry = live(entries, front)[place];
-    let first = entries.len() - front.entries - 1
-        + (entry.formal_offsets as usize - front.formal_offsets);
-    cut_offsets(order, first, first + offsets_len(&entry));
+    let first = entry.formal_offsets as usize - front.formal_offsets;
+    index.cut_offsets(first, first + offsets_len(&entry));
     take_stored(bytes, entries, front, place);
 }
 
@@ -231,39 +215,36 @@ pub(crate) fn remove_named(
     bytes: &mut Vec<u8>,
     entries: &mut Vec<Entry>,
     front: &mut GivenUp,
-    order: &mut Vec<u16>,
-    bucket_starts: &mut BucketStarts,
+    index: &mut Index,
     name: &[u8],
 ) -> (bool, usize)
     requires stored { IsStored front.old.bytes front.old.formal_offsets bytes.old.items (live front.old.entries entries.old.items) (macros_in bytes.old.items (live front.old.entries entries.old.items)) }
     requires narrow { vec_capacity bytes.old < 2 ^ 32 }
     requires given_up { front.old.entries ≤ vec_len entries.old }
     requires distinct { IsDistinct bytes_eq (map (λ m. m.name) (macros_in bytes.old.items (live front.old.entries entries.old.items))) }
-    requires indexed { IsIndexed (names_of (macros_in bytes.old.items (live front.old.entries entries.old.items))) (take (length (live front.old.entries entries.old.items)) order.old.items) bucket_starts.old }
-    requires marked { drop (length (live front.old.entries entries.old.items)) order.old.items ≡ table_offsets (macros_in bytes.old.items (live front.old.entries entries.old.items)) }
+    requires indexed { IsIndexed (names_of (macros_in bytes.old.items (live front.old.entries entries.old.items))) index.old.places index.old.bucket_starts }
+    requires marked { index.old.formal_offsets ≡ table_offsets (macros_in bytes.old.items (live front.old.entries entries.old.items)) }
     requires few { length (live front.old.entries entries.old.items) ≤ 65536 }
     ensures value { result.0 ≡ is_some (macro_named (macros_in bytes.old.items (live front.old.entries entries.old.items)) name.now) }
-    ensures gap { IsGap (names_of (macros_in bytes.new.items (live front.new.entries entries.new.items))) (take (length (live front.new.entries entries.new.items)) order.new.items) name.now result.1 }
+    ensures room { index.new.room ≡ index.old.room }
+    ensures gap { IsGap (names_of (macros_in bytes.new.items (live front.new.entries entries.new.items))) index.new.places name.now result.1 }
     ensures stored { IsStored front.new.bytes front.new.formal_offsets bytes.new.items (live front.new.entries entries.new.items) (without name.now (macros_in bytes.old.items (live front.old.entries entries.old.items))) }
     ensures given_up { front.new.entries ≤ vec_len entries.new }
     ensures no_longer { (vec_len bytes.new ≤ vec_len bytes.old) × (vec_len entries.new ≤ vec_len entries.old) }
-    ensures indexed { IsIndexed (names_of (without name.now (macros_in bytes.old.items (live front.old.entries entries.old.items)))) (take (length (live front.new.entries entries.new.items)) order.new.items) bucket_starts.new }
-    ensures marked { drop (length (live front.new.entries entries.new.items)) order.new.items ≡ table_offsets (without name.now (macros_in bytes.old.items (live front.old.entries entries.old.items))) }
-    ensures capacity { (vec_capacity bytes.new ≡ vec_capacity bytes.old) × (vec_capacity entries.new ≡ vec_capacity entries.old) × (vec_capacity order.new ≡ vec_capacity order.old) }
+    ensures indexed { IsIndexed (names_of (without name.now (macros_in bytes.old.items (live front.old.entries entries.old.items)))) index.new.places index.new.bucket_starts }
+    ensures marked { index.new.formal_offsets ≡ table_offsets (without name.now (macros_in bytes.old.items (live front.old.entries entries.old.items))) }
+    ensures capacity { (vec_capacity bytes.new ≡ vec_capacity bytes.old) × (vec_capacity entries.new ≡ vec_capacity entries.old) }
 {
-    let count = entries.len() - front.entries;
     match seek(
         bytes,
         live(entries, front),
-        &order[..count],
-        bucket_starts,
+        index,
         &LookupKey::new(name),
         &mut Steps::new(),
     ) {
         Ok(at) => {
-            let place = leave(order, count, at);
-            bucket_starts.begin_sooner(bucket_of(name));
-            remove_at(bytes, entries, front, order, place);
+            let place = index.leave(at, bucket_of(name));
+            remove_at(bytes, entries, front, index, place);
             (true, at)
         }
         Err(gap) => (false, gap),

@@ -33,13 +33,13 @@ ghost use Rattle.rdlpp_table.specs.Store.{live, macros_in, AreStoredFormals, IsS
 ghost use Rattle.rdlpp_table.specs.Table.{formal_bytes, table_size, without};
 ghost use Rattle.rdlpp_table.specs.NewMacro.{list_formals, new_macro, points_told, IsList, IsNew};
 
-use crate::buckets::{BucketStarts, bucket_of};
+use crate::buckets::bucket_of;
 use crate::entry::Entry;
 use crate::formals::append_list;
 use crate::given_up::{GivenUp, live};
-use crate::index::{enter, place_in};
+use crate::index::{Index, place_in};
 use crate::lookup::Steps;
-use crate::offsets::{StoredFormals, push_offsets};
+use crate::offsets::StoredFormals;
 use crate::point_cache::{PointCache, cached_points};
 use crate::removal::{remove_named, settle, size_of_entry};
 use rdlpp_lines::{append_part, append_trimmed};
@@ -106,17 +106,16 @@ fn put(
     bytes: &mut Vec<u8>,
     entries: &mut Vec<Entry>,
     front: &GivenUp,
-    order: &mut Vec<u16>,
+    index: &mut Index,
     new: &NewMacro,
 )
     requires stored { IsStored front.now.bytes front.now.formal_offsets bytes.old.items (live front.now.entries entries.old.items) (macros_in bytes.old.items (live front.now.entries entries.old.items)) }
     requires given_up { front.now.entries ≤ vec_len entries.old }
     requires counted { IsNew new.now.name.now new.now.arity new.now.list.now new.now.list_len new.now.is_logical new.now.text.now new.now.body_len }
-    requires index { length (live front.now.entries entries.old.items) < vec_len order.old }
-    requires marked { drop (length (live front.now.entries entries.old.items) + 1) order.old.items ≡ table_offsets (macros_in bytes.old.items (live front.now.entries entries.old.items)) }
+    requires marked { index.old.formal_offsets ≡ table_offsets (macros_in bytes.old.items (live front.now.entries entries.old.items)) }
     requires room { vec_len bytes.old + (length new.now.name.now + (new.now.list_len + new.now.body_len)) ≤ vec_capacity bytes.old }
     requires entry_room { vec_len entries.old < vec_capacity entries.old }
-    requires offset_room { vec_len order.old + 2 * (new.now.list_len / 8) ≤ vec_capacity order.old }
+    requires offset_room { length index.old.formal_offsets + 2 * (new.now.list_len / 8) ≤ index.old.room.formal_offsets }
     requires small { new.now.list_len < 2 ^ 32 }
     requires narrow { vec_capacity bytes.old < 2 ^ 32 }
     requires short { length new.now.name.now < 256 }
@@ -124,26 +123,25 @@ fn put(
     ensures stored { IsStored front.now.bytes front.now.formal_offsets bytes.new.items (live front.now.entries entries.new.items) (macros_in bytes.old.items (live front.now.entries entries.old.items) ++ new_macro new.now.name.now new.now.arity new.now.list.now new.now.is_logical new.now.text.now ∷ []) }
     ensures given_up { front.now.entries ≤ vec_len entries.new }
     ensures longer { (vec_len bytes.old ≤ vec_len bytes.new) × (vec_len entries.old ≤ vec_len entries.new) }
-    ensures index { take (length (live front.now.entries entries.new.items)) order.new.items ≡ take (length (live front.now.entries entries.old.items) + 1) order.old.items }
-    ensures marked { drop (length (live front.now.entries entries.new.items)) order.new.items ≡ table_offsets (macros_in bytes.old.items (live front.now.entries entries.old.items) ++ new_macro new.now.name.now new.now.arity new.now.list.now new.now.is_logical new.now.text.now ∷ []) }
-    ensures capacity { (vec_capacity bytes.new ≡ vec_capacity bytes.old) × (vec_capacity entries.new ≡ vec_capacity entries.old) × (vec_capacity order.new ≡ vec_capacity order.old) }
+    ensures index { index.new ≡ record index.old { formal_offsets = table_offsets (macros_in bytes.old.items (live front.now.entries entries.old.items) ++ new_macro new.now.name.now new.now.arity new.now.list.now new.now.is_logical new.now.text.now ∷ []) } }
+    ensures capacity { (vec_capacity bytes.new ≡ vec_capacity bytes.old) × (vec_capacity entries.new ≡ vec_capacity entries.old) }
 {
     let start = bytes.len();
     append_part(bytes, new.name);
     let list = bytes.len();
     append_formals(bytes, new);
     let body = bytes.len();
-    let first = order.len();
+    let first = index.formal_offsets().len();
     let count = new.arity.unwrap_or(0);
-    push_offsets(order, &bytes[list..], count);
+    index.push_offsets(&bytes[list..], count);
     append_trimmed(bytes, new.text, new.is_logical, false, new.body_len);
-    let points = points_at(bytes.as_slice(), list, body, count, &order[first..]);
-    let formal_offsets = first - (entries.len() - front.entries + 1) + front.formal_offsets;
+    let formal_offsets = &index.formal_offsets()[first..];
+    let points = points_at(bytes.as_slice(), list, body, count, formal_offsets);
     entries.push_reserved(Entry {
         start: start as u32,
         list_len: new.list_len as u32,
         body_len: new.body_len as u32,
-        formal_offsets: formal_offsets as u32,
+        formal_offsets: (first + front.formal_offsets) as u32,
         name_len: new.name.len() as u8,
         arity: small_arity(new.arity),
         points,
@@ -162,28 +160,20 @@ pub(crate) fn usage_without(
     bytes: &[u8],
     entries: &[Entry],
     front: &GivenUp,
-    order: &[u16],
-    bucket_starts: &BucketStarts,
+    index: &Index,
     name: &[u8],
 ) -> UsageWithout
     requires stored { IsStored front.now.bytes front.now.formal_offsets bytes.now (live front.now.entries entries.now) (macros_in bytes.now (live front.now.entries entries.now)) }
     requires given_up { front.now.entries ≤ length entries.now }
     requires distinct { IsDistinct bytes_eq (map (λ m. m.name) (macros_in bytes.now (live front.now.entries entries.now))) }
-    requires indexed { IsIndexed (names_of (macros_in bytes.now (live front.now.entries entries.now))) order.now bucket_starts.now }
+    requires indexed { IsIndexed (names_of (macros_in bytes.now (live front.now.entries entries.now))) index.now.places index.now.bucket_starts }
     requires few { length (live front.now.entries entries.now) ≤ 65536 }
     ensures size { result.size ≡ table_size (without name.now (macros_in bytes.now (live front.now.entries entries.now))) }
     ensures count { result.count ≡ length (without name.now (macros_in bytes.now (live front.now.entries entries.now))) }
 {
     let entries = live(entries, front);
     let size = bytes.len() - front.bytes;
-    match place_in(
-        bytes,
-        entries,
-        order,
-        bucket_starts,
-        name,
-        &mut Steps::new(),
-    ) {
+    match place_in(bytes, entries, index, name, &mut Steps::new()) {
         Some(place) => UsageWithout {
             size: size - size_of_entry(&entries[place]),
             count: entries.len() - 1,
@@ -231,15 +221,14 @@ pub(crate) fn replace(
     bytes: &mut Vec<u8>,
     entries: &mut Vec<Entry>,
     front: &mut GivenUp,
-    order: &mut Vec<u16>,
-    bucket_starts: &mut BucketStarts,
+    index: &mut Index,
     new: &NewMacro,
 )
     requires stored { IsStored front.old.bytes front.old.formal_offsets bytes.old.items (live front.old.entries entries.old.items) (macros_in bytes.old.items (live front.old.entries entries.old.items)) }
     requires given_up { front.old.entries ≤ vec_len entries.old }
     requires distinct { IsDistinct bytes_eq (map (λ m. m.name) (macros_in bytes.old.items (live front.old.entries entries.old.items))) }
-    requires indexed { IsIndexed (names_of (macros_in bytes.old.items (live front.old.entries entries.old.items))) (take (length (live front.old.entries entries.old.items)) order.old.items) bucket_starts.old }
-    requires marked { drop (length (live front.old.entries entries.old.items)) order.old.items ≡ table_offsets (macros_in bytes.old.items (live front.old.entries entries.old.items)) }
+    requires indexed { IsIndexed (names_of (macros_in bytes.old.items (live front.old.entries entries.old.items))) index.old.places index.old.bucket_starts }
+    requires marked { index.old.formal_offsets ≡ table_offsets (macros_in bytes.old.items (live front.old.entries entries.old.items)) }
     requires few { length (live front.old.entries entries.old.items) ≤ 65536 }
     requires small { new.now.list_len < 2 ^ 32 }
     requires narrow { vec_capacity bytes.old < 2 ^ 32 }
@@ -249,22 +238,23 @@ pub(crate) fn replace(
     requires room { table_size (without new.now.name.now (macros_in bytes.old.items (live front.old.entries entries.old.items))) + (length new.now.name.now + (new.now.list_len + new.now.body_len)) ≤ vec_capacity bytes.old }
     requires entry_room { length (without new.now.name.now (macros_in bytes.old.items (live front.old.entries entries.old.items))) < vec_capacity entries.old }
     requires places { vec_capacity entries.old ≤ 65536 }
-    requires index_room { length (without new.now.name.now (macros_in bytes.old.items (live front.old.entries entries.old.items))) + 2 * ((table_size (without new.now.name.now (macros_in bytes.old.items (live front.old.entries entries.old.items))) + new.now.list_len) / 8) < vec_capacity order.old }
+    requires index_room { length (without new.now.name.now (macros_in bytes.old.items (live front.old.entries entries.old.items))) < index.old.room.places }
+    requires offset_room { 2 * ((table_size (without new.now.name.now (macros_in bytes.old.items (live front.old.entries entries.old.items))) + new.now.list_len) / 8) ≤ index.old.room.formal_offsets }
     ensures stored { IsStored front.new.bytes front.new.formal_offsets bytes.new.items (live front.new.entries entries.new.items) (without new.now.name.now (macros_in bytes.old.items (live front.old.entries entries.old.items)) ++ new_macro new.now.name.now new.now.arity new.now.list.now new.now.is_logical new.now.text.now ∷ []) }
     ensures given_up { front.new.entries ≤ vec_len entries.new }
     ensures few_given_up { (front.new.bytes ≤ vec_len bytes.new - front.new.bytes) × (front.new.entries ≤ vec_len entries.new - front.new.entries) }
-    ensures indexed { IsIndexed (names_of (without new.now.name.now (macros_in bytes.old.items (live front.old.entries entries.old.items)) ++ new_macro new.now.name.now new.now.arity new.now.list.now new.now.is_logical new.now.text.now ∷ [])) (take (length (live front.new.entries entries.new.items)) order.new.items) bucket_starts.new }
-    ensures marked { drop (length (live front.new.entries entries.new.items)) order.new.items ≡ table_offsets (without new.now.name.now (macros_in bytes.old.items (live front.old.entries entries.old.items)) ++ new_macro new.now.name.now new.now.arity new.now.list.now new.now.is_logical new.now.text.now ∷ []) }
-    ensures capacity { (vec_capacity bytes.new ≡ vec_capacity bytes.old) × (vec_capacity entries.new ≡ vec_capacity entries.old) × (vec_capacity order.new ≡ vec_capacity order.old) }
+    ensures indexed { IsIndexed (names_of (without new.now.name.now (macros_in bytes.old.items (live front.old.entries entries.old.items)) ++ new_macro new.now.name.now new.now.arity new.now.list.now new.now.is_logical new.now.text.now ∷ [])) index.new.places index.new.bucket_starts }
+    ensures marked { index.new.formal_offsets ≡ table_offsets (without new.now.name.now (macros_in bytes.old.items (live front.old.entries entries.old.items)) ++ new_macro new.now.name.now new.now.arity new.now.list.now new.now.is_logical new.now.text.now ∷ []) }
+    ensures room { index.new.room ≡ index.old.room }
+    ensures capacity { (vec_capacity bytes.new ≡ vec_capacity bytes.old) × (vec_capacity entries.new ≡ vec_capacity entries.old) }
 {
-    let (_, gap) = remove_named(bytes, entries, front, order, bucket_starts, new.name);
-    enter(order, gap, entries.len() - front.entries);
-    bucket_starts.begin_later(bucket_of(new.name));
+    let (_, gap) = remove_named(bytes, entries, front, index, new.name);
+    index.enter(gap, entries.len() - front.entries, bucket_of(new.name));
     make_room(
         bytes,
         entries,
         front,
         new.name.len() + (new.list_len + new.body_len),
     );
-    put(bytes, entries, front, order, new);
+    put(bytes, entries, front, index, new);
 }

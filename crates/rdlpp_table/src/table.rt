@@ -12,13 +12,12 @@ ghost use Rattle.rdlpp_table.specs.PointCache.{cached_points};
 ghost use Rattle.rdlpp_table.specs.Store.{entry_end, formals_read, macro_in, AreStoredFormals};
 ghost use Rattle.rdlpp_table.specs.View.{TableView, AreSoundFormals, IsSound, IsSoundMacro, formal_at, formal_named, formals_of, macro_at, place_named};
 
-use crate::buckets::BucketStarts;
 use crate::entry::{Entry, arity_in, body_in, listed_in, name_in};
 use crate::fault::{DefineFault, DefineKind, NoMemory, lexical, refusal};
 use crate::formals::read_list;
 use crate::given_up::{GivenUp, NOTHING, live};
 use crate::header::{after_space, leading_name, list_after, unended};
-use crate::index::place_in;
+use crate::index::{Index, place_in};
 use crate::limits::Limits;
 use crate::lookup::Steps;
 use crate::name::check_name;
@@ -41,11 +40,7 @@ pub struct Table {
     entries: Vec<Entry>,
     // What is given up at the fronts of the bytes and of the entries.
     front: GivenUp,
-    // The places of the entries, sorted by the parts in which their names stand, and then by name; and behind them where
-    // the formals of each macro begin among their bytes, where these are long: two numbers for each formal.
-    order: Vec<u16>,
-    // Where each part of the index begins, and where the last one ends.
-    bucket_starts: BucketStarts,
+    index: Index,
     most_bytes: usize,
     most_macros: usize,
 }
@@ -111,19 +106,16 @@ impl Table {
             Ok(entries) => entries,
             Err(_) => return Err(NoMemory),
         };
-        // A mark takes two items, and a place in the index one: the other is spare. What an engine asks for by its limits is a
-        // stated number, which stays.
-        let formal_offsets = limits.definition_bytes / LONG_FORMAL;
-        let order = match Vec::with_capacity(alloc, 2 * (limits.definitions + formal_offsets)) {
-            Ok(order) => order,
+        let most_offsets = 2 * (limits.definition_bytes / LONG_FORMAL);
+        let index = match Index::new(alloc, limits.definitions, most_offsets) {
+            Ok(index) => index,
             Err(_) => return Err(NoMemory),
         };
         Ok(Table {
             bytes,
             entries,
             front: NOTHING,
-            order,
-            bucket_starts: BucketStarts::new(),
+            index,
             most_bytes: limits.definition_bytes,
             most_macros: limits.definitions,
         })
@@ -180,14 +172,7 @@ impl Table {
         ensures steps { IsCounted steps.old steps.new }
     {
         let entries = live(&self.entries, &self.front);
-        let index = place_in(
-            &self.bytes,
-            entries,
-            &self.order[..entries.len()],
-            &self.bucket_starts,
-            name,
-            steps,
-        )?;
+        let index = place_in(&self.bytes, entries, &self.index, name, steps)?;
         Some(MacroId { index })
     }
 
@@ -320,10 +305,9 @@ impl Table {
         ensures listed { AreStoredFormals result.count result.list.now result.formal_offsets.now }
     {
         let entries = live(&self.entries, &self.front);
-        let (_, formal_offsets) = self.order.split_at(entries.len());
         listed_in(
             self.bytes.as_slice(),
-            formal_offsets,
+            self.index.formal_offsets(),
             self.front.formal_offsets,
             &entries[id.index],
         )
@@ -336,8 +320,7 @@ impl Table {
         self.bytes.clear();
         self.entries.clear();
         self.front = NOTHING;
-        self.order.clear();
-        self.bucket_starts.clear();
+        self.index.clear();
     }
 
     /// Takes out the macro of a name, and answers whether there was one.
@@ -349,8 +332,7 @@ impl Table {
             &mut self.bytes,
             &mut self.entries,
             &mut self.front,
-            &mut self.order,
-            &mut self.bucket_starts,
+            &mut self.index,
             name,
         )
         .0
@@ -411,14 +393,7 @@ impl Table {
         ensures count { result.count ≡ length (without name.now self.now.macros) }
         ensures sound { IsSound self.now }
     {
-        usage_without(
-            &self.bytes,
-            &self.entries,
-            &self.front,
-            &self.order[..self.entries.len() - self.front.entries],
-            &self.bucket_starts,
-            name,
-        )
+        usage_without(&self.bytes, &self.entries, &self.front, &self.index, name)
     }
 
     // Stores a macro of a name with what stands behind the name in a logical line.
@@ -500,8 +475,7 @@ impl Table {
             &mut self.bytes,
             &mut self.entries,
             &mut self.front,
-            &mut self.order,
-            &mut self.bucket_starts,
+            &mut self.index,
             new,
         );
         Ok(())

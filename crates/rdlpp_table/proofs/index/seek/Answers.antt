@@ -7,30 +7,35 @@ use Rattle.rdlpp_table.proofs.index.seek.Goals as goal
 pub loop-low-init : goal.loop-low-init
 loop-low-init c = start_seeking _ _ _ _ _ _ _ _ c.requires.indexed.divided c.bucket-bucket.ensures.value c.bucket-bucket.ensures.small c.start-low.ensures c.start-high.ensures (omega (arith, index_length _ _ _ c.requires.indexed.index, c.requires.few))
 
-pub bounds-entries-order : goal.bounds-entries-order
-bounds-entries-order c =
-    let h : c.middle_of-middle.result < length c.args.order.now = omega (arith, c.loop-low.invariant.fits, c.middle_of-middle.ensures.to) in
-    entry_inside _ _ _ _ c.requires.indexed.index h
+pub bounds-entries-place : goal.bounds-entries-place
+bounds-entries-place c =
+    let h : c.middle_of-middle.result < length c.args.index.now.places = omega (arith, c.loop-low.invariant.fits, c.middle_of-middle.ensures.to) in
+    omega (arith, entry_inside _ _ _ _ c.requires.indexed.index h, c.place.ensures)
 
 pub name_in-name-requires : goal.name_in-name-requires
 name_in-name-requires c =
-    let h : c.middle_of-middle.result < length c.args.order.now = omega (arith, c.loop-low.invariant.fits, c.middle_of-middle.ensures.to) in
-    end_of_entry _ _ _ _ no_entry c.requires.within c.requires.indexed.index h
+    let h : c.middle_of-middle.result < length c.args.index.now.places = omega (arith, c.loop-low.invariant.fits, c.middle_of-middle.ensures.to) in
+    end_of_entry _ _ _ _ _ no_entry c.requires.within c.requires.indexed.index h c.place.ensures
 
 pub loop-low-preserved-in-Less : goal.loop-low-preserved-in-Less
 loop-low-preserved-in-Less c =
-    let h : c.middle_of-middle.result < length c.args.order.now = omega (arith, c.loop-low.invariant.fits, c.middle_of-middle.ensures.to) in
+    let h : c.middle_of-middle.result < length c.args.index.now.places = omega (arith, c.loop-low.invariant.fits, c.middle_of-middle.ensures.to) in
     seek_up _ _ _ _ _ _ _ _ _ c.requires.indexed.index c.loop-low.invariant c.loop-low-test.true c.middle_of-middle.ensures
-    (compared_key _ _ _ _ _ _ _ _ c.requires.indexed.index h c.name_in-name.ensures c.in-Less.ensures.order) c.in-Less.ensures.step
+    (compared_key _ _ _ _ _ _ _ _ _ c.requires.indexed.index h c.place.ensures c.name_in-name.ensures c.in-Less.ensures.order) c.in-Less.ensures.step
 
 pub loop-low-preserved : goal.loop-low-preserved
 loop-low-preserved c =
-    let h : c.middle_of-middle.result < length c.args.order.now = omega (arith, c.loop-low.invariant.fits, c.middle_of-middle.ensures.to) in
+    let h : c.middle_of-middle.result < length c.args.index.now.places = omega (arith, c.loop-low.invariant.fits, c.middle_of-middle.ensures.to) in
     seek_down _ _ _ _ _ _ _ _ _ c.requires.indexed.index c.loop-low.invariant c.loop-low-test.true c.middle_of-middle.ensures
-    (compared_key _ _ _ _ _ _ _ _ c.requires.indexed.index h c.name_in-name.ensures c.in-Greater.ensures.order) c.in-Greater.ensures.step
+    (compared_key _ _ _ _ _ _ _ _ _ c.requires.indexed.index h c.place.ensures c.name_in-name.ensures c.in-Greater.ensures.order) c.in-Greater.ensures.step
 
 pub returns-in-Equal-clause-found : goal.returns-in-Equal-clause-found
 returns-in-Equal-clause-found c =
-    let h : c.middle_of-middle.result < length c.args.order.now = omega (arith, c.loop-low.invariant.fits, c.middle_of-middle.ensures.to) in
+    let h : c.middle_of-middle.result < length c.args.index.now.places = omega (arith, c.loop-low.invariant.fits, c.middle_of-middle.ensures.to) in
     seek_found _ _ _ _ _ _ _ _ c.loop-low.invariant c.loop-low-test.true c.middle_of-middle.ensures
-    (compared_key _ _ _ _ _ _ _ _ c.requires.indexed.index h c.name_in-name.ensures c.in-Equal.ensures.order)
+    (compared_key _ _ _ _ _ _ _ _ _ c.requires.indexed.index h c.place.ensures c.name_in-name.ensures c.in-Equal.ensures.order)
+
+pub offset_bounds-entries-place : goal.offset_bounds-entries-place
+offset_bounds-entries-place c =
+    let h : c.middle_of-middle.result < length c.args.index.now.places = omega (arith, c.loop-low.invariant.fits, c.middle_of-middle.ensures.to) in
+    omega (arith, entry_inside _ _ _ _ c.requires.indexed.index h, c.place.ensures, c.requires.few)

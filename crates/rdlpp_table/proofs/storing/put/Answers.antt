@@ -1,11 +1,11 @@
-use Rattle.std.proofs.Common.{Option, ◌≡◌, ◌+◌, ◌-◌, ◌∙◌, ◌++◌, drop, take, ◌∷◌, [], ap, arith, length, length-append, unwrap_or, List, ℕ, flat_map, length-drop}
+use Rattle.std.proofs.Common.{Option, ◌+◌, ◌∙◌, ◌++◌, drop, ◌∷◌, [], ap, arith, length, length-append, unwrap_or, List, ℕ, flat_map}
 use Rattle.rdlpp_lines.specs.Texts.{start_level}
 use Rattle.rdlpp_table.specs.Table.{Formal, formal_bytes}
-use Rattle.rdlpp_table.proofs.Sizes.{count_items, few_offsets, length_list_bytes, live_count}
+use Rattle.rdlpp_table.proofs.Sizes.{count_items, few_offsets, length_list_bytes}
 use Rattle.rdlpp_table.specs.declared.entry.Entry.{Entry}
 use Rattle.rdlpp_table.specs.NewMacro.{list_formals, new_macro, points_told}
-use Rattle.std.proofs.lemmas.List.{drop-append-le, take-append-le}
-use Rattle.rdlpp_table.specs.FormalOffsets.{offsets_of, table_offsets}
+use Rattle.std.proofs.lemmas.List.{drop-append-le}
+use Rattle.rdlpp_table.specs.IndexView.{IndexView}
 use Rattle.rdlpp_table.specs.Store.{macros_in}
 use Rattle.rdlpp_table.proofs.RoundTrip.{put_offsets, put_stored, stored_length}
 use Rattle.rdlpp_table.proofs.News.{appended_between, appended_few, appended_last, appended_listed, appended_offsets, body_is, new_bytes, new_points, new_entry, new_plain}
@@ -46,35 +46,27 @@ pub points_at-points-requires-clause-listed : goal.points_at-points-requires-cla
 points_at-points-requires-clause-listed c =
     let a = appended_last c.append_part.new.to.items _ c.deref.result.now _ _ _ c.unwrap_or-count.result c.len-list.result c.requires.counted.listed c.append_formals.ensures.items (c.len-list.ensures ∙ count_items c.append_part.new.to) c.unwrap_or-count.ensures c.deref.ensures.value in
     let b = appended_between c.append_part.new.to.items _ _ c.as_slice.result.now _ _ _ c.unwrap_or-count.result c.len-list.result c.len-body.result _ c.requires.counted.listed c.append_formals.ensures.items (c.append_trimmed.ensures.items ∙ ap (λ (l : List ℕ). c.append_formals.new.bytes.items ++ l) (body_is _ _)) (c.len-list.ensures ∙ count_items c.append_part.new.to) (c.len-body.ensures ∙ count_items c.append_formals.new.bytes) c.unwrap_or-count.ensures c.as_slice.ensures.value in
-    appended_listed _ _ _ _ _ _ c.args.order.now.items c.deref-2.result.now c.len-first.result a b (c.deref-2.ensures.value ∙ c.push_offsets.ensures.items) (c.len-first.ensures ∙ count_items c.args.order.now)
+    appended_listed _ _ _ _ _ _ c.args.index.now.formal_offsets c.formal_offsets.result.now (length c.formal_offsets-first.result.now) a b (c.formal_offsets.ensures ∙ ap (λ (v : IndexView). v.formal_offsets) c.push_offsets.ensures) (ap (length {A = ℕ}) c.formal_offsets-first.ensures)
 
 pub returns-clause-stored : goal.returns-clause-stored
 returns-clause-stored c =
-    put_stored _ _ _ (new_macro c.args.new.now.name.now c.args.new.now.arity c.args.new.now.list.now c.args.new.now.is_logical c.args.new.now.text.now) c.len-start.result (c.len-first.result - (c.len.result - c.args.front.now.entries + 1) + c.args.front.now.formal_offsets) _ _
+    put_stored _ _ _ (new_macro c.args.new.now.name.now c.args.new.now.arity c.args.new.now.list.now c.args.new.now.is_logical c.args.new.now.text.now) c.len-start.result (length c.formal_offsets-first.result.now + c.args.front.now.formal_offsets) _ _
     c.requires.stored
     (new_plain _ _ _ _ _ _ c.requires.counted.listed)
     (c.len-start.ensures ∙ count_items c.args.bytes.now)
-    (omega (arith, c.requires.index, c.len-first.ensures, count_items c.args.order.now, c.len.ensures, live_count c.args.front.now.entries c.args.entries.now, length-drop (length (drop c.args.front.now.entries c.args.entries.now.items) + 1) c.args.order.now.items, ap (length {A = ℕ}) c.requires.marked))
+    (omega (arith, ap (length {A = ℕ}) c.formal_offsets-first.ensures, ap (length {A = ℕ}) c.requires.marked))
     (new_bytes _ _ _ _ _ _ _ _ _ c.append_part.ensures.items c.append_formals.ensures.items (c.append_trimmed.ensures.items ∙ ap (λ (l : List ℕ). c.append_formals.new.bytes.items ++ l) (body_is _ _)))
     (ap (drop c.args.front.now.entries) c.push_reserved.ensures.items
     ∙ (drop-append-le c.args.front.now.entries c.args.entries.now.items _ (omega (arith, c.requires.given_up, count_items c.args.entries.now))
-    ∙ ap (λ (e : Entry). (drop c.args.front.now.entries c.args.entries.now.items) ++ e ∷ []) (ap (λ (a : Option ℕ). let e : Entry = record { start = c.len-start.result; name_len = length c.args.new.now.name.now; list_len = c.args.new.now.list_len; body_len = c.args.new.now.body_len; arity = a; formal_offsets = c.len-first.result - (c.len.result - c.args.front.now.entries + 1) + c.args.front.now.formal_offsets; points = c.points_at-points.result } in e) c.small_arity.ensures ∙ new_entry c.len-start.result (c.len-first.result - (c.len.result - c.args.front.now.entries + 1) + c.args.front.now.formal_offsets) _ _ _ _ _ _ _ _ c.requires.counted
+    ∙ ap (λ (e : Entry). (drop c.args.front.now.entries c.args.entries.now.items) ++ e ∷ []) (ap (λ (a : Option ℕ). let e : Entry = record { start = c.len-start.result; name_len = length c.args.new.now.name.now; list_len = c.args.new.now.list_len; body_len = c.args.new.now.body_len; arity = a; formal_offsets = length c.formal_offsets-first.result.now + c.args.front.now.formal_offsets; points = c.points_at-points.result } in e) c.small_arity.ensures ∙ new_entry c.len-start.result (length c.formal_offsets-first.result.now + c.args.front.now.formal_offsets) _ _ _ _ _ _ _ _ c.requires.counted
     (new_points c.args.new.now.name.now _ _ _ _ _ _ _ _ _ _ _ _ c.requires.counted.listed c.append_formals.ensures.items (c.append_trimmed.ensures.items ∙ ap (λ (l : List ℕ). c.append_formals.new.bytes.items ++ l) (body_is _ _))
     (c.len-list.ensures ∙ count_items c.append_part.new.to) (c.len-body.ensures ∙ count_items c.append_formals.new.bytes) c.unwrap_or-count.ensures (c.points_at-points.ensures ∙ ap (λ (x : List ℕ). points_told x c.len-list.result c.len-body.result c.unwrap_or-count.result) c.as_slice.ensures.value)))))
 
-pub returns-clause-marked : goal.returns-clause-marked
-returns-clause-marked c =
-    let a = appended_last c.append_part.new.to.items _ c.deref.result.now _ _ _ c.unwrap_or-count.result c.len-list.result c.requires.counted.listed c.append_formals.ensures.items (c.len-list.ensures ∙ count_items c.append_part.new.to) c.unwrap_or-count.ensures c.deref.ensures.value in
-    let n : length (drop c.args.front.now.entries c.push_reserved.new.self.items) ≡ length (drop c.args.front.now.entries c.args.entries.now.items) + 1 = omega (arith, c.requires.given_up, c.push_reserved.ensures.len, live_count c.args.front.now.entries c.push_reserved.new.self, live_count c.args.front.now.entries c.args.entries.now) in
-    let m = put_offsets c.args.order.now.items (offsets_of _) c.push_offsets.new.formal_offsets.items (macros_in c.args.bytes.now.items (drop c.args.front.now.entries c.args.entries.now.items)) (new_macro c.args.new.now.name.now c.args.new.now.arity c.args.new.now.list.now c.args.new.now.is_logical c.args.new.now.text.now) (length (drop c.args.front.now.entries c.args.entries.now.items) + 1) (omega (arith, c.requires.index, count_items c.args.order.now)) c.requires.marked (appended_offsets _ _ _ _ _ _ _ _ a) c.push_offsets.ensures.items in
-    ap (λ (k : ℕ). drop k c.push_offsets.new.formal_offsets.items) n ∙ m.1
-
 pub returns-clause-index : goal.returns-clause-index
 returns-clause-index c =
-    let n : length (drop c.args.front.now.entries c.push_reserved.new.self.items) ≡ length (drop c.args.front.now.entries c.args.entries.now.items) + 1 = omega (arith, c.requires.given_up, c.push_reserved.ensures.len, live_count c.args.front.now.entries c.push_reserved.new.self, live_count c.args.front.now.entries c.args.entries.now) in
-    ap (λ (k : ℕ). take k c.push_offsets.new.formal_offsets.items) n ∙ (ap (take (length (drop c.args.front.now.entries c.args.entries.now.items) + 1)) c.push_offsets.ensures.items ∙ take-append-le (length (drop c.args.front.now.entries c.args.entries.now.items) + 1) c.args.order.now.items _ (omega (arith, c.requires.index, count_items c.args.order.now)))
+    let a = appended_last c.append_part.new.to.items _ c.deref.result.now _ _ _ c.unwrap_or-count.result c.len-list.result c.requires.counted.listed c.append_formals.ensures.items (c.len-list.ensures ∙ count_items c.append_part.new.to) c.unwrap_or-count.ensures c.deref.ensures.value in
+    c.push_offsets.ensures ∙ ap (λ (l : List ℕ). let v : IndexView = record c.args.index.now { formal_offsets = l } in v) (put_offsets _ _ (macros_in c.args.bytes.now.items (drop c.args.front.now.entries c.args.entries.now.items)) (new_macro c.args.new.now.name.now c.args.new.now.arity c.args.new.now.list.now c.args.new.now.is_logical c.args.new.now.text.now) c.requires.marked (appended_offsets _ _ _ _ _ _ _ _ a))
 
-pub overflow_cast-formal_offsets : goal.overflow_cast-formal_offsets
-overflow_cast-formal_offsets c =
-    let many : c.len-first.result ≡ length (drop c.args.front.now.entries c.args.entries.now.items) + 1 + length (table_offsets (macros_in c.args.bytes.now.items (drop c.args.front.now.entries c.args.entries.now.items))) = omega (arith, c.requires.index, c.len-first.ensures, count_items c.args.order.now, length-drop (length (drop c.args.front.now.entries c.args.entries.now.items) + 1) c.args.order.now.items, ap (length {A = ℕ}) c.requires.marked) in
-    omega (arith, many, c.len.ensures, live_count c.args.front.now.entries c.args.entries.now, c.requires.stored.few, few_offsets (macros_in c.args.bytes.now.items (drop c.args.front.now.entries c.args.entries.now.items)), stored_length _ _ _ c.requires.stored, count_items c.args.bytes.now, c.args.bytes.now.ok.0, c.requires.narrow)
+pub overflow_cast-first : goal.overflow_cast-first
+overflow_cast-first c =
+    omega (arith, ap (length {A = ℕ}) c.formal_offsets-first.ensures, ap (length {A = ℕ}) c.requires.marked, c.requires.stored.few, few_offsets (macros_in c.args.bytes.now.items (drop c.args.front.now.entries c.args.entries.now.items)), stored_length _ _ _ c.requires.stored, count_items c.args.bytes.now, c.args.bytes.now.ok.0, c.requires.narrow)

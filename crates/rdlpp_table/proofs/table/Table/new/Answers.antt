@@ -1,6 +1,7 @@
-use Rattle.std.proofs.Common.{arith}
+use Rattle.std.proofs.Common.{ap, arith, refl}
+use Rattle.rdlpp_table.specs.IndexView.{IndexView}
 use Rattle.rdlpp_table.proofs.Sizes.{held_when_empty, empty_view}
-use Rattle.rdlpp_table.proofs.Indexed.{index_of_nothing, nothing_front, nothing_marked}
+use Rattle.rdlpp_table.proofs.Indexed.{index_of_nothing, nothing_marked}
 use Rattle.rdlpp_table.proofs.table.Table.new.Goals as goal
 
 pub invariant_of-result : goal.invariant_of-result
@@ -9,9 +10,9 @@ invariant_of-result c = record {
   given_up = omega arith;
   room = c.in-Ok.ensures.exact;
   entry_room = c.in-Ok-with_capacity.ensures.exact;
-  indexed = index_of_nothing _ _ _ _ c.in-Ok-with_capacity.ensures.items (nothing_front _ _ c.in-Ok-with_capacity-2.ensures.items) c.new.ensures;
-  marked = nothing_marked _ _ _ _ c.in-Ok-with_capacity.ensures.items c.in-Ok-with_capacity-2.ensures.items;
-  index_room = c.in-Ok-with_capacity-2.ensures.exact;
+  indexed = rw c.in-Ok-new.ensures (index_of_nothing _ _ _ _ c.in-Ok-with_capacity.ensures.items refl refl);
+  marked = rw c.in-Ok-new.ensures (nothing_marked _ _ c.in-Ok-with_capacity.ensures.items);
+  index_room = ap (λ (v : IndexView). v.room) c.in-Ok-new.ensures;
   few = c.requires.definitions.1;
   small = c.requires.definition_bytes.1;
 }

@@ -25,7 +25,7 @@ invariant_of-self c = record {
   entry_room = omega (arith, c.remove_named.ensures.capacity.1, c.self.invariant.entry_room);
   indexed = indexed_after _ _ _ _ _ c.remove_named.ensures.stored c.remove_named.ensures.indexed;
   marked = marked_after _ _ _ _ c.remove_named.ensures.stored c.remove_named.ensures.marked;
-  index_room = omega (arith, c.remove_named.ensures.capacity.2, c.self.invariant.index_room);
+  index_room = c.remove_named.ensures.room ∙ c.self.invariant.index_room;
   few = c.self.invariant.few;
   small = c.self.invariant.small;
 }

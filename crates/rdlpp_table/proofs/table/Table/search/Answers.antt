@@ -1,12 +1,8 @@
-use Rattle.std.proofs.Common.{◌∙◌, ℕ, Some, ap, arith, drop, length, sym, length-take-le}
+use Rattle.std.proofs.Common.{◌∙◌, Some, ap, arith, drop, length, sym}
 use Rattle.rdlpp_table.specs.declared.entry.Entry.{Entry}
 use Rattle.rdlpp_table.proofs.Sizes.{named_at, stored_slices_within}
-use Rattle.rdlpp_table.proofs.Indexed.{few_entries, index_front, viewed_place}
+use Rattle.rdlpp_table.proofs.Indexed.{few_entries, viewed_place}
 use Rattle.rdlpp_table.proofs.table.Table.search.Goals as goal
-
-pub slice_bounds-place_in-end : goal.slice_bounds-place_in-end
-slice_bounds-place_in-end c =
-    sym (length-take-le (length c.live-entries.result.now) c.deref-3.result.now (omega (arith, index_front c.self.inside.bytes.items (drop c.self.inside.front.entries c.self.inside.entries.items) c.self.inside.order.items c.self.invariant.indexed.index, ap (length {A = Entry}) (c.live-entries.ensures ∙ ap (drop c.self.inside.front.entries) c.deref.ensures.value), ap (length {A = ℕ}) c.deref-3.ensures.value)))
 
 pub place_in-requires-clause-within : goal.place_in-requires-clause-within
 place_in-requires-clause-within c = stored_slices_within _ _ _ _ _ c.deref-2.ensures.value (c.live-entries.ensures ∙ ap (drop c.self.inside.front.entries) c.deref.ensures.value) c.self.invariant.held.stored

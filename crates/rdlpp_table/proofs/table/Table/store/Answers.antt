@@ -1,5 +1,6 @@
 use Rattle.std.proofs.Common.{◌≡◌, ◌≤◌, ◌+◌, ◌∷◌, ◌++◌, [], ap, sym, ◌∙◌, arith, drop, length}
 use Rattle.rdlpp_table.specs.Table.{Macro, without, table_size, macro_size}
+use Rattle.rdlpp_table.specs.IndexView.{IndexRoom}
 use Rattle.rdlpp_table.specs.View.{TableView}
 use Rattle.rdlpp_table.specs.Define.{Accepted}
 use Rattle.rdlpp_table.specs.NewMacro.{new_macro}
@@ -52,10 +53,14 @@ replace-requires-clause-places c = omega (arith, c.self.invariant.entry_room, c.
 
 pub replace-requires-clause-index_room : goal.replace-requires-clause-index_room
 replace-requires-clause-index_room c =
-    let same : table_size (without c.args.new.now.name.now (macros_in c.self.inside.bytes.items (drop c.self.inside.front.entries c.self.inside.entries.items))) ≡ table_size (without c.args.new.now.name.now c.args.self.now.macros) = ap (λ (v : TableView). table_size (without c.args.new.now.name.now v.macros)) c.self.view_is in
     let count : length (without c.args.new.now.name.now (macros_in c.self.inside.bytes.items (drop c.self.inside.front.entries c.self.inside.entries.items))) ≡ length (without c.args.new.now.name.now c.args.self.now.macros) = ap (λ (v : TableView). length (without c.args.new.now.name.now v.macros)) c.self.view_is in
+    omega (arith, c.rest-rest.ensures.count, ap (λ (r : IndexRoom). r.places) c.self.invariant.index_room)
+
+pub replace-requires-clause-offset_room : goal.replace-requires-clause-offset_room
+replace-requires-clause-offset_room c =
+    let same : table_size (without c.args.new.now.name.now (macros_in c.self.inside.bytes.items (drop c.self.inside.front.entries c.self.inside.entries.items))) ≡ table_size (without c.args.new.now.name.now c.args.self.now.macros) = ap (λ (v : TableView). table_size (without c.args.new.now.name.now v.macros)) c.self.view_is in
     let small : table_size (without c.args.new.now.name.now c.args.self.now.macros) ≤ c.args.self.now.most_bytes = omega (arith, without_size c.args.new.now.name.now c.args.self.now.macros, c.rest-rest.ensures.sound.bytes_fit) in
-    omega (arith, c.rest-rest.ensures.size, c.rest-rest.ensures.count, c.saturating_add.ensures, c.saturating_add-size.ensures, c.self.invariant.small, c.self.invariant.index_room, ap (λ (v : TableView). v.most_bytes) c.self.view_is, ap (λ (v : TableView). v.most_macros) c.self.view_is)
+    omega (arith, c.rest-rest.ensures.size, c.saturating_add.ensures, c.saturating_add-size.ensures, c.self.invariant.small, ap (λ (r : IndexRoom). r.formal_offsets) c.self.invariant.index_room, ap (λ (v : TableView). v.most_bytes) c.self.view_is)
 
 pub invariant_of-self : goal.invariant_of-self
 invariant_of-self c =
@@ -74,7 +79,7 @@ invariant_of-self c =
       entry_room = omega (arith, c.replace.ensures.capacity.1, c.self.invariant.entry_room);
       indexed = indexed_after _ _ _ _ _ c.replace.ensures.stored c.replace.ensures.indexed;
       marked = marked_after _ _ _ _ c.replace.ensures.stored c.replace.ensures.marked;
-      index_room = omega (arith, c.replace.ensures.capacity.2, c.self.invariant.index_room);
+      index_room = c.replace.ensures.room ∙ c.self.invariant.index_room;
       few = c.self.invariant.few;
       small = c.self.invariant.small;
     }
