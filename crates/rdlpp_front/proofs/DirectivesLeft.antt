@@ -11,7 +11,7 @@ use Rattle.rdlpp_scan.specs.SourceTokens.{Broken, Definition, Ordinary, Renumber
 use Rattle.rdlpp_scan.specs.TokenKinds.{is_ordinary}
 use Rattle.rdlpp_scan.specs.Tokens.{token_of}
 use Rattle.rdlpp_scan.specs.declared.token.Directive.{Directive}
-use Rattle.rdlpp_scan.specs.declared.token.Directive.TheVariants.{Else, Elsif, Endif, Ifdef, Ifndef, Include, Line}
+use Rattle.rdlpp_scan.specs.declared.token.Directive.TheVariants.{Endif, Ifdef, Ifndef, Include, Line}
 use Rattle.rdlpp_scan.specs.declared.token.Kind.{Kind}
 use Rattle.rdlpp_scan.specs.declared.token.Kind.TheVariants.{BareBackquote, Blank, Str}
 use Rattle.rdlpp_scan.specs.declared.token.Mode.{Mode}
@@ -23,15 +23,17 @@ use Rattle.rdlpp_scan.proofs.Seams.{BeforePerl, Closed, OpenComment, OpenString,
 use Rattle.rdlpp_scan.proofs.TokenLens.{token_of-part}
 use Rattle.rdlpp_scan.proofs.TokenSteps.{is_kept_kind}
 use Rattle.rdlpp_meaning.specs.Expansion.{usage_token}
-use Rattle.rdlpp_meaning.specs.Meaning.{Checked, Holds, Passage, Progress, TestFault, Test, added_end, at_start_of, begun, after_bytes, by_test, in_conditional, is_else, leaves, macro_name, name_test, opening, opening_within, origin_line, past_conditional, refusal, turn, turned, unclosed, wants_defined}
+use Rattle.rdlpp_meaning.specs.Moves.{Passes, is_move}
+use Rattle.rdlpp_meaning.specs.Meaning.{Passage, Progress, added_end, at_start_of, after_bytes, leaves, origin_line, unclosed}
 use Rattle.rdlpp_meaning.specs.Opened.{Waiting, all_resumed, waiting}
 use Rattle.rdlpp_meaning.specs.Outcome.{fails}
-use Rattle.rdlpp_meaning.specs.Parts.{Command, argument_of, after_blanks, after_directive, command_in_front, command_of, line_ends_of, no_argument, only_blanks, past_blanks, string_in_front}
-use Rattle.rdlpp_meaning.specs.Resumed.{Live, Place, Skipped, following, resume, resumed}
+use Rattle.rdlpp_meaning.specs.Parts.{argument_of, after_blanks, after_directive, command_of, line_ends_of, no_argument, only_blanks, past_blanks, string_in_front}
+use Rattle.rdlpp_meaning.specs.Resumed.{Live, Skipped}
 use Rattle.rdlpp_meaning.specs.State.{LongPath, NoSource, Rules, Source, State, breach_kind, fault_at, shown_line}
-use Rattle.rdlpp_meaning.specs.declared.fault.FaultKind.TheVariants.{IncludeName, OpenConditional, PathTooLong, SourceNotFound, StrayBranch, TooManyIncludes}
-use Rattle.rdlpp_meaning.proofs.Directives.{all_resumed_after, all_resumed_fails, all_resumed_include, blank_token, branches_conditional, branching_piece, closing_piece, directive_piece, in_branch, include_bad_name, include_long_path, include_nameless, include_not_found, include_too_deep, line_token, live_branching, live_opening, opening_piece, opens_conditional, skipped_branching, string_token, takes_string_at_once, takes_string_after_blanks, wants_name}
-use Rattle.rdlpp_meaning.proofs.Skipping.{bare_skipped, branching_word, directive_word, has_own_token, is_skipped, resumed_inner_branch, resumed_inner_end, resumed_skipped, resumed_skipped_broken, resumed_skipped_opening, skipped_unclosed, stands_by_itself, usage_skipped}
+use Rattle.rdlpp_meaning.specs.declared.fault.FaultKind.TheVariants.{IncludeName, OpenConditional, PathTooLong, SourceNotFound, TooManyIncludes}
+use Rattle.rdlpp_meaning.proofs.Directives.{all_resumed_after, all_resumed_fails, all_resumed_include, blank_token, include_bad_name, include_long_path, include_nameless, include_not_found, include_too_deep, line_token, opens_conditional, string_token, takes_string_at_once, takes_string_after_blanks, wants_name}
+use Rattle.rdlpp_meaning.proofs.Skipping.{bare_skipped, directive_word, has_own_token, is_skipped, resumed_skipped, resumed_skipped_broken, skipped_unclosed, stands_by_itself, usage_skipped}
+use Rattle.rdlpp_meaning.proofs.Moves.{word_moves}
 use Rattle.rdlpp_meaning.proofs.Outcomes.{after_bytes-nil}
 use Rattle.rdlpp_read.specs.Arguments.{Closes, ClosesString, IsClosedString, IsLead, Lacks, Leads, Opens as OpensString}
 use Rattle.rdlpp_read.specs.Buffer.{BufferView, consumed, held_of, rest_of, tokens_left}
@@ -42,30 +44,11 @@ use Rattle.rdlpp_read.specs.declared.buffer.extending.LogicalLine.TheVariants.{W
 use Rattle.rdlpp_read.specs.declared.buffer.filling.Fill.TheVariants as fill
 use Rattle.rdlpp_read.specs.declared.files.File.{File}
 use Rattle.rdlpp_read.proofs.BufferTokens.{ends_line}
-use Rattle.rdlpp_front.specs.SourceItems.{HasString, IsDirective, IsUsage, LacksString, argument_name, given_name, include_name, usage_name, word_of}
+use Rattle.rdlpp_front.specs.SourceItems.{HasString, IsDirective, IsUsage, LacksString, argument_name, include_name, usage_name, word_of}
 use Rattle.rdlpp_front.specs.SourceLeft.{HoldsFront, source_left, with_file_buffer}
 use Rattle.rdlpp_front.proofs.TextLeft.{consumed_used, counted, line_buffer, line_text, not_counted, usage_text, usage_tokens}
-use Rattle.rdlpp_front.proofs.NamedDirectives.{Bare, Begins, GivenInFront, IsGiven, blank_lead, directive_move, given_in_front_of, given_of, gone_blanks, gone_word, in_front_of, name_of_front, nothing_in_front_of, nothing_tokens, refused_move, stands_bare, wants_word, word_at, word_directive, word_token, word_tokens}
+use Rattle.rdlpp_front.proofs.NamedDirectives.{GivenInFront, IsGiven, blank_lead, given_in_front_of, given_of, gone_blanks, gone_word, nothing_in_front_of, nothing_tokens, refused_move, stands_bare, word_at, word_directive, word_token, word_tokens}
 use Rattle.rdlpp_front.proofs.Insides.{all_resumed_after_fails, tokens_plain, tokens_used, used_buffer}
-
--- What the directives of conditionals in front do to what remains, in live text and at the end of a branch that is skipped.
-
--- a conditional that was opened on a line by a test
-abbrev pub opened_at : State → ℕ → Bool → Progress
-opened_at s line live = record { line = shown_line s.shift line; taken = live; closing = false }
-
--- an open conditional behind a branch
-abbrev pub branched : Progress → Bool → Bool → Progress
-branched o live closing = record { line = o.line; taken = o.taken || live; closing = closing }
-
--- the test of each branch of a word at an open conditional, by the name that it is given
-abbrev pub Turns : Progress → Directive → (Checked → State → Test) → Type 0
-Turns o d test = (c : Command) (t : State) → c.word ≡ d → turn o c t ≡ test (macro_name c) t
-
--- what remains by a test: its fault, or what remains by whether it holds
-unfoldable pub tested : Test → ℕ → State → (Bool → Passage) → Passage
-tested (TestFault kind word) line s next = leaves (fails (fault_at kind line word s)) s
-tested (Holds live) line s next = next live
 
 -- a directive that opens a conditional wants a name
 pub opening_wants : (d : Directive) → opens_conditional d ≡ true → wants_name d ≡ true
@@ -74,119 +57,9 @@ opening_wants Ifdef e = refl
 opening_wants Ifndef e = refl
 opening_wants d e = cc
 
--- a directive that is stray where no conditional is open
-unfoldable pub is_stray : Directive → Bool
-is_stray Elsif = true
-is_stray Else = true
-is_stray Endif = true
-is_stray d = false
-
-stray_word : (d : Directive) → is_stray d ≡ true → has_own_token d ≡ false
-unfolding is_stray has_own_token
-stray_word Elsif e = refl
-stray_word Else e = refl
-stray_word Endif e = refl
-stray_word d e = cc
-
-resumed_stray : (rules : Rules) (d : Directive) (line : ℕ) (first : Bool) (ts : List SourceToken) (s : State) → is_stray d ≡ true
-    → resumed rules (Live []) first (word_token d line ∷ ts) s ≡ refusal StrayBranch [] (command_in_front d first (word_token d line) ts) s
-unfolding is_stray has_own_token branches_conditional resume
-resumed_stray rules Elsif line first ts s e = directive_piece rules (Live []) Elsif first (word_token Elsif line) ts s _ (word_directive Elsif line refl) (branching_piece Elsif first (word_token Elsif line) ts refl)
-resumed_stray rules Else line first ts s e = directive_piece rules (Live []) Else first (word_token Else line) ts s _ (word_directive Else line refl) (branching_piece Else first (word_token Else line) ts refl)
-resumed_stray rules Endif line first ts s e = directive_piece rules (Live []) Endif first (word_token Endif line) ts s _ (word_directive Endif line refl) (closing_piece first (word_token Endif line) ts)
-resumed_stray rules d line first ts s e = cc
-
--- a branch of the innermost open conditional
-resumed_branch : (rules : Rules) (live : Bool) (o : Progress) (os : List Progress) (d : Directive) (line : ℕ) (first : Bool) (ts : List SourceToken) (s : State)
-    → branches_conditional d ≡ true
-    → let tok = word_token d line in
-    let c = command_in_front d first tok ts in
-    resumed rules (in_branch live o os) first (tok ∷ ts) s
-    ≡ by_test (turn o c s) c s (λ u. following rules (Live (turned o c true ∷ os)) d first tok ts u) (λ u. following rules (Skipped 0 (turned o c false) os) d first tok ts u)
-unfolding in_branch
-resumed_branch rules true o os d line first ts s b =
-    live_branching rules o os d first (word_token d line) ts s (word_directive d line (branching_word d b)) (branching_piece d first (word_token d line) ts b)
-resumed_branch rules false o os d line first ts s b =
-    skipped_branching rules o os d first (word_token d line) ts s (word_directive d line (branching_word d b)) (branching_piece d first (word_token d line) ts b)
-
--- an `endif`
-resumed_closed : (rules : Rules) (live : Bool) (o : Progress) (os : List Progress) (line : ℕ) (first : Bool) (ts : List SourceToken) (s : State)
-    → resumed rules (in_branch live o os) first (word_token Endif line ∷ ts) s ≡ following rules (Live os) Endif first (word_token Endif line) ts (past_conditional s)
-unfolding in_branch has_own_token resume resumed past_conditional
-resumed_closed rules true o os line first ts s =
-    directive_piece rules (Live (o ∷ os)) Endif first (word_token Endif line) ts s _ (word_directive Endif line refl) (closing_piece first (word_token Endif line) ts)
-resumed_closed rules false o os line first ts s =
-    directive_piece rules (Skipped 0 o os) Endif first (word_token Endif line) ts s _ (word_directive Endif line refl) (closing_piece first (word_token Endif line) ts)
-
-end_bare : stands_bare Endif ≡ true
+pub end_bare : stands_bare Endif ≡ true
 unfolding stands_bare
 end_bare = refl
-
-module _ {R : Type 0} (rules : Rules) (unread : R → List ℕ) (ws : List Waiting) (f : File R) (s : State) (holds : HoldsFront f.buffer) (mode : f.buffer.mode ≡ Plain) where
-  -- a directive whose test decides
-  module _ (d : Directive) (given : Option (List ℕ)) (len : ℕ) (begins : Begins d (held_of f.buffer) given len) where
-    abbrev front : GivenInFront d unread f.buffer given len
-    front = in_front_of d unread f.buffer holds mode given len begins
-
-    abbrev command : Command
-    command = command_in_front d f.blanks (word_token d f.buffer.line) front.tokens
-
-    -- what remains behind it, at a place
-    abbrev after_it : Place → State → Passage
-    after_it place t = following rules place d f.blanks (word_token d f.buffer.line) front.tokens t
-
-    tested_left : (place : Place) (new : Bool → Place) (t : State) (x : Test) (live skipped : State → Passage)
-        → resumed rules place f.blanks (word_token d f.buffer.line ∷ front.tokens) s ≡ by_test x command s live skipped
-        → live s ≡ after_it (new true) t → skipped s ≡ after_it (new false) t
-        → source_left rules unread ws place f s ≡ tested x f.buffer.line s (λ b. source_left rules unread ws (new b) (consumed_file len 0 f) t)
-    unfolding by_test tested
-    tested_left place new t (TestFault kind word) live skipped e holding failing = refused_move rules unread ws f s d front.tokens place kind word front.all e
-    tested_left place new t (Holds true) live skipped e holding failing = directive_move rules unread ws f s d given len front place (new true) t (e ∙ holding)
-    tested_left place new t (Holds false) live skipped e holding failing = directive_move rules unread ws f s d given len front place (new false) t (e ∙ failing)
-
-    -- an `ifdef` or `ifndef` opens a conditional, where one more may be opened
-    pub opening_left : (os : List Progress) → opens_conditional d ≡ true
-        → source_left rules unread ws (Live os) f s
-        ≡ tested (opening_within s.conditions_left (name_test (wants_defined d) (given_name given) s)) f.buffer.line s
-        (λ t. source_left rules unread ws (in_branch t (opened_at s f.buffer.line t) os) (consumed_file len 0 f) (in_conditional s))
-    unfolding opening begun in_branch command_of
-    opening_left os o =
-        let tok = word_token d f.buffer.line in
-        let x : Checked → Test = λ n. opening_within s.conditions_left (name_test (wants_defined d) n s) in
-        let live : State → Passage = λ u. after_it (Live (begun command u true ∷ os)) (in_conditional u) in
-        let skipped : State → Passage = λ u. after_it (Skipped 0 (begun command u false) os) (in_conditional u) in
-        tested_left (Live os) (λ t. in_branch t (opened_at s f.buffer.line t) os) (in_conditional s) (x (given_name given)) live skipped
-        (live_opening rules os d f.blanks tok front.tokens s (word_directive d f.buffer.line (wants_word d (opening_wants d o))) (opening_piece d f.blanks tok front.tokens o)
-        ∙ ap (λ (n : Checked). by_test (x n) command s live skipped) (name_of_front rules unread ws f s d given len front))
-        refl refl
-
-    -- a branch of the innermost open conditional
-    pub turned_left : (live : Bool) (o : Progress) (os : List Progress) (test : Checked → State → Test) → branches_conditional d ≡ true → Turns o d test
-        → source_left rules unread ws (in_branch live o os) f s
-        ≡ tested (test (given_name given) s) f.buffer.line s (λ t. source_left rules unread ws (in_branch t (branched o t (is_else d)) os) (consumed_file len 0 f) s)
-    unfolding turned in_branch command_of
-    turned_left live o os test b turns =
-        let taken : State → Passage = λ u. after_it (Live (turned o command true ∷ os)) u in
-        let skipped : State → Passage = λ u. after_it (Skipped 0 (turned o command false) os) u in
-        tested_left (in_branch live o os) (λ t. in_branch t (branched o t (is_else d)) os) s (test (given_name given) s) taken skipped
-        (resumed_branch rules live o os d f.buffer.line f.blanks front.tokens s b
-        ∙ ap (λ (x : Test). by_test x command s taken skipped) (turns command s refl ∙ ap (λ (n : Checked). test n s) (name_of_front rules unread ws f s d given len front)))
-        refl refl
-
-  -- an `endif` goes on in live text
-  pub closed_left : (live : Bool) (o : Progress) (os : List Progress) → IsDirective Endif (held_of f.buffer)
-      → source_left rules unread ws (in_branch live o os) f s ≡ source_left rules unread ws (Live os) (consumed_file (length (word_of Endif)) 0 f) (past_conditional s)
-  closed_left live o os is =
-      let i = in_front_of Endif unread f.buffer holds mode None (length (word_of Endif)) (Bare end_bare is) in
-      directive_move rules unread ws f s Endif None (length (word_of Endif)) i (in_branch live o os) (Live os) (past_conditional s)
-      (resumed_closed rules live o os f.buffer.line f.blanks i.tokens s)
-
-  -- a branch, or an `endif`, without an open conditional in its source is a fault
-  pub stray_left : (d : Directive) → is_stray d ≡ true → IsDirective d (held_of f.buffer) → source_left rules unread ws (Live []) f s ≡ leaves (fails (fault_at StrayBranch f.buffer.line [] s)) s
-  stray_left d stray is =
-      let ts = tokens_left unread (consumed_file (length (word_of d)) 0 f).buffer in
-      refused_move rules unread ws f s d ts (Live []) StrayBranch [] (word_tokens d unread f.buffer (stray_word d stray) holds mode is)
-      (resumed_stray rules d f.buffer.line f.blanks ts s stray)
 
 -- What usages, lone backquotes, and directives that belong to no conditional do in skipped text: of each its LF bytes are written.
 
@@ -275,28 +148,16 @@ module _ {R : Type 0} (rules : Rules) (unread : R → List ℕ) (ws : List Waiti
       one_skipped (record { sort = Definition; bytes = w; line = f.buffer.line }) (consumed new len) (line.define t mode holds) refl
       ∙ ap (λ (b : BufferView R). after_bytes (line_ends_of w) (left_of (only_blanks f.blanks w) b)) (consumed_used new len lines count)
 
--- What the words of conditionals in front do in skipped text, where they open, branch or close a conditional that is skipped whole,
-
--- a word that counts there: how many conditionals opened there in front of it, and behind it
-pub data Counts : Directive → ℕ → ℕ → Type 0 where
-  Opens : (d : Directive) (n : ℕ) → opens_conditional d ≡ true → Counts d n (suc n)
-  Branches : (d : Directive) (n : ℕ) → branches_conditional d ≡ true → Counts d (suc n) (suc n)
-  Ends : (n : ℕ) → Counts Endif (suc n) n
-
--- an `endif` is a token
-end_word : has_own_token Endif ≡ false
-unfolding has_own_token
-end_word = refl
+-- What the words of conditionals in front do in skipped text, where they open or branch a conditional that is skipped whole,
+-- and what broken tokens and its end do there.
 
 module _ {R : Type 0} (rules : Rules) (unread : R → List ℕ) (ws : List Waiting) (p : Progress) (os : List Progress) (f : File R) (s : State) where
-  -- a word that is skipped writes nothing, and changes at most how many conditionals opened there
-  word_move : (d : Directive) (n m : ℕ) → has_own_token d ≡ false
-      → HoldsFront f.buffer → f.buffer.mode ≡ Plain → IsDirective d (held_of f.buffer) → ((ts : List SourceToken) → resumed rules (Skipped n p os) f.blanks (word_token d f.buffer.line ∷ ts) s
-      ≡ after_bytes (line_ends_of (word_of d)) (resumed rules (Skipped m p os) (only_blanks f.blanks (word_of d)) ts s))
-      → source_left rules unread ws (Skipped n p os) f s
+  -- the word of a directive that leaves the text skipped writes nothing, and changes at most how many conditionals opened there
+  pub word_left : (d : Directive) (n m : ℕ) → has_own_token d ≡ false → is_move d ≡ true → Passes rules d n m p os
+      → HoldsFront f.buffer → f.buffer.mode ≡ Plain → IsDirective d (held_of f.buffer) → source_left rules unread ws (Skipped n p os) f s
       ≡ source_left rules unread ws (Skipped m p os) (consumed_file (length (word_of d)) 0 f) s
   unfolding source_left
-  word_move d n m word holds mode is e =
+  word_left d n m word moves passes holds mode is =
       let b = f.buffer in
       let tok = word_token d b.line in
       let ts = tokens_left unread (consumed_file (length (word_of d)) 0 f).buffer in
@@ -304,23 +165,10 @@ module _ {R : Type 0} (rules : Rules) (unread : R → List ℕ) (ws : List Waiti
       sym (word_at d (held_of b) (rest_of unread b) holds.some (ends_line unread b holds.ends) is) in
       let left = all_resumed rules ws (Skipped m p os) (only_blanks f.blanks (word_of d)) ts s in
       ap (λ (us : List SourceToken). all_resumed rules ws (Skipped n p os) f.blanks us s) (word_tokens d unread b word holds mode is)
-      ∙ all_resumed_after rules ws (Skipped n p os) (Skipped m p os) f.blanks (only_blanks f.blanks (word_of d)) (tok ∷ ts) ts s s (line_ends_of (word_of d)) (e ts)
+      ∙ word_moves rules ws n m p os d f.blanks tok ts s (word_directive d b.line word) moves passes
       ∙ ap (λ (x : List ℕ). after_bytes x left) (directive_word tok d (word_directive d b.line word) word).no_line_end
       ∙ after_bytes-nil left
       ∙ ap (λ (x : List ℕ). all_resumed rules ws (Skipped m p os) (only_blanks f.blanks x) ts s) text
-
-  -- a word that counts there
-  pub counted_left : (d : Directive) (n m : ℕ) → Counts d n m
-      → HoldsFront f.buffer → f.buffer.mode ≡ Plain → IsDirective d (held_of f.buffer) → source_left rules unread ws (Skipped n p os) f s
-      ≡ source_left rules unread ws (Skipped m p os) (consumed_file (length (word_of d)) 0 f) s
-  counted_left _ _ _ (Opens d n o) holds mode is =
-      let word = wants_word d (opening_wants d o) in
-      word_move d n (suc n) word holds mode is (λ ts. resumed_skipped_opening rules n p os d f.blanks (word_token d f.buffer.line) ts s (word_directive d f.buffer.line word) o)
-  counted_left _ _ _ (Branches d n b) holds mode is =
-      let word = branching_word d b in
-      word_move d (suc n) (suc n) word holds mode is (λ ts. resumed_inner_branch rules n p os d f.blanks (word_token d f.buffer.line) ts s (word_directive d f.buffer.line word) b)
-  counted_left _ _ _ (Ends n) holds mode is =
-      word_move Endif (suc n) n end_word holds mode is (λ ts. resumed_inner_end rules n p os f.blanks (word_token Endif f.buffer.line) ts s (word_directive Endif f.buffer.line end_word))
 
   -- a broken token without bytes is a fault in skipped text too
   pub skipped_broken_left : (n : ℕ) (b : Breach) (line : ℕ) → tokens_left unread f.buffer ≡ only_broken b line

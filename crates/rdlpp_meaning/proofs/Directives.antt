@@ -5,19 +5,18 @@ use Rattle.std.specs.Str.{is_utf8}
 use Rattle.rdlpp_scan.specs.Bytes.{is_line_end}
 use Rattle.rdlpp_scan.specs.SourceTokens.{Ordinary, Renumbering, Sort, SourceToken}
 use Rattle.rdlpp_scan.specs.declared.token.Directive.{Directive}
-use Rattle.rdlpp_scan.specs.declared.token.Directive.TheVariants.{Define, Else, Elsif, Endif, Ifdef, Ifndef, Include, Line, Undef}
+use Rattle.rdlpp_scan.specs.declared.token.Directive.TheVariants.{Define, Else, Elsif, Ifdef, Ifndef, Include, Line, Undef}
 use Rattle.rdlpp_scan.specs.declared.token.Kind.TheVariants.{Blank, Name, Str}
-use Rattle.rdlpp_table.specs.Table.{without}
 use Rattle.rdlpp_meaning.specs.Expansion.{bytes_of}
-use Rattle.rdlpp_meaning.specs.Meaning.{Checked, NameFault, Fine, Holds, IncludedMeaning, Passage, Progress, Renumbered, TestFault, Test, added_end, at_start_of, back_in, begun, after_bytes, by_test, defines, goes_on, in_conditional, includes, includes_found, includes_given, includes_named, leaves, macro_name, mean, included_meaning_of, opening, origin_line, refusal, renumbered, renumbers, single, text_meaning, turn, turned, undefines, unquoted}
+use Rattle.rdlpp_meaning.specs.Meaning.{Checked, NameFault, Fine, IncludedMeaning, Passage, Progress, Renumbered, added_end, at_start_of, back_in, after_bytes, defines, goes_on, includes, includes_found, includes_given, includes_named, leaves, mean, included_meaning_of, origin_line, refusal, renumbered, renumbers, single, text_meaning, undefines, unquoted}
 use Rattle.rdlpp_meaning.specs.Opened.{Waiting, all_resumed, ending_of, unwound, waiting}
 use Rattle.rdlpp_meaning.specs.Outcome.{Outcome, Report, fails, gives}
-use Rattle.rdlpp_meaning.specs.Parts.{Argument, Branching, Closing, Command, Opening, Piece, Single, argument_of, after_blanks, after_directive, command_in_front, command_of, directive_of, line_ends_of, name_in_front, no_argument, one_argument, only_blanks, parts_of, past_blanks, piece_of, pieces, string_in_front}
-use Rattle.rdlpp_meaning.specs.Resumed.{Live, Place, Skipped, following, resume, resumed}
+use Rattle.rdlpp_meaning.specs.Parts.{Argument, Command, Piece, Single, argument_of, after_blanks, after_directive, command_in_front, command_of, directive_of, line_ends_of, name_in_front, no_argument, one_argument, only_blanks, parts_of, past_blanks, piece_of, pieces, string_in_front}
+use Rattle.rdlpp_meaning.specs.Resumed.{Live, Place, following, resume, resumed}
 use Rattle.rdlpp_meaning.specs.State.{Accepted, Defined, LongPath, Lookup, NoSource, DefinitionFault, Rules, Source, State, fault_at, shown_line}
 use Rattle.rdlpp_meaning.specs.declared.fault.FaultKind.{FaultKind}
 use Rattle.rdlpp_meaning.specs.declared.fault.FaultKind.TheVariants.{BadLine, IncludeName, PathTooLong, SourceNotFound, TooManyIncludes}
-use Rattle.rdlpp_meaning.proofs.Outcomes.{fails-goes_on, goes_on-assoc, goes_on-gives, goes_on-nil, goes_on-same, refusal-goes_on, resumed_start}
+use Rattle.rdlpp_meaning.proofs.Outcomes.{fails-goes_on, goes_on-assoc, goes_on-gives, goes_on-same, refusal-goes_on, resumed_start}
 use Rattle.rdlpp_meaning.proofs.LiveText.{only_blanks-append}
 
 -- Laws of what remains of a file where a directive stands in front: for each kind of piece and each place.
@@ -237,14 +236,6 @@ on_after_by x None s g h e = ap (λ (p : Passage). after_bytes x p) (e refl)
 pub on_after : (p : Passage) (g h : State → Passage) → (p.fault ≡ None → g p.after ≡ h p.after) → goes_on p g ≡ goes_on p h
 on_after p g h e = on_after_by p.bytes p.fault p.after g h e
 
--- either side of a test alone counts
-by_test-same : (t : Test) (c : Command) (s : State) (live skipped live' skipped' : State → Passage)
-    → live s ≡ live' s → skipped s ≡ skipped' s → by_test t c s live skipped ≡ by_test t c s live' skipped'
-unfolding by_test
-by_test-same (TestFault kind word) c s live skipped live' skipped' e f = refl
-by_test-same (Holds true) c s live skipped live' skipped' e f = e
-by_test-same (Holds false) c s live skipped live' skipped' e f = f
-
 -- in live text, a directive by itself, and then what remains behind it
 pub live_single : (rules : Rules) (os : List Progress) (d : Directive) (first : Bool) (t : SourceToken) (ts : List SourceToken) (s : State)
     → directive_of t ≡ Some d → piece_of (command_in_front d first t ts) ≡ Single (command_in_front d first t ts)
@@ -260,72 +251,7 @@ live_single rules os d first t ts s e p =
     ∙ on_after (single rules included_meaning c s) (λ after. resume rules included_meaning (Live os) rest after) (λ after. following rules (Live os) d first t ts after)
     (λ f. ap (λ (n : ℕ). resume rules (included_meaning_of rules n) (Live os) rest (single rules included_meaning c s).after) (sym (single_keeps rules included_meaning c s f)))
 
--- in live text, a directive that opens a conditional
-pub live_opening : (rules : Rules) (os : List Progress) (d : Directive) (first : Bool) (t : SourceToken) (ts : List SourceToken) (s : State)
-    → directive_of t ≡ Some d → piece_of (command_in_front d first t ts) ≡ Opening (command_in_front d first t ts)
-    → resumed rules (Live os) first (t ∷ ts) s
-    ≡ by_test (opening (command_in_front d first t ts) s) (command_in_front d first t ts) s
-    (λ u. following rules (Live (begun (command_in_front d first t ts) u true ∷ os)) d first t ts (in_conditional u))
-    (λ u. following rules (Skipped 0 (begun (command_in_front d first t ts) u false) os) d first t ts (in_conditional u))
-unfolding resume resumed in_conditional
-live_opening rules os d first t ts s e p =
-    let c = command_in_front d first t ts in
-    directive_piece rules (Live os) d first t ts s (Opening c) e p ∙ by_test-same (opening c s) c s _ _ _ _ refl refl
-
--- a branch of the innermost open conditional, in live text or in that which it skips
-pub live_branching : (rules : Rules) (o : Progress) (os : List Progress) (d : Directive) (first : Bool) (t : SourceToken) (ts : List SourceToken) (s : State)
-    → directive_of t ≡ Some d → piece_of (command_in_front d first t ts) ≡ Branching (command_in_front d first t ts)
-    → resumed rules (Live (o ∷ os)) first (t ∷ ts) s
-    ≡ by_test (turn o (command_in_front d first t ts) s) (command_in_front d first t ts) s
-    (λ u. following rules (Live (turned o (command_in_front d first t ts) true ∷ os)) d first t ts u)
-    (λ u. following rules (Skipped 0 (turned o (command_in_front d first t ts) false) os) d first t ts u)
-unfolding resume resumed
-live_branching rules o os d first t ts s e p =
-    let c = command_in_front d first t ts in
-    directive_piece rules (Live (o ∷ os)) d first t ts s (Branching c) e p ∙ by_test-same (turn o c s) c s _ _ _ _ refl refl
-
-pub skipped_branching : (rules : Rules) (o : Progress) (os : List Progress) (d : Directive) (first : Bool) (t : SourceToken) (ts : List SourceToken) (s : State)
-    → directive_of t ≡ Some d → piece_of (command_in_front d first t ts) ≡ Branching (command_in_front d first t ts)
-    → resumed rules (Skipped 0 o os) first (t ∷ ts) s
-    ≡ by_test (turn o (command_in_front d first t ts) s) (command_in_front d first t ts) s
-    (λ u. following rules (Live (turned o (command_in_front d first t ts) true ∷ os)) d first t ts u)
-    (λ u. following rules (Skipped 0 (turned o (command_in_front d first t ts) false) os) d first t ts u)
-unfolding resume resumed
-skipped_branching rules o os d first t ts s e p =
-    let c = command_in_front d first t ts in
-    directive_piece rules (Skipped 0 o os) d first t ts s (Branching c) e p ∙ by_test-same (turn o c s) c s _ _ _ _ refl refl
-
--- The law of an `undef` in front of what remains, and what a directive takes where blanks and a name stand behind its word.
-
--- what an `undef` comes to, by its name
-undef_in_front : (rules : Rules) (os : List Progress) (first : Bool) (t : SourceToken) (ts : List SourceToken) (s : State) (name : Checked)
-    → directive_of t ≡ Some Undef → macro_name (command_in_front Undef first t ts) ≡ name
-    → resumed rules (Live os) first (t ∷ ts) s
-    ≡ goes_on (undefines name (command_in_front Undef first t ts) s) (λ after. following rules (Live os) Undef first t ts after)
-unfolding single command_of piece_of
-undef_in_front rules os first t ts s name d e =
-    let c = command_in_front Undef first t ts in
-    live_single rules os Undef first t ts s d refl
-    ∙ ap (λ (n : Checked). goes_on (undefines n c s) (λ after. following rules (Live os) Undef first t ts after)) e
-
--- an `undef` of a name takes out its macro, and then comes what remains behind it
-pub resumed_undef : (rules : Rules) (os : List Progress) (first : Bool) (t : SourceToken) (ts : List SourceToken) (s : State) (name : List ℕ)
-    → directive_of t ≡ Some Undef → macro_name (command_in_front Undef first t ts) ≡ Fine name
-    → resumed rules (Live os) first (t ∷ ts) s
-    ≡ following rules (Live os) Undef first t ts (record s { macros = without name s.macros })
-unfolding undefines
-resumed_undef rules os first t ts s name d e =
-    undef_in_front rules os first t ts s (Fine name) d e
-    ∙ goes_on-nil (record s { macros = without name s.macros }) (λ after. following rules (Live os) Undef first t ts after)
-
--- an `undef` without a name, or of a reserved one, ends the output
-pub resumed_bad_undef : (rules : Rules) (os : List Progress) (first : Bool) (t : SourceToken) (ts : List SourceToken) (s : State) (kind : FaultKind) (word : List ℕ)
-    → directive_of t ≡ Some Undef → macro_name (command_in_front Undef first t ts) ≡ NameFault kind word
-    → resumed rules (Live os) first (t ∷ ts) s ≡ refusal kind word (command_in_front Undef first t ts) s
-unfolding undefines
-resumed_bad_undef rules os first t ts s kind word d e =
-    undef_in_front rules os first t ts s (NameFault kind word) d e
-    ∙ sym (refusal-goes_on kind word (command_in_front Undef first t ts) s (λ after. following rules (Live os) Undef first t ts after))
+-- What a directive takes where blanks and a name stand behind its word.
 
 -- whether a directive wants the name of a macro
 unfoldable pub wants_name : Directive → Bool
@@ -484,14 +410,6 @@ pub all_resumed_alone : (rules : Rules) (place : Place) (first : Bool) (ts : Lis
 unfolding all_resumed unwound
 all_resumed_alone rules place first ts s =
     let p = resumed rules place first ts s in nothing_by p.bytes p.fault p.after
-
--- a step that writes nothing and changes the place or the state alone
-pub all_resumed_move : (rules : Rules) (ws : List Waiting) (place new : Place) (first then_first : Bool) (ts us : List SourceToken) (s t : State)
-    → resumed rules place first ts s ≡ resumed rules new then_first us t
-    → all_resumed rules ws place first ts s ≡ all_resumed rules ws new then_first us t
-unfolding all_resumed
-all_resumed_move rules ws place new first then_first ts us s t e =
-    ap (λ (p : Passage). goes_on p (λ after. unwound rules ws after)) e
 
 -- an `include` with a string that names a source, where one more may be opened, by what the search finds
 include_searched : (rules : Rules) (name : List ℕ) (c : Command) (s : State) (n : ℕ) (found : Lookup)
@@ -674,33 +592,6 @@ unfoldable pub branches_conditional : Directive → Bool
 branches_conditional Elsif = true
 branches_conditional Else = true
 branches_conditional d = false
-
--- a directive that opens a conditional is such a piece
-pub opening_piece : (d : Directive) (first : Bool) (t : SourceToken) (ts : List SourceToken) → opens_conditional d ≡ true
-    → piece_of (command_in_front d first t ts) ≡ Opening (command_in_front d first t ts)
-unfolding opens_conditional piece_of command_of
-opening_piece Ifdef first t ts e = refl
-opening_piece Ifndef first t ts e = refl
-opening_piece d first t ts e = cc
-
--- a directive that is a branch is such a piece
-pub branching_piece : (d : Directive) (first : Bool) (t : SourceToken) (ts : List SourceToken) → branches_conditional d ≡ true
-    → piece_of (command_in_front d first t ts) ≡ Branching (command_in_front d first t ts)
-unfolding branches_conditional piece_of command_of
-branching_piece Elsif first t ts e = refl
-branching_piece Else first t ts e = refl
-branching_piece d first t ts e = cc
-
--- an `endif` is such a piece
-pub closing_piece : (first : Bool) (t : SourceToken) (ts : List SourceToken)
-    → piece_of (command_in_front Endif first t ts) ≡ Closing (command_in_front Endif first t ts)
-unfolding piece_of command_of
-closing_piece first t ts = refl
-
--- where the innermost open conditional stands: in a branch that is live, or in one that is skipped, with none that opened there
-unfoldable pub in_branch : Bool → Progress → List Progress → Place
-in_branch true o os = Live (o ∷ os)
-in_branch false o os = Skipped 0 o os
 
 -- The LF that an included text is followed by, as a reader tells it that takes the text in parts: by whether a byte came at all and
 -- whether the last one was an LF.

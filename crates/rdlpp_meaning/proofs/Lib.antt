@@ -3,6 +3,7 @@ pub mod LiveText
 pub mod Rows
 pub mod Directives
 pub mod Skipping
+pub mod Moves
 pub mod SourceCalls
 pub mod LiteralSubstitution
 pub mod LargerRuns

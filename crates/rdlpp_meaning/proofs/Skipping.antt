@@ -1,5 +1,5 @@
 -- Laws of skipped text, of the words of directives and of the LF bytes that are owed.
-use Rattle.std.proofs.Common.{◌≡◌, ℕ, Bool, List, [], ◌∷◌, refl, sym, ap, ◌∙◌, None, true, false, Option, Some, cond, length, replicate, ◌++◌, take, drop, suc, bytes_eq, codes, if◌then◌else◌, take-append-drop}
+use Rattle.std.proofs.Common.{◌≡◌, ℕ, Bool, List, [], ◌∷◌, refl, sym, ap, ◌∙◌, None, true, false, Option, Some, cond, length, replicate, ◌++◌, take, drop, bytes_eq, codes, if◌then◌else◌, take-append-drop}
 use Rattle.std.specs.List.{list_all}
 use Rattle.std.proofs.lemmas.Bool.{and_from, and_parts}
 use Rattle.std.proofs.lemmas.List.Sums.{length-filter}
@@ -19,7 +19,7 @@ use Rattle.rdlpp_meaning.specs.Outcome.{Outcome, and_then, fails, gives}
 use Rattle.rdlpp_meaning.specs.Parts.{Branching, Closing, Opening, Piece, Run, Single, argument_of, after_directive, command_in_front, command_of, directive_named, directive_of, joined, line_ends_of, no_argument, one_argument, only_blanks, piece_of, pieces}
 use Rattle.rdlpp_meaning.specs.Resumed.{Live, Skipped, following, resume, resumed, skips}
 use Rattle.rdlpp_meaning.specs.State.{Rules, State, breach_kind, fault_at}
-use Rattle.rdlpp_meaning.proofs.Directives.{argument_by, argument_takes, branches_conditional, branching_piece, closing_piece, directive_piece, opening_piece, opens_conditional}
+use Rattle.rdlpp_meaning.proofs.Directives.{argument_by, argument_takes, directive_piece}
 use Rattle.rdlpp_meaning.proofs.Outcomes.{and_then-assoc, and_then-fails, and_then-gives, and_then-nil, after_bytes-nil, after_bytes-twice, gives_fails-goes_on, goes_on-gives, leaves-and_then, on_leaves}
 use Rattle.rdlpp_meaning.proofs.LiveText.{line_ends_of-append, only_blanks-append, pieces_text, usage_text}
 
@@ -438,31 +438,6 @@ pub resumed_skipped : (rules : Rules) (n : ℕ) (p : Progress) (os : List Progre
 unfolding IsPassed
 resumed_skipped rules n p os first ts more s e = stretch_passed rules n p os ts more s e first
 
--- a conditional that opens in skipped text
-pub resumed_skipped_opening : (rules : Rules) (n : ℕ) (p : Progress) (os : List Progress) (d : Directive) (first : Bool) (t : SourceToken) (ts : List SourceToken) (s : State)
-    → directive_of t ≡ Some d → opens_conditional d ≡ true
-    → resumed rules (Skipped n p os) first (t ∷ ts) s
-    ≡ after_bytes (line_ends_of t.bytes) (resumed rules (Skipped (suc n) p os) (only_blanks first t.bytes) ts s)
-unfolding resume
-resumed_skipped_opening rules n p os d first t ts s e o = skipped_piece rules n (suc n) p os d first t ts s _ e (opening_piece d first t ts o) (λ ps. refl)
-
--- a branch of a conditional that opened in skipped text
-pub resumed_inner_branch : (rules : Rules) (n : ℕ) (p : Progress) (os : List Progress) (d : Directive) (first : Bool) (t : SourceToken) (ts : List SourceToken) (s : State)
-    → directive_of t ≡ Some d → branches_conditional d ≡ true
-    → resumed rules (Skipped (suc n) p os) first (t ∷ ts) s
-    ≡ after_bytes (line_ends_of t.bytes) (resumed rules (Skipped (suc n) p os) (only_blanks first t.bytes) ts s)
-unfolding resume
-resumed_inner_branch rules n p os d first t ts s e b =
-    skipped_piece rules (suc n) (suc n) p os d first t ts s _ e (branching_piece d first t ts b) (λ ps. refl)
-
--- the end of a conditional that opened in skipped text
-pub resumed_inner_end : (rules : Rules) (n : ℕ) (p : Progress) (os : List Progress) (first : Bool) (t : SourceToken) (ts : List SourceToken) (s : State)
-    → directive_of t ≡ Some Endif
-    → resumed rules (Skipped (suc n) p os) first (t ∷ ts) s
-    ≡ after_bytes (line_ends_of t.bytes) (resumed rules (Skipped n p os) (only_blanks first t.bytes) ts s)
-unfolding resume
-resumed_inner_end rules n p os first t ts s e = skipped_piece rules (suc n) n p os Endif first t ts s _ e (closing_piece first t ts) (λ ps. refl)
-
 -- a broken token gives its LF bytes, and then ends its source
 pub resumed_skipped_broken : (rules : Rules) (n : ℕ) (p : Progress) (os : List Progress) (first : Bool) (b : Breach) (bytes : List ℕ) (line : ℕ) (more : List SourceToken) (s : State)
     → resumed rules (Skipped n p os) first (record { sort = Broken b; bytes = bytes; line = line } ∷ more) s
@@ -496,13 +471,6 @@ resumed_skipped_parts rules n p os first k x y line more s e f =
     skipped_by_parts rules n p os first k x y line more s e f
     ∙ goes_on-gives (line_ends_of x) s
     (λ after. resumed rules (Skipped n p os) (only_blanks first x) (record { sort = Ordinary k; bytes = y; line = line } ∷ more) after)
-
--- and so is a branch
-pub branching_word : (d : Directive) → branches_conditional d ≡ true → has_own_token d ≡ false
-unfolding branches_conditional has_own_token
-branching_word Elsif e = refl
-branching_word Else e = refl
-branching_word d e = cc
 
 -- a token that would be copied is skipped, by its sort
 copied_skipped_by : (sort : Sort) (bytes : List ℕ) (line : ℕ) → is_copied (record { sort = sort; bytes = bytes; line = line }) ≡ true

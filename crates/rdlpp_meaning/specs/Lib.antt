@@ -9,6 +9,7 @@ pub mod Parts
 pub mod Meaning
 pub mod Resumed
 pub mod Opened
+pub mod Moves
 pub mod Output
 pub mod Profile
 pub mod OutputLimit

@@ -1,6 +1,5 @@
--- The directives of conditionals, `undef`, `line` and skipped text, as steps of the engine.
-use Rattle.std.proofs.Common.{◌≡◌, ℕ, zero, suc, ◌-◌, ◌≤◌, ◌<◌, Bool, true, false, List, [], length, Option, None, Some, Ok, Result, Err, refl, sym, ap, subst, ◌∙◌, arith, ◌+◌, ◌^◌, ◌∷◌, take, replicate, ◌++◌, drop, is_some, option_map, unwrap_or, IfSome, length-take-le}
-use Rattle.arrayvec.specs.declared.array_string.ArrayString.{ArrayString}
+-- `undef`, the directives of conditionals and skipped text, as steps of the engine.
+use Rattle.std.proofs.Common.{◌≡◌, ℕ, zero, suc, ◌-◌, ◌≤◌, ◌<◌, Bool, true, false, List, [], length, Option, None, Some, Ok, Result, Err, refl, sym, ap, subst, ◌∙◌, arith, ◌+◌, ◌^◌, ◌∷◌, take, replicate, is_some, option_map, unwrap_or, IfSome, length-take-le}
 use Rattle.rdlpp_scan.specs.SourceTokens.{line_ends, line_len}
 use Rattle.rdlpp_scan.specs.Tokens.{token_of}
 use Rattle.rdlpp_scan.specs.declared.token.Directive.{Directive}
@@ -10,72 +9,60 @@ use Rattle.rdlpp_scan.specs.declared.token.Mode.{Mode}
 use Rattle.rdlpp_scan.specs.declared.token.Mode.TheVariants.{Plain}
 use Rattle.rdlpp_table.specs.Table.{Macro, macro_named, without}
 use Rattle.rdlpp_table.specs.declared.limits.Limits.{Limits}
-use Rattle.rdlpp_meaning.specs.Meaning.{Checked, NameFault, Fine, Holds, Passage, Progress, Renumbered, TestFault, Test, after_bytes, is_defined, is_else, leaves, name_test, opening_within, origin_line, renumbered, wants_defined}
+use Rattle.rdlpp_meaning.specs.Moves.{Move, Moves, Passes, Stops, branching_move, by_move, closing_move, in_branch, is_move, move_of, opening_move, single_move, skipped_move, turning_move, undef_move}
+use Rattle.rdlpp_meaning.specs.Meaning.{Checked, begun, in_conditional, opening, past_conditional, turn, turned, NameFault, Fine, Holds, Progress, TestFault, Test, after_bytes, is_defined, is_else, leaves, macro_name, name_test, opening_within, wants_defined}
 use Rattle.rdlpp_meaning.specs.Outcome.{fails}
-use Rattle.rdlpp_meaning.specs.Parts.{line_ends_of}
-use Rattle.rdlpp_meaning.specs.Resumed.{Live}
-use Rattle.rdlpp_meaning.specs.State.{Rules, State, fault_at, shown_line}
+use Rattle.rdlpp_meaning.specs.Parts.{Command, line_ends_of}
+use Rattle.rdlpp_meaning.specs.Resumed.{Live, Place, Skipped}
+use Rattle.rdlpp_meaning.specs.State.{Rules, State, fault_at}
 use Rattle.rdlpp_meaning.specs.declared.fault.FaultKind.{FaultKind}
 use Rattle.rdlpp_meaning.specs.declared.fault.FaultKind.TheVariants as fault
 use Rattle.rdlpp_meaning.specs.declared.fault.FaultKind.TheVariants.{BadLine}
 use Rattle.rdlpp_meaning.proofs.Directives.{branches_conditional, opens_conditional, wants_name}
-use Rattle.rdlpp_meaning.proofs.Skipping.{line_ends_of-owed}
+use Rattle.rdlpp_meaning.proofs.Skipping.{has_own_token, line_ends_of-owed}
 use Rattle.rdlpp_source.specs.declared.sources.Sources.{Ghosts}
 use Rattle.rdlpp_conditions.specs.Conditions.{ConditionsView, conditions_left, own_conditions, place_of}
-use Rattle.rdlpp_conditions.specs.Moves.{Closes, IsBranch, Opens, closed_one, opened_with, turned_with, with_inner as with_count}
+use Rattle.rdlpp_conditions.specs.Moves.{Closes, HasTest, IsBranch, Opens, closed_one, opened_with, turned_with, with_inner as with_count}
 use Rattle.rdlpp_conditions.specs.SkippedText.{IsPassed}
 use Rattle.rdlpp_conditions.specs.declared.conditions.Branch.{Branch}
 use Rattle.rdlpp_conditions.specs.declared.conditions.Branch.TheVariants.{Decided, Inner, Named, Refused}
-use Rattle.rdlpp_read.specs.Arguments.{LineGiven}
-use Rattle.rdlpp_read.specs.Buffer.{EndsHeld, entered_mode, held_of, unused_of}
-use Rattle.rdlpp_read.specs.Files.{AreOpen, FilesView, consumed_file, inner_buffer, with_buffer, with_inner}
+use Rattle.rdlpp_read.specs.Buffer.{entered_mode, held_of, unused_of}
+use Rattle.rdlpp_read.specs.Files.{FilesView, consumed_file, inner_buffer, with_buffer, with_inner}
 use Rattle.rdlpp_read.specs.LogicalLines.{HoldsLine, IsExactLine}
-use Rattle.rdlpp_read.specs.declared.arguments.line.GivenLine.{GivenLine}
 use Rattle.rdlpp_read.specs.declared.buffer.extending.LogicalLine.TheVariants as line
 use Rattle.rdlpp_read.specs.declared.files.File.{File}
 use Rattle.rdlpp_read.proofs.Growing.{line_ends_le}
 use Rattle.rdlpp_read.proofs.BufferTokens.{slides-told}
 use Rattle.rdlpp_front.specs.SourceItems.{AtBare, AtPerl, IsDirective, IsNamed, IsRefused, IsText, given_by, given_len, given_name, word_of}
-use Rattle.rdlpp_front.specs.SourceLeft.{source_left}
 use Rattle.rdlpp_front.specs.declared.item.Argument.{Argument}
-use Rattle.rdlpp_front.proofs.DirectivesLeft.{Branches, Ends, Opens as OpensWord, Turns, is_stray, opening_wants}
-use Rattle.rdlpp_front.proofs.TextLeft.{bad_line_left, given_text, late_line_left, line_right_after, line_inside, line_text, renumbered_left}
+use Rattle.rdlpp_front.proofs.DirectivesLeft.{end_bare, opening_wants}
+use Rattle.rdlpp_front.proofs.TextLeft.{line_inside}
 use Rattle.rdlpp_front.proofs.Insides.{held_entered, text_inside, usage_inside}
-use Rattle.rdlpp_front.proofs.NamedDirectives.{Bare, Begins, begins_within, begins_word, named_begins, stands_bare, undef_wants, word_within}
+use Rattle.rdlpp_front.proofs.NamedDirectives.{Bare, Begins, begins_moves, begins_word, wants_word, named_begins, stands_bare, undef_wants, word_within}
 use Rattle.rdlpp_state.specs.Calls.{SourcesCalled}
 use Rattle.rdlpp_state.specs.Conditionals.{AnyUsage, DoesByTest, IncludeWord, IsGivenBranch, IsSkippedWord, LoneBackquote, OpensOne, UndefWord, goes_past, opening_word, passes_over, test_of}
-use Rattle.rdlpp_state.specs.Engine.{EngineView, IsSoundEngine}
+use Rattle.rdlpp_state.specs.Engine.{EngineView}
 use Rattle.rdlpp_state.specs.Held.{IsBounded}
-use Rattle.rdlpp_state.specs.Lines.{Renumbers, inner_blanks, renumbered_file}
-use Rattle.rdlpp_state.specs.Marks.{MarksView, ends_line}
 use Rattle.rdlpp_state.specs.Moves.{IsReady, LooksAtName}
 use Rattle.rdlpp_state.specs.OpenConditionals.{AreConditions, inner_below, inner_shown}
-use Rattle.rdlpp_state.specs.Pending.{PendingView, line_ends_pending, nothing_pending, origin_pending, pending_bytes}
+use Rattle.rdlpp_state.specs.Pending.{PendingView, line_ends_pending, nothing_pending, pending_bytes}
 use Rattle.rdlpp_state.specs.Pieces.{lent_answer, step_answer}
-use Rattle.rdlpp_state.specs.Positions.{AfterLine, Unmarked}
-use Rattle.rdlpp_state.specs.Remaining.{file_state, inner_name, include_stack_left, include_stack_state, run_rules, state_of}
+use Rattle.rdlpp_state.specs.Positions.{Unmarked}
+use Rattle.rdlpp_state.specs.Remaining.{file_state, inner_name, include_stack_state, run_rules, state_of}
 use Rattle.rdlpp_state.specs.Standing.{InSources, Nowhere}
 use Rattle.rdlpp_state.specs.Steps.{IsOwn, UncutStep}
 use Rattle.rdlpp_state.specs.declared.place.PieceLocation.{PieceLocation}
 use Rattle.rdlpp_state.specs.declared.place.PieceLocation.TheVariants.{Fault}
-use Rattle.rdlpp_state.proofs.IncludeStackLeft.{Continues, Decides, Faults, IsPlainFront, around, at_live, closes_at, counts_at, moved_live, include_stack_refused_undef, include_stack_undef, none_held, opens_at, stray_at, ends_mid_line_consumed, turns_at}
+use Rattle.rdlpp_state.proofs.StackMoves.{Lands, branched, front_command, lands_counted, opened_at, passing_moves, lands_closed, lands_opened, lands_turned, used_state}
+use Rattle.rdlpp_state.proofs.DirectiveMoves.{Does, directive_steps, does_step, move_here, unnamed_steps}
+use Rattle.rdlpp_state.proofs.IncludeStackLeft.{IsPlainFront, live_place, place_inside, place_outside, place_skipped}
 use Rattle.rdlpp_state.proofs.IncludeSteps.{include_stack_macros}
 use Rattle.rdlpp_state.proofs.EngineSteps.{not_called}
-use Rattle.rdlpp_state.proofs.FrontSteps.{Fails, IsRead, held_few, left_by, lends_piece, lends_source, lines_few, pending_lines, read_nothing, refuses}
-use Rattle.rdlpp_state.proofs.Stores.{KeepsParts, own_kind, parts_mode, parts_on, parts_shown, parts_slid, parts_used}
+use Rattle.rdlpp_state.proofs.FrontSteps.{IsRead, held_few, left_by, lends_piece, lines_few, pending_lines}
+use Rattle.rdlpp_state.proofs.Stores.{KeepsParts, own_kind, parts_mode, parts_on, parts_slid, parts_used}
 use Rattle.rdlpp_state.proofs.Soundness.{EndsInner, EndsNone, EndsOne, EndsOwn, Meets, MeetsInner, MeetsNone, MeetsOwn, OwnTurn, conditions_count, ends_one, inner_facts, inner_most, meets, own_turn, with_inner-length}
-use Rattle.rdlpp_state.proofs.LentPieces.{pending_few, pending_with_origin}
 use Rattle.rdlpp_state.proofs.SkippedStacks.{IsHeldFront, bare_ends, cut_at, directive_ends, long_at, passes_define, passes_line, passes_part, passes_stretch, passes_word, perl_at, usage_ends}
-use Rattle.rdlpp_state.proofs.WorkFacts.{IsUsed, entered_unused, held_room, used_after, used_bytes}
-
--- The directives of conditionals, and `undef`, as steps of the engine.
-
--- bytes that have no LF are used, and other conditionals are open
-pub goes_on : {S R : Type 0} (g : Ghosts S R) (old new : EngineView S R) (v : ConditionsView) (len : ℕ) → IsReady old → IsBounded new → 0 < len → len ≤ length (held_of (inner_buffer old.files.include_stack))
-    → new ≡ goes_past v len old → Continues old.limits (run_rules g old) g.unread old.table.macros old.conditions old.files.include_stack v len → UncutStep g old new (step_answer new None)
-unfolding goes_past after_bytes
-goes_on g old new v len ready bounded some inside becomes law =
-    lends_source g old new ready [] old.marks old.table.macros v (with_inner (consumed_file len 0) old.files.include_stack) becomes bounded (used_bytes old.files.include_stack len 0 some inside) law (parts_used g.unread len 0 old.files.include_stack) (Nowhere refl (InSources ready.idle refl (Unmarked refl)))
+use Rattle.rdlpp_state.proofs.WorkFacts.{IsUsed, entered_unused, used_after, used_bytes}
 
 -- what is held in front of an engine that goes on
 pub plain_front : {S R : Type 0} (e : EngineView S R) → IsReady e → 0 < length (held_of (inner_buffer e.files.include_stack)) → (inner_buffer e.files.include_stack).mode ≡ Plain → IsPlainFront e.files.include_stack
@@ -106,12 +93,6 @@ unfolding branches_conditional
 given_branches Elsif held a given = refl
 given_branches Else held a given = refl
 given_branches d held a given = absurd given
-
-given_strays : (d : Directive) (held : List ℕ) (a : Option Argument) → IsGivenBranch d held a → is_stray d ≡ true
-unfolding is_stray
-given_strays Elsif held a given = refl
-given_strays Else held a given = refl
-given_strays d held a given = absurd given
 
 pub given_begins : (d : Directive) (held : List ℕ) (a : Option Argument) → IsGivenBranch d held a → Begins d held (given_by held a) (given_len d a)
 unfolding wants_name stands_bare
@@ -164,24 +145,85 @@ unfolding opens_conditional
 opening_opens true = refl
 opening_opens false = refl
 
+opening_moves : (defined : Bool) → is_move (opening_word defined) ≡ true
+unfolding is_move
+opening_moves true = refl
+opening_moves false = refl
+
 opening_test : (defined : Bool) (name : List ℕ) (s : State) → name_test (wants_defined (opening_word defined)) (Fine name) s ≡ Holds (test_of defined (is_some (macro_named s.macros name)))
 unfolding name_test wants_defined is_defined
 opening_test true name s = refl
 opening_test false name s = refl
 
-end_strays : is_stray Endif ≡ true
-unfolding is_stray
-end_strays = refl
+-- a test that is done is what is come to by it
+pub does_test : {S R : Type 0} (old new : EngineView S R) (x : Test) (len : ℕ) (result : Option PieceLocation) (next : Bool → ConditionsView) (place : Bool → Place) (t : State) → IsOwnTest x
+    → ((b : Bool) → Lands old.limits old.conditions (next b) old.table.macros old.files.include_stack (with_inner (consumed_file len 0) old.files.include_stack) (place b) t)
+    → DoesByTest x next len old new result → Does len old new result (by_move x (λ b. Moves [] (place b) t))
+unfolding by_move goes_past
+does_test old new (TestFault kind word) len result next place t own lands does = (does.0, does.1, own)
+does_test old new (Holds b) len result next place t own lands does =
+    record { none = refl; done = does.0; macros = old.table.macros; conditions = next b; lands = lands b; becomes = does.1 }
 
--- the same count of those that opened in skipped text
-same_count : (v : ConditionsView) (n : ℕ) → v.skipped ≡ Some n → v ≡ with_count n v
-same_count v n is = ap (λ (k : Option ℕ). record v { skipped = k }) is
+-- what the word of a conditional comes to
+opening_by : (rules : Rules) (defined : Bool) (given : Option (List ℕ)) (text : List ℕ) (line : ℕ) (first : Bool) (os : List Progress) (s : State)
+    → let c : Command = record { word = opening_word defined; given = given; text = text; line = line; first = first } in
+    move_of rules c (Live os) s
+    ≡ by_move (opening_within s.conditions_left (name_test (wants_defined (opening_word defined)) (given_name given) s)) (λ t. Moves [] (in_branch t (opened_at s line t) os) (in_conditional s))
+unfolding move_of opening_move opening begun macro_name given_name
+opening_by rules true given text line first os s = refl
+opening_by rules false given text line first os s = refl
+
+turning_by : (rules : Rules) (d : Directive) (given : Option (List ℕ)) (text : List ℕ) (line : ℕ) (first : Bool) (live : Bool) (o : Progress) (os : List Progress) (s : State) → branches_conditional d ≡ true
+    → let c : Command = record { word = d; given = given; text = text; line = line; first = first } in
+    move_of rules c (in_branch live o os) s ≡ by_move (turn o c s) (λ t. Moves [] (in_branch t (branched o t (is_else d)) os) s)
+unfolding move_of branching_move turning_move turned in_branch branches_conditional
+turning_by rules Elsif given text line first true o os s b = refl
+turning_by rules Elsif given text line first false o os s b = refl
+turning_by rules Else given text line first true o os s b = refl
+turning_by rules Else given text line first false o os s b = refl
+turning_by rules d given text line first live o os s b = cc
+
+-- or where no conditional of its source is open
+stray_by : (rules : Rules) (d : Directive) (given : Option (List ℕ)) (text : List ℕ) (line : ℕ) (first : Bool) (s : State) → branches_conditional d ≡ true
+    → move_of rules (record { word = d; given = given; text = text; line = line; first = first }) (Live []) s ≡ Stops fault.StrayBranch []
+unfolding move_of branching_move branches_conditional
+stray_by rules Elsif given text line first s e = refl
+stray_by rules Else given text line first s e = refl
+stray_by rules d given text line first s e = cc
+
+-- or in skipped text that it leaves skipped
+opening_passes : (rules : Rules) (defined : Bool) (n : ℕ) (o : Progress) (os : List Progress) → Passes rules (opening_word defined) n (suc n) o os
+unfolding move_of opening_move
+opening_passes rules true n o os = λ given text line first s. refl
+opening_passes rules false n o os = λ given text line first s. refl
+
+branching_passes : (rules : Rules) (d : Directive) (n : ℕ) (o : Progress) (os : List Progress) → branches_conditional d ≡ true → Passes rules d (suc n) (suc n) o os
+unfolding move_of branching_move branches_conditional
+branching_passes rules Elsif n o os e = λ given text line first s. refl
+branching_passes rules Else n o os e = λ given text line first s. refl
+branching_passes rules d n o os e = cc
+
+-- what an `endif` comes to in a branch
+closing_by : (rules : Rules) (given : Option (List ℕ)) (text : List ℕ) (line : ℕ) (first : Bool) (live : Bool) (o : Progress) (os : List Progress) (s : State)
+    → move_of rules (record { word = Endif; given = given; text = text; line = line; first = first }) (in_branch live o os) s ≡ Moves [] (Live os) (past_conditional s)
+unfolding move_of closing_move in_branch
+closing_by rules given text line first true o os s = refl
+closing_by rules given text line first false o os s = refl
+
+closing_inner : (rules : Rules) (given : Option (List ℕ)) (text : List ℕ) (line : ℕ) (first : Bool) (n : ℕ) (o : Progress) (os : List Progress) (s : State)
+    → move_of rules (record { word = Endif; given = given; text = text; line = line; first = first }) (Skipped (suc n) o os) s ≡ Moves (line_ends_of text) (Skipped n o os) s
+unfolding move_of closing_move skipped_move
+closing_inner rules given text line first n o os s = refl
+
+-- how many more conditionals may be opened where a source is open
+state_left : {R : Type 0} (limits : Limits) (macros : List Macro) (v : ConditionsView) (include_stack : List (File R)) → 0 < length include_stack
+    → (include_stack_state limits macros v include_stack).conditions_left ≡ limits.conditions - length v.open_now
+unfolding include_stack_state file_state
+state_left limits macros v [] some = absurd (omega arith)
+state_left limits macros v (f ∷ outer) some = refl
 
 module _ {S R : Type 0} (g : Ghosts S R) (old new : EngineView S R) (ready : IsReady old) (bounded : IsBounded new) (some : 0 < length (held_of (inner_buffer old.files.include_stack)))
     (plain : (inner_buffer old.files.include_stack).mode ≡ Plain) where
-  abbrev front : IsPlainFront old.files.include_stack
-  front = plain_front old ready some plain
-
   abbrev held : List ℕ
   held = held_of (inner_buffer old.files.include_stack)
 
@@ -189,96 +231,124 @@ module _ {S R : Type 0} (g : Ghosts S R) (old new : EngineView S R) (ready : IsR
   abbrev name_of : Option Argument → Checked
   name_of a = given_name (given_by held a)
 
-  -- what remains at a directive there, by what it comes to
-  abbrev FaultsHere : FaultKind → List ℕ → Type 0
-  FaultsHere kind word = Faults old.limits (run_rules g old) g.unread old.table.macros old.conditions old.files.include_stack kind word
-
-  abbrev DecidesHere : Test → (Bool → ConditionsView) → ℕ → Type 0
-  DecidesHere x next len = Decides old.limits (run_rules g old) g.unread old.table.macros old.conditions old.files.include_stack x next len
-
-  -- the state that the meaning goes on from
+  -- the state that the meaning goes on from, and the place where the innermost source stands
   abbrev here : State
   here = include_stack_state old.limits old.table.macros old.conditions old.files.include_stack
 
-  -- a fault at this line is kept
-  faults : (place : PieceLocation) (kind : FaultKind) (word : List ℕ) → place ≡ Fault → new ≡ record old { kept = Some (fault_at kind (inner_buffer old.files.include_stack).line word (state_of old)) } → IsOwn kind
-      → FaultsHere kind word → UncutStep g old new (lent_answer new place)
-  unfolding state_of
-  faults place kind word is becomes own law =
-      refuses g old old new place kind (inner_buffer old.files.include_stack).line word ready (read_nothing old) bounded is becomes own (not_called g old.sources) (λ t. law)
+  abbrev own : List Progress
+  own = own_conditions (inner_below old.files.include_stack) old.conditions
 
-  -- a test is done
-  does_by : (x : Test) (next : Bool → ConditionsView) (len : ℕ) (result : Option PieceLocation) → (0 < len) × (len ≤ length held) → IsOwnTest x
-      → DecidesHere x next len → DoesByTest x next len old new result → UncutStep g old new (step_answer new result)
-  does_by (TestFault kind word) next len result within own law does = subst (λ (r : Option PieceLocation). UncutStep g old new (step_answer new r)) (sym does.0) (faults Fault kind word refl does.1 own law)
-  does_by (Holds t) next len result within own law does =
-      subst (λ (r : Option PieceLocation). UncutStep g old new (step_answer new r)) (sym does.0) (goes_on g old new (next t) len ready bounded within.0 within.1 does.1 law)
+  -- what a directive comes to there
+  abbrev comes_to : Directive → Option (List ℕ) → ℕ → Place → Move
+  comes_to d given len place = move_of (run_rules g old) (front_command old.limits (run_rules g old) g.unread old.table.macros old.conditions d given len old.files.include_stack) place here
 
-  -- the name that a directive is given is refused
-  unnamed : (a : Option Argument) (place : PieceLocation) → LooksAtName a old new (Err place)
-      → ((kind : FaultKind) (word : List ℕ) → name_of a ≡ NameFault kind word → FaultsHere kind word) → UncutStep g old new (lent_answer new place)
-  unnamed a place looks law = let r = looks.1 in faults place r.kind r.word looks.0 r.becomes r.own (law r.kind r.word r.faulty)
+  placed : (d : Directive) (given : Option (List ℕ)) (len : ℕ) (place : Place) → place_of (inner_below old.files.include_stack) old.conditions ≡ place
+      → move_here g old new ready bounded some plain d given len ≡ comes_to d given len place
+  placed d given len place is = ap (comes_to d given len) is
+
+  -- an engine that does what a directive comes to there
+  steps : (d : Directive) (given : Option (List ℕ)) (len : ℕ) (result : Option PieceLocation) (place : Place) (m : Move) → Begins d held given len → place_of (inner_below old.files.include_stack) old.conditions ≡ place
+      → comes_to d given len place ≡ m → Does len old new result m → UncutStep g old new (step_answer new result)
+  steps d given len result place m begins is comes does =
+      directive_steps g old new ready bounded some plain d given len result begins (subst (Does len old new result) (sym (placed d given len place is ∙ comes)) does)
+
+  -- no more conditionals are open around the innermost source than are open
+  most : inner_below old.files.include_stack ≤ length old.conditions.open_now
+  most = inner_most old.limits old.conditions old.files.include_stack ready.sound.conditions_of
+
+  -- how many more may be opened
+  here_left : here.conditions_left ≡ old.limits.conditions - length old.conditions.open_now
+  here_left = state_left old.limits old.table.macros old.conditions old.files.include_stack ready.include_stack
+
+  -- the word of one that leaves skipped text skipped is used
+  pub directive_word_steps : (d : Directive) (n m : ℕ) (o : Progress) (os : List Progress) → old.conditions.open_now ≡ o ∷ os → inner_below old.files.include_stack ≤ length os → old.conditions.skipped ≡ Some n
+      → has_own_token d ≡ false → is_move d ≡ true → Passes (run_rules g old) d n m o (take (length os - inner_below old.files.include_stack) os) → IsDirective d held
+      → new ≡ goes_past (with_count m old.conditions) (length (word_of d)) old → UncutStep g old new (step_answer new None)
+  unfolding goes_past
+  directive_word_steps d n m o os is_open below skips word moves passes is becomes =
+      does_step g old new ready bounded some plain (length (word_of d)) None (Moves [] (Skipped m o (take (length os - inner_below old.files.include_stack) os)) here) (word_within d held is some)
+      (passing_moves old.limits (run_rules g old) g.unread old.table.macros old.conditions old.files.include_stack d n m o _ (plain_front old ready some plain) word moves passes
+      (place_skipped (inner_below old.files.include_stack) old.conditions n o os is_open below skips) is)
+      (record {
+        none = refl;
+        done = refl;
+        macros = old.table.macros;
+        conditions = with_count m old.conditions;
+        lands = lands_counted old.limits old.table.macros old.conditions (length (word_of d)) o os is_open old.files.include_stack m below;
+        becomes = becomes;
+      })
 
   module _ (live : old.conditions.skipped ≡ None) where
+    lives : place_of (inner_below old.files.include_stack) old.conditions ≡ Live own
+    lives = live_place (inner_below old.files.include_stack) old.conditions live
+
+    undef_here : (given : Option (List ℕ)) (len : ℕ) (name : Checked) → given_name given ≡ name → comes_to Undef given len (Live own) ≡ undef_move name (Live own) here
+    unfolding move_of single_move macro_name given_name
+    undef_here given len name is = ap (λ (n : Checked). undef_move n (Live own) here) is
+
     -- an `undef` whose name is refused
     pub undef_unnamed : (a : Option Argument) (place : PieceLocation) → IsNamed Undef held a → LooksAtName a old new (Err place) → UncutStep g old new (lent_answer new place)
+    unfolding undef_move
     undef_unnamed a place named looks =
-        unnamed a place looks
-        (include_stack_refused_undef old.limits (run_rules g old) g.unread old.table.macros old.conditions live old.files.include_stack _ _ some front.ends plain (named_begins Undef held a undef_wants named))
+        unnamed_steps g old new ready bounded some plain Undef a place undef_wants named looks
+        (λ kind word faulty. placed Undef _ _ (Live own) lives ∙ undef_here _ _ (NameFault kind word) faulty)
 
     -- a macro is taken out
     pub undef_named : (a : Argument) (name : List ℕ) → IsNamed Undef held (Some a) → name_of (Some a) ≡ Fine name
         → new ≡ record old { table = record old.table { macros = without name old.table.macros }; files = record old.files { include_stack = with_inner (consumed_file a.stop 0) old.files.include_stack } }
         → UncutStep g old new (step_answer new None)
-    unfolding after_bytes
+    unfolding undef_move
     undef_named a name named fine becomes =
-        let begins = named_begins Undef held (Some a) undef_wants named in
-        let within = begins_within Undef held _ _ begins some in
-        lends_source g old new ready [] old.marks (without name old.table.macros) old.conditions (with_inner (consumed_file a.stop 0) old.files.include_stack) becomes bounded
-        (used_bytes old.files.include_stack a.stop 0 within.0 within.1)
-        (include_stack_undef old.limits (run_rules g old) g.unread old.table.macros old.conditions live old.files.include_stack _ a.stop some front.ends plain begins name fine)
-        (parts_used g.unread a.stop 0 old.files.include_stack) (Nowhere refl (InSources ready.idle refl (Unmarked refl)))
+        let macros = include_stack_macros old.limits old.table.macros old.conditions old.files.include_stack in
+        steps Undef _ a.stop None (Live own) _ (named_begins Undef held (Some a) undef_wants named) lives (undef_here _ _ (Fine name) fine)
+        (record {
+          none = refl;
+          done = refl;
+          macros = without name old.table.macros;
+          conditions = old.conditions;
+          lands = record {
+            stands = lives;
+            state = ap (λ (ms : List Macro). record here { macros = without name ms }) macros
+                ∙ used_state old.limits old.table.macros (without name old.table.macros) old.conditions old.files.include_stack a.stop;
+            outer = refl;
+          };
+          becomes = becomes;
+        })
+
+    -- what an `ifdef` or `ifndef` comes to
+    opening_here : (defined : Bool) (given : Option (List ℕ)) (len : ℕ) (name : Checked) → given_name given ≡ name
+        → comes_to (opening_word defined) given len (Live own)
+        ≡ by_move (opening_within here.conditions_left (name_test (wants_defined (opening_word defined)) name here)) (λ t. Moves [] (in_branch t (opened_at here (inner_buffer old.files.include_stack).line t) own) (in_conditional here))
+    opening_here defined given len name is =
+        opening_by (run_rules g old) defined given _ _ _ own here
+        ∙ ap (λ (n : Checked). by_move (opening_within here.conditions_left (name_test (wants_defined (opening_word defined)) n here)) (λ t. Moves [] (in_branch t (opened_at here (inner_buffer old.files.include_stack).line t) own) (in_conditional here))) is
 
     -- a conditional opens, or is refused
     module _ (defined : Bool) (a : Option Argument) (named : IsNamed (opening_word defined) held a) where
-      opening_begins : Begins (opening_word defined) held (given_by held a) (given_len (opening_word defined) a)
-      opening_begins = named_begins (opening_word defined) held a (opening_wants (opening_word defined) (opening_opens defined)) named
-
-      -- its test, by the name that it is given
-      abbrev opening_by : Checked → Test
-      opening_by name = opening_within (old.limits.conditions - length old.conditions.open_now) (name_test (wants_defined (opening_word defined)) name here)
-
-      opening_decides : DecidesHere (opening_by (name_of a)) (λ t. opened_with (inner_shown old.files.include_stack) t old.conditions) (given_len (opening_word defined) a)
-      opening_decides =
-          opens_at old.limits (run_rules g old) g.unread old.table.macros old.conditions old.files.include_stack (opening_word defined) _ _ front opening_begins live (opening_opens defined)
-          (inner_most old.limits old.conditions old.files.include_stack ready.sound.conditions_of)
+      wants : wants_name (opening_word defined) ≡ true
+      wants = opening_wants (opening_word defined) (opening_opens defined)
 
       pub opening_unnamed : (place : PieceLocation) → LooksAtName a old new (Err place) → UncutStep g old new (lent_answer new place)
-      unfolding opening_within name_test
+      unfolding by_move opening_within name_test
       opening_unnamed place looks =
-          unnamed a place looks (λ kind word faulty.
-          subst (λ (n : Checked). DecidesHere (opening_by n) (λ t. opened_with (inner_shown old.files.include_stack) t old.conditions) (given_len (opening_word defined) a)) faulty opening_decides)
+          unnamed_steps g old new ready bounded some plain (opening_word defined) a place wants named looks
+          (λ kind word faulty. placed (opening_word defined) _ _ (Live own) lives ∙ opening_here defined _ _ (NameFault kind word) faulty)
 
       pub opening_named : (name : List ℕ) (result : Option PieceLocation) → name_of a ≡ Fine name
           → OpensOne (test_of defined (is_some (macro_named old.table.macros name))) (given_len (opening_word defined) a) old new result → UncutStep g old new (step_answer new result)
       unfolding conditions_left
       opening_named name result fine opens =
           let holds : Test = Holds (test_of defined (is_some (macro_named old.table.macros name))) in
-          let test : opening_by (name_of a) ≡ opening_within (conditions_left old.conditions) holds =
-          ap opening_by fine
-          ∙ ap (opening_within (old.limits.conditions - length old.conditions.open_now))
-          (opening_test defined name here ∙ ap (λ (ms : List Macro). Holds (test_of defined (is_some (macro_named ms name)))) (include_stack_macros old.limits old.table.macros old.conditions old.files.include_stack))
-          ∙ ap (λ (n : ℕ). opening_within (n - length old.conditions.open_now) holds) (sym ready.sound.conditions_of.limit) in
-          does_by _ _ _ result (begins_within _ _ _ _ opening_begins some) (opening_own (conditions_left old.conditions) _)
-          (subst (λ (x : Test). DecidesHere x (λ t. opened_with (inner_shown old.files.include_stack) t old.conditions) (given_len (opening_word defined) a)) test opening_decides) opens
+          let next : Bool → Move = λ t. Moves [] (in_branch t (opened_at here (inner_buffer old.files.include_stack).line t) own) (in_conditional here) in
+          let macros = include_stack_macros old.limits old.table.macros old.conditions old.files.include_stack in
+          let test : opening_within here.conditions_left (name_test (wants_defined (opening_word defined)) (Fine name) here) ≡ opening_within (conditions_left old.conditions) holds =
+          ap (opening_within here.conditions_left) (opening_test defined name here ∙ ap (λ (ms : List Macro). Holds (test_of defined (is_some (macro_named ms name)))) macros)
+          ∙ ap (λ (n : ℕ). opening_within n holds) (here_left ∙ ap (λ (n : ℕ). n - length old.conditions.open_now) (sym ready.sound.conditions_of.limit)) in
+          steps (opening_word defined) _ _ result (Live own) _ (named_begins (opening_word defined) held a wants named) lives (opening_here defined _ _ (Fine name) fine ∙ ap (λ (x : Test). by_move x next) test)
+          (does_test old new _ _ result _ (λ t. in_branch t (opened_at here (inner_buffer old.files.include_stack).line t) own) (in_conditional here) (opening_own (conditions_left old.conditions) _)
+          (λ t. lands_opened old.limits old.table.macros old.conditions (given_len (opening_word defined) a) old.files.include_stack t ready.include_stack most) opens)
 
-  -- a branch, or an end, that is refused
-  refused_by : (place : PieceLocation) (kind own : FaultKind) → place ≡ Fault → kind ≡ own → IsOwn own → new ≡ record old { kept = Some (fault_at kind (inner_buffer old.files.include_stack).line [] (state_of old)) }
-      → FaultsHere own [] → UncutStep g old new (lent_answer new place)
-  refused_by place kind own is same owns becomes law =
-      faults place own [] is (becomes ∙ ap (λ (k : FaultKind). record old { kept = Some (fault_at k (inner_buffer old.files.include_stack).line [] (state_of old)) }) same) owns law
-
-  -- a branch, with what it is given
+  -- a branch of the innermost conditional comes to its test, by the name that it is given
   module _ (d : Directive) (a : Option Argument) (given : IsGivenBranch d held a) where
     branch_begins : Begins d held (given_by held a) (given_len d a)
     branch_begins = given_begins d held a given
@@ -291,77 +361,93 @@ module _ {S R : Type 0} (g : Ghosts S R) (old new : EngineView S R) (ready : IsR
     inner_steps (MeetsNone alone wrong) becomes = absurd (cc)
     inner_steps (MeetsOwn own) becomes = absurd own.turns
     inner_steps (MeetsInner n o os is_open below skips same) becomes =
-        let within = word_within d held branch_word some in
-        goes_on g old new (with_count (suc n) old.conditions) (length (word_of d)) ready bounded within.0 within.1
-        (becomes ∙ ap (λ (v : ConditionsView). goes_past v (length (word_of d)) old) (same_count old.conditions (suc n) skips))
-        (counts_at old.limits (run_rules g old) g.unread old.table.macros old.conditions old.files.include_stack d (suc n) (suc n) o os front
-        (Branches d n (given_branches d held a given)) is_open below skips branch_word)
+        let is = begins_moves d held _ _ branch_begins in
+        directive_word_steps d (suc n) (suc n) o os is_open below skips is.0 is.1 (branching_passes (run_rules g old) d n o _ (given_branches d held a given)) branch_word
+        (becomes ∙ ap (λ (k : Option ℕ). goes_past (record old.conditions { skipped = k }) (length (word_of d)) old) skips)
 
     -- of the innermost conditional, it goes by its test
-    turn_decides : (branch : Branch) (own : OwnTurn d branch (inner_below old.files.include_stack) old.conditions) (test : Checked → State → Test) → Turns own.conditional d test
-        → DecidesHere (test (name_of a) here) (λ t. turned_with d t old.conditions) (given_len d a)
-    turn_decides branch own test turns =
-        turns_at old.limits (run_rules g old) g.unread old.table.macros old.conditions own.live own.conditional own.around own.is_open own.skips old.files.include_stack d _ _ test front own.within branch_begins
-        (given_branches d held a given) turns
+    turn_steps : (branch : Branch) (own : OwnTurn d branch (inner_below old.files.include_stack) old.conditions) (test : Command → State → Test) → HasTest own.conditional d test
+        → (result : Option PieceLocation) (x : Test) → ((c : Command) → c.given ≡ given_by held a → test c here ≡ x) → IsOwnTest x
+        → DoesByTest x (λ t. turned_with d t old.conditions) (given_len d a) old new result → UncutStep g old new (step_answer new result)
+    turn_steps branch own test turns result x is owns does =
+        let around = take (length own.around - inner_below old.files.include_stack) own.around in
+        let next : Bool → Place = λ t. in_branch t (branched own.conditional t (is_else d)) around in
+        steps d _ _ result (in_branch own.live own.conditional around) _ branch_begins
+        (place_inside (inner_below old.files.include_stack) old.conditions own.live own.conditional own.around own.is_open own.within own.skips)
+        (turning_by (run_rules g old) d (given_by held a) _ _ _ own.live own.conditional around here (given_branches d held a given) ∙ ap (λ (y : Test). by_move y (λ t. Moves [] (next t) here)) (turns _ here refl ∙ is _ refl))
+        (does_test old new x _ result _ next here owns
+        (λ t. lands_turned old.limits old.table.macros old.conditions (given_len d a) own.conditional own.around own.is_open old.files.include_stack d t ready.include_stack own.within) does)
 
     -- it is refused
     pub refused_steps : (place : PieceLocation) (kind : FaultKind) → Meets d (Refused kind) (inner_below old.files.include_stack) old.conditions → place ≡ Fault
         → new ≡ record old { kept = Some (fault_at kind (inner_buffer old.files.include_stack).line [] (state_of old)) } → UncutStep g old new (lent_answer new place)
     refused_steps place kind (MeetsNone alone same) is becomes =
-        refused_by place kind fault.StrayBranch is (cc) (own_kind _ refl) becomes
-        (stray_at old.limits (run_rules g old) g.unread old.table.macros old.conditions old.files.include_stack d front (given_strays d held a given) alone branch_word)
+        steps d _ _ (Some place) (Live []) _ branch_begins (place_outside (inner_below old.files.include_stack) old.conditions alone) (stray_by (run_rules g old) d _ _ _ _ here (given_branches d held a given))
+        (ap Some is, becomes ∙ ap (λ (k : FaultKind). record old { kept = Some (fault_at k (inner_buffer old.files.include_stack).line [] (state_of old)) }) (cc), own_kind _ refl)
     refused_steps place kind (MeetsOwn own) is becomes =
-        faults place kind [] is becomes (subst IsOwn (sym own.turns.0) (own_kind fault.BranchAfterElse refl)) (turn_decides (Refused kind) own (λ n s. TestFault kind []) own.turns.1)
+        turn_steps (Refused kind) own _ own.turns.1 (Some place) (TestFault kind []) (λ c e. refl) (subst IsOwn (sym own.turns.0) (own_kind fault.BranchAfterElse refl)) (ap Some is, becomes)
     refused_steps place kind (MeetsInner n o os is_open below skips wrong) is becomes = absurd (cc)
 
     -- it is decided
     pub decided_steps : (t : Bool) → OwnTurn d (Decided t) (inner_below old.files.include_stack) old.conditions → new ≡ goes_past (turned_with d t old.conditions) (given_len d a) old → UncutStep g old new (step_answer new None)
-    decided_steps t own becomes =
-        does_by (Holds t) (λ u. turned_with d u old.conditions) (given_len d a) None (begins_within _ _ _ _ branch_begins some) tt (turn_decides (Decided t) own (λ n s. Holds t) own.turns) (refl, becomes)
+    decided_steps t own becomes = turn_steps (Decided t) own _ own.turns None (Holds t) (λ c e. refl) tt (refl, becomes)
 
     -- its name decides
     module _ (own : OwnTurn d Named (inner_below old.files.include_stack) old.conditions) where
       pub turn_unnamed : (place : PieceLocation) → LooksAtName a old new (Err place) → UncutStep g old new (lent_answer new place)
-      unfolding name_test
+      unfolding name_test macro_name given_name
       turn_unnamed place looks =
-          unnamed a place looks (λ kind word faulty.
-          subst (λ (n : Checked). DecidesHere (name_test true n here) (λ t. turned_with d t old.conditions) (given_len d a)) faulty
-          (turn_decides Named own (λ n s. name_test true n s) own.turns.1))
+          let r = looks.1 in
+          turn_steps Named own _ own.turns.1 (Some place) (TestFault r.kind r.word) (λ c e. ap (λ (x : Option (List ℕ)). name_test true (given_name x) here) e ∙ ap (λ (n : Checked). name_test true n here) r.faulty) r.own (ap Some looks.0, r.becomes)
 
       pub turn_named : (name : List ℕ) → name_of a ≡ Fine name
           → new ≡ goes_past (turned_with d (is_some (macro_named old.table.macros name)) old.conditions) (given_len d a) old → UncutStep g old new (step_answer new None)
-      unfolding name_test is_defined
+      unfolding name_test is_defined macro_name given_name
       turn_named name fine becomes =
-          let test : name_test true (name_of a) here ≡ Holds (is_some (macro_named old.table.macros name)) =
-          ap (λ (n : Checked). name_test true n here) fine ∙ ap (λ (ms : List Macro). Holds (is_some (macro_named ms name))) (include_stack_macros old.limits old.table.macros old.conditions old.files.include_stack) in
-          does_by (Holds (is_some (macro_named old.table.macros name))) (λ u. turned_with d u old.conditions) (given_len d a) None (begins_within _ _ _ _ branch_begins some) tt
-          (subst (λ (x : Test). DecidesHere x (λ t. turned_with d t old.conditions) (given_len d a)) test
-          (turn_decides Named own (λ n s. name_test true n s) own.turns.1)) (refl, becomes)
+          turn_steps Named own _ own.turns.1 None (Holds (is_some (macro_named old.table.macros name)))
+          (λ c e. ap (λ (x : Option (List ℕ)). name_test true (given_name x) here) e ∙ ap (λ (n : Checked). name_test true n here) fine
+          ∙ ap (λ (ms : List Macro). Holds (is_some (macro_named ms name))) (include_stack_macros old.limits old.table.macros old.conditions old.files.include_stack)) tt (refl, becomes)
 
   -- an `endif` that is stray
   pub end_refused : (A : Type 0) (place : PieceLocation) (kind : FaultKind) (v : ConditionsView) → EndsOne {A = A} (Err kind) old.conditions v (inner_below old.files.include_stack) → IsDirective Endif held → place ≡ Fault
       → new ≡ record (record old { conditions = v }) { kept = Some (fault_at kind (inner_buffer old.files.include_stack).line [] (state_of (record old { conditions = v }))) } → UncutStep g old new (lent_answer new place)
+  unfolding move_of closing_move
   end_refused A place kind v (EndsNone alone same stays) is kept becomes =
-      let keeps : ConditionsView → EngineView S R = λ w. record (record old { conditions = w }) { kept = Some (fault_at kind (inner_buffer old.files.include_stack).line [] (state_of (record old { conditions = w }))) } in
-      refused_by place kind fault.StrayBranch kept (cc) (own_kind _ refl) (becomes ∙ ap keeps stays) (stray_at old.limits (run_rules g old) g.unread old.table.macros old.conditions old.files.include_stack Endif front end_strays alone is)
+      let keeps : FaultKind → ConditionsView → EngineView S R = λ k w. record (record old { conditions = w }) { kept = Some (fault_at k (inner_buffer old.files.include_stack).line [] (state_of (record old { conditions = w }))) } in
+      steps Endif None _ (Some place) (Live []) _ (Bare end_bare is) (place_outside (inner_below old.files.include_stack) old.conditions alone) refl
+      (ap Some kept, becomes ∙ ap (keeps kind) stays ∙ ap (λ (k : FaultKind). keeps k old.conditions) (cc), own_kind _ refl)
   end_refused A place kind v (EndsOwn live o os is_open below skips wrong moves) is kept becomes = absurd wrong
   end_refused A place kind v (EndsInner n o os is_open below skips wrong moves) is kept becomes = absurd wrong
 
   -- one that closes a conditional
   pub end_closes : (A : Type 0) (x : A) (v : ConditionsView) → EndsOne {A = A} (Ok x) old.conditions v (inner_below old.files.include_stack) → IsDirective Endif held
       → new ≡ goes_past v (length (word_of Endif)) old → UncutStep g old new (step_answer new None)
+  unfolding goes_past
   end_closes A x v (EndsNone alone wrong stays) is becomes = absurd (cc)
   end_closes A x v (EndsOwn live o os is_open below skips done moves) is becomes =
-      let within = word_within Endif held is some in
       let sound = ready.sound.conditions_of in
-      let most = sound.few in
+      let few = sound.few in
       let limit = sound.limit in
-      goes_on g old new (closed_one old.conditions) (length (word_of Endif)) ready bounded within.0 within.1 (becomes ∙ ap (λ (w : ConditionsView). goes_past w (length (word_of Endif)) old) moves)
-      (closes_at old.limits (run_rules g old) g.unread old.table.macros old.conditions live o os is_open skips old.files.include_stack front below is (omega arith))
+      steps Endif None _ None _ _ (Bare end_bare is) (place_inside (inner_below old.files.include_stack) old.conditions live o os is_open below skips) (closing_by (run_rules g old) _ _ _ _ live o _ here)
+      (record {
+        none = refl;
+        done = refl;
+        macros = old.table.macros;
+        conditions = closed_one old.conditions;
+        lands = lands_closed old.limits old.table.macros old.conditions (length (word_of Endif)) o os is_open old.files.include_stack ready.include_stack below (omega arith);
+        becomes = becomes ∙ ap (λ (w : ConditionsView). goes_past w (length (word_of Endif)) old) moves;
+      })
   end_closes A x v (EndsInner n o os is_open below skips done moves) is becomes =
-      let within = word_within Endif held is some in
-      goes_on g old new (with_count n old.conditions) (length (word_of Endif)) ready bounded within.0 within.1 (becomes ∙ ap (λ (w : ConditionsView). goes_past w (length (word_of Endif)) old) moves)
-      (counts_at old.limits (run_rules g old) g.unread old.table.macros old.conditions old.files.include_stack Endif (suc n) n o os front (Ends n) is_open below skips is)
+      let len = length (word_of Endif) in
+      steps Endif None _ None _ _ (Bare end_bare is) (place_skipped (inner_below old.files.include_stack) old.conditions (suc n) o os is_open below skips) (closing_inner (run_rules g old) _ _ _ _ n o _ here)
+      (record {
+        none = line_ends_of-owed (take len held) ∙ ap (λ (k : ℕ). replicate k 10) (directive_ends Endif held some is);
+        done = refl;
+        macros = old.table.macros;
+        conditions = with_count n old.conditions;
+        lands = lands_counted old.limits old.table.macros old.conditions len o os is_open old.files.include_stack n below;
+        becomes = becomes ∙ ap (λ (w : ConditionsView). goes_past w len old) moves;
+      })
 
 -- Skipped text, as steps of the engine.
 
@@ -557,13 +643,11 @@ module _ {S R : Type 0} (g : Ghosts S R) (old new : EngineView S R) (ready : IsR
     pub opening_steps : (defined : Bool) (v : ConditionsView) → IsDirective (opening_word defined) (held_of (inner_buffer old.files.include_stack)) → v ≡ with_count (s.count + 1) old.conditions
         → new ≡ goes_past v (length (word_of (opening_word defined))) old → UncutStep g old new (step_answer new None)
     opening_steps defined v is counts becomes =
-        let within = word_within (opening_word defined) (held_of (inner_buffer old.files.include_stack)) is some in
         let one : s.count + 1 ≡ suc s.count = omega arith in
-        let exact : v ≡ with_count (suc s.count) old.conditions = counts ∙ ap (λ (n : ℕ). with_count n old.conditions) one in
-        goes_on g old new (with_count (suc s.count) old.conditions) (length (word_of (opening_word defined))) ready bounded within.0 within.1
-        (becomes ∙ ap (λ (x : ConditionsView). goes_past x (length (word_of (opening_word defined))) old) exact)
-        (counts_at old.limits (run_rules g old) g.unread old.table.macros old.conditions old.files.include_stack (opening_word defined) s.count (suc s.count) s.conditional s.around (plain_front old ready some plain)
-        (OpensWord (opening_word defined) s.count (opening_opens defined)) s.is_open s.below s.skips is)
+        let word = wants_word (opening_word defined) (opening_wants (opening_word defined) (opening_opens defined)) in
+        directive_word_steps g old new ready bounded some plain (opening_word defined) s.count (suc s.count) s.conditional s.around s.is_open s.below s.skips word (opening_moves defined)
+        (opening_passes (run_rules g old) defined s.count s.conditional _) is
+        (becomes ∙ ap (λ (x : ConditionsView). goes_past x (length (word_of (opening_word defined))) old) (counts ∙ ap (λ (n : ℕ). with_count n old.conditions) one))
 
     -- a `define`
     module _ (is : IsDirective Define (held_of (inner_buffer old.files.include_stack))) (mid : EngineView S R) (r : IsRead g old mid) where
@@ -601,159 +685,3 @@ module _ {S R : Type 0} (g : Ghosts S R) (old new : EngineView S R) (ready : IsR
       left_cut holds t =
           cut_at old.limits (run_rules g old) g.unread old.table.macros old.conditions (g.has_known_texts old.sources) t old.files.include_stack (inner_buffer mid.files.include_stack) front_held plain is holds
           ∙ rw holds.extends.line refl
-
--- A `line` in the open sources, as a step of the engine.
-
-module _ {R : Type 0} (limits : Limits) (rules : Rules) (unread : R → List ℕ) (macros : List Macro) (v : ConditionsView) (live : v.skipped ≡ None) where
-  -- a `line` that is given a number and a name
-  pub include_stack_line : (include_stack : List (File R)) (given : GivenLine) (from lines : ℕ) → 0 < length (held_of (inner_buffer include_stack)) → EndsHeld (inner_buffer include_stack)
-      → (inner_buffer include_stack).mode ≡ Plain → IsDirective Line (held_of (inner_buffer include_stack)) → inner_blanks include_stack ≡ true → LineGiven (drop 5 (held_of (inner_buffer include_stack))) given
-      → from ≡ suc (inner_buffer include_stack).line → lines ≡ line_ends (take (5 + given.stop) (held_of (inner_buffer include_stack)))
-      → include_stack_left limits rules unread macros v include_stack
-      ≡ after_bytes (line_ends_of (take (5 + given.stop) (held_of (inner_buffer include_stack))) ++ origin_line rules given.name.bytes given.number)
-      (include_stack_left limits rules unread macros v (with_inner (renumbered_file from given.number given.name) (with_inner (consumed_file (5 + given.stop) lines) include_stack)))
-  unfolding include_stack_state file_state source_left
-  include_stack_line [] given from lines some ends plain is first has _ counted = absurd (none_held R some)
-  include_stack_line (f ∷ outer) given from lines some ends plain is first has here counted =
-      let held = held_of f.buffer in
-      let s = include_stack_state limits macros v (f ∷ outer) in
-      let r : Renumbered = record { number = given.number; name = given.name.bytes } in
-      let whole : line_len held ≡ 5 + given.stop = line_right_after held some is ∙ ap (λ n. 5 + n) (sym has.stop) in
-      let value : renumbered (drop 5 (line_text held)) ≡ Some r = ap renumbered (given_text held some is) ∙ has.value in
-      let ws = around limits rules unread macros v f outer in
-      let os = own_conditions f.conditions_below v in
-      let after : ℕ → ℕ → ℕ → Passage = λ n k m. source_left rules unread ws (Live os) (renumbered_file m given.number given.name (consumed_file n k f))
-      (include_stack_state limits macros v (renumbered_file m given.number given.name (consumed_file n k f) ∷ outer)) in
-      let text : ℕ → List ℕ = λ n. line_ends_of (take n held) ++ origin_line rules given.name.bytes given.number in
-      moved_live limits rules unread macros v live f (renumbered_file from given.number given.name (consumed_file (5 + given.stop) lines f)) outer macros (text (5 + given.stop))
-      (renumbered_left rules unread ws os f s (record { some = some; ends = ends }) plain is r first value
-      ∙ (ap (λ (n : ℕ). after_bytes (text n) (after n (line_ends (take n held)) (suc f.buffer.line))) whole
-      ∙ (ap (λ (k : ℕ). after_bytes (text (5 + given.stop)) (after (5 + given.stop) k (suc f.buffer.line))) (sym counted)
-      ∙ ap (λ (m : ℕ). after_bytes (text (5 + given.stop)) (after (5 + given.stop) lines m)) (sym here))))
-      (ends_mid_line_consumed unread f (5 + given.stop) lines) refl refl
-
-  -- a `line` that is given anything else
-  pub include_stack_bad_line : (include_stack : List (File R)) → 0 < length (held_of (inner_buffer include_stack)) → EndsHeld (inner_buffer include_stack)
-      → (inner_buffer include_stack).mode ≡ Plain → IsDirective Line (held_of (inner_buffer include_stack))
-      → renumbered (take (line_len (drop 5 (held_of (inner_buffer include_stack)))) (drop 5 (held_of (inner_buffer include_stack)))) ≡ None
-      → include_stack_left limits rules unread macros v include_stack ≡ leaves (fails (fault_at BadLine (inner_buffer include_stack).line [] (include_stack_state limits macros v include_stack))) (include_stack_state limits macros v include_stack)
-  include_stack_bad_line [] some ends plain is bad = absurd (none_held R some)
-  include_stack_bad_line (f ∷ outer) some ends plain is bad =
-      let held = held_of f.buffer in
-      at_live limits rules unread macros v live f outer _
-      (bad_line_left rules unread (around limits rules unread macros v f outer) (own_conditions f.conditions_below v) f (include_stack_state limits macros v (f ∷ outer))
-      (record { some = some; ends = ends }) plain is (ap renumbered (given_text held some is) ∙ bad))
-
-  -- a `line` behind anything but blanks
-  pub include_stack_late_line : (include_stack : List (File R)) → 0 < length (held_of (inner_buffer include_stack)) → EndsHeld (inner_buffer include_stack)
-      → (inner_buffer include_stack).mode ≡ Plain → IsDirective Line (held_of (inner_buffer include_stack)) → inner_blanks include_stack ≡ false
-      → include_stack_left limits rules unread macros v include_stack ≡ leaves (fails (fault_at BadLine (inner_buffer include_stack).line [] (include_stack_state limits macros v include_stack))) (include_stack_state limits macros v include_stack)
-  include_stack_late_line [] some ends plain is late = absurd (none_held R some)
-  include_stack_late_line (f ∷ outer) some ends plain is late =
-      let held = held_of f.buffer in
-      at_live limits rules unread macros v live f outer _
-      (late_line_left rules unread (around limits rules unread macros v f outer) (own_conditions f.conditions_below v) f (include_stack_state limits macros v (f ∷ outer))
-      (record { some = some; ends = ends }) plain is late)
-
--- what a source shows changes none of its bytes
-shown_used : {R : Type 0} (old new : List (File R)) (change : File R → File R) → ((f : File R) → (change f).buffer ≡ f.buffer) → IsUsed old new → IsUsed old (with_inner change new)
-shown_used old [] change same used = used
-shown_used old (f ∷ outer) change same used = record { fewer = rw (same f) used.fewer; outer = used.outer; size = used.size }
-
--- nor how many are open
-pub named_inner : {R : Type 0} (from number : ℕ) (name : ArrayString 1024) (include_stack : List (File R)) → 0 < length include_stack → inner_name (with_inner (renumbered_file from number name) include_stack) ≡ name.bytes
-named_inner from number name [] some = absurd (omega arith)
-named_inner from number name (f ∷ outer) some = refl
-
--- what is held is short
-pub held_short : {S R : Type 0} (e : EngineView S R) → IsSoundEngine e.limits e.phase e.table e.files e.conditions → AreOpen e.files → 0 < length e.files.include_stack → length (held_of (inner_buffer e.files.include_stack)) ≤ 1048576
-held_short e sound files some =
-    let inner = inner_facts e.files some files in
-    let room = held_room (inner_buffer e.files.include_stack) in
-    let lines = inner.buffer.lines in
-    let within = inner.buffer.within in
-    let size = inner.size in
-    let most = sound.line_bytes in
-    let range = sound.in_range.line_bytes.1 in
-    omega arith
-
--- as many are open behind a change of the innermost
-some_inner : {R : Type 0} (change : File R → File R) (include_stack : List (File R)) → 0 < length include_stack → 0 < length (with_inner change include_stack)
-some_inner change [] some = some
-some_inner change (f ∷ outer) some = some
-
--- a `line` is taken
-pub take_renumbered : {S R : Type 0} (g : Ghosts S R) (old new : EngineView S R) (given : GivenLine) → IsReady old → old.conditions.skipped ≡ None → IsBounded new
-    → 0 < length (held_of (inner_buffer old.files.include_stack)) → (inner_buffer old.files.include_stack).mode ≡ Plain → IsDirective Line (held_of (inner_buffer old.files.include_stack))
-    → inner_blanks old.files.include_stack ≡ true → LineGiven (drop 5 (held_of (inner_buffer old.files.include_stack))) given → 5 + given.stop ≤ length (held_of (inner_buffer old.files.include_stack))
-    → Renumbers given old new → UncutStep g old new (step_answer new None)
-unfolding after_bytes
-take_renumbered {S} {R} g old new given ready live bounded some plain is first has inside d =
-    let inner = inner_facts old.files ready.include_stack ready.files in
-    let held = held_of (inner_buffer old.files.include_stack) in
-    let len = 5 + given.stop in
-    let from = (inner_buffer old.files.include_stack).line + 1 in
-    let w = take len held in
-    let used = with_inner (consumed_file len d.lines) old.files.include_stack in
-    let include_stack = with_inner (renumbered_file from given.number given.name) used in
-    let pending : PendingView = record { line_ends = d.lines; origin = origin_pending old.origins given.number } in
-    let marks = ends_line d.lines (state_of old).name (shown_line (state_of old).shift (inner_buffer old.files.include_stack).line) old.marks in
-    let few = held_short old ready.sound ready.files ready.include_stack in
-    let counted = d.counted in
-    let least = line_ends_le w in
-    let size = length-take-le len held inside in
-    let lines : d.lines ≤ len = omega arith in
-    let name : inner_name include_stack ≡ given.name.bytes = named_inner from given.number given.name used (some_inner (consumed_file len d.lines) old.files.include_stack ready.include_stack) in
-    let bytes : pending_bytes (inner_name include_stack) pending ≡ line_ends_of w ++ origin_line (run_rules g old) given.name.bytes given.number =
-    ap (λ (n : List ℕ). pending_bytes n pending) name ∙ pending_with_origin (g.catalog old.sources) old.limits old.origins given.name.bytes w d.lines given.number d.counted in
-    subst (λ (e : EngineView S R). UncutStep g old e (Ok (Some []))) (sym d.becomes)
-    (lends_piece g old ready [] pending marks old.table.macros old.conditions include_stack old.sources (subst IsBounded d.becomes bounded) (pending_few old.origins d.lines given.number (omega arith))
-    (shown_used old.files.include_stack used (renumbered_file from given.number given.name) (λ f. refl) (used_bytes old.files.include_stack len d.lines (omega arith) inside))
-    (not_called g old.sources)
-    (λ t. include_stack_line old.limits (run_rules g old) g.unread old.table.macros old.conditions live old.files.include_stack given from d.lines some inner.ends plain is first has (omega arith) d.counted
-    ∙ ap (λ (x : List ℕ). after_bytes x (left_by g old old.table.macros old.conditions include_stack)) (sym bytes))
-    (λ t. parts_on g.unread old.files.include_stack used include_stack (parts_used g.unread len d.lines old.files.include_stack) (parts_shown g.unread from given.number given.name used)) (Nowhere refl (InSources ready.idle refl (AfterLine d.lines refl))))
-
--- what remains at a bad `line`
-module _ {S R : Type 0} (g : Ghosts S R) (e : EngineView S R) (ready : IsReady e) (live : e.conditions.skipped ≡ None) (some : 0 < length (held_of (inner_buffer e.files.include_stack)))
-    (plain : (inner_buffer e.files.include_stack).mode ≡ Plain) (is : IsDirective Line (held_of (inner_buffer e.files.include_stack))) where
-  pub left_bad_line : renumbered (take (line_len (drop 5 (held_of (inner_buffer e.files.include_stack)))) (drop 5 (held_of (inner_buffer e.files.include_stack)))) ≡ None → Fails g e BadLine (inner_buffer e.files.include_stack).line []
-  unfolding state_of
-  left_bad_line bad =
-      include_stack_bad_line e.limits (run_rules g e) g.unread e.table.macros e.conditions live e.files.include_stack some (inner_facts e.files ready.include_stack ready.files).ends plain is bad
-
-  pub left_late_line : inner_blanks e.files.include_stack ≡ false → Fails g e BadLine (inner_buffer e.files.include_stack).line []
-  unfolding state_of
-  left_late_line late =
-      include_stack_late_line e.limits (run_rules g e) g.unread e.table.macros e.conditions live e.files.include_stack some (inner_facts e.files ready.include_stack ready.files).ends plain is late
-
--- a `line` that was used, and what is pending behind it
-pub renumbers_by : {S R : Type 0} (given : GivenLine) (old used shown new : EngineView S R) (from lines : ℕ) (pending then_pending : PendingView) (name : List ℕ) (line : ℕ)
-    → used ≡ record old { files = record old.files { include_stack = with_inner (consumed_file (5 + given.stop) lines) old.files.include_stack } }
-    → shown ≡ record used { files = record used.files { include_stack = with_inner (renumbered_file from given.number given.name) used.files.include_stack } }
-    → new ≡ record shown { pending = then_pending; marks = ends_line lines name line shown.marks } → pending ≡ record shown.pending { line_ends = shown.pending.line_ends + lines }
-    → then_pending ≡ record pending { origin = origin_pending shown.origins given.number } → old.pending ≡ nothing_pending
-    → from ≡ (inner_buffer old.files.include_stack).line + 1 → lines ≡ line_ends (take (5 + given.stop) (held_of (inner_buffer old.files.include_stack)))
-    → name ≡ (state_of old).name → line ≡ shown_line (state_of old).shift (inner_buffer old.files.include_stack).line → Renumbers given old new
-unfolding nothing_pending
-renumbers_by {S} {R} given old used shown new from lines pending then_pending name line uses shows queues adds asks nothing here counted named lined =
-    let include_stack : ℕ → List (File R) = λ m. with_inner (renumbered_file m given.number given.name) (with_inner (consumed_file (5 + given.stop) lines) old.files.include_stack) in
-    let becomes : shown ≡ record old { files = record old.files { include_stack = include_stack from } } =
-    shows ∙ ap (λ (e : EngineView S R). record e { files = record e.files { include_stack = with_inner (renumbered_file from given.number given.name) e.files.include_stack } }) uses in
-    let none : shown.pending.line_ends ≡ 0 = ap (λ e. e.pending.line_ends) becomes ∙ ap (λ o. o.line_ends) nothing in
-    let added : pending.line_ends ≡ shown.pending.line_ends + lines = ap (λ o. o.line_ends) adds in
-    let count : pending.line_ends ≡ lines = omega arith in
-    let origins : shown.origins ≡ old.origins = ap (λ e. e.origins) becomes in
-    let makes : ℕ → Bool → PendingView = λ n b. record { line_ends = n; origin = origin_pending b given.number } in
-    let exact : then_pending ≡ makes lines old.origins = asks ∙ (ap (λ (n : ℕ). makes n shown.origins) count ∙ ap (makes lines) origins) in
-    let marked : List ℕ → ℕ → MarksView = λ xs n. ends_line lines xs n old.marks in
-    let ends : PendingView → MarksView → ℕ → EngineView S R = λ o marks m. record old { pending = o; marks = marks; files = record old.files { include_stack = include_stack m } } in
-    record {
-      lines = lines;
-      counted = counted;
-      becomes = queues ∙ (ap (λ (e : EngineView S R). record e { pending = then_pending; marks = ends_line lines name line e.marks }) becomes
-          ∙ (ap (λ (o : PendingView). ends o (marked name line) from) exact
-          ∙ (ap (λ (xs : List ℕ). ends (makes lines old.origins) (marked xs line) from) named
-          ∙ (ap (λ (n : ℕ). ends (makes lines old.origins) (marked (state_of old).name n) from) lined
-          ∙ ap (ends (makes lines old.origins) (marked (state_of old).name (shown_line (state_of old).shift (inner_buffer old.files.include_stack).line))) here))));
-    }

@@ -7,6 +7,9 @@ pub mod WorkFacts
 pub mod Stores
 pub mod EngineSteps
 pub mod FrontSteps
+pub mod StackMoves
+pub mod DirectiveMoves
 pub mod DirectiveSteps
+pub mod LineSteps
 pub mod IncludeSteps
 pub mod UsageSteps

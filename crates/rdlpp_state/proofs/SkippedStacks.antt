@@ -23,6 +23,7 @@ use Rattle.rdlpp_scan.proofs.StopKinds.{AtBack, AtBare, AtBlockComment, AtLineCo
 use Rattle.rdlpp_scan.proofs.TokenSteps.{word-line_end}
 use Rattle.rdlpp_table.specs.Table.{Macro}
 use Rattle.rdlpp_table.specs.declared.limits.Limits.{Limits}
+use Rattle.rdlpp_meaning.specs.Moves.{in_branch}
 use Rattle.rdlpp_meaning.specs.Meaning.{Passage, Progress, after_bytes, leaves}
 use Rattle.rdlpp_meaning.specs.Opened.{Waiting, all_resumed}
 use Rattle.rdlpp_meaning.specs.Outcome.{Report, fails}
@@ -31,7 +32,6 @@ use Rattle.rdlpp_meaning.specs.Resumed.{Place, Skipped}
 use Rattle.rdlpp_meaning.specs.State.{Rules, State, breach_kind, fault_at}
 use Rattle.rdlpp_meaning.specs.declared.fault.FaultKind.TheVariants as fault
 use Rattle.rdlpp_meaning.specs.declared.fault.FaultKind.TheVariants.{OpenConditional}
-use Rattle.rdlpp_meaning.proofs.Directives.{in_branch}
 use Rattle.rdlpp_meaning.proofs.Skipping.{has_own_token, stands_by_itself}
 use Rattle.rdlpp_meaning.proofs.Outcomes.{after_bytes-twice}
 use Rattle.rdlpp_meaning.proofs.LiveText.{line_ends_of-append, only_blanks-append}

@@ -7,6 +7,7 @@ use Rattle.rdlpp_scan.specs.declared.token.Mode.TheVariants.{Plain}
 use Rattle.rdlpp_table.specs.Table.{Macro, table_size}
 use Rattle.rdlpp_table.specs.View.{TableView}
 use Rattle.rdlpp_table.specs.declared.limits.Limits.{Limits}
+use Rattle.rdlpp_meaning.specs.Moves.{in_branch}
 use Rattle.rdlpp_meaning.specs.Meaning.{Holds, Passage, Progress, after_bytes, goes_on, leaves, opening_within}
 use Rattle.rdlpp_meaning.specs.OpenItems.{open_left}
 use Rattle.rdlpp_meaning.specs.Opens.{Open as OpenText, Texts}
@@ -15,7 +16,6 @@ use Rattle.rdlpp_meaning.specs.Resumed.{Live, Place, Skipped}
 use Rattle.rdlpp_meaning.specs.State.{Rules, State, fault_at, shown_line}
 use Rattle.rdlpp_meaning.specs.declared.fault.FaultKind.{FaultKind}
 use Rattle.rdlpp_meaning.specs.declared.fault.FaultKind.TheVariants.{StrayBranch}
-use Rattle.rdlpp_meaning.proofs.Directives.{in_branch}
 use Rattle.rdlpp_source.specs.declared.sources.Sources.{Ghosts}
 use Rattle.rdlpp_texts.specs.Places.{texts_of}
 use Rattle.rdlpp_texts.specs.Steps.{AreSound}

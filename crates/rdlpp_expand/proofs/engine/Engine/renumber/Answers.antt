@@ -6,7 +6,7 @@ use Rattle.rdlpp_read.proofs.Growing.{line_ends_le}
 use Rattle.rdlpp_state.specs.Pending.{PendingView, nothing_pending, origin_pending}
 use Rattle.rdlpp_state.specs.Marks.{ends_line}
 use Rattle.rdlpp_state.proofs.LentPieces.{owing_marked}
-use Rattle.rdlpp_state.proofs.DirectiveSteps.{renumbers_by}
+use Rattle.rdlpp_state.proofs.LineSteps.{renumbers_by}
 use Rattle.rdlpp_expand.proofs.engine.Engine.renumber.Goals as goal
 
 pub consume-requires-clause-lines : goal.consume-requires-clause-lines

@@ -9,7 +9,7 @@ use Rattle.rdlpp_front.proofs.TextLeft.{word_held}
 use Rattle.rdlpp_state.specs.Lines.{inner_blanks}
 use Rattle.rdlpp_state.proofs.EngineSteps.{not_called}
 use Rattle.rdlpp_state.proofs.FrontSteps.{read_nothing, refuses}
-use Rattle.rdlpp_state.proofs.DirectiveSteps.{held_short, left_bad_line, left_late_line, take_renumbered}
+use Rattle.rdlpp_state.proofs.LineSteps.{held_short, left_bad_line, left_late_line, take_renumbered}
 use Rattle.rdlpp_expand.proofs.engine.Engine.take_line.Goals as goal
 use Rattle.rdlpp_state.proofs.Stores.{own_kind}
 
