@@ -23,7 +23,8 @@ pub use opening::{open_reading, reopen_reading};
 pub use options::Options;
 pub use preprocessing::preprocess;
 pub use rdlpp_expand::{
-    Engine, Fault, FaultKind, OpenSource, Position, ReadEnd, ReadPart, Reading, RunFault, Watcher,
+    Engine, Fault, FaultKind, OpenSource, Placed, Position, ReadEnd, ReadPart, Reading, RunFault,
+    Watcher,
 };
 pub use rdlpp_reports::{
     DefinitionPlaces, FileId, FileSources, MapWriter, OpenedPaths, Recorded, write_defined,

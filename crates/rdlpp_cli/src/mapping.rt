@@ -1,7 +1,7 @@
 //! The line map of a run, where one is asked for.
 use crate::OUTPUT_BYTES;
 use crate::files::{RunFiles, WriteFault};
-use rdlpp::{MapWriter, Position, Watcher};
+use rdlpp::{MapWriter, Placed, Watcher};
 use std::fs::File;
 use std::io::BufWriter;
 
@@ -18,10 +18,10 @@ impl Mapping {
         self.map.is_some()
     }
 
-    /// Takes a piece of the output, with the place of its first byte.
-    pub fn saw(&mut self, piece: &[u8], position: Position<'_>) {
+    /// Takes a piece of the output, with what tells the place of its first byte.
+    pub fn saw<P: Placed>(&mut self, piece: &[u8], placed: &P) {
         if let Some(map) = &mut self.map {
-            map.saw(piece, position);
+            map.saw(piece, placed);
         }
     }
 

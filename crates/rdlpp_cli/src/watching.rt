@@ -1,7 +1,7 @@
 //! What a run is watched for: the place of each line, and where macros are defined, where these are asked for.
 use crate::files::{RunFiles, WriteFault};
 use crate::mapping::{Mapping, open_mapping};
-use rdlpp::{DefinitionPlaces, Invocation, OpenSource, Position, Table, Watcher};
+use rdlpp::{DefinitionPlaces, Invocation, OpenSource, Placed, Table, Watcher};
 
 /// What watches a run.
 #[derive(Drop)]
@@ -51,8 +51,8 @@ impl Watcher for Watching {
         self.is_looking
     }
 
-    fn saw(&mut self, piece: &[u8], position: Position<'_>) {
-        self.mapping.saw(piece, position);
+    fn saw<P: Placed>(&mut self, piece: &[u8], placed: &P) {
+        self.mapping.saw(piece, placed);
     }
 
     fn defined(&mut self, table: &Table, place: OpenSource<'_>) {

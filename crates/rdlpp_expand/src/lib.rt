@@ -10,5 +10,5 @@ pub use engine::{Engine, OpenSource, READ_ALLOWANCE};
 pub use rdlpp_meaning::{Fault, FaultKind, laws};
 pub use rdlpp_state::{Held, LineStep, NewFault, Piece, Position, fault_kind};
 pub use reading::{ReadEnd, ReadPart, Reading};
-pub use watching::{Unwatched, Watcher};
+pub use watching::{Placed, Unwatched, Watcher};
 pub use writing::{RunFault, run, run_watched};

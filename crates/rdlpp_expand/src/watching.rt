@@ -2,9 +2,36 @@
 ghost use Rattle.std.specs.Prelude.{◌≡◌, ℕ, Bool, true, false, List, Option, None};
 ghost use Rattle.std.specs.Io.KnownBytes.{Appends};
 
-use crate::engine::OpenSource;
-use rdlpp_state::Position;
+use crate::engine::{Engine, OpenSource};
+use rdlpp_source::Sources;
+use rdlpp_state::{LineStep, Position};
 use rdlpp_table::Table;
+
+/// What tells the place of the first byte of a piece, where that is asked for.
+pub trait Placed {
+    /// The place; one without a name, on line 0, where the piece has none.
+    fn place(&self) -> Position<'_>;
+}
+
+impl<S: Sources> Placed for Engine<S> {
+    #[inline(always)]
+    fn place(&self) -> Position<'_> {
+        match self.position() {
+            Some(position) => position,
+            None => Position {
+                name: "",
+                line: 0,
+                step: LineStep::Same,
+            },
+        }
+    }
+}
+
+impl Placed for Position<'_> {
+    fn place(&self) -> Position<'_> {
+        *self
+    }
+}
 
 /// Is shown the output that a run writes, piece by piece, each with the place of its first byte, and told where macros are defined.
 ///
@@ -21,9 +48,9 @@ pub trait Watcher {
     fn is_looking(&self) -> bool
         ensures { result ≡ looks self.now };
 
-    /// Is shown bytes that the writer took of a piece, at least one: all of it, unless a write failed.
+    /// Is shown bytes that the writer took of a piece, at least one: all of it, unless a write failed; and what tells their place.
     /// It goes on looking.
-    fn saw(&mut self, piece: &[u8], position: Position<'_>)
+    fn saw<P: Placed>(&mut self, piece: &[u8], placed: &P)
         ensures bytes { Appends (seen self.old) (seen self.new) piece.now }
         ensures looks { looks self.new ≡ looks self.old };
 
@@ -50,5 +77,5 @@ impl Watcher for Unwatched {
     }
 
     #[inline(always)]
-    fn saw(&mut self, _piece: &[u8], _position: Position<'_>) {}
+    fn saw<P: Placed>(&mut self, _piece: &[u8], _placed: &P) {}
 }

@@ -12,7 +12,7 @@ use crate::engine::{Engine, OpenSource, TextStep};
 use crate::watching::{Unwatched, Watcher};
 use rdlpp_meaning::Fault;
 use rdlpp_source::{Sink, Sources};
-use rdlpp_state::{LineStep, Piece, Position};
+use rdlpp_state::Piece;
 
 /// Why a run ended before the end of the output.
 #[derive(Drop, Debug)]
@@ -221,15 +221,7 @@ fn show_part<S: Sources, V: Watcher>(engine: &Engine<S>, watcher: &mut V, part: 
     if part.is_empty() {
         return;
     }
-    let position = match engine.position() {
-        Some(position) => position,
-        None => Position {
-            name: "",
-            line: 0,
-            step: LineStep::Same,
-        },
-    };
-    watcher.saw(part, position);
+    watcher.saw(part, engine);
 }
 
 // Tells a watcher of the `define` that was read in the last step, if one was, where it looks.

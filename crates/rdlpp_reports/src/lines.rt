@@ -7,6 +7,7 @@ ghost use Rattle.rdlpp_reports.specs.Writes.{Writes};
 use crate::writing::{write_parts, write_whole};
 use arrayvec::ArrayString;
 use itoa::Buffer;
+use rdlpp_expand::Placed;
 use rdlpp_scan::line_ends_in;
 use rdlpp_state::{LineStep, Position};
 use std::io::{self, Write};
@@ -92,22 +93,19 @@ impl MappedLines {
         }
     }
 
-    /// Takes the next piece of the output, with the place of its first byte. Answers whether a run ended, which is then
-    /// `ended`: a piece ends one at most.
-    pub fn take(&mut self, piece: &[u8], position: &Position<'_>) -> bool {
-        let line_ends = line_ends_in(piece) as u64;
-        if piece.is_empty() || (self.begun && line_ends == 0) {
+    /// Takes the next piece of the output, and asks for the place of its first byte where a line begins in it. Answers whether a
+    /// run ended, which is then `ended`: a piece ends one at most.
+    pub fn take<P: Placed>(&mut self, piece: &[u8], placed: &P) -> bool {
+        let Some((last, front)) = piece.split_last() else {
+            return false;
+        };
+        let more = line_ends_in(front) as u64;
+        let is_first = !self.begun;
+        self.begun = *last != b'\n';
+        if more == 0 && !is_first {
             return false;
         }
-        let ends_first = !self.begun && self.add_line(position.name, position.line);
-        self.begun = piece[piece.len() - 1] != b'\n';
-        let more = if self.begun {
-            line_ends
-        } else {
-            line_ends.saturating_sub(1)
-        };
-        let ends_later = more > 0 && self.add_lines(position, more);
-        ends_first || ends_later
+        self.begin_lines(is_first, more, placed)
     }
 
     /// Takes away the last run, which ends with the output. Answers whether there was one, which is then `ended`.
@@ -128,6 +126,16 @@ impl MappedLines {
         ensures { run_view result.now ≡ self.now.ended }
     {
         &self.ended
+    }
+
+    // Adds the lines that begin in a piece: one at its first byte, where it is the first of a line, and so many behind it. Answers
+    // whether a run ended. It stands apart, so that a piece in which no line begins passes none of it.
+    #[inline(never)]
+    fn begin_lines<P: Placed>(&mut self, is_first: bool, more: u64, placed: &P) -> bool {
+        let position = placed.place();
+        let ends_first = is_first && self.add_line(position.name, position.line);
+        let ends_later = more > 0 && self.add_lines(&position, more);
+        ends_first || ends_later
     }
 
     // Adds so many lines, of which the first one's place is the line behind a position by its step. Answers whether a run ended.
@@ -200,6 +208,7 @@ impl MappedLines {
     }
 
     // Whether a line goes on the last run by a step.
+    #[inline(always)]
     fn follows(&self, name: &str, line: u64, step: LineStep) -> bool
         ensures { result ≡ follows self.now (record { name = name.now; line = line }) step }
     {

@@ -1,6 +1,6 @@
 //! A watcher that writes the line map of what it is shown.
 use crate::lines::{MappedLines, write_map_start, write_run};
-use rdlpp_expand::{Position, Watcher};
+use rdlpp_expand::{Placed, Watcher};
 use std::io::{self, Write};
 
 /// Writes the line map of the output that it is shown, run by run.
@@ -37,6 +37,14 @@ impl<W: Write> MapWriter<W> {
         }
         self.writer.flush()
     }
+
+    // Writes the run that ended last, where no write has failed.
+    #[inline(never)]
+    fn write_ended(&mut self) {
+        if self.failure.is_none() {
+            self.failure = write_run(self.lines.ended(), &mut self.writer).err();
+        }
+    }
 }
 
 impl<W: Write> Watcher for MapWriter<W> {
@@ -44,9 +52,9 @@ impl<W: Write> Watcher for MapWriter<W> {
         true
     }
 
-    fn saw(&mut self, piece: &[u8], position: Position<'_>) {
-        if self.lines.take(piece, &position) && self.failure.is_none() {
-            self.failure = write_run(self.lines.ended(), &mut self.writer).err();
+    fn saw<P: Placed>(&mut self, piece: &[u8], placed: &P) {
+        if self.lines.take(piece, placed) {
+            self.write_ended();
         }
     }
 }

@@ -1,7 +1,7 @@
 // Outputs that stop and go on: searches that are made again, and steps without bytes.
 use crate::runs::STANDARD;
 use crate::sources::{After, Asked, AskedTexts, DealtText, NOTHING};
-use rdlpp::{Counted, FaultKind, OpenSource, Position, Table, Texts, Watcher};
+use rdlpp::{Counted, FaultKind, OpenSource, Placed, Table, Texts, Watcher};
 use rdlpp_expand::{Engine, ReadEnd, Reading, run, run_watched};
 use rdlpp_source::Sources;
 use std::alloc::AllocError;
@@ -135,7 +135,7 @@ impl Watcher for DefinitionCount {
         true
     }
 
-    fn saw(&mut self, _piece: &[u8], _position: Position<'_>) {}
+    fn saw<P: Placed>(&mut self, _piece: &[u8], _placed: &P) {}
 
     fn defined(&mut self, _table: &Table, _place: OpenSource<'_>) {
         self.told = self.told.saturating_add(1);
