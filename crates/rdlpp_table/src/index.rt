@@ -1,6 +1,7 @@
 // The index of a table: the places of its entries, sorted by the buckets in which their names stand, and then by name. A table has
-// at most 65,536 macros, so that two bytes are enough for a place. Behind it, in the same list, lie the offsets of its macros. A
-// definition moves two bytes for each place before its own or for each one behind it and the offsets, whichever are fewer.
+// at most 65,536 macros, so that two bytes are enough for a place. In the same list lie spare items before them and the offsets of
+// the macros behind them. A definition moves the places before its own to the front, or those behind it and the offsets to the
+// back, whichever are fewer; a removal always moves what is behind.
 ghost use Rattle.std.specs.Prelude.{◌≡◌, ℕ, ◌+◌, ◌<◌, ◌≤◌, ◌^◌, ◌*◌, ◌-◌, ◌++◌, All, IfOk, MatchResult, drop, insert, length, map, remove, slice_index, take, true, vec_capacity, vec_len};
 ghost use Rattle.std.specs.List.{flat_map, list_all, remove_range};
 ghost use Rattle.rdlpp_table.specs.Entries.{AreWithin};
@@ -23,8 +24,8 @@ use std::marker::Model;
 // The index of a table.
 #[derive(Drop)]
 pub(crate) struct Index {
-    // Spare items; the places of the entries, sorted by the buckets in which their names stand, and then by name; and behind them
-    // where the formals of each macro begin among their bytes, where these are long: two numbers for each formal.
+    // Spare items; the places in their order; and where the formals of each macro begin among their bytes, where these are long:
+    // two numbers for each formal.
     order: Vec<u16>,
     // How many items at the front are spare.
     spare: usize,
@@ -177,9 +178,9 @@ fn move_back(order: &mut Vec<u16>, by: usize)
     order.copy_within(0..len, by);
 }
 
-// Puts a place into a list, behind its spare items and so many places, and answers how many items are spare then. What stands before
-// it moves, where that is less than what stands behind it. Where nothing is spare then, all moves once, so that one more than there
-// are places is spare: as many places can come then without that.
+// Puts a place into a list, among so many behind its spare items, and answers how many items are spare then. What stands before it
+// moves, where that is less than what stands behind it. Where nothing is spare then, all moves once, so that one item more is spare
+// than there are places: as many places can come then before the next move of all.
 fn insert_place(order: &mut Vec<u16>, spare: usize, count: usize, gap: usize, place: u16) -> usize
     requires gap { spare + gap ≤ vec_len order.old }
     requires room { vec_len order.old < vec_capacity order.old }
