@@ -1,4 +1,5 @@
 /* Calls of the library from C: every status, texts that are longer than their buffers, empty lists. */
+#include "checking.h"
 #include "rdlpp.h"
 
 #include <stdio.h>
@@ -6,16 +7,6 @@
 #include <string.h>
 
 #define ROOM 64
-
-static int failures = 0;
-
-static void check(int holds, const char *what)
-{
-    if (!holds) {
-        fprintf(stderr, "calls.c: not so: %s\n", what);
-        failures += 1;
-    }
-}
 
 /* What a call told. Each buffer has marks where nothing was written. */
 struct told {

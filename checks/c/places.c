@@ -1,5 +1,6 @@
 /* Places of pieces, and line maps: those of a text that has macros, includes and numbers of its own; and over all rows, that each line of
    a map has the place of the piece that its first byte is of. */
+#include "checking.h"
 #include "row.h"
 
 #include <stdio.h>
@@ -8,16 +9,6 @@
 
 #define NAME_ROOM 1024
 #define MOST_LINES 200000
-
-static int failures = 0;
-
-static void check(int holds, const char *shows, const char *what)
-{
-    if (!holds) {
-        fprintf(stderr, "places.c: %s: not so: %s\n", shows, what);
-        failures += 1;
-    }
-}
 
 /* The place of a line. */
 struct line {
@@ -36,7 +27,7 @@ static void add_line(struct lines *lines, const char *name, size_t length, unsig
 {
     struct line *line = &lines->at[lines->count];
     if (lines->count == MOST_LINES) {
-        check(0, "add_line", "there is room for a line");
+        check_of(0, "add_line", "there is room for a line");
         return;
     }
     line->name = malloc(length + 1);
@@ -91,9 +82,9 @@ static rdlpp_outcome read_pieces(const rdlpp_request *asked, size_t room, const 
         outcome = rdlpp_read(&handle, out, room, name, sizeof name, word, sizeof word);
         place = rdlpp_position(&handle, name, sizeof name);
         if (outcome.length == 0) {
-            check(place.status == RDLPP_MORE && place.name_length == 0, shows, "no bytes have no place");
+            check_of(place.status == RDLPP_MORE && place.name_length == 0, shows, "no bytes have no place");
         } else {
-            check(place.status == RDLPP_WHOLE && place.number <= 1, shows, "bytes have a place");
+            check_of(place.status == RDLPP_WHOLE && place.number <= 1, shows, "bytes have a place");
             add_part(lines, &begins, out, outcome.length, &place, name);
         }
         if (outcome.status != RDLPP_MORE) {
@@ -110,7 +101,7 @@ static unsigned long long number_at(const char **at)
 {
     char *end;
     const unsigned long long number = strtoull(*at, &end, 10);
-    check(end != *at && *end == '\t', *at, "a number of a map");
+    check_of(end != *at && *end == '\t', *at, "a number of a map");
     *at = end + 1;
     return number;
 }
@@ -122,7 +113,7 @@ static void add_run(struct lines *lines, const char *run, unsigned long long sto
     unsigned long long out = number_at(&at), number = number_at(&at);
     const unsigned long long step = number_at(&at);
     const size_t length = (size_t)(strchr(at, '\n') - at);
-    check(out == lines->count + 1 && step <= 1, run, "a run begins where the one before it ends");
+    check_of(out == lines->count + 1 && step <= 1, run, "a run begins where the one before it ends");
     while (out < stop && lines->count < MOST_LINES) {
         add_line(lines, at, length, number);
         number += step;
@@ -148,7 +139,7 @@ static rdlpp_outcome read_mapped(const rdlpp_request *request, size_t room, size
             output_lines += begins != 0;
             begins = out[at] == '\n';
         }
-        check(length + mapped.map_length < most, shows, "there is room for the map");
+        check_of(length + mapped.map_length < most, shows, "there is room for the map");
         memcpy(all + length, map, mapped.map_length);
         length += mapped.map_length;
         if (mapped.outcome.status != RDLPP_MORE) {
@@ -191,11 +182,11 @@ static void compare_ways(const rdlpp_request *request, size_t most, const char *
     start_lines(&mapped);
     outcome = read_pieces(request, 65536, shows, &whole);
     other = read_pieces(request, 3, shows, &cut);
-    check(outcome.status == other.status && outcome.number == other.number, shows, "how the output ends in short parts");
-    check(are_same(&whole, &cut), shows, "the places of short parts");
+    check_of(outcome.status == other.status && outcome.number == other.number, shows, "how the output ends in short parts");
+    check_of(are_same(&whole, &cut), shows, "the places of short parts");
     other = read_mapped(request, 1000, most, shows, &mapped);
-    check(outcome.status == other.status && outcome.number == other.number, shows, "how the output ends with a map");
-    check(are_same(&whole, &mapped), shows, "the places of a map");
+    check_of(outcome.status == other.status && outcome.number == other.number, shows, "how the output ends with a map");
+    check_of(are_same(&whole, &mapped), shows, "the places of a map");
     drop_lines(&whole);
     drop_lines(&cut);
     drop_lines(&mapped);
@@ -224,23 +215,23 @@ static void maps_a_text(void)
     request.texts_length = 2;
     request.path = "m";
     request.path_length = 1;
-    check(rdlpp_open(&request, name, sizeof name, out, 0, &handle).status == RDLPP_WHOLE, "a text", "it opens");
+    check_of(rdlpp_open(&request, name, sizeof name, out, 0, &handle).status == RDLPP_WHOLE, "a text", "it opens");
     mapped = rdlpp_read_mapped(&handle, out, sizeof out, map, RDLPP_MAP_ROOM - 1, name, sizeof name, out, 0);
-    check(mapped.outcome.status == RDLPP_SHORT_MAP && mapped.map_length == 0 && mapped.outcome.length == 0, "a text", "a short map");
+    check_of(mapped.outcome.status == RDLPP_SHORT_MAP && mapped.map_length == 0 && mapped.outcome.length == 0, "a text", "a short map");
     mapped = rdlpp_read_mapped(&handle, out, sizeof out, map, sizeof map, name, sizeof name, out, 0);
-    check(mapped.outcome.status == RDLPP_WHOLE, "a text", "its output is whole");
-    check(mapped.map_length == strlen(wanted) && memcmp(map, wanted, strlen(wanted)) == 0, "a text", "its map");
+    check_of(mapped.outcome.status == RDLPP_WHOLE, "a text", "its output is whole");
+    check_of(mapped.map_length == strlen(wanted) && memcmp(map, wanted, strlen(wanted)) == 0, "a text", "its map");
     if (mapped.map_length != strlen(wanted) || memcmp(map, wanted, strlen(wanted)) != 0) {
         fprintf(stderr, "%.*s\n%.*s", (int)mapped.outcome.length, out, (int)mapped.map_length, map);
     }
     mapped = rdlpp_read_mapped(&handle, out, sizeof out, map, sizeof map, name, sizeof name, out, 0);
-    check(mapped.outcome.status == RDLPP_WHOLE && mapped.map_length == 0, "a text", "the end is told again");
+    check_of(mapped.outcome.status == RDLPP_WHOLE && mapped.map_length == 0, "a text", "the end is told again");
     rdlpp_close(&handle);
     mapped = rdlpp_read_mapped(&handle, out, sizeof out, map, sizeof map, name, sizeof name, out, 0);
-    check(mapped.outcome.status == RDLPP_CLOSED && mapped.map_length == 0, "a text", "a closed handle");
-    check(rdlpp_position(&handle, name, sizeof name).status == RDLPP_CLOSED, "a text", "a closed handle has no place");
-    check(rdlpp_definitions(&handle, out, sizeof out) == 0, "a text", "a closed handle has no definitions");
-    check(rdlpp_notes(&handle, out, sizeof out) == 0, "a text", "a closed handle has no notes");
+    check_of(mapped.outcome.status == RDLPP_CLOSED && mapped.map_length == 0, "a text", "a closed handle");
+    check_of(rdlpp_position(&handle, name, sizeof name).status == RDLPP_CLOSED, "a text", "a closed handle has no place");
+    check_of(rdlpp_definitions(&handle, out, sizeof out) == 0, "a text", "a closed handle has no definitions");
+    check_of(rdlpp_notes(&handle, out, sizeof out) == 0, "a text", "a closed handle has no notes");
 }
 
 /* Without `pieces` there is no place. */
@@ -253,10 +244,10 @@ static void has_no_place(void)
     request.texts_length = 2;
     request.path = "m";
     request.path_length = 1;
-    check(rdlpp_open(&request, name, sizeof name, out, 0, &handle).status == RDLPP_WHOLE, "no place", "it opens");
-    check(rdlpp_position(&handle, name, sizeof name).status == RDLPP_MORE, "no place", "before the first read");
-    check(rdlpp_read(&handle, out, 5, name, sizeof name, out, 0).status == RDLPP_MORE, "no place", "a read");
-    check(rdlpp_position(&handle, name, sizeof name).status == RDLPP_MORE, "no place", "without pieces");
+    check_of(rdlpp_open(&request, name, sizeof name, out, 0, &handle).status == RDLPP_WHOLE, "no place", "it opens");
+    check_of(rdlpp_position(&handle, name, sizeof name).status == RDLPP_MORE, "no place", "before the first read");
+    check_of(rdlpp_read(&handle, out, 5, name, sizeof name, out, 0).status == RDLPP_MORE, "no place", "a read");
+    check_of(rdlpp_position(&handle, name, sizeof name).status == RDLPP_MORE, "no place", "without pieces");
     rdlpp_close(&handle);
 }
 
@@ -273,20 +264,20 @@ static void tells_what_is_left(void)
     request.texts_length = 1;
     request.path = "m";
     request.path_length = 1;
-    check(rdlpp_open(&request, name, sizeof name, out, 0, &handle).status == RDLPP_WHOLE, "left", "it opens");
-    check(rdlpp_definitions(&handle, out, sizeof out) == 0, "left", "no definition at first");
-    check(rdlpp_notes(&handle, out, sizeof out) == 0, "left", "no notes at first");
-    check(rdlpp_read(&handle, out, sizeof out, name, sizeof name, out, 0).status == RDLPP_STOPPED, "left", "its fault");
+    check_of(rdlpp_open(&request, name, sizeof name, out, 0, &handle).status == RDLPP_WHOLE, "left", "it opens");
+    check_of(rdlpp_definitions(&handle, out, sizeof out) == 0, "left", "no definition at first");
+    check_of(rdlpp_notes(&handle, out, sizeof out) == 0, "left", "no notes at first");
+    check_of(rdlpp_read(&handle, out, sizeof out, name, sizeof name, out, 0).status == RDLPP_STOPPED, "left", "its fault");
     memset(out, '#', sizeof out);
     length = rdlpp_definitions(&handle, out, 4);
-    check(length == strlen(wanted) && memcmp(out, "`def#", 5) == 0, "left", "the front of the definitions");
+    check_of(length == strlen(wanted) && memcmp(out, "`def#", 5) == 0, "left", "the front of the definitions");
     length = rdlpp_definitions(&handle, out, sizeof out);
-    check(length == strlen(wanted) && memcmp(out, wanted, length) == 0 && out[length] == '#', "left", "the definitions");
+    check_of(length == strlen(wanted) && memcmp(out, wanted, length) == 0 && out[length] == '#', "left", "the definitions");
     memset(out, '#', sizeof out);
     length = rdlpp_notes(&handle, out, sizeof out);
-    check(length > 1 && length < sizeof out && out[length - 1] == '\n' && out[length] == '#', "left", "the notes are lines");
-    check(length > 2 && strncmp(out, "rdlpp: note: asked for 'no'\n", 28) == 0, "left", "the first note");
-    check(rdlpp_notes(&handle, out, 0) == length, "left", "their length alone");
+    check_of(length > 1 && length < sizeof out && out[length - 1] == '\n' && out[length] == '#', "left", "the notes are lines");
+    check_of(length > 2 && strncmp(out, "rdlpp: note: asked for 'no'\n", 28) == 0, "left", "the first note");
+    check_of(rdlpp_notes(&handle, out, 0) == length, "left", "their length alone");
     rdlpp_close(&handle);
 }
 

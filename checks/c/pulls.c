@@ -1,5 +1,6 @@
 /* Outputs whose sources are asked for: what a give answers, what it changes, and how searches go on. */
 #define _POSIX_C_SOURCE 199309L
+#include "checking.h"
 #include "rdlpp.h"
 
 #include <stdio.h>
@@ -8,16 +9,6 @@
 #include <time.h>
 
 #define ROOM 4096
-
-static int failures = 0;
-
-static void check(int holds, const char *what)
-{
-    if (!holds) {
-        fprintf(stderr, "pulls.c: not so: %s\n", what);
-        failures += 1;
-    }
-}
 
 static char name[1024], word[128], out[ROOM];
 

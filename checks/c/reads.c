@@ -1,4 +1,5 @@
 /* Outputs that are read piece by piece from C: every size of a buffer, faults, handles that are closed. */
+#include "checking.h"
 #include "rdlpp.h"
 
 #include <stdio.h>
@@ -6,16 +7,6 @@
 #include <string.h>
 
 #define ROOM 64
-
-static int failures = 0;
-
-static void check(int holds, const char *what)
-{
-    if (!holds) {
-        fprintf(stderr, "reads.c: not so: %s\n", what);
-        failures += 1;
-    }
-}
 
 /* What reads of a handle told: all bytes of the output, and how it ended. */
 struct read {

@@ -1,4 +1,5 @@
 /* Handles that are opened again: each output is as by a new handle, whatever was read by it before, and however that ended. */
+#include "checking.h"
 #include "rdlpp.h"
 
 #include <stdio.h>
@@ -6,16 +7,6 @@
 #include <string.h>
 
 #define ROOM 4096
-
-static int failures = 0;
-
-static void check(int holds, const char *what)
-{
-    if (!holds) {
-        fprintf(stderr, "reopens.c: not so: %s\n", what);
-        failures += 1;
-    }
-}
 
 /* What is told of a path that is asked for: nothing, or by one of these calls. */
 enum gives { NOTHING, TEXT, TEXT_ONCE, TEXT_FAILED };

@@ -1,5 +1,6 @@
 /* The rows of crates/rdlpp_rows/data, in one call, by reads of one and of seven bytes, with texts that are asked for, once or
    at each include, and by a handle that another row was read by, to its end or halfway; `calls` writes rows.inc. */
+#include "checking.h"
 #include "row.h"
 
 #include <stdio.h>
@@ -8,16 +9,6 @@
 
 #define NAME_ROOM 1024
 #define WORD_ROOM 128
-
-static int failures = 0;
-
-static void check(int holds, const struct row *row, const char *how)
-{
-    if (!holds) {
-        fprintf(stderr, "rows.c: %s: not so %s\n", row->shows, how);
-        failures += 1;
-    }
-}
 
 /* Whether a call or a read ended as its row has to, with that shown name and that word. */
 static int ends(const struct row *row, const rdlpp_outcome *outcome, const char *name, const char *word)
@@ -35,8 +26,8 @@ static void calls_once(const struct row *row, char *out)
     char name[NAME_ROOM], word[WORD_ROOM];
     const rdlpp_request request = asked(row);
     const rdlpp_outcome outcome = rdlpp_preprocess(&request, out, row->output_length, name, sizeof name, word, sizeof word);
-    check(ends(row, &outcome, name, word), row, "how one call ends");
-    check(outcome.length == row->output_length && memcmp(out, row->output, row->output_length) == 0, row, "its output");
+    check_of(ends(row, &outcome, name, word), row->shows, "how one call ends");
+    check_of(outcome.length == row->output_length && memcmp(out, row->output, row->output_length) == 0, row->shows, "its output");
 }
 
 /* The text of the row at a path, if it has one. */
@@ -60,7 +51,7 @@ static void give(gives *by, const struct row *row, rdlpp_handle *handle, const c
     const rdlpp_text *text = find_text(row, path, length);
     const uint32_t status = text != NULL ? by(handle, path, length, text->text, text->text_length)
                                          : rdlpp_give_absent(handle, path, length);
-    check(status == RDLPP_WHOLE, row, "what a give answers");
+    check_of(status == RDLPP_WHOLE, row->shows, "what a give answers");
 }
 
 /* Opens a handle, again where it is open, and reads so many bytes at a time; where there is a call that gives texts, each is given
@@ -86,8 +77,8 @@ static void reads_by(rdlpp_handle *handle, const struct row *row, char *out, siz
             }
         } while ((outcome.status == RDLPP_MORE || outcome.status == RDLPP_WANTED) && length <= row->output_length);
     }
-    check(ends(row, &outcome, name, word), row, "how reads end");
-    check(length == row->output_length && memcmp(out, row->output, row->output_length) == 0, row, "what reads give");
+    check_of(ends(row, &outcome, name, word), row->shows, "how reads end");
+    check_of(length == row->output_length && memcmp(out, row->output, row->output_length) == 0, row->shows, "what reads give");
 }
 
 static void reads(const struct row *row, char *out, size_t room, gives *by, bool pieces)
