@@ -3,14 +3,20 @@ ghost use Rattle.std.specs.Prelude.{◌≡◌, ℕ, Bool, true, false, List, Opt
 ghost use Rattle.std.specs.Io.KnownBytes.{Appends};
 
 use crate::engine::{Engine, OpenSource};
+use rdlpp_scan::line_ends_in;
 use rdlpp_source::Sources;
 use rdlpp_state::{LineStep, Position};
 use rdlpp_table::Table;
 
-/// What tells the place of the first byte of a piece, where that is asked for.
+/// What tells the place of the first byte of a piece, and its line ends, where these are asked for.
 pub trait Placed {
     /// The place; one without a name, on line 0, where the piece has none.
     fn place(&self) -> Position<'_>;
+
+    /// How many LF bytes the piece has, whose bytes are `piece`.
+    fn line_ends(&self, piece: &[u8]) -> u64 {
+        line_ends_in(piece) as u64
+    }
 }
 
 impl<S: Sources> Placed for Engine<S> {
@@ -23,6 +29,15 @@ impl<S: Sources> Placed for Engine<S> {
                 line: 0,
                 step: LineStep::Same,
             },
+        }
+    }
+
+    // Those of text of a source were counted as it was read.
+    #[inline(always)]
+    fn line_ends(&self, piece: &[u8]) -> u64 {
+        match self.passed_lines() {
+            Some(lines) => lines.min(piece.len() as u64),
+            None => line_ends_in(piece) as u64,
         }
     }
 }

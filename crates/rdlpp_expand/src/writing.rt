@@ -9,7 +9,7 @@ ghost use Rattle.rdlpp_state.specs.Moves.{IsDrained};
 ghost use Rattle.rdlpp_state.specs.Steps.{IsStarted};
 
 use crate::engine::{Engine, OpenSource, TextStep};
-use crate::watching::{Unwatched, Watcher};
+use crate::watching::{Placed, Unwatched, Watcher};
 use rdlpp_meaning::Fault;
 use rdlpp_source::{Sink, Sources};
 use rdlpp_state::Piece;
@@ -201,27 +201,48 @@ fn write_rest<W: Sink>(writer: &mut W, part: &[u8]) -> PartWritten
 
 // Shows a watcher what the writer took of a piece, where it looks.
 #[inline(always)]
-fn show<S: Sources, V: Watcher>(engine: &Engine<S>, watcher: &mut V, part: &[u8])
+fn show<S: Sources, V: Watcher>(engine: &Engine<S>, watcher: &mut V, part: &[u8], is_whole: bool)
     ensures looks { V.looks watcher.new ≡ V.looks watcher.old }
     ensures seen { V.looks watcher.old ≡ true → Appends (V.seen watcher.old) (V.seen watcher.new) part.now }
     ensures blind { V.looks watcher.old ≡ false → watcher.new ≡ watcher.old }
 {
     if watcher.is_looking() {
-        show_part(engine, watcher, part);
+        show_part(engine, watcher, part, is_whole);
     }
 }
 
 // Shows a watcher what the writer took of a piece, where that isn't nothing. A piece with bytes has a place. It stands apart, so
 // that a run that nobody watches has no more of it than the test.
 #[inline(never)]
-fn show_part<S: Sources, V: Watcher>(engine: &Engine<S>, watcher: &mut V, part: &[u8])
+fn show_part<S: Sources, V: Watcher>(
+    engine: &Engine<S>,
+    watcher: &mut V,
+    part: &[u8],
+    is_whole: bool,
+)
     ensures looks { V.looks watcher.new ≡ V.looks watcher.old }
     ensures seen { Appends (V.seen watcher.old) (V.seen watcher.new) part.now }
 {
     if part.is_empty() {
         return;
     }
-    watcher.saw(part, engine);
+    if is_whole {
+        watcher.saw(part, engine);
+    } else {
+        show_front(engine, watcher, part);
+    }
+}
+
+// Shows a watcher the front of a piece, behind which a write failed: what the engine knows of the piece is of all of it, but for its
+// place.
+#[cold]
+#[inline(never)]
+fn show_front<S: Sources, V: Watcher>(engine: &Engine<S>, watcher: &mut V, part: &[u8])
+    ensures looks { V.looks watcher.new ≡ V.looks watcher.old }
+    ensures seen { Appends (V.seen watcher.old) (V.seen watcher.new) part.now }
+{
+    let place = engine.place();
+    watcher.saw(part, &place);
 }
 
 // Tells a watcher of the `define` that was read in the last step, if one was, where it looks.
@@ -269,7 +290,7 @@ fn write_shown<S: Sources, W: Sink, V: Watcher>(
     ensures shows { Shows W.Sink V.Watcher writer.old writer.new watcher.old watcher.new }
 {
     let written = write_part(writer, part);
-    show(engine, watcher, &part[..written.len]);
+    show(engine, watcher, &part[..written.len], !written.failed);
     written
 }
 

@@ -8,7 +8,6 @@ use crate::writing::{write_parts, write_whole};
 use arrayvec::ArrayString;
 use itoa::Buffer;
 use rdlpp_expand::Placed;
-use rdlpp_scan::line_ends_in;
 use rdlpp_state::{LineStep, Position};
 use std::io::{self, Write};
 use std::marker::Model;
@@ -96,12 +95,17 @@ impl MappedLines {
     /// Takes the next piece of the output, and asks for the place of its first byte where a line begins in it. Answers whether a
     /// run ended, which is then `ended`: a piece ends one at most.
     pub fn take<P: Placed>(&mut self, piece: &[u8], placed: &P) -> bool {
-        let Some((last, front)) = piece.split_last() else {
+        let Some(last) = piece.last() else {
             return false;
         };
-        let more = line_ends_in(front) as u64;
+        let line_ends = placed.line_ends(piece);
         let is_first = !self.begun;
         self.begun = *last != b'\n';
+        let more = if self.begun {
+            line_ends
+        } else {
+            line_ends.saturating_sub(1)
+        };
         if more == 0 && !is_first {
             return false;
         }

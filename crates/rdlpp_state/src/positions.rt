@@ -1,5 +1,5 @@
 // Where pieces of the output stand in the sources.
-ghost use Rattle.std.specs.Prelude.{◌≡◌, ◌<◌, ◌^◌};
+ghost use Rattle.std.specs.Prelude.{◌≡◌, ◌<◌, ◌^◌, IfSome};
 ghost use Rattle.rdlpp_read.specs.Files.{shift_of};
 ghost use Rattle.rdlpp_state.specs.Marks.{ends_line, lends_line, lends_pending, lends_usage, marked_place, no_marks, told_position};
 
@@ -129,6 +129,17 @@ impl Marks {
         self.ending = line_ends != 0;
         self.name = name;
         self.line = line;
+    }
+
+    /// The physical line of the innermost source on which the piece begins that was lent last, where it is text of that source
+    /// or the LF bytes that end lines of it.
+    pub fn source_line(&self) -> Option<u64>
+        ensures { IfSome result (λ line. self.now.lent ≡ Lent.Line line) }
+    {
+        match self.lent {
+            Lent::Line(line) => Some(line),
+            _ => None,
+        }
     }
 
     /// The place of the piece that was lent last, where the innermost source shows a name and numbers its

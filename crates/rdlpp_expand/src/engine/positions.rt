@@ -44,6 +44,19 @@ impl<S: Sources> Engine<S> {
         self.marks.position(file.name.as_str(), &file.shift)
     }
 
+    // How many lines of the innermost source end in the piece that was lent last, where it is text of that source and no limit cut
+    // it: they were counted as it was read. Of the LF bytes that are pending it may be only the first that are lent.
+    #[tactic(auto, unfolding(rdlpp_state::specs::Engine::is_open))]
+    #[inline(always)]
+    pub(crate) fn passed_lines(&self) -> Option<u64> {
+        if self.phase != Phase::Open {
+            return None;
+        }
+        let line = self.marks.source_line()?;
+        self.facts();
+        Some(self.files.file().buffer.line().saturating_sub(line))
+    }
+
     // Takes out the first piece of what is pending, and marks its place.
     pub(super) fn take_pending(&mut self) -> Option<PendingPiece>
         requires { 0 < length self.old.files.include_stack }
