@@ -7,7 +7,7 @@ use Rattle.rdlpp_state.specs.Opening.{Starts, fresh_engine}
 use Rattle.rdlpp_state.specs.declared.phase.Phase.TheVariants.{Closed, Fresh}
 use Rattle.rdlpp_expand.specs.Reading.{ReadingView, unstarted}
 use Rattle.rdlpp.specs.Definitions.{GivenFault, Taken, given_in, with_macros}
-use Rattle.rdlpp.specs.Opening.{OpensGiven}
+use Rattle.rdlpp.specs.Opening.{EndsUnopened, OpensGiven}
 use Rattle.rdlpp.specs.Preprocess.{given_by}
 use Rattle.rdlpp.specs.Renewing.{HasLimitsOf}
 use Rattle.rdlpp.specs.Running.{MakesEngine}
@@ -53,6 +53,16 @@ pub redeclines : {S R : Type 0} (options : Options) (sources : S) (renewed : Rea
 redeclines {S} {R} options sources renewed f is d =
     let fresh : EngineView S R = fresh_engine options.limits sources options.origins in
     declines options.limits options.defines.items options.origins sources fresh f refl (given_again options fresh renewed is ∙ d)
+
+-- it has the macros in front of that one, and is at its end
+pub unopened : {S R : Type 0} (options : Options) (sources : S) (renewed given_to : ReadingView S R)
+    → renewed ≡ unstarted (fresh_engine options.limits sources options.origins)
+    → given_to ≡ record { engine = with_macros renewed.engine given_to.engine.table.macros; rest = [] } → EndsUnopened options sources given_to
+unfolding unstarted
+unopened {S} {R} options sources renewed given_to is only = record {
+  macros = given_to.engine.table.macros;
+  ends = only ∙ ap (λ (r : ReadingView S R). record { engine = with_macros r.engine given_to.engine.table.macros; rest = [] }) is;
+}
 
 -- it was given definitions and started
 pub reopens_given : {S R : Type 0} (g : Ghosts S R) (options : Options) (sources : S) (path : List ℕ) (renewed given_to started : ReadingView S R) (opening : Option Report)

@@ -1,9 +1,9 @@
 // Definitions from outside.
-ghost use Rattle.std.specs.Prelude.{◌≡◌};
+ghost use Rattle.std.specs.Prelude.{◌≡◌, [], OnErr};
 ghost use Rattle.rdlpp_meaning.specs.Outcome.{report_of};
 ghost use Rattle.rdlpp_state.specs.Engine.{EngineView};
 ghost use Rattle.rdlpp_state.specs.declared.phase.Phase.TheVariants as phase;
-ghost use Rattle.rdlpp.specs.Definitions.{AreGiven, refused_definition};
+ghost use Rattle.rdlpp.specs.Definitions.{AreGiven, refused_definition, with_macros};
 
 use arrayvec::ArrayString;
 use rdlpp_expand::{Engine, Fault, Reading, RunFault, fault_kind};
@@ -39,7 +39,8 @@ pub(crate) fn define_all_again<S: Sources>(
     defines: &[(String, String)],
 ) -> Result<(), RunFault>
     requires { reading.old.engine.phase ≡ phase.Closed }
-    ensures { AreGiven reading.old.engine reading.new.engine defines.now result }
+    ensures given { AreGiven reading.old.engine reading.new.engine defines.now result }
+    ensures refused { OnErr result (reading.new ≡ record { engine = with_macros reading.old.engine reading.new.engine.table.macros; rest = [] }) }
 {
     for (index, (name, text)) in defines.iter().enumerate() {
         if let Err(fault) = reading.define(name.as_bytes(), text.as_bytes()) {

@@ -2,8 +2,7 @@
 ghost use Rattle.std.specs.Prelude.{◌≡◌};
 ghost use Rattle.rdlpp.specs.Preprocess.{Preprocesses, Tells, output_of};
 
-use crate::running::run_fresh;
-use crate::{Options, PrepFault, new_engine};
+use crate::{Options, PrepFault, new_engine, run_watched_from};
 use rdlpp_expand::{Engine, Unwatched};
 use rdlpp_source::{Sink, Sources};
 use std::alloc::Global;
@@ -62,7 +61,7 @@ impl<S: Sources> Preprocessor<S> {
     {
         if let Some(engine) = &mut self.engine {
             let _before = engine.renew(sources, self.options.origins);
-            return run_fresh(engine, &self.options, path, writer, &mut Unwatched {});
+            return run_watched_from(engine, &self.options, path, writer, &mut Unwatched {});
         }
         self.preprocess_first(sources, path, writer)
     }
@@ -85,7 +84,7 @@ impl<S: Sources> Preprocessor<S> {
             Ok(engine) => engine,
             Err(fault) => return Err(fault),
         };
-        let outcome = run_fresh(&mut engine, &self.options, path, writer, &mut Unwatched {});
+        let outcome = run_watched_from(&mut engine, &self.options, path, writer, &mut Unwatched {});
         self.engine = Some(engine);
         outcome
     }

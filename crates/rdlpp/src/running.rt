@@ -32,29 +32,12 @@ pub fn new_engine<S: Sources>(
 /// Does with the engine that `new_engine` made what `preprocess` does, and shows a watcher what the writer takes (this project's
 /// profile).
 ///
-/// The engine must be as `new_engine` made it of these options. Answers the count of bytes that the writer took, `u64::MAX` where
-/// it is larger.
+/// The engine must be as `new_engine` made it of these options, and keeps its limits. Answers the count of bytes that the writer
+/// took, `u64::MAX` where it is larger.
 ///
 /// # Errors
 /// As of `preprocess`, but for those of `new_engine`.
 pub fn run_watched_from<S: Sources, W: Sink, V: Watcher>(
-    engine: &mut Engine<S>,
-    options: &Options,
-    path: &str,
-    writer: &mut W,
-    watcher: &mut V,
-) -> Result<u64, PrepFault>
-    requires { IsFreshOf options.now engine.old }
-    ensures outcome { RunsFrom S.Sources W.Sink options.now engine.old engine.new path.now writer.old writer.new result }
-    ensures output { S.has_known_texts engine.old.sources →
-        Tells (W.taken writer.old) (W.taken writer.new) (output_of S.Sources options.now engine.old.sources path.now) result }
-    ensures shows { Shows W.Sink V.Watcher writer.old writer.new watcher.old watcher.new }
-{
-    run_fresh(engine, options, path, writer, watcher)
-}
-
-// Does what `run_watched_from` does; the engine keeps its limits, also where a definition is refused.
-pub(crate) fn run_fresh<S: Sources, W: Sink, V: Watcher>(
     engine: &mut Engine<S>,
     options: &Options,
     path: &str,

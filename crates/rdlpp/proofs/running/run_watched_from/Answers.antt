@@ -5,7 +5,7 @@ use Rattle.rdlpp.specs.Preprocess.{given_by}
 use Rattle.rdlpp_state.specs.Opening.{fresh_engine}
 use Rattle.rdlpp_expand.specs.Run.{count_of, fault_of}
 use Rattle.rdlpp.proofs.Runs.{follows_from, follows_of, follows_output, refused_from}
-use Rattle.rdlpp.proofs.running.run_fresh.Goals as goal
+use Rattle.rdlpp.proofs.running.run_watched_from.Goals as goal
 
 pub define_all-requires : goal.define_all-requires
 unfolding fresh_engine
