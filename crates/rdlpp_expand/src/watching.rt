@@ -37,9 +37,15 @@ impl<S: Sources> Placed for Engine<S> {
     fn line_ends(&self, piece: &[u8]) -> u64 {
         match self.passed_lines() {
             Some(lines) => lines.min(piece.len() as u64),
-            None => line_ends_in(piece) as u64,
+            None => counted_line_ends(piece),
         }
     }
+}
+
+// How many LF bytes the text of a usage has. It stands apart, so that text of a source, whose line ends are known, passes none of it.
+#[inline(never)]
+fn counted_line_ends(piece: &[u8]) -> u64 {
+    line_ends_in(piece) as u64
 }
 
 impl Placed for Position<'_> {

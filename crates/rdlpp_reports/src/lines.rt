@@ -143,6 +143,7 @@ impl MappedLines {
     }
 
     // Adds so many lines, of which the first one's place is the line behind a position by its step. Answers whether a run ended.
+    #[inline(always)]
     fn add_lines(&mut self, position: &Position<'_>, count: u64) -> bool {
         let name = position.name;
         let step = position.step;
