@@ -3,15 +3,14 @@ use Rattle.std.proofs.Common.{◌≡◌, ℕ, Bool, true, false, ◌||◌, List,
 use Rattle.std.specs.List.{list_any}
 use Rattle.std.specs.Str.{is_utf8}
 use Rattle.rdlpp_scan.specs.Bytes.{is_line_end}
-use Rattle.rdlpp_scan.specs.Defines.{HoldsDefine}
 use Rattle.rdlpp_scan.specs.Front.{Breach, Front, StringOpen}
 use Rattle.rdlpp_scan.specs.Lines.{EndsLine, ended_line_len}
 use Rattle.rdlpp_scan.specs.Resumed.{line_with, onto_tokens, opening as opening_token, with_part}
-use Rattle.rdlpp_scan.specs.SourceTokens.{Broken, Definition, Ordinary, Renumbering, Sort, SourceToken, broken, line_ends, line_len, open_end, remaining_tokens, source_end, source_tokens}
+use Rattle.rdlpp_scan.specs.SourceTokens.{Broken, Definition, Ordinary, Renumbering, Sort, SourceToken, broken, line_ends, open_end, remaining_tokens, source_end, source_tokens}
 use Rattle.rdlpp_scan.specs.TokenKinds.{is_ordinary}
 use Rattle.rdlpp_scan.specs.Tokens.{token_of}
 use Rattle.rdlpp_scan.specs.declared.token.Directive.{Directive}
-use Rattle.rdlpp_scan.specs.declared.token.Directive.TheVariants.{Endif, Ifdef, Ifndef, Include, Line}
+use Rattle.rdlpp_scan.specs.declared.token.Directive.TheVariants.{Endif, Ifdef, Ifndef, Include}
 use Rattle.rdlpp_scan.specs.declared.token.Kind.{Kind}
 use Rattle.rdlpp_scan.specs.declared.token.Kind.TheVariants.{BareBackquote, Blank, Str}
 use Rattle.rdlpp_scan.specs.declared.token.Mode.{Mode}
@@ -31,22 +30,20 @@ use Rattle.rdlpp_meaning.specs.Parts.{argument_of, after_blanks, after_directive
 use Rattle.rdlpp_meaning.specs.Resumed.{Live, Skipped}
 use Rattle.rdlpp_meaning.specs.State.{LongPath, NoSource, Rules, Source, State, breach_kind, fault_at, shown_line}
 use Rattle.rdlpp_meaning.specs.declared.fault.FaultKind.TheVariants.{IncludeName, OpenConditional, PathTooLong, SourceNotFound, TooManyIncludes}
-use Rattle.rdlpp_meaning.proofs.Directives.{all_resumed_after, all_resumed_fails, all_resumed_include, blank_token, include_bad_name, include_long_path, include_nameless, include_not_found, include_too_deep, line_token, opens_conditional, string_token, takes_string_at_once, takes_string_after_blanks, wants_name}
+use Rattle.rdlpp_meaning.proofs.Directives.{all_resumed_after, all_resumed_fails, all_resumed_include, blank_token, include_bad_name, include_long_path, include_nameless, include_not_found, include_too_deep, opens_conditional, string_token, takes_string_at_once, takes_string_after_blanks, wants_name}
 use Rattle.rdlpp_meaning.proofs.Skipping.{bare_skipped, directive_word, has_own_token, is_skipped, resumed_skipped, resumed_skipped_broken, skipped_unclosed, stands_by_itself, usage_skipped}
 use Rattle.rdlpp_meaning.proofs.Moves.{word_moves}
 use Rattle.rdlpp_meaning.proofs.Outcomes.{after_bytes-nil}
 use Rattle.rdlpp_read.specs.Arguments.{Closes, ClosesString, IsClosedString, IsLead, Lacks, Leads, Opens as OpensString}
-use Rattle.rdlpp_read.specs.Buffer.{BufferView, consumed, held_of, rest_of, tokens_left}
+use Rattle.rdlpp_read.specs.Buffer.{BufferView, held_of, rest_of, tokens_left}
 use Rattle.rdlpp_read.specs.Files.{consumed_file}
 use Rattle.rdlpp_read.specs.Filling.{Fills, ended_tokens, only_broken}
-use Rattle.rdlpp_read.specs.LogicalLines.{HoldsLine}
-use Rattle.rdlpp_read.specs.declared.buffer.extending.LogicalLine.TheVariants.{Whole}
 use Rattle.rdlpp_read.specs.declared.buffer.filling.Fill.TheVariants as fill
 use Rattle.rdlpp_read.specs.declared.files.File.{File}
 use Rattle.rdlpp_read.proofs.BufferTokens.{ends_line}
 use Rattle.rdlpp_front.specs.SourceItems.{HasString, IsDirective, IsUsage, LacksString, argument_name, include_name, usage_name, word_of}
-use Rattle.rdlpp_front.specs.SourceLeft.{HoldsFront, source_left, with_file_buffer}
-use Rattle.rdlpp_front.proofs.TextLeft.{consumed_used, counted, line_buffer, line_text, not_counted, usage_text, usage_tokens}
+use Rattle.rdlpp_front.specs.SourceLeft.{HoldsFront, source_left}
+use Rattle.rdlpp_front.proofs.TextLeft.{counted, not_counted, usage_text, usage_tokens}
 use Rattle.rdlpp_front.proofs.NamedDirectives.{GivenInFront, IsGiven, blank_lead, given_in_front_of, given_of, gone_blanks, gone_word, nothing_in_front_of, nothing_tokens, refused_move, stands_bare, word_at, word_directive, word_token, word_tokens}
 use Rattle.rdlpp_front.proofs.Insides.{all_resumed_after_fails, tokens_plain, tokens_used, used_buffer}
 
@@ -126,27 +123,6 @@ module _ {R : Type 0} (rules : Rules) (unread : R → List ℕ) (ws : List Waiti
       one_skipped (word_token d f.buffer.line) b (word_tokens d unread f.buffer word holds mode is) (word_skipped d f.buffer.line word alone)
       ∙ ap (λ (x : List ℕ). after_bytes (line_ends_of x) (left_of (only_blanks f.blanks x) b))
       (sym (word_at d (held_of f.buffer) (rest_of unread f.buffer) holds.some (ends_line unread f.buffer holds.ends) is))
-
-  -- a `line` is skipped with its line
-  pub skipped_line_left : HoldsFront f.buffer → f.buffer.mode ≡ Plain → IsDirective Line (held_of f.buffer) → source_left rules unread ws (Skipped n p os) f s
-      ≡ after_bytes (line_ends_of (line_text (held_of f.buffer)))
-      (source_left rules unread ws (Skipped n p os) (consumed_file (line_len (held_of f.buffer)) (line_ends (line_text (held_of f.buffer))) f) s)
-  unfolding source_left is_skipped
-  skipped_line_left holds mode is =
-      let w = line_text (held_of f.buffer) in
-      one_skipped (line_token w f.buffer.line) (used_buffer f.buffer (line_len (held_of f.buffer)) (line_ends w)) (line_buffer unread f.buffer holds mode is) refl
-
-  -- a `define` is skipped with its logical line
-  pub skipped_define_left : (has_known_texts : Type 0) (new : BufferView R) (len lines : ℕ) → HoldsLine has_known_texts unread (Whole len) f.buffer new → has_known_texts → f.buffer.mode ≡ Plain
-      → HoldsDefine (held_of f.buffer) (rest_of unread f.buffer) → lines ≡ line_ends (take len (held_of new))
-      → source_left rules unread ws (Skipped n p os) f s
-      ≡ after_bytes (line_ends_of (take len (held_of new)))
-      (source_left rules unread ws (Skipped n p os) (consumed_file len lines (with_file_buffer new f)) s)
-  unfolding source_left is_skipped
-  skipped_define_left has_known_texts new len lines line t mode holds count =
-      let w = take len (held_of new) in
-      one_skipped (record { sort = Definition; bytes = w; line = f.buffer.line }) (consumed new len) (line.define t mode holds) refl
-      ∙ ap (λ (b : BufferView R). after_bytes (line_ends_of w) (left_of (only_blanks f.blanks w) b)) (consumed_used new len lines count)
 
 -- What the words of conditionals in front do in skipped text, where they open or branch a conditional that is skipped whole,
 -- and what broken tokens and its end do there.

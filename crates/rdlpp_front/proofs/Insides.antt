@@ -8,7 +8,7 @@ use Rattle.rdlpp_scan.specs.Front.{Breach}
 use Rattle.rdlpp_scan.specs.Names.{directive_named}
 use Rattle.rdlpp_scan.specs.Reserved.{is_reserved}
 use Rattle.rdlpp_scan.specs.Resumed.{opening}
-use Rattle.rdlpp_scan.specs.SourceTokens.{Broken, Definition, Ordinary, SourceToken, line_ends, remaining_tokens}
+use Rattle.rdlpp_scan.specs.SourceTokens.{Broken, Ordinary, SourceToken, line_ends, remaining_tokens}
 use Rattle.rdlpp_scan.specs.Tokens.{first_place, plain_len, plain_token, stops_plain_text, string_token, token_of, whole}
 use Rattle.rdlpp_scan.specs.declared.token.Directive.{Directive}
 use Rattle.rdlpp_scan.specs.declared.token.Directive.TheVariants.{Define, Else, Elsif, Endif, Ifdef, Ifndef, Include, Line, Undef}
@@ -21,18 +21,18 @@ use Rattle.rdlpp_scan.proofs.RemainingLaws.{IsOpenKind, plain_token-run, remaini
 use Rattle.rdlpp_scan.proofs.TokenLens.{first_place-le, list_all-prefix, plain_len-found, token_of-part}
 use Rattle.rdlpp_scan.proofs.SourceLaws.{line_ends-cons}
 use Rattle.rdlpp_scan.proofs.StopKinds.{AtBack, AtBare, AtBlockComment, AtLineComment, AtPerl, AtPlain, AtString, Row, block_token-kind, string_token-kind, token_of-row}
-use Rattle.rdlpp_table.specs.Table.{Macro, macro_named}
+use Rattle.rdlpp_table.specs.Table.{macro_named}
 use Rattle.rdlpp_meaning.specs.Expansion.{bytes_of, is_copied, usage_token}
 use Rattle.rdlpp_meaning.specs.Meaning.{Passage, Progress, after_bytes, goes_on, leaves, refusal}
 use Rattle.rdlpp_meaning.specs.Opened.{Waiting, all_resumed, unwound}
 use Rattle.rdlpp_meaning.specs.Outcome.{Report, fails}
 use Rattle.rdlpp_meaning.specs.Parts.{Command, directive_of, line_ends_of, only_blanks}
 use Rattle.rdlpp_meaning.specs.Resumed.{Live, Place, Skipped, resumed}
-use Rattle.rdlpp_meaning.specs.State.{Accepted, DefinitionFault, Rules, State, breach_kind, fault_at}
+use Rattle.rdlpp_meaning.specs.State.{Rules, State, breach_kind, fault_at}
 use Rattle.rdlpp_meaning.specs.declared.fault.FaultKind.{FaultKind}
 use Rattle.rdlpp_meaning.specs.declared.fault.FaultKind.TheVariants.{BareBackquote as LoneBackquote, UndefinedMacro}
 use Rattle.rdlpp_meaning.proofs.Directives.{all_resumed_after, all_resumed_fails, after_bytes-goes_on}
-use Rattle.rdlpp_meaning.proofs.LiveText.{resumed_bare, resumed_broken, resumed_broken_parts, resumed_copied, resumed_copied_parts, resumed_defined, resumed_refused, resumed_undefined}
+use Rattle.rdlpp_meaning.proofs.LiveText.{resumed_bare, resumed_broken, resumed_broken_parts, resumed_copied, resumed_copied_parts, resumed_undefined}
 use Rattle.rdlpp_meaning.proofs.Outcomes.{after_bytes-nil, fails-goes_on}
 use Rattle.rdlpp_meaning.proofs.Skipping.{all_copied_skipped, resumed_skipped, resumed_skipped_broken, resumed_skipped_broken_parts, resumed_skipped_parts}
 use Rattle.rdlpp_read.specs.Arguments.{IsLead, Lacks, Leads, NoName, NoString}
@@ -490,24 +490,6 @@ module _ (rules : Rules) (ws : List Waiting) (os : List Progress) (first : Bool)
   all_resumed_undefined name line more s r e =
       all_resumed_fails rules ws (Live os) first (usage_token name line ∷ more) s s (fault_at UndefinedMacro line name s)
       (resumed_undefined rules os first name line more s r e)
-
-  -- a `define` that is accepted gives its LF bytes and changes the macros
-  pub all_resumed_defined : (bytes : List ℕ) (line : ℕ) (more : List SourceToken) (s : State) (macros : List Macro)
-      → rules.define s.macros (drop 7 bytes) ≡ Accepted macros
-      → all_resumed rules ws (Live os) first (record { sort = Definition; bytes = bytes; line = line } ∷ more) s
-      ≡ after_bytes (line_ends_of bytes) (all_resumed rules ws (Live os) (only_blanks first bytes) more (record s { macros = macros }))
-  all_resumed_defined bytes line more s macros e =
-      all_resumed_after rules ws (Live os) (Live os) first (only_blanks first bytes) (record { sort = Definition; bytes = bytes; line = line } ∷ more) more s
-      (record s { macros = macros }) (line_ends_of bytes) (resumed_defined rules os first bytes line more s macros e)
-
-  -- a `define` that is refused is a fault
-  pub all_resumed_bad_define : (bytes : List ℕ) (line : ℕ) (more : List SourceToken) (s : State) (kind : FaultKind) (word : List ℕ)
-      → rules.define s.macros (drop 7 bytes) ≡ DefinitionFault kind word
-      → all_resumed rules ws (Live os) first (record { sort = Definition; bytes = bytes; line = line } ∷ more) s
-      ≡ leaves (fails (fault_at kind line word s)) s
-  all_resumed_bad_define bytes line more s kind word e =
-      all_resumed_fails rules ws (Live os) first (record { sort = Definition; bytes = bytes; line = line } ∷ more) s s (fault_at kind line word s)
-      (resumed_refused rules os first bytes line more s kind word e)
 
 -- What a place among conditionals writes of text that is copied in live text: there its bytes, and in skipped text their LF bytes.
 

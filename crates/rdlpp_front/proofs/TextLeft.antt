@@ -10,7 +10,7 @@ use Rattle.rdlpp_scan.specs.Front.{Breach, DefineCut, DefineLong, PerlFound}
 use Rattle.rdlpp_scan.specs.Lines.{EndsLine, ended_line_len}
 use Rattle.rdlpp_scan.specs.Reserved.{is_reserved, reserved_names}
 use Rattle.rdlpp_scan.specs.Resumed.{line_with, onto_tokens, opening, with_part}
-use Rattle.rdlpp_scan.specs.SourceTokens.{Broken, Ordinary, SourceToken, is_continued, line_ends, line_len, logical_len, remaining_tokens}
+use Rattle.rdlpp_scan.specs.SourceTokens.{Broken, Ordinary, SourceToken, is_continued, line_ends, line_len, logical_len, remaining_tokens, Definition, Renumbering}
 use Rattle.rdlpp_scan.specs.Tokens.{plain_len, token_of}
 use Rattle.rdlpp_scan.specs.declared.token.Directive.TheVariants.{Define, Line}
 use Rattle.rdlpp_scan.specs.declared.token.Kind.{Kind}
@@ -23,17 +23,19 @@ use Rattle.rdlpp_scan.proofs.SourceLaws.{line_len-le, line_len-open, line_len-so
 use Rattle.rdlpp_scan.proofs.RemainingLaws.{Breaks, Copies, GoesThrough, Resumes, perl_in_string, remaining-back, remaining-bare, remaining-closed, remaining-cut_string, remaining-in_comment, remaining-in_string, remaining-line, remaining-open_comment, remaining-open_string, remaining-opened, remaining-ordinary, remaining-perl, remaining-perl_in_string}
 use Rattle.rdlpp_scan.proofs.Seams.{BeforePerl, Closed, OpenComment, OpenString, Seam, token_of-seam}
 use Rattle.rdlpp_scan.proofs.StopKinds.{block_token-kind}
-use Rattle.rdlpp_table.specs.Table.{Macro, macro_named}
+use Rattle.rdlpp_table.specs.Table.{macro_named}
 use Rattle.rdlpp_meaning.specs.Expansion.{is_copied, usage_token}
-use Rattle.rdlpp_meaning.specs.Meaning.{Passage, Progress, Renumbered, after_bytes, leaves, origin_line, renumbered, unclosed}
+use Rattle.rdlpp_meaning.specs.Meaning.{Passage, Progress, after_bytes, leaves, unclosed}
 use Rattle.rdlpp_meaning.specs.Opened.{Waiting, all_resumed, unwound}
+use Rattle.rdlpp_meaning.specs.Moves.{is_move, move_of, moves_on}
 use Rattle.rdlpp_meaning.specs.Outcome.{fails}
-use Rattle.rdlpp_meaning.specs.Parts.{line_ends_of, only_blanks, pieces}
+use Rattle.rdlpp_meaning.specs.Parts.{line_ends_of, only_blanks, pieces, Command, argument_of, directive_of}
 use Rattle.rdlpp_meaning.specs.Resumed.{Live, Place, Skipped, resume, resumed}
-use Rattle.rdlpp_meaning.specs.State.{Accepted, DefinitionFault, Rules, State, breach_kind, fault_at}
+use Rattle.rdlpp_meaning.specs.State.{Rules, State, breach_kind, fault_at}
 use Rattle.rdlpp_meaning.specs.declared.fault.FaultKind.{FaultKind}
-use Rattle.rdlpp_meaning.specs.declared.fault.FaultKind.TheVariants.{BadLine, LineTooLong, OpenConditional, SourceTooLong, UndefinedMacro}
-use Rattle.rdlpp_meaning.proofs.Directives.{all_resumed_after, all_resumed_fails, line_token, renumbered_state, resumed_bad_line, resumed_late_line, resumed_renumbered}
+use Rattle.rdlpp_meaning.specs.declared.fault.FaultKind.TheVariants.{LineTooLong, OpenConditional, SourceTooLong, UndefinedMacro}
+use Rattle.rdlpp_meaning.proofs.Moves.{whole_moves}
+use Rattle.rdlpp_meaning.proofs.Directives.{all_resumed_fails, line_token}
 use Rattle.rdlpp_meaning.proofs.Outcomes.{all_plain_copied, after_bytes-nil, goes_on-nil}
 use Rattle.rdlpp_meaning.proofs.Skipping.{live_unclosed}
 use Rattle.rdlpp_meaning.proofs.LiveText.{none_of_words}
@@ -50,7 +52,7 @@ use Rattle.rdlpp_read.specs.declared.files.File.{File}
 use Rattle.rdlpp_read.proofs.BufferTokens.{ends_line}
 use Rattle.rdlpp_front.specs.SourceItems.{AtBare, AtOrdinary, AtPerl, AtToken, IsDirective, IsRefused, IsText, IsUsage, is_text_kind, usage_name, word_of}
 use Rattle.rdlpp_front.specs.SourceLeft.{HoldsFront, source_left, with_file_buffer}
-use Rattle.rdlpp_front.proofs.Insides.{Writes, all_resumed_bad_define, all_resumed_bare, all_resumed_defined, all_resumed_only_broken, all_resumed_undefined, back_front, back_text, live_writes, open_copied, skipped_writes, tokens_entered, tokens_plain, tokens_used, used_buffer, word_len, writes_one}
+use Rattle.rdlpp_front.proofs.Insides.{Writes, all_resumed_bare, all_resumed_only_broken, all_resumed_undefined, back_front, back_text, live_writes, open_copied, skipped_writes, tokens_entered, tokens_plain, tokens_used, used_buffer, word_len, writes_one}
 
 -- What text that is copied does to what remains: ordinary text, and a string or a comment, or the part of one that is held.
 
@@ -370,34 +372,21 @@ pub consumed_used : {R : Type 0} (b : BufferView R) (len lines : ℕ) → lines 
 unfolding consumed
 consumed_used b len lines e = ap (λ (n : ℕ). used_buffer b len n) (sym e)
 
+-- a `define` whose logical line is held comes to what that does
+pub define_moves : {R : Type 0} (rules : Rules) (unread : R → List ℕ) (ws : List Waiting) (place : Place) (f : File R) (s : State) (has_known_texts : Type 0) (new : BufferView R) (len lines : ℕ)
+    → HoldsLine has_known_texts unread (Whole len) f.buffer new → has_known_texts → f.buffer.mode ≡ Plain → HoldsDefine (held_of f.buffer) (rest_of unread f.buffer) → lines ≡ line_ends (take len (held_of new))
+    → let c : Command = record { word = Define; given = None; text = take len (held_of new); line = f.buffer.line; first = f.blanks } in
+    source_left rules unread ws place f s ≡ moves_on (move_of rules c place s) f.buffer.line s (λ p t. source_left rules unread ws p (consumed_file len lines (with_file_buffer new f)) t)
+unfolding source_left directive_of argument_of is_move
+define_moves rules unread ws place f s has_known_texts new len lines line t mode holds count =
+    let w = take len (held_of new) in
+    let c : Command = record { word = Define; given = None; text = w; line = f.buffer.line; first = f.blanks } in
+    ap (λ (ts : List SourceToken). all_resumed rules ws place f.blanks ts s) (line.define t mode holds)
+    ∙ whole_moves rules ws place Define f.blanks Definition w f.buffer.line (tokens_left unread (consumed new len)) s refl refl refl
+    ∙ ap (λ (b : BufferView _). moves_on (move_of rules c place s) f.buffer.line s (λ p u. all_resumed rules ws p (only_blanks f.blanks w) (tokens_left unread b) u)) (consumed_used new len lines count)
+
 module _ {R : Type 0} (rules : Rules) (unread : R → List ℕ) (ws : List Waiting) (os : List Progress) (f : File R) (s : State)
     (has_known_texts : Type 0) (new : BufferView R) where
-  -- a `define` that is accepted gives its LF bytes and changes the macros
-  pub define_left : (len lines : ℕ) (macros : List Macro) → HoldsLine has_known_texts unread (Whole len) f.buffer new → has_known_texts → f.buffer.mode ≡ Plain
-      → HoldsDefine (held_of f.buffer) (rest_of unread f.buffer)
-      → rules.define s.macros (drop 7 (take len (held_of new))) ≡ Accepted macros → lines ≡ line_ends (take len (held_of new))
-      → source_left rules unread ws (Live os) f s
-      ≡ after_bytes (line_ends_of (take len (held_of new)))
-      (source_left rules unread ws (Live os) (consumed_file len lines (with_file_buffer new f)) (record s { macros = macros }))
-  unfolding source_left
-  define_left len lines macros line t mode holds e count =
-      let w = take len (held_of new) in
-      let after = record s { macros = macros } in
-      ap (λ (ts : List SourceToken). all_resumed rules ws (Live os) f.blanks ts s) (line.define t mode holds)
-      ∙ all_resumed_defined rules ws os f.blanks w f.buffer.line (tokens_left unread (consumed new len)) s macros e
-      ∙ ap (λ (b : BufferView R). after_bytes (line_ends_of w) (all_resumed rules ws (Live os) (only_blanks f.blanks w) (tokens_left unread b) after))
-      (consumed_used new len lines count)
-
-  -- a `define` that is refused is a fault
-  pub define_refused_left : (len : ℕ) (kind : FaultKind) (word : List ℕ) → HoldsLine has_known_texts unread (Whole len) f.buffer new → has_known_texts → f.buffer.mode ≡ Plain
-      → HoldsDefine (held_of f.buffer) (rest_of unread f.buffer)
-      → rules.define s.macros (drop 7 (take len (held_of new))) ≡ DefinitionFault kind word
-      → source_left rules unread ws (Live os) f s ≡ leaves (fails (fault_at kind f.buffer.line word s)) s
-  unfolding source_left
-  define_refused_left len kind word line t mode holds e =
-      ap (λ (ts : List SourceToken). all_resumed rules ws (Live os) f.blanks ts s) (line.define t mode holds)
-      ∙ all_resumed_bad_define rules ws os f.blanks (take len (held_of new)) f.buffer.line (tokens_left unread (consumed new len)) s kind word e
-
   -- a `define` whose logical line has too many bytes is a fault
   pub define_long_left : HoldsLine has_known_texts unread TooLong f.buffer new → has_known_texts → f.buffer.mode ≡ Plain
       → HoldsDefine (held_of f.buffer) (rest_of unread f.buffer)
@@ -548,51 +537,16 @@ line_buffer unread b holds mode is =
     is.kind other also
     ∙ ap (λ (ts : List SourceToken). line_token (line_text held) b.line ∷ ts) (tokens_used unread b n (line_ends (line_text held)) b.line mode)
 
-module _ {R : Type 0} (rules : Rules) (unread : R → List ℕ) (ws : List Waiting) (os : List Progress) (f : File R) (s : State)
-    (holds : HoldsFront f.buffer) (mode : f.buffer.mode ≡ Plain) (is : IsDirective Line (held_of f.buffer)) where
-  -- the tokens behind a `line`
-  abbrev more : List SourceToken
-  more = tokens_left unread (used_buffer f.buffer (line_len (held_of f.buffer)) (line_ends (line_text (held_of f.buffer))))
-
-  -- what remains at a `line`
-  line_here : source_left rules unread ws (Live os) f s ≡ all_resumed rules ws (Live os) f.blanks (line_token (line_text (held_of f.buffer)) f.buffer.line ∷ more) s
-  unfolding source_left
-  line_here = ap (λ (ts : List SourceToken). all_resumed rules ws (Live os) f.blanks ts s) (line_buffer unread f.buffer holds mode is)
-
-  -- a `line` before which only blanks stand, and which gives a number and a name
-  pub renumbered_left : (r : Renumbered) → f.blanks ≡ true → renumbered (drop 5 (line_text (held_of f.buffer))) ≡ Some r
-      → source_left rules unread ws (Live os) f s
-      ≡ after_bytes (line_ends_of (line_text (held_of f.buffer)) ++ origin_line rules r.name r.number)
-      (source_left rules unread ws (Live os) (consumed_file (line_len (held_of f.buffer)) (line_ends (line_text (held_of f.buffer))) f) (renumbered_state s r f.buffer.line))
-  unfolding source_left
-  renumbered_left r first e =
-      let w = line_text (held_of f.buffer) in
-      let after = renumbered_state s r f.buffer.line in
-      let x = line_ends_of w ++ origin_line rules r.name r.number in
-      line_here
-      ∙ ap (λ (b : Bool). all_resumed rules ws (Live os) b (line_token w f.buffer.line ∷ more) s) first
-      ∙ all_resumed_after rules ws (Live os) (Live os) true (only_blanks true w) (line_token w f.buffer.line ∷ more) more s after x
-      (resumed_renumbered rules os w f.buffer.line more s r e)
-      ∙ ap (λ (b : Bool). after_bytes x (all_resumed rules ws (Live os) (only_blanks b w) more after)) (sym first)
-
-  -- a `line` that gives none is a fault
-  pub bad_line_left : renumbered (drop 5 (line_text (held_of f.buffer))) ≡ None
-      → source_left rules unread ws (Live os) f s ≡ leaves (fails (fault_at BadLine f.buffer.line [] s)) s
-  bad_line_left e =
-      let w = line_text (held_of f.buffer) in
-      line_here
-      ∙ all_resumed_fails rules ws (Live os) f.blanks (line_token w f.buffer.line ∷ more) s s (fault_at BadLine f.buffer.line [] s)
-      (resumed_bad_line rules os f.blanks w f.buffer.line more s e)
-
-  -- and so is one behind anything but blanks
-  pub late_line_left : f.blanks ≡ false
-      → source_left rules unread ws (Live os) f s ≡ leaves (fails (fault_at BadLine f.buffer.line [] s)) s
-  late_line_left late =
-      let w = line_text (held_of f.buffer) in
-      line_here
-      ∙ ap (λ (b : Bool). all_resumed rules ws (Live os) b (line_token w f.buffer.line ∷ more) s) late
-      ∙ all_resumed_fails rules ws (Live os) false (line_token w f.buffer.line ∷ more) s s (fault_at BadLine f.buffer.line [] s)
-      (resumed_late_line rules os w f.buffer.line more s)
+-- a `line` comes to what its line gives
+pub line_moves : {R : Type 0} (rules : Rules) (unread : R → List ℕ) (ws : List Waiting) (place : Place) (f : File R) (s : State) → HoldsFront f.buffer → f.buffer.mode ≡ Plain → IsDirective Line (held_of f.buffer)
+    → let c : Command = record { word = Line; given = None; text = line_text (held_of f.buffer); line = f.buffer.line; first = f.blanks } in
+    source_left rules unread ws place f s
+    ≡ moves_on (move_of rules c place s) f.buffer.line s (λ p t. source_left rules unread ws p (consumed_file (line_len (held_of f.buffer)) (line_ends (line_text (held_of f.buffer))) f) t)
+unfolding source_left directive_of argument_of is_move
+line_moves rules unread ws place f s holds mode is =
+    let w = line_text (held_of f.buffer) in
+    ap (λ (ts : List SourceToken). all_resumed rules ws place f.blanks ts s) (line_buffer unread f.buffer holds mode is)
+    ∙ whole_moves rules ws place Line f.blanks Renumbering w f.buffer.line (tokens_left unread (used_buffer f.buffer (line_len (held_of f.buffer)) (line_ends w))) s refl refl refl
 
 -- What a `line` is given, by what stands behind its word.
 

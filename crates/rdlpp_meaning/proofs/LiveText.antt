@@ -1,5 +1,5 @@
 -- Laws of tokens, usages and runs in live text.
-use Rattle.std.proofs.Common.{◌≡◌, ℕ, zero, suc, true, List, [], ◌∷◌, refl, ap, ◌∙◌, Option, Some, Bool, None, false, map, drop, ◌||◌, ◌++◌, sym, append-nil, ◌&&◌, ◌≤◌, length, take, arith, bytes_eq, nat_le, unwrap_or, take-append-drop}
+use Rattle.std.proofs.Common.{◌≡◌, ℕ, zero, suc, true, List, [], ◌∷◌, refl, ap, ◌∙◌, Option, Some, Bool, None, false, map, drop, ◌||◌, ◌++◌, sym, ◌&&◌, ◌≤◌, length, take, arith, bytes_eq, nat_le, unwrap_or, take-append-drop}
 use Rattle.std.specs.List.{AllByRecursion, list_all, list_any}
 use Rattle.std.proofs.lemmas.Bool.{and_parts, or_parts}
 use Rattle.std.proofs.lemmas.Grind.{flat_map-append}
@@ -9,19 +9,19 @@ use Rattle.rdlpp_scan.specs.Front.{Breach}
 use Rattle.rdlpp_scan.specs.Reserved.{is_reserved, reserved_names}
 use Rattle.rdlpp_scan.specs.SourceTokens.{Broken, Definition, Ordinary, Renumbering, Sort, SourceToken}
 use Rattle.rdlpp_scan.specs.declared.token.Directive.{Directive}
-use Rattle.rdlpp_scan.specs.declared.token.Directive.TheVariants.{Define, Else, Elsif, Endif, Ifdef, Ifndef}
+use Rattle.rdlpp_scan.specs.declared.token.Directive.TheVariants.{Else, Elsif, Endif, Ifdef, Ifndef}
 use Rattle.rdlpp_scan.specs.declared.token.Kind.{Kind}
 use Rattle.rdlpp_scan.specs.declared.token.Kind.TheVariants.{Back, BareBackquote}
-use Rattle.rdlpp_table.specs.Table.{Macro, macro_named}
+use Rattle.rdlpp_table.specs.Table.{macro_named}
 use Rattle.rdlpp_meaning.specs.Actuals.{Halt, Role, item_reads, token_role}
 use Rattle.rdlpp_meaning.specs.CallScan.{Before, Inside, ScanFault as RefusedCall, Scanned, CallState, call_of, call_of_scan, fault_at_end, room_after, scan, scanned, source_role, call_state_after, turn, turn_before, turn_inside}
 use Rattle.rdlpp_meaning.specs.Expansion.{Opens, UsageFault, Usage, bytes_of, expand, is_copied, name_of, run_outcome, usage_of, usage_token, walk}
 use Rattle.rdlpp_meaning.specs.Items.{Item, Written}
-use Rattle.rdlpp_meaning.specs.Meaning.{IncludedMeaning, Passage, Progress, after_bytes, defines, goes_on, leaves, included_meaning_of, refusal, single}
+use Rattle.rdlpp_meaning.specs.Meaning.{IncludedMeaning, Passage, Progress, after_bytes, goes_on, leaves, included_meaning_of}
 use Rattle.rdlpp_meaning.specs.Outcome.{Outcome, Report, and_then, fails, gives}
-use Rattle.rdlpp_meaning.specs.Parts.{Branching, Closing, Command, Opening, Piece, Run, Single, argument_of, command_of, directive_named, directive_of, joined, line_ends_of, no_argument, only_blanks, piece_of, pieces}
+use Rattle.rdlpp_meaning.specs.Parts.{Branching, Closing, Command, Opening, Piece, Run, Single, argument_of, command_of, directive_named, directive_of, joined, line_ends_of, only_blanks, piece_of, pieces}
 use Rattle.rdlpp_meaning.specs.Resumed.{Live, leading, resume, resumed, trailing}
-use Rattle.rdlpp_meaning.specs.State.{Accepted, Defined, DefinitionFault, Rules, State, breach_kind, fault_at}
+use Rattle.rdlpp_meaning.specs.State.{Rules, State, breach_kind, fault_at}
 use Rattle.rdlpp_meaning.specs.Substitution.{substituted}
 use Rattle.rdlpp_meaning.specs.declared.fault.FaultKind.{FaultKind}
 use Rattle.rdlpp_meaning.specs.declared.fault.FaultKind.TheVariants.{BareBackquote as NoName, DepthPassed, UndefinedMacro}
@@ -214,18 +214,6 @@ pub broken_writes : (rules : Rules) (s : State) (b : Breach) (bytes : List ℕ) 
 unfolding Writes run_outcome walk and_then gives fails
 broken_writes rules s b bytes line us =
     expand_walk rules s rules.depth None [] (Written (record { sort = Broken b; bytes = bytes; line = line }) ∷ map Written us)
-
--- a `define` as a directive
-abbrev pub define_command : Bool → List ℕ → ℕ → Command
-define_command first bytes line = record { word = Define; given = None; text = bytes; line = line; first = first }
-
--- a `define` in front of tokens is a piece
-pub define_piece : (first : Bool) (bytes : List ℕ) (line : ℕ) (more : List SourceToken)
-    → pieces first 0 (record { sort = Definition; bytes = bytes; line = line } ∷ more)
-    ≡ Single (define_command first bytes line) ∷ pieces (only_blanks first bytes) 0 more
-unfolding pieces directive_of argument_of no_argument command_of piece_of
-define_piece first bytes line more =
-    ap (λ (x : List ℕ). Single (define_command first x line) ∷ pieces (only_blanks first bytes) 0 more) (append-nil bytes)
 
 -- the LF bytes of bytes and then bytes
 pub line_ends_of-append : (x y : List ℕ) → line_ends_of (x ++ y) ≡ line_ends_of x ++ line_ends_of y
@@ -562,37 +550,3 @@ resumed_broken_parts rules os first b x y line more s =
     resumed_broken rules os first b (x ++ y) line more s
     ∙ sym (after_bytes-twice x y p)
     ∙ ap (λ (q : Passage). after_bytes x q) (sym (resumed_broken rules os (only_blanks first x) b y line more s))
-
--- a `define` in front of what remains, by what it comes to
-resumed_define : (rules : Rules) (os : List Progress) (first : Bool) (bytes : List ℕ) (line : ℕ) (more : List SourceToken) (s : State) (d : Defined)
-    → rules.define s.macros (drop 7 bytes) ≡ d
-    → resumed rules (Live os) first (record { sort = Definition; bytes = bytes; line = line } ∷ more) s
-    ≡ goes_on (defines d (define_command first bytes line) s)
-    (λ after. resume rules (included_meaning_of rules s.sources_left) (Live os) (pieces (only_blanks first bytes) 0 more) after)
-unfolding resumed resume single
-resumed_define rules os first bytes line more s d e =
-    let next : State → Passage = λ after. resume rules (included_meaning_of rules s.sources_left) (Live os) (pieces (only_blanks first bytes) 0 more) after in
-    ap (λ (ps : List Piece). resume rules (included_meaning_of rules s.sources_left) (Live os) ps s) (define_piece first bytes line more)
-    ∙ ap (λ (x : Defined). goes_on (defines x (define_command first bytes line) s) next) e
-
--- a `define` that is accepted gives its LF bytes, and then what remains behind it with its macros
-pub resumed_defined : (rules : Rules) (os : List Progress) (first : Bool) (bytes : List ℕ) (line : ℕ) (more : List SourceToken) (s : State) (macros : List Macro)
-    → rules.define s.macros (drop 7 bytes) ≡ Accepted macros
-    → resumed rules (Live os) first (record { sort = Definition; bytes = bytes; line = line } ∷ more) s
-    ≡ after_bytes (line_ends_of bytes) (resumed rules (Live os) (only_blanks first bytes) more (record s { macros = macros }))
-unfolding defines resumed
-resumed_defined rules os first bytes line more s macros e =
-    resumed_define rules os first bytes line more s (Accepted macros) e
-    ∙ goes_on-gives (line_ends_of bytes) (record s { macros = macros })
-    (λ after. resume rules (included_meaning_of rules s.sources_left) (Live os) (pieces (only_blanks first bytes) 0 more) after)
-
--- a `define` that is refused ends its source
-pub resumed_refused : (rules : Rules) (os : List Progress) (first : Bool) (bytes : List ℕ) (line : ℕ) (more : List SourceToken) (s : State) (kind : FaultKind) (word : List ℕ)
-    → rules.define s.macros (drop 7 bytes) ≡ DefinitionFault kind word
-    → resumed rules (Live os) first (record { sort = Definition; bytes = bytes; line = line } ∷ more) s
-    ≡ leaves (fails (fault_at kind line word s)) s
-unfolding defines refusal
-resumed_refused rules os first bytes line more s kind word e =
-    resumed_define rules os first bytes line more s (DefinitionFault kind word) e
-    ∙ fails-goes_on (fault_at kind line word s) s
-    (λ after. resume rules (included_meaning_of rules s.sources_left) (Live os) (pieces (only_blanks first bytes) 0 more) after)

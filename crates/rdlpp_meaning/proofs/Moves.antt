@@ -1,12 +1,12 @@
 -- The law that what remains at a directive is what the directive comes to, and then what remains behind it, whatever waits around its source.
-use Rattle.std.proofs.Common.{◌≡◌, ℕ, zero, suc, Bool, true, false, List, [], ◌∷◌, ◌++◌, drop, if◌then◌else◌, refl, ap, ◌∙◌, Option, None, Some}
-use Rattle.rdlpp_scan.specs.SourceTokens.{SourceToken}
+use Rattle.std.proofs.Common.{◌≡◌, ℕ, zero, suc, Bool, true, false, List, [], ◌∷◌, ◌++◌, drop, if◌then◌else◌, append-nil, refl, ap, ◌∙◌, Option, None, Some}
+use Rattle.rdlpp_scan.specs.SourceTokens.{Sort, SourceToken}
 use Rattle.rdlpp_scan.specs.declared.token.Directive.{Directive}
 use Rattle.rdlpp_scan.specs.declared.token.Directive.TheVariants.{Define, Else, Elsif, Endif, Ifdef, Ifndef, Include, Line, Undef}
 use Rattle.rdlpp_meaning.specs.Meaning.{Checked, Fine, Holds, NameFault, Passage, Progress, Renumbered, Test, TestFault, after_bytes, by_test, defines, goes_on, in_conditional, included_meaning_of, leaves, macro_name, opening, origin_line, past_conditional, refusal, renumbered, renumbers, single, skipped_command, turn, undefines}
 use Rattle.rdlpp_meaning.specs.Opened.{Waiting, all_resumed}
 use Rattle.rdlpp_meaning.specs.Outcome.{fails, gives}
-use Rattle.rdlpp_meaning.specs.Parts.{Command, Piece, after_directive, command_in_front, command_of, directive_of, line_ends_of, only_blanks, piece_of, pieces}
+use Rattle.rdlpp_meaning.specs.Parts.{Argument, Command, Piece, after_directive, argument_of, no_argument, command_in_front, command_of, directive_of, line_ends_of, only_blanks, piece_of, pieces}
 use Rattle.rdlpp_meaning.specs.Resumed.{Live, Place, Skipped, resume, resumed}
 use Rattle.rdlpp_meaning.specs.State.{Accepted, Defined, DefinitionFault, Rules, State, fault_at}
 use Rattle.rdlpp_meaning.specs.declared.fault.FaultKind.TheVariants.{BadLine}
@@ -97,6 +97,19 @@ directive_moves rules ws place d first t ts s e m =
     let rest = pieces (only_blanks first c.text) 0 (after_directive d ts) in
     source_moves rules ws place first (t ∷ ts) (only_blanks first c.text) (after_directive d ts) s t.line (move_of rules c place s)
     (directive_piece rules place d first t ts s (piece_of c) e refl ∙ piece_moves rules d c.given c.text t.line first place rest s m)
+
+-- so it is at one that has a token of its own, with all that it takes
+pub whole_moves : (rules : Rules) (ws : List Waiting) (place : Place) (d : Directive) (first : Bool) (sort : Sort) (w : List ℕ) (line : ℕ) (ts : List SourceToken) (s : State)
+    → directive_of (record { sort = sort; bytes = w; line = line }) ≡ Some d → argument_of d ts ≡ no_argument → is_move d ≡ true
+    → let c : Command = record { word = d; given = None; text = w; line = line; first = first } in
+    all_resumed rules ws place first (record { sort = sort; bytes = w; line = line } ∷ ts) s ≡ moves_on (move_of rules c place s) line s (λ new u. all_resumed rules ws new (only_blanks first w) ts u)
+unfolding command_of no_argument
+whole_moves rules ws place d first sort w line ts s e none is =
+    let t : SourceToken = record { sort = sort; bytes = w; line = line } in
+    let at : Command → List SourceToken → Passage = λ c us. moves_on (move_of rules c place s) line s (λ new u. all_resumed rules ws new (only_blanks first c.text) us u) in
+    directive_moves rules ws place d first t ts s e is
+    ∙ ap (λ (a : Argument). at (command_of d first t a) (drop a.used ts)) none
+    ∙ ap (λ (x : List ℕ). at (record { word = d; given = None; text = x; line = line; first = first }) ts) (append-nil w)
 
 -- of such a directive the word is looked at alone, since what it is given is skipped as text
 pub word_moves : (rules : Rules) (ws : List Waiting) (n m : ℕ) (o : Progress) (os : List Progress) (d : Directive) (first : Bool) (t : SourceToken) (ts : List SourceToken) (s : State) → directive_of t ≡ Some d → is_move d ≡ true

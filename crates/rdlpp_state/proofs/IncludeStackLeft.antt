@@ -14,9 +14,10 @@ use Rattle.rdlpp_meaning.specs.Moves.{in_branch}
 use Rattle.rdlpp_meaning.specs.Meaning.{Passage, Progress, after_bytes, leaves}
 use Rattle.rdlpp_meaning.specs.Opened.{Waiting, unwound}
 use Rattle.rdlpp_meaning.specs.Outcome.{fails, gives}
-use Rattle.rdlpp_meaning.specs.Parts.{line_ends_of}
+use Rattle.rdlpp_meaning.specs.Moves.{define_move, move_of, moves_on, single_move}
+use Rattle.rdlpp_meaning.specs.Parts.{Command, line_ends_of}
 use Rattle.rdlpp_meaning.specs.Resumed.{Live, Place, Skipped}
-use Rattle.rdlpp_meaning.specs.State.{Accepted, DefinitionFault, Rules, breach_kind, fault_at}
+use Rattle.rdlpp_meaning.specs.State.{Accepted, Defined, DefinitionFault, Rules, breach_kind, fault_at}
 use Rattle.rdlpp_meaning.specs.declared.fault.FaultKind.{FaultKind}
 use Rattle.rdlpp_meaning.specs.declared.fault.FaultKind.TheVariants as fault
 use Rattle.rdlpp_conditions.specs.Conditions.{ConditionsView, own_conditions, place_by, place_of}
@@ -32,7 +33,7 @@ use Rattle.rdlpp_read.proofs.BufferTokens.{ends_mid_line_after-append}
 use Rattle.rdlpp_front.specs.SourceItems.{IsDirective, IsRefused, IsText, IsUsage, usage_name}
 use Rattle.rdlpp_front.specs.SourceLeft.{HoldsFront, source_left, with_file_buffer}
 use Rattle.rdlpp_front.proofs.DirectivesLeft.{skipped_broken_left}
-use Rattle.rdlpp_front.proofs.TextLeft.{broken_left, define_cut_left, define_left, define_long_left, define_refused_left, ended_left, filled_left, held_left, holds_define, refused_left, text_left as text_law, undefined_left}
+use Rattle.rdlpp_front.proofs.TextLeft.{broken_left, define_cut_left, define_long_left, define_moves, ended_left, filled_left, held_left, holds_define, refused_left, text_left as text_law, undefined_left}
 use Rattle.rdlpp_state.specs.OpenConditionals.{AreBelow, AreConditions, inner_below, outer_open}
 use Rattle.rdlpp_state.specs.Remaining.{ending_after, file_state, include_stack_left, include_stack_state, waiting_around}
 
@@ -325,20 +326,33 @@ module _ {R : Type 0} (limits : Limits) (rules : Rules) (unread : R → List ℕ
           (record { some = some; ends = ends }) refused)
 
       module _ (has_known_texts : Type 0) (t : has_known_texts) where
+        -- what remains of the innermost source at a `define`, by what its logical line does
+        include_stack_define : (f : File R) (outer : List (File R)) (new : BufferView R) (len lines : ℕ) (d : Defined) → HoldsFront f.buffer → f.buffer.mode ≡ Plain → IsDirective Define (held_of f.buffer)
+            → HoldsLine has_known_texts unread (line.Whole len) f.buffer new → lines ≡ line_ends (take len (held_of new)) → rules.define macros (drop 7 (take len (held_of new))) ≡ d
+            → (let c : Command = record { word = Define; given = None; text = take len (held_of new); line = f.buffer.line; first = f.blanks } in
+            let place = Live (own_conditions f.conditions_below v) in
+            let s = include_stack_state limits macros v (f ∷ outer) in
+            source_left rules unread (around f outer) place f s
+            ≡ moves_on (define_move d c place s) f.buffer.line s (λ p u. source_left rules unread (around f outer) p (consumed_file len lines (with_file_buffer new f)) u))
+        unfolding include_stack_state file_state move_of single_move
+        include_stack_define f outer new len lines d h plain define holds counted is =
+            let c : Command = record { word = Define; given = None; text = take len (held_of new); line = f.buffer.line; first = f.blanks } in
+            let place = Live (own_conditions f.conditions_below v) in
+            let s = include_stack_state limits macros v (f ∷ outer) in
+            define_moves rules unread (around f outer) place f s has_known_texts new len lines holds t plain (holds_define unread f h define) counted
+            ∙ ap (λ (x : Defined). moves_on (define_move x c place s) f.buffer.line s (λ p u. source_left rules unread (around f outer) p (consumed_file len lines (with_file_buffer new f)) u)) is
+
         -- a `define` that is accepted
         pub include_stack_defined : (include_stack : List (File R)) (new : BufferView R) (len lines : ℕ) (now : List Macro) → 0 < length (held_of (inner_buffer include_stack)) → EndsHeld (inner_buffer include_stack)
             → (inner_buffer include_stack).mode ≡ Plain → IsDirective Define (held_of (inner_buffer include_stack)) → HoldsLine has_known_texts unread (line.Whole len) (inner_buffer include_stack) new
             → rules.define macros (drop 7 (take len (held_of new))) ≡ Accepted now → lines ≡ line_ends (take len (held_of new))
             → include_stack_left limits rules unread macros v include_stack
             ≡ after_bytes (line_ends_of (take len (held_of new))) (include_stack_left limits rules unread now v (with_inner (consumed_file len lines) (with_buffer new include_stack)))
-        unfolding include_stack_state file_state
+        unfolding include_stack_state file_state define_move moves_on
         include_stack_defined [] new len lines now some ends plain define holds accepted counted = absurd (none_held R some)
         include_stack_defined (f ∷ outer) new len lines now some ends plain define holds accepted counted =
-            let h : HoldsFront f.buffer = record { some = some; ends = ends } in
             let held = with_file_buffer new f in
-            moved_live f (consumed_file len lines held) outer now _
-            (define_left rules unread (around f outer) (own_conditions f.conditions_below v) f (include_stack_state limits macros v (f ∷ outer)) has_known_texts new len lines now
-            holds t plain (holds_define unread f h define) accepted counted)
+            moved_live f (consumed_file len lines held) outer now _ (include_stack_define f outer new len lines (Accepted now) (record { some = some; ends = ends }) plain define holds counted accepted)
             (ends_mid_line_consumed unread held len lines ∙ ap (ends_mid_line_after f.ends_mid_line) (holds.text (λ e. cc) t)) refl refl
 
         -- a `define` that is refused
@@ -346,12 +360,10 @@ module _ {R : Type 0} (limits : Limits) (rules : Rules) (unread : R → List ℕ
             → (inner_buffer include_stack).mode ≡ Plain → IsDirective Define (held_of (inner_buffer include_stack)) → HoldsLine has_known_texts unread (line.Whole len) (inner_buffer include_stack) new
             → rules.define macros (drop 7 (take len (held_of new))) ≡ DefinitionFault kind word
             → include_stack_left limits rules unread macros v include_stack ≡ leaves (fails (fault_at kind (inner_buffer include_stack).line word (include_stack_state limits macros v include_stack))) (include_stack_state limits macros v include_stack)
-        unfolding include_stack_left include_stack_state file_state
+        unfolding include_stack_left include_stack_state file_state define_move moves_on
         include_stack_refused_define [] new len kind word some ends plain define holds refused = absurd (none_held R some)
         include_stack_refused_define (f ∷ outer) new len kind word some ends plain define holds refused =
-            let h : HoldsFront f.buffer = record { some = some; ends = ends } in
-            at_live f outer _ (define_refused_left rules unread (around f outer) (own_conditions f.conditions_below v) f (include_stack_state limits macros v (f ∷ outer)) has_known_texts new len kind word
-            holds t plain (holds_define unread f h define) refused)
+            at_live f outer _ (include_stack_define f outer new len _ (DefinitionFault kind word) (record { some = some; ends = ends }) plain define holds refl refused)
 
         -- a `define` that is too long
         pub include_stack_long_define : (include_stack : List (File R)) (new : BufferView R) → 0 < length (held_of (inner_buffer include_stack)) → EndsHeld (inner_buffer include_stack)

@@ -1,16 +1,18 @@
 -- A `line` in the open sources, as a step of the engine.
-use Rattle.std.proofs.Common.{◌≡◌, ℕ, suc, ◌≤◌, ◌<◌, Bool, true, false, List, [], length, None, Some, Ok, refl, sym, ap, subst, ◌∙◌, arith, ◌+◌, ◌∷◌, take, ◌++◌, drop, length-take-le}
+use Rattle.std.proofs.Common.{◌≡◌, ℕ, suc, ◌≤◌, ◌<◌, Bool, true, false, List, [], length, Option, None, Some, Ok, refl, sym, ap, subst, ◌∙◌, arith, ◌+◌, ◌∷◌, take, ◌++◌, drop, length-take-le}
 use Rattle.arrayvec.specs.declared.array_string.ArrayString.{ArrayString}
 use Rattle.rdlpp_scan.specs.SourceTokens.{line_ends, line_len}
 use Rattle.rdlpp_scan.specs.declared.token.Directive.TheVariants.{Line}
 use Rattle.rdlpp_scan.specs.declared.token.Mode.TheVariants.{Plain}
 use Rattle.rdlpp_table.specs.Table.{Macro}
 use Rattle.rdlpp_table.specs.declared.limits.Limits.{Limits}
-use Rattle.rdlpp_meaning.specs.Meaning.{Passage, Renumbered, after_bytes, leaves, origin_line, renumbered}
+use Rattle.rdlpp_meaning.specs.Meaning.{Passage, Progress, Renumbered, after_bytes, leaves, origin_line, renumbered}
+use Rattle.rdlpp_meaning.specs.Moves.{Move, Stops, line_move, move_of, moves_on, single_move}
+use Rattle.rdlpp_meaning.specs.Opened.{Waiting}
 use Rattle.rdlpp_meaning.specs.Outcome.{fails}
-use Rattle.rdlpp_meaning.specs.Parts.{line_ends_of}
-use Rattle.rdlpp_meaning.specs.Resumed.{Live}
-use Rattle.rdlpp_meaning.specs.State.{Rules, fault_at, shown_line}
+use Rattle.rdlpp_meaning.specs.Parts.{Command, line_ends_of}
+use Rattle.rdlpp_meaning.specs.Resumed.{Live, Place}
+use Rattle.rdlpp_meaning.specs.State.{Rules, State, fault_at, shown_line}
 use Rattle.rdlpp_meaning.specs.declared.fault.FaultKind.TheVariants.{BadLine}
 use Rattle.rdlpp_source.specs.declared.sources.Sources.{Ghosts}
 use Rattle.rdlpp_conditions.specs.Conditions.{ConditionsView, own_conditions}
@@ -21,8 +23,8 @@ use Rattle.rdlpp_read.specs.declared.arguments.line.GivenLine.{GivenLine}
 use Rattle.rdlpp_read.specs.declared.files.File.{File}
 use Rattle.rdlpp_read.proofs.Growing.{line_ends_le}
 use Rattle.rdlpp_front.specs.SourceItems.{IsDirective}
-use Rattle.rdlpp_front.specs.SourceLeft.{source_left}
-use Rattle.rdlpp_front.proofs.TextLeft.{bad_line_left, given_text, late_line_left, line_right_after, line_text, renumbered_left}
+use Rattle.rdlpp_front.specs.SourceLeft.{HoldsFront, source_left}
+use Rattle.rdlpp_front.proofs.TextLeft.{given_text, line_moves, line_right_after, line_text}
 use Rattle.rdlpp_state.specs.Engine.{EngineView, IsSoundEngine}
 use Rattle.rdlpp_state.specs.Held.{IsBounded}
 use Rattle.rdlpp_state.specs.Lines.{Renumbers, inner_blanks, renumbered_file}
@@ -42,6 +44,28 @@ use Rattle.rdlpp_state.proofs.Soundness.{inner_facts}
 use Rattle.rdlpp_state.proofs.LentPieces.{pending_few, pending_with_origin}
 use Rattle.rdlpp_state.proofs.WorkFacts.{IsUsed, held_room, used_bytes}
 
+-- a `line` that gives no number and name is a fault
+bad_move : (rules : Rules) (x : Option Renumbered) (c : Command) (place : Place) (s : State) → x ≡ None → line_move rules x c place s ≡ Stops BadLine []
+unfolding line_move
+bad_move rules x c place s bad = rw bad refl
+
+-- and so is one behind anything but blanks, whatever it gives
+late_move : (rules : Rules) (x : Option Renumbered) (c : Command) (place : Place) (s : State) → c.first ≡ false → line_move rules x c place s ≡ Stops BadLine []
+unfolding line_move
+late_move rules None c place s late = refl
+late_move rules (Some r) c place s late = rw late refl
+
+-- what remains of a source at a `line`, by what its line gives
+line_comes : {R : Type 0} (rules : Rules) (unread : R → List ℕ) (ws : List Waiting) (os : List Progress) (f : File R) (s : State) (m : Move) → HoldsFront f.buffer → f.buffer.mode ≡ Plain → IsDirective Line (held_of f.buffer)
+    → (let c : Command = record { word = Line; given = None; text = line_text (held_of f.buffer); line = f.buffer.line; first = f.blanks } in
+    line_move rules (renumbered (drop 5 (line_text (held_of f.buffer)))) c (Live os) s ≡ m)
+    → source_left rules unread ws (Live os) f s
+    ≡ moves_on m f.buffer.line s (λ p u. source_left rules unread ws p (consumed_file (line_len (held_of f.buffer)) (line_ends (line_text (held_of f.buffer))) f) u)
+unfolding move_of single_move
+line_comes rules unread ws os f s m holds plain is comes =
+    line_moves rules unread ws (Live os) f s holds plain is
+    ∙ ap (λ (x : Move). moves_on x f.buffer.line s (λ p u. source_left rules unread ws p (consumed_file (line_len (held_of f.buffer)) (line_ends (line_text (held_of f.buffer))) f) u)) comes
+
 module _ {R : Type 0} (limits : Limits) (rules : Rules) (unread : R → List ℕ) (macros : List Macro) (v : ConditionsView) (live : v.skipped ≡ None) where
   -- a `line` that is given a number and a name
   pub include_stack_line : (include_stack : List (File R)) (given : GivenLine) (from lines : ℕ) → 0 < length (held_of (inner_buffer include_stack)) → EndsHeld (inner_buffer include_stack)
@@ -50,7 +74,7 @@ module _ {R : Type 0} (limits : Limits) (rules : Rules) (unread : R → List ℕ
       → include_stack_left limits rules unread macros v include_stack
       ≡ after_bytes (line_ends_of (take (5 + given.stop) (held_of (inner_buffer include_stack))) ++ origin_line rules given.name.bytes given.number)
       (include_stack_left limits rules unread macros v (with_inner (renumbered_file from given.number given.name) (with_inner (consumed_file (5 + given.stop) lines) include_stack)))
-  unfolding include_stack_state file_state source_left
+  unfolding include_stack_state file_state source_left line_move moves_on
   include_stack_line [] given from lines some ends plain is first has _ counted = absurd (none_held R some)
   include_stack_line (f ∷ outer) given from lines some ends plain is first has here counted =
       let held = held_of f.buffer in
@@ -62,9 +86,11 @@ module _ {R : Type 0} (limits : Limits) (rules : Rules) (unread : R → List ℕ
       let os = own_conditions f.conditions_below v in
       let after : ℕ → ℕ → ℕ → Passage = λ n k m. source_left rules unread ws (Live os) (renumbered_file m given.number given.name (consumed_file n k f))
       (include_stack_state limits macros v (renumbered_file m given.number given.name (consumed_file n k f) ∷ outer)) in
+      let command : File R → Command = λ h. record { word = Line; given = None; text = line_text held; line = h.buffer.line; first = h.blanks } in
       let text : ℕ → List ℕ = λ n. line_ends_of (take n held) ++ origin_line rules given.name.bytes given.number in
       moved_live limits rules unread macros v live f (renumbered_file from given.number given.name (consumed_file (5 + given.stop) lines f)) outer macros (text (5 + given.stop))
-      (renumbered_left rules unread ws os f s (record { some = some; ends = ends }) plain is r first value
+      (line_comes rules unread ws os f s _ (record { some = some; ends = ends }) plain is
+      (ap (λ (x : Option Renumbered). line_move rules x (command f) (Live os) s) value ∙ ap (λ (b : Bool). line_move rules (Some r) (record (command f) { first = b }) (Live os) s) first)
       ∙ (ap (λ (n : ℕ). after_bytes (text n) (after n (line_ends (take n held)) (suc f.buffer.line))) whole
       ∙ (ap (λ (k : ℕ). after_bytes (text (5 + given.stop)) (after (5 + given.stop) k (suc f.buffer.line))) (sym counted)
       ∙ ap (λ (m : ℕ). after_bytes (text (5 + given.stop)) (after (5 + given.stop) lines m)) (sym here))))
@@ -75,23 +101,25 @@ module _ {R : Type 0} (limits : Limits) (rules : Rules) (unread : R → List ℕ
       → (inner_buffer include_stack).mode ≡ Plain → IsDirective Line (held_of (inner_buffer include_stack))
       → renumbered (take (line_len (drop 5 (held_of (inner_buffer include_stack)))) (drop 5 (held_of (inner_buffer include_stack)))) ≡ None
       → include_stack_left limits rules unread macros v include_stack ≡ leaves (fails (fault_at BadLine (inner_buffer include_stack).line [] (include_stack_state limits macros v include_stack))) (include_stack_state limits macros v include_stack)
+  unfolding moves_on
   include_stack_bad_line [] some ends plain is bad = absurd (none_held R some)
   include_stack_bad_line (f ∷ outer) some ends plain is bad =
       let held = held_of f.buffer in
       at_live limits rules unread macros v live f outer _
-      (bad_line_left rules unread (around limits rules unread macros v f outer) (own_conditions f.conditions_below v) f (include_stack_state limits macros v (f ∷ outer))
-      (record { some = some; ends = ends }) plain is (ap renumbered (given_text held some is) ∙ bad))
+      (line_comes rules unread (around limits rules unread macros v f outer) (own_conditions f.conditions_below v) f (include_stack_state limits macros v (f ∷ outer)) (Stops BadLine [])
+      (record { some = some; ends = ends }) plain is (bad_move rules _ _ _ _ (ap renumbered (given_text held some is) ∙ bad)))
 
   -- a `line` behind anything but blanks
   pub include_stack_late_line : (include_stack : List (File R)) → 0 < length (held_of (inner_buffer include_stack)) → EndsHeld (inner_buffer include_stack)
       → (inner_buffer include_stack).mode ≡ Plain → IsDirective Line (held_of (inner_buffer include_stack)) → inner_blanks include_stack ≡ false
       → include_stack_left limits rules unread macros v include_stack ≡ leaves (fails (fault_at BadLine (inner_buffer include_stack).line [] (include_stack_state limits macros v include_stack))) (include_stack_state limits macros v include_stack)
+  unfolding moves_on
   include_stack_late_line [] some ends plain is late = absurd (none_held R some)
   include_stack_late_line (f ∷ outer) some ends plain is late =
       let held = held_of f.buffer in
       at_live limits rules unread macros v live f outer _
-      (late_line_left rules unread (around limits rules unread macros v f outer) (own_conditions f.conditions_below v) f (include_stack_state limits macros v (f ∷ outer))
-      (record { some = some; ends = ends }) plain is late)
+      (line_comes rules unread (around limits rules unread macros v f outer) (own_conditions f.conditions_below v) f (include_stack_state limits macros v (f ∷ outer)) (Stops BadLine [])
+      (record { some = some; ends = ends }) plain is (late_move rules _ _ _ _ late))
 
 -- what a source shows changes none of its bytes
 shown_used : {R : Type 0} (old new : List (File R)) (change : File R → File R) → ((f : File R) → (change f).buffer ≡ f.buffer) → IsUsed old new → IsUsed old (with_inner change new)

@@ -23,7 +23,7 @@ use Rattle.rdlpp_scan.proofs.StopKinds.{AtBack, AtBare, AtBlockComment, AtLineCo
 use Rattle.rdlpp_scan.proofs.TokenSteps.{word-line_end}
 use Rattle.rdlpp_table.specs.Table.{Macro}
 use Rattle.rdlpp_table.specs.declared.limits.Limits.{Limits}
-use Rattle.rdlpp_meaning.specs.Moves.{in_branch}
+use Rattle.rdlpp_meaning.specs.Moves.{in_branch, move_of, moves_on, single_move, skipped_move}
 use Rattle.rdlpp_meaning.specs.Meaning.{Passage, Progress, after_bytes, leaves}
 use Rattle.rdlpp_meaning.specs.Opened.{Waiting, all_resumed}
 use Rattle.rdlpp_meaning.specs.Outcome.{Report, fails}
@@ -48,10 +48,10 @@ use Rattle.rdlpp_read.specs.declared.files.File.{File}
 use Rattle.rdlpp_read.proofs.BufferTokens.{consumed_ends}
 use Rattle.rdlpp_front.specs.SourceItems.{AtOrdinary, AtToken, IsDirective, IsText, IsUsage, is_text_kind, word_of}
 use Rattle.rdlpp_front.specs.SourceLeft.{HoldsFront, source_left, with_file_buffer}
-use Rattle.rdlpp_front.proofs.TextLeft.{holds_define, line_text, perl_tokens, skipped_text_left, unclosed_left}
+use Rattle.rdlpp_front.proofs.TextLeft.{holds_define, line_text, perl_tokens, skipped_text_left, unclosed_left, define_moves, line_moves}
 use Rattle.rdlpp_front.proofs.Insides.{back_front, back_text, bare_at_front, held_used, named_word, stops_at_front, text_at_front, tokens_entered, tokens_plain, tokens_used, usage_word, used_buffer, word_len}
 use Rattle.rdlpp_front.proofs.NamedDirectives.{word_line_ends}
-use Rattle.rdlpp_front.proofs.DirectivesLeft.{skipped_bare_left, skipped_define_left, skipped_line_left, skipped_unclosed_left, skipped_usage_left, skipped_word_left}
+use Rattle.rdlpp_front.proofs.DirectivesLeft.{skipped_bare_left, skipped_unclosed_left, skipped_usage_left, skipped_word_left}
 use Rattle.rdlpp_state.specs.Conditionals.{AnyUsage, IncludeWord, IsSkippedWord, LoneBackquote, UndefWord, unclosed_fault}
 use Rattle.rdlpp_state.specs.OpenConditionals.{inner_below, outer_open}
 use Rattle.rdlpp_state.specs.Remaining.{file_state, include_stack_left, include_stack_state, waiting_around}
@@ -517,14 +517,14 @@ module _ {R : Type 0} (limits : Limits) (rules : Rules) (unread : R → List ℕ
   pub passes_line : (include_stack : List (File R)) (len lines : ℕ) → IsHeldFront include_stack → (inner_buffer include_stack).mode ≡ Plain → inner_below include_stack ≤ length os → IsDirective Line (held_of (inner_buffer include_stack))
       → len ≡ line_len (held_of (inner_buffer include_stack)) → lines ≡ line_ends (take len (held_of (inner_buffer include_stack)))
       → IncludeStackPasses include_stack (take len (held_of (inner_buffer include_stack))) (with_inner (consumed_file len lines) include_stack)
-  unfolding include_stack_state file_state
+  unfolding include_stack_state file_state move_of single_move skipped_move moves_on
   passes_line [] len lines h plain below is whole counted = absurd (none_held R h.some)
   passes_line (f ∷ outer) len lines h plain below is whole counted =
       let held = held_of f.buffer in
       let k = line_len held in
       let all : IncludeStackPasses (f ∷ outer) (line_text held) (consumed_file k (line_ends (line_text held)) f ∷ outer) =
       moved_skipped f (consumed_file k (line_ends (line_text held)) f) outer (line_ends_of (line_text held)) below refl
-      (skipped_line_left rules unread (around f outer) n o (own f) f (include_stack_state limits macros v (f ∷ outer)) (holds_front f outer h) plain is)
+      (line_moves rules unread (around f outer) (Skipped n o (own f)) f (include_stack_state limits macros v (f ∷ outer)) (holds_front f outer h) plain is)
       (ends_mid_line_consumed unread f k (line_ends (line_text held))) refl refl in
       let exact : lines ≡ line_ends (line_text held) = counted ∙ ap (λ (m : ℕ). line_ends (take m held)) whole in
       subst (λ (l : ℕ). IncludeStackPasses (f ∷ outer) (take len held) (consumed_file len l f ∷ outer)) (sym exact)
@@ -535,12 +535,12 @@ module _ {R : Type 0} (limits : Limits) (rules : Rules) (unread : R → List ℕ
     pub passes_define : (include_stack : List (File R)) (new : BufferView R) (len lines : ℕ) → IsHeldFront include_stack → (inner_buffer include_stack).mode ≡ Plain → inner_below include_stack ≤ length os
         → IsDirective Define (held_of (inner_buffer include_stack)) → HoldsLine has_known_texts unread (line.Whole len) (inner_buffer include_stack) new → lines ≡ line_ends (take len (held_of new))
         → IncludeStackPasses include_stack (take len (held_of new)) (with_inner (consumed_file len lines) (with_buffer new include_stack))
-    unfolding include_stack_state file_state
+    unfolding include_stack_state file_state move_of single_move skipped_move moves_on
     passes_define [] new len lines h plain below is holds counted = absurd (none_held R h.some)
     passes_define (f ∷ outer) new len lines h plain below is holds counted =
         let held = with_file_buffer new f in
         moved_skipped f (consumed_file len lines held) outer (line_ends_of (take len (held_of new))) below refl
-        (skipped_define_left rules unread (around f outer) n o (own f) f (include_stack_state limits macros v (f ∷ outer)) has_known_texts new len lines holds t plain
+        (define_moves rules unread (around f outer) (Skipped n o (own f)) f (include_stack_state limits macros v (f ∷ outer)) has_known_texts new len lines holds t plain
         (holds_define unread f (holds_front f outer h) is) counted)
         (ends_mid_line_consumed unread held len lines ∙ ap (ends_mid_line_after f.ends_mid_line) (holds.text (λ e. cc) t)) refl refl
 
