@@ -1,16 +1,17 @@
 -- The first expansion point of a text and of a range of it, and the first expansion points that an entry keeps.
-use Rattle.std.proofs.Common.{◌≡◌, ℕ, zero, suc, ◌+◌, ◌-◌, ◌<◌, ◌≤◌, Bool, true, false, cond, List, [], ◌∷◌, ⊎_elim, length, take, drop, Option, Some, None, refl, ap, sym, ◌∙◌, arith, ◌++◌, inl, slice_range, subst, if◌then◌else◌, IfSome, get_or, set, append_assoc, replicate, ◌⊎◌, ◌||◌, le-ltb, drop-set-lt, length-drop, take_all, drop-drop, length-take, take-append-drop}
+use Rattle.std.proofs.Common.{◌≡◌, ℕ, zero, suc, ◌+◌, ◌-◌, ◌<◌, ◌≤◌, Bool, true, false, cond, List, [], ◌∷◌, ⊎_elim, length, take, drop, Option, Some, None, refl, ap, sym, ◌∙◌, arith, ◌++◌, inl, slice_range, subst, if◌then◌else◌, IfSome, get_or, set, append_assoc, replicate, ◌⊎◌, ◌||◌, is_some, eqb, eqb-true, le-ltb, drop-set-lt, length-drop, take_all, drop-drop, length-take, take-append-drop}
 use Rattle.std.specs.List.{prefix_len}
-use Rattle.std.proofs.lemmas.Bool.{cases_Bool, false≢true, cond-false, cond-true}
+use Rattle.std.proofs.lemmas.Bool.{cases_Bool, false≢true, cond-false, cond-true, cond_both}
 use Rattle.std.proofs.lemmas.List.{drop_more, take_more_set, drop-replicate, nil_from_length}
-use Rattle.rdlpp_scan.specs.Bytes.{is_blank, is_digit, is_letter, is_inert, is_word}
-use Rattle.rdlpp_scan.proofs.StopKinds.{AtBack, AtBare, AtBlockComment, AtLineComment, AtPerl, AtPlain, AtString, Row, letter_token, token_of-row}
+use Rattle.memchr.specs.Find.{IsFirstByte, is_byte}
+use Rattle.rdlpp_scan.specs.Bytes.{begins_perl, is_blank, is_digit, is_letter, is_inert, is_word}
+use Rattle.rdlpp_scan.proofs.StopKinds.{AtBack, AtBare, AtBlockComment, AtLineComment, AtPerl, AtPlain, AtString, Row, block_token-kind, letter_token, string_token-kind, token_of-row}
 use Rattle.rdlpp_scan.specs.declared.token.Kind.{Kind}
 use Rattle.rdlpp_scan.specs.declared.token.Kind.TheVariants.{Name, Word, Back, Blank, LineEnd, Str, LineComment, BlockComment, Opener, Closer, Comma, Other, Perl, BareBackquote}
 use Rattle.rdlpp_scan.specs.declared.token.Mode.{Mode}
-use Rattle.rdlpp_scan.specs.declared.token.Mode.TheVariants.{Plain}
+use Rattle.rdlpp_scan.specs.declared.token.Mode.TheVariants.{InBlock, InStr, Plain}
 use Rattle.rdlpp_scan.specs.declared.token.Token.{Token}
-use Rattle.rdlpp_scan.specs.Tokens.{token_of, tokens_from, whole}
+use Rattle.rdlpp_scan.specs.Tokens.{block_token, string_token, token_of, tokens_from, whole}
 use Rattle.rdlpp_scan.proofs.CleanTexts.{blank-step}
 use Rattle.rdlpp_scan.proofs.OrdinaryLaws.{is_still, inert_first, IsInertToken}
 use Rattle.rdlpp_scan.proofs.TokenLens.{tokens_from-step, token_of-part}
@@ -26,7 +27,7 @@ use Rattle.rdlpp_table.specs.declared.point_cache.PointCache.{PointCache}
 use Rattle.rdlpp_table.specs.declared.point_cache.PackedPoint.{PackedPoint}
 use Rattle.rdlpp_table.specs.declared.point_cache.PackedKind.{PackedKind}
 use Rattle.rdlpp_table.specs.declared.entry.Entry.{Entry}
-use Rattle.rdlpp_table.specs.Store.{macro_in}
+use Rattle.rdlpp_table.specs.Store.{formals_read, macro_in}
 use Rattle.rdlpp_table.specs.Layout.{view_of}
 use Rattle.rdlpp_table.proofs.Sizes.{macro_at_entry}
 use Rattle.rdlpp_table.specs.declared.point.ExpansionPoint.TheVariants as point
@@ -120,6 +121,50 @@ still_passed formals at len Closer mode bytes h = refl
 still_passed formals at len Comma mode bytes h = refl
 still_passed formals at len Other mode bytes h = refl
 still_passed formals at len Perl mode bytes h = refl
+
+-- without formals a token is an expansion point only where a backquote is its first byte, and so a text without one has none
+
+plain_passed : (kind : Kind) (at len : ℕ) (mode : Mode) (bytes : List ℕ) → is_plain_kind kind ≡ true → is_none (point_at [] at (record { kind = kind; next_mode = mode; len = len }) bytes) ≡ true
+unfolding is_plain_kind point_at point_name is_none
+plain_passed Back at len mode bytes h = absurd (cc)
+plain_passed BareBackquote at len mode bytes h = absurd (cc)
+plain_passed kind at len mode bytes h = refl
+
+kind_passed : (t : Token) (k : Kind) (at : ℕ) (bytes : List ℕ) → t.kind ≡ k → is_still k ≡ true → is_none (point_at [] at t bytes) ≡ true
+kind_passed t k at bytes e h = still_passed [] at t.len t.kind t.next_mode bytes (ap is_still e ∙ h)
+
+row_passed : (bs : List ℕ) (t : Token) (at : ℕ) (bytes : List ℕ) → Row bs t → (get_or bs 0 0 ≡ 96 → ⊥) → is_none (point_at [] at t bytes) ≡ true
+unfolding is_still whole
+row_passed bs t at bytes (AtPerl h e) none = kind_passed t Perl at bytes (ap (λ (u : Token). u.kind) e) refl
+row_passed bs t at bytes (AtLineComment h e) none = kind_passed t LineComment at bytes e refl
+row_passed bs t at bytes (AtBlockComment h e) none = kind_passed t BlockComment at bytes e refl
+row_passed bs t at bytes (AtString h e) none = kind_passed t Str at bytes e refl
+row_passed bs t at bytes (AtBack h e) none = absurd (none (eqb-true (get_or bs 0 0) 96 h))
+row_passed bs t at bytes (AtBare h g e) none = absurd (none (eqb-true (get_or bs 0 0) 96 h))
+row_passed bs t at bytes (AtPlain h q) none = plain_passed t.kind at t.len t.next_mode bytes h
+
+token_passed : (mode : Mode) (bs : List ℕ) (at : ℕ) (bytes : List ℕ) → (get_or bs 0 0 ≡ 96 → ⊥) → is_none (point_at [] at (token_of mode bs) bytes) ≡ true
+unfolding token_of is_still whole
+token_passed Plain bs at bytes none = row_passed bs (token_of Plain bs) at bytes (token_of-row bs) none
+token_passed InStr bs at bytes none =
+    cond_both (begins_perl bs) (whole Perl 2) (string_token 0 bs) (λ (t : Token). is_none (point_at [] at t bytes) ≡ true) (λ _. kind_passed (whole Perl 2) Perl at bytes refl refl) (λ _. kind_passed (string_token 0 bs) Str at bytes (string_token-kind 0 bs) refl)
+token_passed InBlock bs at bytes none = kind_passed (block_token 0 bs) BlockComment at bytes (block_token-kind 0 bs) refl
+
+all_passed : (mode : Mode) (skip : ℕ) (text : List ℕ) (at : ℕ) (bytes : List ℕ) → ((i : ℕ) → i < length text → get_or text i 0 ≡ 96 → ⊥) → next_expansion_point [] at (tokens_from mode skip text) bytes ≡ point.None
+unfolding next_expansion_point tokens_from
+all_passed mode skip [] at bytes none = refl
+all_passed mode zero (b ∷ bs) at bytes none =
+    let t = token_of mode (b ∷ bs) in
+    or_none (point_at [] at t (take t.len bytes)) _ (token_passed mode (b ∷ bs) at (take t.len bytes) (none 0 (omega arith)))
+    ∙ all_passed t.next_mode (t.len - 1) bs (at + t.len) (drop t.len bytes) (λ i h. none (suc i) (omega (arith, h)))
+all_passed mode (suc skip) (b ∷ bs) at bytes none = all_passed mode skip bs at bytes (λ i h. none (suc i) (omega (arith, h)))
+
+pub none_searched : (count : ℕ) (list text : List ℕ) (from : ℕ) (found : Option ℕ) → count ≡ 0 → is_some found ≡ false → IsFirstByte (is_byte 96) text found → point.None ≡ point_of (formals_read count list) from text
+unfolding point_of formals_read
+none_searched count list text from (Some k) is e h = absurd (cc)
+none_searched (suc n) list text from None is e h = absurd (omega (arith, is))
+none_searched zero list text from None is e h =
+    sym (all_passed Plain 0 text from text (λ i l b. h i (omega arith) l (ap (λ (n : ℕ). eqb n 96) b)))
 
 prefix_more : (p : ℕ → Bool) (b : ℕ) (bs : List ℕ) → p b ≡ true → prefix_len p (b ∷ bs) ≡ suc (prefix_len p bs)
 prefix_more p b bs h = ap (λ (t : Bool). cond t (1 + prefix_len p bs) 0) h ∙ omega arith

@@ -11,6 +11,7 @@ ghost use Rattle.rdlpp_table.specs.Store.{formals_read, AreStoredFormals};
 
 use crate::offsets::{StoredFormals, place_of};
 use crate::stored::shape;
+use memchr::memchr;
 use rdlpp_scan::{Kind, Mode, Token, first_token, inert_bytes, is_letter, word_bytes};
 
 /// The first place of a range of a body that isn't copied as it stands.
@@ -133,7 +134,8 @@ fn plain_token(text: &[u8]) -> Token
 }
 
 // The first expansion point of a text whose first byte stands at a place, among formals as they lie in a table. It may be told of
-// which shapes their names are, so that most other words are passed without a look at them.
+// which shapes their names are, so that most other words are passed without a look at them. Where there are no formals, a search
+// for a backquote tells of most texts that they have none.
 #[inline(always)]
 pub(crate) fn next_expansion_point(
     formals: &StoredFormals,
@@ -147,6 +149,9 @@ pub(crate) fn next_expansion_point(
     ensures value { result ≡ point_of (formals_read formals.now.count formals.now.list.now) from text.now }
     ensures end { point_end result ≤ from + length text.now }
 {
+    if formals.count == 0 && memchr(b'`', text).is_none() {
+        return ExpansionPoint::None;
+    }
     let mut mode = Mode::Plain;
     let mut rest = text;
     let mut at = from;
