@@ -46,10 +46,6 @@ removed_behind xs n at h =
     behind xs (drop (suc (n + at)) xs) n at (omega arith)
     ∙ ap (λ (l : List ℕ). take at (drop n xs) ++ l) (ap (λ (k : ℕ). drop k xs) next ∙ sym (drop-drop (suc at) n xs))
 
-pub inserted_behind : (xs : List ℕ) (n at x : ℕ) → n + at ≤ length xs → drop n (insert xs (n + at) x) ≡ insert (drop n xs) at x
-inserted_behind xs n at x h =
-    behind xs (x ∷ drop (n + at) xs) n at h ∙ ap (λ (l : List ℕ). take at (drop n xs) ++ x ∷ l) (sym (drop-drop at n xs))
-
 cut_behind : (xs : List ℕ) (n i j : ℕ) → n + i ≤ length xs → drop n (remove_range xs (n + i) (n + j)) ≡ remove_range (drop n xs) i j
 cut_behind xs n i j h = behind xs (drop (n + j) xs) n i h ∙ ap (λ (l : List ℕ). take i (drop n xs) ++ l) (sym (drop-drop j n xs))
 

@@ -1,21 +1,21 @@
 -- The index of a table: a place taken out or put in, and the names to which it leads.
-use Rattle.std.proofs.Common.{◌≡◌, ℕ, suc, replicate, ◌+◌, ◌-◌, ◌<◌, ◌≤◌, List, ◌∷◌, ◌++◌, length, length-append, map, take, drop, insert, remove, ap, sym, ◌∙◌, arith, ◌≢◌, ◌⊎◌, [], get_or, refl, inl, inr, All, bytes_eq, subst, Option, Some, None, Ordering, Less, le-ltb, lt-ltb}
+use Rattle.std.proofs.Common.{Err, Ok, Result, is_ok, is_some, ◌≡◌, ℕ, suc, replicate, ◌+◌, ◌-◌, ◌<◌, ◌≤◌, List, ◌∷◌, ◌++◌, length, length-append, map, take, drop, insert, remove, ap, sym, ◌∙◌, arith, ◌≢◌, ◌⊎◌, [], get_or, refl, inl, inr, All, bytes_eq, subst, Option, Some, None, Ordering, Less, le-ltb, lt-ltb}
 use Rattle.std.specs.List.{IsDistinct}
 use Rattle.std.proofs.Math.Seq.{get_or-append_seam}
 use Rattle.std.proofs.lemmas.Bool.{cases_lt, cond-false, cond-true}
 use Rattle.std.proofs.lemmas.List.{drop-map, get_or-map, get_or-replicate, get_or_append_left, get_or_default, length-map, length-replicate, map-append, take-map}
 use Rattle.std.proofs.lemmas.List.Edits.{get_or-insert_above, get_or-insert_at, get_or-insert_below, get_or-remove_above, get_or-remove_below, length-insert, length-remove}
 use Rattle.rdlpp_table.specs.Entries.{AreWithin}
-use Rattle.rdlpp_table.specs.Index.{IsDivided, IsGap, IsIndex, IsIndexed, IsLater, IsPlace, IsSooner, closed, index_order, key_at, name_at, name_order, names_of, bucket_of}
+use Rattle.rdlpp_table.specs.Index.{IsDivided, IsFound, IsGap, IsIndex, IsIndexed, IsLater, IsPlace, IsSooner, closed, index_order, key_at, name_at, name_order, names_of, bucket_of}
 use Rattle.rdlpp_table.specs.Layout.{IsHeld, view_of}
 use Rattle.rdlpp_table.specs.FormalOffsets.{table_offsets}
 use Rattle.rdlpp_table.specs.Store.{IsStored, entry_end, macro_in, macros_in, name_of}
-use Rattle.rdlpp_table.specs.Table.{Macro, without}
+use Rattle.rdlpp_table.specs.Table.{Macro, macro_named, without}
 use Rattle.rdlpp_table.specs.View.{TableView, no_macro, place_named}
 use Rattle.rdlpp_table.specs.declared.entry.Entry.{Entry}
-use Rattle.rdlpp_table.proofs.Orders.{count_names, indexed_place, less_part, more_part, name_of_macro, one_place, turned, turned_back}
+use Rattle.rdlpp_table.proofs.Orders.{count_names, indexed_gap, indexed_place, less_part, more_part, name_of_macro, one_place, turned, turned_back}
 use Rattle.rdlpp_table.proofs.RoundTrip.{read_back, stored_count}
-use Rattle.rdlpp_table.proofs.Sizes.{length_macros_in, macros_of_none}
+use Rattle.rdlpp_table.proofs.Sizes.{is_named, length_macros_in, macros_of_none}
 use Rattle.rdlpp_table.proofs.Taken.{without_at, without_length, without_nowhere}
 
 -- An index, once a place was taken out of it or put into it.
@@ -467,11 +467,18 @@ pub end_of_entry : (bytes : List ℕ) (entries : List Entry) (order : List ℕ) 
 end_of_entry bytes entries order k place d w x h p = w place d (omega (arith, entry_inside bytes entries order k x h))
 
 -- what a search through slices of the lists found, of the lists themselves
-pub placed : (bs : List ℕ) (es : List Entry) (os : List ℕ) (bytes : List ℕ) (entries : List Entry) (order sought name : List ℕ) (at : ℕ) → bs ≡ bytes → es ≡ entries → os ≡ order → sought ≡ name → IsPlace (names_of (macros_in bs es)) os sought at → IsPlace (names_of (macros_in bytes entries)) order name at
-placed bs es os bytes entries order sought name at p q r s h = rw (p, q, r, s) at h
+pub found_in : (bs : List ℕ) (es : List Entry) (os : List ℕ) (bytes : List ℕ) (entries : List Entry) (order sought name : List ℕ) (found : Result ℕ ℕ) → bs ≡ bytes → es ≡ entries → os ≡ order → sought ≡ name → IsFound (names_of (macros_in bs es)) os sought found → IsFound (names_of (macros_in bytes entries)) order name found
+found_in bs es os bytes entries order sought name found p q r s h = rw (p, q, r, s) at h
 
-pub gapped : (bs : List ℕ) (es : List Entry) (os : List ℕ) (bytes : List ℕ) (entries : List Entry) (order sought name : List ℕ) (gap : ℕ) → bs ≡ bytes → es ≡ entries → os ≡ order → sought ≡ name → IsGap (names_of (macros_in bs es)) os sought gap → IsGap (names_of (macros_in bytes entries)) order name gap
-gapped bs es os bytes entries order sought name gap p q r s h = rw (p, q, r, s) at h
+pub found_place : (names : List (List ℕ)) (order name : List ℕ) (found : Result ℕ ℕ) (at : ℕ) → found ≡ Ok at → IsFound names order name found → IsPlace names order name at
+found_place names order name found at e h = rw e at h
+
+pub found_gap : (names : List (List ℕ)) (order name : List ℕ) (found : Result ℕ ℕ) (gap : ℕ) → found ≡ Err gap → IsFound names order name found → IsGap names order name gap
+found_gap names order name found gap e h = rw e at h
+
+pub found_named : (ms : List Macro) (order name : List ℕ) (found : Result ℕ ℕ) → IsIndex (names_of ms) order → IsFound (names_of ms) order name found → is_ok found ≡ is_some (macro_named ms name)
+found_named ms order name (Ok at) x h = is_named ms name (Some _) (sym (indexed_place ms order name at x h))
+found_named ms order name (Err gap) x h = is_named ms name None (sym (indexed_gap ms order name gap x h))
 
 pub indexed_slices : {from ahead : ℕ} (bs : List ℕ) (es : List Entry) (os : List ℕ) (bytes : List ℕ) (entries : List Entry) (order bucket_starts : List ℕ) (ms : List Macro) → bs ≡ bytes → es ≡ entries → os ≡ order → IsStored from ahead bytes entries ms → IsIndexed (names_of ms) order bucket_starts → IsIndexed (names_of (macros_in bs es)) os bucket_starts
 indexed_slices bs es os bytes entries order bucket_starts ms p q r s x =
@@ -521,7 +528,7 @@ pub entered_with : {from ahead : ℕ} (bs : List ℕ) (es : List Entry) (os : Li
 entered_with bs es os bytes entries order bucket_starts ms m gap n bucket new begun p q r s x g e f a b =
     let back : macros_in bytes entries ≡ ms = read_back bytes entries ms s in
     let P : List Macro → Type 0 = λ l. IsGap (names_of l) order m.name gap in
-    let here : IsGap (names_of ms) order m.name gap = subst P back (gapped bs es os bytes entries order m.name m.name gap p q r refl g) in
+    let here : IsGap (names_of ms) order m.name gap = subst P back (rw (p, q, r) at g) in
     let count : n ≡ length (names_of ms) = e ∙ (stored_count bytes entries ms s ∙ sym (count_names ms)) in
     let more : IsIndexed (names_of ms ++ m.name ∷ []) (insert order gap n) begun = record {
       index = entered_index (names_of ms) order m.name gap n x.index here count;

@@ -1,6 +1,6 @@
 -- The index of a table: the places of its macros, sorted by the buckets in which their names stand, and then by name.
 -- A definition that names no source is this project's own.
-use Rattle.std.specs.Prelude.{◌≡◌, ℕ, ◌+◌, ◌-◌, ◌*◌, ◌/◌, ◌%◌, ◌^◌, ◌<◌, ◌≤◌, List, [], ◌∷◌, length, map, slice_index, slice_index_or, nat_lt, if◌then◌else◌}
+use Rattle.std.specs.Prelude.{◌≡◌, ℕ, ◌+◌, ◌-◌, ◌*◌, ◌/◌, ◌%◌, ◌^◌, ◌<◌, ◌≤◌, List, [], ◌∷◌, length, map, slice_index, slice_index_or, nat_lt, if◌then◌else◌, MatchResult, Result}
 use Rattle.std.specs.declared.cmp.Ordering.{Ordering}
 use Rattle.std.specs.declared.cmp.Ordering.TheVariants.{Less, Greater}
 use Rattle.std.specs.Cmp.Lexicographic.{slice_cmp}
@@ -94,6 +94,10 @@ pub record IsGap (names : List (List ℕ)) (order name : List ℕ) (gap : ℕ) :
   pub fits : gap ≤ length order
   pub below : (k : ℕ) → k < gap → index_order (key_at names order k) name ≡ Less
   pub above : (k : ℕ) → gap ≤ k → k < length order → index_order (key_at names order k) name ≡ Greater
+
+-- where a search for a name ended: at its place in the index, or where it would stand
+abbrev pub IsFound : List (List ℕ) → List ℕ → List ℕ → Result ℕ ℕ → Type 0
+IsFound names order name found = MatchResult found (IsPlace names order name) (IsGap names order name)
 
 -- where a place lies once another one was taken out
 unfoldable pub closed : ℕ → ℕ → ℕ

@@ -2,19 +2,20 @@
 // at most 65,536 macros, so that two bytes are enough for a place. In the same list lie spare items before them and the offsets of
 // the macros behind them. A definition moves the places before its own to the front, or those behind it and the offsets to the
 // back, whichever are fewer; a removal always moves what is behind.
-ghost use Rattle.std.specs.Prelude.{◌≡◌, ℕ, ◌+◌, ◌<◌, ◌≤◌, ◌^◌, ◌*◌, ◌-◌, ◌++◌, All, IfOk, MatchResult, drop, insert, length, map, remove, slice_index, take, true, vec_capacity, vec_len};
+ghost use Rattle.std.specs.Prelude.{◌≡◌, ℕ, ◌+◌, ◌<◌, ◌≤◌, ◌^◌, ◌*◌, ◌-◌, ◌++◌, All, IfOk, drop, insert, length, map, remove, slice_index, take, true, vec_capacity, vec_len};
 ghost use Rattle.std.specs.List.{flat_map, list_all, remove_range};
 ghost use Rattle.rdlpp_table.specs.Entries.{AreWithin};
 ghost use Rattle.rdlpp_table.specs.FormalOffsets.{offsets_of};
-ghost use Rattle.rdlpp_table.specs.Index.{closed, names_of, IsCounted, IsGap, IsIndexed, IsMiddle, IsPlace};
+ghost use Rattle.rdlpp_table.specs.Index.{closed, names_of, IsCounted, IsFound, IsIndexed, IsMiddle};
 ghost use Rattle.rdlpp_table.specs.IndexView.{empty_index, Enters, Leaves};
-ghost use Rattle.rdlpp_table.specs.Store.{formals_read, is_plain_formal, macros_in};
+ghost use Rattle.rdlpp_table.specs.Store.{formals_read, is_plain_formal, live, macros_in, IsStored};
 ghost use Rattle.rdlpp_table.specs.Table.{formal_bytes};
 ghost use Rattle.rdlpp_table.specs.View.{place_named};
 
 use crate::buckets::BucketStarts;
 use crate::entry::{Entry, name_in};
 use crate::fault::NoMemory;
+use crate::given_up::{GivenUp, live};
 use crate::lookup::{LookupKey, Steps};
 use crate::offsets::push_offsets;
 use std::alloc::Global;
@@ -71,7 +72,7 @@ pub(crate) fn seek(
     requires within { AreWithin (length bytes.now) entries.now }
     requires indexed { IsIndexed (names_of (macros_in bytes.now entries.now)) index.now.places index.now.bucket_starts }
     requires few { length entries.now ≤ 65536 }
-    ensures found { MatchResult result (λ at. IsPlace (names_of (macros_in bytes.now entries.now)) index.now.places key.now.name.now at) (λ gap. IsGap (names_of (macros_in bytes.now entries.now)) index.now.places key.now.name.now gap) }
+    ensures found { IsFound (names_of (macros_in bytes.now entries.now)) index.now.places key.now.name.now result }
     ensures steps { IsCounted steps.old steps.new }
 {
     let bucket = key.bucket();
@@ -87,6 +88,29 @@ pub(crate) fn seek(
         }
     }
     Err(low)
+}
+
+// The same over the lists of a table, for a name whose comparisons nobody counts.
+pub(crate) fn seek_named(
+    bytes: &Vec<u8>,
+    entries: &Vec<Entry>,
+    front: &GivenUp,
+    index: &Index,
+    name: &[u8],
+) -> Result<usize, usize>
+    requires stored { IsStored front.now.bytes front.now.formal_offsets bytes.now.items (live front.now.entries entries.now.items) (macros_in bytes.now.items (live front.now.entries entries.now.items)) }
+    requires given_up { front.now.entries ≤ vec_len entries.now }
+    requires indexed { IsIndexed (names_of (macros_in bytes.now.items (live front.now.entries entries.now.items))) index.now.places index.now.bucket_starts }
+    requires few { length (live front.now.entries entries.now.items) ≤ 65536 }
+    ensures { IsFound (names_of (macros_in bytes.now.items (live front.now.entries entries.now.items))) index.now.places name.now result }
+{
+    seek(
+        bytes,
+        live(entries, front),
+        index,
+        &LookupKey::new(name),
+        &mut Steps::new(),
+    )
 }
 
 // The place of the entry of a name.
@@ -249,7 +273,7 @@ impl Index {
 
     // The place that stands at a place of the index.
     #[inline(always)]
-    fn place(&self, at: usize) -> usize
+    pub(crate) fn place(&self, at: usize) -> usize
         requires { at < length self.now.places }
         ensures { result ≡ slice_index self.now.places at }
     {

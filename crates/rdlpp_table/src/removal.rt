@@ -1,17 +1,16 @@
 // A definition is taken out of a table's lists, which close up or give up their front.
-ghost use Rattle.std.specs.Prelude.{◌≡◌, ◌+◌, ◌-◌, ◌*◌, ◌<◌, ◌≤◌, ◌++◌, ◌^◌, drop, length, map, remove, slice_range, take, vec_len, vec_capacity, bytes_eq, is_some, nat_le, nat_lt, ◌&&◌, ◌||◌};
-ghost use Rattle.rdlpp_table.specs.Table.{macro_named, without};
+ghost use Rattle.std.specs.Prelude.{◌≡◌, ◌+◌, ◌-◌, ◌*◌, ◌<◌, ◌≤◌, ◌++◌, ◌^◌, drop, length, map, remove, slice_range, take, vec_len, vec_capacity, bytes_eq, nat_le, nat_lt, ◌&&◌, ◌||◌};
+ghost use Rattle.rdlpp_table.specs.Table.{without};
 ghost use Rattle.std.specs.List.{remove_range, IsDistinct};
 ghost use Rattle.rdlpp_table.specs.Entries.{moved_down, moved_up, AreAfter, AreLow};
-ghost use Rattle.rdlpp_table.specs.Index.{names_of, IsGap, IsIndexed};
+ghost use Rattle.rdlpp_table.specs.Index.{names_of, IsFound, IsGap, IsIndexed};
 ghost use Rattle.rdlpp_table.specs.FormalOffsets.{table_offsets};
 ghost use Rattle.rdlpp_table.specs.Store.{live, macros_in, IsStored};
 
 use crate::buckets::bucket_of;
 use crate::entry::{ENTRY_BYTES, Entry, offsets_len};
 use crate::given_up::{GivenUp, NOTHING, live};
-use crate::index::{Index, seek};
-use crate::lookup::{LookupKey, Steps};
+use crate::index::Index;
 
 // The bytes of an entry were moved so much further to the front, and its offsets as much as another number says.
 #[inline(always)]
@@ -209,15 +208,16 @@ pub(crate) fn settle(bytes: &mut Vec<u8>, entries: &mut Vec<Entry>, front: &mut 
     *front = NOTHING;
 }
 
-// Takes out the macro of a name, and answers whether there was one, and where the name would stand in the index now: where the
-// search for it ended.
+// Takes out the macro of a name where a search found one, and answers where the name would stand in the index now: where the search
+// ended.
 pub(crate) fn remove_named(
     bytes: &mut Vec<u8>,
     entries: &mut Vec<Entry>,
     front: &mut GivenUp,
     index: &mut Index,
     name: &[u8],
-) -> (bool, usize)
+    found: Result<usize, usize>,
+) -> usize
     requires stored { IsStored front.old.bytes front.old.formal_offsets bytes.old.items (live front.old.entries entries.old.items) (macros_in bytes.old.items (live front.old.entries entries.old.items)) }
     requires narrow { vec_capacity bytes.old < 2 ^ 32 }
     requires given_up { front.old.entries ≤ vec_len entries.old }
@@ -225,9 +225,9 @@ pub(crate) fn remove_named(
     requires indexed { IsIndexed (names_of (macros_in bytes.old.items (live front.old.entries entries.old.items))) index.old.places index.old.bucket_starts }
     requires marked { index.old.formal_offsets ≡ table_offsets (macros_in bytes.old.items (live front.old.entries entries.old.items)) }
     requires few { length (live front.old.entries entries.old.items) ≤ 65536 }
-    ensures value { result.0 ≡ is_some (macro_named (macros_in bytes.old.items (live front.old.entries entries.old.items)) name.now) }
+    requires found { IsFound (names_of (macros_in bytes.old.items (live front.old.entries entries.old.items))) index.old.places name.now found }
     ensures room { index.new.room ≡ index.old.room }
-    ensures gap { IsGap (names_of (macros_in bytes.new.items (live front.new.entries entries.new.items))) index.new.places name.now result.1 }
+    ensures gap { IsGap (names_of (macros_in bytes.new.items (live front.new.entries entries.new.items))) index.new.places name.now result }
     ensures stored { IsStored front.new.bytes front.new.formal_offsets bytes.new.items (live front.new.entries entries.new.items) (without name.now (macros_in bytes.old.items (live front.old.entries entries.old.items))) }
     ensures given_up { front.new.entries ≤ vec_len entries.new }
     ensures no_longer { (vec_len bytes.new ≤ vec_len bytes.old) × (vec_len entries.new ≤ vec_len entries.old) }
@@ -235,18 +235,12 @@ pub(crate) fn remove_named(
     ensures marked { index.new.formal_offsets ≡ table_offsets (without name.now (macros_in bytes.old.items (live front.old.entries entries.old.items))) }
     ensures capacity { (vec_capacity bytes.new ≡ vec_capacity bytes.old) × (vec_capacity entries.new ≡ vec_capacity entries.old) }
 {
-    match seek(
-        bytes,
-        live(entries, front),
-        index,
-        &LookupKey::new(name),
-        &mut Steps::new(),
-    ) {
+    match found {
         Ok(at) => {
             let place = index.leave(at, bucket_of(name));
             remove_at(bytes, entries, front, index, place);
-            (true, at)
+            at
         }
-        Err(gap) => (false, gap),
+        Err(gap) => gap,
     }
 }

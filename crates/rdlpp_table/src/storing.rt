@@ -27,7 +27,7 @@ ghost use Rattle.std.specs.Prelude.{
   ◌∷◌,
 };
 ghost use Rattle.std.specs.List.{flat_map, IsDistinct};
-ghost use Rattle.rdlpp_table.specs.Index.{names_of, IsIndexed};
+ghost use Rattle.rdlpp_table.specs.Index.{names_of, IsFound, IsIndexed};
 ghost use Rattle.rdlpp_table.specs.FormalOffsets.{table_offsets};
 ghost use Rattle.rdlpp_table.specs.Store.{live, macros_in, AreStoredFormals, IsStored};
 ghost use Rattle.rdlpp_table.specs.Table.{formal_bytes, table_size, without};
@@ -37,8 +37,7 @@ use crate::buckets::bucket_of;
 use crate::entry::Entry;
 use crate::formals::append_list;
 use crate::given_up::{GivenUp, live};
-use crate::index::{Index, place_in};
-use crate::lookup::Steps;
+use crate::index::{Index, seek_named};
 use crate::offsets::StoredFormals;
 use crate::point_cache::{PointCache, cached_points};
 use crate::removal::{remove_named, settle, size_of_entry};
@@ -148,40 +147,44 @@ fn put(
     });
 }
 
-// How many bytes and how many definitions there are beside that of a name.
+// Where the search for the definition of a name ended, and how many bytes and how many definitions there are beside it.
 #[derive(Clone, Copy, Drop)]
 pub(crate) struct UsageWithout {
+    pub(crate) found: Result<usize, usize>,
     pub(crate) size: usize,
     pub(crate) count: usize,
 }
 
 // What there is beside the definition of a name.
 pub(crate) fn usage_without(
-    bytes: &[u8],
-    entries: &[Entry],
+    bytes: &Vec<u8>,
+    entries: &Vec<Entry>,
     front: &GivenUp,
     index: &Index,
     name: &[u8],
 ) -> UsageWithout
-    requires stored { IsStored front.now.bytes front.now.formal_offsets bytes.now (live front.now.entries entries.now) (macros_in bytes.now (live front.now.entries entries.now)) }
-    requires given_up { front.now.entries ≤ length entries.now }
-    requires distinct { IsDistinct bytes_eq (map (λ m. m.name) (macros_in bytes.now (live front.now.entries entries.now))) }
-    requires indexed { IsIndexed (names_of (macros_in bytes.now (live front.now.entries entries.now))) index.now.places index.now.bucket_starts }
-    requires few { length (live front.now.entries entries.now) ≤ 65536 }
-    ensures size { result.size ≡ table_size (without name.now (macros_in bytes.now (live front.now.entries entries.now))) }
-    ensures count { result.count ≡ length (without name.now (macros_in bytes.now (live front.now.entries entries.now))) }
+    requires stored { IsStored front.now.bytes front.now.formal_offsets bytes.now.items (live front.now.entries entries.now.items) (macros_in bytes.now.items (live front.now.entries entries.now.items)) }
+    requires given_up { front.now.entries ≤ vec_len entries.now }
+    requires distinct { IsDistinct bytes_eq (map (λ m. m.name) (macros_in bytes.now.items (live front.now.entries entries.now.items))) }
+    requires indexed { IsIndexed (names_of (macros_in bytes.now.items (live front.now.entries entries.now.items))) index.now.places index.now.bucket_starts }
+    requires few { length (live front.now.entries entries.now.items) ≤ 65536 }
+    ensures found { IsFound (names_of (macros_in bytes.now.items (live front.now.entries entries.now.items))) index.now.places name.now result.found }
+    ensures size { result.size ≡ table_size (without name.now (macros_in bytes.now.items (live front.now.entries entries.now.items))) }
+    ensures count { result.count ≡ length (without name.now (macros_in bytes.now.items (live front.now.entries entries.now.items))) }
 {
-    let entries = live(entries, front);
     let size = bytes.len() - front.bytes;
-    match place_in(bytes, entries, index, name, &mut Steps::new()) {
-        Some(place) => UsageWithout {
-            size: size - size_of_entry(&entries[place]),
-            count: entries.len() - 1,
-        },
-        None => UsageWithout {
-            size,
-            count: entries.len(),
-        },
+    let count = entries.len() - front.entries;
+    let found = seek_named(bytes, entries, front, index, name);
+    match found {
+        Ok(at) => {
+            let entry = &live(entries, front)[index.place(at)];
+            UsageWithout {
+                found,
+                size: size - size_of_entry(entry),
+                count: count - 1,
+            }
+        }
+        Err(_) => UsageWithout { found, size, count },
     }
 }
 
@@ -216,16 +219,18 @@ fn make_room(bytes: &mut Vec<u8>, entries: &mut Vec<Entry>, front: &mut GivenUp,
     }
 }
 
-// Puts a macro behind the others, in the place of one of its name. No more is given up then than is there.
+// Puts a macro behind the others, in the place of one of its name, where a search found one. No more is given up then than is there.
 pub(crate) fn replace(
     bytes: &mut Vec<u8>,
     entries: &mut Vec<Entry>,
     front: &mut GivenUp,
     index: &mut Index,
     new: &NewMacro,
+    found: Result<usize, usize>,
 )
     requires stored { IsStored front.old.bytes front.old.formal_offsets bytes.old.items (live front.old.entries entries.old.items) (macros_in bytes.old.items (live front.old.entries entries.old.items)) }
     requires given_up { front.old.entries ≤ vec_len entries.old }
+    requires found { IsFound (names_of (macros_in bytes.old.items (live front.old.entries entries.old.items))) index.old.places new.now.name.now found }
     requires distinct { IsDistinct bytes_eq (map (λ m. m.name) (macros_in bytes.old.items (live front.old.entries entries.old.items))) }
     requires indexed { IsIndexed (names_of (macros_in bytes.old.items (live front.old.entries entries.old.items))) index.old.places index.old.bucket_starts }
     requires marked { index.old.formal_offsets ≡ table_offsets (macros_in bytes.old.items (live front.old.entries entries.old.items)) }
@@ -248,7 +253,7 @@ pub(crate) fn replace(
     ensures room { index.new.room ≡ index.old.room }
     ensures capacity { (vec_capacity bytes.new ≡ vec_capacity bytes.old) × (vec_capacity entries.new ≡ vec_capacity entries.old) }
 {
-    let (_, gap) = remove_named(bytes, entries, front, index, new.name);
+    let gap = remove_named(bytes, entries, front, index, new.name, found);
     index.enter(gap, entries.len() - front.entries, bucket_of(new.name));
     make_room(
         bytes,

@@ -17,7 +17,7 @@ use crate::fault::{DefineFault, DefineKind, NoMemory, lexical, refusal};
 use crate::formals::read_list;
 use crate::given_up::{GivenUp, NOTHING, live};
 use crate::header::{after_space, leading_name, list_after, unended};
-use crate::index::{Index, place_in};
+use crate::index::{Index, place_in, seek_named};
 use crate::limits::Limits;
 use crate::lookup::Steps;
 use crate::name::check_name;
@@ -25,7 +25,7 @@ use crate::offsets::{LONG_FORMAL, StoredFormals, default_of, place_of};
 use crate::point::{ExpansionPoint, next_expansion_point};
 use crate::point_cache::cached_point;
 use crate::removal::remove_named;
-use crate::storing::{NewMacro, UsageWithout, replace, usage_without};
+use crate::storing::{NewMacro, replace, usage_without};
 use rdlpp_lines::trimmed_len;
 use rdlpp_scan::is_name;
 use std::alloc::Global;
@@ -328,14 +328,16 @@ impl Table {
         ensures value { result ≡ is_some (macro_named self.old.macros name.now) }
         ensures table { self.new ≡ record self.old { macros = without name.now self.old.macros } }
     {
+        let found = seek_named(&self.bytes, &self.entries, &self.front, &self.index, name);
         remove_named(
             &mut self.bytes,
             &mut self.entries,
             &mut self.front,
             &mut self.index,
             name,
-        )
-        .0
+            found,
+        );
+        found.is_ok()
     }
 
     /// Stores the macro of a `define` in the place of one of its name (IEEE 1364-2001, `define`); `rest` is what
@@ -385,15 +387,6 @@ impl Table {
             Ok(()) => self.store_body(name, None, &[], 0, false, text),
             Err(fault) => Err(fault),
         }
-    }
-
-    // What there is beside the macro of a name.
-    fn rest(&self, name: &[u8]) -> UsageWithout
-        ensures size { result.size ≡ table_size (without name.now self.now.macros) }
-        ensures count { result.count ≡ length (without name.now self.now.macros) }
-        ensures sound { IsSound self.now }
-    {
-        usage_without(&self.bytes, &self.entries, &self.front, &self.index, name)
     }
 
     // Stores a macro of a name with what stands behind the name in a logical line.
@@ -459,7 +452,13 @@ impl Table {
         ensures refused { OnErr result (self.new ≡ self.old) }
         ensures limits { (self.new.most_bytes ≡ self.old.most_bytes) × (self.new.most_macros ≡ self.old.most_macros) }
     {
-        let rest = self.rest(new.name);
+        let rest = usage_without(
+            &self.bytes,
+            &self.entries,
+            &self.front,
+            &self.index,
+            new.name,
+        );
         let size = new
             .name
             .len()
@@ -477,6 +476,7 @@ impl Table {
             &mut self.front,
             &mut self.index,
             new,
+            rest.found,
         );
         Ok(())
     }

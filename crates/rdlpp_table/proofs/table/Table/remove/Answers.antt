@@ -4,8 +4,12 @@ use Rattle.rdlpp_table.specs.View.{TableView}
 use Rattle.rdlpp_table.specs.Layout.{view_of}
 use Rattle.rdlpp_table.proofs.Sizes.{count_items}
 use Rattle.rdlpp_table.proofs.RoundTrip.{table_of, held_of, view_after, sound_without}
-use Rattle.rdlpp_table.proofs.Indexed.{few_entries, indexed_after, marked_after}
+use Rattle.rdlpp_table.proofs.Indexed.{few_entries, found_named, indexed_after, marked_after}
 use Rattle.rdlpp_table.proofs.table.Table.remove.Goals as goal
+
+pub seek_named-found-requires-clause-few : goal.seek_named-found-requires-clause-few
+seek_named-found-requires-clause-few c =
+    omega (arith, few_entries _ _ _ _ c.self.invariant.held, c.self.invariant.few, count_items c.self.inside.entries)
 
 pub remove_named-requires-clause-stored : goal.remove_named-requires-clause-stored
 remove_named-requires-clause-stored c = c.self.invariant.held.stored
@@ -31,7 +35,9 @@ invariant_of-self c = record {
 }
 
 pub returns-clause-value : goal.returns-clause-value
-returns-clause-value c = c.remove_named.ensures.value ∙ ap (λ (v : TableView). is_some (macro_named v.macros c.args.name.now)) c.self.view_is
+returns-clause-value c =
+    c.is_ok.ensures.value ∙ found_named _ _ _ _ c.self.invariant.indexed.index c.seek_named-found.ensures
+    ∙ ap (λ (v : TableView). is_some (macro_named v.macros c.args.name.now)) c.self.view_is
 
 pub returns-clause-table : goal.returns-clause-table
 returns-clause-table c =

@@ -13,26 +13,32 @@ use Rattle.rdlpp_table.proofs.Taken.{without_size, capacity_small}
 use Rattle.rdlpp_table.proofs.Indexed.{few_entries, indexed_after, marked_after}
 use Rattle.rdlpp_table.proofs.table.Table.store.Goals as goal
 
+pub usage_without-rest-requires-clause-few : goal.usage_without-rest-requires-clause-few
+usage_without-rest-requires-clause-few c =
+    omega (arith, few_entries _ _ _ _ c.self.invariant.held, c.self.invariant.few, count_items c.self.inside.entries)
+
 pub overflow_sub-self-inside : goal.overflow_sub-self-inside
-overflow_sub-self-inside c =
-    omega (arith, c.rest-rest.ensures.size, without_size c.args.new.now.name.now c.args.self.now.macros, c.rest-rest.ensures.sound.bytes_fit, ap (λ (v : TableView). v.most_bytes) c.self.view_is)
+overflow_sub-self-inside c = omega (arith, c.usage_without-rest.ensures.size, without_size c.args.new.now.name.now (macros_in c.self.inside.bytes.items (drop c.self.inside.front.entries c.self.inside.entries.items)), c.self.invariant.held.sound.bytes_fit)
 
 pub returns-then-self-rest-clause-outcome : goal.returns-then-self-rest-clause-outcome
 returns-then-self-rest-clause-outcome c =
     let m : Macro = new_macro c.args.new.now.name.now c.args.new.now.arity c.args.new.now.list.now c.args.new.now.is_logical c.args.new.now.text.now in
     let size : macro_size m ≡ length c.args.new.now.name.now + (c.args.new.now.list_len + c.args.new.now.body_len) = new_size _ _ _ _ _ _ _ c.requires.counted in
+    let same : table_size (without c.args.new.now.name.now (macros_in c.self.inside.bytes.items (drop c.self.inside.front.entries c.self.inside.entries.items))) ≡ table_size (without c.args.new.now.name.now c.args.self.now.macros) = ap (λ (v : TableView). table_size (without c.args.new.now.name.now v.macros)) c.self.view_is in
     refused_is _ _ _ c.refusal.ensures.kind c.refusal.ensures.word
-    ∙ sym (too_large _ _ _ m (omega (arith, c.rest-rest.ensures.size, c.saturating_add.ensures, c.saturating_add-size.ensures, ap (λ (v : TableView). v.most_bytes) c.self.view_is)))
+    ∙ sym (too_large _ _ _ m (omega (arith, c.usage_without-rest.ensures.size, c.saturating_add.ensures, c.saturating_add-size.ensures, ap (λ (v : TableView). v.most_bytes) c.self.view_is)))
 
 pub returns-then-self-rest-2-clause-outcome : goal.returns-then-self-rest-2-clause-outcome
 returns-then-self-rest-2-clause-outcome c =
     let m : Macro = new_macro c.args.new.now.name.now c.args.new.now.arity c.args.new.now.list.now c.args.new.now.is_logical c.args.new.now.text.now in
     let size : macro_size m ≡ length c.args.new.now.name.now + (c.args.new.now.list_len + c.args.new.now.body_len) = new_size _ _ _ _ _ _ _ c.requires.counted in
-    let small : table_size (without c.args.new.now.name.now c.args.self.now.macros) ≤ c.args.self.now.most_bytes = omega (arith, without_size c.args.new.now.name.now c.args.self.now.macros, c.rest-rest.ensures.sound.bytes_fit) in
+    let same : table_size (without c.args.new.now.name.now (macros_in c.self.inside.bytes.items (drop c.self.inside.front.entries c.self.inside.entries.items))) ≡ table_size (without c.args.new.now.name.now c.args.self.now.macros) = ap (λ (v : TableView). table_size (without c.args.new.now.name.now v.macros)) c.self.view_is in
+    let count : length (without c.args.new.now.name.now (macros_in c.self.inside.bytes.items (drop c.self.inside.front.entries c.self.inside.entries.items))) ≡ length (without c.args.new.now.name.now c.args.self.now.macros) = ap (λ (v : TableView). length (without c.args.new.now.name.now v.macros)) c.self.view_is in
+    let small : table_size (without c.args.new.now.name.now (macros_in c.self.inside.bytes.items (drop c.self.inside.front.entries c.self.inside.entries.items))) ≤ c.self.inside.most_bytes = omega (arith, without_size c.args.new.now.name.now (macros_in c.self.inside.bytes.items (drop c.self.inside.front.entries c.self.inside.entries.items)), c.self.invariant.held.sound.bytes_fit) in
     refused_is _ _ _ c.refusal-then-self-rest-2.ensures.kind c.refusal-then-self-rest-2.ensures.word
     ∙ sym (too_many _ _ _ m
-    (omega (arith, c.rest-rest.ensures.size, c.saturating_add.ensures, c.saturating_add-size.ensures, c.self.invariant.room, capacity_small c.self.inside.bytes, ap (λ (v : TableView). v.most_bytes) c.self.view_is))
-    (omega (arith, c.rest-rest.ensures.count, ap (λ (v : TableView). v.most_macros) c.self.view_is)))
+    (omega (arith, c.usage_without-rest.ensures.size, c.saturating_add.ensures, c.saturating_add-size.ensures, c.self.invariant.room, capacity_small c.self.inside.bytes, ap (λ (v : TableView). v.most_bytes) c.self.view_is))
+    (omega (arith, c.usage_without-rest.ensures.count, ap (λ (v : TableView). v.most_macros) c.self.view_is)))
 
 pub replace-requires-clause-few : goal.replace-requires-clause-few
 replace-requires-clause-few c =
@@ -40,38 +46,31 @@ replace-requires-clause-few c =
 
 pub replace-requires-clause-room : goal.replace-requires-clause-room
 replace-requires-clause-room c =
-    let same : table_size (without c.args.new.now.name.now (macros_in c.self.inside.bytes.items (drop c.self.inside.front.entries c.self.inside.entries.items))) ≡ table_size (without c.args.new.now.name.now c.args.self.now.macros) = ap (λ (v : TableView). table_size (without c.args.new.now.name.now v.macros)) c.self.view_is in
-    let small : table_size (without c.args.new.now.name.now c.args.self.now.macros) ≤ c.args.self.now.most_bytes = omega (arith, without_size c.args.new.now.name.now c.args.self.now.macros, c.rest-rest.ensures.sound.bytes_fit) in
-    omega (arith, c.rest-rest.ensures.size, c.saturating_add.ensures, c.saturating_add-size.ensures, c.self.invariant.room, capacity_small c.self.inside.bytes, ap (λ (v : TableView). v.most_bytes) c.self.view_is)
+    let small : table_size (without c.args.new.now.name.now (macros_in c.self.inside.bytes.items (drop c.self.inside.front.entries c.self.inside.entries.items))) ≤ c.self.inside.most_bytes = omega (arith, without_size c.args.new.now.name.now (macros_in c.self.inside.bytes.items (drop c.self.inside.front.entries c.self.inside.entries.items)), c.self.invariant.held.sound.bytes_fit) in
+    omega (arith, c.usage_without-rest.ensures.size, c.saturating_add.ensures, c.saturating_add-size.ensures, c.self.invariant.room, capacity_small c.self.inside.bytes)
 
 pub replace-requires-clause-small : goal.replace-requires-clause-small
-replace-requires-clause-small c =
-    omega (arith, c.rest-rest.ensures.size, c.saturating_add.ensures, c.saturating_add-size.ensures, c.self.invariant.small, ap (λ (v : TableView). v.most_bytes) c.self.view_is)
+replace-requires-clause-small c = omega (arith, c.usage_without-rest.ensures.size, c.saturating_add.ensures, c.saturating_add-size.ensures, c.self.invariant.small)
 
 pub replace-requires-clause-places : goal.replace-requires-clause-places
 replace-requires-clause-places c = omega (arith, c.self.invariant.entry_room, c.self.invariant.few)
 
 pub replace-requires-clause-index_room : goal.replace-requires-clause-index_room
-replace-requires-clause-index_room c =
-    let count : length (without c.args.new.now.name.now (macros_in c.self.inside.bytes.items (drop c.self.inside.front.entries c.self.inside.entries.items))) ≡ length (without c.args.new.now.name.now c.args.self.now.macros) = ap (λ (v : TableView). length (without c.args.new.now.name.now v.macros)) c.self.view_is in
-    omega (arith, c.rest-rest.ensures.count, ap (λ (r : IndexRoom). r.places) c.self.invariant.index_room)
+replace-requires-clause-index_room c = omega (arith, c.usage_without-rest.ensures.count, ap (λ (r : IndexRoom). r.places) c.self.invariant.index_room)
 
 pub replace-requires-clause-offset_room : goal.replace-requires-clause-offset_room
 replace-requires-clause-offset_room c =
-    let same : table_size (without c.args.new.now.name.now (macros_in c.self.inside.bytes.items (drop c.self.inside.front.entries c.self.inside.entries.items))) ≡ table_size (without c.args.new.now.name.now c.args.self.now.macros) = ap (λ (v : TableView). table_size (without c.args.new.now.name.now v.macros)) c.self.view_is in
-    let small : table_size (without c.args.new.now.name.now c.args.self.now.macros) ≤ c.args.self.now.most_bytes = omega (arith, without_size c.args.new.now.name.now c.args.self.now.macros, c.rest-rest.ensures.sound.bytes_fit) in
-    omega (arith, c.rest-rest.ensures.size, c.saturating_add.ensures, c.saturating_add-size.ensures, c.self.invariant.small, ap (λ (r : IndexRoom). r.formal_offsets) c.self.invariant.index_room, ap (λ (v : TableView). v.most_bytes) c.self.view_is)
+    let small : table_size (without c.args.new.now.name.now (macros_in c.self.inside.bytes.items (drop c.self.inside.front.entries c.self.inside.entries.items))) ≤ c.self.inside.most_bytes = omega (arith, without_size c.args.new.now.name.now (macros_in c.self.inside.bytes.items (drop c.self.inside.front.entries c.self.inside.entries.items)), c.self.invariant.held.sound.bytes_fit) in
+    omega (arith, c.usage_without-rest.ensures.size, c.saturating_add.ensures, c.saturating_add-size.ensures, c.self.invariant.small, ap (λ (r : IndexRoom). r.formal_offsets) c.self.invariant.index_room)
 
 pub invariant_of-self : goal.invariant_of-self
 invariant_of-self c =
     let m : Macro = new_macro c.args.new.now.name.now c.args.new.now.arity c.args.new.now.list.now c.args.new.now.is_logical c.args.new.now.text.now in
     let size : macro_size m ≡ length c.args.new.now.name.now + (c.args.new.now.list_len + c.args.new.now.body_len) = new_size _ _ _ _ _ _ _ c.requires.counted in
     let view : TableView = view_of c.self.inside.bytes.items (drop c.self.inside.front.entries c.self.inside.entries.items) c.self.inside.most_bytes c.self.inside.most_macros in
-    let same : table_size (without c.args.new.now.name.now view.macros) ≡ table_size (without c.args.new.now.name.now c.args.self.now.macros) = ap (λ (v : TableView). table_size (without c.args.new.now.name.now v.macros)) c.self.view_is in
-    let count : length (without c.args.new.now.name.now view.macros) ≡ length (without c.args.new.now.name.now c.args.self.now.macros) = ap (λ (v : TableView). length (without c.args.new.now.name.now v.macros)) c.self.view_is in
-    let small : table_size (without c.args.new.now.name.now c.args.self.now.macros) ≤ c.args.self.now.most_bytes = omega (arith, without_size c.args.new.now.name.now c.args.self.now.macros, c.rest-rest.ensures.sound.bytes_fit) in
-    let h : table_size (without c.args.new.now.name.now view.macros) + macro_size m ≤ view.most_bytes = omega (arith, c.rest-rest.ensures.size, c.saturating_add.ensures, c.saturating_add-size.ensures, c.self.invariant.room, capacity_small c.self.inside.bytes, ap (λ (v : TableView). v.most_bytes) c.self.view_is) in
-    let k : length (without c.args.new.now.name.now view.macros) + 1 ≤ view.most_macros = omega (arith, c.rest-rest.ensures.count) in
+    let small : table_size (without c.args.new.now.name.now (macros_in c.self.inside.bytes.items (drop c.self.inside.front.entries c.self.inside.entries.items))) ≤ c.self.inside.most_bytes = omega (arith, without_size c.args.new.now.name.now (macros_in c.self.inside.bytes.items (drop c.self.inside.front.entries c.self.inside.entries.items)), c.self.invariant.held.sound.bytes_fit) in
+    let h : table_size (without c.args.new.now.name.now view.macros) + macro_size m ≤ view.most_bytes = omega (arith, c.usage_without-rest.ensures.size, c.saturating_add.ensures, c.saturating_add-size.ensures, c.self.invariant.room, capacity_small c.self.inside.bytes) in
+    let k : length (without c.args.new.now.name.now view.macros) + 1 ≤ view.most_macros = omega (arith, c.usage_without-rest.ensures.count) in
     record {
       held = held_of _ _ _ _ _ c.replace.ensures.stored (sound_with view m c.self.invariant.held.sound c.requires.sound h k);
       given_up = c.replace.ensures.given_up;
@@ -88,9 +87,11 @@ pub returns-clause-outcome : goal.returns-clause-outcome
 returns-clause-outcome c =
     let m : Macro = new_macro c.args.new.now.name.now c.args.new.now.arity c.args.new.now.list.now c.args.new.now.is_logical c.args.new.now.text.now in
     let size : macro_size m ≡ length c.args.new.now.name.now + (c.args.new.now.list_len + c.args.new.now.body_len) = new_size _ _ _ _ _ _ _ c.requires.counted in
-    let small : table_size (without c.args.new.now.name.now c.args.self.now.macros) ≤ c.args.self.now.most_bytes = omega (arith, without_size c.args.new.now.name.now c.args.self.now.macros, c.rest-rest.ensures.sound.bytes_fit) in
+    let same : table_size (without c.args.new.now.name.now (macros_in c.self.inside.bytes.items (drop c.self.inside.front.entries c.self.inside.entries.items))) ≡ table_size (without c.args.new.now.name.now c.args.self.now.macros) = ap (λ (v : TableView). table_size (without c.args.new.now.name.now v.macros)) c.self.view_is in
+    let count : length (without c.args.new.now.name.now (macros_in c.self.inside.bytes.items (drop c.self.inside.front.entries c.self.inside.entries.items))) ≡ length (without c.args.new.now.name.now c.args.self.now.macros) = ap (λ (v : TableView). length (without c.args.new.now.name.now v.macros)) c.self.view_is in
+    let small : table_size (without c.args.new.now.name.now (macros_in c.self.inside.bytes.items (drop c.self.inside.front.entries c.self.inside.entries.items))) ≤ c.self.inside.most_bytes = omega (arith, without_size c.args.new.now.name.now (macros_in c.self.inside.bytes.items (drop c.self.inside.front.entries c.self.inside.entries.items)), c.self.invariant.held.sound.bytes_fit) in
     accepted_is _
     ∙ (ap Accepted (read_back _ _ _ c.replace.ensures.stored ∙ ap (λ (v : TableView). without c.args.new.now.name.now v.macros ++ m ∷ []) c.self.view_is)
     ∙ sym (fits _ _ _ m
-    (omega (arith, c.rest-rest.ensures.size, c.saturating_add.ensures, c.saturating_add-size.ensures, c.self.invariant.room, capacity_small c.self.inside.bytes, ap (λ (v : TableView). v.most_bytes) c.self.view_is))
-    (omega (arith, c.rest-rest.ensures.count, ap (λ (v : TableView). v.most_macros) c.self.view_is))))
+    (omega (arith, c.usage_without-rest.ensures.size, c.saturating_add.ensures, c.saturating_add-size.ensures, c.self.invariant.room, capacity_small c.self.inside.bytes, ap (λ (v : TableView). v.most_bytes) c.self.view_is))
+    (omega (arith, c.usage_without-rest.ensures.count, ap (λ (v : TableView). v.most_macros) c.self.view_is))))
