@@ -255,10 +255,9 @@ joins_is raw text (Return r t j) = return_read 92 13 10 r refl refl ∙ ap (λ l
 
 -- a byte of a class in which `\` and LF are alike, or neither stands
 pub first_alike : (test : ℕ → Bool) → test 92 ≡ test 10 → (raw text : List ℕ) → Joins raw text → test (get_or raw 0 0) ≡ test (get_or text 0 0)
-first_alike test e raw text Ends = refl
-first_alike test e raw text (Byte b r t n j) = refl
 first_alike test e raw text (Line r t j) = e
 first_alike test e raw text (Return r t j) = e
+first_alike test e raw text _ = refl
 
 -- so many bytes of a text beside so many of the text as it is read
 pub data Reaches : ℕ → ℕ → List ℕ → List ℕ → Type 0 where
@@ -313,9 +312,7 @@ pub record SameEnd (n a m b : ℕ) : Type 0 where
 
 pub none_same : (raw text : List ℕ) → Joins raw text → SameEnd 0 (length raw) 0 (length text)
 none_same raw text Ends = record { there = λ h. h; back = λ h. h }
-none_same raw text (Byte b r t e j) = record { there = λ h. omega arith; back = λ h. omega arith }
-none_same raw text (Line r t j) = record { there = λ h. omega arith; back = λ h. omega arith }
-none_same raw text (Return r t j) = record { there = λ h. omega arith; back = λ h. omega arith }
+none_same raw text _ = record { there = λ h. omega arith; back = λ h. omega arith }
 
 pub reaches_end : (n m : ℕ) (raw text : List ℕ) → Reaches n m raw text → SameEnd n (length raw) m (length text)
 reaches_end n m raw text (Here r t j) = none_same r t j
@@ -341,8 +338,7 @@ reaches_cond false q' n n' m m' raw text e f g = subst (λ t. Reaches n' (cond t
 pub one_byte : (k : ℕ) → eqb 0 k ≡ false → eqb 92 k ≡ false → (raw text : List ℕ) → Joins raw text → eqb (get_or raw 0 0) k ≡ true → Reaches 1 1 raw text
 one_byte k z s raw text Ends e = absurd (false≢true (sym z ∙ e))
 one_byte k z s raw text (Byte b r t n j) e = PastByte 0 0 b r t n (Here r t j)
-one_byte k z s raw text (Line r t j) e = absurd (false≢true (sym s ∙ e))
-one_byte k z s raw text (Return r t j) e = absurd (false≢true (sym s ∙ e))
+one_byte k z s raw text _ e = absurd (false≢true (sym s ∙ e))
 
 -- The first token of a text of a logical line is that of the text as it is read.
 
@@ -372,8 +368,7 @@ alike_cond false q' raw text t t' u u' e f g = subst (λ x. Alike raw text t' (c
 pair_reaches : (x y : ℕ) → eqb 0 x ≡ false → eqb 92 x ≡ false → eqb 0 y ≡ false → eqb 92 y ≡ false → (raw text : List ℕ) → Joins raw text → (eqb (get_or raw 0 0) x && eqb (get_or raw 1 0) y) ≡ true → Reaches 2 2 raw text
 pair_reaches x y zx bx zy by raw text Ends e = absurd (false≢true (sym zx ∙ (and_parts (eqb 0 x) _ e).0))
 pair_reaches x y zx bx zy by raw text (Byte b r t n j) e = PastByte 1 1 b r t n (one_byte y zy by r t j (and_parts (eqb b x) _ e).1)
-pair_reaches x y zx bx zy by raw text (Line r t j) e = absurd (false≢true (sym bx ∙ (and_parts (eqb 92 x) _ e).0))
-pair_reaches x y zx bx zy by raw text (Return r t j) e = absurd (false≢true (sym bx ∙ (and_parts (eqb 92 x) _ e).0))
+pair_reaches x y zx bx zy by raw text _ e = absurd (false≢true (sym bx ∙ (and_parts (eqb 92 x) _ e).0))
 
 pair_alike : (x y : ℕ) → eqb 92 x ≡ false → eqb 10 x ≡ false → eqb 92 y ≡ eqb 10 y → (raw text : List ℕ) → Joins raw text → (eqb (get_or text 0 0) x && eqb (get_or text 1 0) y) ≡ (eqb (get_or raw 0 0) x && eqb (get_or raw 1 0) y)
 pair_alike x y bx lx e raw text Ends = refl
@@ -424,8 +419,6 @@ remark_alike raw text j = record { kind = refl; next_mode = refl; bytes = λ h. 
 -- where a string stops
 string_reaches : (raw text : List ℕ) → Joins raw text → (taken : Bool) → Reaches (string_stop taken raw) (string_stop taken text) raw text
 unfolding string_stop begins_perl
-string_reaches raw text Ends true = Here [] [] Ends
-string_reaches raw text Ends false = Here [] [] Ends
 string_reaches raw text (Byte b r t n j) true = PastByte _ _ b r t n (string_reaches r t j false)
 string_reaches raw text (Byte b r t n j) false =
     reaches_cond (eqb b 34 || (eqb b 60 && eqb (get_or r 0 0) 37)) (eqb b 34 || (eqb b 60 && eqb (get_or t 0 0) 37)) _ _ _ _ (b ∷ r) (b ∷ t)
@@ -436,6 +429,7 @@ string_reaches raw text (Line r t j) true = PastLine _ _ r t (string_reaches r t
 string_reaches raw text (Line r t j) false = PastLine _ _ r t (string_reaches r t j false)
 string_reaches raw text (Return r t j) true = PastReturn _ _ r t (string_reaches r t j false)
 string_reaches raw text (Return r t j) false = PastReturn _ _ r t (string_reaches r t j false)
+string_reaches raw text _ _ = Here [] [] Ends
 
 quote_alike : (n m : ℕ) (raw text : List ℕ) → Reaches n m raw text → eqb (get_or text m 0) 34 ≡ eqb (get_or raw n 0) 34
 quote_alike n m raw text p =

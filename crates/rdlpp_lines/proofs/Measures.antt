@@ -112,9 +112,8 @@ module _ (class : ℕ → Bool) where
   start_len (Sound rest last) (Sound following tail) b e h =
       let at : drop (prefix_len class rest) rest ≡ b ∷ following = cc in
       ap (λ (n : ℕ). ok_len n) (total_len b following h ∙ ap (λ (l : List ℕ). length (without_end class l)) (sym at))
-  start_len (Sound rest last) (Unsound fault) b e h = absurd (cc)
-  start_len (Unsound fault) (Sound following tail) b e h = absurd (cc)
   start_len (Unsound fault) (Unsound other) b e h = let same : fault ≡ other = cc in ap (λ (f : LexFault). no_len f) (sym same)
+  start_len _ _ b e h = absurd (cc)
 
   pub step_len : (count end : ℕ) (old new : Cleared) (b : ℕ) (t : Bool) → old ≡ onto (b ∷ []) new → class b ≡ t → ended_len class (count + 1) (cond t end (count + 1)) new ≡ ended_len class count end old
   unfolding onto ended_len len_from
@@ -451,9 +450,8 @@ unfolding is_piece_byte
 piece_byte b h = let p = or_parts (eqb b 92) (eqb b 47) (not-true _ h) in record { backslash = p.0; slash = p.1 }
 
 piece_after : (n : ℕ) (text : List ℕ) → is_one_piece text ≡ true → is_one_piece (drop n text) ≡ true
-piece_after zero text h = h
-piece_after (suc n) [] h = h
 piece_after (suc n) (b ∷ bs) h = piece_after n bs (and_parts (is_piece_byte b) _ h).1
+piece_after _ text h = h
 
 -- it has no continuation
 joined_piece : (text : List ℕ) → is_one_piece text ≡ true → joined true text ≡ text

@@ -364,10 +364,9 @@ mark_is_found b h =
 
 -- two tests of which each tells what the other does
 same_tests : (a b : Bool) → (a ≡ true → b ≡ true) → (b ≡ true → a ≡ true) → a ≡ b
-same_tests true true f g = refl
 same_tests true false f g = sym (f refl)
 same_tests false true f g = g refl
-same_tests false false f g = refl
+same_tests _ _ f g = refl
 
 -- a byte is looked up by its last four bits, and is a mark where it is the one that is found
 pub mark_found : (b : ℕ) → eqb (get_or marks (bit_and b 15) 0) b ≡ is_mark b

@@ -71,8 +71,6 @@ ends-front b c xs ys = refl
 -- where a comment ends in a front of a text
 comment_stop-front : (xs ys : List ℕ) → first_place ends_block_comment (xs ++ ys) + 2 ≤ length xs → first_place ends_block_comment xs ≡ first_place ends_block_comment (xs ++ ys)
 unfolding first_place
-comment_stop-front [] ys room = absurd (omega arith)
-comment_stop-front (b ∷ []) ys room = absurd (omega arith)
 comment_stop-front (b ∷ c ∷ xs) ys room =
     let n = first_place ends_block_comment (c ∷ xs ++ ys) in
     let P : Bool → Type 0 = λ t. cond t 0 (suc n) + 2 ≤ suc (suc (length xs)) → cond t 0 (suc (first_place ends_block_comment (c ∷ xs))) ≡ cond t 0 (suc n) in
@@ -81,6 +79,7 @@ comment_stop-front (b ∷ c ∷ xs) ys room =
     let same : ends_block_comment (b ∷ c ∷ xs ++ ys) ≡ ends_block_comment (b ∷ c ∷ xs) = ends-front b c xs ys in
     subst (λ t. cond t 0 (suc n) + 2 ≤ suc (suc (length xs)) → cond (ends_block_comment (b ∷ c ∷ xs)) 0 (suc (first_place ends_block_comment (c ∷ xs))) ≡ cond t 0 (suc n)) (sym same)
     (elim (ends_block_comment (b ∷ c ∷ xs)) as P [ true ↦ at_true | false ↦ at_false ]) room
+comment_stop-front _ ys room = absurd (omega arith)
 
 -- a token that ends in the front xs of a text: it is closed, covers xs, or stands before a whole `<%` in xs
 pub record EndsIn (u : Token) (xs : List ℕ) : Type 0 where

@@ -321,14 +321,12 @@ string_open-resumes c o l n bs =
 string_by_mode : (c : Course) (o l : ℕ) (k : Kind) (n : ℕ) (m : Mode) (bs : List ℕ) → k ≡ Str → ResumesStep (string_step c o l (record { kind = k; len = n; next_mode = m }) bs)
 unfolding string_step
 string_by_mode c o l k n Plain bs is = NextText k (take n bs) l (inl is) refl
-string_by_mode c o l k n InStr bs is = string_open-resumes c o l n bs
-string_by_mode c o l k n InBlock bs is = string_open-resumes c o l n bs
+string_by_mode c o l k n _ bs is = string_open-resumes c o l n bs
 
 comment_by_mode : (c : Course) (o l : ℕ) (k : Kind) (n : ℕ) (m : Mode) (bs : List ℕ) → k ≡ BlockComment → ResumesStep (comment_step c o l (record { kind = k; len = n; next_mode = m }) bs)
 unfolding comment_step
 comment_by_mode c o l k n Plain bs is = NextText k (take n bs) l (inr is) refl
-comment_by_mode c o l k n InStr bs is = open_end-breaks c CommentOpen o l (take n bs)
-comment_by_mode c o l k n InBlock bs is = open_end-breaks c CommentOpen o l (take n bs)
+comment_by_mode c o l k n _ bs is = open_end-breaks c CommentOpen o l (take n bs)
 
 -- the tokens behind a step
 unfoldable pub after_step : (c : Course) (l b : ℕ) (bs : List ℕ) → Step → List SourceToken
@@ -532,14 +530,12 @@ string_open-kind c k o l n bs =
 string-kind : (c : Course) (o l : ℕ) (k : Kind) (n : ℕ) (m : Mode) (bs : List ℕ) → StepKind k (string_step c o l (record { kind = k; len = n; next_mode = m }) bs)
 unfolding string_step StepKind
 string-kind c o l k n Plain bs = inl refl
-string-kind c o l k n InStr bs = string_open-kind c k o l n bs
-string-kind c o l k n InBlock bs = string_open-kind c k o l n bs
+string-kind c o l k n _ bs = string_open-kind c k o l n bs
 
 comment-kind : (c : Course) (o l : ℕ) (k : Kind) (n : ℕ) (m : Mode) (bs : List ℕ) → StepKind k (comment_step c o l (record { kind = k; len = n; next_mode = m }) bs)
 unfolding comment_step StepKind
 comment-kind c o l k n Plain bs = inl refl
-comment-kind c o l k n InStr bs = open_end-kind c CommentOpen k o l (take n bs)
-comment-kind c o l k n InBlock bs = open_end-kind c CommentOpen k o l (take n bs)
+comment-kind c o l k n _ bs = open_end-kind c CommentOpen k o l (take n bs)
 
 definition-kind : (k : Kind) (bytes : List ℕ) (l : ℕ) → StepKind k (Next (record { sort = Definition; bytes = bytes; line = l }))
 unfolding StepKind is_ordinary

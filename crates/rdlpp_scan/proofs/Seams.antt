@@ -94,12 +94,11 @@ still_taken-whole false (b ∷ c ∷ xs) some whole = still_taken-whole (eqb b 9
 -- an LF is taken along or not with no difference
 string_stop-ten : (taken : Bool) (ys : List ℕ) → get_or ys 0 0 ≡ 10 → string_stop taken ys ≡ string_stop false ys
 unfolding string_stop begins_perl
-string_stop-ten false ys ten = refl
-string_stop-ten true [] ten = refl
 string_stop-ten true (y ∷ ys) ten =
     let P : ℕ → Type 0 = λ n. suc (string_stop false ys) ≡ cond (eqb n 34 || (eqb n 60 && eqb (get_or ys 0 0) 37)) 0 (suc (string_stop (eqb n 92) ys)) in
     let at_ten : P 10 = refl in
     subst P (sym ten) at_ten
+string_stop-ten _ ys ten = refl
 
 -- behind a cut a string goes on as at its beginning
 string_stop-following : (xs ys : List ℕ) → IsCut xs ys → string_stop (still_taken false xs) ys ≡ string_stop false ys

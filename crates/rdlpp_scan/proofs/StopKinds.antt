@@ -529,8 +529,7 @@ block_room mode bs some is =
 pub opened-most : (mode : Mode) (n : ℕ) → opened mode n ≤ n
 unfolding opened
 opened-most Plain n = omega arith
-opened-most InStr n = omega arith
-opened-most InBlock n = omega arith
+opened-most _ n = omega arith
 
 -- a token that is built of its parts
 pub built_token : (mode : Mode) (bs : List ℕ) (kind : Kind) (stop : ℕ) (following : Mode) (len : ℕ) → kind ≡ kind_of mode bs → stop ≡ stop_of mode kind bs
@@ -686,5 +685,4 @@ plain_argument_run (b ∷ bs) = elim (cases_Bool (is_plain_argument b)) [
 pub plain_argument_passed : (mode : Mode) (bs : List ℕ) → fault_of_tokens mode (tokens_from mode 0 bs) ≡ fault_of_tokens mode (tokens_from mode 0 (drop (plain_argument_len mode bs) bs))
 unfolding plain_argument_len fault
 plain_argument_passed Plain bs = plain_argument_run bs
-plain_argument_passed InStr bs = refl
-plain_argument_passed InBlock bs = refl
+plain_argument_passed _ bs = refl

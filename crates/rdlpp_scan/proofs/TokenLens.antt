@@ -27,10 +27,9 @@ agree_below f g zero = true
 agree_below f g (suc n) = beq (f n) (g n) && agree_below f g n
 
 both_of : (x y rest : Bool) → (beq x y && rest) ≡ true → (x ≡ y) × (rest ≡ true)
-both_of true true rest h = (refl, h)
 both_of true false rest h = cc
 both_of false true rest h = cc
-both_of false false rest h = (refl, h)
+both_of _ _ rest h = (refl, h)
 
 agree_at : (f g : ℕ → Bool) (n : ℕ) → agree_below f g n ≡ true → (b : ℕ) → b < n → f b ≡ g b
 unfolding agree_below
@@ -231,9 +230,7 @@ plain_len-to_end bs i le before end =
 
 inert_step : (a b c p : Bool) (s : Bool → ℕ) → (a || b || c) ≡ false → cond (a || (c && p)) 0 (suc (s b)) ≡ suc (s false)
 inert_step false false false p s h = refl
-inert_step false false true p s h = absurd (false≢true (sym h))
-inert_step false true c p s h = absurd (false≢true (sym h))
-inert_step true b c p s h = absurd (false≢true (sym h))
+inert_step _ b c p s h = absurd (false≢true (sym h))
 
 -- bytes that don't matter to a string are passed over
 string_stop-pass : (xs : List ℕ) (k : ℕ) → k ≤ length xs → ((j : ℕ) → j < k → is_byte3 34 92 60 (get_or xs j 0) ≡ false) → string_stop false xs ≡ k + string_stop false (drop k xs)
@@ -450,10 +447,8 @@ token_of-part InBlock bs some = block_token-part 0 bs (omega arith) some
 -- bytes that are passed over are dropped
 pub tokens_from-skip : (m : Mode) (n : ℕ) (bs : List ℕ) → tokens_from m n bs ≡ tokens_from m 0 (drop n bs)
 unfolding tokens_from
-tokens_from-skip m zero [] = refl
-tokens_from-skip m (suc n) [] = refl
-tokens_from-skip m zero (b ∷ bs) = refl
 tokens_from-skip m (suc n) (b ∷ bs) = tokens_from-skip m n bs
+tokens_from-skip m _ _ = refl
 
 tokens_from-following : (m : Mode) (n b : ℕ) (bs : List ℕ) → 0 < n → tokens_from m (n - 1) bs ≡ tokens_from m 0 (drop n (b ∷ bs))
 tokens_from-following m zero b bs long = absurd (omega arith)
@@ -552,9 +547,8 @@ word_run bs k some h =
     run-ends bs k n long (prefix_len_passes is_word bs (n - 1) 0 (omega arith))
 
 rest_some : (bs : List ℕ) → 1 < length bs → 0 < length (drop 1 bs)
-rest_some [] lt = absurd (omega arith)
-rest_some (b ∷ []) lt = absurd (omega arith)
 rest_some (b ∷ c ∷ bs) lt = omega arith
+rest_some _ lt = absurd (omega arith)
 
 -- a run of them behind a first byte
 run_after : (bs : List ℕ) (k : Kind) → is_word (get_or bs 1 0) ≡ true → Ends bs (whole k (suc (prefix_len is_word (drop 1 bs))))

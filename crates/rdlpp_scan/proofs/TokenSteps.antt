@@ -231,8 +231,7 @@ define_step-none c l bs is last fits =
 pub source_step-by : (c : Course) (m : Mode) (o l : ℕ) (bs : List ℕ) → source_step c m o l bs ≡ step_by c (opening m o l) l (token_of m bs) bs
 unfolding source_step opening
 source_step-by c Plain o l bs = refl
-source_step-by c InStr o l bs = refl
-source_step-by c InBlock o l bs = refl
+source_step-by c _ o l bs = refl
 
 -- a kind whose tokens stand in the list as they are, where they are closed
 unfoldable pub is_kept_kind : Kind → Bool
@@ -316,8 +315,7 @@ string_step-by : (c : Course) (o l : ℕ) (p more : List ℕ) (k : Kind) (n : �
     → string_step c o l (record { kind = k; len = length p + n; next_mode = m }) (p ++ more) ≡ onto_step p l (string_step c o (l + line_ends p) (record { kind = k; len = n; next_mode = m }) more)
 unfolding string_step onto_step with_part line_with broken
 string_step-by c o l p more k n Plain = ap (λ z. Next (record { sort = Ordinary k; bytes = z; line = l })) (take-append-add p more n)
-string_step-by c o l p more k n InStr = string_open-by c o l p more n
-string_step-by c o l p more k n InBlock = string_open-by c o l p more n
+string_step-by c o l p more k n _ = string_open-by c o l p more n
 
 string_step-with : (c : Course) (o l : ℕ) (p more : List ℕ) (v : Token) → string_step c o l (longer (length p) v) (p ++ more) ≡ onto_step p l (string_step c o (l + line_ends p) v more)
 string_step-with c o l p more v = string_step-by c o l p more v.kind v.len v.next_mode
@@ -327,8 +325,7 @@ comment_step-by : (c : Course) (o l : ℕ) (p more : List ℕ) (k : Kind) (n : �
     → comment_step c o l (record { kind = k; len = length p + n; next_mode = m }) (p ++ more) ≡ onto_step p l (comment_step c o (l + line_ends p) (record { kind = k; len = n; next_mode = m }) more)
 unfolding comment_step onto_step with_part line_with
 comment_step-by c o l p more k n Plain = ap (λ z. Next (record { sort = Ordinary k; bytes = z; line = l })) (take-append-add p more n)
-comment_step-by c o l p more k n InStr = ap (open_end c CommentOpen o l) (take-append-add p more n) ∙ open_end-with c CommentOpen o l p (take n more)
-comment_step-by c o l p more k n InBlock = ap (open_end c CommentOpen o l) (take-append-add p more n) ∙ open_end-with c CommentOpen o l p (take n more)
+comment_step-by c o l p more k n _ = ap (open_end c CommentOpen o l) (take-append-add p more n) ∙ open_end-with c CommentOpen o l p (take n more)
 
 comment_step-with : (c : Course) (o l : ℕ) (p more : List ℕ) (v : Token) → comment_step c o l (longer (length p) v) (p ++ more) ≡ onto_step p l (comment_step c o (l + line_ends p) v more)
 comment_step-with c o l p more v = comment_step-by c o l p more v.kind v.len v.next_mode
@@ -480,8 +477,7 @@ comment_by_mode : (c : Course) (o l : ℕ) (k : Kind) (n : ℕ) (m : Mode) (more
 unfolding comment_step
 comment_by_mode c o l k n Plain more fits =
     let p = fits refl in let size = length-take-le n more p.1 in IsNext _ refl (omega (arith, size, p.0)) (omega (arith, p.0, p.1))
-comment_by_mode c o l k n InStr more fits = open_end-last c CommentOpen o l (take n more) more
-comment_by_mode c o l k n InBlock more fits = open_end-last c CommentOpen o l (take n more) more
+comment_by_mode c o l k n _ more fits = open_end-last c CommentOpen o l (take n more) more
 
 closed_comment-fits : (more : List ℕ) → (block_token 0 more).next_mode ≡ Plain → (0 < (block_token 0 more).len) × ((block_token 0 more).len ≤ length more)
 unfolding token_of block_token first_place

@@ -30,9 +30,8 @@ folder_of-none (b ∷ bs) h = ap (λ t. cond t (b ∷ folder_of bs) []) h
 
 -- a list that has a `/` from some place on has one
 any-drop : (i : ℕ) (bs : List ℕ) → list_any (λ c. c == 47) (drop i bs) ≡ true → list_any (λ c. c == 47) bs ≡ true
-any-drop zero bs h = h
-any-drop (suc i) [] h = h
 any-drop (suc i) (b ∷ bs) h = or_right (b == 47) (list_any (λ c. c == 47) bs) (any-drop i bs h)
+any-drop _ bs h = h
 
 -- the folder of a path that has a `/` begins with the path's first byte
 folder_of-step : (b : ℕ) (bs : List ℕ) → list_any (λ c. c == 47) (b ∷ bs) ≡ true → folder_of (b ∷ bs) ≡ b ∷ folder_of bs
@@ -65,27 +64,19 @@ folder_of-at bs i j none here =
 
 -- an exact answer is what sources that tell their texts may answer
 pub Finds-from_Gives : {R : Type 0} (unread : R → List ℕ) (answer : Answer) (r : Result (Found R) SourceFault) → Gives unread answer r → Finds unread answer r
-Finds-from_Gives unread answer (Ok found) h = h
-Finds-from_Gives unread answer (Err Absent) h = h
-Finds-from_Gives unread answer (Err PathTooLong) h = h
 Finds-from_Gives unread answer (Err Device) h = absurd h
 Finds-from_Gives unread answer (Err NoMemory) h = absurd h
+Finds-from_Gives unread answer _ h = h
 
 -- no device failed where the answer is exact
 pub failures-from_Gives : {R : Type 0} (unread : R → List ℕ) (answer : Answer) (r : Result (Found R) SourceFault) (n : ℕ) → Gives unread answer r → Counts (is_device r) n n
-failures-from_Gives unread answer (Ok found) n h = refl
-failures-from_Gives unread answer (Err Absent) n h = refl
-failures-from_Gives unread answer (Err PathTooLong) n h = refl
 failures-from_Gives unread answer (Err Device) n h = absurd h
-failures-from_Gives unread answer (Err NoMemory) n h = refl
+failures-from_Gives unread answer _ n h = refl
 
 -- no memory was refused where the answer is exact
 pub refusals-from_Gives : {R : Type 0} (unread : R → List ℕ) (answer : Answer) (r : Result (Found R) SourceFault) (n : ℕ) → Gives unread answer r → Counts (is_no_memory r) n n
-refusals-from_Gives unread answer (Ok found) n h = refl
-refusals-from_Gives unread answer (Err Absent) n h = refl
-refusals-from_Gives unread answer (Err PathTooLong) n h = refl
-refusals-from_Gives unread answer (Err Device) n h = refl
 refusals-from_Gives unread answer (Err NoMemory) n h = absurd h
+refusals-from_Gives unread answer _ n h = refl
 
 -- no device failed where a read gave bytes
 pub failures-from_Ok : (r : Result ℕ SourceFault) (k n : ℕ) → r ≡ Ok k → Counts (is_device r) n n
@@ -96,8 +87,7 @@ failures-from_Ok r k n h = let P : Result ℕ SourceFault → Type 0 = λ t. Cou
 -- what a search says of an answer: where it came to one, it is this
 abbrev Says : Search → Answer → Type 0
 Says (Answered found) answer = answer ≡ found
-Says SearchFault answer = ⊤
-Says (Wanted path) answer = ⊤
+Says _ answer = ⊤
 
 known_says : (asks : Bool) (path : List ℕ) (s : Option Standing) → Says (known_search asks path s) (at_path path (standing_text s))
 known_says asks path (Some (Text text)) = refl
@@ -120,10 +110,9 @@ at_says texts path =
 
 or_says : (s t : Search) (x y : Answer) → Says s x → Says t y → Says (search_or s t) (answer_or x y)
 or_says (Answered Missing) t x y p q = subst (λ (a : Answer). Says t (answer_or a y)) (sym p) q
-or_says (Answered Overlong) t x y p q = ap (λ (a : Answer). answer_or a y) p
-or_says (Answered (Present path text)) t x y p q = ap (λ (a : Answer). answer_or a y) p
 or_says SearchFault t x y p q = tt
 or_says (Wanted path) t x y p q = tt
+or_says _ t x y p q = ap (λ (a : Answer). answer_or a y) p
 
 first_says : (texts : AskedTexts) (paths : List (List ℕ)) → Says (first_search texts paths) (first_answer (text_at texts) paths)
 first_says texts [] = refl
@@ -131,19 +120,14 @@ first_says texts (path ∷ paths) =
     or_says (search_at texts path) (first_search texts paths) (answer_at (text_at texts) path) (first_answer (text_at texts) paths) (at_says texts path) (first_says texts paths)
 
 says_finds : (s : Search) (answer : Answer) (r : Result (Found (List ℕ)) SourceFault) (wanted : Option (List ℕ)) → Says s answer → Answers s r wanted → Finds unread_of answer r
-says_finds s answer (Ok found) wanted says a = subst (λ (t : Search). Says t answer) a.0 says
-says_finds s answer (Err Absent) wanted says a = subst (λ (t : Search). Says t answer) a.0 says
-says_finds s answer (Err PathTooLong) wanted says a = subst (λ (t : Search). Says t answer) a.0 says
 says_finds s answer (Err Device) wanted says a = tt
 says_finds s answer (Err NoMemory) wanted says a = tt
+says_finds s answer _ wanted says a = subst (λ (t : Search). Says t answer) a.0 says
 
 -- the first candidate at which a text stands ends a search
 pub found_or : (s next : Search) → is_found s ≡ true → is_found (search_or s next) ≡ true
-found_or (Answered Missing) next e = cc e
-found_or (Answered Overlong) next e = cc e
 found_or (Answered (Present path text)) next e = refl
-found_or SearchFault next e = cc e
-found_or (Wanted path) next e = cc e
+found_or _ next e = cc e
 
 -- a search that is told as it ended within answers so
 pub answers_of : (s : Search) (within : Result (Found (List ℕ)) Stop) (r : Result (Found (List ℕ)) SourceFault) (wanted : Option (List ℕ))
@@ -154,11 +138,7 @@ answers_of s (Err TooLong) (Err fault) wanted c e = subst (λ (f : SourceFault).
 answers_of s (Err NotOpened) (Err fault) wanted c e = subst (λ (f : SourceFault). Answers s (Err f) wanted) (sym e.0) (c ∙ ap failed_search (sym e.1))
 answers_of s (Err NoRoom) (Err fault) wanted c e = subst (λ (f : SourceFault). Answers s (Err f) wanted) (sym e.0) (c, e.1)
 answers_of s (Err (NotKnown path)) (Err fault) wanted c e = subst (λ (f : SourceFault). Answers s (Err f) wanted) (sym e.0) (c ∙ ap failed_search (sym e.1))
-answers_of s (Err NotThere) (Ok found) wanted c e = absurd e
-answers_of s (Err TooLong) (Ok found) wanted c e = absurd e
-answers_of s (Err NotOpened) (Ok found) wanted c e = absurd e
-answers_of s (Err NoRoom) (Ok found) wanted c e = absurd e
-answers_of s (Err (NotKnown path)) (Ok found) wanted c e = absurd e
+answers_of s _ _ wanted c e = absurd e
 
 -- the search for a path gives what the catalog has
 pub finds_top : (texts : AskedTexts) (path : List ℕ) (r : Result (Found (List ℕ)) SourceFault) (wanted : Option (List ℕ))
@@ -176,15 +156,12 @@ finds_named texts from name r wanted a =
 -- whether a search came to an answer
 is_answered : Search → Bool
 is_answered (Answered found) = true
-is_answered SearchFault = false
-is_answered (Wanted path) = false
+is_answered _ = false
 
 known_answered : (path : List ℕ) (s : Option Standing) → is_answered (known_search false path s) ≡ true
 unfolding is_answered
 known_answered path (Some (Text text)) = refl
-known_answered path (Some Gone) = refl
-known_answered path (Some Failed) = refl
-known_answered path None = refl
+known_answered path _ = refl
 
 cond_answered : (b : Bool) (s t : Search) → is_answered s ≡ true → is_answered t ≡ true → is_answered (cond b s t) ≡ true
 cond_answered true s t p q = p
@@ -201,10 +178,9 @@ at_answered texts path e =
 or_answered : (s t : Search) → is_answered s ≡ true → is_answered t ≡ true → is_answered (search_or s t) ≡ true
 unfolding is_answered
 or_answered (Answered Missing) t p q = q
-or_answered (Answered Overlong) t p q = refl
-or_answered (Answered (Present path text)) t p q = refl
 or_answered SearchFault t p q = p
 or_answered (Wanted path) t p q = p
+or_answered _ t p q = refl
 
 first_answered : (texts : AskedTexts) (paths : List (List ℕ)) → texts.asks ≡ false → is_answered (first_search texts paths) ≡ true
 unfolding is_answered
@@ -217,11 +193,8 @@ failed_unanswered None = refl
 failed_unanswered (Some path) = refl
 
 answered_unfailed : (s : Search) (r : Result (Found (List ℕ)) SourceFault) (wanted : Option (List ℕ)) → is_answered s ≡ true → Answers s r wanted → is_device r ≡ false
-answered_unfailed s (Ok found) wanted e a = refl
-answered_unfailed s (Err Absent) wanted e a = refl
-answered_unfailed s (Err PathTooLong) wanted e a = refl
 answered_unfailed s (Err Device) wanted e a = let bad = ap is_answered a in let none = failed_unanswered wanted in cc
-answered_unfailed s (Err NoMemory) wanted e a = refl
+answered_unfailed s _ wanted e a = refl
 
 -- the search for a path fails at no device where none is asked for
 pub top_unfailed : (texts : AskedTexts) (path : List ℕ) (r : Result (Found (List ℕ)) SourceFault) (wanted : Option (List ℕ))
