@@ -1,17 +1,17 @@
 -- Texts without `//` comments, and without a lexical fault: their tokens, their fronts, and what is left of them.
-use Rattle.std.proofs.Common.{◌≡◌, ◌⊎◌, ℕ, zero, suc, ◌+◌, ◌<◌, ◌≤◌, Bool, true, false, not, cond, ◌&&◌, eqb, List, [], ◌∷◌, ◌++◌, Option, Some, length, get_or, take, drop, refl, sym, ap, ◌∙◌, subst, inl, inr, ⊎_elim, arith, ◌-◌, None, filter, eqb-true, append_assoc, append-nil, length-append, length-drop, length-take-le, get_or-drop, take-take, take-add}
+use Rattle.std.proofs.Common.{◌≡◌, ◌⊎◌, ℕ, zero, suc, ◌+◌, ◌<◌, ◌≤◌, Bool, true, false, not, cond, List, ◌∷◌, ◌++◌, Option, Some, length, get_or, take, drop, refl, sym, ap, ◌∙◌, subst, inl, inr, ⊎_elim, arith, ◌-◌, None, filter, eqb-true, append_assoc, append-nil, length-append, length-drop, length-take-le, get_or-drop, take-take, take-add, []}
 use Rattle.std.specs.List.{concat, prefix_len, AllByRecursion}
 use Rattle.std.proofs.lemmas.Bool.{cond_both, false≢true, cases_Bool, cases_lt, or_cases, false_from_ne_true}
 use Rattle.std.proofs.lemmas.List.{drop-take}
 use Rattle.std.proofs.Math.Seq.{take-append_seam, drop-append_seam}
-use Rattle.rdlpp_scan.specs.declared.token.Kind.TheVariants.{LineComment, Blank, LineEnd, Perl}
+use Rattle.rdlpp_scan.specs.declared.token.Kind.TheVariants.{LineComment, Blank, LineEnd}
 use Rattle.rdlpp_scan.specs.declared.token.Mode.{Mode}
 use Rattle.rdlpp_scan.specs.declared.token.Mode.TheVariants.{Plain, InStr, InBlock}
 use Rattle.rdlpp_scan.specs.declared.token.Token.{Token}
 use Rattle.rdlpp_scan.specs.declared.token.LexFault.{LexFault}
 use Rattle.rdlpp_scan.specs.declared.token.LexFault.TheVariants.{Perl as PerlFault}
-use Rattle.rdlpp_scan.specs.Bytes.{is_blank, is_line_end, is_letter, is_digit, is_word, is_opener, is_closer, takes_word, begins_perl, begins_line_comment, begins_block_comment}
-use Rattle.rdlpp_scan.specs.Tokens.{whole, plain_token, token_of, tokens_from, string_token}
+use Rattle.rdlpp_scan.specs.Bytes.{is_blank, is_line_end, begins_perl}
+use Rattle.rdlpp_scan.specs.Tokens.{whole, plain_token, token_of, tokens_from}
 use Rattle.rdlpp_scan.specs.Pieces.{IsCut, tokens_len, mode_after}
 use Rattle.rdlpp_scan.specs.LexFaults.{fault_of_tokens, is_perl, lex_fault_from, open_fault}
 use Rattle.rdlpp_scan.specs.Comments.{is_line_comment, other_tokens, other_texts, token_texts, without_line_comments}
@@ -38,24 +38,7 @@ no_comment t u other one = absurd (false≢true (sym other ∙ one.kind))
 
 plain-comment : (bs : List ℕ) → IsOne (plain_token bs) → plain_token bs ≡ comment bs
 unfolding plain_token whole is_line_comment
-plain-comment bs =
-    let b = get_or bs 0 0 in
-    let c = get_or bs 1 0 in
-    let P : Token → Type 0 = λ t. IsOne t → t ≡ comment bs in
-    cond_both (begins_perl bs) _ _ P (λ _. no_comment _ _ refl) (λ _.
-    cond_both (is_line_end b) _ _ P (λ _. no_comment _ _ refl) (λ _.
-    cond_both (is_blank b) _ _ P (λ _. no_comment _ _ refl) (λ _.
-    cond_both (begins_line_comment bs) _ _ P (λ _ _. refl) (λ _.
-    cond_both (begins_block_comment bs) _ _ P (λ _. no_comment _ _ (ap is_line_comment (block_token-kind 2 bs))) (λ _.
-    cond_both (eqb b 34) _ _ P (λ _. no_comment _ _ (ap is_line_comment (string_token-kind 1 bs))) (λ _.
-    cond_both (is_letter b) _ _ P (λ _. no_comment _ _ refl) (λ _.
-    cond_both (is_digit b) _ _ P (λ _. no_comment _ _ refl) (λ _.
-    cond_both (takes_word b && is_word c) _ _ P (λ _. no_comment _ _ refl) (λ _.
-    cond_both (eqb b 96 && is_letter c) _ _ P (λ _. no_comment _ _ refl) (λ _.
-    cond_both (eqb b 96) _ _ P (λ _. no_comment _ _ refl) (λ _.
-    cond_both (is_opener b) _ _ P (λ _. no_comment _ _ refl) (λ _.
-    cond_both (is_closer b) _ _ P (λ _. no_comment _ _ refl) (λ _.
-    cond_both (eqb b 44) _ _ P (λ _. no_comment _ _ refl) (λ _. no_comment _ _ refl))))))))))))))
+plain-comment bs = grind (arith, cond_both, no_comment, block_token-kind, string_token-kind)
 
 -- a `//` comment stands in plain text, and ends before an LF or with the text
 record IsComment (m : Mode) (bs : List ℕ) (t : Token) : Type 0 where
@@ -65,9 +48,7 @@ record IsComment (m : Mode) (bs : List ℕ) (t : Token) : Type 0 where
 comment_at : (m : Mode) (bs : List ℕ) → is_line_comment (token_of m bs).kind ≡ true → IsComment m bs (token_of m bs)
 unfolding token_of whole is_line_comment
 comment_at Plain bs is = record { mode = refl; token = plain-comment bs (record { kind = is }) }
-comment_at InStr bs is =
-    let P : Token → Type 0 = λ t. is_line_comment t.kind ≡ false in
-    absurd (false≢true (sym (cond_both (begins_perl bs) _ _ P (λ _. refl) (λ _. ap is_line_comment (string_token-kind 0 bs))) ∙ is))
+comment_at InStr bs is = grind (arith, false≢true, cond_both, string_token-kind)
 comment_at InBlock bs is = absurd (false≢true (sym (ap is_line_comment (block_token-kind 0 bs)) ∙ is))
 
 -- nothing, or what begins with LF
@@ -91,20 +72,12 @@ left m bs = concat (other_texts (tokens_from m 0 bs) bs)
 -- what is left of a text, by its first token
 left-comment : (m : Mode) (bs : List ℕ) → 0 < length bs → is_line_comment (token_of m bs).kind ≡ true → left m bs ≡ left (token_of m bs).next_mode (drop (token_of m bs).len bs)
 unfolding other_texts
-left-comment m bs some is =
-    let t = token_of m bs in
-    let ts = tokens_from t.next_mode 0 (drop t.len bs) in
-    let later = other_texts ts (drop t.len bs) in
-    ap (λ us. concat (other_texts us bs)) (tokens_from-step m bs some (token_of-part m bs some).not_empty) ∙ ap (λ b. concat (cond b later (take t.len bs ∷ later))) is
+left-comment m bs some is = grind (arith, tokens_from-step, token_of-part)
 
 left-other : (m : Mode) (bs : List ℕ) → 0 < length bs → is_line_comment (token_of m bs).kind ≡ false
     → left m bs ≡ take (token_of m bs).len bs ++ left (token_of m bs).next_mode (drop (token_of m bs).len bs)
 unfolding other_texts
-left-other m bs some other =
-    let t = token_of m bs in
-    let ts = tokens_from t.next_mode 0 (drop t.len bs) in
-    let later = other_texts ts (drop t.len bs) in
-    ap (λ us. concat (other_texts us bs)) (tokens_from-step m bs some (token_of-part m bs some).not_empty) ∙ ap (λ b. concat (cond b later (take t.len bs ∷ later))) other
+left-other m bs some other = grind (arith, tokens_from-step, token_of-part)
 
 line_end-token : (b : ℕ) (bs : List ℕ) → b ≡ 10 → is_line_comment (token_of Plain (b ∷ bs)).kind ≡ false
 unfolding token_of plain_token begins_perl is_line_end is_line_comment whole
@@ -126,10 +99,7 @@ left-line (b ∷ bs) next =
 -- what is left behind a `//` comment is empty or begins with LF
 left-after_comment : (m : Mode) (bs : List ℕ) → 0 < length bs → is_line_comment (token_of m bs).kind ≡ true → NextIsLine (left m bs)
 unfolding whole
-left-after_comment m bs some is =
-    let t = token_of m bs in
-    let made = (comment_at m bs is).token in
-    subst NextIsLine (sym (left-comment m bs some is ∙ ap (λ (u : Token). left u.next_mode (drop u.len bs)) made)) (left-line (drop (comment bs).len bs) (comment-next bs))
+left-after_comment m bs some is = grind (arith, comment_at, left-comment, left-line, comment-next)
 
 -- a first token is that of its own bytes
 own_token : (m : Mode) (bs : List ℕ) → 0 < length bs → token_of m (take (token_of m bs).len bs) ≡ token_of m bs
@@ -312,13 +282,7 @@ open_is_fault InBlock bs at e ok = let bad = fault-end InBlock bs at (omega arit
 closed_by_seam : (bs : List ℕ) (t u : Token) → Seam bs [] t u → fault_after t bs ≡ None → t.next_mode ≡ Plain
 unfolding token_of is_perl whole
 closed_by_seam bs t u (Closed e h) ok = h
-closed_by_seam bs t u (BeforePerl e is lt perl) ok =
-    let rest = drop t.len bs in
-    let mode : t.next_mode ≡ InStr = ap (λ (v : Token). v.next_mode) is in
-    let first : is_perl (token_of InStr rest).kind ≡ true = ap (λ b. is_perl (cond b (whole Perl 2) (string_token 0 rest)).kind) perl in
-    let bad = fault-perl InStr rest (omega (arith, length-drop t.len bs)) first in
-    let here : fault_of_tokens InStr (tokens_from InStr 0 rest) ≡ None = subst (λ (m : Mode). fault_of_tokens m (tokens_from m 0 rest) ≡ None) mode ok in
-    absurd (cc)
+closed_by_seam bs t u (BeforePerl e is lt perl) ok = grind (arith, fault-perl, length-drop)
 closed_by_seam bs t u (OpenString is e) ok = open_is_fault t.next_mode bs t.len (ap (λ (v : Token). v.len) is) ok
 closed_by_seam bs t u (OpenComment is e) ok = open_is_fault t.next_mode bs t.len (ap (λ (v : Token). v.len) is) ok
 
@@ -380,9 +344,7 @@ clean_nothing = clean_of_tokens [] tt
 
 -- a text that is cut behind clean tokens is clean
 pub clean_front : (ts us : List Token) (text : List ℕ) → tokens_from Plain 0 text ≡ ts ++ us → AllByRecursion IsCleanToken ts → IsCleanText (take (tokens_len ts) text)
-clean_front ts us text e all =
-    let C : List Token → Type 0 = λ ts. AreClean ts in
-    clean_of_tokens (take (tokens_len ts) text) (subst C (sym (tokens_from-front ts us Plain text e)) all)
+clean_front ts us text e all = grind (arith, clean_of_tokens, tokens_from-front)
 
 clean_part : (ts us : List Token) → AreClean (ts ++ us) → AreClean ts
 clean_part [] us all = tt
@@ -390,31 +352,21 @@ clean_part (t ∷ ts) us all = (all.0, clean_part ts us all.1)
 
 others_kept : (ts : List Token) → AreKept (filter (λ t. not (is_line_comment t.kind)) ts)
 others_kept [] = tt
-others_kept (t ∷ ts) =
-    let later = filter (λ (u : Token). not (is_line_comment u.kind)) ts in
-    let P : Bool → Type 0 = λ c. is_line_comment t.kind ≡ c → AreKept (cond (not c) (t ∷ later) later) in
-    elim (is_line_comment t.kind) as P [ true ↦ λ _. others_kept ts | false ↦ λ e. (e, others_kept ts) ] refl
+others_kept (t ∷ ts) = grind (arith, (others_kept ts))
 
 -- a text without a lexical fault is clean without its `//` comments
 pub clean_without : (text : List ℕ) → lex_fault_from Plain text ≡ None → IsCleanText (without_line_comments Plain text)
 unfolding other_tokens
-clean_without text ok =
-    let K : List Token → Type 0 = λ ts. AreKept ts in
-    record { faultless = without-fault Plain text ∙ ok; uncommented = subst K (sym (without-tokens Plain text)) (others_kept (tokens_from Plain 0 text)) }
+clean_without text ok = grind (arith, without-fault, without-tokens, others_kept)
 
 pub blank-step : (b : ℕ) (bs : List ℕ) → is_blank b ≡ true → tokens_from Plain 0 (b ∷ bs) ≡ whole Blank (prefix_len is_blank (b ∷ bs)) ∷ tokens_from Plain 0 (drop (prefix_len is_blank (b ∷ bs)) (b ∷ bs))
 unfolding whole
-blank-step b bs h =
-    let some : 0 < length (b ∷ bs) = omega arith in
-    tokens_from-step Plain (b ∷ bs) some (token_of-part Plain (b ∷ bs) some).not_empty ∙ ap (λ (u : Token). u ∷ tokens_from u.next_mode 0 (drop u.len (b ∷ bs))) (blank_token b bs h)
+blank-step b bs h = grind (arith, tokens_from-step, token_of-part, blank_token)
 
 -- an LF is one token
 pub line-step : (b : ℕ) (bs : List ℕ) → is_line_end b ≡ true → tokens_from Plain 0 (b ∷ bs) ≡ whole LineEnd 1 ∷ tokens_from Plain 0 bs
 unfolding token_of plain_token begins_perl is_line_end whole
-line-step b bs h =
-    let P : ℕ → Type 0 = λ n. tokens_from Plain 0 (n ∷ bs) ≡ whole LineEnd 1 ∷ tokens_from Plain 0 bs in
-    let some : 0 < length (10 ∷ bs) = omega arith in
-    subst P (sym (eqb-true b 10 h)) (tokens_from-step Plain (10 ∷ bs) some (token_of-part Plain (10 ∷ bs) some).not_empty)
+line-step b bs h = grind (arith, eqb-true, tokens_from-step, token_of-part)
 
 clean_blank : (n : ℕ) → IsCleanToken (whole Blank n)
 unfolding whole is_perl is_line_comment
@@ -423,10 +375,7 @@ clean_blank n = record { next = refl; sound = refl; kept = refl }
 -- blanks in front of clean tokens are clean
 clean_before : (bs : List ℕ) → AreClean (tokens_from Plain 0 (drop (prefix_len is_blank bs) bs)) → AreClean (tokens_from Plain 0 bs)
 clean_before [] all = all
-clean_before (b ∷ bs) all =
-    let C : List Token → Type 0 = λ ts. AreClean ts in
-    ⊎_elim (λ h. subst C (sym (blank-step b bs h)) (clean_blank (prefix_len is_blank (b ∷ bs)), all))
-    (λ h. subst (λ (t : Bool). C (tokens_from Plain 0 (drop (cond t (1 + prefix_len is_blank bs) 0) (b ∷ bs)))) h all) (cases_Bool (is_blank b))
+clean_before (b ∷ bs) all = grind (arith, blank-step, clean_blank, cases_Bool)
 
 -- a clean text without a first byte that is a space
 clean_after : (class : ℕ → Bool) → AreSpaces class → (b : ℕ) (bs : List ℕ) → class b ≡ true → IsCleanText (b ∷ bs) → IsCleanText bs
@@ -477,14 +426,7 @@ module _ (class : ℕ → Bool) (are : AreSpaces class) (bs : List ℕ) (t : Tok
 
   cut_before : ((k : ℕ) → k < t.len → class (get_or bs k 0) ≡ true) → Cut class bs
   unfolding tokens_len
-  cut_before own = record {
-    front = [];
-    back = t ∷ later;
-    is = step;
-    inside = omega arith;
-    spaces = λ k le lt. ⊎_elim (own k) (λ ge. all_after k ge lt) (cases_lt k t.len);
-    ends = AtFront refl;
-  }
+  cut_before own = grind (arith, all_after, cases_lt)
 
   cut_after : (k : ℕ) → t.len ≡ suc k → class (get_or bs k 0) ≡ false → Cut class bs
   unfolding tokens_len
@@ -499,9 +441,7 @@ module _ (class : ℕ → Bool) (are : AreSpaces class) (bs : List ℕ) (t : Tok
 
   cut_by : Ending bs t → Cut class bs
   cut_by (InBlanks all) = cut_before (λ k lt. are.blanks (get_or bs k 0) (all k lt))
-  cut_by (InLine len line) =
-      let at : (k : ℕ) → k < t.len → k ≡ 0 = λ k lt. omega arith in
-      ⊎_elim (λ h. cut_before (λ k lt. ap (λ i. class (get_or bs i 0)) (at k lt) ∙ h)) (λ h. cut_after 0 len h) (cases_Bool (class (get_or bs 0 0)))
+  cut_by (InLine len line) = grind (arith, cut_before, cut_after, cases_Bool)
   cut_by (InOther k len other) = cut_after k len (false_from_ne_true (class (get_or bs k 0)) (λ h. absurd (false≢true (sym other ∙ are.alone (get_or bs k 0) h))))
 
 -- a first token before others
@@ -578,9 +518,7 @@ clean_to class are text clean =
 plain_before : (m : Mode) (bs : List ℕ) → opens_mode (token_of m bs).kind ≡ false → is_perl (token_of m bs).kind ≡ false → m ≡ Plain
 unfolding token_of opens_mode is_perl whole
 plain_before Plain bs shut sound = refl
-plain_before InStr bs shut sound =
-    let P : Token → Type 0 = λ t. opens_mode t.kind ≡ false → is_perl t.kind ≡ false → ⊥ in
-    absurd (cond_both (begins_perl bs) (whole Perl 2) (string_token 0 bs) P (λ _ _ h. false≢true (sym h)) (λ _ h _. false≢true (sym h ∙ ap opens_mode (string_token-kind 0 bs))) shut sound)
+plain_before InStr bs shut sound = grind (arith, cond_both, false≢true, string_token-kind)
 plain_before InBlock bs shut sound = absurd (false≢true (sym shut ∙ ap opens_mode (block_token-kind 0 bs)))
 
 -- tokens without `<%` have no fault but that of what is open behind them

@@ -1,10 +1,10 @@
 -- Ordinary text in a source, and passed byte by byte or block by block.
-use Rattle.std.proofs.Common.{◌≡◌, ℕ, zero, suc, ◌+◌, ◌<◌, ◌≤◌, true, false, List, [], ◌∷◌, ◌++◌, length, take, drop, refl, sym, ap, ◌∙◌, inl, inr, ⊎_elim, arith, Bool, cond, subst, bytes_eq, Option, None, Some, ◌*◌, ◌-◌, ◌^◌, ◌%◌, ◌||◌, eqb, eq-eqb, not, map, take-take, slice_index, get_or, replicate, w8, ◌&&◌, codes, nat_lt, mul_assoc, pow-suc, eqb-true, append_assoc, drop-drop, ext_get_or, length-drop, length-take, length-take-le, take-append-drop}
+use Rattle.std.proofs.Common.{◌≡◌, ℕ, zero, suc, ◌+◌, ◌<◌, ◌≤◌, true, false, List, ◌∷◌, ◌++◌, length, take, drop, refl, sym, ap, ◌∙◌, inl, inr, ⊎_elim, arith, Bool, cond, subst, Option, None, Some, ◌*◌, ◌-◌, ◌^◌, ◌%◌, ◌||◌, eqb, eq-eqb, not, map, take-take, slice_index, get_or, replicate, w8, ◌&&◌, nat_lt, mul_assoc, pow-suc, eqb-true, append_assoc, drop-drop, ext_get_or, length-drop, length-take, length-take-le, take-append-drop, []}
 use Rattle.std.specs.List.{prefix_len}
 use Rattle.std.proofs.Math.Seq.{take-length}
 use Rattle.std.proofs.lemmas.Bool.{both_ways, cases_Bool, cases_lt, cond_both, false≢true, not-true, or_cases, or_parts}
 use Rattle.std.proofs.lemmas.List.{drop-append-le, drop_all, get_or-map, get_or_past, length-map, take-append-le, take-map}
-use Rattle.std.proofs.lemmas.List.Elements.{All-cons, All-nil}
+use Rattle.std.proofs.lemmas.List.Elements.{All-cons}
 use Rattle.std.proofs.lemmas.List.Folds.{list_all_at}
 use Rattle.std.proofs.lemmas.Nat.{mod_low, one_shl}
 use Rattle.std.proofs.lemmas.Simd.{Each1-all, Each1-zip2, Each2-splat, SwzOk-from_below, first_set_mask_l, get_or-replicate, get_or-swz_l_below, get_or-zip2, length-chunk, length-swz_l, length-zip2, mask_l-lt, mask_l-mod, none_from_empty_mask, ones-mask_l, run_in_chunk_fails, run_in_chunk_le, tops_compared}
@@ -12,7 +12,7 @@ use borrow.Rule.Simd.Moves.{SwzOk, swz_l}
 use lib.Bits.{and_le_r, bit_and}
 use lib.Count.{count_trailing_zeros, ones}
 use lib.Lanes.{chunk, mask_l, top, zip2}
-use Rattle.rdlpp_scan.specs.Bytes.{begins_block_comment, begins_line_comment, begins_perl, is_blank, is_closer, is_digit, is_letter, is_line_end, is_opener, is_inert, is_word, takes_word}
+use Rattle.rdlpp_scan.specs.Bytes.{begins_block_comment, begins_line_comment, begins_perl, is_blank, is_line_end, is_inert}
 use Rattle.rdlpp_scan.specs.Front.{Breach, Break, CommentOpen, DefineCut, DefineLong, PerlFound, StringOpen}
 use Rattle.rdlpp_scan.specs.Lines.{EndsLine, IsWholeLines}
 use Rattle.rdlpp_scan.specs.Ordinary.{IsEdge, IsOrdinary, IsPlainToken, is_plain_kind}
@@ -57,18 +57,14 @@ Quiet w x = (j : ℕ) → j < length w → stops_plain_text (drop j (w ++ x)) �
 
 Quiet-drop : (n : ℕ) (w x : List ℕ) → n ≤ length w → Quiet w x → Quiet (drop n w) x
 unfolding Quiet
-Quiet-drop n w x fits q j lt =
-    let d : drop j (drop n w ++ x) ≡ drop (n + j) (w ++ x) = ap (drop j) (sym (drop-append-le n w x fits)) ∙ drop-drop j n (w ++ x) in
-    ap stops_plain_text d ∙ q (n + j) (omega (arith, length-drop n w))
+Quiet-drop n w x fits q j lt = grind (arith, drop-append-le, drop-drop, length-drop)
 
 IsEdge-drop : (n : ℕ) (w x : List ℕ) → IsEdge w x → IsEdge (drop n w) x
 IsEdge-drop n w x = ⊎_elim (λ none. inl none) (λ rest. ⊎_elim (λ whole. inr (inl (IsWholeLines-drop n w whole))) (λ stop. inr (inr stop)) rest)
 
 nothing-ordinary : (c : Course) (l : ℕ) (x : List ℕ) → IsOrdinary c l [] x
 unfolding line_ends
-nothing-ordinary c l x =
-    let e : l ≡ l + 0 = omega arith in
-    record { tokens = []; steps = λ o. ap (λ k. source_tokens c Plain o k 0 x) e; plain = All-nil IsPlainToken; spelled = refl }
+nothing-ordinary c l x = grind arith
 
 ordinary_more : (c : Course) (l b : ℕ) (w x : List ℕ) → Quiet (b ∷ w) x → IsEdge (b ∷ w) x
     → ((d : Course) (m : ℕ) (v y : List ℕ) → length v ≤ length w → Quiet v y → IsEdge v y → IsOrdinary d m v y) → IsOrdinary c l (b ∷ w) x
@@ -246,9 +242,7 @@ gives_line v line bs e = absurd (false≢true e)
 -- a backquote with a name
 gives_back : (c : Course) (line : ℕ) (v : Token) (bs : List ℕ) → v.next_mode ≡ Plain → Gives v bs (back_step c line v bs)
 unfolding back_step
-gives_back c line v bs plain =
-    cond_both (bytes_eq (take v.len bs) (codes "`define")) _ _ (Gives v bs) (λ _. gives_define c v line bs) (λ _.
-    cond_both (bytes_eq (take v.len bs) (codes "`line")) _ _ (Gives v bs) (λ _. gives_line v line bs) (λ _. gives_own v bs line plain))
+gives_back c line v bs plain = grind (arith, cond_both, gives_define, gives_line, gives_own)
 
 -- a token by its kind
 gives_by : (c : Course) (opened line : ℕ) (k : Kind) (n : ℕ) (next : Mode) (bs : List ℕ) → (opens_mode k ≡ false → next ≡ Plain)
@@ -277,10 +271,7 @@ source_step_gives c InBlock opened line bs = gives_token c opened line InBlock b
 -- ordinary text goes on at a byte where it can't stop
 pub inert_byte : (bytes : List ℕ) (at : ℕ) → is_mark (slice_index bytes at) ≡ false → stops_plain_text (drop at bytes) ≡ false
 unfolding is_mark
-inert_byte bytes at h =
-    let b = slice_index bytes at in
-    let p = or_parts (eqb b 96 || eqb b 34 || eqb b 47) (eqb b 60) h in
-    inert_at bytes at p.0 (no_perl bytes at p.1)
+inert_byte bytes at h = grind (arith, or_parts, inert_at, no_perl)
 
 -- no text has been passed yet
 pub passed_none : (bytes : List ℕ) → IsPassed bytes 0 0
@@ -326,14 +317,7 @@ marks = 96 ∷ 0 ∷ 34 ∷ 0 ∷ 0 ∷ 0 ∷ 0 ∷ 0 ∷ 0 ∷ 0 ∷ 0 ∷ 0 �
 -- each of them is 0 or a mark
 known : (n : ℕ) → (eqb (get_or marks n 0) 0 || is_mark (get_or marks n 0)) ≡ true
 unfolding is_mark
-known n =
-    elim (cases_lt n 16) as (λ _. (eqb (get_or marks n 0) 0 || is_mark (get_or marks n 0)) ≡ true) [
-      | inl less ↦ elim (cases_Bool (eqb (get_or marks n 0) 0 || is_mark (get_or marks n 0))) [
-        | inl is ↦ is
-        | inr fails ↦ absurd (false≢true (sym (list_all_at (λ m. eqb m 0 || is_mark m) marks n 0 less fails)))
-      ]
-      | inr past ↦ ap (λ m. eqb m 0 || is_mark m) (get_or_past marks n 0 past)
-    ]
+known n = grind (arith, cases_lt, cases_Bool, false≢true, list_all_at, get_or_past)
 
 -- a byte that is found there is a mark
 found_mark : (b : ℕ) → get_or marks (bit_and b 15) 0 ≡ b → is_mark b ≡ true
@@ -349,18 +333,7 @@ found_mark b e =
 -- a mark is found there
 mark_is_found : (b : ℕ) → is_mark b ≡ true → get_or marks (bit_and b 15) 0 ≡ b
 unfolding is_mark
-mark_is_found b h =
-    let P : ℕ → Type 0 = λ m. get_or marks (bit_and m 15) 0 ≡ m in
-    elim (or_cases (eqb b 96 || eqb b 34 || eqb b 47) (eqb b 60) h) [
-      | inr e ↦ subst P (sym (eqb-true b 60 e)) refl
-      | inl h ↦ elim (or_cases (eqb b 96 || eqb b 34) (eqb b 47) h) [
-        | inr e ↦ subst P (sym (eqb-true b 47 e)) refl
-        | inl h ↦ elim (or_cases (eqb b 96) (eqb b 34) h) [
-          | inr e ↦ subst P (sym (eqb-true b 34 e)) refl
-          | inl e ↦ subst P (sym (eqb-true b 96 e)) refl
-        ]
-      ]
-    ]
+mark_is_found b h = grind (arith, or_cases, eqb-true)
 
 -- two tests of which each tells what the other does
 same_tests : (a b : Bool) → (a ≡ true → b ≡ true) → (b ≡ true → a ≡ true) → a ≡ b
@@ -370,10 +343,7 @@ same_tests _ _ f g = refl
 
 -- a byte is looked up by its last four bits, and is a mark where it is the one that is found
 pub mark_found : (b : ℕ) → eqb (get_or marks (bit_and b 15) 0) b ≡ is_mark b
-mark_found b =
-    same_tests (eqb (get_or marks (bit_and b 15) 0) b) (is_mark b)
-    (λ e. found_mark b (eqb-true (get_or marks (bit_and b 15) 0) b e))
-    (λ h. eq-eqb (get_or marks (bit_and b 15) 0) b (mark_is_found b h))
+mark_found b = grind (arith, same_tests, found_mark, eqb-true, eq-eqb, mark_is_found)
 
 -- the last four bits of each byte
 abbrev pub low : List ℕ → List ℕ
@@ -483,27 +453,4 @@ no_first false q h = (refl, h)
 -- a byte that isn't a blank is a token by itself
 pub inert_first : (b : ℕ) (bs : List ℕ) → is_inert b ≡ true → is_blank b ≡ false → IsInertToken (token_of Plain (b ∷ bs))
 unfolding token_of plain_token whole is_inert is_still begins_perl begins_line_comment begins_block_comment
-inert_first b bs inert dark =
-    let letter = no_first (is_letter b) _ inert in
-    let digit = no_first (is_digit b) _ letter.1 in
-    let takes = no_first (takes_word b) _ digit.1 in
-    let back = no_first (eqb b 96) _ takes.1 in
-    let quote = no_first (eqb b 34) _ back.1 in
-    let slash = no_first (eqb b 47) _ quote.1 in
-    let less = not-true (eqb b 60) slash.1 in
-    let c = get_or (b ∷ bs) 1 0 in
-    let P : Token → Type 0 = λ t. IsInertToken t in
-    cond_both (begins_perl (b ∷ bs)) _ _ P (λ h. absurd (both_ways _ less (both_first _ _ h))) (λ _.
-    cond_both (is_line_end b) _ _ P (λ _. record { len = refl; next = refl; still = refl }) (λ _.
-    cond_both (is_blank b) _ _ P (λ h. absurd (both_ways _ dark h)) (λ _.
-    cond_both (begins_line_comment (b ∷ bs)) _ _ P (λ h. absurd (both_ways _ slash.0 (both_first _ _ h))) (λ _.
-    cond_both (begins_block_comment (b ∷ bs)) _ _ P (λ h. absurd (both_ways _ slash.0 (both_first _ _ h))) (λ _.
-    cond_both (eqb b 34) _ _ P (λ h. absurd (both_ways _ quote.0 h)) (λ _.
-    cond_both (is_letter b) _ _ P (λ h. absurd (both_ways _ letter.0 h)) (λ _.
-    cond_both (is_digit b) _ _ P (λ h. absurd (both_ways _ digit.0 h)) (λ _.
-    cond_both (takes_word b && is_word c) _ _ P (λ h. absurd (both_ways _ takes.0 (both_first _ _ h))) (λ _.
-    cond_both (eqb b 96 && _) _ _ P (λ h. absurd (both_ways _ back.0 (both_first _ _ h))) (λ _.
-    cond_both (eqb b 96) _ _ P (λ h. absurd (both_ways _ back.0 h)) (λ _.
-    cond_both (is_opener b) _ _ P (λ _. record { len = refl; next = refl; still = refl }) (λ _.
-    cond_both (is_closer b) _ _ P (λ _. record { len = refl; next = refl; still = refl }) (λ _.
-    cond_both (eqb b 44) _ _ P (λ _. record { len = refl; next = refl; still = refl }) (λ _. record { len = refl; next = refl; still = refl }))))))))))))))
+inert_first b bs inert dark = grind (arith, no_first, not-true, cond_both, both_ways, both_first)

@@ -1,5 +1,5 @@
 -- The tokens of a range of a text, and of a text with more behind it.
-use Rattle.std.proofs.Common.{◌≡◌, ◌⊎◌, ℕ, suc, ◌+◌, ◌<◌, ◌≤◌, Bool, true, false, not, cond, ◌||◌, ◌&&◌, eqb, ltb, List, [], ◌∷◌, ◌++◌, length, get_or, take, drop, refl, sym, ap, ◌∙◌, subst, inl, inr, ⊎_elim, arith, eqb-true, ltb-false, lt-ltb, ltb-true, append-nil, length-append, length-drop, get_or-drop, drop-drop, length-take, take-append-drop}
+use Rattle.std.proofs.Common.{◌≡◌, ◌⊎◌, ℕ, suc, ◌+◌, ◌<◌, ◌≤◌, Bool, true, false, not, cond, ◌||◌, ◌&&◌, eqb, List, ◌∷◌, ◌++◌, length, get_or, take, drop, refl, sym, ap, ◌∙◌, subst, inl, inr, ⊎_elim, arith, eqb-true, ltb-false, lt-ltb, ltb-true, append-nil, length-append, length-drop, get_or-drop, drop-drop, length-take, take-append-drop, []}
 use Rattle.std.specs.List.{prefix_len}
 use Rattle.std.proofs.Math.Bool.{and-false}
 use Rattle.std.proofs.lemmas.Bool.{and_parts, or_parts, cond_both, false≢true}
@@ -106,64 +106,16 @@ agrees-whole xs k n m h fits = ap (whole k) (h fits.inside)
 -- a string that ends in a front of a text
 agrees-string : (from : ℕ) (xs ys : List ℕ) → from ≤ length xs → Agrees xs (string_token from xs) (string_token from (xs ++ ys))
 unfolding string_at whole
-agrees-string from xs ys fits ends =
-    let bs = xs ++ ys in
-    let X = drop from xs in
-    let s = string_stop false (X ++ ys) in
-    let stop = from + s in
-    let byte = get_or bs stop 0 in
-    let size = length-drop from xs in
-    let there : string_token from bs ≡ string_at stop byte = string_token-at from bs stop (ap (λ z. from + string_stop false z) (drop-append-le from xs ys fits)) in
-    let here : string_stop false X ≡ s → string_token from xs ≡ string_at stop (get_or xs stop 0) = λ e. string_token-at from xs stop (ap (λ i. from + i) e) in
-    let read : stop < length xs → get_or xs stop 0 ≡ byte = λ lt. sym (get_or_append_left xs ys 0 stop lt) in
-    let u : Bool → Token = λ t. cond t (whole Str (suc stop)) (record { kind = Str; len = stop; next_mode = InStr }) in
-    let P : Bool → Type 0 = λ t. eqb byte 34 ≡ t → EndsIn (u t) xs → string_token from xs ≡ u t in
-    let closed : P true = λ e w.
-    let lt : stop < length xs = omega (arith, w.inside) in
-    let quote : eqb (get_or X s 0) 34 ≡ true = ap (λ n. eqb n 34) (get_or-drop from xs s 0 ∙ read lt) ∙ e in
-    here (string_stop-front false X ys (omega (arith, size)) (inr (inl quote))) ∙ ap (string_at stop) (read lt) ∙ ap u e in
-    let goes_on : P false = λ e w.
-    ⊎_elim (λ closed. absurd (cc)) (λ r. ⊎_elim
-    (λ all.
-    let none : get_or xs stop 0 ≡ 0 = get_or_past xs stop 0 (omega (arith, all)) in
-    here (string_stop-front false X ys (omega (arith, size, w.inside)) (inl (omega (arith, size, all)))) ∙ ap (string_at stop) none)
-    (λ room.
-    here (string_stop-front false X ys (omega (arith, size, w.inside)) (inr (inr (omega (arith, size, room))))) ∙ ap (string_at stop) (read (omega (arith, room))) ∙ ap u e) r) w.last in
-    let picked : string_token from xs ≡ u (eqb byte 34) = elim (eqb byte 34) as P [ true ↦ closed | false ↦ goes_on ] refl (subst (λ (v : Token). EndsIn v xs) there ends) in
-    picked ∙ sym there
+agrees-string from xs ys fits ends = grind (arith, length-drop, string_at, string_token-at, drop-append-le, get_or_append_left, get_or-drop, string_stop-front, get_or_past)
 
 -- a block comment that ends in a front of a text
 agrees-block : (from : ℕ) (xs ys : List ℕ) → from ≤ length xs → Agrees xs (block_token from xs) (block_token from (xs ++ ys))
 unfolding block_at whole
-agrees-block from xs ys fits ends =
-    let bs = xs ++ ys in
-    let X = drop from xs in
-    let s = first_place ends_block_comment (X ++ ys) in
-    let stop = from + s in
-    let size = length-drop from xs in
-    let both = length-append xs ys in
-    let b = ltb stop (length bs) in
-    let there : block_token from bs ≡ block_at stop b = block_token-at from bs stop b (ap (λ z. from + first_place ends_block_comment z) (drop-append-le from xs ys fits)) refl in
-    let P : Bool → Type 0 = λ t. b ≡ t → EndsIn (block_at stop t) xs → block_token from xs ≡ block_token from bs in
-    let closed : P true = λ e w.
-    let room : stop + 2 ≤ length xs = w.inside in
-    let same = comment_stop-front X ys (omega (arith, size)) in
-    block_token-at from xs stop true (ap (λ i. from + i) same) (lt-ltb stop (length xs) (omega arith)) ∙ sym (there ∙ ap (block_at stop) e) in
-    let goes_on : P false = λ e w.
-    let none : ys ≡ [] = nil_from_length ys (omega (arith, ltb-false stop (length bs) e, w.inside, both)) in
-    ap (block_token from) (sym (append-nil xs) ∙ ap (λ z. xs ++ z) (sym none)) in
-    elim b as P [ true ↦ closed | false ↦ goes_on ] refl (subst (λ (v : Token). EndsIn v xs) there ends)
+agrees-block from xs ys fits ends = grind (arith, length-drop, length-append, block_at, block_token-at, drop-append-le, comment_stop-front, lt-ltb, nil_from_length, ltb-false, append-nil)
 
 line_comment-second : (b c : ℕ) (xs : List ℕ) → begins_line_comment (b ∷ c ∷ xs) ≡ true → 2 ≤ prefix_len (λ x. not (is_line_end x)) (b ∷ c ∷ xs)
 unfolding begins_line_comment is_line_end
-line_comment-second b c xs h =
-    let p : ℕ → Bool = λ x. not (eqb x 10) in
-    let both = and_parts (eqb b 47) (eqb c 47) h in
-    let first : p b ≡ true = ap p (eqb-true b 47 both.0) in
-    let second : p c ≡ true = ap p (eqb-true c 47 both.1) in
-    let n = prefix_len p xs in
-    let size : prefix_len p (b ∷ c ∷ xs) ≡ 1 + (1 + n) = ap (λ t. cond t (1 + cond (p c) (1 + n) 0) 0) first ∙ ap (λ t. 1 + cond t (1 + n) 0) second in
-    omega (arith, size)
+line_comment-second b c xs h = grind (arith, and_parts, eqb-true)
 
 -- the first token of a text that has more bytes than one in its front
 plain-front : (b c : ℕ) (w ys : List ℕ) → Agrees (b ∷ c ∷ w) (plain_token (b ∷ c ∷ w)) (plain_token (b ∷ c ∷ w ++ ys))
@@ -191,9 +143,7 @@ plain-front b c w ys =
 
 block_token-long : (bs : List ℕ) → 2 ≤ (block_token 2 bs).len
 unfolding block_token whole
-block_token-long bs =
-    let stop = 2 + first_place ends_block_comment (drop 2 bs) in
-    cond_both (ltb stop (length bs)) _ _ (λ (t : Token). 2 ≤ t.len) (λ _. omega arith) (λ _. omega arith)
+block_token-long bs = grind (arith, cond_both)
 
 word-long : (y : ℕ) (ys : List ℕ) → is_word y ≡ true → 1 ≤ prefix_len is_word (y ∷ ys)
 word-long y ys h = let P : Bool → Type 0 = λ t. 1 ≤ cond t (1 + prefix_len is_word ys) 0 in subst P (sym h) (omega arith)
@@ -286,17 +236,8 @@ next_long m bs t u us some is rest =
 -- a token ends in the front that is cut behind it and some more
 ends_in : (m : Mode) (bs : List ℕ) (t : Token) (ts us : List Token) → 0 < length bs → token_of m bs ≡ t → tokens_from t.next_mode 0 (drop t.len bs) ≡ ts ++ us → EndsIn t (take (t.len + tokens_len ts) bs)
 unfolding tokens_len
-ends_in m bs t [] us some is rest =
-    let inside : t.len ≤ length bs = subst (λ (v : Token). v.len ≤ length bs) is (token_of-part m bs some).inside in
-    let size = length-take (t.len + 0) bs in
-    record { inside = omega (arith, size); last = inr (inl (omega (arith, size))) }
-ends_in m bs t (u ∷ ts) us some is rest =
-    let inside : t.len ≤ length bs = subst (λ (v : Token). v.len ≤ length bs) is (token_of-part m bs some).inside in
-    let size = length-take (t.len + (u.len + tokens_len ts)) bs in
-    record {
-      inside = omega (arith, size);
-      last = ⊎_elim (λ closed. inl closed) (λ two. inr (inr (omega (arith, size, two.0, two.1)))) (next_long m bs t u (ts ++ us) some is rest);
-    }
+ends_in m bs t [] us some is rest = grind (arith, token_of-part, length-take)
+ends_in m bs t (u ∷ ts) us some is rest = grind (arith, token_of-part, length-take, next_long)
 
 -- a front of a text that is cut behind some of its tokens has those tokens
 pub tokens_from-front : (ts us : List Token) (m : Mode) (bs : List ℕ) → tokens_from m 0 bs ≡ ts ++ us → tokens_from m 0 (take (tokens_len ts) bs) ≡ ts
@@ -390,35 +331,11 @@ unfolding string_at whole
 string_at-len stop b = elim (eqb b 34) as (λ t. stop ≤ (cond t (whole Str (suc stop)) (record { kind = Str; len = stop; next_mode = InStr })).len) [ true ↦ omega arith | false ↦ omega arith ]
 
 stays-string : (from : ℕ) (xs ys : List ℕ) → from ≤ length xs → Stays xs (string_token from xs) (string_token from (xs ++ ys))
-stays-string from xs ys fits before =
-    let X = drop from xs in
-    let k = string_stop false X in
-    let stop = from + k in
-    let size = length-drop from xs in
-    let t : string_token from xs ≡ string_at stop (get_or xs stop 0) = string_token-at from xs stop refl in
-    let inside : stop < length xs = omega (arith, before.lt, ap (λ (v : Token). v.len) t, string_at-len stop (get_or xs stop 0)) in
-    let same : string_stop false (X ++ ys) ≡ k = string_stop-stays false X ys (omega (arith, size)) in
-    let there : from + string_stop false (drop from (xs ++ ys)) ≡ stop = ap (λ z. from + string_stop false z) (drop-append-le from xs ys fits) ∙ ap (λ i. from + i) same in
-    string_token-at from (xs ++ ys) stop there ∙ ap (string_at stop) (get_or_append_left xs ys 0 stop inside) ∙ sym t
+stays-string from xs ys fits before = grind (arith, length-drop, string_at, string_token-at, string_at-len, string_stop-stays, drop-append-le, get_or_append_left)
 
 stays-block : (from : ℕ) (xs ys : List ℕ) → from ≤ length xs → Stays xs (block_token from xs) (block_token from (xs ++ ys))
 unfolding block_at
-stays-block from xs ys fits before =
-    let X = drop from xs in
-    let k = first_place ends_block_comment X in
-    let stop = from + k in
-    let size = length-drop from xs in
-    let both = length-append xs ys in
-    let b = ltb stop (length xs) in
-    let t : block_token from xs ≡ block_at stop b = block_token-at from xs stop b refl refl in
-    let P : Bool → Type 0 = λ c. b ≡ c → (block_at stop c).len < length xs → block_token from (xs ++ ys) ≡ block_at stop c in
-    let closed : P true = λ e _.
-    let inside = ltb-true stop (length xs) e in
-    let same : first_place ends_block_comment (X ++ ys) ≡ k = comment_stop-stays X ys (omega (arith, size)) in
-    let there : from + first_place ends_block_comment (drop from (xs ++ ys)) ≡ stop = ap (λ z. from + first_place ends_block_comment z) (drop-append-le from xs ys fits) ∙ ap (λ i. from + i) same in
-    block_token-at from (xs ++ ys) stop true there (lt-ltb stop (length (xs ++ ys)) (omega (arith, both))) in
-    let goes_on : P false = λ e h. absurd (omega (arith, ltb-false stop (length xs) e)) in
-    elim b as P [ true ↦ closed | false ↦ goes_on ] refl (subst (λ (v : Token). v.len < length xs) t before.lt) ∙ sym t
+stays-block from xs ys fits before = grind (arith, length-drop, length-append, block_at, block_token-at, ltb-true, comment_stop-stays, drop-append-le, lt-ltb, ltb-false)
 
 plain-stays : (b c : ℕ) (w ys : List ℕ) → Stays (b ∷ c ∷ w) (plain_token (b ∷ c ∷ w)) (plain_token (b ∷ c ∷ w ++ ys))
 unfolding plain_token begins_perl begins_line_comment begins_block_comment
@@ -475,36 +392,12 @@ holds-comment n m clean = absurd (false≢true (sym clean.kept))
 -- a string that is closed
 holds-string : (from : ℕ) (xs ys : List ℕ) → from ≤ length xs → Holds (string_token from xs) (string_token from (xs ++ ys))
 unfolding string_at whole
-holds-string from xs ys fits clean =
-    let X = drop from xs in
-    let k = string_stop false X in
-    let stop = from + k in
-    let t : string_token from xs ≡ string_at stop (get_or xs stop 0) = string_token-at from xs stop refl in
-    let P : Bool → Type 0 = λ q. eqb (get_or xs stop 0) 34 ≡ q → (cond q (whole Str (suc stop)) (record { kind = Str; len = stop; next_mode = InStr })).next_mode ≡ Plain → stop < length xs in
-    let closed : P true = λ e _. inside_of xs stop (omega (arith, eqb-true (get_or xs stop 0) 34 e)) in
-    let goes_on : P false = λ _ h. absurd (cc) in
-    let inside : stop < length xs = elim (eqb (get_or xs stop 0) 34) as P [ true ↦ closed | false ↦ goes_on ] refl (sym (ap (λ (v : Token). v.next_mode) t) ∙ clean.next) in
-    let same : string_stop false (X ++ ys) ≡ k = string_stop-stays false X ys (omega (arith, length-drop from xs)) in
-    let there : from + string_stop false (drop from (xs ++ ys)) ≡ stop = ap (λ z. from + string_stop false z) (drop-append-le from xs ys fits) ∙ ap (λ i. from + i) same in
-    string_token-at from (xs ++ ys) stop there ∙ ap (string_at stop) (get_or_append_left xs ys 0 stop inside) ∙ sym t
+holds-string from xs ys fits clean = grind (arith, string_at, string_token-at, inside_of, eqb-true, string_stop-stays, length-drop, drop-append-le, get_or_append_left)
 
 -- a block comment that is closed
 holds-block : (from : ℕ) (xs ys : List ℕ) → from ≤ length xs → Holds (block_token from xs) (block_token from (xs ++ ys))
 unfolding block_at whole
-holds-block from xs ys fits clean =
-    let X = drop from xs in
-    let k = first_place ends_block_comment X in
-    let stop = from + k in
-    let b = ltb stop (length xs) in
-    let t : block_token from xs ≡ block_at stop b = block_token-at from xs stop b refl refl in
-    let P : Bool → Type 0 = λ c. b ≡ c → (block_at stop c).next_mode ≡ Plain → block_token from (xs ++ ys) ≡ block_at stop c in
-    let closed : P true = λ e _.
-    let inside = ltb-true stop (length xs) e in
-    let same : first_place ends_block_comment (X ++ ys) ≡ k = comment_stop-stays X ys (omega (arith, length-drop from xs)) in
-    let there : from + first_place ends_block_comment (drop from (xs ++ ys)) ≡ stop = ap (λ z. from + first_place ends_block_comment z) (drop-append-le from xs ys fits) ∙ ap (λ i. from + i) same in
-    block_token-at from (xs ++ ys) stop true there (lt-ltb stop (length (xs ++ ys)) (omega (arith, length-append xs ys))) in
-    let goes_on : P false = λ _ h. absurd (cc) in
-    elim b as P [ true ↦ closed | false ↦ goes_on ] refl (sym (ap (λ (v : Token). v.next_mode) t) ∙ clean.next) ∙ sym t
+holds-block from xs ys fits clean = grind (arith, block_at, block_token-at, ltb-true, comment_stop-stays, length-drop, drop-append-le, lt-ltb, length-append)
 
 -- a test of two bytes that a `,` passes as little as nothing does
 pair-comma : (f g : ℕ → Bool) → g 44 ≡ g 0 → (b : ℕ) (w ys : List ℕ) → (f b && g (get_or (w ++ 44 ∷ ys) 0 0)) ≡ (f b && g (get_or w 0 0))

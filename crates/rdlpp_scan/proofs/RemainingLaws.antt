@@ -1,5 +1,5 @@
 -- What remains of a source, step by step, and what stands first in it.
-use Rattle.std.proofs.Common.{◌≡◌, ◌⊎◌, ℕ, ◌+◌, ◌-◌, ◌<◌, ◌≤◌, false, List, [], ◌∷◌, ◌++◌, Option, None, length, take, drop, sym, ap, ◌∙◌, inl, inr, ⊎_elim, suc, Bool, true, cond, ltb, Some, refl, arith, eqb, subst, ◌&&◌, get_or, All, flat_map, bytes_eq, codes, le-ltb, lt-ltb, append-nil, append_assoc, length-append, length-take-le, take-append-drop}
+use Rattle.std.proofs.Common.{◌≡◌, ◌⊎◌, ℕ, ◌+◌, ◌-◌, ◌<◌, ◌≤◌, false, List, ◌∷◌, ◌++◌, Option, None, length, take, drop, sym, ap, ◌∙◌, inl, inr, ⊎_elim, suc, Bool, true, cond, ltb, Some, refl, arith, eqb, subst, ◌&&◌, get_or, All, flat_map, bytes_eq, codes, le-ltb, lt-ltb, append-nil, append_assoc, length-append, length-take-le, take-append-drop, []}
 use Rattle.std.specs.List.{prefix_len}
 use Rattle.std.proofs.Math.Bool.{and-false}
 use Rattle.std.proofs.lemmas.Bool.{cases_lt, cond_both, false_from_ne_true, false≢true}
@@ -32,11 +32,7 @@ pub record IsAfter (held rest more : List ℕ) (break : Option Break) : Type 0 w
 
 -- the same of every front
 pub following : (most room : ℕ) (held rest : List ℕ) → EndsLine held rest → IsAfter held rest (front most room rest).text (front most room rest).break
-following most room held rest =
-    ⊎_elim (λ whole. record { ends = inl whole; last = inl whole }) (λ none.
-    let f : front most room rest ≡ record { text = []; break = None } = ap (front most room) none ∙ front-none most room in
-    let text = ap (λ (g : Front). g.text) f in
-    record { ends = inr text; last = inr (text, ap (λ (g : Front). g.break) f) })
+following most room held rest = grind (arith, front-none)
 
 -- the course of a source with this behind it
 abbrev pub course : ℕ → ℕ → List ℕ → Course
@@ -56,26 +52,12 @@ remaining-opened most o p l held room rest = source_tokens-opened (course most r
 
 goes_through : (most l : ℕ) (held w following : List ℕ) (room : ℕ) (rest : List ℕ) → held ≡ w ++ following → IsOrdinary (course most room rest) l w (following ++ (front most room rest).text) → GoesThrough most l held w following room rest
 unfolding remaining_tokens
-goes_through most l held w following room rest split ordinary =
-    let c = course most room rest in
-    let more = (front most room rest).text in
-    let text : held ++ more ≡ w ++ (following ++ more) = ap (λ z. z ++ more) split ∙ append_assoc w following more in
-    record {
-      tokens = ordinary.tokens;
-      steps = λ o p.
-          ap (λ z. source_tokens c Plain o l 0 z) text ∙ ordinary.steps o
-          ∙ ap (λ z. ordinary.tokens ++ z) (source_tokens-opened c o p (l + line_ends w) 0 (following ++ more));
-      plain = ordinary.plain;
-      spelled = ordinary.spelled;
-    }
+goes_through most l held w following room rest split ordinary = grind (arith, following, append_assoc, source_tokens-opened)
 
 -- the ordinary text with which what is held begins
 pub remaining-ordinary : (most l : ℕ) (held : List ℕ) (room : ℕ) (rest : List ℕ) → EndsLine held rest
     → GoesThrough most l held (take (plain_len held) held) (drop (plain_len held) held) room rest
-remaining-ordinary most l held room rest ends =
-    let n = plain_len held in
-    goes_through most l held (take n held) (drop n held) room rest (sym (take-append-drop n held))
-    (ordinary_front (course most room rest) l held (front most room rest).text (following most room held rest ends).ends)
+remaining-ordinary most l held room rest ends = grind (arith, goes_through, take-append-drop, ordinary_front, following)
 
 -- lines that are taken in
 pub remaining-accept : (most : ℕ) (m : Mode) (o l : ℕ) (held : List ℕ) (room : ℕ) (w r : List ℕ) → EndsLine w r → length w ≤ most → length w ≤ room
@@ -101,19 +83,13 @@ remaining-end most o l room = remaining-front most o l room [] None (front-none 
 pub remaining-perl : (most o l : ℕ) (held : List ℕ) (room : ℕ) (rest : List ℕ) → 0 < length held → EndsLine held rest → (token_of Plain held).kind ≡ Perl
     → remaining_tokens most Plain o l held room rest ≡ record { sort = Broken PerlFound; bytes = []; line = l } ∷ []
 unfolding remaining_tokens
-remaining-perl most o l held room rest some ends is =
-    let more = (front most room rest).text in
-    let b = following most room held rest ends in
-    step-perl (course most room rest) o l held more some b.ends is
+remaining-perl most o l held room rest some ends is = grind (arith, following, step-perl)
 
 -- a backquote without a name
 pub remaining-bare : (most o l : ℕ) (held : List ℕ) (room : ℕ) (rest : List ℕ) → 0 < length held → EndsLine held rest → (token_of Plain held).kind ≡ BareBackquote
     → remaining_tokens most Plain o l held room rest ≡ record { sort = Ordinary BareBackquote; bytes = take 1 held; line = l } ∷ remaining_tokens most Plain l l (drop 1 held) room rest
 unfolding remaining_tokens
-remaining-bare most o l held room rest some ends is =
-    let more = (front most room rest).text in
-    let b = following most room held rest ends in
-    step-bare (course most room rest) o l held more some b.ends is
+remaining-bare most o l held room rest some ends is = grind (arith, following, step-bare)
 
 -- a backquote with a name that is neither `define` nor `line`
 pub remaining-back : (most o l : ℕ) (held : List ℕ) (room : ℕ) (rest : List ℕ) → 0 < length held → EndsLine held rest → (token_of Plain held).kind ≡ Back
@@ -121,10 +97,7 @@ pub remaining-back : (most o l : ℕ) (held : List ℕ) (room : ℕ) (rest : Lis
     → remaining_tokens most Plain o l held room rest
     ≡ record { sort = Ordinary Back; bytes = take (token_of Plain held).len held; line = l } ∷ remaining_tokens most Plain l l (drop (token_of Plain held).len held) room rest
 unfolding remaining_tokens
-remaining-back most o l held room rest some ends is other also =
-    let more = (front most room rest).text in
-    let b = following most room held rest ends in
-    step-back (course most room rest) o l held more some b.ends is other also
+remaining-back most o l held room rest some ends is other also = grind (arith, following, step-back)
 
 -- What remains of a source at a string, a comment, a logical line or a `line`: `held` ends at a line end or at the text's end.
 
@@ -134,43 +107,29 @@ pub remaining-closed : (most : ℕ) (m : Mode) (o l : ℕ) (held : List ℕ) (ro
     ≡ record { sort = Ordinary (token_of m held).kind; bytes = take (token_of m held).len held; line = l }
     ∷ remaining_tokens most Plain l (l + line_ends (take (token_of m held).len held)) (drop (token_of m held).len held) room rest
 unfolding remaining_tokens
-remaining-closed most m o l held room rest some ends kept closed =
-    let more = (front most room rest).text in
-    let b = following most room held rest ends in
-    step-closed (course most room rest) m o l held more some (IsCut-from_line held more b.ends) kept closed
+remaining-closed most m o l held room rest some ends kept closed = grind (arith, following, step-closed, IsCut-from_line)
 
 -- a string that is open in what is held: what is held of it, in front of what remains of its rest
 pub remaining-open_string : (most : ℕ) (m : Mode) (o l : ℕ) (held : List ℕ) (room : ℕ) (rest : List ℕ) → 0 < length held → EndsLine held rest → (token_of m held).next_mode ≡ InStr → (token_of m held).len ≡ length held
     → remaining_tokens most m o l held room rest ≡ onto_tokens held l (remaining_tokens most InStr (opening m o l) (l + line_ends held) [] room rest)
 unfolding remaining_tokens
-remaining-open_string most m o l held room rest some ends mode len =
-    let more = (front most room rest).text in
-    let b = following most room held rest ends in
-    step-open_string (course most room rest) m o l held more some (IsCut-from_line held more b.ends) mode len
+remaining-open_string most m o l held room rest some ends mode len = grind (arith, following, step-open_string, IsCut-from_line)
 
 -- a block comment that is open in what is held
 pub remaining-open_comment : (most : ℕ) (m : Mode) (o l : ℕ) (held : List ℕ) (room : ℕ) (rest : List ℕ) → 0 < length held → EndsLine held rest → (token_of m held).next_mode ≡ InBlock
     → remaining_tokens most m o l held room rest ≡ onto_tokens held l (remaining_tokens most InBlock (opening m o l) (l + line_ends held) [] room rest)
 unfolding remaining_tokens
-remaining-open_comment most m o l held room rest some ends mode =
-    let more = (front most room rest).text in
-    let b = following most room held rest ends in
-    step-open_comment (course most room rest) m o l held more some (IsCut-from_line held more b.ends) mode
+remaining-open_comment most m o l held room rest some ends mode = grind (arith, following, step-open_comment, IsCut-from_line)
 
 -- a string that `<%` cuts in what is held
 pub remaining-cut_string : (most : ℕ) (m : Mode) (o l : ℕ) (held : List ℕ) (room : ℕ) (rest : List ℕ) → 0 < length held → EndsLine held rest → (token_of m held).kind ≡ Str → (token_of m held).next_mode ≡ InStr → (token_of m held).len < length held
     → remaining_tokens most m o l held room rest
     ≡ record { sort = Broken PerlFound; bytes = take (token_of m held).len held; line = l + line_ends (take (token_of m held).len held) } ∷ []
 unfolding remaining_tokens
-remaining-cut_string most m o l held room rest some ends kind mode lt =
-    let more = (front most room rest).text in
-    let b = following most room held rest ends in
-    step-cut_string (course most room rest) m o l held more some (IsCut-from_line held more b.ends) kind mode lt
+remaining-cut_string most m o l held room rest some ends kind mode lt = grind (arith, following, step-cut_string, IsCut-from_line)
 
 begins : (most : ℕ) (held : List ℕ) (room : ℕ) (rest : List ℕ) → HoldsDefine held rest → BeginsDefine (course most room rest) held (front most room rest).text
-begins most held room rest h =
-    let b = following most room held rest h.ends in
-    record { some = h.some; ends = b.ends; kind = h.kind; word = h.word }
+begins most held room rest h = grind (arith, following)
 
 -- a `define` whose logical line ends in what is held
 pub remaining-logical : (most o l : ℕ) (held : List ℕ) (room : ℕ) (rest : List ℕ) (n : ℕ) → HoldsDefine held rest → logical_len 0 0 held ≡ Some n → n ≤ most
@@ -184,32 +143,14 @@ remaining-logical most o l held room rest n h is fits =
 first_line-within : (bs more : List ℕ) → line_len bs ≤ line_len (take (line_len bs) bs ++ more)
 unfolding line_len
 first_line-within [] more = omega arith
-first_line-within (b ∷ bs) more =
-    let n = line_len bs in
-    let P : Bool → Type 0 = λ t. is_line_end b ≡ t → cond t 1 (suc n) ≤ line_len (take (cond t 1 (suc n)) (b ∷ bs) ++ more) in
-    let at_true : P true = λ e. let one : cond (is_line_end b) 1 (suc (line_len more)) ≡ 1 = ap (λ t. cond t 1 (suc (line_len more))) e in omega arith in
-    let at_false : P false = λ e.
-    let later = line_len (take n bs ++ more) in
-    let next : cond (is_line_end b) 1 (suc later) ≡ suc later = ap (λ t. cond t 1 (suc later)) e in
-    omega (arith, next, first_line-within bs more) in
-    elim (is_line_end b) as P [ true ↦ at_true | false ↦ at_false ] refl
+first_line-within (b ∷ bs) more = grind (arith, (first_line-within bs more))
 
 -- a first line ends at a line end or at the text's end
 first_line-ends : (bs : List ℕ) → EndsLine (take (line_len bs) bs) (drop (line_len bs) bs)
 unfolding line_len whole_lines_len onto_whole_lines
 first_line-ends [] = inr refl
-first_line-ends (b ∷ []) =
-    let P : Bool → Type 0 = λ t. EndsLine (take (cond t 1 1) (b ∷ [])) (drop (cond t 1 1) (b ∷ [])) in
-    elim (is_line_end b) as P [ true ↦ inr refl | false ↦ inr refl ]
-first_line-ends (b ∷ c ∷ cs) =
-    let bs = c ∷ cs in
-    let n = line_len bs in
-    let some = line_len-some bs (omega arith) in
-    let size : length (take n bs) ≡ n = length-take-le n bs (line_len-le bs) in
-    let P : Bool → Type 0 = λ t. is_line_end b ≡ t → EndsLine (take (cond t 1 (suc n)) (b ∷ bs)) (drop (cond t 1 (suc n)) (b ∷ bs)) in
-    let at_true : P true = λ e. inl (ap (λ t. cond t 1 0) e) in
-    let at_false : P false = λ _. ⊎_elim (λ whole. inl (whole_one b (take n bs) whole (omega (arith, size)))) (λ none. inr none) (first_line-ends (c ∷ cs)) in
-    elim (is_line_end b) as P [ true ↦ at_true | false ↦ at_false ] refl
+first_line-ends (b ∷ []) = grind arith
+first_line-ends (b ∷ c ∷ cs) = grind (arith, line_len-some, length-take-le, line_len-le, whole_one, (first_line-ends (c ∷ cs)))
 
 -- tokens by the front that is behind what is held
 of_front : ℕ → ℕ → ℕ → List ℕ → Front → List SourceToken
@@ -263,12 +204,7 @@ remaining-logical_source most o l held room rest h is fits much =
 pub remaining-logical_last : (most o l : ℕ) (held : List ℕ) (room : ℕ) → HoldsDefine held [] → logical_len 0 0 held ≡ None → length held ≤ most
     → remaining_tokens most Plain o l held room [] ≡ record { sort = Definition; bytes = held; line = l } ∷ []
 unfolding remaining_tokens of_front source_tokens source_end
-remaining-logical_last most o l held room h is fits =
-    let c : Course = record { most = most; break = None } in
-    let none : EndsLine held [] = inr refl in
-    let tok : SourceToken = record { sort = Definition; bytes = held; line = l } in
-    ap (of_front most o l held) (front-none most room) ∙ ap (source_tokens c Plain o l 0) (append-nil held)
-    ∙ step-logical_last c o l held (record { some = h.some; ends = none; kind = h.kind; word = h.word }) is refl fits
+remaining-logical_last most o l held room h is fits = grind (arith, of_front, front-none, append-nil, step-logical_last)
 
 -- a `line` with its line
 pub remaining-line : (most o l : ℕ) (held : List ℕ) (room : ℕ) (rest : List ℕ) → 0 < length held → EndsLine held rest → (token_of Plain held).kind ≡ Back
@@ -276,10 +212,7 @@ pub remaining-line : (most o l : ℕ) (held : List ℕ) (room : ℕ) (rest : Lis
     → remaining_tokens most Plain o l held room rest
     ≡ record { sort = Renumbering; bytes = take (line_len held) held; line = l } ∷ remaining_tokens most Plain l (l + line_ends (take (line_len held) held)) (drop (line_len held) held) room rest
 unfolding remaining_tokens
-remaining-line most o l held room rest some ends is other also =
-    let more = (front most room rest).text in
-    let b = following most room held rest ends in
-    step-line (course most room rest) o l held more some b.ends is other also
+remaining-line most o l held room rest some ends is other also = grind (arith, following, step-line)
 
 -- What remains of a source in a string or in a block comment begins with the rest of it.
 
@@ -335,11 +268,7 @@ after_step c l b bs (Next t) = t ∷ source_tokens c Plain l (line_after b l) (l
 
 pub tokens_step : (c : Course) (m : Mode) (o l b : ℕ) (bs : List ℕ) → source_tokens c m o l 0 (b ∷ bs) ≡ after_step c l b bs (source_step c m o l (b ∷ bs))
 unfolding source_tokens after_step
-tokens_step c m o l b bs =
-    elim (source_step c m o l (b ∷ bs)) as (λ s. (elim s [ Last t ↦ t ∷ [] | Next t ↦ t ∷ source_tokens c Plain l (line_after b l) (length t.bytes - 1) bs ]) ≡ after_step c l b bs s) [
-      | Last t ↦ refl
-      | Next t ↦ refl
-    ]
+tokens_step c m o l b bs = grind (arith, after_step)
 
 step_resumes : (c : Course) (m : Mode) (o l b : ℕ) (bs : List ℕ) → ResumesStep (source_step c m o l (b ∷ bs)) → Resumes (source_tokens c m o l 0 (b ∷ bs))
 unfolding after_step
@@ -400,18 +329,12 @@ string_perl c o l bs some h =
 pub remaining-perl_in_string : (most o l : ℕ) (held : List ℕ) (room : ℕ) (rest : List ℕ) → 0 < length held → begins_perl held ≡ true
     → remaining_tokens most InStr o l held room rest ≡ record { sort = Broken PerlFound; bytes = []; line = l } ∷ []
 unfolding remaining_tokens
-remaining-perl_in_string most o l held room rest some h =
-    let more = (front most room rest).text in
-    string_perl (course most room rest) o l (held ++ more) (omega (arith, length-append held more)) (perl-append held more h)
+remaining-perl_in_string most o l held room rest some h = grind (arith, string_perl, length-append, perl-append)
 
 -- a token in a string is `<%` only where its bytes are
 pub perl_in_string : (bs : List ℕ) → (token_of InStr bs).kind ≡ Perl → begins_perl bs ≡ true
 unfolding token_of
-perl_in_string bs is =
-    let P : Bool → Type 0 = λ t. (cond t (whole Perl 2) (string_token 0 bs)).kind ≡ Perl → t ≡ true in
-    let at_true : P true = λ e. refl in
-    let at_false : P false = λ e. absurd (cc (string_token-kind 0 bs)) in
-    elim (begins_perl bs) as P [ true ↦ at_true | false ↦ at_false ] is
+perl_in_string bs is = grind (arith, string_token-kind)
 
 -- What stands first in what remains of a source in plain text, by the token of what is held.
 
@@ -481,9 +404,7 @@ name-line_ends bs is = ap (λ n. line_ends (take n bs)) ((plain_token-run bs).na
 pub whole-line_ends : (bs : List ℕ) → 0 < length bs → IsWholeLines bs → 0 < line_ends bs
 unfolding line_ends
 whole-line_ends [] some whole = absurd (omega arith)
-whole-line_ends (b ∷ []) some whole =
-    let one : one_if (is_line_end b) ≡ 1 = ap one_if (IsWholeLines-one b whole) in
-    omega (arith, one, line_ends-cons b [])
+whole-line_ends (b ∷ []) some whole = grind (arith, IsWholeLines-one, line_ends-cons)
 whole-line_ends (b ∷ c ∷ cs) some whole =
     omega (arith, line_ends-cons b (c ∷ cs), whole-line_ends (c ∷ cs) (omega arith) (IsWholeLines-rest b (c ∷ cs) whole))
 
@@ -516,11 +437,7 @@ broken-kind k b bytes l = inr refl
 
 open_end-kind : (c : Course) (b : Breach) (k : Kind) (o l : ℕ) (own : List ℕ) → StepKind k (open_end c b o l own)
 unfolding open_end
-open_end-kind c b k o l own =
-    elim c.break as (λ (d : Option Break). StepKind k (elim d [ None ↦ broken b own o | Some d ↦ broken d.breach own (l + line_ends own) ])) [
-      | None ↦ broken-kind k b own o
-      | Some d ↦ broken-kind k d.breach own (l + line_ends own)
-    ]
+open_end-kind c b k o l own = grind (arith, broken-kind)
 
 string_open-kind : (c : Course) (k : Kind) (o l n : ℕ) (bs : List ℕ)
     → StepKind k (cond (ltb n (length bs)) (broken PerlFound (take n bs) (l + line_ends (take n bs))) (open_end c StringOpen o l (take n bs)))
@@ -543,28 +460,7 @@ definition-kind k bytes l = inr refl
 
 define-kind : (c : Course) (k : Kind) (l : ℕ) (bs : List ℕ) → StepKind k (define_step c l bs)
 unfolding define_step
-define-kind c k l bs =
-    let long = broken-kind k DefineLong [] l in
-    let at_break : StepKind k (elim c.break [
-      | None ↦ cond (ltb c.most (length bs)) (broken DefineLong [] l) (Next (record { sort = Definition; bytes = bs; line = l }))
-      | Some d ↦ cond (ltb c.most (length bs + d.len)) (broken DefineLong [] l) (broken DefineCut [] l)
-    ]) = elim c.break as (λ (e : Option Break). StepKind k (elim e [
-      | None ↦ cond (ltb c.most (length bs)) (broken DefineLong [] l) (Next (record { sort = Definition; bytes = bs; line = l }))
-      | Some d ↦ cond (ltb c.most (length bs + d.len)) (broken DefineLong [] l) (broken DefineCut [] l)
-    ])) [
-      | None ↦ either_kind k (ltb c.most (length bs)) _ _ long (definition-kind k bs l)
-      | Some d ↦ either_kind k (ltb c.most (length bs + d.len)) _ _ long (broken-kind k DefineCut [] l)
-    ] in
-    elim (logical_len 0 0 bs) as (λ (n : Option ℕ). StepKind k (elim n [
-      | Some n ↦ cond (ltb c.most n) (broken DefineLong [] l) (Next (record { sort = Definition; bytes = take n bs; line = l }))
-      | None ↦ elim c.break [
-        | None ↦ cond (ltb c.most (length bs)) (broken DefineLong [] l) (Next (record { sort = Definition; bytes = bs; line = l }))
-        | Some d ↦ cond (ltb c.most (length bs + d.len)) (broken DefineLong [] l) (broken DefineCut [] l)
-      ]
-    ])) [
-      | Some n ↦ either_kind k (ltb c.most n) _ _ long (definition-kind k (take n bs) l)
-      | None ↦ at_break
-    ]
+define-kind c k l bs = grind (arith, broken-kind, either_kind, definition-kind)
 
 back-kind : (c : Course) (l : ℕ) (k : Kind) (n : ℕ) (m : Mode) (bs : List ℕ) → StepKind k (back_step c l (record { kind = k; len = n; next_mode = m }) bs)
 unfolding back_step line_step StepKind is_ordinary

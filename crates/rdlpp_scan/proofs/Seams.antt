@@ -1,5 +1,5 @@
 -- The tokens of a text that is cut at a line end, beside those of the whole text.
-use Rattle.std.proofs.Common.{◌≡◌, ℕ, suc, ◌+◌, ◌-◌, ◌<◌, ◌≤◌, Bool, true, false, not, cond, ◌||◌, ◌&&◌, eqb, ltb, List, [], ◌∷◌, ◌++◌, length, get_or, drop, refl, sym, ap, ◌∙◌, subst, inl, inr, ⊎_elim, arith, zero, eqb-true, lt-ltb, le-ltb, length-append, length-drop, get_or-drop, drop-drop}
+use Rattle.std.proofs.Common.{◌≡◌, ℕ, suc, ◌+◌, ◌-◌, ◌<◌, ◌≤◌, Bool, true, false, not, cond, ◌||◌, ◌&&◌, eqb, ltb, List, ◌∷◌, ◌++◌, length, get_or, drop, refl, sym, ap, ◌∙◌, subst, inl, inr, ⊎_elim, arith, zero, eqb-true, lt-ltb, le-ltb, length-append, length-drop, get_or-drop, drop-drop, []}
 use Rattle.std.specs.List.{prefix_len, concat}
 use Rattle.std.proofs.lemmas.Bool.{and_parts, cases_lt, false≢true, cases_Bool}
 use Rattle.std.proofs.lemmas.List.{drop-append-le, get_or_past, get_or_append_left, drop_all}
@@ -94,10 +94,7 @@ still_taken-whole false (b ∷ c ∷ xs) some whole = still_taken-whole (eqb b 9
 -- an LF is taken along or not with no difference
 string_stop-ten : (taken : Bool) (ys : List ℕ) → get_or ys 0 0 ≡ 10 → string_stop taken ys ≡ string_stop false ys
 unfolding string_stop begins_perl
-string_stop-ten true (y ∷ ys) ten =
-    let P : ℕ → Type 0 = λ n. suc (string_stop false ys) ≡ cond (eqb n 34 || (eqb n 60 && eqb (get_or ys 0 0) 37)) 0 (suc (string_stop (eqb n 92) ys)) in
-    let at_ten : P 10 = refl in
-    subst P (sym ten) at_ten
+string_stop-ten true (y ∷ ys) ten = grind arith
 string_stop-ten _ ys ten = refl
 
 -- behind a cut a string goes on as at its beginning
@@ -192,12 +189,7 @@ string_at stop b = cond (eqb b 34) (whole Str (suc stop)) (record { kind = Str; 
 
 string_at-seam : (xs ys : List ℕ) (stop b : ℕ) (u : Token) → stop < length xs → (eqb b 34 ≡ false → begins_perl (drop stop xs) ≡ true) → u ≡ string_at stop b → Seam xs ys (string_at stop b) u
 unfolding string_at whole
-string_at-seam xs ys stop b u lt perl e =
-    let at : Bool → Token = λ t. cond t (whole Str (suc stop)) (record { kind = Str; len = stop; next_mode = InStr }) in
-    let P : Bool → Type 0 = λ t. eqb b 34 ≡ t → u ≡ at t → Seam xs ys (at t) u in
-    let at_true : P true = λ _ h. Closed h refl in
-    let at_false : P false = λ q h. BeforePerl h refl lt (perl q) in
-    elim (eqb b 34) as P [ true ↦ at_true | false ↦ at_false ] refl e
+string_at-seam xs ys stop b u lt perl e = grind arith
 
 -- a string stops at its quote or at `<%`
 string_stop-at : (s : Bool) (bs : List ℕ) → string_stop s bs < length bs → (eqb (get_or bs (string_stop s bs) 0) 34 || begins_perl (drop (string_stop s bs) bs)) ≡ true
@@ -214,12 +206,7 @@ string_stop-at false (b ∷ bs) lt =
 
 string_at-longer : (n s b : ℕ) → string_at (n + s) b ≡ longer n (string_at s b)
 unfolding string_at whole
-string_at-longer n s b =
-    let e : suc (n + s) ≡ n + suc s = omega arith in
-    elim (eqb b 34) as (λ t. cond t (whole Str (suc (n + s))) (record { kind = Str; len = n + s; next_mode = InStr }) ≡ longer n (cond t (whole Str (suc s)) (record { kind = Str; len = s; next_mode = InStr }))) [
-      | true ↦ ap (whole Str) e
-      | false ↦ refl
-    ]
+string_at-longer n s b = grind arith
 
 -- a string, by where it stops
 pub string_token-at : (from : ℕ) (bs : List ℕ) (stop : ℕ) → from + string_stop false (drop from bs) ≡ stop → string_token from bs ≡ string_at stop (get_or bs stop 0)
@@ -416,16 +403,12 @@ join_onto-closed t (u ∷ us) closed =
 -- `<%` is joined with nothing
 join_onto-perl : (t u : Token) (us : List Token) → u.kind ≡ Perl → join_onto t (u ∷ us) ≡ t ∷ u ∷ us
 unfolding join_onto is_perl
-join_onto-perl t u us is =
-    let two = record { kind = u.kind; len = t.len + u.len; next_mode = u.next_mode } ∷ us in
-    ap (λ (k : Kind). cond (is_open t.next_mode && not (is_perl k)) two (t ∷ u ∷ us)) is ∙ ap (λ b. cond b two (t ∷ u ∷ us)) (and-false (is_open t.next_mode))
+join_onto-perl t u us is = grind (arith, and-false)
 
 -- an open token is joined with the part that follows
 join_onto-open : (t u : Token) (us : List Token) → is_open t.next_mode ≡ true → is_perl u.kind ≡ false → join_onto t (u ∷ us) ≡ longer t.len u ∷ us
 unfolding join_onto
-join_onto-open t u us is_so other =
-    let two = record { kind = u.kind; len = t.len + u.len; next_mode = u.next_mode } ∷ us in
-    ap (λ b. cond (b && not (is_perl u.kind)) two (t ∷ u ∷ us)) is_so ∙ ap (λ b. cond (not b) two (t ∷ u ∷ us)) other
+join_onto-open t u us is_so other = grind arith
 
 -- the tokens behind one that covers its text
 tokens_from-covered : (m : Mode) (n : ℕ) (xs : List ℕ) → length xs ≤ n → tokens_from m 0 (drop n xs) ≡ []
@@ -435,31 +418,16 @@ tokens_from-covered m n xs le = ap (tokens_from m 0) (drop_all n xs le)
 -- a string's part before `<%` stays a token of its own
 join_before_perl : (t : Token) (zs : List ℕ) → 0 < length zs → begins_perl zs ≡ true → join_onto t (tokens_from InStr 0 zs) ≡ t ∷ tokens_from InStr 0 zs
 unfolding token_of whole
-join_before_perl t zs some perl =
-    let v = token_of InStr zs in
-    let e = tokens_from-step InStr zs some (token_of-part InStr zs some).not_empty in
-    let kind : v.kind ≡ Perl = ap (λ b. (cond b (whole Perl 2) (string_token 0 zs)).kind) perl in
-    ap (join_onto t) e ∙ join_onto-perl t v (tokens_from v.next_mode 0 (drop v.len zs)) kind ∙ ap (λ us. t ∷ us) (sym e)
+join_before_perl t zs some perl = grind (arith, tokens_from-step, token_of-part, join_onto-perl)
 
 -- the tokens of the whole text, where its first token goes over a cut
 after_cut : (m : Mode) (xs ys : List ℕ) (v : Token) → 0 < length xs → token_of m (xs ++ ys) ≡ longer (length xs) v → tokens_from m 0 (xs ++ ys) ≡ longer (length xs) v ∷ tokens_from v.next_mode 0 (drop v.len ys)
-after_cut m xs ys v some is =
-    let zs = xs ++ ys in
-    let n = length xs in
-    let size = length-append xs ys in
-    let step = tokens_from-step m zs (omega arith) (token_of-part m zs (omega arith)).not_empty in
-    step ∙ ap (λ (u : Token). u ∷ tokens_from u.next_mode 0 (drop u.len zs)) is ∙ ap (λ z. longer n v ∷ tokens_from v.next_mode 0 z) (drop-append-add xs ys v.len)
+after_cut m xs ys v some is = grind (arith, length-append, tokens_from-step, token_of-part, drop-append-add)
 
 -- `<%` at the front of the rest of a string
 pub perl_rest : (ys : List ℕ) → begins_perl ys ≡ true → string_token 0 ys ≡ record { kind = Str; len = 0; next_mode = InStr }
 unfolding string_token begins_perl
-perl_rest ys perl =
-    let b = get_or ys 0 0 in
-    let less : b ≡ 60 = eqb-true b 60 (and_parts (eqb b 60) (eqb (get_or ys 1 0) 37) perl).0 in
-    let none : string_stop false ys ≡ 0 = string_stop-stop ys (ap (λ t. eqb b 34 || t) perl ∙ or-true (eqb b 34)) in
-    let zero_is : 0 + string_stop false ys ≡ 0 = omega (arith, none) in
-    ap (λ i. cond (eqb (get_or ys i 0) 34) (whole Str (suc i)) (record { kind = Str; len = i; next_mode = InStr })) zero_is
-    ∙ ap (λ n. cond (eqb n 34) (whole Str 1) (record { kind = Str; len = 0; next_mode = InStr })) less
+perl_rest ys perl = grind (arith, eqb-true, and_parts, string_stop-stop, or-true)
 
 open_string_some : (m : Mode) (xs : List ℕ) (y : ℕ) (ys : List ℕ) → 0 < length xs → token_of m (xs ++ y ∷ ys) ≡ longer (length xs) (string_token 0 (y ∷ ys))
     → join_onto (record { kind = Str; len = length xs; next_mode = InStr }) (tokens_from InStr 0 (y ∷ ys)) ≡ tokens_from m 0 (xs ++ y ∷ ys)
@@ -512,11 +480,7 @@ open_comment m xs (y ∷ ys) some is = open_comment_some m xs y ys some is
 
 -- the tokens of the whole text, where its first token is that of the text in front of a cut
 same_first : (m : Mode) (xs ys : List ℕ) (t : Token) → 0 < length xs → token_of m (xs ++ ys) ≡ t → t.len ≤ length xs → tokens_from m 0 (xs ++ ys) ≡ t ∷ tokens_from t.next_mode 0 (drop t.len xs ++ ys)
-same_first m xs ys t some is inside =
-    let zs = xs ++ ys in
-    let size = length-append xs ys in
-    tokens_from-step m zs (omega arith) (token_of-part m zs (omega arith)).not_empty
-    ∙ ap (λ (u : Token). u ∷ tokens_from u.next_mode 0 (drop u.len zs)) is ∙ ap (λ z. t ∷ tokens_from t.next_mode 0 z) (drop-append-le t.len xs ys inside)
+same_first m xs ys t some is inside = grind (arith, length-append, tokens_from-step, token_of-part, drop-append-le)
 
 -- the tokens in front of a cut, by the first of them
 cut_by : (k : ℕ) (m : Mode) (xs ys : List ℕ) → 0 < length xs → length xs ≤ suc k → IsCut xs ys
@@ -524,11 +488,7 @@ cut_by : (k : ℕ) (m : Mode) (xs ys : List ℕ) → 0 < length xs → length xs
     → (t : Token) → t ≡ token_of m xs → Seam xs ys t (token_of m (xs ++ ys))
     → join_onto t (join_all (tokens_from t.next_mode 0 (drop t.len xs)) (tokens_from (mode_after t.next_mode (tokens_from t.next_mode 0 (drop t.len xs))) 0 ys)) ≡ tokens_from m 0 (xs ++ ys)
 unfolding join_all mode_after
-cut_by k m xs ys some fuel cut later t is (Closed e closed) =
-    let part = subst (λ (u : Token). IsPart u xs) (sym is) (token_of-part m xs some) in
-    let rest = drop t.len xs in
-    let following = later t.next_mode rest (omega (arith, length-drop t.len xs, part.not_empty)) (IsCut-drop t.len xs ys cut) in
-    ap (join_onto t) following ∙ join_onto-closed t (tokens_from t.next_mode 0 (rest ++ ys)) closed ∙ sym (same_first m xs ys t some e part.inside)
+cut_by k m xs ys some fuel cut later t is (Closed e closed) = grind (arith, token_of-part, length-drop, IsCut-drop, join_onto-closed, same_first)
 cut_by k m xs ys some fuel cut later t is (BeforePerl e open_is lt perl) =
     let part = subst (λ (u : Token). IsPart u xs) (sym is) (token_of-part m xs some) in
     let rest = drop t.len xs in
@@ -541,18 +501,8 @@ cut_by k m xs ys some fuel cut later t is (BeforePerl e open_is lt perl) =
     let kept : join_onto t (tokens_from t.next_mode 0 Z) ≡ t ∷ tokens_from t.next_mode 0 Z =
     subst (λ (d : Mode). join_onto t (tokens_from d 0 Z) ≡ t ∷ tokens_from d 0 Z) (sym mode) (join_before_perl t Z (omega (arith, size, both)) first) in
     ap (join_onto t) following ∙ kept ∙ sym (same_first m xs ys t some e part.inside)
-cut_by k m xs ys some fuel cut later t is (OpenString open_is e) =
-    let n = length xs in
-    let T : Token = record { kind = Str; len = n; next_mode = InStr } in
-    ap (λ (u : Token). join_onto u (join_all (tokens_from u.next_mode 0 (drop u.len xs)) (tokens_from (mode_after u.next_mode (tokens_from u.next_mode 0 (drop u.len xs))) 0 ys))) open_is
-    ∙ ap (λ ts. join_onto T (join_all ts (tokens_from (mode_after InStr ts) 0 ys))) (tokens_from-covered InStr n xs (omega arith))
-    ∙ open_string m xs ys some e
-cut_by k m xs ys some fuel cut later t is (OpenComment open_is e) =
-    let n = length xs in
-    let T : Token = record { kind = BlockComment; len = n; next_mode = InBlock } in
-    ap (λ (u : Token). join_onto u (join_all (tokens_from u.next_mode 0 (drop u.len xs)) (tokens_from (mode_after u.next_mode (tokens_from u.next_mode 0 (drop u.len xs))) 0 ys))) open_is
-    ∙ ap (λ ts. join_onto T (join_all ts (tokens_from (mode_after InBlock ts) 0 ys))) (tokens_from-covered InBlock n xs (omega arith))
-    ∙ open_comment m xs ys some e
+cut_by k m xs ys some fuel cut later t is (OpenString open_is e) = grind (arith, tokens_from-covered, open_string)
+cut_by k m xs ys some fuel cut later t is (OpenComment open_is e) = grind (arith, tokens_from-covered, open_comment)
 
 -- one cut: the tokens in front of it, joined with those of the rest
 cut_once : (k : ℕ) (m : Mode) (xs ys : List ℕ) → length xs ≤ k → IsCut xs ys → join_all (tokens_from m 0 xs) (tokens_from (mode_after m (tokens_from m 0 xs)) 0 ys) ≡ tokens_from m 0 (xs ++ ys)

@@ -1,5 +1,5 @@
 -- Lines and logical lines, and the tokens of a source line by line.
-use Rattle.std.proofs.Common.{◌≡◌, ℕ, zero, suc, ◌+◌, ◌<◌, ◌≤◌, Bool, true, false, cond, List, [], ◌∷◌, ◌++◌, length, take, drop, refl, sym, ap, ◌∙◌, subst, inl, inr, ⊎_elim, arith, not, ◌&&◌, Option, Some, None, ◌-◌, eqb, get_or, ltb, count_by, option_map, unwrap_or, take-add, eqb-true, le-ltb, lt-ltb, append-nil, append_assoc, drop-drop, length-append, length-take, length-take-le}
+use Rattle.std.proofs.Common.{◌≡◌, ℕ, zero, suc, ◌+◌, ◌<◌, ◌≤◌, Bool, true, false, cond, List, ◌∷◌, ◌++◌, length, take, drop, refl, sym, ap, ◌∙◌, subst, inl, inr, ⊎_elim, arith, not, ◌&&◌, Option, Some, None, ◌-◌, eqb, get_or, ltb, count_by, option_map, unwrap_or, take-add, eqb-true, le-ltb, lt-ltb, append-nil, append_assoc, drop-drop, length-append, length-take, length-take-le, []}
 use Rattle.std.specs.List.{concat}
 use Rattle.std.proofs.Math.Bool.{and-false}
 use Rattle.std.proofs.lemmas.Bool.{cond_both, false_from_ne_true}
@@ -18,19 +18,12 @@ use Rattle.rdlpp_scan.specs.declared.token.Mode.TheVariants.{Plain}
 pub whole_lines_len-le : (bs : List ℕ) → whole_lines_len bs ≤ length bs
 unfolding whole_lines_len onto_whole_lines
 whole_lines_len-le [] = omega arith
-whole_lines_len-le (b ∷ bs) =
-    let P : ℕ → Type 0 = λ n. n ≤ length bs → onto_whole_lines b n ≤ suc (length bs) in
-    let none : P zero = λ h. elim (is_line_end b) as (λ t. cond t 1 0 ≤ suc (length bs)) [ true ↦ omega arith | false ↦ omega arith ] in
-    elim (whole_lines_len bs) as P [ zero ↦ none | suc n ↦ λ h. omega arith ] (whole_lines_len-le bs)
+whole_lines_len-le (b ∷ bs) = grind (arith, (whole_lines_len-le bs))
 
 -- without its first byte a text of whole lines is one
 pub IsWholeLines-rest : (b : ℕ) (bs : List ℕ) → IsWholeLines (b ∷ bs) → IsWholeLines bs
 unfolding whole_lines_len onto_whole_lines
-IsWholeLines-rest b bs h =
-    let P : ℕ → Type 0 = λ n. onto_whole_lines b n ≡ suc (length bs) → n ≡ length bs in
-    let Q : Bool → Type 0 = λ t. cond t 1 0 ≡ suc (length bs) → 0 ≡ length bs in
-    let none : P zero = elim (is_line_end b) as Q [ true ↦ λ e. omega arith | false ↦ λ e. absurd (omega arith) ] in
-    elim (whole_lines_len bs) as P [ zero ↦ none | suc n ↦ λ e. omega arith ] h
+IsWholeLines-rest b bs h = grind arith
 
 one_of : (t : Bool) (n : ℕ) → cond t 1 0 ≡ n → n ≡ 1 → t ≡ true
 one_of true n e h = refl
@@ -61,15 +54,7 @@ IsWholeLines-append xs ys h k = whole_lines_len-append xs ys h ∙ ap (λ n. len
 pub IsWholeLines-take : (bs : List ℕ) → IsWholeLines (take (whole_lines_len bs) bs)
 unfolding whole_lines_len onto_whole_lines
 IsWholeLines-take [] = refl
-IsWholeLines-take (b ∷ bs) =
-    let P : ℕ → Type 0 = λ n. whole_lines_len bs ≡ n → whole_lines_len (take (onto_whole_lines b n) (b ∷ bs)) ≡ length (take (onto_whole_lines b n) (b ∷ bs)) in
-    let Q : Bool → Type 0 = λ t. is_line_end b ≡ t → whole_lines_len (take (cond t 1 0) (b ∷ bs)) ≡ length (take (cond t 1 0) (b ∷ bs)) in
-    let none : P zero = λ _. elim (is_line_end b) as Q [ true ↦ λ e. ap (λ t. cond t 1 0) e | false ↦ λ e. refl ] refl in
-    let more : (n : ℕ) → P (suc n) = λ n e.
-    let room : suc n ≤ length bs = omega (arith, whole_lines_len-le bs) in
-    let front : whole_lines_len (take (suc n) bs) ≡ suc n = subst (λ k. whole_lines_len (take k bs) ≡ length (take k bs)) e (IsWholeLines-take bs) ∙ length-take-le (suc n) bs room in
-    ap (onto_whole_lines b) front ∙ ap suc (sym (length-take-le (suc n) bs room)) in
-    elim (whole_lines_len bs) as P [ zero ↦ none | suc n ↦ more n ] refl
+IsWholeLines-take (b ∷ bs) = grind (arith, whole_lines_len-le, length-take-le, (IsWholeLines-take bs))
 
 -- what is behind a place of whole lines is whole lines
 pub IsWholeLines-drop : (n : ℕ) (bs : List ℕ) → IsWholeLines bs → IsWholeLines (drop n bs)
@@ -85,19 +70,14 @@ EndsLine-drop n bs rest = ⊎_elim (λ h. inl (IsWholeLines-drop n bs h)) (λ h.
 -- a byte in front of whole lines
 pub whole_one : (b : ℕ) (bs : List ℕ) → IsWholeLines bs → 0 < length bs → IsWholeLines (b ∷ bs)
 unfolding whole_lines_len onto_whole_lines
-whole_one b bs h some =
-    let P : ℕ → Type 0 = λ n. n ≡ length bs → onto_whole_lines b n ≡ suc (length bs) in
-    let none : P zero = λ e. absurd (omega arith) in
-    elim (whole_lines_len bs) as P [ zero ↦ none | suc n ↦ λ e. omega arith ] h
+whole_one b bs h some = grind arith
 
 -- Lines and logical lines, with more behind them.
 
 line_len-whole : (held more : List ℕ) → 0 < length held → IsWholeLines held → line_len (held ++ more) ≡ line_len held
 unfolding line_len
 line_len-whole [] more some whole = absurd (omega arith)
-line_len-whole (b ∷ []) more some whole =
-    let P : Bool → Type 0 = λ t. cond t 1 (suc (line_len more)) ≡ cond t 1 1 in
-    subst P (sym (IsWholeLines-one b whole)) refl
+line_len-whole (b ∷ []) more some whole = grind (arith, IsWholeLines-one)
 line_len-whole (b ∷ c ∷ cs) more some whole =
     ap (λ n. cond (is_line_end b) 1 (suc n)) (line_len-whole (c ∷ cs) more (omega arith) (IsWholeLines-rest b (c ∷ cs) whole))
 
@@ -151,12 +131,7 @@ logical_len-append x y (b ∷ xs) ys n h =
 pub line_len-ended : (bs : List ℕ) → unwrap_or (ended_line_len bs) (length bs) ≡ line_len bs
 unfolding ended_line_len line_len
 line_len-ended [] = refl
-line_len-ended (b ∷ bs) =
-    let step : (o : Option ℕ) → unwrap_or (option_map suc o) (suc (length bs)) ≡ suc (unwrap_or o (length bs)) = λ o. elim o as (λ p. unwrap_or (option_map suc p) (suc (length bs)) ≡ suc (unwrap_or p (length bs))) [ None ↦ refl | Some n ↦ refl ] in
-    elim (is_line_end b) as (λ t. unwrap_or (cond t (Some 1) (option_map suc (ended_line_len bs))) (suc (length bs)) ≡ cond t 1 (suc (line_len bs))) [
-      | true ↦ refl
-      | false ↦ step (ended_line_len bs) ∙ ap suc (line_len-ended bs)
-    ]
+line_len-ended (b ∷ bs) = grind (arith, (line_len-ended bs))
 
 -- a line is within its text
 pub line_len-le : (bs : List ℕ) → line_len bs ≤ length bs
@@ -172,12 +147,7 @@ ends_continued-last x y (b ∷ w) = ends_continued-last y b w
 
 -- the same, with the two bytes counted from the end
 pub ends_continued-back : (w : List ℕ) (r : Bool) (p q : ℕ) → r ≡ is_continued p q → p ≡ get_or (0 ∷ 0 ∷ w) (length w + 2 - 2) 0 → q ≡ get_or (0 ∷ 0 ∷ w) (length w + 2 - 1) 0 → r ≡ ends_continued 0 0 w
-ends_continued-back w r p q is before last =
-    let two : length w + 2 - 2 ≡ length w = omega arith in
-    let one : length w + 2 - 1 ≡ suc (length w) = omega arith in
-    let x : p ≡ get_or (0 ∷ 0 ∷ w) (length w) 0 = before ∙ ap (λ i. get_or (0 ∷ 0 ∷ w) i 0) two in
-    let y : q ≡ get_or (0 ∷ 0 ∷ w) (suc (length w)) 0 = last ∙ ap (λ i. get_or (0 ∷ 0 ∷ w) i 0) one in
-    is ∙ ap (λ n. is_continued n q) x ∙ ap (is_continued (get_or (0 ∷ 0 ∷ w) (length w) 0)) y ∙ sym (ends_continued-last 0 0 w)
+ends_continued-back w r p q is before last = grind (arith, ends_continued-last)
 
 -- one more in front
 pub option_map-twice : (k : ℕ) (o : Option ℕ) → option_map suc (option_map (λ n. k + n) o) ≡ option_map (λ n. suc k + n) o
@@ -285,11 +255,7 @@ line_ends-append xs ys = sum_by-append (λ x. cond (is_line_end x) 1 0) xs ys
 -- the line behind a byte, and behind a text that it begins
 pub line_after-ends : (b l : ℕ) (bs : List ℕ) → line_after b l + line_ends bs ≡ l + line_ends (b ∷ bs)
 unfolding line_after
-line_after-ends b l bs =
-    let e = line_ends-cons b bs in
-    let n = line_ends bs in
-    let P : Bool → Type 0 = λ t. line_ends (b ∷ bs) ≡ cond t 1 0 + n → cond t (suc l) l + n ≡ l + line_ends (b ∷ bs) in
-    elim (is_line_end b) as P [ true ↦ λ h. omega arith | false ↦ λ h. omega arith ] e
+line_after-ends b l bs = grind (arith, line_ends-cons)
 
 -- bytes that are passed over are dropped, with their LF bytes counted
 pub source_tokens-skip : (c : Course) (m : Mode) (o l n : ℕ) (bs : List ℕ) → source_tokens c m o l n bs ≡ source_tokens c m o (l + line_ends (take n bs)) 0 (drop n bs)
@@ -326,21 +292,13 @@ source_tokens-last c m o l (b ∷ bs) t some is =
 pub lines_of-first : (b : ℕ) (bs : List ℕ) → lines_of (b ∷ bs) ≡ take (line_len (b ∷ bs)) (b ∷ bs) ∷ lines_of (drop (line_len (b ∷ bs)) (b ∷ bs))
 unfolding lines_of line_len onto_first is_line_end
 lines_of-first b [] = elim (eqb b 10) as (λ t. cond t ((b ∷ []) ∷ []) ((b ∷ []) ∷ []) ≡ take (cond t 1 1) (b ∷ []) ∷ lines_of (drop (cond t 1 1) (b ∷ []))) [ true ↦ refl | false ↦ refl ]
-lines_of-first b (c ∷ cs) =
-    let n = line_len (c ∷ cs) in
-    let bs = b ∷ c ∷ cs in
-    elim (eqb b 10) as (λ t. cond t ((b ∷ []) ∷ lines_of (c ∷ cs)) (onto_first b (lines_of (c ∷ cs))) ≡ take (cond t 1 (suc n)) bs ∷ lines_of (drop (cond t 1 (suc n)) bs)) [
-      | true ↦ refl
-      | false ↦ ap (onto_first b) (lines_of-first c cs)
-    ]
+lines_of-first b (c ∷ cs) = grind (arith, (lines_of-first c cs))
 
 -- the lines of whole lines and of what is behind them
 lines_of-append : (w r : List ℕ) → IsWholeLines w → lines_of (w ++ r) ≡ lines_of w ++ lines_of r
 unfolding lines_of is_line_end onto_first
 lines_of-append [] r whole = refl
-lines_of-append (b ∷ []) r whole =
-    let P : Bool → Type 0 = λ t. cond t ((b ∷ []) ∷ lines_of r) (onto_first b (lines_of r)) ≡ cond t ((b ∷ []) ∷ []) (onto_first b []) ++ lines_of r in
-    subst P (sym (IsWholeLines-one b whole)) refl
+lines_of-append (b ∷ []) r whole = grind (arith, IsWholeLines-one)
 lines_of-append (b ∷ c ∷ w) r whole =
     let rest = lines_of-append (c ∷ w) r (IsWholeLines-rest b (c ∷ w) whole) in
     let some = lines_of-first c w in
@@ -387,14 +345,7 @@ no_lines_after w = ap lines_of (append-nil w) ∙ sym (append-nil (lines_of w))
 -- lines that the limits accept
 pub front-accept : (most room : ℕ) (w r : List ℕ) → EndsLine w r → length w ≤ most → length w ≤ room → front most room (w ++ r) ≡ onto_front w (front most (room - length w) r)
 unfolding front
-front-accept most room w r ends line source =
-    let whole = concat-lines_of w in
-    let size : length (concat (lines_of w)) ≡ length w = ap length whole in
-    let split : lines_of (w ++ r) ≡ lines_of w ++ lines_of r =
-    ⊎_elim (λ h. lines_of-append w r h) (λ none. subst (λ (x : List ℕ). lines_of (w ++ x) ≡ lines_of w ++ lines_of x) (sym none) (no_lines_after w)) ends in
-    ap (front_of_lines most room) split
-    ∙ front_of_lines-append most room (lines_of w) (lines_of r) (omega (arith, size)) (omega (arith, size))
-    ∙ ap (λ x. onto_front x (front_of_lines most (room - length x) (lines_of r))) whole
+front-accept most room w r ends line source = grind (arith, concat-lines_of, lines_of-append, no_lines_after, front_of_lines-append)
 
 -- no text
 pub front-none : (most room : ℕ) → front most room [] ≡ record { text = []; break = None }
@@ -408,17 +359,11 @@ front-first most room b bs = ap (front_of_lines most room) (lines_of-first b bs)
 
 of_lines-line_long : (most room : ℕ) (l : List ℕ) (ls : List (List ℕ)) → most < length l → front_of_lines most room (l ∷ ls) ≡ record { text = []; break = Some (record { breach = LineLong; len = length l }) }
 unfolding front_of_lines
-of_lines-line_long most room l ls long =
-    let much : Front = record { text = []; break = Some (record { breach = SourceLong; len = length l }) } in
-    ap (λ t. cond t (record { text = []; break = Some (record { breach = LineLong; len = length l }) }) (cond (ltb room (length l)) much (onto_front l (front_of_lines most (room - length l) ls)))) (lt-ltb most (length l) long)
+of_lines-line_long most room l ls long = grind (arith, lt-ltb)
 
 of_lines-source_long : (most room : ℕ) (l : List ℕ) (ls : List (List ℕ)) → length l ≤ most → room < length l → front_of_lines most room (l ∷ ls) ≡ record { text = []; break = Some (record { breach = SourceLong; len = length l }) }
 unfolding front_of_lines
-of_lines-source_long most room l ls fits much =
-    let long : Front = record { text = []; break = Some (record { breach = LineLong; len = length l }) } in
-    let over : Front = record { text = []; break = Some (record { breach = SourceLong; len = length l }) } in
-    let more = onto_front l (front_of_lines most (room - length l) ls) in
-    ap (λ t. cond t long (cond (ltb room (length l)) over more)) (le-ltb most (length l) fits) ∙ ap (λ t. cond t over more) (lt-ltb room (length l) much)
+of_lines-source_long most room l ls fits much = grind (arith, le-ltb, lt-ltb)
 
 broken_front : Breach → ℕ → Front
 broken_front k n = record { text = []; break = Some (record { breach = k; len = n }) }
@@ -427,19 +372,13 @@ broken_front k n = record { text = []; break = Some (record { breach = k; len = 
 pub front-line_long : (most room : ℕ) (r : List ℕ) → most < line_len r → front most room r ≡ record { text = []; break = Some (record { breach = LineLong; len = line_len r }) }
 unfolding broken_front
 front-line_long most room [] long = absurd (omega (arith, line_len-le []))
-front-line_long most room (b ∷ bs) long =
-    let n = line_len (b ∷ bs) in
-    let size = length-take-le n (b ∷ bs) (line_len-le (b ∷ bs)) in
-    front-first most room b bs ∙ of_lines-line_long most room (take n (b ∷ bs)) (lines_of (drop n (b ∷ bs))) (omega (arith, size)) ∙ ap (broken_front LineLong) size
+front-line_long most room (b ∷ bs) long = grind (arith, length-take-le, line_len-le, front-first, of_lines-line_long, broken_front)
 
 -- a first line that is too much for the source
 pub front-source_long : (most room : ℕ) (r : List ℕ) → line_len r ≤ most → room < line_len r → front most room r ≡ record { text = []; break = Some (record { breach = SourceLong; len = line_len r }) }
 unfolding broken_front
 front-source_long most room [] fits long = absurd (omega (arith, line_len-le []))
-front-source_long most room (b ∷ bs) fits long =
-    let n = line_len (b ∷ bs) in
-    let size = length-take-le n (b ∷ bs) (line_len-le (b ∷ bs)) in
-    front-first most room b bs ∙ of_lines-source_long most room (take n (b ∷ bs)) (lines_of (drop n (b ∷ bs))) (omega (arith, size)) (omega (arith, size)) ∙ ap (broken_front SourceLong) size
+front-source_long most room (b ∷ bs) fits long = grind (arith, length-take-le, line_len-le, front-first, of_lines-source_long, broken_front)
 
 -- How many LF bytes the beginning of a text has, one byte or one part further.
 
@@ -460,7 +399,4 @@ line_ends-most bs i = omega (arith, count_by-le-length is_line_end (take i bs), 
 
 -- one part further
 pub line_ends-part : (bs : List ℕ) (at more : ℕ) → line_ends (take at bs) + line_ends (take (at + more - at) (drop at bs)) ≡ line_ends (take (at + more) bs)
-line_ends-part bs at more =
-    let same : at + more - at ≡ more = omega arith in
-    ap (λ n. line_ends (take at bs) + line_ends (take n (drop at bs))) same ∙ sym (line_ends-append (take at bs) (take more (drop at bs)))
-    ∙ ap line_ends (sym (take-add at more bs))
+line_ends-part bs at more = grind (arith, line_ends-append, take-add)

@@ -1,5 +1,5 @@
 -- Which token stands at the front of a text: by its first bytes, by its parts, and behind plain argument bytes.
-use Rattle.std.proofs.Common.{◌≡◌, ℕ, suc, ◌+◌, ◌<◌, ◌≤◌, Bool, true, false, cond, ◌||◌, ◌&&◌, eqb, List, [], ◌∷◌, ◌++◌, length, get_or, refl, sym, ap, ◌∙◌, subst, inl, inr, ⊎_elim, arith, ltb, drop, Option, eqb-true, append-nil}
+use Rattle.std.proofs.Common.{◌≡◌, ℕ, suc, ◌+◌, ◌<◌, ◌≤◌, Bool, true, false, cond, ◌||◌, ◌&&◌, eqb, List, ◌∷◌, ◌++◌, length, get_or, refl, sym, ap, ◌∙◌, subst, inl, inr, ⊎_elim, arith, ltb, drop, Option, eqb-true, append-nil, []}
 use Rattle.std.specs.List.{prefix_len}
 use Rattle.std.proofs.lemmas.Bool.{and_parts, cases_Bool, cond_both, false_from_ne_true, false≢true, or_cases, or_from, or_parts}
 use Rattle.std.proofs.lemmas.List.Sums.{prefix_len-le-length}
@@ -31,31 +31,12 @@ pub record GoesOn (bs : List ℕ) : Type 0 where
 
 pub goes_on : (bs : List ℕ) → stops_plain_text bs ≡ false → GoesOn bs
 unfolding stops_plain_text
-goes_on bs h =
-    let a = eqb (get_or bs 0 0) 96 in
-    let b = eqb (get_or bs 0 0) 34 in
-    let p = or_parts (a || b || begins_line_comment bs || begins_block_comment bs) (begins_perl bs) h in
-    let q = or_parts (a || b || begins_line_comment bs) (begins_block_comment bs) p.0 in
-    let r = or_parts (a || b) (begins_line_comment bs) q.0 in
-    let s = or_parts a b r.0 in
-    record { no_backquote = s.0; no_quote = s.1; no_line_comment = r.1; no_block_comment = q.1; no_perl = p.1 }
+goes_on bs h = grind (arith, or_parts)
 
 -- where ordinary text stops, one of four bytes stands
 pub at_stop : (p : ℕ → Bool) (bs : List ℕ) → p 96 ≡ false → p 34 ≡ false → p 47 ≡ false → p 60 ≡ false → stops_plain_text bs ≡ true → p (get_or bs 0 0) ≡ false
 unfolding stops_plain_text begins_perl begins_line_comment begins_block_comment
-at_stop p bs backquote quote slash less h =
-    let x = get_or bs 0 0 in
-    let y = get_or bs 1 0 in
-    let is : (n : ℕ) → p n ≡ false → eqb x n ≡ true → p x ≡ false = λ n f e. ap p (eqb-true x n e) ∙ f in
-    ⊎_elim (λ h1.
-    ⊎_elim (λ h2.
-    ⊎_elim (λ h3. ⊎_elim (is 96 backquote) (is 34 quote) (or_cases (eqb x 96) (eqb x 34) h3))
-    (λ h3. is 47 slash (and_parts (eqb x 47) (eqb y 47) h3).0)
-    (or_cases (eqb x 96 || eqb x 34) (begins_line_comment bs) h2))
-    (λ h2. is 47 slash (and_parts (eqb x 47) (eqb y 42) h2).0)
-    (or_cases (eqb x 96 || eqb x 34 || begins_line_comment bs) (begins_block_comment bs) h1))
-    (λ h1. is 60 less (and_parts (eqb x 60) (eqb y 37) h1).0)
-    (or_cases (eqb x 96 || eqb x 34 || begins_line_comment bs || begins_block_comment bs) (begins_perl bs) h)
+at_stop p bs backquote quote slash less h = grind (arith, eqb-true, or_cases, and_parts)
 
 run-stop : (p : ℕ → Bool) (w x : List ℕ) → p (get_or x 0 0) ≡ false → prefix_len p (w ++ x) ≤ length w
 run-stop p [] [] h = omega arith
@@ -63,9 +44,7 @@ run-stop p [] (y ∷ x) h = let P : Bool → Type 0 = λ t. cond t (1 + prefix_l
 run-stop p (b ∷ w) x h = cond_both (p b) (1 + prefix_len p (w ++ x)) 0 (λ n. n ≤ suc (length w)) (λ _. omega (arith, run-stop p w x h)) (λ _. omega arith)
 
 run-none : (p : ℕ → Bool) (w x : List ℕ) → x ≡ [] → prefix_len p (w ++ x) ≤ length w
-run-none p w x none =
-    let e : w ++ x ≡ w = ap (λ (y : List ℕ). w ++ y) none ∙ append-nil w in
-    omega (arith, ap (prefix_len p) e, prefix_len-le-length p w)
+run-none p w x none = grind (arith, append-nil, prefix_len-le-length)
 
 run-whole : (p : ℕ → Bool) (w x : List ℕ) → p 10 ≡ false → 0 < length w → IsWholeLines w → prefix_len p (w ++ x) ≤ length w
 unfolding is_line_end
@@ -260,23 +239,7 @@ block_plain from bs h = absurd (false≢true (sym h ∙ ap opens_mode (block_tok
 plain_rows : (P : Token → Type 0) → ((k : Kind) (n : ℕ) → is_one_byte k ≡ false → P (whole k n)) → ((k : Kind) → P (whole k 1))
     → ((from : ℕ) (bs : List ℕ) → P (block_token from bs)) → ((from : ℕ) (bs : List ℕ) → P (string_token from bs)) → (bs : List ℕ) → P (plain_token bs)
 unfolding plain_token is_one_byte
-plain_rows P run one block string bs =
-    let b = get_or bs 0 0 in
-    let c = get_or bs 1 0 in
-    cond_both (begins_perl bs) _ _ P (λ _. run _ _ refl) (λ _.
-    cond_both (is_line_end b) _ _ P (λ _. one _) (λ _.
-    cond_both (is_blank b) _ _ P (λ _. run _ _ refl) (λ _.
-    cond_both (begins_line_comment bs) _ _ P (λ _. run _ _ refl) (λ _.
-    cond_both (begins_block_comment bs) _ _ P (λ _. block 2 bs) (λ _.
-    cond_both (eqb b 34) _ _ P (λ _. string 1 bs) (λ _.
-    cond_both (is_letter b) _ _ P (λ _. run _ _ refl) (λ _.
-    cond_both (is_digit b) _ _ P (λ _. run _ _ refl) (λ _.
-    cond_both (takes_word b && is_word c) _ _ P (λ _. run _ _ refl) (λ _.
-    cond_both (eqb b 96 && is_letter c) _ _ P (λ _. run _ _ refl) (λ _.
-    cond_both (eqb b 96) _ _ P (λ _. one _) (λ _.
-    cond_both (is_opener b) _ _ P (λ _. one _) (λ _.
-    cond_both (is_closer b) _ _ P (λ _. one _) (λ _.
-    cond_both (eqb b 44) _ _ P (λ _. one _) (λ _. one _))))))))))))))
+plain_rows P run one block string bs = grind (arith, cond_both)
 
 -- what holds of whole tokens, strings and comments holds of the first token in each mode
 rows : (P : Token → Type 0) → ((k : Kind) (n : ℕ) → is_one_byte k ≡ false → P (whole k n)) → ((k : Kind) → P (whole k 1))
@@ -375,9 +338,7 @@ by_value : (n b c : ℕ) (k : Kind) → plain_kind n c ≡ k → eqb b n ≡ tru
 by_value n b c k h e = ap (λ x. plain_kind x c) (eqb-true b n e) ∙ h
 
 by_values : (n m b c : ℕ) (k : Kind) → plain_kind n m ≡ k → (eqb b n && eqb c m) ≡ true → plain_kind b c ≡ k
-by_values n m b c k h e =
-    let both = and_parts (eqb b n) (eqb c m) e in
-    by_value n b c k (ap (λ y. plain_kind n y) (eqb-true c m both.1) ∙ h) both.0
+by_values n m b c k h e = grind (arith, and_parts, by_value, eqb-true)
 
 blank_kind : (b c : ℕ) → is_blank b ≡ true → plain_kind b c ≡ Blank
 unfolding is_blank plain_kind mark_kind is_letter is_digit
@@ -546,61 +507,31 @@ fault bs = fault_of_tokens Plain (tokens_from Plain 0 bs)
 -- a whole token that isn't `<%` is passed
 turn : (bs : List ℕ) (k : Kind) (n : ℕ) → 0 < length bs → token_of Plain bs ≡ whole k n → is_perl k ≡ false → fault bs ≡ fault (drop n bs)
 unfolding fault whole
-turn bs k n some is still =
-    fault-next Plain bs some (ap (λ (t : Token). is_perl t.kind) is ∙ still)
-    ∙ ap (λ (t : Token). fault_of_tokens t.next_mode (tokens_from t.next_mode 0 (drop t.len bs))) is
+turn bs k n some is still = grind (arith, fault-next)
 
 -- the token of a word that begins with a letter
 pub letter_token : (b : ℕ) (bs : List ℕ) → is_letter b ≡ true → token_of Plain (b ∷ bs) ≡ whole Name (prefix_len is_word (b ∷ bs))
 unfolding kind_of parts stop_of mode_after len_of plain_kind whole
-letter_token b bs e =
-    let T = b ∷ bs in
-    token_parts Plain T
-    ∙ ap (λ (t : Bool). parts Plain (cond t Name (kind_else b (get_or T 1 0))) T) e
-  where
-    kind_else : ℕ → ℕ → Kind
-    kind_else b c = cond (is_blank b) Blank (cond (is_digit b) Word (mark_kind b c))
+letter_token b bs e = grind (arith, token_parts, parts)
 
 -- no letter and no digit is a blank
 pub digit_dark : (b : ℕ) → is_digit b ≡ true → is_blank b ≡ true → ⊥
 unfolding is_digit is_blank
-digit_dark b d h =
-    let P : ℕ → Type 0 = λ n. is_digit n ≡ true in
-    ⊎_elim (λ h4. ⊎_elim (λ h3. ⊎_elim (λ h2. ⊎_elim
-    (λ e. false≢true (subst P (eqb-true b 32 e) d)) (λ e. false≢true (subst P (eqb-true b 9 e) d)) (or_cases _ _ h2))
-    (λ e. false≢true (subst P (eqb-true b 13 e) d)) (or_cases _ _ h3))
-    (λ e. false≢true (subst P (eqb-true b 11 e) d)) (or_cases _ _ h4))
-    (λ e. false≢true (subst P (eqb-true b 12 e) d)) (or_cases _ _ h)
+digit_dark b d h = grind (arith, false≢true, eqb-true, or_cases)
 
 pub letter_dark : (b : ℕ) → is_letter b ≡ true → is_blank b ≡ true → ⊥
 unfolding is_letter is_blank
-letter_dark b d h =
-    let P : ℕ → Type 0 = λ n. is_letter n ≡ true in
-    ⊎_elim (λ h4. ⊎_elim (λ h3. ⊎_elim (λ h2. ⊎_elim
-    (λ e. false≢true (subst P (eqb-true b 32 e) d)) (λ e. false≢true (subst P (eqb-true b 9 e) d)) (or_cases _ _ h2))
-    (λ e. false≢true (subst P (eqb-true b 13 e) d)) (or_cases _ _ h3))
-    (λ e. false≢true (subst P (eqb-true b 11 e) d)) (or_cases _ _ h4))
-    (λ e. false≢true (subst P (eqb-true b 12 e) d)) (or_cases _ _ h)
+letter_dark b d h = grind (arith, false≢true, eqb-true, or_cases)
 
 -- the token of a word that begins with a digit
 pub digit_token : (b : ℕ) (bs : List ℕ) → is_letter b ≡ false → is_digit b ≡ true → token_of Plain (b ∷ bs) ≡ whole Word (prefix_len is_word (b ∷ bs))
 unfolding kind_of parts stop_of mode_after len_of plain_kind whole
-digit_token b bs l d =
-    let T = b ∷ bs in
-    let kind : plain_kind b (get_or T 1 0) ≡ Word =
-    rw (l, false_from_ne_true (is_blank b) (digit_dark b d), d) refl in
-    token_parts Plain T
-    ∙ ap (λ (k : Kind). parts Plain k T) kind
-    ∙ ap (λ (t : Bool). whole Word (cond t (prefix_len is_word T) (suc (prefix_len is_word bs)))) d
+digit_token b bs l d = grind (arith, false_from_ne_true, digit_dark, token_parts, parts)
 
 -- the token of blanks
 pub blank_token : (b : ℕ) (bs : List ℕ) → is_blank b ≡ true → token_of Plain (b ∷ bs) ≡ whole Blank (prefix_len is_blank (b ∷ bs))
 unfolding kind_of parts stop_of mode_after len_of plain_kind whole
-blank_token b bs d =
-    let T = b ∷ bs in
-    let kind : plain_kind b (get_or T 1 0) ≡ Blank = rw (false_from_ne_true (is_letter b) (λ l. letter_dark b l d), d) refl in
-    token_parts Plain T
-    ∙ ap (λ (k : Kind). parts Plain k T) kind
+blank_token b bs d = grind (arith, false_from_ne_true, letter_dark, token_parts, parts)
 
 -- the word at the front of a text is passed, if there is one
 word_passed : (bs : List ℕ) → fault bs ≡ fault (drop (prefix_len is_word bs) bs)
@@ -629,9 +560,7 @@ blanks_passed (b ∷ bs) = elim (cases_Bool (is_blank b)) [
 
 -- what stands behind the bytes of a class, by the first of them
 pub run_one : (class : ℕ → Bool) (b : ℕ) (bs : List ℕ) → class b ≡ true → drop (prefix_len class (b ∷ bs)) (b ∷ bs) ≡ drop (prefix_len class bs) bs
-run_one class b bs h =
-    let n : 1 + prefix_len class bs ≡ suc (prefix_len class bs) = omega arith in
-    ap (λ (t : Bool). drop (cond t (1 + prefix_len class bs) 0) (b ∷ bs)) h ∙ ap (λ (k : ℕ). drop k (b ∷ bs)) n
+run_one class b bs h = grind arith
 
 -- the first byte of a run is passed where the run is
 first_passed : (class : ℕ → Bool) → ((bs : List ℕ) → fault bs ≡ fault (drop (prefix_len class bs) bs)) → (b : ℕ) (bs : List ℕ) → class b ≡ true → fault (b ∷ bs) ≡ fault bs
@@ -674,12 +603,7 @@ byte_passed b bs s =
 -- plain argument bytes are passed
 plain_argument_run : (bs : List ℕ) → fault bs ≡ fault (drop (prefix_len is_plain_argument bs) bs)
 plain_argument_run [] = refl
-plain_argument_run (b ∷ bs) = elim (cases_Bool (is_plain_argument b)) [
-  | inl s ↦ byte_passed b bs s ∙ plain_argument_run bs ∙ ap fault (sym (run_one is_plain_argument b bs s))
-  | inr s ↦
-      let none : prefix_len is_plain_argument (b ∷ bs) ≡ 0 = ap (λ (t : Bool). cond t (1 + prefix_len is_plain_argument bs) 0) s in
-      ap (λ (k : ℕ). fault (drop k (b ∷ bs))) (sym none)
-]
+plain_argument_run (b ∷ bs) = grind (arith, cases_Bool, byte_passed, fault, run_one, (plain_argument_run bs))
 
 -- in each mode the first fault of a text is that behind its plain argument bytes
 pub plain_argument_passed : (mode : Mode) (bs : List ℕ) → fault_of_tokens mode (tokens_from mode 0 bs) ≡ fault_of_tokens mode (tokens_from mode 0 (drop (plain_argument_len mode bs) bs))

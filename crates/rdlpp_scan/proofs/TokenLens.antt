@@ -1,5 +1,5 @@
 -- Searches in a text, the classes of bytes, and the length and the last byte of a first token.
-use Rattle.std.proofs.Common.{◌≡◌, ℕ, zero, suc, ◌<◌, Bool, true, false, ◌&&◌, not, nat_eq, bit_and, get_or, List, refl, arith, inl, inr, cond, [], ◌∷◌, Option, Some, None, length, sym, ap, ◌∙◌, ◌+◌, ◌≤◌, eqb, one-add, take, drop, ⊎_elim, ◌||◌, subst, ◌≢◌, min, ltb, ◌-◌, leb, option_map, unwrap_or, eq-eqb, eqb-true, leb-true, ltb-false, ltb-true, ne_eqb, drop-drop, get_or-drop, length-drop}
+use Rattle.std.proofs.Common.{◌≡◌, ℕ, zero, suc, ◌<◌, Bool, true, false, ◌&&◌, not, nat_eq, bit_and, get_or, List, refl, arith, inl, inr, cond, ◌∷◌, Option, Some, None, length, sym, ap, ◌∙◌, ◌+◌, ◌≤◌, eqb, one-add, take, drop, ⊎_elim, ◌||◌, subst, ◌≢◌, min, ltb, ◌-◌, option_map, unwrap_or, eq-eqb, eqb-true, leb-true, ltb-false, ltb-true, ne_eqb, drop-drop, get_or-drop, length-drop, []}
 use Rattle.std.specs.Bool.{beq}
 use Rattle.std.specs.List.{AllByRecursion, list_all, prefix_len}
 use Rattle.std.proofs.Math.Bool.{or-true}
@@ -125,9 +125,7 @@ first_place-le test (b ∷ bs) =
 pub first_place-before : (test : List ℕ → Bool) (bs : List ℕ) (j : ℕ) → j < first_place test bs → test (drop j bs) ≡ false
 unfolding first_place
 first_place-before test [] j lt = absurd (omega arith)
-first_place-before test (b ∷ bs) zero lt =
-    let P : Bool → Type 0 = λ t. 0 < cond t 0 (suc (first_place test bs)) → t ≡ false in
-    elim (test (b ∷ bs)) as P [ true ↦ λ h. absurd (omega arith) | false ↦ λ h. refl ] lt
+first_place-before test (b ∷ bs) zero lt = grind arith
 first_place-before test (b ∷ bs) (suc j) lt =
     let P : Bool → Type 0 = λ t. suc j < cond t 0 (suc (first_place test bs)) → j < first_place test bs in
     first_place-before test bs j (elim (test (b ∷ bs)) as P [ true ↦ λ h. absurd (omega arith) | false ↦ λ h. omega arith ] lt)
@@ -152,19 +150,11 @@ reads_two bs k x y first second (suc (suc j)) lt = absurd (omega arith)
 -- `*/` stands where a text that is cut there ends a comment
 pub ends-occurs : (bs : List ℕ) (k : ℕ) → ends_block_comment (drop k bs) ≡ true → OccursAt bs (42 ∷ 47 ∷ []) k
 unfolding ends_block_comment
-ends-occurs bs k e =
-    let both = and_parts (eqb (get_or (drop k bs) 0 0) 42) (eqb (get_or (drop k bs) 1 0) 47) e in
-    let star : get_or bs k 0 ≡ 42 = sym (at_zero bs k) ∙ eqb-true (get_or (drop k bs) 0 0) 42 both.0 in
-    let slash : get_or bs (k + 1) 0 ≡ 47 = sym (get_or-drop k bs 1 0) ∙ eqb-true (get_or (drop k bs) 1 0) 47 both.1 in
-    let room : k + 1 < length bs = ⊎_elim (λ lt. lt) (λ ge. absurd (omega (arith, get_or_past bs (k + 1) 0 ge))) (cases_lt (k + 1) (length bs)) in
-    record { fits = omega arith; reads = reads_two bs k 42 47 star slash }
+ends-occurs bs k e = grind (arith, and_parts, at_zero, eqb-true, get_or-drop, get_or_past, cases_lt, reads_two)
 
 pub occurs-ends : (bs : List ℕ) (k : ℕ) → OccursAt bs (42 ∷ 47 ∷ []) k → ends_block_comment (drop k bs) ≡ true
 unfolding ends_block_comment
-occurs-ends bs k at =
-    let star : get_or (drop k bs) 0 0 ≡ 42 = get_or-drop k bs 0 0 ∙ at.reads 0 (omega arith) in
-    let slash : get_or (drop k bs) 1 0 ≡ 47 = get_or-drop k bs 1 0 ∙ at.reads 1 (omega arith) in
-    and_from (eqb (get_or (drop k bs) 0 0) 42) (eqb (get_or (drop k bs) 1 0) 47) (eq-eqb _ 42 star) (eq-eqb _ 47 slash)
+occurs-ends bs k at = grind (arith, get_or-drop, and_from, eq-eqb)
 
 -- a search for `*/` says where a block comment stops
 pub comment_stop-search : (bs : List ℕ) (r : Option ℕ) → FindsNeedle bs (42 ∷ 47 ∷ []) 0 r → unwrap_or r (length bs) ≡ first_place ends_block_comment bs
@@ -199,15 +189,7 @@ no_perl bs i h = ap (λ n. eqb n 60 && eqb (get_or (drop i bs) 1 0) 37) (at_zero
 -- ordinary text goes on at a byte that doesn't matter, where no `<%` begins
 pub inert_at : (bs : List ℕ) (i : ℕ) → is_byte3 96 34 47 (get_or bs i 0) ≡ false → begins_perl (drop i bs) ≡ false → stops_plain_text (drop i bs) ≡ false
 unfolding stops_plain_text begins_line_comment begins_block_comment
-inert_at bs i h perl =
-    let b = get_or (drop i bs) 0 0 in
-    let c = get_or (drop i bs) 1 0 in
-    let here : is_byte3 96 34 47 b ≡ false = ap (is_byte3 96 34 47) (at_zero bs i) ∙ h in
-    let p = or_parts (eqb b 96 || eqb b 34) (eqb b 47) here in
-    let q = or_parts (eqb b 96) (eqb b 34) p.0 in
-    ap (λ t. t || eqb b 34 || (eqb b 47 && eqb c 47) || (eqb b 47 && eqb c 42) || begins_perl (drop i bs)) q.0
-    ∙ ap (λ t. t || (eqb b 47 && eqb c 47) || (eqb b 47 && eqb c 42) || begins_perl (drop i bs)) q.1
-    ∙ ap (λ t. (t && eqb c 47) || (t && eqb c 42) || begins_perl (drop i bs)) p.1 ∙ perl
+inert_at bs i h perl = grind (arith, at_zero, or_parts)
 
 -- a place further, where it goes on
 pub inert_through : (bs : List ℕ) (place : ℕ) → ((j : ℕ) → j < place → stops_plain_text (drop j bs) ≡ false) → stops_plain_text (drop place bs) ≡ false → (j : ℕ) → j < place + 1 → stops_plain_text (drop j bs) ≡ false
@@ -222,9 +204,7 @@ plain_len-found bs i lt before here = first_place-found stops_plain_text bs i lt
 -- ordinary text to the end of all
 pub plain_len-to_end : (bs : List ℕ) (i : ℕ) → i ≤ length bs → ((j : ℕ) → j < i → stops_plain_text (drop j bs) ≡ false) → length bs ≤ i → i ≡ plain_len bs
 unfolding plain_len
-plain_len-to_end bs i le before end =
-    let e : i ≡ length bs = omega arith in
-    e ∙ first_place-none stops_plain_text bs (λ j lt. before j (omega arith))
+plain_len-to_end bs i le before end = grind (arith, first_place-none)
 
 -- Where a string stops, by a search for the bytes that matter to it.
 
@@ -245,11 +225,7 @@ string_stop-pass (x ∷ xs) (suc k) le inert =
 string_stop-escape : (xs : List ℕ) → string_stop false (92 ∷ xs) ≡ min 2 (suc (length xs)) + string_stop false (drop (min 2 (suc (length xs))) (92 ∷ xs))
 unfolding string_stop begins_perl
 string_stop-escape [] = refl
-string_stop-escape (y ∷ ys) =
-    let two : min 2 (suc (suc (length ys))) ≡ 2 = omega arith in
-    let P : ℕ → Type 0 = λ n. suc (suc (string_stop false ys)) ≡ n + string_stop false (drop n (92 ∷ y ∷ ys)) in
-    let at_two : P 2 = omega arith in
-    subst P (sym two) at_two
+string_stop-escape (y ∷ ys) = grind arith
 
 -- a string stops at its quote or at `<%`
 pub string_stop-stop : (xs : List ℕ) → (eqb (get_or xs 0 0) 34 || begins_perl xs) ≡ true → string_stop false xs ≡ 0
@@ -277,17 +253,7 @@ module _ (bs : List ℕ) (at k : ℕ) (inside : at ≤ length bs) (found : IsFir
       omega (arith, so_far, passed, dropped)
 
   pub found-escape : get_or bs (at + k) 0 ≡ 92 → string_stop false bs ≡ min (length bs) (at + k + 2) + string_stop false (drop (min (length bs) (at + k + 2)) bs)
-  found-escape is =
-      let lt = found-within in
-      let head : drop (at + k) bs ≡ 92 ∷ drop (at + k + 1) bs = drop_more bs (at + k) 0 lt ∙ ap (λ x. x ∷ drop (at + k + 1) bs) is in
-      let m = min 2 (suc (length (drop (at + k + 1) bs))) in
-      let n = min (length bs) (at + k + 2) in
-      let escaped : string_stop false (drop (at + k) bs) ≡ m + string_stop false (drop m (drop (at + k) bs)) =
-      subst (λ xs. string_stop false xs ≡ m + string_stop false (drop m xs)) (sym head) (string_stop-escape (drop (at + k + 1) bs)) in
-      let same : at + k + m ≡ n = omega (arith, length-drop (at + k + 1) bs) in
-      let rest : string_stop false (drop m (drop (at + k) bs)) ≡ string_stop false (drop n bs) =
-      ap (string_stop false) (drop-drop m (at + k) bs ∙ ap (λ i. drop i bs) same) in
-      omega (arith, reached, escaped, rest, same)
+  found-escape is = grind (arith, found-within, drop_more, string_stop-escape, length-drop, drop-drop, reached)
 
   pub found-stop : (eqb (get_or (drop (at + k) bs) 0 0) 34 || begins_perl (drop (at + k) bs)) ≡ true → at + k ≡ string_stop false bs
   found-stop h = omega (arith, reached, string_stop-stop (drop (at + k) bs) h)
@@ -323,9 +289,7 @@ inside_of bs i some = ⊎_elim (λ lt. lt) (λ ge. absurd (omega (arith, get_or_
 
 -- two bytes in front
 two_of : (bs : List ℕ) (x y : ℕ) → 0 < y → (eqb (get_or bs 0 0) x && eqb (get_or bs 1 0) y) ≡ true → 2 ≤ length bs
-two_of bs x y some h =
-    let second = eqb-true (get_or bs 1 0) y (and_parts (eqb (get_or bs 0 0) x) (eqb (get_or bs 1 0) y) h).1 in
-    omega (arith, inside_of bs 1 (omega (arith, second)))
+two_of bs x y some h = grind (arith, eqb-true, and_parts, inside_of)
 
 pub begins_perl-two : (bs : List ℕ) → begins_perl bs ≡ true → 2 ≤ length bs
 unfolding begins_perl
@@ -357,12 +321,7 @@ whole-part k n bs some fits = record { not_empty = some; inside = fits }
 
 string_token-part : (from : ℕ) (bs : List ℕ) → from ≤ length bs → (eqb (get_or bs (from + string_stop false (drop from bs)) 0) 34 ≡ false → 0 < from + string_stop false (drop from bs)) → IsPart (string_token from bs) bs
 unfolding string_token
-string_token-part from bs fits some =
-    let stop = from + string_stop false (drop from bs) in
-    let le : stop ≤ length bs = omega (arith, string_stop-le false (drop from bs), length-drop from bs) in
-    cond_both (eqb (get_or bs stop 0) 34) (whole Str (suc stop)) (record { kind = Str; len = stop; next_mode = InStr }) (λ t. IsPart t bs)
-    (λ h. whole-part Str (suc stop) bs (omega arith) (omega (arith, inside_of bs stop (omega (arith, eqb-true (get_or bs stop 0) 34 h)))))
-    (λ h. record { not_empty = some h; inside = le })
+string_token-part from bs fits some = grind (arith, string_stop-le, length-drop, cond_both, whole-part, inside_of, eqb-true)
 
 block_token-part : (from : ℕ) (bs : List ℕ) → from ≤ length bs → 0 < length bs → IsPart (block_token from bs) bs
 unfolding block_token
@@ -380,13 +339,7 @@ block_token-part from bs fits some =
 string_rest-some : (bs : List ℕ) → 0 < length bs → begins_perl bs ≡ false → eqb (get_or bs (string_stop false bs) 0) 34 ≡ false → 0 < string_stop false bs
 unfolding string_stop
 string_rest-some [] some perl quote = absurd (omega arith)
-string_rest-some (b ∷ bs) some perl quote =
-    let after = suc (string_stop (eqb b 92) bs) in
-    let n : Bool → ℕ = λ t. cond t 0 after in
-    let P : Bool → Type 0 = λ t. eqb (get_or (b ∷ bs) (n (t || begins_perl (b ∷ bs))) 0) 34 ≡ false → eqb b 34 ≡ t → 0 < n (t || begins_perl (b ∷ bs)) in
-    let at_false : P false = λ _ _. subst (λ t. 0 < n t) (sym perl) (omega arith) in
-    let at_true : P true = λ q e. absurd (false≢true (sym q ∙ e)) in
-    elim (eqb b 34) as P [ true ↦ at_true | false ↦ at_false ] quote refl
+string_rest-some (b ∷ bs) some perl quote = grind (arith, false≢true)
 
 -- a letter is a word byte
 pub is_word-letter : (b : ℕ) → is_letter b ≡ true → is_word b ≡ true
@@ -413,33 +366,13 @@ one-part k bs some = whole-part k 1 bs (omega arith) (omega arith)
 
 plain_token-part : (bs : List ℕ) → 0 < length bs → IsPart (plain_token bs) bs
 unfolding plain_token
-plain_token-part bs some =
-    let b = get_or bs 0 0 in
-    let c = get_or bs 1 0 in
-    let P : Token → Type 0 = λ t. IsPart t bs in
-    cond_both (begins_perl bs) _ _ P (λ h. whole-part Perl 2 bs (omega arith) (begins_perl-two bs h)) (λ _.
-    cond_both (is_line_end b) _ _ P (λ _. one-part LineEnd bs some) (λ _.
-    cond_both (is_blank b) _ _ P (λ h. run-part Blank is_blank bs some h) (λ _.
-    cond_both (begins_line_comment bs) _ _ P (λ h. run-part LineComment (λ x. not (is_line_end x)) bs some (slash_goes_on bs h)) (λ _.
-    cond_both (begins_block_comment bs) _ _ P (λ h. block_token-part 2 bs (begins_block_comment-two bs h) some) (λ _.
-    cond_both (eqb b 34) _ _ P (λ _. string_token-part 1 bs (omega arith) (λ _. omega arith)) (λ _.
-    cond_both (is_letter b) _ _ P (λ h. run-part Name is_word bs some (is_word-letter b h)) (λ _.
-    cond_both (is_digit b) _ _ P (λ h. run-part Word is_word bs some (is_word-digit b h)) (λ _.
-    cond_both (takes_word b && is_word c) _ _ P (λ _. whole-part Word _ bs (omega arith) (word_after bs some)) (λ _.
-    cond_both (eqb b 96 && is_letter c) _ _ P (λ _. whole-part Back _ bs (omega arith) (word_after bs some)) (λ _.
-    cond_both (eqb b 96) _ _ P (λ _. one-part BareBackquote bs some) (λ _.
-    cond_both (is_opener b) _ _ P (λ _. one-part Opener bs some) (λ _.
-    cond_both (is_closer b) _ _ P (λ _. one-part Closer bs some) (λ _.
-    cond_both (eqb b 44) _ _ P (λ _. one-part Comma bs some) (λ _. one-part Other bs some))))))))))))))
+plain_token-part bs some = grind (arith, cond_both, whole-part, begins_perl-two, one-part, run-part, slash_goes_on, block_token-part, begins_block_comment-two, string_token-part, is_word-letter, is_word-digit, word_after)
 
 -- the first token has a byte, and lies in its text
 pub token_of-part : (m : Mode) (bs : List ℕ) → 0 < length bs → IsPart (token_of m bs) bs
 unfolding token_of
 token_of-part Plain bs some = plain_token-part bs some
-token_of-part InStr bs some =
-    cond_both (begins_perl bs) (whole Perl 2) (string_token 0 bs) (λ t. IsPart t bs)
-    (λ h. whole-part Perl 2 bs (omega arith) (begins_perl-two bs h))
-    (λ h. string_token-part 0 bs (omega arith) (λ quote. omega (arith, string_rest-some bs some h (ap (λ i. eqb (get_or bs i 0) 34) (omega arith) ∙ quote))))
+token_of-part InStr bs some = grind (arith, cond_both, whole-part, begins_perl-two, string_token-part, string_rest-some)
 token_of-part InBlock bs some = block_token-part 0 bs (omega arith) some
 
 -- The tokens of a text, step by step.
@@ -458,9 +391,7 @@ tokens_from-following m (suc n) b bs long = tokens_from-skip m (suc n - 1) bs �
 pub tokens_from-step : (m : Mode) (bs : List ℕ) → 0 < length bs → 0 < (token_of m bs).len → tokens_from m 0 bs ≡ token_of m bs ∷ tokens_from (token_of m bs).next_mode 0 (drop (token_of m bs).len bs)
 unfolding tokens_from
 tokens_from-step m [] some long = absurd (omega arith)
-tokens_from-step m (b ∷ bs) some long =
-    let t = token_of m (b ∷ bs) in
-    ap (λ ts. t ∷ ts) (tokens_from-following t.next_mode t.len b bs long)
+tokens_from-step m (b ∷ bs) some long = grind (arith, tokens_from-following)
 
 some_within : (k : ℕ) (m : Mode) (bs : List ℕ) → length bs ≤ k → AllByRecursion (λ t. 0 < t.len) (tokens_from m 0 bs)
 unfolding tokens_from
@@ -480,18 +411,12 @@ tokens-some m bs = some_within (length bs) m bs (omega arith)
 -- a text that begins with `<%`, outside a comment
 pub fault-perl : (m : Mode) (bs : List ℕ) → 0 < length bs → is_perl (token_of m bs).kind ≡ true → fault_of_tokens m (tokens_from m 0 bs) ≡ Some PerlFault
 unfolding fault_of_tokens
-fault-perl m bs some is =
-    let t = token_of m bs in
-    let later = fault_of_tokens t.next_mode (tokens_from t.next_mode 0 (drop t.len bs)) in
-    ap (fault_of_tokens m) (tokens_from-step m bs some (token_of-part m bs some).not_empty) ∙ ap (λ b. cond b (Some PerlFault) later) is
+fault-perl m bs some is = grind (arith, tokens_from-step, token_of-part)
 
 -- a text that begins with another token
 pub fault-next : (m : Mode) (bs : List ℕ) → 0 < length bs → is_perl (token_of m bs).kind ≡ false → fault_of_tokens m (tokens_from m 0 bs) ≡ fault_of_tokens (token_of m bs).next_mode (tokens_from (token_of m bs).next_mode 0 (drop (token_of m bs).len bs))
 unfolding fault_of_tokens
-fault-next m bs some other =
-    let t = token_of m bs in
-    let later = fault_of_tokens t.next_mode (tokens_from t.next_mode 0 (drop t.len bs)) in
-    ap (fault_of_tokens m) (tokens_from-step m bs some (token_of-part m bs some).not_empty) ∙ ap (λ b. cond b (Some PerlFault) later) other
+fault-next m bs some other = grind (arith, tokens_from-step, token_of-part)
 
 -- the end of a text
 pub fault-end : (m : Mode) (bs : List ℕ) (at : ℕ) → length bs ≤ at → fault_of_tokens m (tokens_from m 0 (drop at bs)) ≡ open_fault m
@@ -513,9 +438,7 @@ pub data Ending (bs : List ℕ) (t : Token) : Type 0 where
 -- a space is a small byte
 space_small : (b : ℕ) → is_space b ≡ true → b ≤ 32
 unfolding is_blank is_line_end
-space_small b h =
-    let at : (n : ℕ) → n ≤ 32 → eqb b n ≡ true → b ≤ 32 = λ n small e. omega (arith, eqb-true b n e) in
-    ⊎_elim (λ blank. ⊎_elim (λ h4. ⊎_elim (λ h3. ⊎_elim (λ h2. ⊎_elim (at 32 (omega arith)) (at 9 (omega arith)) (or_cases _ _ h2)) (at 13 (omega arith)) (or_cases _ _ h3)) (at 11 (omega arith)) (or_cases _ _ h4)) (at 12 (omega arith)) (or_cases _ _ blank)) (at 10 (omega arith)) (or_cases _ _ h)
+space_small b h = grind (arith, eqb-true, or_cases)
 
 -- a byte past them is none
 large_other : (b : ℕ) → 32 < b → is_space b ≡ false
@@ -523,9 +446,7 @@ large_other b large = false_from_ne_true (is_space b) (λ h. absurd (omega (arit
 
 word_large : (b : ℕ) → is_word b ≡ true → 32 < b
 unfolding is_word is_letter is_digit
-word_large b h =
-    let from : (m n : ℕ) → 32 < m → (leb m b && leb b n) ≡ true → 32 < b = λ m n large e. omega (arith, leb-true m b (and_parts (leb m b) (leb b n) e).0) in
-    ⊎_elim (λ letter. ⊎_elim (λ two. ⊎_elim (from 65 90 (omega arith)) (from 97 122 (omega arith)) (or_cases _ _ two)) (λ (e : eqb b 95 ≡ true). omega (arith, eqb-true b 95 e)) (or_cases _ _ letter)) (from 48 57 (omega arith)) (or_cases _ _ h)
+word_large b h = grind (arith, leb-true, and_parts, or_cases, eqb-true)
 
 -- a byte that is known
 ends_with : (bs : List ℕ) (t : Token) (k n : ℕ) → t.len ≡ suc k → get_or bs k 0 ≡ n → 32 < n → Ending bs t
@@ -541,10 +462,7 @@ unfolding Ends whole
 run-ends bs k n some h next kept = InOther (n - 1) (omega arith) (large_other (get_or bs (n - 1) 0) (word_large _ h))
 
 word_run : (bs : List ℕ) (k : Kind) → 0 < length bs → is_word (get_or bs 0 0) ≡ true → Ends bs (whole k (prefix_len is_word bs))
-word_run bs k some h =
-    let n = prefix_len is_word bs in
-    let long : 0 < n = prefix_len-some is_word bs some h in
-    run-ends bs k n long (prefix_len_passes is_word bs (n - 1) 0 (omega arith))
+word_run bs k some h = grind (arith, prefix_len-some, run-ends, prefix_len_passes)
 
 rest_some : (bs : List ℕ) → 1 < length bs → 0 < length (drop 1 bs)
 rest_some (b ∷ c ∷ bs) lt = omega arith
@@ -552,14 +470,7 @@ rest_some _ lt = absurd (omega arith)
 
 -- a run of them behind a first byte
 run_after : (bs : List ℕ) (k : Kind) → is_word (get_or bs 1 0) ≡ true → Ends bs (whole k (suc (prefix_len is_word (drop 1 bs))))
-run_after bs k h =
-    let c = get_or bs 1 0 in
-    let n = prefix_len is_word (drop 1 bs) in
-    let there : 1 < length bs = inside_of bs 1 (omega (arith, word_large c h)) in
-    let front : get_or (drop 1 bs) 0 0 ≡ c = at_zero bs 1 in
-    let some : 0 < n = prefix_len-some is_word (drop 1 bs) (rest_some bs there) (ap is_word front ∙ h) in
-    let last : get_or (drop 1 bs) (n - 1) 0 ≡ get_or bs (suc n - 1) 0 = get_or-drop 1 bs (n - 1) 0 ∙ ap (λ i. get_or bs i 0) (omega arith) in
-    run-ends bs k (suc n) (omega arith) (ap is_word (sym last) ∙ prefix_len_passes is_word (drop 1 bs) (n - 1) 0 (omega arith))
+run_after bs k h = grind (arith, inside_of, word_large, at_zero, prefix_len-some, rest_some, get_or-drop, run-ends, prefix_len_passes)
 
 -- a string that is closed ends with its quote
 string-ends : (from : ℕ) (bs : List ℕ) → Ends bs (string_token from bs)

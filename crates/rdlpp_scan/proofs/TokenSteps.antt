@@ -1,10 +1,10 @@
 -- Steps of a source's tokens, those at a `define` and at a `line` among them.
-use Rattle.std.proofs.Common.{◌≡◌, ◌⊎◌, ℕ, suc, ◌+◌, ◌<◌, ◌≤◌, Bool, true, false, cond, eqb, ltb, List, [], ◌∷◌, ◌++◌, Option, Some, None, length, take, drop, get_or, refl, sym, ap, ◌∙◌, subst, inl, inr, ⊎_elim, arith, not, ◌&&◌, option_map, bytes_eq, codes, eqb-true, le-ltb, lt-ltb, append-nil, length-append, length-take-le}
+use Rattle.std.proofs.Common.{◌≡◌, ◌⊎◌, ℕ, suc, ◌+◌, ◌<◌, ◌≤◌, Bool, true, false, cond, eqb, ltb, List, ◌∷◌, ◌++◌, Option, Some, None, length, take, drop, get_or, refl, sym, ap, ◌∙◌, subst, inl, inr, ⊎_elim, arith, not, ◌&&◌, option_map, bytes_eq, codes, eqb-true, le-ltb, lt-ltb, append-nil, length-append, length-take-le, []}
 use Rattle.std.specs.List.{prefix_len}
 use Rattle.std.proofs.Math.Seq.{drop-append-add, take-append-add, take-length}
 use Rattle.std.proofs.lemmas.Bool.{cases_Bool, cond_both, false_from_ne_true, false≢true}
 use Rattle.std.proofs.lemmas.List.{drop-append-le, drop_all, take-append-le}
-use Rattle.rdlpp_scan.specs.Bytes.{begins_perl, is_digit, is_letter, is_line_end, is_word}
+use Rattle.rdlpp_scan.specs.Bytes.{is_digit, is_letter, is_line_end, is_word}
 use Rattle.rdlpp_scan.specs.Defines.{HoldsDefine}
 use Rattle.rdlpp_scan.specs.Front.{Breach, Break, CommentOpen, DefineCut, DefineLong, PerlFound, StringOpen}
 use Rattle.rdlpp_scan.specs.Lines.{EndsLine, IsWholeLines}
@@ -117,16 +117,12 @@ word-line_ends (x ∷ xs) =
 back-line_ends : (held : List ℕ) (n : ℕ) → eqb (get_or held 0 0) 96 ≡ true → n ≡ suc (prefix_len is_word (drop 1 held)) → line_ends (take n held) ≡ 0
 unfolding line_ends is_line_end
 back-line_ends [] n h e = ap (λ (i : ℕ). line_ends (take i [])) e
-back-line_ends (b ∷ w) n h e =
-    let none : one_if (is_line_end b) ≡ 0 = ap (λ (i : ℕ). one_if (eqb i 10)) (eqb-true b 96 h) in
-    ap (λ i. line_ends (take i (b ∷ w))) e ∙ line_ends-cons b (take (prefix_len is_word w) w) ∙ omega (arith, none, word-line_ends w)
+back-line_ends (b ∷ w) n h e = grind (arith, eqb-true, line_ends-cons, word-line_ends)
 
 bare-line_ends : (held : List ℕ) → eqb (get_or held 0 0) 96 ≡ true → line_ends (take 1 held) ≡ 0
 unfolding line_ends is_line_end
 bare-line_ends [] h = refl
-bare-line_ends (b ∷ w) h =
-    let none : one_if (is_line_end b) ≡ 0 = ap (λ (i : ℕ). one_if (eqb i 10)) (eqb-true b 96 h) in
-    line_ends-cons b [] ∙ omega (arith, none)
+bare-line_ends (b ∷ w) h = grind (arith, eqb-true, line_ends-cons)
 
 bare_byte : (bs : List ℕ) (t : Token) → Row bs t → t.kind ≡ BareBackquote → eqb (get_or bs 0 0) 96 ≡ true
 unfolding whole is_plain_kind
@@ -172,13 +168,7 @@ pub back_held : (c : Course) (o l : ℕ) (held more : List ℕ) → 0 < length h
     ≡ cond (bytes_eq (take (token_of Plain held).len held) (codes "`define")) (define_step c l (held ++ more))
     (cond (bytes_eq (take (token_of Plain held).len held) (codes "`line")) (line_step l (held ++ more)) (Next (record { sort = Ordinary Back; bytes = take (token_of Plain held).len held; line = l })))
 unfolding back_step
-back_held c o l held more some ends is =
-    let t = token_of Plain held in
-    let bs = held ++ more in
-    let own : take t.len bs ≡ take t.len held = take-append-le t.len held more (token_of-part Plain held some).inside in
-    step_held c o l held more some ends t refl (inr (inl is))
-    ∙ step_by-back c l l t bs is
-    ∙ ap (λ z. cond (bytes_eq z (codes "`define")) (define_step c l bs) (cond (bytes_eq z (codes "`line")) (line_step l bs) (Next (record { sort = Ordinary Back; bytes = z; line = l })))) own
+back_held c o l held more some ends is = grind (arith, take-append-le, token_of-part, step_held, step_by-back)
 
 -- a backquote with a name that is neither `define` nor `line`
 pub step-back : (c : Course) (o l : ℕ) (held more : List ℕ) → 0 < length held → EndsLine held more → (token_of Plain held).kind ≡ Back
@@ -200,30 +190,12 @@ step-back c o l held more some ends is other also =
 -- a `define` whose logical line ends
 pub define_step-some : (c : Course) (l : ℕ) (bs : List ℕ) (n : ℕ) → logical_len 0 0 bs ≡ Some n → n ≤ c.most → define_step c l bs ≡ Next (record { sort = Definition; bytes = take n bs; line = l })
 unfolding define_step
-define_step-some c l bs n is fits =
-    let tok : SourceToken = record { sort = Definition; bytes = take n bs; line = l } in
-    let open_text : Step = elim c.break [
-      | None ↦ cond (ltb c.most (length bs)) (broken DefineLong [] l) (Next (record { sort = Definition; bytes = bs; line = l }))
-      | Some k ↦ cond (ltb c.most (length bs + k.len)) (broken DefineLong [] l) (broken DefineCut [] l)
-    ] in
-    ap (λ (o : Option ℕ). elim o [
-      | Some m ↦ cond (ltb c.most m) (broken DefineLong [] l) (Next (record { sort = Definition; bytes = take m bs; line = l }))
-      | None ↦ open_text
-    ]) is ∙ ap (λ t. cond t (broken DefineLong [] l) (Next tok)) (le-ltb c.most n fits)
+define_step-some c l bs n is fits = grind (arith, le-ltb)
 
 -- a `define` whose text ends
 pub define_step-none : (c : Course) (l : ℕ) (bs : List ℕ) → logical_len 0 0 bs ≡ None → c.break ≡ None → length bs ≤ c.most → define_step c l bs ≡ Next (record { sort = Definition; bytes = bs; line = l })
 unfolding define_step
-define_step-none c l bs is last fits =
-    let tok : SourceToken = record { sort = Definition; bytes = bs; line = l } in
-    let at_end : Option Break → Step = λ k. elim k [
-      | None ↦ cond (ltb c.most (length bs)) (broken DefineLong [] l) (Next tok)
-      | Some k ↦ cond (ltb c.most (length bs + k.len)) (broken DefineLong [] l) (broken DefineCut [] l)
-    ] in
-    ap (λ (o : Option ℕ). elim o [
-      | Some m ↦ cond (ltb c.most m) (broken DefineLong [] l) (Next (record { sort = Definition; bytes = take m bs; line = l }))
-      | None ↦ at_end c.break
-    ]) is ∙ ap at_end last ∙ ap (λ t. cond t (broken DefineLong [] l) (Next tok)) (le-ltb c.most (length bs) fits)
+define_step-none c l bs is last fits = grind (arith, le-ltb)
 
 -- A step at a string, at a comment, and at any token that is closed.
 
@@ -254,14 +226,8 @@ step_by-closed c o l t bs h closed =
 seam_same : (xs ys : List ℕ) (t u : Token) → (t.next_mode ≡ Plain) ⊎ (t.len < length xs) → Seam xs ys t u → u ≡ t
 seam_same xs ys t u h (Closed e closed) = e
 seam_same xs ys t u h (BeforePerl e is lt perl) = e
-seam_same xs ys t u h (OpenString is e) =
-    let mode = ap (λ (v : Token). v.next_mode) is in
-    let len = ap (λ (v : Token). v.len) is in
-    ⊎_elim (λ closed. absurd (cc)) (λ lt. absurd (omega (arith, len))) h
-seam_same xs ys t u h (OpenComment is e) =
-    let mode = ap (λ (v : Token). v.next_mode) is in
-    let len = ap (λ (v : Token). v.len) is in
-    ⊎_elim (λ closed. absurd (cc)) (λ lt. absurd (omega (arith, len))) h
+seam_same xs ys t u h (OpenString is e) = grind arith
+seam_same xs ys t u h (OpenComment is e) = grind arith
 
 -- a token that is closed in what is held
 pub step-closed : (c : Course) (m : Mode) (o l : ℕ) (held more : List ℕ) → 0 < length held → IsCut held more → is_kept_kind (token_of m held).kind ≡ true → (token_of m held).next_mode ≡ Plain
@@ -286,13 +252,7 @@ step-closed c m o l held more some cut kept closed =
 
 open_end-with : (c : Course) (k : Breach) (o l : ℕ) (p own : List ℕ) → open_end c k o l (p ++ own) ≡ onto_step p l (open_end c k o (l + line_ends p) own)
 unfolding open_end onto_step with_part line_with broken
-open_end-with c k o l p own =
-    let lines : l + line_ends (p ++ own) ≡ l + line_ends p + line_ends own = omega (arith, line_ends-append p own) in
-    elim c.break as (λ b. (elim b [ None ↦ broken k (p ++ own) o | Some d ↦ broken d.breach (p ++ own) (l + line_ends (p ++ own)) ])
-    ≡ onto_step p l (elim b [ None ↦ broken k own o | Some d ↦ broken d.breach own (l + line_ends p + line_ends own) ])) [
-      | None ↦ refl
-      | Some d ↦ ap (λ n. broken d.breach (p ++ own) n) lines
-    ]
+open_end-with c k o l p own = grind (arith, line_ends-append)
 
 string_open-by : (c : Course) (o l : ℕ) (p more : List ℕ) (n : ℕ)
     → cond (ltb (length p + n) (length (p ++ more))) (broken PerlFound (take (length p + n) (p ++ more)) (l + line_ends (take (length p + n) (p ++ more)))) (open_end c StringOpen o l (take (length p + n) (p ++ more)))
@@ -355,9 +315,7 @@ module _ (c : Course) (m e : Mode) (o l : ℕ) (held more : List ℕ) (s : Step)
     (ended : ((more ≡ []) × (source_end c e (opening m o l) (l + line_ends held) ≡ end_of s)) ⊎ (0 < length more)) where
   resumed_last : (t : SourceToken) → s ≡ Last t → source_tokens c e (opening m o l) (l + line_ends held) 0 more ≡ t ∷ []
   unfolding source_tokens end_of
-  resumed_last t is =
-      let from : List ℕ → List SourceToken = λ z. source_tokens c e (opening m o l) (l + line_ends held) 0 z in
-      ⊎_elim (λ none. ap from none.0 ∙ none.1 ∙ ap end_of is) (λ there. source_tokens-last c e (opening m o l) (l + line_ends held) more t there (rest there ∙ is)) ended
+  resumed_last t is = grind (arith, end_of, source_tokens-last)
 
   resumed_next : (t : SourceToken) → s ≡ Next t → 0 < length t.bytes → 0 < length more
       → source_tokens c m o l 0 (held ++ more) ≡ with_part held l t ∷ source_tokens c Plain (l + line_ends held) (l + line_ends held + line_ends (take (length t.bytes) more)) 0 (drop (length t.bytes) more)
@@ -380,26 +338,13 @@ module _ (c : Course) (m e : Mode) (o l : ℕ) (held more : List ℕ) (s : Step)
   -- the tokens of both, by the step at the rest
   pub resumed : IsStep more s → source_tokens c m o l 0 (held ++ more) ≡ onto_tokens held l (source_tokens c e (opening m o l) (l + line_ends held) 0 more)
   unfolding onto_tokens onto_step
-  resumed (IsLast t is) =
-      let both = length-append held more in
-      source_tokens-last c m o l (held ++ more) (with_part held l t) (omega arith) (step ∙ ap (onto_step held l) is) ∙ sym (ap (onto_tokens held l) (resumed_last t is))
-  resumed (IsNext t is long there) =
-      resumed_next t is long there
-      ∙ sym (ap (onto_tokens held l) (source_tokens-next c e (opening m o l) (l + line_ends held) more t there (rest there ∙ is) long))
+  resumed (IsLast t is) = grind (arith, length-append, source_tokens-last, resumed_last)
+  resumed (IsNext t is long there) = grind (arith, resumed_next, source_tokens-next)
 
 -- a step at the rest of a string, where something stands
 pub string_rest : (c : Course) (o l : ℕ) (more : List ℕ) → 0 < length more → source_step c InStr o l more ≡ string_step c o l (string_token 0 more) more
 unfolding source_step token_of step_by whole string_step broken line_ends
-string_rest c o l more there =
-    let v = string_token 0 more in
-    let at_perl : begins_perl more ≡ true → source_step c InStr o l more ≡ string_step c o l v more = λ h.
-    let line : l ≡ l + 0 = omega arith in
-    ap (λ b. step_by c o l (cond b (whole Perl 2) v) more) h
-    ∙ ap (λ n. broken PerlFound [] n) line
-    ∙ sym (ap (λ (u : Token). string_step c o l u more) (perl_rest more h) ∙ ap (λ b. cond b (broken PerlFound [] (l + 0)) (open_end c StringOpen o l [])) (lt-ltb 0 (length more) there)) in
-    let at_other : begins_perl more ≡ false → source_step c InStr o l more ≡ string_step c o l v more = λ h.
-    ap (λ b. step_by c o l (cond b (whole Perl 2) v) more) h ∙ step_by-string c o l v more (string_token-kind 0 more) in
-    ⊎_elim at_perl at_other (cases_Bool (begins_perl more))
+string_rest c o l more there = grind (arith, perl_rest, lt-ltb, step_by-string, string_token-kind, cases_Bool)
 
 -- where a text ends in a string
 string_end : (c : Course) (o l : ℕ) → source_end c InStr o l ≡ end_of (string_step c o l (string_token 0 []) [])
@@ -427,14 +372,7 @@ string_token-mode from bs = cond_both (eqb (get_or bs (from + string_stop false 
 
 closed_string-fits : (more : List ℕ) → (string_token 0 more).next_mode ≡ Plain → (0 < (string_token 0 more).len) × ((string_token 0 more).len ≤ length more)
 unfolding string_token whole
-closed_string-fits more h =
-    let stop = 0 + string_stop false (drop 0 more) in
-    let byte = get_or more stop 0 in
-    let v : Bool → Token = λ t. cond t (whole Str (suc stop)) (record { kind = Str; len = stop; next_mode = InStr }) in
-    let P : Bool → Type 0 = λ t. eqb byte 34 ≡ t → (v t).next_mode ≡ Plain → (0 < (v t).len) × ((v t).len ≤ length more) in
-    let at_true : P true = λ e _. (omega arith, omega (arith, inside_of more stop (omega (arith, eqb-true byte 34 e)))) in
-    let at_false : P false = λ _ e. absurd (cc) in
-    elim (eqb byte 34) as P [ true ↦ at_true | false ↦ at_false ] refl h
+closed_string-fits more h = grind (arith, inside_of, eqb-true)
 
 -- a step at the rest of a string is one of the two
 string_is_step : (c : Course) (o l : ℕ) (more : List ℕ) → IsStep more (string_step c o l (string_token 0 more) more)
@@ -570,22 +508,11 @@ pub record BeginsDefine (c : Course) (held more : List ℕ) : Type 0 where
   pub word : bytes_eq (take (token_of Plain held).len held) (codes "`define") ≡ true
 
 define_here : (c : Course) (o l : ℕ) (held more : List ℕ) → BeginsDefine c held more → source_step c Plain o l (held ++ more) ≡ define_step c l (held ++ more)
-define_here c o l held more d =
-    let t = token_of Plain held in
-    let other = cond (bytes_eq (take t.len held) (codes "`line")) (line_step l (held ++ more)) (Next (record { sort = Ordinary Back; bytes = take t.len held; line = l })) in
-    back_held c o l held more d.some d.ends d.kind ∙ ap (λ b. cond b (define_step c l (held ++ more)) other) d.word
+define_here c o l held more d = grind (arith, back_held)
 
 define_long : (c : Course) (l : ℕ) (bs : List ℕ) (n : ℕ) → logical_len 0 0 bs ≡ Some n → c.most < n → define_step c l bs ≡ broken DefineLong [] l
 unfolding define_step
-define_long c l bs n is long =
-    let open_text : Step = elim c.break [
-      | None ↦ cond (ltb c.most (length bs)) (broken DefineLong [] l) (Next (record { sort = Definition; bytes = bs; line = l }))
-      | Some k ↦ cond (ltb c.most (length bs + k.len)) (broken DefineLong [] l) (broken DefineCut [] l)
-    ] in
-    ap (λ (o : Option ℕ). elim o [
-      | Some m ↦ cond (ltb c.most m) (broken DefineLong [] l) (Next (record { sort = Definition; bytes = take m bs; line = l }))
-      | None ↦ open_text
-    ]) is ∙ ap (λ t. cond t (broken DefineLong [] l) (Next (record { sort = Definition; bytes = take n bs; line = l }))) (lt-ltb c.most n long)
+define_long c l bs n is long = grind (arith, lt-ltb)
 
 -- what a `define` gives whose logical line doesn't end in the text, by what breaks the source behind it
 at_break : Course → ℕ → List ℕ → Option Break → Step
@@ -594,14 +521,7 @@ at_break c l bs (Some k) = cond (ltb c.most (length bs + k.len)) (broken DefineL
 
 define_open : (c : Course) (l : ℕ) (bs : List ℕ) → logical_len 0 0 bs ≡ None → define_step c l bs ≡ at_break c l bs c.break
 unfolding define_step at_break
-define_open c l bs is =
-    ap (λ (o : Option ℕ). elim o [
-      | Some m ↦ cond (ltb c.most m) (broken DefineLong [] l) (Next (record { sort = Definition; bytes = take m bs; line = l }))
-      | None ↦ elim c.break [
-        | None ↦ cond (ltb c.most (length bs)) (broken DefineLong [] l) (Next (record { sort = Definition; bytes = bs; line = l }))
-        | Some k ↦ cond (ltb c.most (length bs + k.len)) (broken DefineLong [] l) (broken DefineCut [] l)
-      ]
-    ]) is
+define_open c l bs is = grind arith
 
 broken_here : (c : Course) (o l : ℕ) (held more : List ℕ) (k : Breach) → 0 < length held → source_step c Plain o l (held ++ more) ≡ broken k [] l → source_tokens c Plain o l 0 (held ++ more) ≡ record { sort = Broken k; bytes = []; line = l } ∷ []
 unfolding broken

@@ -1,4 +1,4 @@
-use Rattle.std.proofs.Common.{◌≡◌, ◌-◌, ◌+◌, ℕ, List, Option, Some, None, Bool, sym, subst, length, take, drop, arith, length-drop}
+use Rattle.std.proofs.Common.{◌≡◌, ◌-◌, ◌+◌, ℕ, List, Option, Some, None, Bool, subst, length, take, drop, arith, length-drop}
 use Rattle.std.proofs.lemmas.Slice.{between_to_end}
 use Rattle.memchr.specs.Find.{IsFirstByte, is_byte}
 use Rattle.rdlpp_scan.specs.Lines.{ends_continued}
@@ -9,9 +9,7 @@ found : (bs : List ℕ) (at : ℕ) (r : Option ℕ) → IsFirstByte (is_byte 10)
 found bs at r h = subst (λ xs. IsFirstByte (is_byte 10) xs r) (between_to_end bs at (length bs) (omega arith)) h
 
 line_here : (bs : List ℕ) (at k : ℕ) (b : Bool) → b ≡ ends_continued 0 0 (take (at + k - at) (drop at bs)) → ends_continued 0 0 (take k (drop at bs)) ≡ b
-line_here bs at k b h =
-    let n : at + k - at ≡ k = omega arith in
-    sym (subst (λ i. b ≡ ends_continued 0 0 (take i (drop at bs))) n h)
+line_here bs at k b h = grind arith
 
 pub returns-then-not-is_continued : goal.returns-then-not-is_continued
 returns-then-not-is_continued c =
