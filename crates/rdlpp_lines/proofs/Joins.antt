@@ -63,10 +63,7 @@ two_begin b c (d ∷ ds) e k = record { inside = omega arith; first = two_joint 
 
 pub begins_with : (text : List ℕ) → 0 < length text → BeginsWith text (continuation_len text)
 begins_with [] h = absurd (omega arith)
-begins_with (b ∷ []) h =
-    let P : ℕ → Type 0 = λ n. BeginsWith (b ∷ []) n in
-    let e : continuation_len (b ∷ []) ≡ 0 = alone b in
-    subst P (sym e) (record { inside = omega arith; first = no_joint b [] e; joint = inl refl })
+begins_with (b ∷ []) h = grind (arith, alone, no_joint)
 begins_with (b ∷ c ∷ cs) h =
     let P : ℕ → Type 0 = λ n. BeginsWith (b ∷ c ∷ cs) n in
     elim (cases_Bool (eqb b 92 && eqb c 10)) [
@@ -96,14 +93,7 @@ plain_first (b ∷ bs) h = refl
 
 pub reads_first : (is_logical : Bool) (text : List ℕ) → 0 < length text → ReadsFirst is_logical text (first_len is_logical text)
 unfolding joined first_len
-reads_first true text h =
-    let b : BeginsWith text (continuation_len text) = begins_with text h in
-    let n : continuation_len text + 1 - 1 ≡ continuation_len text = omega arith in
-    record {
-      some = omega arith;
-      inside = omega (arith, b.inside);
-      first = b.first ∙ ap (λ (k : ℕ). get_or text k 0 ∷ without_continuations 0 (drop (continuation_len text + 1) text)) (sym n);
-    }
+reads_first true text h = grind (arith, begins_with)
 reads_first false text h = record { some = omega arith; inside = omega arith; first = plain_first text h }
 
 pub none_first : (is_logical : Bool) (text : List ℕ) → length text ≡ 0 → joined is_logical text ≡ []
@@ -206,14 +196,10 @@ return_at b c d raw text e j =
     (subst (λ x. Joins (92 ∷ 13 ∷ x ∷ raw) (10 ∷ text)) (sym (eqb-true d 10 q.1)) (Return raw text j)))
 
 line_read : (b c : ℕ) (cs : List ℕ) → (eqb b 92 && eqb c 10) ≡ true → without_continuations 0 (b ∷ c ∷ cs) ≡ 10 ∷ without_continuations 0 cs
-line_read b c cs e =
-    let p = and_parts (eqb b 92) (eqb c 10) e in
-    one_joint b (c ∷ cs) (one_before b c cs e) ∙ (end_first c cs p.1 ∙ ap (λ x. x ∷ without_continuations 0 cs) (eqb-true c 10 p.1))
+line_read b c cs e = grind (arith, and_parts, one_joint, one_before, end_first, eqb-true)
 
 return_read : (b c d : ℕ) (ds : List ℕ) → (eqb b 92 && eqb c 10) ≡ false → (eqb b 92 && (eqb c 13 && eqb d 10)) ≡ true → without_continuations 0 (b ∷ c ∷ d ∷ ds) ≡ 10 ∷ without_continuations 0 ds
-return_read b c d ds f e =
-    let p = and_parts (eqb c 13) (eqb d 10) (and_parts (eqb b 92) (eqb c 13 && eqb d 10) e).1 in
-    two_joint b c (d ∷ ds) (two_before b c (d ∷ ds) f e) ∙ (end_first d ds p.1 ∙ ap (λ x. x ∷ without_continuations 0 ds) (eqb-true d 10 p.1))
+return_read b c d ds f e = grind (arith, and_parts, two_joint, two_before, end_first, eqb-true)
 
 no_return : (b c : ℕ) → (eqb b 92 && (eqb c 13 && eqb (get_or [] 0 0) 10)) ≡ true → ⊥
 no_return b c e = false≢true (and_parts (eqb c 13) false (and_parts (eqb b 92) (eqb c 13 && false) e).1).1
@@ -281,10 +267,7 @@ front_none : (n b : ℕ) (raw : List ℕ) → continuation_len (b ∷ raw) ≡ 0
 unfolding continuation_len
 front_none zero b raw e = alone b
 front_none (suc n) b [] e = e
-front_none (suc zero) b (c ∷ cs) e =
-    let none : (eqb b 92 && (eqb c 13 && false)) ≡ false = ap (λ t. eqb b 92 && t) (and_right (eqb c 13) false refl) ∙ and_right (eqb b 92) false refl in
-    let P : Bool → Type 0 = λ t. len_by t (eqb b 92 && (eqb c 13 && eqb (get_or cs 0 0) 10)) ≡ 0 → len_by t (eqb b 92 && (eqb c 13 && false)) ≡ 0 in
-    elim (eqb b 92 && eqb c 10) as P [ true ↦ λ h. h | false ↦ λ h. ap (len_by false) none ] e
+front_none (suc zero) b (c ∷ cs) e = grind (arith, and_right)
 front_none (suc (suc n)) b (c ∷ []) e = e
 front_none (suc (suc n)) b (c ∷ d ∷ ds) e = e
 
@@ -321,13 +304,7 @@ reaches_end n m raw text (PastLine x y r t p) = let s = reaches_end x y r t p in
 reaches_end n m raw text (PastReturn x y r t p) = let s = reaches_end x y r t p in record { there = λ h. omega (arith, s.there (omega arith)); back = λ h. omega (arith, s.back (omega arith)) }
 
 pub same_ltb : (n a m b : ℕ) → SameEnd n a m b → ltb n a ≡ ltb m b
-same_ltb n a m b s = elim (cases_lt n a) [
-  | inl h ↦ lt-ltb n a h ∙ sym (lt-ltb m b (s.there h))
-  | inr h ↦ elim (cases_lt m b) [
-    | inl k ↦ absurd (omega (arith, s.back k))
-    | inr k ↦ le-ltb n a h ∙ sym (le-ltb m b k)
-  ]
-]
+same_ltb n a m b s = grind (arith, cases_lt, lt-ltb, le-ltb)
 
 -- a way by a test that both texts pass or both don't
 pub reaches_cond : (q q' : Bool) (n n' m m' : ℕ) (raw text : List ℕ) → q' ≡ q → (q ≡ true → Reaches n m raw text) → (q ≡ false → Reaches n' m' raw text) → Reaches (cond q n n') (cond q' m m') raw text
@@ -432,10 +409,7 @@ string_reaches raw text (Return r t j) false = PastReturn _ _ r t (string_reache
 string_reaches raw text _ _ = Here [] [] Ends
 
 quote_alike : (n m : ℕ) (raw text : List ℕ) → Reaches n m raw text → eqb (get_or text m 0) 34 ≡ eqb (get_or raw n 0) 34
-quote_alike n m raw text p =
-    ap (λ x. eqb x 34) (sym (at_zero text m))
-    ∙ (sym (first_alike (λ k. eqb k 34) refl (drop n raw) (drop m text) (reaches_after n m raw text p))
-    ∙ ap (λ x. eqb x 34) (at_zero raw n))
+quote_alike n m raw text p = grind (arith, at_zero, first_alike, reaches_after)
 
 past_quote : (n m : ℕ) (raw text : List ℕ) → Reaches n m raw text → eqb (get_or raw n 0) 34 ≡ true → Reaches (suc n) (suc m) raw text
 past_quote n m raw text p e =
@@ -450,9 +424,7 @@ alike_string_at n m raw text p =
     (λ e. alike_token Str InStr n m raw text p)
 
 alike_string : (from n m : ℕ) (raw text : List ℕ) → from + string_stop false (drop from raw) ≡ n → from + string_stop false (drop from text) ≡ m → Reaches n m raw text → Alike raw text (string_token from raw) (string_token from text)
-alike_string from n m raw text e f p =
-    subst (λ u. Alike raw text (string_token from raw) u) (sym (string_token-at from text m f))
-    (subst (λ t. Alike raw text t (string_at m (get_or text m 0))) (sym (string_token-at from raw n e)) (alike_string_at n m raw text p))
+alike_string from n m raw text e f p = grind (arith, string_token-at, alike_string_at)
 
 -- where a block comment ends
 comment_reaches : (raw text : List ℕ) → Joins raw text → Reaches (first_place ends_block_comment raw) (first_place ends_block_comment text) raw text
@@ -561,12 +533,7 @@ kept_same k xs ys f = f refl
 
 alike_read : (mode : Mode) (raw : List ℕ) (t : Token) → Alike raw (without_continuations 0 raw) t (token_of mode (without_continuations 0 raw)) → IsRead true mode raw t
 unfolding joined
-alike_read mode raw t a = record {
-  kind = a.kind;
-  next_mode = a.next_mode;
-  bytes = kept_same t.kind _ _ (λ h. joins_is _ _ (a.bytes h));
-  following = joins_is _ _ a.following;
-}
+alike_read mode raw t a = grind (arith, kept_same, joins_is)
 
 -- the first token of a text, of a logical line or as it stands, is that of the text as it is read
 pub line_token_read : (is_logical : Bool) (mode : Mode) (text : List ℕ) → 0 < length text → IsRead is_logical mode text (line_token is_logical mode text)

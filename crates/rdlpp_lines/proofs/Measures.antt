@@ -97,9 +97,7 @@ module _ (class : ℕ → Bool) where
 
   pub none_len : (c : Cleared) (tail : List ℕ) → begun class c ≡ Sound [] tail → Ok 0 ≡ trimmed_len class c
   unfolding begun trimmed_len trimmed_of without_end
-  none_len (Sound rest last) tail e =
-      let at : drop (prefix_len class rest) rest ≡ [] = cc in
-      ap (λ (l : List ℕ). ok_len (length (without_end class l))) (sym at)
+  none_len (Sound rest last) tail e = grind arith
   none_len (Unsound fault) tail e = absurd (cc)
 
   pub fault_len : (c : Cleared) (fault : LexFault) → begun class c ≡ Unsound fault → Err fault ≡ trimmed_len class c
@@ -109,9 +107,7 @@ module _ (class : ℕ → Bool) where
 
   pub start_len : (c new : Cleared) (b : ℕ) → begun class c ≡ onto (b ∷ []) new → class b ≡ false → ended_len class 1 1 new ≡ trimmed_len class c
   unfolding begun onto ended_len trimmed_len trimmed_of
-  start_len (Sound rest last) (Sound following tail) b e h =
-      let at : drop (prefix_len class rest) rest ≡ b ∷ following = cc in
-      ap (λ (n : ℕ). ok_len n) (total_len b following h ∙ ap (λ (l : List ℕ). length (without_end class l)) (sym at))
+  start_len (Sound rest last) (Sound following tail) b e h = grind (arith, total_len)
   start_len (Unsound fault) (Unsound other) b e h = let same : fault ≡ other = cc in ap (λ (f : LexFault). no_len f) (sym same)
   start_len _ _ b e h = absurd (cc)
 
@@ -146,9 +142,7 @@ module _ (class : ℕ → Bool) where
 
   pub body_front : (c : Cleared) (len : ℕ) → trimmed_len class c ≡ Ok len → trimmed_left class c ≡ take len (bytes_left (begun class c))
   unfolding trimmed_len trimmed_left begun bytes_left trimmed_of
-  body_front (Sound rest last) len e =
-      let at : length (without_end class (drop (prefix_len class rest) rest)) ≡ len = cc in
-      front_without (drop (prefix_len class rest) rest) ∙ ap (λ (n : ℕ). take n (drop (prefix_len class rest) rest)) at
+  body_front (Sound rest last) len e = grind (arith, front_without)
   body_front (Unsound fault) len e = absurd (cc)
 
 pub found_next : (old new : Cleared) (o : Option ℕ) (b : ℕ) → IsNext old (Ok o) new → o ≡ Some b → old ≡ onto (b ∷ []) new
@@ -226,10 +220,7 @@ pub record IsCopied (items old more : List ℕ) (n : ℕ) (rest : Cleared) : Typ
 
 pub copied_start : (class : ℕ → Bool) (old : List ℕ) (len : ℕ) (c start rest : Cleared) → trimmed_len class c ≡ Ok len → start ≡ c → rest ≡ begun class start → IsCopied old old (trimmed_left class c) len rest
 unfolding is_sound trimmed_len begun
-copied_start class old len (Sound text last) start rest e s r = record {
-  bytes = ap (λ (x : Cleared). old ++ take len (bytes_left x)) (r ∙ ap (begun class) s) ∙ ap (λ (l : List ℕ). old ++ l) (sym (body_front class (Sound text last) len e));
-  sound = ap is_sound (r ∙ ap (begun class) s);
-}
+copied_start class old len (Sound text last) start rest e s r = grind (arith, body_front, last)
 copied_start class old len (Unsound fault) start rest e s r = absurd (cc)
 
 pub copied_more : (items old more : List ℕ) (len i b : ℕ) (rest following next : Cleared) → i < len → IsCopied items old more (len - i) rest → rest ≡ onto (b ∷ []) following → next ≡ following → IsCopied (items ++ b ∷ []) old more (len - (i + 1)) next
@@ -340,26 +331,10 @@ pub left_perl : (is_logical : Bool) (l : Option ℕ) (mode : Mode) (raw : List �
 left_perl is_logical l mode raw t k p = left_first l mode (joined is_logical raw) (joined_some is_logical raw k.some) ∙ cond-true _ _ _ (ap is_perl (sym k.read.kind) ∙ p)
 
 pub left_stop : (is_logical : Bool) (l : Option ℕ) (mode : Mode) (raw : List ℕ) (t : Token) → IsToken is_logical mode raw t → is_perl t.kind ≡ false → stops_token l t.kind (get_or raw 0 0) ≡ true → left_in l mode (joined is_logical raw) ≡ Sound [] (joined is_logical raw)
-left_stop is_logical l mode raw t k p s =
-    left_first l mode (joined is_logical raw) (joined_some is_logical raw k.some)
-    ∙ (cond-false _ _ _ (ap is_perl (sym k.read.kind) ∙ p)
-    ∙ cond-true _ _ _ (sym (stops_alike l _ _ _ (closer_alike is_logical raw)) ∙ (ap (λ x. stops_token l x (get_or raw 0 0)) (sym k.read.kind) ∙ s)))
+left_stop is_logical l mode raw t k p s = grind (arith, left_first, joined_some, cond-false, cond-true, stops_alike, closer_alike)
 
 pub left_on : (is_logical : Bool) (l m : Option ℕ) (mode : Mode) (raw here token rest : List ℕ) (t : Token) → IsToken is_logical mode raw t → is_perl t.kind ≡ false → stops_token l t.kind (get_or raw 0 0) ≡ false → m ≡ level_by l t.kind → here ≡ take t.len raw → token ≡ kept_of t.kind here → rest ≡ drop t.len raw → onto (joined is_logical token) (left_in m t.next_mode (joined is_logical rest)) ≡ left_in l mode (joined is_logical raw)
-left_on is_logical l m mode raw here token rest t k p s e f g h =
-    let text : List ℕ = joined is_logical raw in
-    let u : Token = token_of mode text in
-    let kept : joined is_logical token ≡ kept_of u.kind (take u.len text) =
-    ap (joined is_logical) (g ∙ ap (kept_of t.kind) f)
-    ∙ (joined_kept is_logical t.kind (take t.len raw)
-    ∙ (k.read.bytes ∙ ap (λ x. kept_of x (take u.len text)) k.read.kind)) in
-    sym (left_first l mode text (joined_some is_logical raw k.some)
-    ∙ (cond-false _ _ _ (ap is_perl (sym k.read.kind) ∙ p)
-    ∙ (cond-false _ _ _ (sym (stops_alike l _ _ _ (closer_alike is_logical raw)) ∙ (ap (λ x. stops_token l x (get_or raw 0 0)) (sym k.read.kind) ∙ s))
-    ∙ (ap (λ x. onto x (left_in (level_by l u.kind) u.next_mode (drop u.len text))) (sym kept)
-    ∙ (ap (λ x. onto (joined is_logical token) (left_in x u.next_mode (drop u.len text))) (ap (level_by l) (sym k.read.kind) ∙ sym e)
-    ∙ (ap (λ x. onto (joined is_logical token) (left_in m x (drop u.len text))) (sym k.read.next_mode)
-    ∙ ap (λ x. onto (joined is_logical token) (left_in m t.next_mode x)) (sym k.read.following ∙ ap (joined is_logical) (sym h))))))))
+left_on is_logical l m mode raw here token rest t k p s e f g h = grind (arith, joined_kept, left_first, joined_some, cond-false, stops_alike, closer_alike)
 
 -- a token but for a `//` comment is kept as it stands
 pub kept_own : (k : Kind) (xs : List ℕ) → is_line_comment k ≡ false → kept_of k xs ≡ xs
@@ -547,17 +522,11 @@ sound_nothing is_logical c text e = ap text_after e ∙ sym (none_first is_logic
 pub measured_part : (is_logical : Bool) (text : List ℕ) (len : ℕ) → is_one_piece text ≡ true → trimmed_len (trims false) (cleared None (joined is_logical text)) ≡ Ok len
     → trimmed_left (trims false) (cleared None (joined is_logical text)) ≡ trimmed_of (trims false) text
 unfolding trimmed_len trimmed_left
-measured_part is_logical text len h e =
-    let same : cleared None (joined is_logical text) ≡ told (lex_fault_from Plain text) text = piece_told is_logical text h in
-    let P : Option LexFault → Type 0 = λ o. trimmed_len (trims false) (told o text) ≡ Ok len → trimmed_left (trims false) (told o text) ≡ trimmed_of (trims false) text in
-    ap (trimmed_left (trims false)) same ∙ elim (lex_fault_from Plain text) as P [ None ↦ λ _. refl | Some f ↦ λ bad. absurd (cc) ] (ap (trimmed_len (trims false)) (sym same) ∙ e)
+measured_part is_logical text len h e = grind (arith, piece_told)
 
 pub part_len : (is_logical : Bool) (text part : List ℕ) (len : ℕ) → is_one_piece text ≡ true → trimmed_len (trims false) (cleared None (joined is_logical text)) ≡ Ok len → part ≡ trimmed_of (trims false) text → length part ≡ len
 unfolding trimmed_len
-part_len is_logical text part len h e p =
-    let same : cleared None (joined is_logical text) ≡ told (lex_fault_from Plain text) text = piece_told is_logical text h in
-    let P : Option LexFault → Type 0 = λ o. trimmed_len (trims false) (told o text) ≡ Ok len → length (trimmed_of (trims false) text) ≡ len in
-    ap (length {A = ℕ}) p ∙ elim (lex_fault_from Plain text) as P [ None ↦ λ good. cc | Some f ↦ λ bad. absurd (cc) ] (ap (trimmed_len (trims false)) (sym same) ∙ e)
+part_len is_logical text part len h e p = grind (arith, piece_told)
 
 -- a text without the bytes of a class at its end, by its last byte
 end_last : (class : ℕ → Bool) (xs : List ℕ) (b : ℕ) → class b ≡ true → without_end class (xs ++ b ∷ []) ≡ without_end class xs

@@ -96,22 +96,13 @@ byte_passed b bs s =
 -- simple bytes are passed
 simple_passed : (text : List ℕ) → text_after (left_in (Some 0) Plain text) ≡ text_after (left_in (Some 0) Plain (drop (prefix_len is_simple text) text))
 simple_passed [] = refl
-simple_passed (b ∷ bs) = elim (cases_Bool (is_simple b)) [
-  | inl s ↦
-      byte_passed b bs s ∙ simple_passed bs
-      ∙ ap (λ (l : List ℕ). text_after (left_in (Some 0) Plain l)) (sym (run_one is_simple b bs s))
-  | inr s ↦
-      let none : prefix_len is_simple (b ∷ bs) ≡ 0 = ap (λ (t : Bool). cond t (1 + prefix_len is_simple bs) 0) s in
-      ap (λ (k : ℕ). text_after (left_in (Some 0) Plain (drop k (b ∷ bs)))) (sym none)
-]
+simple_passed (b ∷ bs) = grind (arith, cases_Bool, byte_passed, run_one, (simple_passed bs))
 
 -- what stands behind the rest of a text, behind its simple bytes, stands behind all of it
 pub after_rest : (text : List ℕ) (n : ℕ) → n ≡ prefix_len is_simple text
     → text_after (cleared (Some 0) (take (length text - n) (drop n text))) ≡ text_after (cleared (Some 0) text)
 unfolding cleared
-after_rest text n e =
-    ap (λ (l : List ℕ). text_after (left_in (Some 0) Plain l)) (between_to_end text n (length text) (omega arith))
-    ∙ sym (simple_passed text ∙ ap (λ (k : ℕ). text_after (left_in (Some 0) Plain (drop k text))) (sym e))
+after_rest text n e = grind (arith, between_to_end, simple_passed)
 
 -- a comma or a `)` ends a default text
 ends_here : (text : List ℕ) (n : ℕ) → 0 < n → get_or text 0 0 ≡ n
