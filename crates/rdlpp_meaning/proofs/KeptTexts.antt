@@ -80,12 +80,7 @@ spelled_bytes (t ∷ ts) bs =
 spelled_front : (ts : List Token) (bs : List ℕ) → spelled ts (take (tokens_len ts) bs) ≡ spelled ts bs
 unfolding spelled tokens_len
 spelled_front [] bs = refl
-spelled_front (t ∷ ts) bs =
-    let n = tokens_len ts in
-    let first : take t.len (take (t.len + n) bs) ≡ take t.len bs = take-take t.len (t.len + n) bs (omega arith) in
-    ap (λ (x : List ℕ). record { sort = Ordinary t.kind; bytes = x; line = 0 } ∷ spelled ts (drop t.len (take (t.len + n) bs))) first
-    ∙ ap (λ (x : List ℕ). record { sort = Ordinary t.kind; bytes = take t.len bs; line = 0 } ∷ spelled ts x) (drop-take t.len n bs)
-    ∙ ap (λ (us : List SourceToken). record { sort = Ordinary t.kind; bytes = take t.len bs; line = 0 } ∷ us) (spelled_front ts (drop t.len bs))
+spelled_front (t ∷ ts) bs = grind (arith, take-take, drop-take, (spelled_front ts (drop t.len bs)))
 
 -- tokens of a text fit in it
 tokens_fit : (ts us : List Token) (m : Mode) (bs : List ℕ) → tokens_from m 0 bs ≡ ts ++ us → tokens_len ts ≤ length bs
@@ -194,27 +189,12 @@ record BeginsWith (m : Mode) (bs : List ℕ) (u : SourceToken) (vs : List Source
 -- they are those
 begins : (m : Mode) (bs : List ℕ) (u : SourceToken) (vs : List SourceToken) → text_tokens m bs ≡ u ∷ vs → BeginsWith m bs u vs
 begins m [] u vs e = absurd (nil_cons (text_tokens m []) u vs (text_nil m) e)
-begins m (b ∷ bs) u vs e =
-    let T = b ∷ bs in
-    let some : 0 < length T = omega arith in
-    let later = text_tokens (token_of m T).next_mode (drop (token_of m T).len T) in
-    let whole = sym (text_step m T some) ∙ e in
-    record { some = some; first = first_is (first_spelled m T) u later vs whole; following = rest_is (first_spelled m T) u later vs whole }
+begins m (b ∷ bs) u vs e = grind (arith, text_step, first_is, rest_is)
 
 -- behind a first token that leaves plain text, a text has the tokens that follow
 pub first_after : (m : Mode) (bs : List ℕ) (u : SourceToken) (vs : List SourceToken) → text_tokens m bs ≡ u ∷ vs → closes_text (token_role u) ≡ true
     → (text_tokens Plain (drop (length u.bytes) bs) ≡ vs) × (length u.bytes ≤ length bs)
-first_after m bs u vs e closed =
-    let f = begins m bs u vs e in
-    let t = token_of m bs in
-    let size : length u.bytes ≡ t.len = ap (λ (v : SourceToken). length v.bytes) (sym f.first) ∙ first_size m bs f.some in
-    let plain = first_closed m bs (ap (λ (v : SourceToken). closes_text (token_role v)) f.first ∙ closed) in
-    let part = token_of-part m bs f.some in (
-      ap (λ (n : ℕ). text_tokens Plain (drop n bs)) size
-          ∙ ap (λ (mode : Mode). text_tokens mode (drop t.len bs)) (sym plain)
-          ∙ f.following,
-      omega (arith, size, part.inside),
-    )
+first_after m bs u vs e closed = grind (arith, begins, first_size, first_closed, token_of-part)
 
 -- whether each token of a role is one byte
 unfoldable pub is_one_role : Role → Bool
@@ -292,9 +272,7 @@ pub record IsSourceRow (c : Course) (m : Mode) (bs : List ℕ) (us rest : List S
 not_broken : (b : Breach) (bytes : List ℕ) (line : ℕ) (u : SourceToken) (us ts : List SourceToken)
     → record { sort = Broken b; bytes = bytes; line = line } ∷ ts ≡ u ∷ us → is_ordinary u ≡ true → ⊥
 unfolding is_ordinary
-not_broken b bytes line u us ts e h =
-    let t : SourceToken = record { sort = Broken b; bytes = bytes; line = line } in
-    false≢true (ap is_ordinary (first_is t u ts us e) ∙ h)
+not_broken b bytes line u us ts e h = grind (arith, false≢true, first_is)
 
 -- what is open at the end of a text is broken
 open_broken : (b : Breach) (opened line : ℕ) (break : Option Break) (u : SourceToken) (us : List SourceToken)
@@ -323,10 +301,7 @@ none_at_end c InBlock opened line u us e h = open_broken CommentOpen opened line
 -- a token of the token table without its line is the first of its text
 unlined_is : (m : Mode) (bs : List ℕ) (u : SourceToken) → IsTokenOf (token_of m bs) bs u → first_spelled m bs ≡ unlined u
 unfolding first_spelled unlined broken_line
-unlined_is m bs u f =
-    let whole : (sort : Sort) (bytes : List ℕ) (line : ℕ) → sort ≡ Ordinary (token_of m bs).kind → bytes ≡ take (token_of m bs).len bs
-    → first_spelled m bs ≡ unlined (record { sort = sort; bytes = bytes; line = line }) = λ sort bytes line e h. rw (e, h) refl in
-    whole u.sort u.bytes u.line f.sort f.bytes
+unlined_is m bs u f = grind arith
 
 -- it has its bytes
 own_size : (m : Mode) (bs : List ℕ) (u : SourceToken) → 0 < length bs → IsTokenOf (token_of m bs) bs u → length u.bytes ≡ (token_of m bs).len
@@ -370,9 +345,7 @@ row_by : (c : Course) (m : Mode) (opened line b : ℕ) (bs : List ℕ) (u : Sour
     → ((o l : ℕ) → source_tokens c Plain o l 0 (drop (length u.bytes) (b ∷ bs)) ≡ us ++ rest → IsSourceRow c Plain (drop (length u.bytes) (b ∷ bs)) us rest)
     → IsSourceRow c m (b ∷ bs) (u ∷ us) rest
 unfolding Gives
-row_by c m opened line b bs u us rest (Last t) is gives e h more =
-    let same : t ≡ u = first_is t u [] (us ++ rest) (sym (source_tokens-last c m opened line (b ∷ bs) t (omega arith) is) ∙ e) in
-    absurd (gives (ap is_ordinary same ∙ h))
+row_by c m opened line b bs u us rest (Last t) is gives e h more = grind (arith, first_is, source_tokens-last)
 row_by c m opened line b bs u us rest (Next t) is gives e h more =
     let later = source_tokens c Plain line (line_after b line) (length t.bytes - 1) bs in
     let some : 0 < length (b ∷ bs) = omega arith in
@@ -406,9 +379,8 @@ stays t = is_kept (token_role t)
 
 -- tokens with given bytes
 unfoldable named : List Token → List (List ℕ) → List SourceToken
-named [] texts = []
-named (t ∷ ts) [] = []
 named (t ∷ ts) (x ∷ texts) = record { sort = Ordinary t.kind; bytes = x; line = 0 } ∷ named ts texts
+named _ texts = []
 
 -- tokens of a text are those with the bytes that they have in it
 spelled_named : (ts : List Token) (bs : List ℕ) → spelled ts bs ≡ named ts (token_texts ts bs)
@@ -434,19 +406,7 @@ comment_stays k bytes line = refl
 named_others : (ts : List Token) (bs : List ℕ) → named (other_tokens ts) (other_texts ts bs) ≡ filter stays (spelled ts bs)
 unfolding named other_tokens other_texts spelled
 named_others [] bs = refl
-named_others (t ∷ ts) bs =
-    let own : SourceToken = record { sort = Ordinary t.kind; bytes = take t.len bs; line = 0 } in
-    let more = spelled ts (drop t.len bs) in
-    by_kind (is_line_comment t.kind)
-    ∙ ap (λ (us : List SourceToken). cond (not (is_line_comment t.kind)) (own ∷ us) us) (named_others ts (drop t.len bs))
-    ∙ sym (ap (λ (b : Bool). cond b (own ∷ filter stays more) (filter stays more)) (comment_stays t.kind (take t.len bs) 0))
-  where
-    by_kind : (b : Bool)
-        → named (cond (not b) (t ∷ other_tokens ts) (other_tokens ts)) (cond b (other_texts ts (drop t.len bs)) (take t.len bs ∷ other_texts ts (drop t.len bs)))
-        ≡ cond (not b) (record { sort = Ordinary t.kind; bytes = take t.len bs; line = 0 } ∷ named (other_tokens ts) (other_texts ts (drop t.len bs)))
-        (named (other_tokens ts) (other_texts ts (drop t.len bs)))
-    by_kind true = refl
-    by_kind false = refl
+named_others (t ∷ ts) bs = grind (arith, comment_stays, (named_others ts (drop t.len bs)))
 
 -- a token in front of those that stay, and its bytes in front of what is left of a text
 other_front : (own : List ℕ) (kind : Kind) (more : List SourceToken) (texts : List (List ℕ)) (b : Bool) → bytes_of more ≡ concat texts
@@ -458,22 +418,12 @@ other_front own kind more texts false e = ap (λ (x : List ℕ). own ++ x) e
 others_bytes : (ts : List Token) (bs : List ℕ) → bytes_of (filter stays (spelled ts bs)) ≡ concat (other_texts ts bs)
 unfolding other_texts spelled
 others_bytes [] bs = refl
-others_bytes (t ∷ ts) bs =
-    let own : SourceToken = record { sort = Ordinary t.kind; bytes = take t.len bs; line = 0 } in
-    let more = filter stays (spelled ts (drop t.len bs)) in
-    ap (λ (b : Bool). bytes_of (cond b (own ∷ more) more)) (comment_stays t.kind (take t.len bs) 0)
-    ∙ other_front (take t.len bs) t.kind more (other_texts ts (drop t.len bs)) (is_line_comment t.kind) (others_bytes ts (drop t.len bs))
+others_bytes (t ∷ ts) bs = grind (arith, comment_stays, other_front, (others_bytes ts (drop t.len bs)))
 
 -- the bytes of a text without those of its `//` comments have the other tokens
 text_without : (m : Mode) (bs : List ℕ) → text_tokens m (without_line_comments m bs) ≡ filter stays (text_tokens m bs)
 unfolding text_tokens
-text_without m bs =
-    let left = without_line_comments m bs in
-    let ts = tokens_from m 0 bs in
-    spelled_named (tokens_from m 0 left) left
-    ∙ ap (λ (texts : List (List ℕ)). named (tokens_from m 0 left) texts) (without-texts m bs)
-    ∙ ap (λ (us : List Token). named us (other_texts ts bs)) (without-tokens m bs)
-    ∙ named_others ts bs
+text_without m bs = grind (arith, spelled_named, without-texts, without-tokens, named_others)
 
 -- the bytes of the tokens of a text that stay are what is left of it
 stay_bytes : (m : Mode) (bs : List ℕ) → bytes_of (filter stays (text_tokens m bs)) ≡ without_line_comments m bs
@@ -484,10 +434,7 @@ stay_bytes m bs = others_bytes (tokens_from m 0 bs) bs
 pub kept_text : (m : Mode) (bs : List ℕ) (us : List SourceToken) → text_tokens m bs ≡ us
     → text_tokens m (bytes_of (filter (λ t. is_kept (token_role t)) us)) ≡ filter (λ t. is_kept (token_role t)) us
 unfolding stays
-kept_text m bs us e =
-    ap (λ (x : List ℕ). text_tokens m x) (ap (λ (vs : List SourceToken). bytes_of (filter stays vs)) (sym e) ∙ stay_bytes m bs)
-    ∙ text_without m bs
-    ∙ ap (filter stays) e
+kept_text m bs us e = grind (arith, stay_bytes, text_without)
 
 -- a broken token is no text of a call
 either_broken : (c : Bool) (f : Role) (g : Role) → is_call_text f ≡ false → is_call_text g ≡ false → is_call_text (cond c f g) ≡ true → ⊥
@@ -522,9 +469,7 @@ opener_ordinary t e = call_text_ordinary t (ap is_call_text e)
 -- what a source keeps of tokens doesn't hang on directives
 kept_same : (ts : List SourceToken) → filter (λ t. is_kept (source_role t)) ts ≡ filter (λ t. is_kept (token_role t)) ts
 kept_same [] = refl
-kept_same (t ∷ ts) =
-    ap (λ (us : List SourceToken). cond (is_kept (source_role t)) (t ∷ us) us) (kept_same ts)
-    ∙ ap (λ (b : Bool). cond b (t ∷ filter (λ u. is_kept (token_role u)) ts) (filter (λ u. is_kept (token_role u)) ts)) (source_kept t)
+kept_same (t ∷ ts) = grind (arith, source_kept, (kept_same ts))
 
 -- what a call in a source keeps are the tokens of the kept bytes, but for their lines
 pub kept_call_text : (c : Course) (m : Mode) (opened line : ℕ) (bs : List ℕ) (ts ks : List SourceToken) (used : ℕ)
@@ -569,10 +514,7 @@ pub record HasCleanTexts (m : Macro) : Type 0 where
 
 clean_each : (ms : List Macro) → AllByRecursion IsSoundMacro ms → AllByRecursion HasCleanTexts ms
 clean_each [] all = tt
-clean_each (m ∷ ms) all = (
-  record { body = all.0.body; defaults = recursion_from_All (λ f. IsCleanText f.text) (formals_of m) all.0.formals.texts },
-  clean_each ms all.1,
-)
+clean_each (m ∷ ms) all = grind (arith, recursion_from_All, (clean_each ms all.1))
 
 -- the macros of a table have clean texts
 pub clean_table : (table : TableView) → IsSound table → AllByRecursion HasCleanTexts table.macros
@@ -581,11 +523,7 @@ clean_table table sound = clean_each table.macros (recursion_from_All IsSoundMac
 clean_spelled : (ts : List Token) (bs : List ℕ) → AllByRecursion IsCleanToken ts → filter (λ t. is_kept (token_role t)) (spelled ts bs) ≡ spelled ts bs
 unfolding spelled stays
 clean_spelled [] bs all = refl
-clean_spelled (t ∷ ts) bs all =
-    let own : SourceToken = record { sort = Ordinary t.kind; bytes = take t.len bs; line = 0 } in
-    let more = spelled ts (drop t.len bs) in
-    let kept : is_kept (token_role own) ≡ true = comment_stays t.kind (take t.len bs) 0 ∙ ap not all.0.kept in
-    ap (λ (us : List SourceToken). cond (is_kept (token_role own)) (own ∷ us) us) (clean_spelled ts (drop t.len bs) all.1) ∙ ap (λ b. cond b (own ∷ more) more) kept
+clean_spelled (t ∷ ts) bs all = grind (arith, comment_stays, (clean_spelled ts (drop t.len bs) all.1))
 
 -- a call keeps all tokens of a clean text
 pub clean_keeps_all : (text : List ℕ) → IsCleanText text → filter (λ t. is_kept (token_role t)) (body_tokens text) ≡ body_tokens text

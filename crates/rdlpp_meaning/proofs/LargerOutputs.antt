@@ -6,24 +6,23 @@ use Rattle.rdlpp_scan.specs.declared.token.Directive.TheVariants.{Define, Undef,
 use Rattle.rdlpp_scan.specs.SourceTokens.{Broken, SourceToken, whole_tokens}
 use Rattle.rdlpp_table.specs.Table.{Macro, macro_size, table_size, without}
 use Rattle.rdlpp_meaning.specs.declared.fault.FaultKind.{FaultKind}
-use Rattle.rdlpp_meaning.specs.declared.fault.FaultKind.TheVariants.{BranchAfterElse, TooManyConditionals, TooManyIncludes, IncludeName, SourceNotFound, PathTooLong, BadLine, StrayBranch, OutputBytes}
+use Rattle.rdlpp_meaning.specs.declared.fault.FaultKind.TheVariants.{TooManyConditionals, TooManyIncludes, IncludeName, SourceNotFound, PathTooLong, BadLine, StrayBranch}
 use Rattle.rdlpp_meaning.specs.Outcome.{Report, Outcome, gives, fails, and_then}
 use Rattle.rdlpp_meaning.specs.State.{Defined, Accepted, DefinitionFault, Lookup, NoSource, LongPath, Source, Rules, State, fault_at, shown_line, breach_kind}
 use Rattle.rdlpp_meaning.specs.Parts.{Command, line_ends_of, Piece, Run, Single, Opening, Branching, Closing, pieces, parts_of}
-use Rattle.rdlpp_meaning.specs.Meaning.{Passage, leaves, after_bytes, goes_on, refusal, IncludedMeaning, skipped_run, Checked, Fine, NameFault, macro_name, defines, undefines, origin_line, at_start_of, back_in, added_end, includes, includes_found, unquoted, includes_named, includes_given, Renumbered, renumbered, renumbers, single, Progress, Test, TestFault, Holds, by_test, is_defined, name_test, wants_defined, opening_within, opening, in_conditional, past_conditional, is_else, turn, outcome, skipped_command, begun, turned, unclosed, mean, included_meaning_of, text_meaning}
+use Rattle.rdlpp_meaning.specs.Meaning.{Passage, leaves, after_bytes, goes_on, refusal, IncludedMeaning, skipped_run, Checked, Fine, NameFault, macro_name, defines, undefines, origin_line, at_start_of, back_in, added_end, includes, includes_found, unquoted, includes_named, includes_given, Renumbered, renumbered, renumbers, single, Progress, Test, TestFault, Holds, by_test, is_defined, name_test, opening_within, opening, in_conditional, past_conditional, turn, outcome, skipped_command, begun, turned, unclosed, mean, included_meaning_of, text_meaning}
 use Rattle.rdlpp_meaning.specs.LimitLaws.{is_limit, NamesNoLimit, IsLarger}
 use Rattle.rdlpp_meaning.proofs.LargerRuns.{Agrees, IsFault, TornAgrees, run-agrees, run-torn, skip-agrees, skip-torn, sources-torn}
 use Rattle.rdlpp_scan.specs.Front.{Breach}
 use Rattle.rdlpp_table.specs.declared.limits.Limits.{Limits}
 use Rattle.rdlpp_table.specs.declared.fault.DefineKind.TheVariants as kind
-use Rattle.rdlpp_table.specs.Define.{Accepted as TableAccepted, DefinedFault as TableRefused, Draft, Drawn, DraftFault, macro_of, stored, stored_draft, define_of}
+use Rattle.rdlpp_table.specs.Define.{Draft, Drawn, DraftFault, macro_of, stored, stored_draft, define_of}
 use Rattle.rdlpp_meaning.specs.declared.fault.FaultKind.TheVariants as fault
 use Rattle.rdlpp_meaning.specs.Expansion.{walk, run_outcome}
 use Rattle.rdlpp_meaning.specs.Resumed.{Place, Live, Skipped, resume}
 use Rattle.rdlpp_meaning.specs.Output.{opening_fault, start_state, output}
 use Rattle.rdlpp_meaning.specs.Profile.{define_fault, with_fault, rules_of}
 use Rattle.rdlpp_meaning.specs.OutputLimit.{Searches, limited, search_rules, unlimited_output, limited_output}
-use Rattle.rdlpp_meaning.specs.Items.{Written}
 use Rattle.rdlpp_meaning.specs.Actuals.{token_role}
 use Rattle.rdlpp_meaning.proofs.Outcomes.{limited-over, limited-within, mean_resumes}
 use Rattle.rdlpp_meaning.proofs.LiveText.{expand_walk}
@@ -138,10 +137,7 @@ name-room sources more defined (NameFault kind word) s = refl
 -- and so is that of a branch
 turn-room : (sources more : ℕ) (o : Progress) (c : Command) (s : State) → turn o c (roomier sources more s) ≡ turn o c s
 unfolding turn
-turn-room sources more o c s =
-    ap (λ (t : Test). if o.closing then TestFault BranchAfterElse []
-    else (if is_else c.word then Holds (not o.taken)
-    else (if o.taken then Holds false else t))) (name-room sources more true (macro_name c) s)
+turn-room sources more o c s = grind (arith, name-room)
 
 -- what goes on behind a test agrees where both ways do
 tested-agrees : (sources more : ℕ) (t : Test) (c : Command) (s : State) (live skipped live' skipped' : State → Passage)
@@ -157,9 +153,7 @@ pub turn-agrees : (sources more : ℕ) (o : Progress) (c : Command) (s : State) 
     → PassageAgrees more (live s) (live' (roomier sources more s)) → PassageAgrees more (skipped s) (skipped' (roomier sources more s))
     → PassageAgrees more (by_test (turn o c s) c s live skipped)
     (by_test (turn o c (roomier sources more s)) c (roomier sources more s) live' skipped')
-turn-agrees sources more o c s live skipped live' skipped' h k =
-    subst (λ (t : Test). PassageAgrees more (by_test (turn o c s) c s live skipped) (by_test t c (roomier sources more s) live' skipped'))
-    (sym (turn-room sources more o c s)) (tested-agrees sources more (turn o c s) c s live skipped live' skipped' h k)
+turn-agrees sources more o c s live skipped live' skipped' h k = grind (arith, turn-room, tested-agrees)
 
 -- a test that opens a conditional, where more may be opened
 within-agrees : (sources more k : ℕ) (t : Test) (c : Command) (s : State) (live skipped live' skipped' : State → Passage)
@@ -183,29 +177,18 @@ pub opening-agrees : (sources more : ℕ) (c : Command) (s : State) (live skippe
     → PassageAgrees more (by_test (opening c s) c s live skipped)
     (by_test (opening c (roomier sources more s)) c (roomier sources more s) live' skipped')
 unfolding opening
-opening-agrees sources more c s live skipped live' skipped' h k =
-    subst (λ (t : Test). PassageAgrees more (by_test (opening c s) c s live skipped)
-    (by_test (opening_within (more + s.conditions_left) t) c (roomier sources more s) live' skipped'))
-    (sym (name-room sources more (wants_defined c.word) (macro_name c) s))
-    (within-agrees sources more s.conditions_left (name_test (wants_defined c.word) (macro_name c) s) c s live skipped live' skipped' h k)
+opening-agrees sources more c s live skipped live' skipped' h k = grind (arith, name-room, within-agrees)
 
 -- the state in a conditional, with more room
 pub in-room : (sources more : ℕ) (s : State) (m : ℕ) → s.conditions_left ≡ suc m
     → in_conditional (roomier sources more s) ≡ roomier sources more (in_conditional s)
 unfolding in_conditional
-in-room sources more s m e =
-    ap (λ (n : ℕ). record s { sources_left = sources; conditions_left = n }) (number more s.conditions_left m e)
-  where
-    number : (a k m : ℕ) → k ≡ suc m → (a + k) - 1 ≡ a + (k - 1)
-    number a k m e = omega (arith, e)
+in-room sources more s m e = grind arith
 
 -- and behind one
 pub past-room : (sources more : ℕ) (s : State) → past_conditional (roomier sources more s) ≡ roomier sources more (past_conditional s)
 unfolding past_conditional
-past-room sources more s = ap (λ (n : ℕ). record s { sources_left = sources; conditions_left = n }) (number more s.conditions_left)
-  where
-    number : (a k : ℕ) → suc (a + k) ≡ a + suc k
-    number a k = omega arith
+past-room sources more s = grind arith
 
 -- what is larger of some rules
 record Widens (rules : Rules) (depth most : ℕ) (define : List Macro → List ℕ → Defined) (tokens : List ℕ → List SourceToken) : Type 0 where
@@ -239,9 +222,7 @@ faulty-agrees sources more a b s next next' h = faulty-by sources more a.bytes a
 tear-fault : (rules : Rules) (s : State) (b : Breach) (bytes : List ℕ) (line : ℕ)
     → (run_outcome rules s (record { sort = Broken b; bytes = bytes; line = line } ∷ [])).fault ≡ Some (fault_at (breach_kind b) line [] s)
 unfolding run_outcome walk and_then gives fails
-tear-fault rules s b bytes line =
-    ap (λ (o : Outcome). o.fault)
-    (expand_walk rules s rules.depth None [] (Written (record { sort = Broken b; bytes = bytes; line = line }) ∷ []))
+tear-fault rules s b bytes line = grind (arith, expand_walk)
 
 -- and so does one that is skipped
 tear-skips : (s : State) (b : Breach) (bytes : List ℕ) (line : ℕ)
@@ -501,12 +482,11 @@ module _ (rules : Rules) (depth most : ℕ) (define : List Macro → List ℕ �
       → NamesNoLimit (output rules macros sources conditions path found).fault
       → output larger macros room (more + conditions) path found ≡ output rules macros sources conditions path found
   unfolding output text_meaning origin_line start_state
-  output-agrees macros sources room conditions path NoSource h n = refl
-  output-agrees macros sources room conditions path LongPath h n = refl
   output-agrees macros sources room conditions path (Source found text) h n =
       outcome-agrees more _ _
       (bytes-agree more (origin_line rules found 1) _ _
       (mean-agrees (included_meaning_of rules sources) (included_meaning_of larger room) (included_meaning-agrees sources room h) room (start_state macros sources conditions found) text)) n
+  output-agrees macros sources room conditions path _ h n = refl
 
 -- a choice of what a `define` comes to, where a first fault is of a limit
 limited-agrees : (kind : FaultKind) (word : List ℕ) (small large : Bool) (u v : Defined) → is_limit kind ≡ true
@@ -528,34 +508,13 @@ stored_is : (most_bytes most_macros : ℕ) (macros : List Macro) (m : Macro)
     ≡ stored_by (nat_lt most_bytes (table_size (without m.name macros) + macro_size m)) (nat_lt most_macros (length (without m.name macros) + 1))
     (without m.name macros ++ m ∷ [])
 unfolding stored with_fault define_fault stored_by
-stored_is most_bytes most_macros macros m =
-    by_tests (nat_lt most_bytes (table_size (without m.name macros) + macro_size m)) (nat_lt most_macros (length (without m.name macros) + 1))
-  where
-    by_tests : (b c : Bool)
-        → with_fault (if b then TableRefused kind.DefinitionBytes []
-        else (if c then TableRefused kind.TooManyDefinitions [] else TableAccepted (without m.name macros ++ m ∷ [])))
-        ≡ stored_by b c (without m.name macros ++ m ∷ [])
-    by_tests true c = refl
-    by_tests false true = refl
-    by_tests false false = refl
+stored_is most_bytes most_macros macros m = grind (arith, nat_lt)
 
 -- a macro that is stored agrees
 store-agrees : (bytes count bytes' count' : ℕ) (macros : List Macro) (m : Macro) → bytes ≤ bytes' → count ≤ count'
     → DefinedAgrees (with_fault (stored bytes count macros m)) (with_fault (stored bytes' count' macros m))
 unfolding stored_by is_limit DefinedAgrees
-store-agrees bytes count bytes' count' macros m h k =
-    let others = without m.name macros in
-    let size = table_size others + macro_size m in
-    let number = length others + 1 in
-    subst (λ (u : Defined). DefinedAgrees u (with_fault (stored bytes' count' macros m))) (sym (stored_is bytes count macros m))
-    (subst (λ (v : Defined). DefinedAgrees (stored_by (nat_lt bytes size) (nat_lt count number) (others ++ m ∷ [])) v)
-    (sym (stored_is bytes' count' macros m))
-    (limited-agrees fault.DefinitionBytes [] (nat_lt bytes size) (nat_lt bytes' size)
-    (if nat_lt count number then DefinitionFault fault.TooManyDefinitions [] else Accepted (others ++ m ∷ []))
-    (if nat_lt count' number then DefinitionFault fault.TooManyDefinitions [] else Accepted (others ++ m ∷ [])) refl
-    (unpassed bytes bytes' size h)
-    (limited-agrees fault.TooManyDefinitions [] (nat_lt count number) (nat_lt count' number) (Accepted (others ++ m ∷ [])) (Accepted (others ++ m ∷ [])) refl
-    (unpassed count count' number k) refl)))
+store-agrees bytes count bytes' count' macros m h k = grind (arith, stored_is, nat_lt, limited-agrees, unpassed)
 
 -- a draft agrees
 draft-agrees : (bytes count bytes' count' : ℕ) (macros : List Macro) (draft : Draft) → bytes ≤ bytes' → count ≤ count'
@@ -608,10 +567,7 @@ larger_output small large find origins macros path found l n =
 within-by : (over : Report) (quota : ℕ) (o : Outcome) (b : Bool) → is_limit over.kind ≡ true → nat_le (length o.bytes) quota ≡ b
     → NamesNoLimit (limited over quota o).fault → length o.bytes ≤ quota
 within-by over quota o true l e n = leb-true (length o.bytes) quota e
-within-by over quota o false l e n =
-    let none : is_limit over.kind ≡ false =
-    subst (λ (x : Outcome). NamesNoLimit x.fault) (limited-over over quota o (leb-false (length o.bytes) quota e)) n in
-    absurd (true≢false (sym l ∙ none))
+within-by over quota o false l e n = grind (arith, limited-over, leb-false, true≢false)
 
 -- outcomes that agree where no limit is named agree where both are limited and the one names none
 limited-agree : (over : Report) (quota more : ℕ) (o p : Outcome) → is_limit over.kind ≡ true → quota ≤ more
@@ -628,8 +584,4 @@ pub larger_limits : (small large : Limits) (searches : Searches) (origins : Bool
     → IsLarger small large → NamesNoLimit (limited_output small searches origins macros path).fault
     → limited_output large searches origins macros path ≡ limited_output small searches origins macros path
 unfolding limited_output unlimited_output search_rules opening_fault is_limit
-larger_limits small large searches origins macros path l n =
-    limited-agree (opening_fault OutputBytes path) small.output_bytes large.output_bytes
-    (unlimited_output small searches origins macros path) (unlimited_output large searches origins macros path) refl l.output_bytes
-    (larger_output small large searches.included origins macros path (searches.main path) l
-    ) n
+larger_limits small large searches origins macros path l n = grind (arith, limited-agree, larger_output)

@@ -20,14 +20,13 @@ use Rattle.rdlpp_scan.proofs.Seams.{BeforePerl, Closed, IsCut-from_line, OpenCom
 use Rattle.rdlpp_scan.proofs.StopKinds.{AtBack, AtBare, AtBlockComment, AtLineComment, AtPerl, AtPlain, AtString, Row, block_token-kind, string_token-kind, token_of-row}
 use Rattle.rdlpp_scan.proofs.TokenLens.{token_of-part}
 use Rattle.rdlpp_scan.proofs.TokenSteps.{next_held}
-use Rattle.rdlpp_meaning.specs.Actuals.{Role, item_reads, item_role, token_role}
+use Rattle.rdlpp_meaning.specs.Actuals.{item_reads, item_role, token_role}
 use Rattle.rdlpp_meaning.specs.Expansion.{Opens, UsageFault, Usage, expand, run_outcome, usage_of, walk}
 use Rattle.rdlpp_meaning.specs.Items.{Arg, Item, Written, listed}
 use Rattle.rdlpp_meaning.specs.LimitLaws.{NamesNoLimit, is_limit}
 use Rattle.rdlpp_meaning.specs.Meaning.{skipped_run}
 use Rattle.rdlpp_meaning.specs.Outcome.{Outcome, Report, and_then, fails, gives}
 use Rattle.rdlpp_meaning.specs.Parts.{line_ends_of}
-use Rattle.rdlpp_meaning.specs.Resumed.{leading}
 use Rattle.rdlpp_meaning.specs.State.{Rules, State, breach_kind, fault_at}
 use Rattle.rdlpp_meaning.specs.Substitution.{substituted}
 use Rattle.rdlpp_meaning.proofs.TornCalls.{IsLimitedUsage, IsTail, TokensTorn, TornBy, UsageTorn, UsesUpTo, ends_line, no-tail, roomier, torn-written, usage-torn}
@@ -61,9 +60,7 @@ row-comment bs t (AtPlain h q) k = absurd (false≢true (sym (ap is_plain_kind k
 -- a block comment begins with no quote
 comment-quote : (bs : List ℕ) → begins_block_comment bs ≡ true → (slice_index bs 0 == 34) ≡ false
 unfolding begins_block_comment
-comment-quote bs h =
-    let first = and_parts (slice_index bs 0 == 47) (slice_index bs 1 == 42) h in
-    ap (λ (n : ℕ). n == 34) (eqb-true (slice_index bs 0) 47 first.0)
+comment-quote bs h = grind (arith, and_parts, eqb-true)
 
 -- a string that ends before `<%`
 perl-torn : (c c' : Course) (line n : ℕ) (held more : List ℕ) → n < length held
@@ -103,10 +100,7 @@ string-small : (most : ℕ) (j : Break) (line : ℕ) (held : List ℕ)
     → string_step (record { most = most; break = Some j }) line line (record { kind = Str; len = length held; next_mode = InStr }) held
     ≡ broken j.breach (take (length held) held) (line + line_ends (take (length held) held))
 unfolding string_step open_end
-string-small most j line held =
-    let own = take (length held) held in
-    ap (λ (x : Bool). if x then broken PerlFound own (line + line_ends own) else broken j.breach own (line + line_ends own))
-    (le-ltb (length held) (length held) (omega arith))
+string-small most j line held = grind (arith, le-ltb)
 
 -- a comment that is open where a limit ends the text
 comment-small : (most : ℕ) (j : Break) (line : ℕ) (held : List ℕ)
@@ -264,18 +258,7 @@ end-torn : (most most' : ℕ) (k k' : Option Break) (ended : Bool) (o l : ℕ) (
     → TokensTorn ended (source_tokens (record { most = most; break = k }) Plain o l 0 [])
     (source_tokens (record { most = most'; break = k' }) Plain o l 0 more)
 unfolding source_tokens source_end TokensTorn IsBreakOfLimit TornBy token_role
-end-torn most most' k k' ended o l more ends =
-    let small : Option Break → List SourceToken = λ x. source_tokens (record { most = most; break = x }) Plain o l 0 [] in
-    let large : Option Break → List ℕ → List SourceToken = λ x text. source_tokens (record { most = most'; break = x }) Plain o l 0 text in
-    ends-by (λ text x y. (ended ≡ false → IsBreakOfLimit x → ⊥) → TokensTorn ended (small x) (large y text)) [] more k k' ends (λ not_here. refl)
-    (λ j w limit not_here. inl (record {
-      breach = j.breach;
-      broken = refl;
-      last = refl;
-      limit = limit-breach j.breach limit;
-      torn = subst (λ (r : Role). TornBy token_role r (leading (large k' more))) (sym (limit-broken j.breach [] l false limit refl)) (limit-breach j.breach limit);
-      nothing = λ f. absurd (not_here f limit);
-    }))
+end-torn most most' k k' ended o l more ends = grind (arith, ends-by, limit-breach, limit-broken)
 
 -- a flag that a line ends holds where a limit breaks off at once
 abbrev Flagged : Bool → List ℕ → Option Break → Type 0
@@ -307,13 +290,7 @@ step-tokens most most' k k' ended o l b bs more ends inner (Goes t n e f some in
     flag : Ends (b ∷ bs) more k k' → Flagged (ends_line t.sort) (drop n (b ∷ bs)) k
     flag (inl h) = λ x limit. absurd (subst (λ (y : Option Break). IsBreakOfLimit y) h.1 limit)
     flag (inr h) = λ x limit. let lt = short x h.0 in let size = length-drop n (b ∷ bs) in omega (arith, lt, size)
-step-tokens most most' k k' ended o l b bs more ends inner (Stays t e f) =
-    let held = b ∷ bs in
-    let c : Course = record { most = most; break = k } in
-    let c' : Course = record { most = most'; break = k' } in
-    subst (λ (ts : List SourceToken). TokensTorn ended ts (source_tokens c' Plain o l 0 (held ++ more)))
-    (sym (source_tokens-last c Plain o l held t (omega arith) e))
-    (inr ([], source_tokens-last c' Plain o l (held ++ more) t (omega arith) f, refl))
+step-tokens most most' k k' ended o l b bs more ends inner (Stays t e f) = grind (arith, source_tokens-last)
 step-tokens most most' k k' ended o l b bs more ends inner (Tears t breach e is limit suits) =
     let held = b ∷ bs in
     let c : Course = record { most = most; break = k } in
@@ -353,11 +330,7 @@ AreLines (l ∷ ls) = (0 < length l) × (IsWholeLines l ⊎ (ls ≡ [])) × AreL
 -- a byte in front of whole lines
 whole-cons : (b : ℕ) (l : List ℕ) → 0 < length l → IsWholeLines l → IsWholeLines (b ∷ l)
 unfolding whole_lines_len onto_whole_lines
-whole-cons b l some h = onto (whole_lines_len l) (length l) some h
-  where
-    onto : (n m : ℕ) → 0 < m → n ≡ m → onto_whole_lines b n ≡ suc m
-    onto zero m some e = absurd (omega (arith, some, e))
-    onto (suc n) m some e = ap suc e
+whole-cons b l some h = grind arith
 
 -- an LF in front of lines
 lines-end : (b : ℕ) (ls : List (List ℕ)) → (b == 10) ≡ true → AreLines ls → AreLines ((b ∷ []) ∷ ls)
@@ -401,9 +374,7 @@ own-choice false false n f h = h
 front-own : (most room : ℕ) (ls : List (List ℕ)) → IsOwnBreak (front_of_lines most room ls).break
 unfolding front_of_lines IsOwnBreak onto_front
 front-own most room [] = tt
-front-own most room (l ∷ ls) =
-    own-choice (nat_lt most (length l)) (nat_lt room (length l)) (length l) (onto_front l (front_of_lines most (room - length l) ls))
-    (front-own most (room - length l) ls)
+front-own most room (l ∷ ls) = grind (arith, own-choice, nat_lt, (front-own most (room - length l) ls))
 
 -- a front that a limit ends at once
 front-broken : (g : Front) (n : ℕ) (b : Breach) → (b ≡ LineLong) ⊎ (b ≡ SourceLong) → IsOwnBreak g.break
@@ -414,16 +385,7 @@ front-broken g n b is own = record { more = g.text; text = refl; own = own; ends
 -- a line in front of fronts
 front-line : (l : List ℕ) (f g : Front) → FrontTorn f g → (IsBreakOfLimit f.break → IsWholeLines l) → FrontTorn (onto_front l f) (onto_front l g)
 unfolding onto_front
-front-line l f g h line = record {
-  more = h.more;
-  text = ap (λ (bs : List ℕ). l ++ bs) h.text ∙ sym (append_assoc l f.text h.more);
-  own = h.own;
-  ends = by_ends h.ends;
-}
-  where
-    by_ends : Ends f.text h.more f.break g.break → Ends (l ++ f.text) h.more f.break g.break
-    by_ends (inl e) = inl e
-    by_ends (inr e) = inr (IsWholeLines-append l f.text (line e.1) e.0, e.1)
+front-line l f g h line = grind (arith, append_assoc, IsWholeLines-append)
 
 -- a first line, by whether it passes the smaller limits and the larger ones
 line-choice : (x y x' y' : Bool) (l : List ℕ) (f g : Front) → (x ≡ false → x' ≡ false) → (y ≡ false → y' ≡ false)
@@ -436,11 +398,7 @@ line-choice : (x y x' y' : Bool) (l : List ℕ) (f g : Front) → (x ≡ false �
 unfolding onto_front
 line-choice true y x' y' l f g i j h line own = front-broken _ (length l) LineLong (inl refl) (own-choice x' y' (length l) (onto_front l g) own)
 line-choice false true x' y' l f g i j h line own = front-broken _ (length l) SourceLong (inr refl) (own-choice x' y' (length l) (onto_front l g) own)
-line-choice false false x' y' l f g i j h line own =
-    let large : Bool → Bool → Front = λ p q. if p then record { text = []; break = Some (record { breach = LineLong; len = length l }) }
-    else (if q then record { text = []; break = Some (record { breach = SourceLong; len = length l }) } else onto_front l g) in
-    subst (λ (p : Bool). FrontTorn (onto_front l f) (large p y')) (sym (i refl))
-    (subst (λ (q : Bool). FrontTorn (onto_front l f) (large false q)) (sym (j refl)) (front-line l f g h line))
+line-choice false false x' y' l f g i j h line own = grind (arith, front-line)
 
 -- no line breaks the front of none
 nothing-breaks : (most room : ℕ) (ls : List (List ℕ)) → ls ≡ [] → IsBreakOfLimit (front_of_lines most room ls).break → ⊥
@@ -525,10 +483,7 @@ then-torn torn a b c d h k = record { faulty = λ p. then-faulty-by a.bytes a.fa
 
 -- along equations
 torn-along : (torn : Type 0) (a a' b b' : Outcome) → a ≡ a' → b ≡ b' → TornAgrees torn a' b' → TornAgrees torn a b
-torn-along torn a a' b b' e f h = record {
-  faulty = λ p. subst (λ (o : Outcome). IsFault o.fault) (sym e) (h.faulty p);
-  agrees = agrees-along a a' b b' e f h.agrees;
-}
+torn-along torn a a' b b' e f h = grind (arith, agrees-along)
 
 -- a fault of a limit agrees with all
 limit-torn : (x : List ℕ) (f : Report) (b : Outcome) → is_limit f.kind ≡ true → TornAgrees Unit (and_then (gives x) (fails f)) b

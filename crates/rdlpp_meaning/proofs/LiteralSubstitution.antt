@@ -1,11 +1,11 @@
 -- The tokens of a body have its bytes, and substitution without its marks is literal.
-use Rattle.std.proofs.Common.{◌≡◌, ℕ, zero, suc, ◌+◌, ◌-◌, ◌<◌, Bool, true, false, ◌&&◌, List, [], ◌∷◌, ◌++◌, length, take, drop, refl, sym, ap, subst, ◌∙◌, arith, map, Option, None, Some, flat_map, option_map, bytes_eq, if◌then◌else◌, nat_lt, not, slice_index, unwrap_or, ◌==◌, ltb-false, take-append-drop}
+use Rattle.std.proofs.Common.{◌≡◌, ℕ, zero, suc, ◌+◌, ◌-◌, ◌<◌, Bool, true, false, List, [], ◌∷◌, ◌++◌, length, take, drop, refl, sym, ap, ◌∙◌, arith, map, Option, None, Some, flat_map, option_map, if◌then◌else◌, nat_lt, not, slice_index, unwrap_or, ◌==◌, ltb-false, take-append-drop}
 use Rattle.std.specs.List.{prefix_len}
-use Rattle.rdlpp_scan.specs.Bytes.{begins_block_comment, begins_line_comment, begins_perl, ends_block_comment, is_blank, is_closer, is_digit, is_letter, is_line_end, is_opener, is_word, takes_word}
+use Rattle.rdlpp_scan.specs.Bytes.{begins_perl, ends_block_comment, is_line_end}
 use Rattle.rdlpp_scan.specs.SourceTokens.{Broken, Definition, Ordinary, Renumbering, Sort, SourceToken}
 use Rattle.rdlpp_scan.specs.Tokens.{block_token, first_place, plain_token, string_stop, string_token, token_of, tokens_from, whole}
 use Rattle.rdlpp_scan.specs.declared.token.Kind.{Kind}
-use Rattle.rdlpp_scan.specs.declared.token.Kind.TheVariants.{Back, BareBackquote, Blank, BlockComment, Closer, Comma, LineComment, LineEnd, Name, Opener, Other, Perl, Str, Word}
+use Rattle.rdlpp_scan.specs.declared.token.Kind.TheVariants.{BlockComment, Name, Perl, Str}
 use Rattle.rdlpp_scan.specs.declared.token.Mode.{Mode}
 use Rattle.rdlpp_scan.specs.declared.token.Mode.TheVariants.{InBlock, InStr, Plain}
 use Rattle.rdlpp_scan.specs.declared.token.Token.{Token}
@@ -14,7 +14,7 @@ use Rattle.rdlpp_table.specs.Table.{Formal, Macro}
 use Rattle.rdlpp_meaning.specs.Expansion.{bytes_of}
 use Rattle.rdlpp_meaning.specs.Items.{Item, Written, packed}
 use Rattle.rdlpp_meaning.specs.Literal.{all_erased, bytes_for, erased, formals_bytes, in_place, literal, standing_bytes}
-use Rattle.rdlpp_meaning.specs.Substitution.{Defaulted, Given, Standing, body_tokens, bound_to, mark_of, mark_or, marked, spelled, standing_of, substituted}
+use Rattle.rdlpp_meaning.specs.Substitution.{Defaulted, Given, Standing, body_tokens, bound_to, mark_of, mark_or, marked, spelled, substituted}
 
 -- The tokens of a body have its bytes, and none of them is empty.
 
@@ -53,9 +53,7 @@ string_at bytes stop =
 -- one that stops behind a byte
 string_after : (bytes : List ℕ) (stop : ℕ) → 0 < stop → HasByte (string_at bytes stop)
 unfolding string_at HasByte whole
-string_after bytes stop h =
-    chosen (slice_index bytes stop == 34) (whole Str (suc stop)) (record { kind = Str; len = stop; next_mode = InStr })
-    (λ e. suc_positive stop) (λ e. h)
+string_after bytes stop h = grind (arith, chosen, suc_positive)
 
 -- a string whose part begins behind its quote
 string_has : (from : ℕ) (bytes : List ℕ) → 0 < from → HasByte (string_token from bytes)
@@ -66,13 +64,8 @@ string_has from bytes h = string_after bytes (from + string_stop false (drop fro
 string_rest_by : (b : ℕ) (bs : List ℕ) (quote : Bool) → (b == 34) ≡ quote → begins_perl (b ∷ bs) ≡ false
     → HasByte (string_token 0 (b ∷ bs))
 unfolding string_token string_at string_stop HasByte whole
-string_rest_by b bs true q e =
-    let stop : 0 + string_stop false (b ∷ bs) ≡ 0 = rw q refl in
-    subst (λ (n : ℕ). HasByte (string_at (b ∷ bs) n)) (sym stop)
-    (subst (λ (x : Bool). HasByte (if x then whole Str 1 else record { kind = Str; len = 0; next_mode = InStr })) (sym q) (suc_positive 0))
-string_rest_by b bs false q e =
-    let stop : string_stop false (b ∷ bs) ≡ suc (string_stop (b == 92) bs) = rw (q, e) refl in
-    string_after (b ∷ bs) (0 + string_stop false (b ∷ bs)) (omega (arith, stop))
+string_rest_by b bs true q e = grind (arith, suc_positive)
+string_rest_by b bs false q e = grind (arith, string_after)
 
 -- a comment that stops at a place
 block_at : List ℕ → ℕ → Token
@@ -82,9 +75,7 @@ block_at bytes stop =
 -- one that stops behind a byte
 block_after : (bytes : List ℕ) (stop : ℕ) → 0 < stop → HasByte (block_at bytes stop)
 unfolding block_at HasByte whole
-block_after bytes stop h =
-    chosen (nat_lt stop (length bytes)) (whole BlockComment (stop + 2)) (record { kind = BlockComment; len = stop; next_mode = InBlock })
-    (λ e. omega arith) (λ e. h)
+block_after bytes stop h = grind (arith, chosen, nat_lt)
 
 -- a comment whose text begins behind its opener
 block_has : (from : ℕ) (bytes : List ℕ) → 0 < from → HasByte (block_token from bytes)
@@ -94,17 +85,8 @@ block_has from bytes h = block_after bytes (from + first_place ends_block_commen
 -- the rest of a comment, by whether it ends at once
 block_rest_by : (b : ℕ) (bs : List ℕ) (ends : Bool) → ends_block_comment (b ∷ bs) ≡ ends → HasByte (block_token 0 (b ∷ bs))
 unfolding block_token block_at first_place HasByte whole
-block_rest_by b bs true e =
-    let stop : 0 + first_place ends_block_comment (b ∷ bs) ≡ 0 = rw e refl in
-    subst (λ (n : ℕ). HasByte (block_at (b ∷ bs) n)) (sym stop) here
-  where
-    here : HasByte (block_at (b ∷ bs) 0)
-    here =
-        chosen (nat_lt 0 (length (b ∷ bs))) (whole BlockComment 2) (record { kind = BlockComment; len = 0; next_mode = InBlock })
-        (λ h. suc_positive 1) (λ h. absurd (omega (arith, ltb-false 0 (length (b ∷ bs)) h)))
-block_rest_by b bs false e =
-    let stop : first_place ends_block_comment (b ∷ bs) ≡ suc (first_place ends_block_comment bs) = rw e refl in
-    block_after (b ∷ bs) (0 + first_place ends_block_comment (b ∷ bs)) (omega (arith, stop))
+block_rest_by b bs true e = grind (arith, chosen, nat_lt, suc_positive, ltb-false)
+block_rest_by b bs false e = grind (arith, block_after)
 
 -- a line comment has its bytes, since it doesn't begin with an LF
 comment_positive : (b : ℕ) (bs : List ℕ) → is_line_end b ≡ false → 0 < prefix_len (λ x. not (is_line_end x)) (b ∷ bs)
@@ -113,22 +95,7 @@ comment_positive b bs e = run_positive (λ x. not (is_line_end x)) b bs (ap not 
 -- the first token of a text in plain text has a byte
 plain_has : (b : ℕ) (bs : List ℕ) → HasByte (plain_token (b ∷ bs))
 unfolding plain_token
-plain_has b bs =
-    chosen (begins_perl (b ∷ bs)) _ _ (λ h. whole_has Perl 2 (suc_positive 1)) (λ _.
-    chosen (is_line_end b) _ _ (λ h. whole_has LineEnd 1 (suc_positive 0)) (λ e.
-    chosen (is_blank b) _ _ (λ h. whole_has Blank _ (run_positive is_blank b bs h)) (λ _.
-    chosen (begins_line_comment (b ∷ bs)) _ _ (λ h. whole_has LineComment _ (comment_positive b bs e)) (λ _.
-    chosen (begins_block_comment (b ∷ bs)) _ _ (λ h. block_has 2 (b ∷ bs) (suc_positive 1)) (λ _.
-    chosen (b == 34) _ _ (λ h. string_has 1 (b ∷ bs) (suc_positive 0)) (λ _.
-    chosen (is_letter b) _ _ (λ h. whole_has Name _ (run_positive is_word b bs (is_word-letter b h))) (λ _.
-    chosen (is_digit b) _ _ (λ h. whole_has Word _ (run_positive is_word b bs (is_word-digit b h))) (λ _.
-    chosen (takes_word b && is_word (slice_index (b ∷ bs) 1)) _ _ (λ h. whole_has Word _ (suc_positive _)) (λ _.
-    chosen (b == 96 && is_letter (slice_index (b ∷ bs) 1)) _ _ (λ h. whole_has Back _ (suc_positive _)) (λ _.
-    chosen (b == 96) _ _ (λ h. whole_has BareBackquote 1 (suc_positive 0)) (λ _.
-    chosen (is_opener b) _ _ (λ h. whole_has Opener 1 (suc_positive 0)) (λ _.
-    chosen (is_closer b) _ _ (λ h. whole_has Closer 1 (suc_positive 0)) (λ _.
-    chosen (b == 44) _ _ (λ h. whole_has Comma 1 (suc_positive 0)) (λ _.
-    whole_has Other 1 (suc_positive 0)))))))))))))))
+plain_has b bs = grind (arith, chosen, whole_has, suc_positive, run_positive, comment_positive, block_has, string_has, is_word-letter, is_word-digit)
 
 -- the first token of a text has a byte in each mode
 pub token_has : (mode : Mode) (b : ℕ) (bs : List ℕ) → HasByte (token_of mode (b ∷ bs))
@@ -141,8 +108,6 @@ token_has InBlock b bs = block_rest_by b bs (ends_block_comment (b ∷ bs)) refl
 -- tokens from a place on have the bytes from there on
 covered : (mode : Mode) (skip : ℕ) (bs : List ℕ) → bytes_of (spelled (tokens_from mode skip bs) (drop skip bs)) ≡ drop skip bs
 unfolding tokens_from spelled HasByte
-covered mode zero [] = refl
-covered mode (suc skip) [] = refl
 covered mode (suc skip) (b ∷ bs) = covered mode skip bs
 covered mode zero (b ∷ bs) =
     let t = token_of mode (b ∷ bs) in
@@ -151,6 +116,7 @@ covered mode zero (b ∷ bs) =
     ap (λ (r : List ℕ). take t.len (b ∷ bs) ++ bytes_of (spelled rest r)) e
     ∙ ap (λ (r : List ℕ). take t.len (b ∷ bs) ++ r) (covered t.next_mode (t.len - 1) bs ∙ sym e)
     ∙ take-append-drop t.len (b ∷ bs)
+covered mode _ _ = refl
 
 -- the tokens of a body have its bytes
 pub body_covered : (body : List ℕ) → bytes_of (body_tokens body) ≡ body
@@ -190,9 +156,7 @@ bytes-bound : (formals : List Formal) (actuals : List (List Item)) (name : List 
 unfolding bytes_for formals_bytes bound_to
 bytes-bound [] actuals name = refl
 bytes-bound (f ∷ fs) [] name = refl
-bytes-bound (f ∷ fs) (a ∷ actuals) name =
-    for_name (bytes_eq f.name name) (standing_of f a) (bound_to fs actuals name) (bytes_for fs (formals_bytes fs actuals) name)
-    (bytes-bound fs actuals name)
+bytes-bound (f ∷ fs) (a ∷ actuals) name = grind (arith, for_name, (bytes-bound fs actuals name))
 
 -- the bytes of a name as a mark or as it is are those in its place
 name-bytes : (macro : List ℕ) (o : List (List ℕ)) (t : SourceToken) (standing : Option (Standing Item))
@@ -206,9 +170,7 @@ token_erased_by : (macro : List ℕ) (formals : List Formal) (actuals : List (Li
     → erased (marked macro formals actuals o (record { sort = sort; bytes = bytes; line = line }))
     ≡ in_place formals (formals_bytes formals actuals) (record { sort = sort; bytes = bytes; line = line })
 unfolding marked in_place erased
-token_erased_by macro formals actuals o (Ordinary Name) bytes line =
-    name-bytes macro o (record { sort = Ordinary Name; bytes = bytes; line = line }) (bound_to formals actuals bytes)
-    ∙ ap (λ (x : Option (List ℕ)). unwrap_or x bytes) (sym (bytes-bound formals actuals bytes))
+token_erased_by macro formals actuals o (Ordinary Name) bytes line = grind (arith, name-bytes, bytes-bound)
 token_erased_by macro formals actuals o (Ordinary k) bytes line = refl
 token_erased_by macro formals actuals o Definition bytes line = refl
 token_erased_by macro formals actuals o Renumbering bytes line = refl

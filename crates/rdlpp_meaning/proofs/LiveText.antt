@@ -9,7 +9,7 @@ use Rattle.rdlpp_scan.specs.Front.{Breach}
 use Rattle.rdlpp_scan.specs.Reserved.{is_reserved, reserved_names}
 use Rattle.rdlpp_scan.specs.SourceTokens.{Broken, Definition, Ordinary, Renumbering, Sort, SourceToken}
 use Rattle.rdlpp_scan.specs.declared.token.Directive.{Directive}
-use Rattle.rdlpp_scan.specs.declared.token.Directive.TheVariants.{Else, Elsif, Endif, Ifdef, Ifndef}
+use Rattle.rdlpp_scan.specs.declared.token.Directive.TheVariants.{Ifdef}
 use Rattle.rdlpp_scan.specs.declared.token.Kind.{Kind}
 use Rattle.rdlpp_scan.specs.declared.token.Kind.TheVariants.{Back, BareBackquote}
 use Rattle.rdlpp_table.specs.Table.{macro_named}
@@ -19,7 +19,7 @@ use Rattle.rdlpp_meaning.specs.Expansion.{Opens, UsageFault, Usage, bytes_of, ex
 use Rattle.rdlpp_meaning.specs.Items.{Item, Written}
 use Rattle.rdlpp_meaning.specs.Meaning.{IncludedMeaning, Passage, Progress, after_bytes, goes_on, leaves, included_meaning_of}
 use Rattle.rdlpp_meaning.specs.Outcome.{Outcome, Report, and_then, fails, gives}
-use Rattle.rdlpp_meaning.specs.Parts.{Branching, Closing, Command, Opening, Piece, Run, Single, argument_of, command_of, directive_named, directive_of, joined, line_ends_of, only_blanks, piece_of, pieces}
+use Rattle.rdlpp_meaning.specs.Parts.{Branching, Closing, Command, Opening, Piece, Run, Single, directive_named, directive_of, joined, line_ends_of, only_blanks, piece_of, pieces}
 use Rattle.rdlpp_meaning.specs.Resumed.{Live, leading, resume, resumed, trailing}
 use Rattle.rdlpp_meaning.specs.State.{Rules, State, breach_kind, fault_at}
 use Rattle.rdlpp_meaning.specs.Substitution.{substituted}
@@ -76,9 +76,7 @@ alone : (rules : Rules) (included_meaning : IncludedMeaning) (os : List Progress
     → Writes rules s t o
     → resume rules included_meaning (Live os) (Run (t ∷ []) ∷ ps) s ≡ goes_on (leaves o s) (λ after. resume rules included_meaning (Live os) ps after)
 unfolding resume Writes
-alone rules included_meaning os t o ps s w =
-    ap (λ (x : Outcome). goes_on (leaves x s) (λ after. resume rules included_meaning (Live os) ps after))
-    (w [] ∙ ap (λ (x : Outcome). and_then o x) (run_nil rules s) ∙ and_then-nil o)
+alone rules included_meaning os t o ps s w = grind (arith, run_nil, and_then-nil)
 
 -- a token that writes an outcome in front of pieces
 pub resume_joined : (rules : Rules) (included_meaning : IncludedMeaning) (os : List Progress) (t : SourceToken) (o : Outcome) (ps : List Piece) (s : State)
@@ -86,12 +84,7 @@ pub resume_joined : (rules : Rules) (included_meaning : IncludedMeaning) (os : L
     → resume rules included_meaning (Live os) (joined t ps) s ≡ goes_on (leaves o s) (λ after. resume rules included_meaning (Live os) ps after)
 unfolding resume joined Writes
 resume_joined rules included_meaning os t o [] s w = alone rules included_meaning os t o [] s w
-resume_joined rules included_meaning os t o (Run us ∷ ps) s w =
-    ap (λ (x : Outcome). goes_on (leaves x s) (λ after. resume rules included_meaning (Live os) ps after)) (w us)
-    ∙ leaves-and_then o (run_outcome rules s us) s (λ after. resume rules included_meaning (Live os) ps after)
-    ∙ on_leaves o s
-    (λ after. goes_on (leaves (run_outcome rules s us) after) (λ last. resume rules included_meaning (Live os) ps last))
-    (λ after. resume rules included_meaning (Live os) (Run us ∷ ps) after) refl
+resume_joined rules included_meaning os t o (Run us ∷ ps) s w = grind (arith, leaves-and_then, on_leaves)
 resume_joined rules included_meaning os t o (Single c ∷ ps) s w = alone rules included_meaning os t o (Single c ∷ ps) s w
 resume_joined rules included_meaning os t o (Opening c ∷ ps) s w = alone rules included_meaning os t o (Opening c ∷ ps) s w
 resume_joined rules included_meaning os t o (Branching c ∷ ps) s w = alone rules included_meaning os t o (Branching c ∷ ps) s w
@@ -146,9 +139,7 @@ pub run_refused : (rules : Rules) (s : State) (name : List ℕ) (line : ℕ) (us
     → usage_of rules s (item_reads None) line [] name (map Written us) ≡ UsageFault f word at
     → run_outcome rules s (usage_token name line ∷ us) ≡ fails (fault_at f at word s)
 unfolding run_outcome usage_walk
-run_refused rules s name line us f word at e =
-    expand_walk rules s rules.depth None [] (map Written (usage_token name line ∷ us))
-    ∙ usage_walks rules s (deeper_of rules s rules.depth) None [] (96 ∷ name) line (map Written us) (UsageFault f word at) e
+run_refused rules s name line us f word at e = grind (arith, expand_walk, usage_walks)
 
 -- What a token of a run writes in front of the run behind it, and the directives that tokens begin.
 
@@ -169,10 +160,7 @@ copied_text t e = copied_text_by t.sort t.bytes t.line e
 -- a token that is copied writes its bytes
 pub copied_writes : (rules : Rules) (s : State) (t : SourceToken) → is_copied t ≡ true → Writes rules s t (gives t.bytes)
 unfolding Writes run_outcome
-copied_writes rules s t e us =
-    expand_walk rules s rules.depth None [] (Written t ∷ map Written us)
-    ∙ walk_copied rules s (deeper_of rules s rules.depth) None [] t (map Written us) e
-    ∙ ap (λ (x : Outcome). and_then (gives t.bytes) x) (sym (expand_walk rules s rules.depth None [] (map Written us)))
+copied_writes rules s t e us = grind (arith, expand_walk, walk_copied)
 
 -- only blanks behind bytes and then bytes
 pub only_blanks-append : (first : Bool) (x y : List ℕ) → only_blanks first (x ++ y) ≡ only_blanks (only_blanks first x) y
@@ -191,9 +179,7 @@ none_of_words name (w ∷ ws) e =
 -- a name that isn't reserved is none of the directives
 not_directive : (name : List ℕ) → is_reserved name ≡ false → directive_named (96 ∷ name) ≡ None
 unfolding is_reserved reserved_names directive_named
-not_directive name e =
-    let h : AllByRecursion (λ word. bytes_eq name word ≡ false) reserved_names = none_of_words name reserved_names e in
-    rw (h.1.0, h.1.1.0, h.1.1.1.0, h.1.1.1.1.0, h.1.1.1.1.1.0, h.1.1.1.1.1.1.0, h.1.1.1.1.1.1.1.0) refl
+not_directive name e = grind (arith, none_of_words)
 
 -- a usage of a name that isn't reserved begins no directive
 pub usage_text : (name : List ℕ) (line : ℕ) → is_reserved name ≡ false → directive_of (usage_token name line) ≡ None
@@ -233,10 +219,6 @@ joined_by : (t : SourceToken) (word : Directive) (given : Option (List ℕ)) (te
     ≡ Run (t ∷ []) ∷ piece_of (record { word = word; given = given; text = text; line = line; first = first }) ∷ ps
 unfolding joined piece_of
 joined_by t Ifdef given text line first ps = refl
-joined_by t Ifndef given text line first ps = refl
-joined_by t Elsif given text line first ps = refl
-joined_by t Else given text line first ps = refl
-joined_by t Endif given text line first ps = refl
 joined_by t d given text line first ps = refl
 
 -- a token isn't joined to a directive
@@ -247,9 +229,7 @@ joined_directive t c ps = joined_by t c.word c.given c.text c.line c.first ps
 no_run : (t : SourceToken) (first : Bool) (u : SourceToken) (us : List SourceToken) (d : Directive) → directive_of u ≡ Some d
     → joined t (pieces first 0 (u ∷ us)) ≡ Run (t ∷ []) ∷ pieces first 0 (u ∷ us)
 unfolding pieces
-no_run t first u us d e =
-    rw (e, pieces)
-    (joined_directive t (command_of d first u (argument_of d us)) (pieces (only_blanks first u.bytes) (argument_of d us).used us))
+no_run t first u us d e = grind (arith, joined_directive)
 
 -- what leads and trails where the first token begins no directive
 pub leading_text : (t : SourceToken) (ts : List SourceToken) → directive_of t ≡ None → leading (t ∷ ts) ≡ t ∷ leading ts
@@ -301,12 +281,7 @@ HasRun ts = (first : Bool) → pieces first 0 ts ≡ run_before (leading ts) (pi
 -- by the first token
 has_run_by : (t : SourceToken) (ts : List SourceToken) (x : Option Directive) → directive_of t ≡ x → HasRun ts → HasRun (t ∷ ts)
 unfolding HasRun run_before only_blanks
-has_run_by t ts None e rest first =
-    rw (leading_text t ts e, trailing_text t ts e)
-    (pieces_text first t ts e
-    ∙ ap (joined t) (rest (only_blanks first t.bytes))
-    ∙ joined_run t (leading ts) ts (only_blanks (only_blanks first t.bytes) (bytes_of (leading ts)))
-    ∙ ap (λ (f : Bool). Run (t ∷ leading ts) ∷ pieces f 0 (trailing ts)) (sym (only_blanks-append first t.bytes (bytes_of (leading ts)))))
+has_run_by t ts None e rest first = grind (arith, leading_text, trailing_text, pieces_text, joined_run, only_blanks-append)
 has_run_by t ts (Some d) e rest first = rw (leading_directive t ts d e, trailing_directive t ts d e) refl
 
 -- all tokens
@@ -320,9 +295,7 @@ resume_run : (rules : Rules) (included_meaning : IncludedMeaning) (os : List Pro
     → resume rules included_meaning (Live os) (run_before run ps) s
     ≡ goes_on (leaves (run_outcome rules s run) s) (λ after. resume rules included_meaning (Live os) ps after)
 unfolding run_before resume
-resume_run rules included_meaning os [] ps s =
-    sym (ap (λ (x : Outcome). goes_on (leaves x s) (λ after. resume rules included_meaning (Live os) ps after)) (run_nil rules s)
-    ∙ goes_on-nil s (λ after. resume rules included_meaning (Live os) ps after))
+resume_run rules included_meaning os [] ps s = grind (arith, run_nil, goes_on-nil)
 resume_run rules included_meaning os (t ∷ run) ps s = refl
 
 -- in live text, a run comes to its expansion, and then what remains behind it
@@ -331,13 +304,7 @@ pub resumed_run : (rules : Rules) (os : List Progress) (first : Bool) (ts : List
     ≡ goes_on (leaves (run_outcome rules s (leading ts)) s)
     (λ after. resumed rules (Live os) (only_blanks first (bytes_of (leading ts))) (trailing ts) after)
 unfolding resumed HasRun
-resumed_run rules os first ts s =
-    let included_meaning = included_meaning_of rules s.sources_left in
-    let ps = pieces (only_blanks first (bytes_of (leading ts))) 0 (trailing ts) in
-    ap (λ (qs : List Piece). resume rules included_meaning (Live os) qs s) (has_run ts first)
-    ∙ resume_run rules included_meaning os (leading ts) ps s
-    ∙ on_leaves (run_outcome rules s (leading ts)) s (λ after. resume rules included_meaning (Live os) ps after)
-    (λ after. resumed rules (Live os) (only_blanks first (bytes_of (leading ts))) (trailing ts) after) refl
+resumed_run rules os first ts s = grind (arith, has_run, resume_run, on_leaves)
 
 -- how the tokens of a run lie in front of the others
 record IsWithinRun (k : ℕ) (ts : List SourceToken) : Type 0 where
@@ -348,22 +315,14 @@ record IsWithinRun (k : ℕ) (ts : List SourceToken) : Type 0 where
 -- one more token of a run, by what it begins
 within_by : (k : ℕ) (t : SourceToken) (ts : List SourceToken) (x : Option Directive) → directive_of t ≡ x
     → suc k ≤ length (leading (t ∷ ts)) → (k ≤ length (leading ts) → IsWithinRun k ts) → IsWithinRun (suc k) (t ∷ ts)
-within_by k t ts None e h rest =
-    let l = leading_text t ts e in
-    let r = rest (omega (arith, ap length l)) in
-    record {
-      leads = rw l r.leads;
-      trails = rw (trailing_text t ts e) r.trails;
-      front = rw l (ap (λ (xs : List SourceToken). t ∷ xs) r.front);
-    }
+within_by k t ts None e h rest = grind (arith, leading_text, trailing_text)
 within_by k t ts (Some d) e h rest = absurd (omega (arith, ap length (leading_directive t ts d e)))
 
 -- so many tokens of a run
 within_run : (k : ℕ) (ts : List SourceToken) → k ≤ length (leading ts) → IsWithinRun k ts
 unfolding leading trailing
-within_run zero ts h = record { leads = refl; trails = refl; front = refl }
-within_run (suc k) [] h = record { leads = refl; trails = refl; front = refl }
 within_run (suc k) (t ∷ ts) h = within_by k t ts (directive_of t) refl h (λ g. within_run k ts g)
+within_run _ ts h = record { leads = refl; trails = refl; front = refl }
 
 -- the flag of blanks behind so many tokens and then the others of a run
 flag_after : (first : Bool) (k : ℕ) (ts : List SourceToken)
@@ -380,25 +339,7 @@ pub resumed_part : (rules : Rules) (os : List Progress) (first : Bool) (k : ℕ)
     → run_outcome rules s (leading ts) ≡ and_then o (run_outcome rules s (drop k (leading ts)))
     → resumed rules (Live os) first ts s
     ≡ goes_on (leaves o s) (λ after. resumed rules (Live os) (only_blanks first (bytes_of (take k ts))) (drop k ts) after)
-resumed_part rules os first k ts s o h e =
-    let w = within_run k ts h in
-    let last = only_blanks first (bytes_of (leading ts)) in
-    let flag = only_blanks first (bytes_of (take k ts)) in
-    let further : State → Passage = λ after. resumed rules (Live os) last (trailing ts) after in
-    resumed_run rules os first ts s
-    ∙ ap (λ (x : Outcome). goes_on (leaves x s) further) e
-    ∙ leaves-and_then o (run_outcome rules s (drop k (leading ts))) s further
-    ∙ on_leaves o s (λ after. goes_on (leaves (run_outcome rules s (drop k (leading ts))) after) further)
-    (λ after. resumed rules (Live os) flag (drop k ts) after)
-    (ap (λ (us : List SourceToken). goes_on (leaves (run_outcome rules s us) s) further) (sym w.leads)
-    ∙ on_leaves (run_outcome rules s (leading (drop k ts))) s further
-    (λ after. resumed rules (Live os) (only_blanks flag (bytes_of (leading (drop k ts)))) (trailing (drop k ts)) after)
-    (ap (λ (us : List SourceToken). resumed rules (Live os) last us s) (sym w.trails)
-    ∙ ap (λ (f : Bool). resumed rules (Live os) f (trailing (drop k ts)) s)
-    (sym (flag_after first k (leading ts))
-    ∙ ap (λ (us : List SourceToken). only_blanks (only_blanks first (bytes_of us)) (bytes_of (drop k (leading ts)))) (sym w.front)
-    ∙ ap (λ (us : List SourceToken). only_blanks flag (bytes_of us)) (sym w.leads)))
-    ∙ sym (resumed_run rules os flag (drop k ts) s))
+resumed_part rules os first k ts s o h e = grind (arith, within_run, resumed_run, leaves-and_then, on_leaves, flag_after)
 
 -- The scan of a call over the tokens of a source: a directive halts it, so the tokens in front of the first one need not be cut out.
 
@@ -423,14 +364,7 @@ scan_by : (size : SourceToken → ℕ) (at : CallState) (room : ℕ) (t : Source
     → ((to : CallState) (left : ℕ) → scan token_role size to left (leading ts) ≡ scan source_role size to left ts)
     → scan token_role size at room (leading (t ∷ ts)) ≡ scan source_role size at room (t ∷ ts)
 unfolding scan
-scan_by size at room t ts None e rest =
-    let fits = nat_le (size t) room in
-    let r = token_role t in
-    let go : Role → List SourceToken → Scanned SourceToken =
-    λ q us. scanned (turn at q fits) t (scan token_role size (call_state_after at q) (room_after at room q (size t)) us) in
-    ap (scan token_role size at room) (leading_text t ts e)
-    ∙ ap (scanned (turn at r fits) t) (rest (call_state_after at r) (room_after at room r (size t)))
-    ∙ ap (λ (q : Role). scanned (turn at q fits) t (scan source_role size (call_state_after at q) (room_after at room q (size t)) ts)) (sym (source_role_text t e))
+scan_by size at room t ts None e rest = grind (arith, nat_le, leading_text, source_role_text)
 scan_by size at room t ts (Some d) e rest =
     let fits = nat_le (size t) room in
     ap (scan token_role size at room) (leading_directive t ts d e)
@@ -489,20 +423,14 @@ pub resumed_undefined : (rules : Rules) (os : List Progress) (first : Bool) (nam
     → is_reserved name ≡ false → macro_named s.macros name ≡ None
     → resumed rules (Live os) first (usage_token name line ∷ more) s ≡ leaves (fails (fault_at UndefinedMacro line name s)) s
 unfolding Writes
-resumed_undefined rules os first name line more s r e =
-    let f = fault_at UndefinedMacro line name s in
-    resumed_fails rules os first (usage_token name line) more s f (usage_text name line r)
-    (λ us. run_refused rules s name line us UndefinedMacro name line (usage_none rules s None line [] name (map Written us) r e)
-    ∙ sym (and_then-fails f (run_outcome rules s us)))
+resumed_undefined rules os first name line more s r e = grind (arith, resumed_fails, usage_text, run_refused, usage_none, and_then-fails)
 
 -- a lone backquote ends its source
 pub resumed_bare : (rules : Rules) (os : List Progress) (first : Bool) (bytes : List ℕ) (line : ℕ) (more : List SourceToken) (s : State)
     → resumed rules (Live os) first (record { sort = Ordinary BareBackquote; bytes = bytes; line = line } ∷ more) s
     ≡ leaves (fails (fault_at NoName line [] s)) s
 unfolding directive_of
-resumed_bare rules os first bytes line more s =
-    resumed_fails rules os first (record { sort = Ordinary BareBackquote; bytes = bytes; line = line }) more s
-    (fault_at NoName line [] s) refl (bare_writes rules s bytes line)
+resumed_bare rules os first bytes line more s = grind (arith, resumed_fails, bare_writes)
 
 -- a broken token gives its bytes, and then ends its source
 pub resumed_broken : (rules : Rules) (os : List Progress) (first : Bool) (b : Breach) (bytes : List ℕ) (line : ℕ) (more : List SourceToken) (s : State)
@@ -533,20 +461,10 @@ pub resumed_copied_parts : (rules : Rules) (os : List Progress) (first : Bool) (
     → is_copied (record { sort = Ordinary k; bytes = x ++ y; line = line }) ≡ true
     → resumed rules (Live os) first (record { sort = Ordinary k; bytes = x ++ y; line = line } ∷ more) s
     ≡ after_bytes x (resumed rules (Live os) (only_blanks first x) (record { sort = Ordinary k; bytes = y; line = line } ∷ more) s)
-resumed_copied_parts rules os first k x y line more s e =
-    resumed_one_copied rules os first (record { sort = Ordinary k; bytes = x ++ y; line = line }) more s e
-    ∙ ap (λ (f : Bool). after_bytes (x ++ y) (resumed rules (Live os) f more s)) (only_blanks-append first x y)
-    ∙ sym (after_bytes-twice x y (resumed rules (Live os) (only_blanks (only_blanks first x) y) more s))
-    ∙ ap (λ (p : Passage). after_bytes x p)
-    (sym (resumed_one_copied rules os (only_blanks first x) (record { sort = Ordinary k; bytes = y; line = line }) more s
-    (copied_whole k y (x ++ y) line ∙ e)))
+resumed_copied_parts rules os first k x y line more s e = grind (arith, resumed_one_copied, only_blanks-append, after_bytes-twice, copied_whole)
 
 -- a broken token may be written in two parts
 pub resumed_broken_parts : (rules : Rules) (os : List Progress) (first : Bool) (b : Breach) (x y : List ℕ) (line : ℕ) (more : List SourceToken) (s : State)
     → resumed rules (Live os) first (record { sort = Broken b; bytes = x ++ y; line = line } ∷ more) s
     ≡ after_bytes x (resumed rules (Live os) (only_blanks first x) (record { sort = Broken b; bytes = y; line = line } ∷ more) s)
-resumed_broken_parts rules os first b x y line more s =
-    let p = leaves (fails (fault_at (breach_kind b) line [] s)) s in
-    resumed_broken rules os first b (x ++ y) line more s
-    ∙ sym (after_bytes-twice x y p)
-    ∙ ap (λ (q : Passage). after_bytes x q) (sym (resumed_broken rules os (only_blanks first x) b y line more s))
+resumed_broken_parts rules os first b x y line more s = grind (arith, resumed_broken, after_bytes-twice)

@@ -16,7 +16,7 @@ use Rattle.rdlpp_meaning.specs.OpenItems.{item_at, open_items, open_hide_set, ow
 use Rattle.rdlpp_meaning.specs.Opens.{AreOpen, HasParts, Open, OpenActual, OpenBody, OpenDefault, OpenKind, Part, Texts, formal_at, found_formals, found_standing, kind_formals, kind_standing, open_after, open_bytes, open_scope, open_standing, own_text, own_hide_set, part_at, part_tokens, scope_formals, scope_open, scope_text, text_around, hide_set}
 use Rattle.rdlpp_meaning.specs.Substitution.{Defaulted, Given, Standing, body_tokens, bound_to, mark_of, mark_or, marked, standing_of}
 use Rattle.rdlpp_meaning.specs.TextTokens.{text_tokens}
-use Rattle.rdlpp_meaning.proofs.KeptTexts.{body_text, first_spelled, text_nil, text_step}
+use Rattle.rdlpp_meaning.proofs.KeptTexts.{body_text, text_nil, text_step}
 
 -- The scopes of open texts: their items and macros, what a name of a scope stands for, and the front of the innermost text.
 
@@ -36,10 +36,7 @@ next_is n = eq-eqb n n refl
 -- one more open text changes nothing of the items of the scopes around it
 pub item-around : (texts : Texts) (x : Open) (below : List Open) (k : ℕ) → k ≤ length below → item_at texts (x ∷ below) k ≡ item_at texts below k
 unfolding item_at
-item-around texts x below k h =
-    ap (λ (b : Bool). λ (t : SourceToken).
-    if b then own_item texts x.kind (scope_text texts below x.parent) (item_at texts below x.parent) (hide_set texts below x.parent) t
-    else item_at texts below k t) (not_next k (length below) h)
+item-around texts x below k h = grind (arith, not_next)
 
 -- nor of the macros in whose text they are
 pub hidden-around : (texts : Texts) (x : Open) (below : List Open) (k : ℕ) → k ≤ length below → hide_set texts (x ∷ below) k ≡ hide_set texts below k
@@ -51,10 +48,7 @@ pub item-own : (texts : Texts) (x : Open) (below : List Open)
     → item_at texts (x ∷ below) (suc (length below))
     ≡ own_item texts x.kind (scope_text texts below x.parent) (item_at texts below x.parent) (hide_set texts below x.parent)
 unfolding item_at
-item-own texts x below =
-    ap (λ (b : Bool). λ (t : SourceToken).
-    if b then own_item texts x.kind (scope_text texts below x.parent) (item_at texts below x.parent) (hide_set texts below x.parent) t
-    else item_at texts below (suc (length below)) t) (next_is (suc (length below)))
+item-own texts x below = grind (arith, next_is)
 
 -- and its macros
 pub hidden-own : (texts : Texts) (x : Open) (below : List Open)
@@ -86,17 +80,12 @@ none-before f fs name e = rw e refl
 more-before : (f : Formal) (fs : List Formal) (name : List ℕ) → bytes_eq f.name name ≡ false
     → prefix_len (λ (g : Formal). not (bytes_eq g.name name)) (f ∷ fs)
     ≡ suc (prefix_len (λ (g : Formal). not (bytes_eq g.name name)) fs)
-more-before f fs name e = rw e (one (prefix_len (λ (g : Formal). not (bytes_eq g.name name)) fs))
-  where
-    one : (n : ℕ) → 1 + n ≡ suc n
-    one n = omega arith
+more-before f fs name e = grind arith
 
 -- the place of a name that the first formal hasn't
 named-following : (f : Formal) (fs : List Formal) (name : List ℕ) → bytes_eq f.name name ≡ false
     → formal_named (f ∷ fs) name ≡ option_map (λ (i : ℕ). suc i) (formal_named fs name)
-named-following f fs name e =
-    next-place (prefix_len (λ (g : Formal). not (bytes_eq g.name name)) fs) (prefix_len (λ (g : Formal). not (bytes_eq g.name name)) (f ∷ fs))
-    (length fs) (more-before f fs name e)
+named-following f fs name e = grind (arith, next-place, more-before)
 
 -- the place of a name that the first formal has
 named-first : (f : Formal) (fs : List Formal) (name : List ℕ) → bytes_eq f.name name ≡ true → formal_named (f ∷ fs) name ≡ Some 0
@@ -119,18 +108,8 @@ bound-by : {A : Type 0} (f : Formal) (fs : List Formal) (a : List A) (actuals : 
     → bound_to fs actuals name ≡ option_map (standing_of_place fs actuals) (formal_named fs name)
     → bound_to (f ∷ fs) (a ∷ actuals) name ≡ option_map (standing_of_place (f ∷ fs) (a ∷ actuals)) (formal_named (f ∷ fs) name)
 unfolding bound_to standing_of_place
-bound-by {A} f fs a actuals name true e rest =
-    ap (λ (b : Bool). if b then Some (standing_of f a) else bound_to fs actuals name) e
-    ∙ first
-    ∙ sym (ap (λ (p : Option ℕ). option_map (standing_of_place (f ∷ fs) (a ∷ actuals)) p) (named-first f fs name e))
-  where
-    first : Some (standing_of f a) ≡ Some (standing_of_place (f ∷ fs) (a ∷ actuals) 0)
-    first = refl
-bound-by {A} f fs a actuals name false e rest =
-    ap (λ (b : Bool). if b then Some (standing_of f a) else bound_to fs actuals name) e
-    ∙ rest
-    ∙ sym (place-after f fs a actuals (formal_named fs name))
-    ∙ sym (ap (λ (p : Option ℕ). option_map (standing_of_place (f ∷ fs) (a ∷ actuals)) p) (named-following f fs name e))
+bound-by {A} f fs a actuals name true e rest = grind (arith, named-first)
+bound-by {A} f fs a actuals name false e rest = grind (arith, place-after, named-following)
 
 -- what a name stands for is what the formal at its place does
 pub bound-place : {A : Type 0} (formals : List Formal) (actuals : List (List A)) (name : List ℕ) → length formals ≤ length actuals
@@ -149,8 +128,7 @@ text-around texts x below k h = rw (not_next k (length below) h) refl
 -- what is no body
 unfoldable pub IsOpenText : OpenKind → Type 0
 IsOpenText (OpenBody id parts) = ⊥
-IsOpenText OpenActual = Unit
-IsOpenText (OpenDefault id place) = Unit
+IsOpenText _ = Unit
 
 -- a part has no tokens where it has no bytes
 pub part-empty : (text : List ℕ) (part : Part) → part.end - part.from ≡ 0 → part_tokens text part ≡ []
@@ -183,16 +161,14 @@ pub standing-text : (empty none : Bool) (formals : List Formal) (id scope parent
     → IsOpenText (standing_by empty none formals id scope parent parts place).kind
 unfolding standing_by IsOpenText
 standing-text true true formals id scope parent parts place = tt
-standing-text true false formals id scope parent parts place = tt
-standing-text false none formals id scope parent parts place = tt
+standing-text _ none formals id scope parent parts place = tt
 
 -- and its parent is the scope or one further out
 pub standing-inside : (empty none : Bool) (formals : List Formal) (id scope parent : ℕ) (parts : List Part) (place n : ℕ) → scope ≡ n → parent < n
     → (standing_by empty none formals id scope parent parts place).parent ≤ n
 unfolding standing_by
 standing-inside true true formals id scope parent parts place n e h = omega (arith, e, h)
-standing-inside true false formals id scope parent parts place n e h = omega (arith, e, h)
-standing-inside false none formals id scope parent parts place n e h = omega (arith, e, h)
+standing-inside _ none formals id scope parent parts place n e h = omega (arith, e, h)
 
 -- a part lies in its text
 pub part-inside : (text : List ℕ) (parts : List Part) (place : ℕ) → AllByRecursion (λ part. part.end ≤ length text) parts → place < length parts
@@ -212,12 +188,7 @@ further a b h = omega (arith, h)
 
 -- the place of a name is one of its list
 pub formal-place : (formals : List Formal) (name : List ℕ) (n : ℕ) → length formals ≤ n → IsPlace n (formal_named formals name)
-formal-place formals name n h =
-    by (prefix_len (λ (g : Formal). not (bytes_eq g.name name)) formals) (nat_lt (prefix_len (λ (g : Formal). not (bytes_eq g.name name)) formals) (length formals)) refl
-  where
-    by : (k : ℕ) (found : Bool) → nat_lt k (length formals) ≡ found → IsPlace n (cond found (Some k) None)
-    by k true e = let l = ltb-true k (length formals) e in omega (arith, l, h)
-    by k false e = tt
+formal-place formals name n h = grind (arith, nat_lt, ltb-true)
 
 -- a range of a text behind some of its bytes
 pub range_after : (text : List ℕ) (from end n : ℕ) → n ≤ end - from → drop n (slice_range text from end) ≡ slice_range text (from + n) end
@@ -261,9 +232,8 @@ name_token bytes = record { sort = Ordinary Name; bytes = bytes; line = 0 }
 
 -- the item that a token of an open text which is no body is, in front of others: of an actual that of its parent
 unfoldable pub text_item : Texts → OpenKind → ℕ → List Open → SourceToken → Item
-text_item texts (OpenBody id parts) parent below t = Written t
 text_item texts OpenActual parent below t = item_at texts below parent t
-text_item texts (OpenDefault id place) parent below t = Written t
+text_item texts _ parent below t = Written t
 
 -- the mark of an open text that is no body, in front of others
 unfoldable pub text_mark : Texts → List Open → Open → Item
@@ -276,16 +246,8 @@ mark-by : (texts : Texts) (part : Part) (parent : ℕ) (kind : OpenKind) (below 
     ≡ Arg (open_hide_set texts (record { part = part; parent = parent; kind = kind }) below) (packed (open_items texts (record { part = part; parent = parent; kind = kind }) below))
 unfolding IsOpenText text_mark text_item open_items open_scope own_hide_set own_item text_around
 mark-by texts part parent (OpenBody id parts) below n h = absurd n
-mark-by texts part parent OpenActual below n h =
-    let y : Open = record { part = part; parent = parent; kind = OpenActual } in
-    let ts = part_tokens (scope_text texts below parent) part in
-    ap (λ (w : List (List ℕ)). Arg w (packed (map (item_at texts below parent) ts))) (sym (hidden-around texts y below parent h))
-    ∙ ap (λ (f : SourceToken → Item). Arg (hide_set texts (y ∷ below) parent) (packed (map f ts))) (sym (item-around texts y below parent h))
-mark-by texts part parent (OpenDefault id place) below n h =
-    let y : Open = record { part = part; parent = parent; kind = OpenDefault id place } in
-    let ts = part_tokens (own_text texts (OpenDefault id place)) part in
-    ap (λ (w : List (List ℕ)). Arg w (packed (map Written ts))) (sym (hidden-own texts y below))
-    ∙ ap (λ (f : SourceToken → Item). Arg (hide_set texts (y ∷ below) (suc (length below))) (packed (map f ts))) (sym (item-own texts y below))
+mark-by texts part parent OpenActual below n h = grind (arith, hidden-around, item-around)
+mark-by texts part parent (OpenDefault id place) below n h = grind (arith, hidden-own, item-own)
 
 -- it is the mark of its items
 pub text-mark : (texts : Texts) (below : List Open) (y : Open) → IsOpenText y.kind → y.parent ≤ length below
@@ -297,10 +259,7 @@ around-by : (texts : Texts) (x : Open) (below : List Open) (part : Part) (parent
     → text_mark texts (x ∷ below) (record { part = part; parent = parent; kind = kind }) ≡ text_mark texts below (record { part = part; parent = parent; kind = kind })
 unfolding IsOpenText text_mark text_item text_around
 around-by texts x below part parent (OpenBody id parts) n h = absurd n
-around-by texts x below part parent OpenActual n h =
-    ap (λ (w : List (List ℕ)). Arg w (packed (map (item_at texts (x ∷ below) parent) (part_tokens (scope_text texts (x ∷ below) parent) part)))) (hidden-around texts x below parent h)
-    ∙ ap (λ (f : SourceToken → Item). Arg (hide_set texts below parent) (packed (map f (part_tokens (scope_text texts (x ∷ below) parent) part)))) (item-around texts x below parent h)
-    ∙ ap (λ (text : List ℕ). Arg (hide_set texts below parent) (packed (map (item_at texts below parent) (part_tokens text part)))) (text-around texts x below parent h)
+around-by texts x below part parent OpenActual n h = grind (arith, hidden-around, item-around, text-around)
 around-by texts x below part parent (OpenDefault id place) n h =
     ap (λ (w : List (List ℕ)). Arg w (packed (map Written (part_tokens (own_text texts (OpenDefault id place)) part)))) (hidden-around texts x below parent h)
 
@@ -319,13 +278,7 @@ standing-some {A = A} f y ys actual e =
 standing-part : (f : Formal) (item : SourceToken → Item) (text : List ℕ) (part : Part) → part.end ≤ length text → 0 < part.end - part.from
     → standing_of f (map item (part_tokens text part)) ≡ Given (map item (part_tokens text part))
 unfolding part_tokens
-standing-part f item text part h some =
-    let bytes = slice_range text part.from part.end in
-    let n = length-take (part.end - part.from) (drop part.from text) in
-    let d = length-drop part.from text in
-    let rest = text_tokens (token_of part.mode bytes).next_mode (drop (token_of part.mode bytes).len bytes) in
-    standing-some f (item (first_spelled part.mode bytes)) (map item rest) (map item (text_tokens part.mode bytes))
-    (ap (λ (ts : List SourceToken). map item ts) (text_step part.mode bytes (omega (arith, h, some, n, d))))
+standing-part f item text part h some = grind (arith, length-take, length-drop, standing-some, text_step)
 
 -- a formal that has no bytes stands for its default text, or for its part where it has none
 default-mark : (texts : Texts) (x : Open) (below : List Open) (id place : ℕ) (parts : List Part) (none : Bool) → x.kind ≡ OpenBody id parts → x.parent ≤ length below
@@ -337,12 +290,7 @@ unfolding standing_by text_mark text_item text_around own_text mark_of own_hide_
 default-mark texts x below id place parts true body h nothing =
     ap (λ (ts : List SourceToken). Arg (hide_set texts below x.parent) (packed (map (item_at texts below x.parent) ts))) (sym nothing)
     ∙ sym (mark-around texts x below (record { part = part_at parts place; parent = x.parent; kind = OpenActual }) tt h)
-default-mark texts x below id place parts false body h nothing =
-    let text = (formal_at (formals_of (macro_at texts.macros id)) place).text in
-    let o = hide_set texts below x.parent in
-    ap (λ (ts : List SourceToken). Arg ((macro_at texts.macros id).name ∷ o) (packed (map Written ts))) (sym (part-whole text))
-    ∙ ap (λ (w : List (List ℕ)). Arg w (packed (map Written (part_tokens text (record { from = 0; end = length text; mode = Plain })))))
-    (sym (hidden-own texts x below ∙ ap (λ (kind : OpenKind). own_hide_set texts kind o) body))
+default-mark texts x below id place parts false body h nothing = grind (arith, part-whole, hidden-own)
 
 -- a formal whose part has bytes stands for that part
 given-mark : (texts : Texts) (x : Open) (below : List Open) (id place : ℕ) (parts : List Part) (none : Bool) → x.parent ≤ length below
@@ -363,25 +311,8 @@ place-by : (texts : Texts) (x : Open) (below : List Open) (id place : ℕ) (part
     (standing_of (formal_at (formals_of (macro_at texts.macros id)) place) (map (item_at texts below x.parent) (part_tokens (scope_text texts below x.parent) (part_at parts place))))
     ≡ text_mark texts (x ∷ below) (standing_by empty none (formals_of (macro_at texts.macros id)) id (suc (length below)) x.parent parts place)
 unfolding standing_of
-place-by texts x below id place parts true none body h inside e n =
-    let part = part_at parts place in
-    let f = formal_at (formals_of (macro_at texts.macros id)) place in
-    let name = (macro_at texts.macros id).name in
-    let o = hide_set texts below x.parent in
-    let nothing : part_tokens (scope_text texts below x.parent) part ≡ [] = part-empty (scope_text texts below x.parent) part (eqb-true (part.end - part.from) 0 e) in
-    ap (λ (ts : List SourceToken). mark_of name o (standing_of f (map (item_at texts below x.parent) ts))) nothing
-    ∙ ap (λ (b : Bool). mark_of name o (if b then Given [] else Defaulted f.text)) n
-    ∙ default-mark texts x below id place parts none body h nothing
-place-by texts x below id place parts false none body h inside e n =
-    let part = part_at parts place in
-    let f = formal_at (formals_of (macro_at texts.macros id)) place in
-    ap (λ (s : Standing Item). mark_of (macro_at texts.macros id).name (hide_set texts below x.parent) s)
-    (standing-part f (item_at texts below x.parent) (scope_text texts below x.parent) part inside (positive (part.end - part.from) e))
-    ∙ given-mark texts x below id place parts none h
-  where
-    positive : (n : ℕ) → (n == 0) ≡ false → 0 < n
-    positive zero e = absurd (true≢false e)
-    positive (suc n) e = omega arith
+place-by texts x below id place parts true none body h inside e n = grind (arith, part-empty, eqb-true, default-mark)
+place-by texts x below id place parts false none body h inside e n = grind (arith, standing-part, given-mark, true≢false)
 
 -- an item is the mark of an open text, which is no body and whose parent is a scope around it
 pub record IsMarkOf (texts : Texts) (opens : List Open) (y : Open) (item : Item) : Type 0 where
@@ -402,15 +333,7 @@ place-stands : (texts : Texts) (x : Open) (below : List Open) (id place : ℕ) (
     (mark_of (macro_at texts.macros id).name (hide_set texts below x.parent)
     (standing_of (formal_at (formals_of (macro_at texts.macros id)) place) (map (item_at texts below x.parent) (part_tokens (scope_text texts below x.parent) (part_at parts place)))))
 unfolding open_standing standing_by
-place-stands texts x below id place parts body h inside =
-    let formals = formals_of (macro_at texts.macros id) in
-    let empty : Bool = (part_at parts place).end - (part_at parts place).from == 0 in
-    let none : Bool = length (formal_at formals place).text == 0 in
-    record {
-      mark = place-by texts x below id place parts empty none body h inside refl refl;
-      text = standing-text empty none formals id (suc (length below)) x.parent parts place;
-      inside = standing-inside empty none formals id (suc (length below)) x.parent parts place (suc (length below)) refl (further x.parent (length below) h);
-    }
+place-stands texts x below id place parts body h inside = grind (arith, place-by, standing-text, standing-inside, further)
 
 -- the item of a name in a body, by the place of the formal that it is
 body-stands : (texts : Texts) (part : Part) (parent : ℕ) (below : List Open) (id : ℕ) (parts : List Part) (t : SourceToken) (place : Option ℕ) → parent ≤ length below
@@ -441,17 +364,7 @@ own-stands : (texts : Texts) (part : Part) (parent : ℕ) (kind : OpenKind) (bel
     (formal_named (kind_formals texts.macros kind) bytes) (name_token bytes)
     (own_item texts kind (scope_text texts below parent) (item_at texts below parent) (hide_set texts below parent) (name_token bytes))
 unfolding own_item marked StandsFor
-own-stands texts part parent (OpenBody id parts) below bytes h has =
-    let x : Open = record { part = part; parent = parent; kind = OpenBody id parts } in
-    let m = macro_at texts.macros id in
-    let place = formal_named (formals_of m) bytes in
-    let actuals = part_items (item_at texts below parent) (scope_text texts below parent) parts in
-    let many : length (formals_of m) ≤ length actuals =
-    let l = length-map parts (λ (part : Part). map (item_at texts below parent) (part_tokens (scope_text texts below parent) part)) in
-    let k : length (formals_of m) ≤ length parts = has.0 in omega (arith, l, k) in
-    subst (λ (o : Option (Standing Item)). StandsFor texts (x ∷ below) (Some x) (suc (length below)) place (name_token bytes) (mark_or m.name (hide_set texts below parent) (name_token bytes) o))
-    (sym (bound-place (formals_of m) actuals bytes many))
-    (body-stands texts part parent below id parts (name_token bytes) place h has.1 (formal-place (formals_of m) bytes (length parts) has.0))
+own-stands texts part parent (OpenBody id parts) below bytes h has = grind (arith, length-map, bound-place, body-stands, formal-place)
 own-stands texts part parent OpenActual below bytes h has = refl
 own-stands texts part parent (OpenDefault id place) below bytes h has = refl
 
@@ -477,10 +390,7 @@ stands-by : (texts : Texts) (x : Open) (below : List Open) (k : ℕ) (bytes : Li
     (if own
     then own_item texts x.kind (scope_text texts below x.parent) (item_at texts below x.parent) (hide_set texts below x.parent) (name_token bytes)
     else item_at texts below k (name_token bytes))
-stands-by texts x below k bytes true e h has rest =
-    subst (λ (n : ℕ). StandsFor texts (x ∷ below) (Some x) n (formal_named (kind_formals texts.macros x.kind) bytes) (name_token bytes)
-    (own_item texts x.kind (scope_text texts below x.parent) (item_at texts below x.parent) (hide_set texts below x.parent) (name_token bytes)))
-    (sym (eqb-true k (suc (length below)) e)) (own-stands texts x.part x.parent x.kind below bytes h has)
+stands-by texts x below k bytes true e h has rest = grind (arith, eqb-true, own-stands)
 stands-by texts x below k bytes false e h has rest =
     stands-around texts x below (scope_open below k) k (formal_named (scope_formals texts.macros below k) bytes) (name_token bytes) (item_at texts below k (name_token bytes)) rest
 
@@ -506,8 +416,4 @@ standing-found macros (Some x) k place name e = by x.kind e
 -- an open text has its formals behind some of its bytes
 pub following-formals : (macros : List Macro) (x : Open) (below : List Open) (k n : ℕ) (mode : Mode) → scope_formals macros (open_after x n mode ∷ below) k ≡ scope_formals macros (x ∷ below) k
 unfolding scope_open open_after
-following-formals macros x below k n mode = by (k == suc (length below))
-  where
-    by : (own : Bool) → found_formals macros (if own then Some (open_after x n mode) else scope_open below k) ≡ found_formals macros (if own then Some x else scope_open below k)
-    by true = refl
-    by false = refl
+following-formals macros x below k n mode = grind arith

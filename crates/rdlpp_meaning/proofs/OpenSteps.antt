@@ -1,5 +1,5 @@
 -- The steps of open texts, and those at a usage.
-use Rattle.std.proofs.Common.{◌≡◌, ℕ, suc, ◌-◌, ◌<◌, ◌≤◌, Bool, true, false, List, [], ◌∷◌, map, length, drop, refl, sym, ap, subst, ◌∙◌, arith, Option, Some, ◌+◌, None, if◌then◌else◌, slice_range, ◌==◌, length-take}
+use Rattle.std.proofs.Common.{◌≡◌, ℕ, suc, ◌-◌, ◌<◌, ◌≤◌, Bool, true, false, List, [], ◌∷◌, map, length, drop, refl, sym, ap, subst, ◌∙◌, arith, Option, Some, None, if◌then◌else◌, slice_range, length-take}
 use Rattle.std.proofs.lemmas.List.{drop-map}
 use Rattle.rdlpp_scan.specs.SourceTokens.{Broken, Definition, Ordinary, Renumbering, Sort, SourceToken}
 use Rattle.rdlpp_scan.specs.Tokens.{token_of}
@@ -14,7 +14,7 @@ use Rattle.rdlpp_meaning.specs.Actuals.{item_reads, item_role, item_size, kind_r
 use Rattle.rdlpp_meaning.specs.Expansion.{Opens, UsageFault, Usage, expand, is_copied, usage_of, walk}
 use Rattle.rdlpp_meaning.specs.Items.{Arg, Item, Written, listed, packed, unlined, unlined_item}
 use Rattle.rdlpp_meaning.specs.OpenItems.{item_at, open_items, open_left, open_hide_set, own_item, part_items}
-use Rattle.rdlpp_meaning.specs.Opens.{AreOpen, Open, OpenActual, OpenBody, OpenDefault, OpenKind, Part, Texts, found_standing, open_after, open_body, open_bytes, open_scope, own_text, own_hide_set, part_tokens, scope_formals, scope_open, scope_text, text_around, hide_set}
+use Rattle.rdlpp_meaning.specs.Opens.{AreOpen, Open, OpenBody, OpenKind, Part, Texts, found_standing, open_after, open_body, open_bytes, open_scope, own_text, own_hide_set, part_tokens, scope_formals, scope_open, scope_text, text_around, hide_set}
 use Rattle.rdlpp_meaning.specs.Outcome.{Outcome, and_then, fails, gives}
 use Rattle.rdlpp_meaning.specs.State.{Rules, State, fault_at}
 use Rattle.rdlpp_meaning.specs.Substitution.{Defaulted, Given, Standing, bound_to, mark_of, mark_or, marked, substituted}
@@ -42,31 +42,19 @@ first_token texts x below = record { sort = Ordinary (first_kind texts x below);
 -- the first token of an open text lies in its part
 first-inside : (text : List ℕ) (part : Part) → 0 < length (slice_range text part.from part.end)
     → (token_of part.mode (slice_range text part.from part.end)).len ≤ part.end - part.from
-first-inside text part some =
-    let t = token_of-part part.mode (slice_range text part.from part.end) some in
-    let n = length-take (part.end - part.from) (drop part.from text) in
-    omega (arith, t.inside, n)
+first-inside text part some = grind (arith, token_of-part, length-take)
 
 -- an open text of which there is a byte has the item of its first token, and then those behind it
 first-items : (texts : Texts) (x : Open) (below : List Open) → 0 < length (open_bytes texts x below)
     → open_items texts x below
     ≡ item_at texts (x ∷ below) (open_scope x below) (first_token texts x below) ∷ open_items texts (first_after texts x below) below
 unfolding open_items item_at part_tokens open_bytes open_after first_token first_kind first_bytes first_after first_spelled open_scope
-first-items texts x below some =
-    let text = text_around texts x.kind x.parent below in
-    let bytes = slice_range text x.part.from x.part.end in
-    let t = token_of x.part.mode bytes in
-    ap (λ (ts : List SourceToken). map (item_at texts (x ∷ below) (open_scope x below)) ts)
-    (text_step x.part.mode bytes some
-    ∙ ap (λ (rest : List ℕ). first_spelled x.part.mode bytes ∷ text_tokens t.next_mode rest)
-    (range_after text x.part.from x.part.end t.len (first-inside text x.part some)))
+first-items texts x below some = grind (arith, text_step, range_after, first-inside)
 
 -- an open text of which no byte is left has no item
 no-items : (texts : Texts) (x : Open) (below : List Open) → open_bytes texts x below ≡ [] → open_items texts x below ≡ []
 unfolding open_items part_tokens open_bytes
-no-items texts x below e =
-    ap (λ (bytes : List ℕ). map (item_at texts (x ∷ below) (open_scope x below)) (text_tokens x.part.mode bytes)) e
-    ∙ ap (λ (ts : List SourceToken). map (item_at texts (x ∷ below) (open_scope x below)) ts) (text_nil x.part.mode)
+no-items texts x below e = grind (arith, text_nil)
 
 -- how many texts may be open in an open text, in front of others
 abbrev pub room_in : ℕ → List Open → ℕ
@@ -78,9 +66,7 @@ pub left-walk : (rules : Rules) (s : State) (line depth : ℕ) (texts : Texts) (
     ≡ and_then (walk rules s (deeper_of rules s (room_in depth below)) (Some line) (open_hide_set texts x below) 0 (open_items texts x below))
     (open_left rules s line depth texts below)
 unfolding open_left
-left-walk rules s line depth texts x below =
-    ap (λ (o : Outcome). and_then o (open_left rules s line depth texts below))
-    (expand_walk rules s (room_in depth below) (Some line) (open_hide_set texts x below) (open_items texts x below))
+left-walk rules s line depth texts x below = grind (arith, expand_walk)
 
 -- an open text goes on behind some of its bytes in the text of the same macros
 following-hidden : (texts : Texts) (x : Open) (below : List Open) (n : ℕ) (mode : Mode) → open_hide_set texts (open_after x n mode) below ≡ open_hide_set texts x below
@@ -92,10 +78,7 @@ pub following-walk : (rules : Rules) (s : State) (line depth : ℕ) (texts : Tex
     → and_then (walk rules s (deeper_of rules s (room_in depth below)) (Some line) (open_hide_set texts x below) 0 (open_items texts (open_after x n mode) below))
     (open_left rules s line depth texts below)
     ≡ open_left rules s line depth texts (open_after x n mode ∷ below)
-following-walk rules s line depth texts x below n mode =
-    ap (λ (o : List (List ℕ)). and_then (walk rules s (deeper_of rules s (room_in depth below)) (Some line) o 0 (open_items texts (open_after x n mode) below)) (open_left rules s line depth texts below))
-    (sym (following-hidden texts x below n mode))
-    ∙ sym (left-walk rules s line depth texts (open_after x n mode) below)
+following-walk rules s line depth texts x below n mode = grind (arith, following-hidden, left-walk)
 
 -- what remains by the first token of the innermost open text
 first-walk : (rules : Rules) (s : State) (line depth : ℕ) (texts : Texts) (x : Open) (below : List Open) (item : Item) → 0 < length (open_bytes texts x below)
@@ -103,38 +86,26 @@ first-walk : (rules : Rules) (s : State) (line depth : ℕ) (texts : Texts) (x :
     → open_left rules s line depth texts (x ∷ below)
     ≡ and_then (walk rules s (deeper_of rules s (room_in depth below)) (Some line) (open_hide_set texts x below) 0 (item ∷ open_items texts (first_after texts x below) below))
     (open_left rules s line depth texts below)
-first-walk rules s line depth texts x below item some e =
-    left-walk rules s line depth texts x below
-    ∙ ap (λ (items : List Item). and_then (walk rules s (deeper_of rules s (room_in depth below)) (Some line) (open_hide_set texts x below) 0 items) (open_left rules s line depth texts below))
-    (first-items texts x below some ∙ ap (λ (i : Item). i ∷ open_items texts (first_after texts x below) below) e)
+first-walk rules s line depth texts x below item some e = grind (arith, left-walk, first-items)
 
 -- (1) an open text of which nothing is left is closed
 pub step-closes : (rules : Rules) (s : State) (line depth : ℕ) (texts : Texts) (x : Open) (below : List Open) → open_bytes texts x below ≡ []
     → open_left rules s line depth texts (x ∷ below) ≡ open_left rules s line depth texts below
 unfolding walk
-step-closes rules s line depth texts x below e =
-    left-walk rules s line depth texts x below
-    ∙ ap (λ (items : List Item). and_then (walk rules s (deeper_of rules s (room_in depth below)) (Some line) (open_hide_set texts x below) 0 items) (open_left rules s line depth texts below))
-    (no-items texts x below e)
-    ∙ and_then-gives_nil (open_left rules s line depth texts below)
+step-closes rules s line depth texts x below e = grind (arith, left-walk, no-items, and_then-gives_nil)
 
 -- a text that is opened remains in front of the others, where there is room
 pub opens-room : (rules : Rules) (s : State) (line depth : ℕ) (texts : Texts) (new : Open) (opens : List Open) → length opens < depth
     → and_then (deeper_of rules s (depth - length opens) line (open_hide_set texts new opens) (open_items texts new opens)) (open_left rules s line depth texts opens)
     ≡ open_left rules s line depth texts (new ∷ opens)
 unfolding deeper_of open_left
-opens-room rules s line depth texts new opens h =
-    let r : depth - length opens ≡ suc (depth - suc (length opens)) = omega (arith, h) in
-    ap (λ (n : ℕ). and_then (deeper_of rules s n line (open_hide_set texts new opens) (open_items texts new opens)) (open_left rules s line depth texts opens)) r
+opens-room rules s line depth texts new opens h = grind arith
 
 -- and is a fault where there is none
 pub opens-deep : (rules : Rules) (s : State) (line depth : ℕ) (o : List (List ℕ)) (items : List Item) (n : ℕ) (rest : Outcome) → depth ≤ n
     → and_then (deeper_of rules s (depth - n) line o items) rest ≡ fails (fault_at DepthPassed line [] s)
 unfolding deeper_of
-opens-deep rules s line depth o items n rest h =
-    let r : depth - n ≡ 0 = omega (arith, h) in
-    ap (λ (k : ℕ). and_then (deeper_of rules s k line o items) rest) r
-    ∙ and_then-fails (fault_at DepthPassed line [] s) rest
+opens-deep rules s line depth o items n rest h = grind (arith, and_then-fails)
 
 -- the item of a formal's name is the mark of what it stands for
 formal-item : (texts : Texts) (opens : List Open) (k : ℕ) (t : SourceToken) (bytes : List ℕ) (place : ℕ) (new : Open) → AreOpen texts opens
@@ -151,8 +122,7 @@ same-by : (texts : Texts) (x : Open) (below : List Open) (n : ℕ) (mode : Mode)
     ≡ Arg (open_hide_set texts (record { part = part; parent = parent; kind = kind }) (open_after x n mode ∷ below)) (packed (open_items texts (record { part = part; parent = parent; kind = kind }) (open_after x n mode ∷ below)))
 unfolding open_after open_items item_at open_scope hide_set text_around scope_text
 same-by texts x below n mode part parent (OpenBody id parts) = refl
-same-by texts x below n mode part parent OpenActual = refl
-same-by texts x below n mode part parent (OpenDefault id place) = refl
+same-by texts x below n mode part parent _ = refl
 
 -- an open text is opened in the same way in front of another one behind some of its bytes
 following-mark : (texts : Texts) (x : Open) (below : List Open) (n : ℕ) (mode : Mode) (new : Open)
@@ -219,8 +189,7 @@ plain-own : (texts : Texts) (kind : OpenKind) (text : List ℕ) (item : SourceTo
 unfolding own_item
 plain-own texts (OpenBody id parts) text item o t e =
     e (macro_at texts.macros id).name (formals_of (macro_at texts.macros id)) (part_items item text parts)
-plain-own texts OpenActual text item o t e = refl
-plain-own texts (OpenDefault id place) text item o t e = refl
+plain-own texts _ text item o t e = refl
 
 -- a choice of items that are one
 one-choice : (b : Bool) (x y z : Item) → x ≡ z → y ≡ z → (if b then x else y) ≡ z
@@ -233,12 +202,7 @@ plain-item : (texts : Texts) (opens : List Open) (k : ℕ) (t : SourceToken)
     → item_at texts opens k t ≡ Written t
 unfolding item_at
 plain-item texts [] k t e = refl
-plain-item texts (x ∷ below) k t e =
-    one-choice (k == suc (length below)) (own_item texts x.kind (scope_text texts below x.parent) (item_at texts below x.parent) (hide_set texts below x.parent) t)
-    (item_at texts below k t) (Written t)
-    (plain-own texts x.kind (scope_text texts below x.parent) (item_at texts below x.parent) (hide_set texts below x.parent) t
-    (λ macro formals actuals. e macro formals actuals (hide_set texts below x.parent)))
-    (plain-item texts below k t e)
+plain-item texts (x ∷ below) k t e = grind (arith, one-choice, plain-own, (plain-item texts below k t e))
 
 -- a token that stands for itself is as it is written, by its kind
 alone-item : (texts : Texts) (opens : List Open) (k : ℕ) (kind : Kind) (bytes : List ℕ) → AreOpen texts opens → Alone kind (formal_named (scope_formals texts.macros opens k) bytes)
@@ -304,12 +268,7 @@ pub body-items : (texts : Texts) (id : ℕ) (parts : List Part) (scope : ℕ) (o
     → open_items texts (open_body texts id parts scope) opens
     ≡ substituted (macro_at texts.macros id) (part_items (item_at texts opens scope) (scope_text texts opens scope) parts) (hide_set texts opens scope)
 unfolding open_items open_body open_scope own_item substituted text_around own_text
-body-items texts id parts scope opens =
-    let m = macro_at texts.macros id in
-    let new : Open = record { part = record { from = 0; end = length m.body; mode = Plain }; parent = scope; kind = OpenBody id parts } in
-    ap (λ (f : SourceToken → Item). map f (part_tokens m.body (record { from = 0; end = length m.body; mode = Plain }))) (item-own texts new opens)
-    ∙ ap (λ (ts : List SourceToken). map (marked m.name (formals_of m) (part_items (item_at texts opens scope) (scope_text texts opens scope) parts) (hide_set texts opens scope)) ts)
-    (part-whole m.body)
+body-items texts id parts scope opens = grind (arith, item-own, part-whole)
 
 -- and it is written in the text of its macro, and of those around its call
 pub body-hidden : (texts : Texts) (id : ℕ) (parts : List Part) (scope : ℕ) (opens : List Open)
@@ -355,9 +314,7 @@ pub left-mode : (rules : Rules) (s : State) (line depth : ℕ) (texts : Texts) (
     → text_tokens mode (open_bytes texts (open_after x n mode) below) ≡ text_tokens next (open_bytes texts (open_after x n mode) below)
     → open_left rules s line depth texts (open_after x n mode ∷ below) ≡ open_left rules s line depth texts (open_after x n next ∷ below)
 unfolding open_left open_items part_tokens open_bytes open_after item_at open_scope hide_set
-left-mode rules s line depth texts x below n mode next e =
-    ap (λ (ts : List SourceToken). and_then (expand rules s (room_in depth below) (Some line) (open_hide_set texts x below) (map (item_at texts (x ∷ below) (open_scope x below)) ts))
-    (open_left rules s line depth texts below)) e
+left-mode rules s line depth texts x below n mode next e = grind arith
 
 -- A usage in an open text, by the tokens behind its name: its fault, or the body that it opens.
 
@@ -385,8 +342,7 @@ own-role : (texts : Texts) (kind : OpenKind) (text : List ℕ) (item : SourceTok
 unfolding own_item item_role
 own-role texts (OpenBody id parts) text item o t =
     marked-role (macro_at texts.macros id).name (formals_of (macro_at texts.macros id)) (part_items item text parts) o t.sort t.bytes t.line
-own-role texts OpenActual text item o t = refl
-own-role texts (OpenDefault id place) text item o t = refl
+own-role texts _ text item o t = refl
 
 -- a choice of items with one role
 role-choice : (b : Bool) (x y : Item) (t : SourceToken) → item_role x ≡ token_role t → item_role y ≡ token_role t → item_role (if b then x else y) ≡ token_role t
@@ -397,10 +353,7 @@ role-choice false x y t e f = f
 item-role : (texts : Texts) (opens : List Open) (k : ℕ) (t : SourceToken) → item_role (item_at texts opens k t) ≡ token_role t
 unfolding item_at item_role
 item-role texts [] k t = refl
-item-role texts (x ∷ below) k t =
-    role-choice (k == suc (length below)) (own_item texts x.kind (scope_text texts below x.parent) (item_at texts below x.parent) (hide_set texts below x.parent) t)
-    (item_at texts below k t) t (own-role texts x.kind (scope_text texts below x.parent) (item_at texts below x.parent) (hide_set texts below x.parent) t)
-    (item-role texts below k t)
+item-role texts (x ∷ below) k t = grind (arith, role-choice, own-role, (item-role texts below k t))
 
 -- a mark or a token without its line, whatever it stands for
 name-unlined : (macro : List ℕ) (o : List (List ℕ)) (t : SourceToken) (standing : Option (Standing Item)) → unlined_item (mark_or macro o t standing) ≡ mark_or macro o (unlined t) standing
@@ -426,8 +379,7 @@ own-unlined : (texts : Texts) (kind : OpenKind) (text : List ℕ) (item : Source
 unfolding own_item unlined_item
 own-unlined texts (OpenBody id parts) text item o t =
     marked-unlined (macro_at texts.macros id).name (formals_of (macro_at texts.macros id)) (part_items item text parts) o t.sort t.bytes t.line
-own-unlined texts OpenActual text item o t = refl
-own-unlined texts (OpenDefault id place) text item o t = refl
+own-unlined texts _ text item o t = refl
 
 -- a choice of items without their lines
 unlined-choice : (b : Bool) (x y u v : Item) → unlined_item x ≡ u → unlined_item y ≡ v → unlined_item (if b then x else y) ≡ (if b then u else v)
@@ -438,37 +390,18 @@ unlined-choice false x y u v e f = f
 item-unlined : (texts : Texts) (opens : List Open) (k : ℕ) (t : SourceToken) → unlined_item (item_at texts opens k t) ≡ item_at texts opens k (unlined t)
 unfolding item_at unlined_item
 item-unlined texts [] k t = refl
-item-unlined texts (x ∷ below) k t =
-    let own : SourceToken → Item = own_item texts x.kind (scope_text texts below x.parent) (item_at texts below x.parent) (hide_set texts below x.parent) in
-    unlined-choice (k == suc (length below)) (own t) (item_at texts below k t) (own (unlined t)) (item_at texts below k (unlined t))
-    (own-unlined texts x.kind (scope_text texts below x.parent) (item_at texts below x.parent) (hide_set texts below x.parent) t)
-    (item-unlined texts below k t)
+item-unlined texts (x ∷ below) k t = grind (arith, unlined-choice, own-unlined, (item-unlined texts below k t))
 
 -- a token of a scope is read as its item is
 item-keeps : (texts : Texts) (opens : List Open) (k line : ℕ) → KeepsReads text_reads (item_reads (Some line)) (item_at texts opens k)
 unfolding item_size not_kept
-item-keeps texts opens k line = record {
-  keeps = record { role_of = λ t. item-role texts opens k t; size_of = λ t. refl };
-  plain = λ t. item-unlined texts opens k t;
-}
+item-keeps texts opens k line = grind (arith, item-role, item-unlined)
 
 -- the scope of an open text that goes on has the text in which that lies
 pub scope-text : (texts : Texts) (x : Open) (below : List Open) (n : ℕ) (mode : Mode) → x.parent ≤ length below
     → scope_text texts (open_after x n mode ∷ below) (open_scope x below) ≡ text_around texts x.kind x.parent below
 unfolding open_scope text_around scope_text open_after
-scope-text texts x below n mode h = by x.kind
-  where
-    part : Part
-    part = record { from = x.part.from + n; end = x.part.end; mode = mode }
-
-    own : (kind : OpenKind) → scope_text texts (record { part = part; parent = x.parent; kind = kind } ∷ below) (suc (length below)) ≡ own_text texts kind
-    own kind = rw (next_is (suc (length below))) refl
-
-    by : (kind : OpenKind) → scope_text texts (record { part = part; parent = x.parent; kind = kind } ∷ below) (elim kind [ OpenActual ↦ x.parent | _ ↦ suc (length below) ])
-        ≡ text_around texts kind x.parent below
-    by (OpenBody id parts) = own (OpenBody id parts)
-    by OpenActual = text-around texts (record { part = part; parent = x.parent; kind = OpenActual }) below x.parent h
-    by (OpenDefault id place) = own (OpenDefault id place)
+scope-text texts x below n mode h = grind (arith, next_is, text-around)
 
 -- the tokens behind the first one of an open text
 unfoldable pub tokens_after : Texts → Open → List Open → List SourceToken
@@ -508,14 +441,7 @@ usage-walks-on : (rules : Rules) (s : State) (line depth : ℕ) (texts : Texts) 
     ≡ and_then (usage_walk rules s (deeper_of rules s (room_in depth below)) (Some line) (open_hide_set texts x below) line
     (open_items texts (first_after texts x below) below) (map_usage (item_at texts (x ∷ below) (open_scope x below)) u)) (open_left rules s line depth texts below)
 unfolding first_usage
-usage-walks-on rules s line depth texts x below u some back comes =
-    let item = item_at texts (x ∷ below) (open_scope x below) in
-    let o = open_hide_set texts x below in
-    let name = drop 1 (first_bytes texts x below) in
-    usage-left rules s line depth texts x below (map_usage item u) some back
-    (ap (λ (xs : List Item). usage_of rules s (item_reads (Some line)) line o name xs) (following-items texts x below)
-    ∙ usage-map text_reads (item_reads (Some line)) item (item-keeps texts (x ∷ below) (open_scope x below) line) rules s line o name (tokens_after texts x below)
-    ∙ ap (map_usage item) comes)
+usage-walks-on rules s line depth texts x below u some back comes = grind (arith, usage-left, following-items, usage-map, item-keeps)
 
 -- (4, 5) a usage that is refused is its fault
 pub step-refused : (rules : Rules) (s : State) (line depth : ℕ) (texts : Texts) (x : Open) (below : List Open) (f : FaultKind) (word : List ℕ) (at : ℕ)
@@ -545,10 +471,7 @@ step-usage_deep rules s line depth texts x below m actuals used some back comes 
 actual-items : (texts : Texts) (x : Open) (below : List Open) (n : ℕ) (mode : Mode) (parts : List Part) → x.parent ≤ length below
     → map (map (item_at texts (x ∷ below) (open_scope x below))) (map (part_tokens (text_around texts x.kind x.parent below)) parts)
     ≡ part_items (item_at texts (open_after x n mode ∷ below) (open_scope x below)) (scope_text texts (open_after x n mode ∷ below) (open_scope x below)) parts
-actual-items texts x below n mode parts h =
-    items-parts (item_at texts (x ∷ below) (open_scope x below)) (text_around texts x.kind x.parent below) parts
-    ∙ ap (λ (text : List ℕ). part_items (item_at texts (x ∷ below) (open_scope x below)) text parts) (sym (scope-text texts x below n mode h))
-    ∙ ap (λ (f : SourceToken → Item). part_items f (scope_text texts (open_after x n mode ∷ below) (open_scope x below)) parts) (scope-items texts x below n mode)
+actual-items texts x below n mode parts h = grind (arith, items-parts, scope-text, scope-items)
 
 -- (4, 5) a usage that opens a macro of the table opens its body, with parts of the text in which its call is written as actuals, where
 -- there is room: the tokens behind its call are those of a part

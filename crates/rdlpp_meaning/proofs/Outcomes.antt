@@ -15,7 +15,7 @@ use Rattle.rdlpp_meaning.specs.Meaning.{Holds, IncludedMeaning, Passage, Progres
 use Rattle.rdlpp_meaning.specs.Outcome.{Outcome, Report, and_then, fails, gives}
 use Rattle.rdlpp_meaning.specs.Output.{opening_fault, output, start_state}
 use Rattle.rdlpp_meaning.specs.OutputLimit.{limited}
-use Rattle.rdlpp_meaning.specs.Parts.{Alone, Branch, Branching, Closing, Command, Conditional, Ended, Last, Level, More, Nothing, Opening, Part, Parts, Piece, Run, Single, Text, Upto, appended, after_end, front_parts, further_branches, in_front, level_of, level_parts, opened_before, parts_of, pieces}
+use Rattle.rdlpp_meaning.specs.Parts.{Alone, Branch, Branching, Closing, Command, Conditional, Last, Level, More, Nothing, Opening, Part, Parts, Piece, Run, Single, Text, appended, after_end, front_parts, further_branches, in_front, level_of, level_parts, opened_before, parts_of, pieces}
 use Rattle.rdlpp_meaning.specs.Resumed.{Live, Place, Skipped, remains, resume, resumed}
 use Rattle.rdlpp_meaning.specs.State.{LongPath, NoSource, Rules, Source, State}
 use Rattle.rdlpp_meaning.specs.declared.fault.FaultKind.{FaultKind}
@@ -29,13 +29,7 @@ assoc_by : (x : List ℕ) (f : Option Report) (b c : Outcome)
     ≡ and_then (record { bytes = x; fault = f }) (and_then b c)
 unfolding and_then
 assoc_by x (Some f) b c = refl
-assoc_by x None b c = by_second b.bytes b.fault
-  where
-    by_second : (y : List ℕ) (g : Option Report)
-        → and_then (and_then (record { bytes = x; fault = None }) (record { bytes = y; fault = g })) c
-        ≡ and_then (record { bytes = x; fault = None }) (and_then (record { bytes = y; fault = g }) c)
-    by_second y (Some g) = refl
-    by_second y None = ap (λ (z : List ℕ). record { bytes = z; fault = c.fault }) (append_assoc x y c.bytes)
+assoc_by x None b c = grind (arith, append_assoc)
 
 -- one outcome, a second and a third are the same however they are grouped
 pub and_then-assoc : (a b c : Outcome) → and_then (and_then a b) c ≡ and_then a (and_then b c)
@@ -96,10 +90,9 @@ and_then_by : (x : List ℕ) (f : Option Report) (y : List ℕ) (g : Option Repo
     → goes_on (leaves (and_then (record { bytes = x; fault = f }) (record { bytes = y; fault = g })) s) next
     ≡ goes_on (leaves (record { bytes = x; fault = f }) s) (λ after. goes_on (leaves (record { bytes = y; fault = g }) after) next)
 unfolding goes_on leaves after_bytes and_then
-and_then_by x (Some f) y g s next = refl
-and_then_by x None y (Some g) s next = refl
 and_then_by x None y None s next =
     ap (λ (z : List ℕ). record { bytes = z; fault = (next s).fault; after = (next s).after }) (append_assoc x y (next s).bytes)
+and_then_by x _ y g s next = refl
 
 -- two outcomes that leave a state are one and then the other
 pub leaves-and_then : (a b : Outcome) (s : State) (next : State → Passage)
@@ -122,13 +115,7 @@ passage_assoc_by : (x : List ℕ) (f : Option Report) (s : State) (g h : State �
     ≡ goes_on (record { bytes = x; fault = f; after = s }) (λ after. goes_on (g after) h)
 unfolding goes_on after_bytes
 passage_assoc_by x (Some f) s g h = refl
-passage_assoc_by x None s g h = by_second (g s).bytes (g s).fault (g s).after
-  where
-    by_second : (y : List ℕ) (k : Option Report) (t : State)
-        → goes_on (after_bytes x (record { bytes = y; fault = k; after = t })) h
-        ≡ after_bytes x (goes_on (record { bytes = y; fault = k; after = t }) h)
-    by_second y (Some k) t = refl
-    by_second y None t = ap (λ (z : List ℕ). record { bytes = z; fault = (h t).fault; after = (h t).after }) (append_assoc x y (h t).bytes)
+passage_assoc_by x None s g h = grind (arith, append_assoc)
 
 -- a passage, a second and a third are the same however they are grouped
 pub goes_on-assoc : (p : Passage) (g h : State → Passage) → goes_on (goes_on p g) h ≡ goes_on p (λ after. goes_on (g after) h)
@@ -197,26 +184,14 @@ front-cut : (over : Report) (quota rest : ℕ) (xs : List ℕ) (o : Outcome) →
     → record { bytes = take quota (and_then (gives xs) o).bytes; fault = Some over }
     ≡ and_then (gives xs) (record { bytes = take rest o.bytes; fault = Some over })
 unfolding and_then gives
-front-cut over quota rest xs o e =
-    ap (λ (bytes : List ℕ). record { bytes = bytes; fault = Some over })
-    (ap (λ (k : ℕ). take k (xs ++ o.bytes)) e ∙ take-append-add xs o.bytes rest)
+front-cut over quota rest xs o e = grind (arith, take-append-add)
 
 -- bytes in front, by whether the rest has more than is left for it
 limited-front : (over : Report) (quota : ℕ) (xs : List ℕ) (o : Outcome) (b : Bool) → length xs ≤ quota
     → nat_le (length o.bytes) (quota - length xs) ≡ b
     → limited over quota (and_then (gives xs) o) ≡ and_then (gives xs) (limited over (quota - length xs) o)
-limited-front over quota xs o true h e =
-    let k : length o.bytes ≤ quota - length xs = leb-true (length o.bytes) (quota - length xs) e in
-    let n = joined-length xs o in
-    limited-within over quota (and_then (gives xs) o) (omega (arith, h, k, n))
-    ∙ ap (and_then (gives xs)) (sym (limited-within over (quota - length xs) o k))
-limited-front over quota xs o false h e =
-    let k : quota - length xs < length o.bytes = leb-false (length o.bytes) (quota - length xs) e in
-    let n = joined-length xs o in
-    let whole : quota ≡ length xs + (quota - length xs) = omega (arith, h) in
-    limited-over over quota (and_then (gives xs) o) (omega (arith, h, k, n))
-    ∙ front-cut over quota (quota - length xs) xs o whole
-    ∙ ap (and_then (gives xs)) (sym (limited-over over (quota - length xs) o k))
+limited-front over quota xs o true h e = grind (arith, leb-true, joined-length, limited-within)
+limited-front over quota xs o false h e = grind (arith, leb-false, joined-length, limited-over, front-cut)
 
 -- bytes that fit in front leave less for the rest
 pub limited-gives : (over : Report) (quota : ℕ) (xs : List ℕ) (o : Outcome) → length xs ≤ quota
@@ -227,11 +202,7 @@ limited-gives over quota xs o h = limited-front over quota xs o (nat_le (length 
 pub limited-past : (over : Report) (quota : ℕ) (xs : List ℕ) (o : Outcome) → quota < length xs
     → limited over quota (and_then (gives xs) o) ≡ and_then (gives (take quota xs)) (fails over)
 unfolding and_then gives fails
-limited-past over quota xs o h =
-    let n = length-append xs o.bytes in
-    limited-over over quota (record { bytes = xs ++ o.bytes; fault = o.fault }) (omega (arith, h, n))
-    ∙ ap (λ (bytes : List ℕ). record { bytes = bytes; fault = Some over })
-    (take-append-le quota xs o.bytes (omega (arith, h)) ∙ sym (append-nil (take quota xs)))
+limited-past over quota xs o h = grind (arith, length-append, limited-over, take-append-le, append-nil)
 
 -- What remains of a file from any place, read off the tree of its parts: resuming is that, and at the start it is the meaning.
 
@@ -271,60 +242,39 @@ rest rules included_meaning (Skipped n o os) l s = rest_skipped rules included_m
 front-in_front : (p : Part) (l : Level) → front_parts (in_front p l) ≡ More p (front_parts l)
 unfolding front_parts in_front
 front-in_front p (Last ps) = refl
-front-in_front p (Upto ps c l) = refl
-front-in_front p (Ended ps c l) = refl
+front-in_front p _ = refl
 
 -- and changes nothing of the further branches
 branches-in_front : (p : Part) (l : Level) → further_branches (in_front p l) ≡ further_branches l
 unfolding further_branches in_front
 branches-in_front p (Last ps) = refl
-branches-in_front p (Upto ps c l) = refl
-branches-in_front p (Ended ps c l) = refl
+branches-in_front p _ = refl
 
 -- nor of what is behind the end
 following-in_front : (p : Part) (l : Level) → after_end (in_front p l) ≡ after_end l
 unfolding after_end in_front
 following-in_front p (Last ps) = refl
-following-in_front p (Upto ps c l) = refl
-following-in_front p (Ended ps c l) = refl
+following-in_front p _ = refl
 
 -- and stands in front of all parts of the level
 parts-in_front : (p : Part) (l : Level) → level_parts (in_front p l) ≡ More p (level_parts l)
 unfolding level_parts in_front appended
 parts-in_front p (Last ps) = refl
-parts-in_front p (Upto ps c l) = refl
-parts-in_front p (Ended ps c l) = refl
+parts-in_front p _ = refl
 
 -- live text: a part in front of a level means itself and then what remains
 live_in_front : (rules : Rules) (included_meaning : IncludedMeaning) (os : List Progress) (p : Part) (l : Level) (s : State)
     → rest_live rules included_meaning os (in_front p l) s ≡ goes_on (mean_part rules included_meaning p s) (λ a. rest_live rules included_meaning os l a)
 unfolding rest_live mean
 live_in_front rules included_meaning [] p l s = ap (λ (ps : Parts). mean rules included_meaning ps s) (parts-in_front p l)
-live_in_front rules included_meaning (o ∷ os) p l s =
-    rw (front-in_front p l, branches-in_front p l, following-in_front p l)
-    (goes_on-assoc (mean_part rules included_meaning p s) (λ a. mean rules included_meaning (front_parts l) a) (λ a.
-    goes_on (mean_branches rules included_meaning (further_branches l) o a) (λ b. rest_live rules included_meaning os (after_end l) b)))
+live_in_front rules included_meaning (o ∷ os) p l s = grind (arith, front-in_front, branches-in_front, following-in_front, goes_on-assoc)
 
 -- skipped text: a part in front of a level is skipped, and then what remains
 skipped_in_front : (rules : Rules) (included_meaning : IncludedMeaning) (n : ℕ) (o : Progress) (os : List Progress) (p : Part) (l : Level) (s : State)
     → rest_skipped rules included_meaning n o os (in_front p l) s ≡ goes_on (leaves (skip_part s p) s) (λ a. rest_skipped rules included_meaning n o os l a)
 unfolding rest_skipped skip
-skipped_in_front rules included_meaning zero o os p l s =
-    rw (front-in_front p l, branches-in_front p l, following-in_front p l)
-    (leaves-and_then (skip_part s p) (skip s (front_parts l)) s (λ a.
-    goes_on (mean_branches rules included_meaning (further_branches l) o a) (λ b. rest_live rules included_meaning os (after_end l) b))
-    ∙ on_leaves (skip_part s p) s
-    (λ t. goes_on (leaves (skip s (front_parts l)) t) (λ a.
-    goes_on (mean_branches rules included_meaning (further_branches l) o a) (λ b. rest_live rules included_meaning os (after_end l) b)))
-    (λ t. rest_skipped rules included_meaning zero o os l t) refl)
-skipped_in_front rules included_meaning (suc n) o os p l s =
-    rw (front-in_front p l, branches-in_front p l, following-in_front p l)
-    (leaves-and_then (skip_part s p) (skip s (front_parts l)) s (λ a.
-    goes_on (leaves (skip_branches a (further_branches l)) a) (λ b. rest_skipped rules included_meaning n o os (after_end l) b))
-    ∙ on_leaves (skip_part s p) s
-    (λ t. goes_on (leaves (skip s (front_parts l)) t) (λ a.
-    goes_on (leaves (skip_branches a (further_branches l)) a) (λ b. rest_skipped rules included_meaning n o os (after_end l) b)))
-    (λ t. rest_skipped rules included_meaning (suc n) o os l t) refl)
+skipped_in_front rules included_meaning zero o os p l s = grind (arith, front-in_front, branches-in_front, following-in_front, leaves-and_then, on_leaves)
+skipped_in_front rules included_meaning (suc n) o os p l s = grind (arith, front-in_front, branches-in_front, following-in_front, leaves-and_then, on_leaves)
 
 -- where nothing is left, an open conditional isn't closed
 skipped_nothing : (rules : Rules) (included_meaning : IncludedMeaning) (n : ℕ) (o : Progress) (os : List Progress) (s : State)
@@ -377,20 +327,7 @@ turn_rest : (rules : Rules) (included_meaning : IncludedMeaning) (o : Progress) 
     ≡ goes_on (mean_branches rules included_meaning (Branch c (front_parts (level_of ps)) (further_branches (level_of ps))) o s)
     (λ a. rest_live rules included_meaning os (after_end (level_of ps)) a)
 unfolding mean_branches Resumes rest rest_live rest_skipped
-turn_rest rules included_meaning o os c ps s r =
-    let fp = front_parts (level_of ps) in
-    let fb = further_branches (level_of ps) in
-    let next : State → Passage = λ a. rest_live rules included_meaning os (after_end (level_of ps)) a in
-    by_test-goes_on (turn o c s) c s
-    (λ t. resume rules included_meaning (Live (turned o c true ∷ os)) ps t)
-    (λ t. resume rules included_meaning (Skipped 0 (turned o c false) os) ps t)
-    (λ t. goes_on (mean rules included_meaning fp t) (λ a. mean_branches rules included_meaning fb (turned o c true) a))
-    (λ t. goes_on (leaves (skip t fp) t) (λ a. mean_branches rules included_meaning fb (turned o c false) a))
-    next
-    (r (Live (turned o c true ∷ os)) s
-    ∙ sym (goes_on-assoc (mean rules included_meaning fp s) (λ a. mean_branches rules included_meaning fb (turned o c true) a) next))
-    (r (Skipped 0 (turned o c false) os) s
-    ∙ sym (goes_on-assoc (leaves (skip s fp) s) (λ a. mean_branches rules included_meaning fb (turned o c false) a) next))
+turn_rest rules included_meaning o os c ps s r = grind (arith, by_test-goes_on, goes_on-assoc)
 
 -- skipped branches in front of what remains in skipped text
 skipped_deeper : (rules : Rules) (included_meaning : IncludedMeaning) (n : ℕ) (o : Progress) (os : List Progress) (c : Command) (l : Level) (s : State)
@@ -398,35 +335,21 @@ skipped_deeper : (rules : Rules) (included_meaning : IncludedMeaning) (n : ℕ) 
     ≡ goes_on (leaves (and_then (skipped_command c) (and_then (skip s (front_parts l)) (skip_branches s (further_branches l)))) s)
     (λ a. rest_skipped rules included_meaning n o os (after_end l) a)
 unfolding rest_skipped
-skipped_deeper rules included_meaning n o os c l s =
-    let next : State → Passage = λ a. rest_skipped rules included_meaning n o os (after_end l) a in
-    let fp = skip s (front_parts l) in
-    let fb = skip_branches s (further_branches l) in
-    on_leaves (skipped_command c) s (λ a. rest_skipped rules included_meaning (suc n) o os l a)
-    (λ a. goes_on (leaves (and_then fp fb) a) next)
-    (on_leaves fp s (λ a. goes_on (leaves (skip_branches a (further_branches l)) a) next) (λ a. goes_on (leaves fb a) next) refl
-    ∙ sym (leaves-and_then fp fb s next))
-    ∙ sym (leaves-and_then (skipped_command c) (and_then fp fb) s next)
+skipped_deeper rules included_meaning n o os c l s = grind (arith, on_leaves, leaves-and_then)
 
 -- a passage of a part in live text, and what resumes behind it
 live_step : (rules : Rules) (included_meaning : IncludedMeaning) (os : List Progress) (p : Part) (ps : List Piece) (s : State) → Resumes rules included_meaning ps
     → goes_on (mean_part rules included_meaning p s) (λ a. resume rules included_meaning (Live os) ps a)
     ≡ rest_live rules included_meaning os (in_front p (level_of ps)) s
 unfolding Resumes rest
-live_step rules included_meaning os p ps s r =
-    goes_on-same (mean_part rules included_meaning p s) (λ a. resume rules included_meaning (Live os) ps a)
-    (λ a. rest_live rules included_meaning os (level_of ps) a) (λ a. r (Live os) a)
-    ∙ sym (live_in_front rules included_meaning os p (level_of ps) s)
+live_step rules included_meaning os p ps s r = grind (arith, goes_on-same, live_in_front)
 
 -- a skipped part, and what resumes behind it
 skipped_step : (rules : Rules) (included_meaning : IncludedMeaning) (n : ℕ) (o : Progress) (os : List Progress) (p : Part) (ps : List Piece) (s : State) → Resumes rules included_meaning ps
     → goes_on (leaves (skip_part s p) s) (λ a. resume rules included_meaning (Skipped n o os) ps a)
     ≡ rest_skipped rules included_meaning n o os (in_front p (level_of ps)) s
 unfolding Resumes rest
-skipped_step rules included_meaning n o os p ps s r =
-    goes_on-same (leaves (skip_part s p) s) (λ a. resume rules included_meaning (Skipped n o os) ps a)
-    (λ a. rest_skipped rules included_meaning n o os (level_of ps) a) (λ a. r (Skipped n o os) a)
-    ∙ sym (skipped_in_front rules included_meaning n o os p (level_of ps) s)
+skipped_step rules included_meaning n o os p ps s r = grind (arith, goes_on-same, skipped_in_front)
 
 -- what resumes one conditional further in skipped text
 skipped_in : (rules : Rules) (included_meaning : IncludedMeaning) (n : ℕ) (o : Progress) (os : List Progress) (c : Command) (ps : List Piece) (s : State) → Resumes rules included_meaning ps
@@ -500,10 +423,7 @@ pub output_found : (rules : Rules) (macros : List Macro) (sources conditions : �
     ≡ and_then (gives (origin_line rules found 1))
     (remains rules (Live []) true (rules.tokens text) (start_state macros sources conditions found))
 unfolding output remains
-output_found rules macros sources conditions path found text =
-    let s = start_state macros sources conditions found in
-    outcome-after_bytes (origin_line rules found 1) (text_meaning rules s text)
-    ∙ ap (λ (p : Passage). and_then (gives (origin_line rules found 1)) (outcome p)) (resumed_start rules s text)
+output_found rules macros sources conditions path found text = grind (arith, outcome-after_bytes, resumed_start)
 
 -- the output of a main text that isn't found is its fault
 pub output_missing : (rules : Rules) (macros : List Macro) (sources conditions : ℕ) (path : List ℕ)

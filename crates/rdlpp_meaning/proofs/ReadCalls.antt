@@ -1,10 +1,10 @@
 -- Calls, strings and comments in a source that are read in parts.
-use Rattle.std.proofs.Common.{◌≡◌, ℕ, suc, ◌+◌, ◌-◌, Bool, true, false, zero, List, [], ◌∷◌, ◌++◌, length, drop, filter, cond, All, refl, sym, ap, ◌∙◌, arith, ◌&&◌, ◌==◌, eqb, slice_index, append_assoc, ltb, Some, None, Option, take, subst, map, nat_le, nat_lt, length-append}
+use Rattle.std.proofs.Common.{◌≡◌, ℕ, suc, ◌+◌, ◌-◌, Bool, true, false, List, [], ◌∷◌, ◌++◌, length, drop, filter, cond, All, refl, sym, ap, ◌∙◌, arith, ◌&&◌, ◌==◌, eqb, slice_index, append_assoc, ltb, Some, None, Option, take, subst, map, nat_le, nat_lt, length-append}
 use Rattle.std.proofs.Math.Seq.{drop-append-add}
 use Rattle.std.proofs.lemmas.Bool.{cond_both}
 use Rattle.std.proofs.lemmas.Bool.Decides.{nat_tests}
 use Rattle.std.proofs.lemmas.List.Elements.{All-cons, All-nil}
-use Rattle.rdlpp_scan.specs.Front.{Breach, Break, CommentOpen, DefineCut, DefineLong, Front, PerlFound, StringOpen, front, front_of_lines, lines_of, onto_front}
+use Rattle.rdlpp_scan.specs.Front.{Breach, Break, CommentOpen, DefineCut, DefineLong, PerlFound, StringOpen, front, front_of_lines, lines_of, onto_front}
 use Rattle.rdlpp_scan.specs.Resumed.{line_with, with_part}
 use Rattle.rdlpp_scan.specs.SourceTokens.{Broken, Course, Definition, Last, Next, Ordinary, Renumbering, Sort, SourceToken, Step, broken, comment_step, line_ends, open_end, remaining_tokens, source_end, source_step, source_tokens, string_step}
 use Rattle.rdlpp_scan.specs.Tokens.{block_token, string_token}
@@ -37,8 +37,7 @@ unfoldable TurnFacts : Role → ℕ → Turn → Type 0
 TurnFacts r k Passes = (is_kept r ≡ false) × (is_call_text r ≡ true)
 TurnFacts r k Keeps = (is_kept r ≡ true) × (is_call_text r ≡ true)
 TurnFacts r k Closes = (r ≡ End) × (k ≡ 0)
-TurnFacts r k (TurnFault f) = Unit {0}
-TurnFacts r k (Breaks f line) = Unit {0}
+TurnFacts r k _ = Unit {0}
 
 -- text that fits or not
 fitting : (r : Role) (k : ℕ) (fits : Bool) → is_kept r ≡ true → is_call_text r ≡ true → TurnFacts r k (turn_fitting fits Keeps)
@@ -55,8 +54,6 @@ breaking r k false f line = tt
 -- these facts hold
 turn_facts : (r : Role) (k : ℕ) (fits : Bool) → TurnFacts r k (turn_inside r k fits)
 unfolding TurnFacts turn_inside is_kept is_call_text
-turn_facts End zero fits = (refl, refl)
-turn_facts Dropped k fits = (refl, refl)
 turn_facts Halt k fits = tt
 turn_facts (Ends f line) k fits = breaking (Ends f line) k fits f line
 turn_facts (Stops f line) k fits = breaking (Stops f line) k fits f line
@@ -68,6 +65,7 @@ turn_facts Up k fits = fitting Up k fits refl refl
 turn_facts Down k fits = fitting Down k fits refl refl
 turn_facts Cut k fits = fitting Cut k fits refl refl
 turn_facts Text k fits = fitting Text k fits refl refl
+turn_facts _ k fits = (refl, refl)
 
 -- how a scan that closes lies in the things behind the `(`
 pub record IsClosedInside {A : Type 0} (role : A → Role) (k : ℕ) (xs kept : List A) (used : ℕ) : Type 0 where
@@ -85,9 +83,8 @@ pub record IsClosedInside {A : Type 0} (role : A → Role) (k : ℕ) (xs kept : 
 onto_closed : {A : Type 0} (front : List A) (s : Scanned A) (kept : List A) (used : ℕ) → scan_onto front s ≡ Closed kept used
     → (ks : List A) × ((n : ℕ) × ((s ≡ Closed ks n) × ((kept ≡ front ++ ks) × (used ≡ suc n))))
 unfolding scan_onto
-onto_closed front (ScanFault f) kept used e = absurd (cc)
-onto_closed front (ScanBreakFault f line) kept used e = absurd (cc)
 onto_closed front (Closed ks n) kept used e = (ks, (n, (refl, (cc, cc))))
+onto_closed front _ kept used e = absurd (cc)
 
 -- two scans that close are one in what they keep and take
 closed_kept : {A : Type 0} (ks kept : List A) (n used : ℕ) → Closed ks n ≡ Closed kept used → (ks ≡ kept) × (n ≡ used)
@@ -245,15 +242,13 @@ closed_scan role size room (x ∷ xs) kept used e =
 pub onto_kept-nil : (r : Reading) → onto_kept [] r ≡ r
 unfolding onto_kept
 onto_kept-nil (ReadRefused f) = refl
-onto_kept-nil (ReadStopped f line) = refl
-onto_kept-nil (ReadClosed bytes following) = refl
+onto_kept-nil _ = refl
 
 -- kept bytes in front of kept bytes
 pub onto_kept-append : (x y : List ℕ) (r : Reading) → onto_kept (x ++ y) r ≡ onto_kept x (onto_kept y r)
 unfolding onto_kept
-onto_kept-append x y (ReadRefused f) = refl
-onto_kept-append x y (ReadStopped f line) = refl
 onto_kept-append x y (ReadClosed bytes following) = ap (λ z. ReadClosed z following) (append_assoc x y bytes)
+onto_kept-append x y _ = refl
 
 -- a token in front of a scan, by what the scan does at it
 reading_front : (t : SourceToken) (ts : List SourceToken) (at : Turn) (s : Scanned SourceToken)
@@ -288,18 +283,14 @@ kept_in_parts : (a b : Bool) (part : List ℕ) (whole t : SourceToken) (ts : Lis
     → read_by (turn_fitting (a && b) Keeps) whole ts rest ≡ part_kept a part (read_by (turn_fitting b Keeps) t ts rest)
 unfolding turn_fitting read_by part_kept onto_kept
 kept_in_parts true true part whole t ts rest e = ap (λ z. onto_kept z rest) e ∙ onto_kept-append part t.bytes rest
-kept_in_parts true false part whole t ts rest e = refl
-kept_in_parts false true part whole t ts rest e = refl
-kept_in_parts false false part whole t ts rest e = refl
+kept_in_parts _ _ part whole t ts rest e = refl
 
 -- a broken token that is read in two parts
 broken_in_parts : (a b : Bool) (f : FaultKind) (line : ℕ) (part : List ℕ) (whole t : SourceToken) (ts : List SourceToken) (one other : Reading)
     → read_by (turn_fitting (a && b) (Breaks f line)) whole ts one ≡ part_kept a part (read_by (turn_fitting b (Breaks f line)) t ts other)
 unfolding turn_fitting read_by part_kept onto_kept
 broken_in_parts true true f line part whole t ts one other = refl
-broken_in_parts true false f line part whole t ts one other = refl
-broken_in_parts false true f line part whole t ts one other = refl
-broken_in_parts false false f line part whole t ts one other = refl
+broken_in_parts _ _ f line part whole t ts one other = refl
 
 -- a broken string and another broken token count alike behind the `(`
 either_breaks : (c : Bool) (f : FaultKind) (line k : ℕ) (fits : Bool)
@@ -336,13 +327,7 @@ kept_parts k room part whole t ts e =
 broken_parts : (f : FaultKind) (line room : ℕ) (part : List ℕ) (whole t : SourceToken) (ts : List SourceToken) (one other : Reading) → whole.bytes ≡ part ++ t.bytes
     → read_by (turn_fitting (nat_le (length whole.bytes) room) (Breaks f line)) whole ts one
     ≡ part_kept (nat_le (length part) room) part (read_by (turn_fitting (nat_le (length t.bytes) (room - length part)) (Breaks f line)) t ts other)
-broken_parts f line room part whole t ts one other e =
-    let a = length part in
-    let b = length t.bytes in
-    let size : length whole.bytes ≡ a + b = ap length e ∙ length-append part t.bytes in
-    ap (λ n. read_by (turn_fitting (nat_le n room) (Breaks f line)) whole ts one) size
-    ∙ ap (λ c. read_by (turn_fitting c (Breaks f line)) whole ts one) (fits_in_parts a b room)
-    ∙ broken_in_parts (nat_le a room) (nat_le b (room - a)) f line part whole t ts one other
+broken_parts f line room part whole t ts one other e = grind (arith, length-append, nat_le, fits_in_parts, broken_in_parts)
 
 -- behind the `(`, a string or a comment may be read in parts, by its sort: a part that fits is kept, and the rest is read with
 -- what is left of the room; one that doesn't is one byte too many
@@ -411,10 +396,7 @@ pub open_comment_before : (p : Bool) (room line own : ℕ) (part bytes : List �
     ≡ read Before true room (record { sort = Broken b; bytes = bytes; line = own } ∷ ts)
 unfolding read role_in source_role directive_of rest_role token_role with_part line_with turn turn_before read_by
 open_comment_before true room line own part bytes b ts e h = refl
-open_comment_before false room line own part bytes b ts e h =
-    let whole : SourceToken = record { sort = Broken b; bytes = part ++ bytes; line = own } in
-    ap (λ (r : Role). read_by (turn_before r) whole ts (read (call_state_after Before r) false (room_after Before room r (length (part ++ bytes))) ts))
-    (broken_role_before b (part ++ bytes) own e h)
+open_comment_before false room line own part bytes b ts e h = grind (arith, broken_role_before)
 
 -- before the `(`, a string is missing arguments at once
 pub string_before : (room line : ℕ) (bytes : List ℕ) (ts : List SourceToken)
@@ -427,10 +409,7 @@ pub open_string_before : (room line : ℕ) (bytes : List ℕ) (b : Breach) (ts :
     → is_part_breach b ≡ true → (slice_index bytes 0 == 34) ≡ true
     → read Before false room (record { sort = Broken b; bytes = bytes; line = line } ∷ ts) ≡ ReadRefused ArgumentsMissing
 unfolding read role_in source_role directive_of token_role turn turn_before read_by
-open_string_before room line bytes b ts e h =
-    let whole : SourceToken = record { sort = Broken b; bytes = bytes; line = line } in
-    ap (λ (r : Role). read_by (turn_before r) whole ts (read (call_state_after Before r) false (room_after Before room r (length bytes)) ts))
-    (broken_string_before b bytes line e h)
+open_string_before room line bytes b ts e h = grind (arith, broken_string_before)
 
 -- What remains of a source in a string or in a comment begins with the rest of it, which is whole, or broken as a string or a
 -- comment can be.
@@ -454,10 +433,7 @@ IsPartBreak (Some k) = is_part_breach k.breach ≡ true
 front_breaks : (most room : ℕ) (ls : List (List ℕ)) → IsPartBreak (front_of_lines most room ls).break
 unfolding IsPartBreak front_of_lines onto_front is_part_breach
 front_breaks most room [] = tt
-front_breaks most room (l ∷ ls) =
-    cond_both (nat_lt most (length l)) _ _ (λ (f : Front). IsPartBreak f.break) (λ _. refl) (λ _.
-    cond_both (nat_lt room (length l)) _ _ (λ (f : Front). IsPartBreak f.break) (λ _. refl) (λ _.
-    front_breaks most (room - length l) ls))
+front_breaks most room (l ∷ ls) = grind (arith, cond_both, nat_lt, (front_breaks most (room - length l) ls))
 
 -- what is open at the end of a text
 open_end-rest : (k : Kind) (c : Course) (own : Breach) (o l : ℕ) (bytes : List ℕ) → is_part_breach own ≡ true → IsPartBreak c.break → RestStep k (open_end c own o l bytes)
@@ -478,14 +454,12 @@ string_open-rest c o l n bs part =
 string_by_mode : (c : Course) (o l : ℕ) (k : Kind) (n : ℕ) (m : Mode) (bs : List ℕ) → IsPartBreak c.break → k ≡ Str → RestStep Str (string_step c o l (record { kind = k; len = n; next_mode = m }) bs)
 unfolding string_step
 string_by_mode c o l k n Plain bs part is = NextRest (take n bs) l (ap (λ (x : Kind). Next (record { sort = Ordinary x; bytes = take n bs; line = l })) is)
-string_by_mode c o l k n InStr bs part is = string_open-rest c o l n bs part
-string_by_mode c o l k n InBlock bs part is = string_open-rest c o l n bs part
+string_by_mode c o l k n _ bs part is = string_open-rest c o l n bs part
 
 comment_by_mode : (c : Course) (o l : ℕ) (k : Kind) (n : ℕ) (m : Mode) (bs : List ℕ) → IsPartBreak c.break → k ≡ BlockComment → RestStep BlockComment (comment_step c o l (record { kind = k; len = n; next_mode = m }) bs)
 unfolding comment_step is_part_breach
 comment_by_mode c o l k n Plain bs part is = NextRest (take n bs) l (ap (λ (x : Kind). Next (record { sort = Ordinary x; bytes = take n bs; line = l })) is)
-comment_by_mode c o l k n InStr bs part is = open_end-rest BlockComment c CommentOpen o l (take n bs) refl part
-comment_by_mode c o l k n InBlock bs part is = open_end-rest BlockComment c CommentOpen o l (take n bs) refl part
+comment_by_mode c o l k n _ bs part is = open_end-rest BlockComment c CommentOpen o l (take n bs) refl part
 
 -- tokens of which the first step is such a rest
 step_rest : (k : Kind) (c : Course) (m : Mode) (o l b : ℕ) (bs : List ℕ) → RestStep k (source_step c m o l (b ∷ bs)) → IsRest k (source_tokens c m o l 0 (b ∷ bs))
@@ -533,24 +507,21 @@ comment_remains most o l held room rest =
 closed_reading : (ts : List SourceToken) (s : Scanned SourceToken) (bytes : List ℕ) (following : List SourceToken) → reading_of ts s ≡ ReadClosed bytes following
     → (ks : List SourceToken) × ((used : ℕ) × ((s ≡ Closed ks used) × ((bytes_of ks ≡ bytes) × (drop used ts ≡ following))))
 unfolding reading_of
-closed_reading ts (ScanFault f) bytes following e = absurd (cc)
-closed_reading ts (ScanBreakFault f line) bytes following e = absurd (cc)
 closed_reading ts (Closed ks used) bytes following e = (ks, (used, (refl, (cc, cc))))
+closed_reading ts _ bytes following e = absurd (cc)
 
 -- a reading that is refused is a call that lacks something
 refused_reading : (ts : List SourceToken) (s : Scanned SourceToken) (f : FaultKind) → reading_of ts s ≡ ReadRefused f → call_of_scan token_role 0 s ≡ CallFault f
 unfolding reading_of call_of_scan
 refused_reading ts (ScanFault g) f e = cc
-refused_reading ts (ScanBreakFault g line) f e = absurd (cc)
-refused_reading ts (Closed ks used) f e = absurd (cc)
+refused_reading ts _ f e = absurd (cc)
 
 -- a reading that stops is a call that breaks
 stopped_reading : (ts : List SourceToken) (s : Scanned SourceToken) (f : FaultKind) (line : ℕ) → reading_of ts s ≡ ReadStopped f line
     → call_of_scan token_role 0 s ≡ CallBreakFault f line
 unfolding reading_of call_of_scan
-stopped_reading ts (ScanFault g) f line e = absurd (cc)
 stopped_reading ts (ScanBreakFault g at) f line e = cc
-stopped_reading ts (Closed ks used) f line e = absurd (cc)
+stopped_reading ts _ f line e = absurd (cc)
 
 -- where reading is refused, the call lacks that
 pub read_refused : (room : ℕ) (ts : List SourceToken) (f : FaultKind) → read Before false room ts ≡ ReadRefused f
@@ -562,9 +533,7 @@ read_refused room ts f e =
 -- where reading stops at a broken token, the call breaks there
 pub read_stopped : (room : ℕ) (ts : List SourceToken) (f : FaultKind) (line : ℕ) → read Before false room ts ≡ ReadStopped f line
     → call_of token_role kept room (leading ts) ≡ CallBreakFault f line
-read_stopped room ts f line e =
-    call_of_source kept room ts
-    ∙ stopped_reading ts (scan source_role kept Before room ts) f line (sym (read_is_scan ts Before room) ∙ e)
+read_stopped room ts f line e = grind (arith, call_of_source, stopped_reading, read_is_scan)
 
 -- a call in a source whose reading closed: the kept bytes have its parts, but for lines, a call keeps all their tokens, and behind it
 -- are the tokens behind those that it took

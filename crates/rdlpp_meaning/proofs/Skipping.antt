@@ -1,5 +1,5 @@
 -- Laws of skipped text, of the words of directives and of the LF bytes that are owed.
-use Rattle.std.proofs.Common.{◌≡◌, ℕ, Bool, List, [], ◌∷◌, refl, sym, ap, ◌∙◌, None, true, false, Option, Some, cond, length, replicate, ◌++◌, take, drop, bytes_eq, codes, if◌then◌else◌, take-append-drop}
+use Rattle.std.proofs.Common.{◌≡◌, ℕ, Bool, List, [], ◌∷◌, refl, sym, ap, ◌∙◌, None, true, false, Option, Some, length, replicate, ◌++◌, take, drop, bytes_eq, codes, if◌then◌else◌, take-append-drop, arith}
 use Rattle.std.specs.List.{list_all}
 use Rattle.std.proofs.lemmas.Bool.{and_from, and_parts}
 use Rattle.std.proofs.lemmas.List.Sums.{length-filter}
@@ -39,12 +39,7 @@ skipped_joined : (rules : Rules) (included_meaning : IncludedMeaning) (n : ℕ) 
     → resume rules included_meaning (Skipped n p os) (joined t ps) s ≡ goes_on (leaves o s) (λ after. resume rules included_meaning (Skipped n p os) ps after)
 unfolding resume joined SkipsAs
 skipped_joined rules included_meaning n p os t o [] s w = skipped_alone rules included_meaning n p os t o [] s w
-skipped_joined rules included_meaning n p os t o (Run us ∷ ps) s w =
-    ap (λ (x : Outcome). goes_on (leaves x s) (λ after. resume rules included_meaning (Skipped n p os) ps after)) (w us)
-    ∙ leaves-and_then o (skipped_run s us) s (λ after. resume rules included_meaning (Skipped n p os) ps after)
-    ∙ on_leaves o s
-    (λ after. goes_on (leaves (skipped_run s us) after) (λ last. resume rules included_meaning (Skipped n p os) ps last))
-    (λ after. resume rules included_meaning (Skipped n p os) (Run us ∷ ps) after) refl
+skipped_joined rules included_meaning n p os t o (Run us ∷ ps) s w = grind (arith, leaves-and_then, on_leaves)
 skipped_joined rules included_meaning n p os t o (Single c ∷ ps) s w = skipped_alone rules included_meaning n p os t o (Single c ∷ ps) s w
 skipped_joined rules included_meaning n p os t o (Opening c ∷ ps) s w = skipped_alone rules included_meaning n p os t o (Opening c ∷ ps) s w
 skipped_joined rules included_meaning n p os t o (Branching c ∷ ps) s w = skipped_alone rules included_meaning n p os t o (Branching c ∷ ps) s w
@@ -75,10 +70,7 @@ pub broken_skips : (s : State) (b : Breach) (bytes : List ℕ) (line : ℕ)
     → SkipsAs s (record { sort = Broken b; bytes = bytes; line = line })
     (and_then (gives (line_ends_of bytes)) (fails (fault_at (breach_kind b) line [] s)))
 unfolding SkipsAs skipped_run
-broken_skips s b bytes line us =
-    let f = fault_at (breach_kind b) line [] s in
-    ap (λ (x : Outcome). and_then (gives (line_ends_of bytes)) x) (sym (and_then-fails f (skipped_run s us)))
-    ∙ sym (and_then-assoc (gives (line_ends_of bytes)) (fails f) (skipped_run s us))
+broken_skips s b bytes line us = grind (arith, and_then-fails, and_then-assoc)
 
 -- at the end of a file an open conditional isn't closed, in live text
 pub live_unclosed : (rules : Rules) (o : Progress) (os : List Progress) (first : Bool) (s : State)
@@ -102,12 +94,7 @@ pub record IsWord (bytes : List ℕ) : Type 0 where
 -- where a text is a word, it is that of its directive, or else of one of the others
 word_or : (b : Bool) (bytes word : List ℕ) (own d : Directive) (others : Option Directive) → bytes_eq bytes word ≡ b
     → IsWord word → (others ≡ Some d → IsWord bytes) → (if b then Some own else others) ≡ Some d → IsWord bytes
-word_or true bytes word own d others e w rest h =
-    let same : bytes ≡ word = (bytes_eq-Decides bytes word).0 e in
-    record {
-      no_line_end = ap line_ends_of same ∙ w.no_line_end;
-      no_blanks = λ first. ap (only_blanks first) same ∙ w.no_blanks first;
-    }
+word_or true bytes word own d others e w rest h = grind (arith, bytes_eq-Decides)
 word_or false bytes word own d others e w rest h = rest h
 
 -- the words
@@ -190,12 +177,7 @@ directive_word t d e h = word_by t.sort t.bytes t.line d e h
 all_line_ends : (bytes : List ℕ) → line_ends_of bytes ≡ replicate (length (line_ends_of bytes)) 10
 unfolding line_ends_of
 all_line_ends [] = refl
-all_line_ends (b ∷ bs) =
-    let F = line_ends_of bs in
-    let P : Bool → Type 0 = λ t. is_line_end b ≡ t → cond t (b ∷ F) F ≡ replicate (length (cond t (b ∷ F) F)) 10 in
-    let at_true : P true = λ e. ap (λ (x : ℕ). x ∷ F) (line_end-ten b e) ∙ ap (λ (xs : List ℕ). 10 ∷ xs) (all_line_ends bs) in
-    let at_false : P false = λ e. all_line_ends bs in
-    elim (is_line_end b) as P [ true ↦ at_true | false ↦ at_false ] refl
+all_line_ends (b ∷ bs) = grind (arith, line_end-ten, (all_line_ends bs), (all_line_ends bs))
 
 -- there are as many as LF bytes are counted
 pub line_ends_of-length : (bytes : List ℕ) → length (line_ends_of bytes) ≡ line_ends bytes
@@ -261,9 +243,7 @@ text_skipped_by rules n p os first (Ordinary k) bytes line ts s e =
     let t : SourceToken = record { sort = Ordinary k; bytes = bytes; line = line } in
     skipped_token rules n p os first t ts s (gives (line_ends_of bytes)) (no_directive_by (directive_of t) e) (ordinary_skips s k bytes line)
     ∙ goes_on-gives (line_ends_of bytes) s (λ after. resumed rules (Skipped n p os) (only_blanks first bytes) ts after)
-text_skipped_by rules n p os first Definition bytes line ts s e = cc
-text_skipped_by rules n p os first Renumbering bytes line ts s e = cc
-text_skipped_by rules n p os first (Broken b) bytes line ts s e = cc
+text_skipped_by rules n p os first _ bytes line ts s e = cc
 
 -- such a token is skipped to its LF bytes
 pub skipped_text_token : (rules : Rules) (n : ℕ) (p : Progress) (os : List Progress) (first : Bool) (t : SourceToken) (ts : List SourceToken) (s : State)
@@ -283,14 +263,7 @@ pub passed_one : (rules : Rules) (n : ℕ) (p : Progress) (os : List Progress) (
     ≡ after_bytes (line_ends_of t.bytes) (resumed rules (Skipped n p os) (only_blanks first t.bytes) (ts ++ more) s))
     → IsPassed rules n p os ts more s → IsPassed rules n p os (t ∷ ts) more s
 unfolding IsPassed
-passed_one rules n p os t ts more s one rest first =
-    let x = t.bytes in
-    let y = bytes_of ts in
-    one first
-    ∙ ap (λ (q : Passage). after_bytes (line_ends_of x) q) (rest (only_blanks first x))
-    ∙ after_bytes-twice (line_ends_of x) (line_ends_of y) (resumed rules (Skipped n p os) (only_blanks (only_blanks first x) y) more s)
-    ∙ ap (λ (z : List ℕ). after_bytes z (resumed rules (Skipped n p os) (only_blanks (only_blanks first x) y) more s)) (sym (line_ends_of-append x y))
-    ∙ ap (λ (f : Bool). after_bytes (line_ends_of (x ++ y)) (resumed rules (Skipped n p os) f more s)) (sym (only_blanks-append first x y))
+passed_one rules n p os t ts more s one rest first = grind (arith, after_bytes-twice, line_ends_of-append, only_blanks-append)
 
 -- no tokens are passed
 pub passed_none : (rules : Rules) (n : ℕ) (p : Progress) (os : List Progress) (more : List SourceToken) (s : State) → IsPassed rules n p os [] more s
@@ -393,9 +366,7 @@ ordinary_by : (rules : Rules) (n : ℕ) (p : Progress) (os : List Progress) (fir
     → resumed rules (Skipped n p os) first (record { sort = Ordinary k; bytes = bytes; line = line } ∷ ts) s
     ≡ after_bytes (line_ends_of bytes) (resumed rules (Skipped n p os) (only_blanks first bytes) ts s)
 unfolding is_text
-ordinary_by rules n p os first k bytes line ts s None e h =
-    skipped_text_token rules n p os first (record { sort = Ordinary k; bytes = bytes; line = line }) ts s
-    (ap (λ (x : Option Directive). elim x [ None ↦ true | Some y ↦ false ]) e)
+ordinary_by rules n p os first k bytes line ts s None e h = grind (arith, skipped_text_token)
 ordinary_by rules n p os first k bytes line ts s (Some d) e h =
     skipped_directive rules n p os d first (record { sort = Ordinary k; bytes = bytes; line = line }) ts s e h
 
@@ -405,9 +376,7 @@ one_skipped_by : (rules : Rules) (n : ℕ) (p : Progress) (os : List Progress) (
     → resumed rules (Skipped n p os) first (record { sort = sort; bytes = bytes; line = line } ∷ ts) s
     ≡ after_bytes (line_ends_of bytes) (resumed rules (Skipped n p os) (only_blanks first bytes) ts s)
 unfolding is_skipped stands_by_itself directive_of
-one_skipped_by rules n p os first (Ordinary k) bytes line ts s e =
-    let t : SourceToken = record { sort = Ordinary k; bytes = bytes; line = line } in
-    ordinary_by rules n p os first k bytes line ts s (directive_of t) refl e
+one_skipped_by rules n p os first (Ordinary k) bytes line ts s e = grind (arith, ordinary_by)
 one_skipped_by rules n p os first Definition bytes line ts s e =
     skipped_directive rules n p os Define first (record { sort = Definition; bytes = bytes; line = line }) ts s refl refl
 one_skipped_by rules n p os first Renumbering bytes line ts s e =
@@ -453,13 +422,7 @@ resumed_skipped_broken rules n p os first b bytes line more s =
 pub resumed_skipped_broken_parts : (rules : Rules) (n : ℕ) (p : Progress) (os : List Progress) (first : Bool) (b : Breach) (x y : List ℕ) (line : ℕ) (more : List SourceToken) (s : State)
     → resumed rules (Skipped n p os) first (record { sort = Broken b; bytes = x ++ y; line = line } ∷ more) s
     ≡ after_bytes (line_ends_of x) (resumed rules (Skipped n p os) (only_blanks first x) (record { sort = Broken b; bytes = y; line = line } ∷ more) s)
-resumed_skipped_broken_parts rules n p os first b x y line more s =
-    let q = leaves (fails (fault_at (breach_kind b) line [] s)) s in
-    resumed_skipped_broken rules n p os first b (x ++ y) line more s
-    ∙ ap (λ (z : List ℕ). after_bytes z q) (line_ends_of-append x y)
-    ∙ sym (after_bytes-twice (line_ends_of x) (line_ends_of y) q)
-    ∙ ap (λ (r : Passage). after_bytes (line_ends_of x) r)
-    (sym (resumed_skipped_broken rules n p os (only_blanks first x) b y line more s))
+resumed_skipped_broken_parts rules n p os first b x y line more s = grind (arith, resumed_skipped_broken, line_ends_of-append, after_bytes-twice)
 
 -- an ordinary token may be read in two parts
 pub resumed_skipped_parts : (rules : Rules) (n : ℕ) (p : Progress) (os : List Progress) (first : Bool) (k : Kind) (x y : List ℕ) (line : ℕ) (more : List SourceToken) (s : State)
@@ -467,10 +430,7 @@ pub resumed_skipped_parts : (rules : Rules) (n : ℕ) (p : Progress) (os : List 
     → directive_of (record { sort = Ordinary k; bytes = y; line = line }) ≡ None
     → resumed rules (Skipped n p os) first (record { sort = Ordinary k; bytes = x ++ y; line = line } ∷ more) s
     ≡ after_bytes (line_ends_of x) (resumed rules (Skipped n p os) (only_blanks first x) (record { sort = Ordinary k; bytes = y; line = line } ∷ more) s)
-resumed_skipped_parts rules n p os first k x y line more s e f =
-    skipped_by_parts rules n p os first k x y line more s e f
-    ∙ goes_on-gives (line_ends_of x) s
-    (λ after. resumed rules (Skipped n p os) (only_blanks first x) (record { sort = Ordinary k; bytes = y; line = line } ∷ more) after)
+resumed_skipped_parts rules n p os first k x y line more s e f = grind (arith, skipped_by_parts, goes_on-gives)
 
 -- a token that would be copied is skipped, by its sort
 copied_skipped_by : (sort : Sort) (bytes : List ℕ) (line : ℕ) → is_copied (record { sort = sort; bytes = bytes; line = line }) ≡ true

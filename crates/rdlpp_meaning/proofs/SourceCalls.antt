@@ -1,5 +1,5 @@
 -- Laws of a usage in a source: with its call, by things, by tokens, and without lines.
-use Rattle.std.proofs.Common.{◌≡◌, ℕ, zero, suc, ◌≤◌, Bool, false, List, [], ◌∷◌, length, map, take, drop, refl, sym, ap, ◌∙◌, arith, Option, None, ◌++◌, reverse, true, Some, cond, filter, bytes_eq, if◌then◌else◌, nat_le, ◌==◌}
+use Rattle.std.proofs.Common.{◌≡◌, ℕ, zero, suc, ◌≤◌, Bool, false, List, [], ◌∷◌, length, map, take, drop, refl, sym, ap, ◌∙◌, arith, Option, None, ◌++◌, reverse, true, Some, cond, filter, if◌then◌else◌, nat_le, ◌==◌}
 use Rattle.std.specs.List.{list_any, prefix_len}
 use Rattle.std.proofs.lemmas.List.{drop-map, length-map, map-append, reverse-append}
 use Rattle.rdlpp_scan.specs.Reserved.{is_reserved}
@@ -10,18 +10,18 @@ use Rattle.rdlpp_scan.specs.declared.token.Kind.TheVariants.{Back}
 use Rattle.rdlpp_scan.specs.declared.token.Mode.TheVariants.{Plain}
 use Rattle.rdlpp_scan.specs.declared.token.Token.{Token}
 use Rattle.rdlpp_table.specs.Table.{Formal, Macro, macro_named}
-use Rattle.rdlpp_meaning.specs.Actuals.{Bound, CallBreakFault, Call, Cut, Halt, CallFault, Reads, Role, Text, actual_of, after_leading_space, is_space, item_reads, item_role, item_size, kept, kind_role, level_after, map_call, source_reads, text_reads, token_role, trimmed}
+use Rattle.rdlpp_meaning.specs.Actuals.{Bound, Call, Cut, Halt, Reads, Role, Text, actual_of, after_leading_space, is_space, item_reads, item_role, item_size, kept, kind_role, level_after, map_call, source_reads, text_reads, token_role, trimmed}
 use Rattle.rdlpp_meaning.specs.CallScan.{Before, Breaks, Closed, Closes, Keeps as KeepsThing, Passes, ScanFault, TurnFault as RefusesThing, Scanned, Split, CallState, ScanBreakFault, Turn, all_parts, call_of, call_of_scan, is_kept, room_after, scan, scan_onto, scanned, source_role, split, split_by, call_state_after, turn}
 use Rattle.rdlpp_meaning.specs.Expansion.{Opens, UsageFault, Usage, bound_parts, bytes_of, expand, is_count, run_outcome, usage_of, usage_of_call, usage_of_formals, usage_of_macro, usage_token, walk}
 use Rattle.rdlpp_meaning.specs.Items.{Arg, Item, Written, broken_line, unlined, unlined_item}
 use Rattle.rdlpp_meaning.specs.Meaning.{Passage, Progress, goes_on, leaves}
 use Rattle.rdlpp_meaning.specs.Outcome.{Outcome, and_then, fails}
 use Rattle.rdlpp_meaning.specs.Parts.{directive_named, directive_of, only_blanks}
-use Rattle.rdlpp_meaning.specs.Resumed.{Live, leading, resumed, trailing}
+use Rattle.rdlpp_meaning.specs.Resumed.{Live, leading, resumed}
 use Rattle.rdlpp_meaning.specs.State.{Rules, State, fault_at}
 use Rattle.rdlpp_meaning.specs.Substitution.{body_tokens, spelled, substituted}
 use Rattle.rdlpp_meaning.specs.declared.fault.FaultKind.{FaultKind}
-use Rattle.rdlpp_meaning.specs.declared.fault.FaultKind.TheVariants.{ArgumentCount, DirectiveInText, RecursiveMacro, UndefinedMacro}
+use Rattle.rdlpp_meaning.specs.declared.fault.FaultKind.TheVariants.{ArgumentCount, DirectiveInText, UndefinedMacro}
 use Rattle.rdlpp_meaning.proofs.LiveText.{deeper_of, expand_walk, leading_text, resumed_part, resumed_run, run_refused, usage_text, usage_walk, usage_walks}
 use Rattle.rdlpp_meaning.proofs.Outcomes.{fails-goes_on}
 use Rattle.rdlpp_meaning.proofs.TornCalls.{usage_within}
@@ -32,10 +32,9 @@ use Rattle.rdlpp_meaning.proofs.TornCalls.{usage_within}
 pub walk_skip : (rules : Rules) (s : State) (deeper : ℕ → List (List ℕ) → List Item → Outcome) (line_or_text : Option ℕ) (o : List (List ℕ)) (k : ℕ) (xs : List Item)
     → walk rules s deeper line_or_text o k xs ≡ walk rules s deeper line_or_text o 0 (drop k xs)
 unfolding walk
-walk_skip rules s deeper line_or_text o zero xs = refl
-walk_skip rules s deeper line_or_text o (suc k) [] = refl
 walk_skip rules s deeper line_or_text o (suc k) (Written t ∷ xs) = walk_skip rules s deeper line_or_text o k xs
 walk_skip rules s deeper line_or_text o (suc k) (Arg p g ∷ xs) = walk_skip rules s deeper line_or_text o k xs
+walk_skip rules s deeper line_or_text o _ xs = refl
 
 -- a run that begins with a usage is what the usage opens, and then the run behind its call
 run_usage : (rules : Rules) (s : State) (name : List ℕ) (line : ℕ) (us : List SourceToken) (m : Macro) (actuals : List (List Item)) (used : ℕ)
@@ -43,15 +42,7 @@ run_usage : (rules : Rules) (s : State) (name : List ℕ) (line : ℕ) (us : Lis
     → run_outcome rules s (usage_token name line ∷ us)
     ≡ and_then (deeper_of rules s rules.depth line (m.name ∷ []) (substituted m actuals [])) (run_outcome rules s (drop used us))
 unfolding run_outcome usage_walk
-run_usage rules s name line us m actuals used e =
-    let deeper = deeper_of rules s rules.depth in
-    let opened = deeper line (m.name ∷ []) (substituted m actuals []) in
-    expand_walk rules s rules.depth None [] (map Written (usage_token name line ∷ us))
-    ∙ usage_walks rules s deeper None [] (96 ∷ name) line (map Written us) (Opens m actuals used) e
-    ∙ ap (λ (x : Outcome). and_then opened x)
-    (walk_skip rules s deeper None [] used (map Written us)
-    ∙ ap (λ (xs : List Item). walk rules s deeper None [] 0 xs) (drop-map Written used us)
-    ∙ sym (expand_walk rules s rules.depth None [] (map Written (drop used us))))
+run_usage rules s name line us m actuals used e = grind (arith, expand_walk, usage_walks, walk_skip, drop-map)
 
 -- in live text, a usage that opens a macro comes to what its body expands to, and then what remains behind its call
 pub resumed_usage : (rules : Rules) (os : List Progress) (first : Bool) (name : List ℕ) (line : ℕ) (ts : List SourceToken) (s : State)
@@ -75,14 +66,7 @@ pub resumed_refused : (rules : Rules) (os : List Progress) (first : Bool) (name 
     → is_reserved name ≡ false
     → usage_of rules s (item_reads None) line [] name (map Written (leading ts)) ≡ UsageFault f word at
     → resumed rules (Live os) first (usage_token name line ∷ ts) s ≡ leaves (fails (fault_at f at word s)) s
-resumed_refused rules os first name line ts s f word at r e =
-    let t = usage_token name line in
-    let l = leading_text t ts (usage_text name line r) in
-    let further : State → Passage = λ after. resumed rules (Live os) (only_blanks first (bytes_of (leading (t ∷ ts)))) (trailing (t ∷ ts)) after in
-    resumed_run rules os first (t ∷ ts) s
-    ∙ ap (λ (x : Outcome). goes_on (leaves x s) further)
-    (ap (λ (us : List SourceToken). run_outcome rules s us) l ∙ run_refused rules s name line (leading ts) f word at e)
-    ∙ fails-goes_on (fault_at f at word s) s further
+resumed_refused rules os first name line ts s f word at r e = grind (arith, leading_text, usage_text, resumed_run, run_refused, fails-goes_on)
 
 -- The scan of a call, and its parts, commute with what keeps roles and sizes; so does trimming.
 
@@ -130,7 +114,6 @@ split_by-map : {A B : Type 0} (f : A → B) (r : Role) (k : ℕ) (x : A) (s : Sp
     ≡ record { first = map f (split_by r k x s).first; further = map (map f) (split_by r k x s).further }
 unfolding split_by
 split_by-map f Cut zero x s = refl
-split_by-map f Cut (suc k) x s = refl
 split_by-map f r k x s = refl
 
 -- the parts commute with what keeps roles
@@ -147,9 +130,8 @@ split-map {B = B} role role' f keeps k (x ∷ xs) =
 scan_call-map : {A B : Type 0} (role : A → Role) (role' : B → Role) (f : A → B) → ((x : A) → role' (f x) ≡ role x) → (k : ℕ) (s : Scanned A)
     → call_of_scan role' k (map_scan f s) ≡ map_call f (call_of_scan role k s)
 unfolding call_of_scan map_call map_scan
-scan_call-map role role' f keeps k (ScanFault e) = refl
-scan_call-map role role' f keeps k (ScanBreakFault e line) = refl
 scan_call-map role role' f keeps k (Closed kept used) = rw (split-map role role' f keeps k kept) refl
+scan_call-map role role' f keeps k _ = refl
 
 -- and so does that of one which closed
 pub closed_call-map : {A B : Type 0} (role : A → Role) (role' : B → Role) (f : A → B) → ((x : A) → role' (f x) ≡ role x) → (k : ℕ) (kept : List A) (used : ℕ)
@@ -184,9 +166,7 @@ spaces-map role role' f keeps (x ∷ xs) = rw (keeps x, spaces-map role role' f 
 after_leading_space-map : {A B : Type 0} (role : A → Role) (role' : B → Role) (f : A → B) → ((x : A) → role' (f x) ≡ role x) → (xs : List A)
     → after_leading_space role' (map f xs) ≡ map f (after_leading_space role xs)
 unfolding after_leading_space
-after_leading_space-map role role' f keeps xs =
-    ap (λ (n : ℕ). drop n (map f xs)) (spaces-map role role' f keeps xs)
-    ∙ drop-map f (prefix_len (λ x. is_space (role x)) xs) xs
+after_leading_space-map role role' f keeps xs = grind (arith, spaces-map, drop-map)
 
 -- trimming commutes with what keeps roles
 pub trimmed-map : {A B : Type 0} (role : A → Role) (role' : B → Role) (f : A → B) → ((x : A) → role' (f x) ≡ role x) → (xs : List A)
@@ -242,23 +222,19 @@ module _ {A B : Type 0} (reads : Reads A) (reads' : Reads B) (f : A → B) (k : 
   actuals-map : (parts : List (List A)) → map (actual_of reads') (map (map f) parts) ≡ map (map f) (map (actual_of reads) parts)
   unfolding actual_of
   actuals-map [] = refl
-  actuals-map (p ∷ ps) =
-      ap (λ (x : List B). trimmed reads'.role x ∷ map (actual_of reads') (map (map f) ps)) (plain-map p)
-      ∙ ap (λ (x : List B). x ∷ map (actual_of reads') (map (map f) ps)) (trimmed-map reads.role reads'.role f (k.keeps).role_of (map reads.plain p))
-      ∙ ap (λ (xs : List (List B)). map f (trimmed reads.role (map reads.plain p)) ∷ xs) (actuals-map ps)
+  actuals-map (p ∷ ps) = grind (arith, plain-map, trimmed-map, (actuals-map ps))
 
   -- a usage by its call
   call-usage : (m : Macro) (formals : List Formal) (line : ℕ) (name : List ℕ) (c : Call A)
       → usage_of_call reads' m formals line name (map_call f c) ≡ map_usage f (usage_of_call reads m formals line name c)
   unfolding usage_of_call map_call map_usage
-  call-usage m formals line name (CallFault f) = refl
-  call-usage m formals line name (CallBreakFault f own) = refl
   call-usage m formals line name (Bound first further used) =
       let parts = map (actual_of reads) (first ∷ further) in
       ap (λ (xs : List (List B)). if is_count formals xs then Opens m (bound_parts formals xs) used else UsageFault ArgumentCount name line) (actuals-map (first ∷ further))
       ∙ ap (λ (b : Bool). if b then Opens m (bound_parts formals (map (map f) parts)) used else UsageFault ArgumentCount name line) (count-parts formals f parts)
       ∙ ap (λ (xs : List (List B)). if is_count formals parts then Opens m xs used else UsageFault ArgumentCount name line) (bound-map (map f) formals parts)
       ∙ choice-usage f (is_count formals parts) (Opens m (bound_parts formals parts) used) (UsageFault ArgumentCount name line)
+  call-usage m formals line name _ = refl
 
   -- a usage by its macro's formals
   formals-usage : (rules : Rules) (line : ℕ) (name : List ℕ) (xs : List A) (m : Macro) (formals : Option (List Formal))
@@ -273,9 +249,7 @@ module _ {A B : Type 0} (reads : Reads A) (reads' : Reads B) (f : A → B) (k : 
   macro-usage : (rules : Rules) (line : ℕ) (o : List (List ℕ)) (name : List ℕ) (xs : List A) (m : Macro)
       → usage_of_macro rules reads' line o name (map f xs) m ≡ map_usage f (usage_of_macro rules reads line o name xs m)
   unfolding usage_of_macro map_usage
-  macro-usage rules line o name xs m =
-      ap (λ (u : Usage B). if list_any (bytes_eq name) o then UsageFault RecursiveMacro name line else u) (formals-usage rules line name xs m m.formals)
-      ∙ choice-usage f (list_any (bytes_eq name) o) (UsageFault RecursiveMacro name line) (usage_of_formals rules reads line name xs m m.formals)
+  macro-usage rules line o name xs m = grind (arith, formals-usage, choice-usage)
 
   -- a usage by what its name is
   found-usage : (rules : Rules) (line : ℕ) (o : List (List ℕ)) (name : List ℕ) (xs : List A) (found : Option Macro)
@@ -330,9 +304,7 @@ pub resumed_refuses : (rules : Rules) (os : List Progress) (first : Bool) (name 
     → usage_of rules s source_reads line [] name (leading ts) ≡ UsageFault f word at
     → resumed rules (Live os) first (usage_token name line ∷ ts) s ≡ leaves (fails (fault_at f at word s)) s
 unfolding map_usage
-resumed_refuses rules os first name line ts s f word at r e =
-    resumed_refused rules os first name line ts s f word at r
-    (source-usage rules s line name (leading ts) ∙ ap (map_usage Written) e)
+resumed_refuses rules os first name line ts s f word at r e = grind (arith, resumed_refused, source-usage)
 
 -- The lines of tokens that aren't broken count for nothing in a call: not for roles, parts, trimming or bytes.
 
@@ -341,9 +313,7 @@ role_by : (sort : Sort) (bytes : List ℕ) (line : ℕ)
     → token_role (record { sort = sort; bytes = bytes; line = broken_line sort line }) ≡ token_role (record { sort = sort; bytes = bytes; line = line })
 unfolding token_role broken_line
 role_by (Ordinary k) bytes line = refl
-role_by Definition bytes line = refl
-role_by Renumbering bytes line = refl
-role_by (Broken b) bytes line = refl
+role_by _ bytes line = refl
 
 -- a token without its line has its role
 pub unlined_role : (t : SourceToken) → token_role (unlined t) ≡ token_role t
@@ -360,9 +330,7 @@ unlined_bytes (t ∷ ts) = ap (λ (x : List ℕ). t.bytes ++ x) (unlined_bytes t
 unlined-spelled : (ts : List Token) (bytes : List ℕ) → map unlined (spelled ts bytes) ≡ spelled ts bytes
 unfolding spelled unlined broken_line
 unlined-spelled [] bytes = refl
-unlined-spelled (t ∷ ts) bytes =
-    let first : SourceToken = record { sort = Ordinary t.kind; bytes = take t.len bytes; line = 0 } in
-    ap (λ (us : List SourceToken). first ∷ us) (unlined-spelled ts (drop t.len bytes))
+unlined-spelled (t ∷ ts) bytes = grind (arith, (unlined-spelled ts (drop t.len bytes)))
 
 -- actuals are the parts without their lines, trimmed
 pub actuals-unlined : (parts : List (List SourceToken)) → map (actual_of text_reads) parts ≡ map (trimmed token_role) (map (map unlined) parts)

@@ -5,11 +5,11 @@ use Rattle.rdlpp_scan.specs.Front.{Breach}
 use Rattle.rdlpp_scan.specs.Reserved.{is_reserved}
 use Rattle.rdlpp_scan.specs.SourceTokens.{Broken, Definition, Ordinary, Renumbering, Sort, SourceToken}
 use Rattle.rdlpp_scan.specs.declared.token.Directive.{Directive}
-use Rattle.rdlpp_scan.specs.declared.token.Directive.TheVariants.{Define, Else, Elsif, Endif, Ifdef, Ifndef, Include, Line, Undef}
+use Rattle.rdlpp_scan.specs.declared.token.Directive.TheVariants.{Define, Else, Endif, Include, Line}
 use Rattle.rdlpp_scan.specs.declared.token.Kind.TheVariants.{Back, Blank}
 use Rattle.rdlpp_table.specs.Table.{Formal, Macro, macro_named}
 use Rattle.rdlpp_meaning.specs.Actuals.{Dropped, End, Ends, Halt, Reads, Role, Space, Stops, Text, item_role, token_role}
-use Rattle.rdlpp_meaning.specs.CallScan.{Before, Breaks, Closed, Closes, Inside, Keeps, Passes, ScanFault, TurnFault as RefusesThing, Scanned, CallState, ScanBreakFault, Turn, call_of_scan, fault_at_end, room_after, scan, scan_onto, scanned, call_state_after, turn, turn_before, turn_fitting, turn_inside}
+use Rattle.rdlpp_meaning.specs.CallScan.{Before, Closed, Closes, Inside, Keeps, Passes, ScanFault, TurnFault as RefusesThing, Scanned, CallState, ScanBreakFault, Turn, call_of_scan, fault_at_end, room_after, scan, scan_onto, scanned, call_state_after, turn, turn_before, turn_fitting, turn_inside}
 use Rattle.rdlpp_meaning.specs.Expansion.{Opens, UsageFault, Usage, usage_of, usage_of_call, usage_of_formals, usage_of_macro}
 use Rattle.rdlpp_meaning.specs.Items.{Written}
 use Rattle.rdlpp_meaning.specs.LimitLaws.{is_limit}
@@ -63,9 +63,8 @@ IsLimited (Closed kept used) = ⊥
 
 -- a scan takes at most so many things
 unfoldable TakesUpTo : {A : Type 0} → ℕ → Scanned A → Type 0
-TakesUpTo n (ScanFault f) = Unit
-TakesUpTo n (ScanBreakFault f line) = Unit
 TakesUpTo n (Closed kept used) = used ≤ n
+TakesUpTo n _ = Unit
 
 -- a scan that a limit ends, or the same, of at most so many things
 unfoldable ScanTorn : {A : Type 0} → ℕ → Scanned A → Scanned A → Type 0
@@ -87,8 +86,7 @@ unfolding ScanTorn TakesUpTo scanned
 turn-torn Passes x n c d h = onto-torn n [] c d h
 turn-torn Keeps x n c d h = onto-torn n (x ∷ []) c d h
 turn-torn Closes x n c d h = inr (refl, omega arith)
-turn-torn (RefusesThing f) x n c d h = inr (refl, tt)
-turn-torn (Breaks f line) x n c d h = inr (refl, tt)
+turn-torn _ x n c d h = inr (refl, tt)
 
 -- at a thing that doesn't fit, the scan finds that, or does the same as at one that does
 unfitting : (at : CallState) (r : Role) (more : Bool) → (turn at r false ≡ RefusesThing ArgumentBytes) ⊎ (turn at r more ≡ turn at r false)
@@ -131,9 +129,7 @@ scan-halts : {A : Type 0} (role : A → Role) (size : A → ℕ) (at : CallState
     → scan role size at room us ≡ ScanFault (fault_at_end at)
 unfolding FollowsHalt scan
 scan-halts role size at room [] h = refl
-scan-halts role size at room (u ∷ us) h =
-    ap (λ (r : Role). scanned (turn at r (nat_le (size u) room)) u (scan role size (call_state_after at r) (room_after at room r (size u)) us)) h
-    ∙ sym (halted at (nat_le (size u) room) u (scan role size (call_state_after at Halt) (room_after at room Halt (size u)) us))
+scan-halts role size at room (u ∷ us) h = grind (arith, nat_le, halted)
 
 -- a torn thing, by its role
 tear : {A : Type 0} (role : A → Role) (size : A → ℕ) (at : CallState) (most : ℕ) (r : Role) (fits : Bool) (t : A) (us : List A) (rest : Scanned A)
@@ -343,23 +339,7 @@ front-joined t (Closing c ∷ qs) = refl
 -- a directive is no run
 front-directive : (c : Command) (qs : List Piece) → run_front (piece_of c ∷ qs) ≡ []
 unfolding piece_of run_front
-front-directive c qs = by_word c.word
-  where
-    by_word : (d : Directive)
-        → run_front ((elim d [
-          | Ifdef ↦ Opening c
-          | Ifndef ↦ Opening c
-          | Elsif ↦ Branching c
-          | Else ↦ Branching c
-          | Endif ↦ Closing c
-          | _ ↦ Single c
-        ]) ∷ qs) ≡ []
-    by_word Ifdef = refl
-    by_word Ifndef = refl
-    by_word Elsif = refl
-    by_word Else = refl
-    by_word Endif = refl
-    by_word d = refl
+front-directive c qs = grind arith
 
 -- the run in front of pieces has the leading tokens, by what the first token begins
 leading-by : (first : Bool) (t : SourceToken) (ts : List SourceToken) (d : Option Directive)
@@ -428,27 +408,22 @@ IsUnbroken sort = Unit
 
 -- the first tokens, so many, aren't broken
 unfoldable pub FirstUnbroken : ℕ → List SourceToken → Type 0
-FirstUnbroken zero ts = Unit
-FirstUnbroken (suc k) [] = Unit
 FirstUnbroken (suc k) (t ∷ ts) = IsUnbroken t.sort × FirstUnbroken k ts
+FirstUnbroken _ ts = Unit
 
 -- a name in front, by what the first token is, goes by it alone
 name-alone-by : (sort : Sort) (bytes : List ℕ) (line : ℕ) (ts us : List SourceToken)
     → name_in_front (record { sort = sort; bytes = bytes; line = line } ∷ ts) ≡ name_in_front (record { sort = sort; bytes = bytes; line = line } ∷ us)
 unfolding name_in_front
 name-alone-by (Ordinary k) bytes line ts us = refl
-name-alone-by Definition bytes line ts us = refl
-name-alone-by Renumbering bytes line ts us = refl
-name-alone-by (Broken b) bytes line ts us = refl
+name-alone-by _ bytes line ts us = refl
 
 -- and so does a string
 string-alone-by : (sort : Sort) (bytes : List ℕ) (line : ℕ) (ts us : List SourceToken)
     → string_in_front (record { sort = sort; bytes = bytes; line = line } ∷ ts) ≡ string_in_front (record { sort = sort; bytes = bytes; line = line } ∷ us)
 unfolding string_in_front
 string-alone-by (Ordinary k) bytes line ts us = refl
-string-alone-by Definition bytes line ts us = refl
-string-alone-by Renumbering bytes line ts us = refl
-string-alone-by (Broken b) bytes line ts us = refl
+string-alone-by _ bytes line ts us = refl
 
 -- a broken token gives no name
 name-broken : (b : Breach) (bytes : List ℕ) (line : ℕ) (ts : List SourceToken)
@@ -477,21 +452,11 @@ record IsFront (f : List SourceToken → Argument) : Type 0 where
 
 -- names stand in front so
 name-front : IsFront name_in_front
-name-front = record {
-  alone = λ t ts us. name-alone-by t.sort t.bytes t.line ts us;
-  broken = name-broken;
-  given = λ us g. g.name;
-  past = λ us g. g.name_past;
-}
+name-front = grind (arith, name-alone-by, name-broken)
 
 -- and strings
 string-front : IsFront string_in_front
-string-front = record {
-  alone = λ t ts us. string-alone-by t.sort t.bytes t.line ts us;
-  broken = string-broken;
-  given = λ us g. g.string;
-  past = λ us g. g.string_past;
-}
+string-front = grind (arith, string-alone-by, string-broken)
 
 -- a broken token in front, by what it is
 broken-by : (f : List SourceToken → Argument) → IsFront f → (b : Breach) (sort : Sort) (bytes : List ℕ) (line : ℕ) (ts : List SourceToken)
@@ -520,9 +485,7 @@ unfolding past_blanks ends_line
 past-same f i (Ordinary Blank) bytes line ts rest r =
     ap (λ (a : Argument). after_blanks (record { sort = Ordinary Blank; bytes = bytes; line = line }) a) (front-torn f i ts rest r)
 past-same f i (Ordinary k) bytes line ts rest r = i.alone (record { sort = Ordinary k; bytes = bytes; line = line }) ts rest
-past-same f i Definition bytes line ts rest r = refl
-past-same f i Renumbering bytes line ts rest r = refl
-past-same f i (Broken b) bytes line ts rest r = refl
+past-same f i _ bytes line ts rest r = refl
 
 -- what stands behind blanks in front of torn tokens
 past-torn : (f : List SourceToken → Argument) → IsFront f → (ts us : List SourceToken) → TokensTorn false ts us → past_blanks f ts ≡ past_blanks f us
@@ -534,15 +497,12 @@ past-torn f i (t ∷ ts) us (inr (rest, e, r)) = past-same f i t.sort t.bytes t.
 -- what a directive is given is the same
 argument-torn : (d : Directive) (ts us : List SourceToken) → TokensTorn false ts us → argument_of d ts ≡ argument_of d us
 unfolding argument_of
-argument-torn Undef ts us h = past-torn name_in_front name-front ts us h
-argument-torn Ifdef ts us h = past-torn name_in_front name-front ts us h
-argument-torn Ifndef ts us h = past-torn name_in_front name-front ts us h
-argument-torn Elsif ts us h = past-torn name_in_front name-front ts us h
 argument-torn Include ts us h = past-torn string_in_front string-front ts us h
 argument-torn Define ts us h = refl
 argument-torn Else ts us h = refl
 argument-torn Endif ts us h = refl
 argument-torn Line ts us h = refl
+argument-torn _ ts us h = past-torn name_in_front name-front ts us h
 
 -- what a directive takes isn't broken
 argument-unbroken : (d : Directive) (ts : List SourceToken) → FirstUnbroken (argument_of d ts).used ts
@@ -558,12 +518,7 @@ PiecesFrom ts us = (first : Bool) (k : ℕ) → FirstUnbroken k ts → PiecesTor
 directive-torn : (first : Bool) (d : Directive) (t : SourceToken) (ts us : List SourceToken) → argument_of d ts ≡ argument_of d us → PiecesFrom ts us
     → PiecesTorn (piece_of (command_of d first t (argument_of d ts)) ∷ pieces (only_blanks first t.bytes) (argument_of d ts).used ts)
     (piece_of (command_of d first t (argument_of d us)) ∷ pieces (only_blanks first t.bytes) (argument_of d us).used us)
-directive-torn first d t ts us e r =
-    subst (λ (a : Argument). PiecesTorn (piece_of (command_of d first t (argument_of d ts)) ∷ pieces (only_blanks first t.bytes) (argument_of d ts).used ts)
-    (piece_of (command_of d first t a) ∷ pieces (only_blanks first t.bytes) a.used us)) e
-    (same-torn (piece_of (command_of d first t (argument_of d ts))) (pieces (only_blanks first t.bytes) (argument_of d ts).used ts)
-    (pieces (only_blanks first t.bytes) (argument_of d ts).used us)
-    (r (only_blanks first t.bytes) (argument_of d ts).used (argument-unbroken d ts)))
+directive-torn first d t ts us e r = grind (arith, same-torn, argument-unbroken)
 
 -- a backquoted name in front of torn tokens, by the directive that it is
 back-torn : (first : Bool) (t : SourceToken) (ts us : List SourceToken) (d : Option Directive) → TokensTorn false ts us → PiecesFrom ts us
@@ -587,14 +542,10 @@ sort-torn : (first : Bool) (sort : Sort) (bytes : List ℕ) (line : ℕ) (ts us 
 unfolding pieces directive_of ends_line FirstUnbroken argument_of
 sort-torn first (Ordinary Back) bytes line ts us h r =
     back-torn first (record { sort = Ordinary Back; bytes = bytes; line = line }) ts us (directive_named bytes) h r
-sort-torn first (Ordinary k) bytes line ts us h r =
-    joined-torn (record { sort = Ordinary k; bytes = bytes; line = line }) (pieces (only_blanks first bytes) 0 ts) (pieces (only_blanks first bytes) 0 us)
-    (r (only_blanks first bytes) 0 tt)
+sort-torn first (Ordinary k) bytes line ts us h r = grind (arith, joined-torn)
 sort-torn first Definition bytes line ts us h r = directive-torn first Define (record { sort = Definition; bytes = bytes; line = line }) ts us refl r
 sort-torn first Renumbering bytes line ts us h r = directive-torn first Line (record { sort = Renumbering; bytes = bytes; line = line }) ts us refl r
-sort-torn first (Broken b) bytes line ts us h r =
-    joined-torn (record { sort = Broken b; bytes = bytes; line = line }) (pieces (only_blanks first bytes) 0 ts) (pieces (only_blanks first bytes) 0 us)
-    (r (only_blanks first bytes) 0 tt)
+sort-torn first (Broken b) bytes line ts us h r = grind (arith, joined-torn)
 
 -- a torn token in front, by what it is
 tear-pieces : (first : Bool) (b : Breach) (sort : Sort) (bytes : List ℕ) (line : ℕ) (us : List SourceToken) → sort ≡ Broken b

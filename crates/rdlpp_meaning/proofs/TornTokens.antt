@@ -1,6 +1,6 @@
 -- The steps of a source's text, and strings and block comments that are open at its end, with smaller and with larger limits: the
 -- same, or torn by the smaller ones.
-use Rattle.std.proofs.Common.{◌≡◌, ℕ, ◌+◌, ◌<◌, ◌≤◌, ◌⊎◌, inl, inr, Bool, true, false, List, [], ◌∷◌, ◌++◌, length, take, refl, sym, ap, subst, ◌∙◌, arith, le_trans, append-nil, Option, None, Some, suc, cond, true≢false, ◌&&◌, drop, ◌||◌, if◌then◌else◌, nat_lt, ◌==◌, bytes_eq, codes, slice_index, ltb-false, le-ltb, eqb-true}
+use Rattle.std.proofs.Common.{◌≡◌, ℕ, ◌+◌, ◌<◌, ◌≤◌, ◌⊎◌, inl, inr, Bool, true, false, List, [], ◌∷◌, ◌++◌, length, take, refl, sym, ap, subst, ◌∙◌, arith, le_trans, append-nil, Option, None, Some, suc, cond, true≢false, ◌&&◌, ◌||◌, if◌then◌else◌, nat_lt, ◌==◌, bytes_eq, codes, slice_index, ltb-false, le-ltb, eqb-true}
 use Rattle.std.proofs.lemmas.Bool.{and_parts, or_right}
 use Rattle.std.proofs.Math.Seq.{take-length}
 use Rattle.std.proofs.lemmas.List.{take-append-le}
@@ -11,17 +11,17 @@ use Rattle.rdlpp_scan.proofs.TokenSteps.{logical_len-within}
 use Rattle.rdlpp_scan.proofs.SourceLaws.{logical_len-append, IsWholeLines-rest, IsWholeLines-one, line_len-append, line_len-some, line_len-le}
 use Rattle.rdlpp_meaning.specs.State.{breach_kind}
 use Rattle.rdlpp_meaning.specs.Actuals.{Role, Halt, broken_role, token_role, Ends as EndsString, Stops, kind_role}
-use Rattle.rdlpp_meaning.specs.Parts.{directive_of, no_argument, name_in_front, string_in_front, past_blanks, one_argument}
+use Rattle.rdlpp_meaning.specs.Parts.{directive_of, no_argument, name_in_front, string_in_front, past_blanks}
 use Rattle.rdlpp_meaning.specs.Resumed.{leading}
 use Rattle.rdlpp_meaning.specs.LimitLaws.{is_limit}
 use Rattle.rdlpp_meaning.proofs.TornCalls.{FollowsHalt, FollowsString, GivesNothing, IsStringRole, TornBy, ends_line}
 use Rattle.std.specs.List.{prefix_len, list_any}
 use Rattle.rdlpp_scan.specs.declared.token.Kind.{Kind}
 use Rattle.rdlpp_scan.specs.declared.token.Kind.TheVariants.{Name, Word, Back, LineEnd, Str, LineComment, BlockComment, Opener, Closer, Comma, Other, Perl, BareBackquote}
-use Rattle.rdlpp_scan.specs.declared.token.Mode.TheVariants.{Plain, InStr, InBlock}
+use Rattle.rdlpp_scan.specs.declared.token.Mode.TheVariants.{Plain}
 use Rattle.rdlpp_scan.specs.declared.token.Token.{Token}
-use Rattle.rdlpp_scan.specs.Bytes.{is_blank, is_line_end, is_letter, is_digit, is_word, is_opener, is_closer, takes_word, begins_perl, begins_line_comment, begins_block_comment, ends_block_comment}
-use Rattle.rdlpp_scan.specs.Tokens.{first_place, string_stop, whole, string_token, block_token, plain_token}
+use Rattle.rdlpp_scan.specs.Bytes.{is_blank, is_line_end, is_letter, is_digit, is_word, is_opener, is_closer, takes_word, begins_perl, begins_line_comment, begins_block_comment}
+use Rattle.rdlpp_scan.specs.Tokens.{whole, string_token, block_token, plain_token}
 use Rattle.rdlpp_scan.proofs.Seams.{line_end-ten}
 use Rattle.rdlpp_scan.specs.declared.token.Mode.{Mode}
 
@@ -56,9 +56,7 @@ Ends held more k k' = ((more ≡ []) × (k ≡ None) × (k' ≡ None)) ⊎ (IsWh
 pub ends-by : (P : List ℕ → Option Break → Option Break → Type 0) (held more : List ℕ) (k k' : Option Break) → Ends held more k k' → P held None None
     → ((j : Break) → IsWholeLines held → (j.breach ≡ LineLong) ⊎ (j.breach ≡ SourceLong) → P (held ++ more) (Some j) k') → P (held ++ more) k k'
 unfolding IsBreakOfLimit
-ends-by P held more k k' (inl h) alike limit =
-    subst (λ (x : Option Break). P (held ++ more) x k') (sym h.1) (subst (λ (x : Option Break). P (held ++ more) None x) (sym h.2)
-    (subst (λ (bs : List ℕ). P bs None None) (sym (ap (λ (m : List ℕ). held ++ m) h.0 ∙ append-nil held)) alike))
+ends-by P held more k k' (inl h) alike limit = grind (arith, append-nil)
 ends-by P held more None k' (inr h) alike limit = absurd h.1
 ends-by P held more (Some j) k' (inr h) alike limit = limit j h.0 h.1
 
@@ -70,15 +68,9 @@ IsDefineHead t = (t.sort ≡ Definition) ⊎ ((t.sort ≡ Broken DefineLong) ⊎
 define-suits-by : (sort : Sort) (bytes : List ℕ) (line : ℕ) → (sort ≡ Definition) ⊎ ((sort ≡ Broken DefineLong) ⊎ (sort ≡ Broken DefineCut))
     → Suits Halt (record { sort = sort; bytes = bytes; line = line })
 unfolding TornBy FollowsHalt leading directive_of token_role broken_role name_in_front string_in_front past_blanks no_argument
-define-suits-by sort bytes line (inl e) =
-    subst (λ (x : Sort). Suits Halt (record { sort = x; bytes = bytes; line = line })) (sym e)
-    (record { torn = λ rest. tt; nothing = λ rest. record { name = refl; string = refl; name_past = refl; string_past = refl } })
-define-suits-by sort bytes line (inr (inl e)) =
-    subst (λ (x : Sort). Suits Halt (record { sort = x; bytes = bytes; line = line })) (sym e)
-    (record { torn = λ rest. refl; nothing = λ rest. record { name = refl; string = refl; name_past = refl; string_past = refl } })
-define-suits-by sort bytes line (inr (inr e)) =
-    subst (λ (x : Sort). Suits Halt (record { sort = x; bytes = bytes; line = line })) (sym e)
-    (record { torn = λ rest. refl; nothing = λ rest. record { name = refl; string = refl; name_past = refl; string_past = refl } })
+define-suits-by sort bytes line (inl e) = grind arith
+define-suits-by sort bytes line (inr (inl e)) = grind arith
+define-suits-by sort bytes line (inr (inr e)) = grind arith
 
 -- a `define` by its break
 unfoldable break_by : Course → ℕ → List ℕ → Option Break → Step
@@ -273,21 +265,12 @@ other-short bs t e = λ f. absurd (true≢false (sym e ∙ f))
 -- a string is another token
 string-other : (from : ℕ) (bs : List ℕ) → ends_line (Ordinary (string_token from bs).kind) ≡ true
 unfolding string_token whole ends_line
-string-other from bs = by_test (from + string_stop false (drop from bs)) (slice_index bs (from + string_stop false (drop from bs)) == 34)
-  where
-    by_test : (stop : ℕ) (x : Bool) → ends_line (Ordinary (if x then whole Str (suc stop) else record { kind = Str; len = stop; next_mode = InStr }).kind) ≡ true
-    by_test stop true = refl
-    by_test stop false = refl
+string-other from bs = grind arith
 
 -- and so is a block comment
 block-other : (from : ℕ) (bs : List ℕ) → ends_line (Ordinary (block_token from bs).kind) ≡ true
 unfolding block_token whole ends_line
-block-other from bs = by_test (from + first_place ends_block_comment (drop from bs)) (nat_lt (from + first_place ends_block_comment (drop from bs)) (length bs))
-  where
-    by_test : (stop : ℕ) (x : Bool)
-        → ends_line (Ordinary (if x then whole BlockComment (stop + 2) else record { kind = BlockComment; len = stop; next_mode = InBlock }).kind) ≡ true
-    by_test stop true = refl
-    by_test stop false = refl
+block-other from bs = grind (arith, nat_lt)
 
 -- no byte is two
 not-two : (b n m : ℕ) → (b == n) ≡ true → (n ≡ m → ⊥) → b ≡ m → ⊥
@@ -408,10 +391,7 @@ IsStringHead sort bytes line =
 split-nothing : (bytes : List ℕ) (line : ℕ) (rest : List SourceToken) → list_any is_line_end bytes ≡ true
     → GivesNothing (record { sort = Ordinary Str; bytes = bytes; line = line } ∷ rest)
 unfolding name_in_front string_in_front past_blanks no_argument
-split-nothing bytes line rest e =
-    let t : SourceToken = record { sort = Ordinary Str; bytes = bytes; line = line } in
-    let given = ap (λ (x : Bool). if x then no_argument else one_argument t) e in
-    record { name = refl; string = given; name_past = refl; string_past = given }
+split-nothing bytes line rest e = grind arith
 
 -- a broken token is given to no directive
 broken-nothing : (b : Breach) (bytes : List ℕ) (line : ℕ) (rest : List SourceToken)
@@ -481,8 +461,7 @@ pub string-head : (c : Course) (opened line n : ℕ) (mode : Mode) (bytes : List
     → HeadIsString (string_step c opened line (record { kind = Str; len = n; next_mode = mode }) bytes)
 unfolding HeadIsString IsStringHead string_step step_head
 string-head c opened line n Plain bytes own q e = inl (refl, e)
-string-head c opened line n InStr bytes own q e = open-string c opened line (take n bytes) (nat_lt n (length bytes)) own q
-string-head c opened line n InBlock bytes own q e = open-string c opened line (take n bytes) (nat_lt n (length bytes)) own q
+string-head c opened line n _ bytes own q e = open-string c opened line (take n bytes) (nat_lt n (length bytes)) own q
 
 -- a comment as larger limits may have it: whole, or broken
 unfoldable pub IsCommentHead : Sort → Type 0
@@ -516,8 +495,7 @@ pub comment-head : (c : Course) (opened line n : ℕ) (mode : Mode) (bytes : Lis
     → IsCommentHead (step_head (comment_step c opened line (record { kind = BlockComment; len = n; next_mode = mode }) bytes)).sort
 unfolding IsCommentHead comment_step step_head open_end
 comment-head c opened line n Plain bytes = inl refl
-comment-head c opened line n InStr bytes = end-comment c opened line (take n bytes) c.break
-comment-head c opened line n InBlock bytes = end-comment c opened line (take n bytes) c.break
+comment-head c opened line n _ bytes = end-comment c opened line (take n bytes) c.break
 
 -- a token that such a limit tears
 tears : (held : List ℕ) (b : Breach) (own : List ℕ) (line : ℕ) (q : Bool) (s s' : Step) → (b ≡ LineLong) ⊎ (b ≡ SourceLong) → (slice_index own 0 == 34) ≡ q
