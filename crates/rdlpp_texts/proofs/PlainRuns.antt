@@ -1,6 +1,6 @@
 -- Text that is passed byte by byte: in the search for the end of a part, and up to a backquote.
-use Rattle.std.proofs.Common.{◌≡◌, ⊎_elim, ℕ, ◌<◌, ◌≤◌, ◌&&◌, ◌||◌, ◌==◌, not, nat_lt, cond, Bool, true, false, List, [], ◌∷◌, drop, length, get_or, refl, sym, ap, ◌∙◌, subst, arith, inl, inr, ◌⊎◌, zero, suc, ◌+◌, one-add, take, Option, Some, None, eqb-true, get_or-drop, get_or-take, length-drop, length-take-le}
-use Rattle.std.specs.List.{list_all, prefix_len}
+use Rattle.std.proofs.Common.{◌≡◌, ⊎_elim, ℕ, ◌<◌, ◌≤◌, ◌&&◌, ◌||◌, ◌==◌, not, nat_lt, cond, Bool, true, false, List, [], ◌∷◌, drop, length, get_or, refl, sym, ap, ◌∙◌, subst, arith, inl, inr, ◌⊎◌, is_some, zero, suc, ◌+◌, one-add, take, Option, Some, None, eqb-true, get_or-drop, get_or-take, length-drop, length-take-le}
+use Rattle.std.specs.List.{prefix_len}
 use Rattle.std.proofs.lemmas.Bool.{and_parts, both_ways, cases_Bool, cond_both, false_from_ne_true, false≢true, not-true, or_cases, or_left, or_parts}
 use Rattle.std.proofs.lemmas.List.{drop_all, drop_more}
 use Rattle.std.proofs.lemmas.List.Sums.{prefix_len-le-length}
@@ -26,7 +26,7 @@ use Rattle.rdlpp_texts.specs.CallTokens as call
 use Rattle.rdlpp_texts.specs.CallTokens.{IsFirstToken, role_meant}
 use Rattle.rdlpp_texts.specs.PlainArgumentBytes.{begins_white, byte_class, is_plain_argument, is_plain_argument_at}
 use Rattle.rdlpp_texts.specs.TextItems.{is_back, run_len}
-use Rattle.rdlpp_texts.specs.KeptTexts.{is_no_slash, keeps_each}
+use Rattle.rdlpp_texts.specs.KeptTexts.{keeps_each}
 use Rattle.rdlpp_texts.specs.declared.plain_argument.ByteClass.TheVariants.{PlainArgument, Mark, White}
 use Rattle.rdlpp_texts.specs.declared.tokens.CallRole.TheVariants as role
 use Rattle.rdlpp_texts.proofs.QuickTokens.{blank_token, comma_here, named, rest_turn, word_text}
@@ -450,21 +450,11 @@ first_kept m b bs slash =
     ap (λ (t : Token). is_kept (kind_role t.kind bytes)) (token_parts m T) ∙ kept_kind (kind_of m T) bytes (other_kind m b bs slash)
 
 -- the rest of a text without `/` has none
-rest_all : (n : ℕ) (bs : List ℕ) → list_all is_no_slash bs ≡ true → list_all is_no_slash (drop n bs) ≡ true
-rest_all zero bs e = e
-rest_all (suc n) [] e = e
-rest_all (suc n) (b ∷ bs) e = rest_all n bs (and_parts (is_no_slash b) (list_all is_no_slash bs) e).1
-
-no_slash : (b : ℕ) → is_no_slash b ≡ true → (b == 47) ≡ false
-unfolding is_no_slash
-no_slash b e = not_true (b == 47) e
-  where
-    not_true : (p : Bool) → not p ≡ true → p ≡ false
-    not_true true h = absurd (false≢true h)
-    not_true false h = refl
+rest_all : (n : ℕ) (bs : List ℕ) → IsFirstByte (is_byte 47) bs None → IsFirstByte (is_byte 47) (drop n bs) None
+rest_all n bs none k low lt here = none (n + k) (omega arith) (omega (arith, length-drop n bs)) (sym (ap (λ b. b == 47) (get_or-drop n bs k 0)) ∙ here)
 
 -- a call in such a text keeps each token
-kept_from : (n : ℕ) (m : Mode) (bs : List ℕ) → length bs ≤ n → list_all is_no_slash bs ≡ true → keeps_each (text_tokens m bs) ≡ true
+kept_from : (n : ℕ) (m : Mode) (bs : List ℕ) → length bs ≤ n → IsFirstByte (is_byte 47) bs None → keeps_each (text_tokens m bs) ≡ true
 unfolding keeps_each
 kept_from n m [] low e = ap keeps_each (text_nil m)
 kept_from zero m (b ∷ bs) low e = absurd (omega (arith, low))
@@ -476,12 +466,13 @@ kept_from (suc n) m (b ∷ bs) low e =
     let long = (token_of-part m T some).not_empty in
     let later = text_tokens t.next_mode (drop t.len T) in
     ap keeps_each (text_step m T some)
-    ∙ ap (λ (p : Bool). cond p (keeps_each later) false) (first_kept m b bs (no_slash b (and_parts (is_no_slash b) (list_all is_no_slash bs) e).0))
+    ∙ ap (λ (p : Bool). cond p (keeps_each later) false) (first_kept m b bs (false_from_ne_true (b == 47) (e 0 (omega arith) some)))
     ∙ kept_from n t.next_mode (drop t.len T) (omega (arith, size, long, low)) (rest_all t.len T e)
 
--- so the test of the bytes tells it
-pub kept_is : (text : List ℕ) (none : Bool) → none ≡ list_all is_no_slash text → none ≡ true → none ≡ keeps_each (body_tokens text)
-kept_is text none e h = h ∙ sym (ap keeps_each (body_text text) ∙ kept_from (length text) Plain text (omega arith) (sym e ∙ h))
+-- so the search for `/` tells it
+pub kept_is : (text : List ℕ) (found : Option ℕ) (none : Bool) → IsFirstByte (is_byte 47) text found → is_some found ≡ not none → none ≡ true → none ≡ keeps_each (body_tokens text)
+kept_is text None none first e h = h ∙ sym (ap keeps_each (body_text text) ∙ kept_from (length text) Plain text (omega arith) first)
+kept_is text (Some k) none first e h = absurd (false≢true (sym (ap not h) ∙ sym e))
 
 -- A text without formals is copied up to its first backquote, where no string and no comment begins before that.
 
