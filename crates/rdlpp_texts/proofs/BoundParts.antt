@@ -1,6 +1,6 @@
 -- The parts of a call that are bound to ranges of its text are its actuals.
 use Rattle.std.proofs.Common.{◌≡◌, ◌≤◌, ◌<◌, ◌⊎◌, inl, inr, ℕ, ◌+◌, ◌-◌, Bool, true, false, List, [], ◌∷◌, ◌++◌, map, length, take, drop, min, refl, sym, ap, ◌∙◌, subst, arith, append_assoc, suc, not, ◌&&◌, ◌||◌, zero, cond, filter, All, Some, None, ⊎_elim, Err, Ok, nat_lt, slice_range, ◌==◌, replicate, eqb-true, ltb-true, append-nil, drop-drop, length-drop, length-take, take-take}
-use Rattle.std.specs.List.{AllByRecursion, list_any, prefix_len}
+use Rattle.std.specs.List.{AllByRecursion, prefix_len}
 use Rattle.std.proofs.Math.Seq.{drop-append_seam}
 use Rattle.std.proofs.lemmas.Bool.{false≢true}
 use Rattle.std.proofs.lemmas.Bool.Decides.{nat_tests}
@@ -46,29 +46,17 @@ added_none old new e = ap (λ (rs : List Range). drop (length old) rs) (e ∙ sy
 
 -- none are bound at first
 pub bound_first : (closes : Bool) (text : List ℕ) (from most : ℕ) (old : List Range) → HasBound closes text from from 0 most (actuals_in closes (drop from text)) old old
-bound_first closes text from most old =
-    let none = added_none old old refl in
-    record {
-      whole = sym (ap (λ (rs : List Range). old ++ rs) none ∙ append-nil old);
-      none = λ _. refl;
-      within = subst (λ (rs : List Range). AreWithin from from rs) (sym none) tt;
-      many = omega arith;
-      tokens = λ _. sym (ap (λ (rs : List Range). ranges_tokens text rs ++ actuals_in closes (drop from text)) none);
-    }
+bound_first closes text from most old = grind (arith, added_none, append-nil)
 
 -- ranges between two places, and one more
 within_more : (from at to : ℕ) (ranges : List Range) (r : Range) → AreWithin from at ranges → at ≤ r.from → r.from ≤ r.to → r.to ≤ to → from ≤ at → AreWithin from to (ranges ++ r ∷ [])
 within_more from at to [] r h a b c low = ((omega (arith, a, low), (b, c)), tt)
-within_more from at to (x ∷ xs) r h a b c low =
-    let first = h.0 in
-    ((first.0, (first.1.0, omega (arith, first.1.1, a, b, c))), within_more from at to xs r h.1 a b c low)
+within_more from at to (x ∷ xs) r h a b c low = grind (arith, (within_more from at to xs r h.1 a b c low))
 
 -- ranges lie between places that are further apart too
 pub within_wider : (from to at end : ℕ) (ranges : List Range) → at ≤ from → to ≤ end → AreWithin from to ranges → AreWithin at end ranges
 within_wider from to at end [] low high all = tt
-within_wider from to at end (r ∷ rs) low high all =
-    let h = all.0 in
-    ((omega (arith, low, h.0), (h.1.0, omega (arith, high, h.1.1))), within_wider from to at end rs low high all.1)
+within_wider from to at end (r ∷ rs) low high all = grind (arith, (within_wider from to at end rs low high all.1))
 
 -- the tokens of ranges, and of one more
 tokens_more : (text : List ℕ) (ranges : List Range) (r : Range) → ranges_tokens text (ranges ++ r ∷ []) ≡ ranges_tokens text ranges ++ part_tokens text (range_part r) ∷ []
@@ -77,12 +65,7 @@ tokens_more text ranges r = ap (map (part_tokens text)) (map-append range_part r
 -- the tokens of a part from a place on, as those of a range of the whole text
 range_is : (text : List ℕ) (at from to : ℕ) (r : Range) → r.from ≡ at + from → r.to ≡ at + to → part_tokens text (range_part r) ≡ body_tokens (slice_range (drop at text) from to)
 unfolding part_tokens
-range_is text at from to r begins ends =
-    let size : r.to - r.from ≡ to - from = omega (arith, begins, ends) in
-    sym (body_text (slice_range text r.from r.to))
-    ∙ ap (λ (n : ℕ). body_tokens (take n (drop r.from text))) size
-    ∙ ap (λ (n : ℕ). body_tokens (take (to - from) (drop n text))) begins
-    ∙ ap (λ (x : List ℕ). body_tokens (take (to - from) x)) (sym (drop-drop from at text))
+range_is text at from to r begins ends = grind (arith, body_text, drop-drop)
 
 -- a range is added to others, or there are as many as there may be
 abbrev IsPut : ℕ → ℕ → List Range → List Range → Range → Type 0
@@ -91,31 +74,11 @@ IsPut count most new last r = ((count < most) × (last ≡ new ++ r ∷ [])) ⊎
 -- so many are added then
 pub many-more : (start before count most now : ℕ) → before ≡ start + min count most → (count < most → now ≡ before + 1) → (most ≤ count → now ≡ before)
     → now ≡ start + min (count + 1) most
-many-more start before count most now is longer same = by (nat_lt count most) refl
-  where
-    over : nat_lt count most ≡ false → most ≤ count
-    over e = grind (arith, nat_tests)
-
-    by : (b : Bool) → nat_lt count most ≡ b → now ≡ start + min (count + 1) most
-    by true e =
-        let less : count < most = ltb-true count most e in
-        let more = longer less in
-        omega (arith, is, less, more)
-    by false e =
-        let full = over e in
-        let kept = same full in
-        omega (arith, is, full, kept)
+many-more start before count most now is longer same = grind (arith, nat_lt, nat_tests, ltb-true)
 
 -- the range of a part is added, or there are as many as there may be
 put-by : (count most : ℕ) (new last : List Range) (r : Range) → (count < most → last ≡ new ++ r ∷ []) → (most ≤ count → last ≡ new) → IsPut count most new last r
-put-by count most new last r puts stays = by (nat_lt count most) refl
-  where
-    over : nat_lt count most ≡ false → most ≤ count
-    over e = grind (arith, nat_tests)
-
-    by : (b : Bool) → nat_lt count most ≡ b → IsPut count most new last r
-    by true e = inl (ltb-true count most e, puts (ltb-true count most e))
-    by false e = inr (over e, stays (over e))
+put-by count most new last r puts stays = grind (arith, nat_lt, nat_tests, ltb-true)
 
 -- the actuals that are left behind the first one
 abbrev left_of : Bool → List ℕ → List (List SourceToken)
@@ -127,47 +90,13 @@ bound_more : (closes : Bool) (text : List ℕ) (from at count most : ℕ) (old n
     → r.from ≡ at + part.from → r.to ≡ at + part.to → IsPut count most new last r
     → HasBound closes text from (at + part.to) (count + 1) most (left_of closes (drop at text)) old last
 unfolding actuals_in all_parts
-bound_more closes text from at count most old new last part r low b p begins ends (inl put) =
-    let own = trimmed token_role (parts_in closes (drop at text)).first in
-    let left = left_of closes (drop at text) in
-    let more = added old new ++ r ∷ [] in
-    let ordered = p.ordered in
-    let is : added old last ≡ more =
-    ap (λ (rs : List Range). drop (length old) rs) (put.1 ∙ ap (λ (rs : List Range). rs ++ r ∷ []) b.whole ∙ append_assoc old (added old new) (r ∷ []))
-    ∙ drop-append_seam old more in
-    let tokens : part_tokens text (range_part r) ≡ own = range_is text at part.from part.to r begins ends ∙ p.actual in
-    record {
-      whole = put.1 ∙ ap (λ (rs : List Range). rs ++ r ∷ []) b.whole ∙ append_assoc old (added old new) (r ∷ []) ∙ ap (λ (rs : List Range). old ++ rs) (sym is);
-      none = λ e. absurd (let some = put.0 in omega (arith, e, some));
-      within = subst (λ (rs : List Range). AreWithin from (at + part.to) rs) (sym is)
-          (within_more from at (at + part.to) (added old new) r b.within (omega (arith, begins)) (omega (arith, begins, ends, ordered)) (omega (arith, ends)) low);
-      many = let n = b.many in omega (arith, n);
-      tokens = λ few. b.tokens (omega (arith, few))
-          ∙ ap (λ (x : List SourceToken). ranges_tokens text (added old new) ++ x ∷ left) (sym tokens)
-          ∙ sym (append_assoc (ranges_tokens text (added old new)) (part_tokens text (range_part r) ∷ []) left)
-          ∙ ap (λ (xs : List (List SourceToken)). xs ++ left) (sym (tokens_more text (added old new) r))
-          ∙ ap (λ (rs : List Range). ranges_tokens text rs ++ left) (sym is);
-    }
-bound_more closes text from at count most old new last part r low b p begins ends (inr put) =
-    let over = put.0 in
-    record {
-      whole = put.1 ∙ b.whole ∙ ap (λ (rs : List Range). old ++ added old rs) (sym put.1);
-      none = λ e. put.1 ∙ b.none e;
-      within = subst (λ (rs : List Range). AreWithin from (at + part.to) (added old rs)) (sym put.1) (within_wider from at from (at + part.to) (added old new) (omega arith) (omega arith) b.within);
-      many = let n = b.many in omega (arith, n);
-      tokens = λ few. absurd (omega (arith, few, over));
-    }
+bound_more closes text from at count most old new last part r low b p begins ends (inl put) = grind (arith, append_assoc, drop-append_seam, range_is, within_more, tokens_more)
+bound_more closes text from at count most old new last part r low b p begins ends (inr put) = grind (arith, within_wider)
 
 -- those that are left are others, and what is read reaches further
 bound_by : (closes : Bool) (text : List ℕ) (from at to count most : ℕ) (left more : List (List SourceToken)) (old new : List Range) → left ≡ more → at ≤ to
     → HasBound closes text from at count most left old new → HasBound closes text from to count most more old new
-bound_by closes text from at to count most left more old new e high b = record {
-  whole = b.whole;
-  none = b.none;
-  within = within_wider from at from to (added old new) (omega arith) high b.within;
-  many = b.many ∙ ap (λ (xs : List (List SourceToken)). count + length xs) e;
-  tokens = λ few. b.tokens few ∙ ap (λ (xs : List (List SourceToken)). ranges_tokens text (added old new) ++ xs) e;
-}
+bound_by closes text from at to count most left more old new e high b = grind (arith, within_wider)
 
 -- at a comma the call goes on
 pub record GoesOnAt (closes : Bool) (text : List ℕ) (from at next count most : ℕ) (old new : List Range) : Type 0 where
@@ -251,9 +180,7 @@ actuals_by : (fs : List Formal) (xs ys : List (List SourceToken)) (formals furth
     → (formals ≡ 0 → ys ≡ []) → (further < formals → xs ≡ ys) → bound_parts fs xs ≡ ys
 unfolding bound_parts is_count
 actuals_by [] xs ys formals further is count many none some = sym (none (sym is))
-actuals_by (f ∷ fs) xs ys formals further is count many none some =
-    let n = eqb-true (length xs) (length (f ∷ fs)) (sym count) in
-    some (omega (arith, n, many, is))
+actuals_by (f ∷ fs) xs ys formals further is count many none some = grind (arith, eqb-true)
 
 -- what is bound, where the actuals are as many as the formals
 pub bound_to : (closes : Bool) (text : List ℕ) (from formals further to : ℕ) (old new : List Range) → to ≡ from + inner_size closes (drop from text) → (closes ≡ true → to < length text)
@@ -292,23 +219,15 @@ same_count n m k l e f some = grind (arith, nat_tests)
 none_count : (a : List SourceToken) (more : List (List SourceToken)) (further : ℕ) → length (a ∷ more) ≡ further + 1
     → ((further == 0) && not (nat_lt 0 (length a))) ≡ is_count [] (a ∷ more)
 unfolding is_count
-none_count a [] further e =
-    let none : further ≡ 0 = omega (arith, e) in
-    ap (λ (n : ℕ). (n == 0) && not (nat_lt 0 (length a))) none ∙ none_less (length a)
-none_count a (b ∷ bs) further e =
-    let some : further ≡ suc (length bs) = omega (arith, e) in
-    ap (λ (n : ℕ). (n == 0) && not (nat_lt 0 (length a))) some
-    ∙ ap (λ (t : Bool). t && not (nat_lt 0 (length a))) (not_none (length bs))
-    ∙ sym (ap (λ (t : Bool). t && list_any (λ (part : List SourceToken). length part == 0) (a ∷ b ∷ bs)) (not_one (length bs)))
+none_count a [] further e = grind (arith, nat_lt, none_less)
+none_count a (b ∷ bs) further e = grind (arith, nat_lt, not_none, not_one)
 
 -- where no formals are wanted
 pub count_none : (closes : Bool) (text : List ℕ) (formals further : ℕ) (items : Bool) (fs : List Formal) → length fs ≡ formals → formals ≡ 0
     → length (actuals_in closes text) ≡ further + 1 → items ≡ nat_lt 0 (length (trimmed token_role (parts_in closes text).first))
     → ((further == 0) && not items) ≡ is_count fs (actuals_in closes text)
 unfolding actuals_in all_parts
-count_none closes text formals further items [] is none many e =
-    ap (λ (b : Bool). (further == 0) && not b) e
-    ∙ none_count (trimmed token_role (parts_in closes text).first) (map (trimmed token_role) (parts_in closes text).further) further many
+count_none closes text formals further items [] is none many e = grind (arith, none_count)
 count_none closes text formals further items (f ∷ fs) is none many e = absurd (omega (arith, is, none))
 
 -- where some are
@@ -323,10 +242,7 @@ count_some closes text formals further (f ∷ fs) is some many =
 
 -- tokens of which a filter drops none keep all
 pub keeps_all_by : (ts : List SourceToken) → filter (λ t. is_kept (token_role t)) ts ≡ ts → KeepsAll ts
-keeps_all_by ts e =
-    let p : SourceToken → Bool = λ t. is_kept (token_role t) in
-    let P : SourceToken → Type 0 = λ t. p t ≡ true in
-    subst (λ (us : List SourceToken). All P us) e (filter_passes p ts)
+keeps_all_by ts e = grind (arith, filter_passes)
 
 -- a thing in front of parts of which all keep something, which it keeps too
 by_keeps : (P : SourceToken → Type 0) (r : Role) (k : ℕ) (x : SourceToken) (s : Split SourceToken) → P x → All P s.first → AllByRecursion (All P) s.further
@@ -436,13 +352,7 @@ front_range text end i j low high =
 front_tokens : (text : List ℕ) (end from to : ℕ) (ranges : List Range) → to ≤ end → AreWithin from to ranges → ranges_tokens (take end text) ranges ≡ ranges_tokens text ranges
 unfolding part_tokens
 front_tokens text end from to [] high all = refl
-front_tokens text end from to (r ∷ rs) high all =
-    let h = all.0 in
-    let bytes = front_range text end r.from r.to h.1.0 (omega (arith, high, h.1.1)) in
-    let one : part_tokens (take end text) (range_part r) ≡ part_tokens text (range_part r) =
-    sym (body_text (slice_range (take end text) r.from r.to)) ∙ ap body_tokens bytes ∙ body_text (slice_range text r.from r.to) in
-    ap (λ (x : List SourceToken). x ∷ ranges_tokens (take end text) rs) one
-    ∙ ap (λ (xs : List (List SourceToken)). part_tokens text (range_part r) ∷ xs) (front_tokens text end from to rs high all.1)
+front_tokens text end from to (r ∷ rs) high all = grind (arith, front_range, body_text, (front_tokens text end from to rs high all.1))
 
 -- where a call in a part of a text opens
 pub record IsOpenedAt (text : List ℕ) (at end len : ℕ) : Type 0 where
@@ -562,20 +472,11 @@ bound text at end formals len to ranges o b all =
 -- its `)` lies in the part of the text
 pub bound_place : (text : List ℕ) (at end formals len to : ℕ) (ranges : List Range) → IsOpenedAt text at end len → IsBoundTo true (take end text) (at + len) formals ranges to
     → (at ≤ to + 1) × (to + 1 ≤ end)
-bound_place text at end formals len to ranges o b =
-    let h = after_opener text at end len o in
-    let front = h.front in
-    let inside = b.closed refl in
-    let place = b.end in
-    (omega (arith, place), omega (arith, inside, front))
+bound_place text at end formals len to ranges o b = grind (arith, after_opener)
 
 -- what isn't bound of kept text is neither open nor changed
 pub kept_refused : (text : List ℕ) (formals : ℕ) (old new : List Range) (r : Bound) → (r ≡ Open) ⊎ (r ≡ Miscounted) → IsBound false text 0 formals old new r
     → (new ≡ old) × ((fs : List Formal) → length fs ≡ formals → false ≡ is_count fs (actuals_of text))
 unfolding IsBound
-kept_refused text formals old new r (inl e) b =
-    let o = subst (λ (x : Bound). IsBound false text 0 formals old new x) e b in
-    absurd (false≢true o.closes_is)
-kept_refused text formals old new r (inr e) b =
-    let m = subst (λ (x : Bound). IsBound false text 0 formals old new x) e b in
-    (m.same, λ fs is. m.count fs is ∙ ap (is_count fs) (kept_actuals text))
+kept_refused text formals old new r (inl e) b = grind (arith, false≢true)
+kept_refused text formals old new r (inr e) b = grind (arith, kept_actuals)

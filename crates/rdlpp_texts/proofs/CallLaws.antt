@@ -1,10 +1,10 @@
 -- A call in a text is that of the definition.
-use Rattle.std.proofs.Common.{◌≡◌, ℕ, zero, suc, ◌+◌, ◌-◌, Bool, true, false, cond, List, [], ◌∷◌, ◌++◌, length, take, drop, filter, ◌==◌, slice_index, All, refl, sym, ap, ◌∙◌, arith, Option, Some, None, ◌⊎◌, ⊎_elim, inl, inr, ◌≤◌, ◌<◌, subst, get_or, nat_le, drop-drop, length-append}
+use Rattle.std.proofs.Common.{◌≡◌, ℕ, zero, suc, ◌+◌, ◌-◌, Bool, true, false, cond, List, [], ◌∷◌, ◌++◌, length, drop, filter, ◌==◌, slice_index, All, refl, sym, ap, ◌∙◌, arith, Option, Some, None, ◌⊎◌, ⊎_elim, inl, inr, ◌≤◌, ◌<◌, subst, get_or, nat_le, drop-drop, length-append}
 use Rattle.std.proofs.lemmas.Bool.{false≢true}
 use Rattle.std.proofs.lemmas.Bool.Decides.{nat_tests}
 use Rattle.std.proofs.lemmas.List.Elements.{All-cons, All-head, All-nil, All-tail, filter_passes}
 use Rattle.rdlpp_scan.specs.Bytes.{begins_block_comment, begins_line_comment, begins_perl, is_blank, is_digit, is_letter, is_line_end, is_opener, takes_word}
-use Rattle.rdlpp_scan.specs.SourceTokens.{Ordinary, SourceToken}
+use Rattle.rdlpp_scan.specs.SourceTokens.{SourceToken}
 use Rattle.rdlpp_scan.specs.Tokens.{plain_token, token_of, tokens_from, whole}
 use Rattle.rdlpp_scan.specs.declared.token.Kind.{Kind}
 use Rattle.rdlpp_scan.specs.declared.token.Kind.TheVariants.{Closer, Opener}
@@ -12,7 +12,7 @@ use Rattle.rdlpp_scan.specs.declared.token.Mode.{Mode}
 use Rattle.rdlpp_scan.specs.declared.token.Mode.TheVariants.{Plain}
 use Rattle.rdlpp_scan.specs.declared.token.Token.{Token}
 use Rattle.rdlpp_meaning.specs.Actuals.{Down, Dropped, End, Ends, Halt, CallFault, KeptComment, Role, Space, Start, Stops, Up, kept_size, kind_role, level_after, not_kept, token_role}
-use Rattle.rdlpp_meaning.specs.CallScan.{Before, Closed, Closes, Inside, Keeps, Passes, ScanFault, Scanned, CallState, Turn, call_of, call_of_scan, fault_at_end, is_call_text, is_kept, room_after, scan, scan_onto, scanned, call_state_after, call_state_after_lead, turn, turn_before, turn_fitting, turn_inside}
+use Rattle.rdlpp_meaning.specs.CallScan.{Before, Closed, Closes, Inside, Keeps, Passes, ScanFault, Scanned, CallState, call_of, call_of_scan, fault_at_end, is_call_text, is_kept, room_after, scan, scan_onto, scanned, call_state_after, call_state_after_lead, turn, turn_before, turn_fitting, turn_inside}
 use Rattle.rdlpp_meaning.specs.Expansion.{bytes_of}
 use Rattle.rdlpp_meaning.specs.Substitution.{body_tokens, spelled}
 use Rattle.rdlpp_meaning.specs.TextTokens.{text_tokens}
@@ -41,9 +41,7 @@ kind_text k bytes = refl
 spelled_text : (ts : List Token) (bs : List ℕ) → All (λ t. is_call_text (token_role t) ≡ true) (spelled ts bs)
 unfolding spelled token_role
 spelled_text [] bs = All-nil (λ t. is_call_text (token_role t) ≡ true)
-spelled_text (t ∷ ts) bs =
-    All-cons (λ u. is_call_text (token_role u) ≡ true) (record { sort = Ordinary t.kind; bytes = take t.len bs; line = 0 }) (spelled ts (drop t.len bs))
-    (kind_text t.kind (take t.len bs)) (spelled_text ts (drop t.len bs))
+spelled_text (t ∷ ts) bs = grind (arith, kind_text, (spelled_text ts (drop t.len bs)))
 
 pub text_is_text : (m : Mode) (bs : List ℕ) → All (λ t. is_call_text (token_role t) ≡ true) (text_tokens m bs)
 unfolding text_tokens
@@ -152,11 +150,7 @@ scan_inside : (k room : ℕ) (t : SourceToken) (ts : List SourceToken) → is_ca
     ≡ scanned (cond (ends_call (token_role t) k) Closes (cond (is_kept (token_role t)) Keeps Passes)) t
     (scan token_role not_kept (Inside (level_after (token_role t) k)) (room - kept_size (token_role t) 0) ts)
 unfolding scan turn call_state_after room_after not_kept
-scan_inside k room t ts text =
-    let r = token_role t in
-    let rest = scan token_role not_kept (Inside (level_after r k)) (room - kept_size r 0) ts in
-    let fits : nat_le 0 room ≡ true = grind (arith, nat_tests) in
-    ap (λ b. scanned (turn_inside r k b) t rest) fits ∙ ap (λ (q : Turn). scanned q t rest) (turn_text r k text)
+scan_inside k room t ts text = grind (arith, nat_le, nat_tests, turn_text)
 
 -- the `)` of a call is one
 ends_is : (r : Role) (k : ℕ) → ends_call r k ≡ true → r ≡ End
@@ -208,39 +202,7 @@ ended_by true t ts k is text rest =
           ∙ ap (λ b. scanned (cond b Closes (cond (is_kept r) Keeps Passes)) t (scan token_role not_kept (Inside (level_after r k)) (room - kept_size r 0) ts)) is
           ∙ sym (ap (λ (us : List SourceToken). Closed (filter (λ u. is_kept (token_role u)) us) (length us + 1)) none);
     })
-ended_by false t ts k is text rest = ⊎_elim unclosed closed rest
-  where
-    r : Role
-    r = token_role t
-
-    inner : List SourceToken
-    inner = inner_tokens true (level_after r k) ts
-
-    more : inner_tokens true k (t ∷ ts) ≡ t ∷ inner
-    more = ap (λ (b : Bool). cond b [] (t ∷ inner)) is
-
-    step : (room : ℕ) → scan token_role not_kept (Inside k) room (t ∷ ts)
-        ≡ scanned (cond (is_kept r) Keeps Passes) t (scan token_role not_kept (Inside (level_after r k)) (room - kept_size r 0) ts)
-    step room = scan_inside k room t ts text
-        ∙ ap (λ b. scanned (cond b Closes (cond (is_kept r) Keeps Passes)) t (scan token_role not_kept (Inside (level_after r k)) (room - kept_size r 0) ts)) is
-
-    unclosed : IsUnclosed (level_after r k) ts → IsUnclosed k (t ∷ ts) ⊎ IsEnded k (t ∷ ts)
-    unclosed u = inl (record {
-      all = more ∙ ap (λ (us : List SourceToken). t ∷ us) u.all;
-      scans = λ room. step room ∙ ap (scanned (cond (is_kept r) Keeps Passes) t) (u.scans (room - kept_size r 0)) ∙ refused_front (is_kept r) t;
-    })
-
-    closed : IsEnded (level_after r k) ts → IsUnclosed k (t ∷ ts) ⊎ IsEnded k (t ∷ ts)
-    closed c = inr (record {
-      closer = c.closer;
-      rest = c.rest;
-      whole = ap (λ (us : List SourceToken). t ∷ us) c.whole ∙ sym (ap (λ (us : List SourceToken). us ++ c.closer ∷ c.rest) more);
-      closes = c.closes;
-      scans = λ room. step room
-          ∙ ap (scanned (cond (is_kept r) Keeps Passes) t) (c.scans (room - kept_size r 0))
-          ∙ closed_front (is_kept r) t (filter (λ u. is_kept (token_role u)) inner) (length inner)
-          ∙ sym (ap (λ (us : List SourceToken). Closed (filter (λ u. is_kept (token_role u)) us) (length us + 1)) more);
-    })
+ended_by false t ts k is text rest = grind (arith, scan_inside, refused_front, closed_front)
 
 -- each call is one of the two
 pub ended : (ts : List SourceToken) (k : ℕ) → All (λ t. is_call_text (token_role t) ≡ true) ts → IsUnclosed k ts ⊎ IsEnded k ts
@@ -283,9 +245,7 @@ opened text from e =
 passing_closed : {A : Type 0} (n : ℕ) (ks : List A) (used : ℕ) → passing n (Closed ks used) ≡ Closed ks (n + used)
 unfolding passing scan_onto
 passing_closed zero ks used = let e : used ≡ 0 + used = omega arith in ap (λ i. Closed ks i) e
-passing_closed (suc n) ks used =
-    let e : suc (n + used) ≡ suc n + used = omega arith in
-    ap (scan_onto []) (passing_closed n ks used) ∙ ap (λ i. Closed ks i) e
+passing_closed (suc n) ks used = grind (arith, (passing_closed n ks used))
 
 -- a scan that lacks something behind things that it passes
 passing_refused : {A : Type 0} (n : ℕ) (f : FaultKind) → passing {A = A} n (ScanFault f) ≡ ScanFault f
@@ -322,9 +282,7 @@ inner_kept ts lead inner rest opener whole e =
 -- where there is no `(`, arguments are missing
 pub missing_call : (text : List ℕ) → opener_from 0 (body_tokens text) ≡ None → (room : ℕ) → call_of token_role not_kept room (body_tokens text) ≡ CallFault ArgumentsMissing
 unfolding call_of_scan
-missing_call text e room =
-    let all = body_is_text text in
-    ap (call_of_scan token_role 0) (opener_none (body_tokens text) 0 room all e)
+missing_call text e room = grind (arith, body_is_text, opener_none)
 
 -- a call in a text, behind its `(`, that isn't closed: it has all bytes of the text
 pub record IsUnclosedAt (text : List ℕ) (from : ℕ) : Type 0 where
@@ -346,16 +304,7 @@ pub record IsClosedAt (text : List ℕ) (from : ℕ) : Type 0 where
 -- a call without a `)`
 unclosed_at : (text : List ℕ) (from : ℕ) → IsOpened text from (body_tokens text) → IsUnclosed 0 (body_tokens (drop from text)) → IsUnclosedAt text from
 unfolding call_of_scan inner_size
-unclosed_at text from o u =
-    let n = suc (length o.led.lead) in
-    record {
-      size = ap (λ (ts : List SourceToken). length (bytes_of ts)) u.all ∙ ap length (body_covered (drop from text));
-      call = λ room.
-          ap (call_of_scan token_role 0) (o.led.scans room
-          ∙ ap (λ (ts : List SourceToken). passing n (scan token_role not_kept (Inside 0) room ts)) (sym o.rest)
-          ∙ ap (passing n) (u.scans room)
-          ∙ passing_refused n ArgumentsOpen);
-    }
+unclosed_at text from o u = grind (arith, body_covered, passing_refused)
 
 -- and one with it
 closed_at : (text : List ℕ) (from : ℕ) → IsOpened text from (body_tokens text) → IsEnded 0 (body_tokens (drop from text)) → IsClosedAt text from
@@ -413,8 +362,4 @@ opener_here bs = ap (opener_from 0) (text_step Plain (40 ∷ bs) (omega arith))
 -- so the call begins there
 pub opener_first : (text : List ℕ) → get_or text 0 0 ≡ 40 → opener_from 0 (body_tokens text) ≡ Some 1
 opener_first [] e = absurd (omega (arith, e))
-opener_first (b ∷ bs) e =
-    let is : b ≡ 40 = e in
-    ap (opener_from 0) (body_text (b ∷ bs))
-    ∙ ap (λ (n : ℕ). opener_from 0 (text_tokens Plain (n ∷ bs))) is
-    ∙ opener_here bs
+opener_first (b ∷ bs) e = grind (arith, body_text, opener_here)

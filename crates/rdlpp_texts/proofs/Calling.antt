@@ -1,5 +1,5 @@
 -- Usages of a macro with a list, in open texts and in a source, whose call is bound.
-use Rattle.std.proofs.Common.{◌≡◌, ◌≤◌, ℕ, ◌+◌, ◌-◌, Bool, false, List, [], ◌∷◌, map, drop, ap, ◌∙◌, arith, Option, None, Some, suc, true, cond, take, refl, sym, true≢false, ◌<◌, length, subst, is_some, unwrap_or, Err, Global, Vec, bytes_eq, if◌then◌else◌, slice_range, vec_len, drop-drop, length-drop, length-take}
+use Rattle.std.proofs.Common.{◌≡◌, ◌≤◌, ℕ, ◌+◌, ◌-◌, Bool, false, List, [], ◌∷◌, map, drop, ap, ◌∙◌, arith, Option, None, Some, suc, true, cond, take, refl, sym, true≢false, ◌<◌, length, subst, is_some, unwrap_or, Err, Global, Vec, bytes_eq, slice_range, vec_len, drop-drop, length-drop, length-take}
 use Rattle.std.specs.List.{AllByRecursion, list_any}
 use Rattle.std.proofs.lemmas.List.{length-map}
 use Rattle.std.proofs.lemmas.List.Elements.{All-cons, All-head, All-nil, All-tail}
@@ -10,13 +10,13 @@ use Rattle.rdlpp_scan.specs.declared.token.Mode.{Mode}
 use Rattle.rdlpp_scan.specs.declared.token.Mode.TheVariants.{Plain}
 use Rattle.rdlpp_table.specs.Table.{Formal, Macro, macro_named}
 use Rattle.rdlpp_table.specs.View.{IsSound, TableView, formals_of, macro_at}
-use Rattle.rdlpp_meaning.specs.Actuals.{Bound, CallBreakFault, Call, CallFault, Reads, Role, actual_of, kept, map_call, source_reads, text_reads, token_role, trimmed}
+use Rattle.rdlpp_meaning.specs.Actuals.{Bound, CallBreakFault, Call, CallFault, Reads, actual_of, kept, map_call, source_reads, text_reads, token_role, trimmed}
 use Rattle.rdlpp_meaning.specs.CallScan.{all_parts, call_of, call_of_scan, is_kept, split}
 use Rattle.rdlpp_meaning.specs.Expansion.{Opens, UsageFault, Usage, bound_parts, bytes_of, is_count, usage_of, usage_of_call, usage_of_formals, usage_of_macro, usage_token}
 use Rattle.rdlpp_meaning.specs.Items.{unlined}
 use Rattle.rdlpp_meaning.specs.Meaning.{Passage, Progress, goes_on, leaves}
 use Rattle.rdlpp_meaning.specs.OpenItems.{open_left}
-use Rattle.rdlpp_meaning.specs.Opens.{Open, OpenActual, OpenBody, OpenDefault, OpenKind, Part, Texts, open_after, open_body, open_bytes, open_scope, own_text, part_tokens, scope_text, text_around}
+use Rattle.rdlpp_meaning.specs.Opens.{Open, OpenBody, Part, Texts, open_after, open_body, open_bytes, open_scope, own_text, part_tokens, scope_text, text_around}
 use Rattle.rdlpp_meaning.specs.Outcome.{Outcome}
 use Rattle.rdlpp_meaning.specs.Parts.{only_blanks}
 use Rattle.rdlpp_meaning.specs.Resumed.{Live, leading, resumed}
@@ -24,7 +24,7 @@ use Rattle.rdlpp_meaning.specs.State.{Rules, State}
 use Rattle.rdlpp_meaning.specs.Substitution.{body_tokens}
 use Rattle.rdlpp_meaning.specs.TextTokens.{text_tokens}
 use Rattle.rdlpp_meaning.specs.declared.fault.FaultKind.{FaultKind}
-use Rattle.rdlpp_meaning.specs.declared.fault.FaultKind.TheVariants.{ArgumentCount, DepthPassed, DirectiveInText, RecursiveMacro, UndefinedMacro}
+use Rattle.rdlpp_meaning.specs.declared.fault.FaultKind.TheVariants.{ArgumentCount, DepthPassed}
 use Rattle.rdlpp_meaning.proofs.OpenSteps.{first-left, first_usage, step-refused as left-refused, step-usage as left-usage, step-usage_deep as left-usage_deep, tokens_after}
 use Rattle.rdlpp_meaning.proofs.OpenScopes.{next_is, part-whole, text-around}
 use Rattle.rdlpp_meaning.proofs.ReadCalls.{IsReadCall}
@@ -48,7 +48,6 @@ use Rattle.rdlpp_texts.specs.declared.cursors.call.Opening.TheVariants as openin
 use Rattle.rdlpp_texts.specs.declared.peek.TextItem.TheVariants as front
 use Rattle.rdlpp_texts.specs.declared.peek.Peek.{Peek}
 use Rattle.rdlpp_texts.specs.declared.place.TextPlace.{TextPlace}
-use Rattle.rdlpp_texts.specs.declared.place.TextSource.{TextSource}
 use Rattle.rdlpp_texts.specs.declared.place.TextSource.TheVariants.{Arguments}
 use Rattle.rdlpp_texts.specs.declared.frame.Frame.{Frame}
 use Rattle.rdlpp_texts.specs.declared.step.CursorFault.{CursorFault}
@@ -70,14 +69,7 @@ pub usage_with_list : (reads : Reads SourceToken) (rules : Rules) (s : State) (l
     → is_reserved name ≡ false → macro_named s.macros name ≡ Some m → list_any (bytes_eq name) o ≡ false → m.formals ≡ Some fs
     → usage_of_formals rules reads line name ts m (Some fs) ≡ u → usage_of rules s reads line o name ts ≡ u
 unfolding usage_of usage_of_macro
-usage_with_list reads rules s line o name ts m fs u reserved found once formals e =
-    let named : Option Macro → Usage SourceToken = λ x. elim x [ None ↦ UsageFault UndefinedMacro name line | Some y ↦ usage_of_macro rules reads line o name ts y ] in
-    let own : Usage SourceToken = usage_of_formals rules reads line name ts m m.formals in
-    ap (λ (b : Bool). if b then UsageFault DirectiveInText name line else named (macro_named s.macros name)) reserved
-    ∙ ap named found
-    ∙ ap (λ (b : Bool). if b then UsageFault RecursiveMacro name line else own) once
-    ∙ ap (usage_of_formals rules reads line name ts m) formals
-    ∙ e
+usage_with_list reads rules s line o name ts m fs u reserved found once formals e = grind arith
 
 -- ranges between two places of a text lie in it as parts
 pub parts_inside : (size from to : ℕ) (ranges : List Range) → to ≤ size → AreWithin from to ranges → AllByRecursion (λ part. part.end ≤ size) (map range_part ranges)
@@ -88,9 +80,7 @@ parts_inside size from to (r ∷ rs) inside all = let h = all.0.1.1 in (omega (a
 pub after_part : (text : List ℕ) (from at end formals following : ℕ) (ranges : List Range) (b : IsBoundAt text at end formals ranges following) → from ≤ following
     → drop b.used (body_tokens (slice_range text at end)) ≡ part_tokens text (record { from = from + (following - from); end = end; mode = Plain })
 unfolding part_tokens
-after_part text from at end formals following ranges b low =
-    let place : following ≡ from + (following - from) = omega (arith, low) in
-    b.after_is ∙ body_text (slice_range text following end) ∙ ap (λ (n : ℕ). part_tokens text (record { from = n; end = end; mode = Plain })) place
+after_part text from at end formals following ranges b low = grind (arith, body_text)
 
 -- A call in a source whose kept bytes were bound part by part: the usage opens those ranges, but for the lines of its tokens.
 
@@ -108,13 +98,7 @@ has_parts : (c : Call SourceToken) (first : List SourceToken) (further : List (L
 unfolding map_call
 has_parts (CallFault f) first further used e = absurd (cc)
 has_parts (CallBreakFault f line) first further used e = absurd (cc)
-has_parts (Bound own others n) first further used e = record {
-  own = own;
-  others = others;
-  call = ap (λ (k : ℕ). Bound own others k) cc;
-  first_is = cc;
-  further_is = cc;
-}
+has_parts (Bound own others n) first further used e = grind arith
 
 -- a call that was read, by its parts: the actuals, but for lines, are those of the kept bytes
 record HasActuals (room : ℕ) (ts : List SourceToken) (bytes : List ℕ) (used : ℕ) : Type 0 where
@@ -145,9 +129,7 @@ usage_counted : (m : Macro) (fs : List Formal) (line : ℕ) (name : List ℕ) (f
     → usage_of_call source_reads m fs line name (Bound first further used)
     ≡ cond right (Opens m (bound_parts fs parts) used) (UsageFault ArgumentCount name line)
 unfolding usage_of_call
-usage_counted m fs line name first further used right parts same e =
-    ap (λ (xs : List (List SourceToken)). cond (is_count fs xs) (Opens m (bound_parts fs xs) used) (UsageFault ArgumentCount name line)) same
-    ∙ ap (λ (b : Bool). cond b (Opens m (bound_parts fs parts) used) (UsageFault ArgumentCount name line)) (sym e)
+usage_counted m fs line name first further used right parts same e = grind arith
 
 -- a call that was read and bound opens its macro so
 pub source_bound : (rules : Rules) (line : ℕ) (name : List ℕ) (ts : List SourceToken) (m : Macro) (fs : List Formal) (bytes : List ℕ) (ranges : List Range) (following : List SourceToken)
@@ -222,10 +204,7 @@ kept_other r other = refl
 pub kept_turn : (mode : Mode) (text : List ℕ) (at : ℕ) (token : CallToken) → IsFirstToken mode (drop at text) token
     → keeps_each (text_tokens mode (drop at text)) ≡ cond (is_kept (role_meant token.role)) (keeps_each (text_tokens token.next_mode (drop (at + token.len) text))) false
 unfolding keeps_each
-kept_turn mode text at token f =
-    ap keeps_each f.tokens
-    ∙ ap (λ (r : Role). cond (is_kept r) (keeps_each (text_tokens token.next_mode (drop token.len (drop at text)))) false) f.role_is
-    ∙ ap (λ (x : List ℕ). cond (is_kept (role_meant token.role)) (keeps_each (text_tokens token.next_mode x)) false) (drop-drop token.len at text)
+kept_turn mode text at token f = grind (arith, drop-drop)
 
 -- tokens of which the test holds are all kept, by whether the first one is
 kept_by : (t : SourceToken) (ts : List SourceToken) (first : Bool) → is_kept (token_role t) ≡ first → cond first (keeps_each ts) false ≡ true → (keeps_each ts ≡ true → KeepsAll ts)
@@ -256,10 +235,7 @@ has-list (Some x) e = (x, refl)
 
 -- a text that has a range with a byte has one
 some-byte : (text : List ℕ) (from end : ℕ) → 0 < length (slice_range text from end) → 0 < length text
-some-byte text from end some =
-    let size = length-take (end - from) (drop from text) in
-    let rest = length-drop from text in
-    omega (arith, some, size, rest)
+some-byte text from end some = grind (arith, length-take, length-drop)
 
 -- where the call of a usage at the front of an open text stands: in the text in which that lies, behind the usage
 pub record IsCallPlace (texts : Texts) (x : Open) (below : List Open) (len : ℕ) (text : List ℕ) (at end : ℕ) : Type 0 where
@@ -272,41 +248,21 @@ call-place : (texts : Texts) (x : Open) (below : List Open) (peek : Peek) (len :
     → peek.front ≡ front.Usage len → text ≡ source_text texts peek.source → at ≡ peek.at + len
     → IsCallPlace texts x below len text at peek.end
 unfolding IsPeek IsTextItem open_bytes
-call-place texts x below peek len text at h l e is k =
-    let f = front-is texts x below peek len e l.3 in
-    record {
-      text_is = is ∙ ap (λ (s : TextSource). source_text texts s) l.0
-          ∙ source-around texts x below (some-byte (text_around texts x.kind x.parent below) x.part.from x.part.end f.0);
-      at_is = k ∙ ap (λ (n : ℕ). n + len) l.1;
-      end_is = l.2;
-    }
+call-place texts x below peek len text at h l e is k = grind (arith, front-is, source-around, some-byte)
 
 -- the tokens behind a usage
 call-tokens : (texts : Texts) (x : Open) (below : List Open) (len : ℕ) (text : List ℕ) (at end : ℕ) → AreSound texts (x ∷ below) → IsCallPlace texts x below len text at end
     → IsTextItem (source_formals texts (front_source (x ∷ below))) (open_bytes texts x below) (front.Usage len)
     → tokens_after texts x below ≡ body_tokens (slice_range text at end)
 unfolding IsTextItem tokens_after part_tokens open_after
-call-tokens texts x below len text at end h p f =
-    let mode = (h.are_inside).1.1.0 in
-    ap (λ (y : Open). part_tokens (text_around texts x.kind x.parent below) y.part) (first-moved texts x below len mode (back-closes _ f.1) f.2)
-    ∙ sym (body_text (slice_range (text_around texts x.kind x.parent below) (x.part.from + len) x.part.end))
-    ∙ ap (λ (t : List ℕ). body_tokens (slice_range t (x.part.from + len) x.part.end)) (sym p.text_is)
-    ∙ ap (λ (n : ℕ). body_tokens (slice_range text n x.part.end)) (sym p.at_is)
-    ∙ ap (λ (n : ℕ). body_tokens (slice_range text at n)) (sym p.end_is)
+call-tokens texts x below len text at end h p f = grind (arith, first-moved, back-closes, body_text)
 
 -- no call in them drops one
 call-keeps : (texts : Texts) (x : Open) (below : List Open) (len : ℕ) (text : List ℕ) (at end : ℕ) → AreSound texts (x ∷ below) → IsCallPlace texts x below len text at end
     → IsTextItem (source_formals texts (front_source (x ∷ below))) (open_bytes texts x below) (front.Usage len)
     → KeepsAll (body_tokens (slice_range text at end))
 unfolding IsTextItem part_tokens moved_to
-call-keeps texts x below len text at end h p f =
-    let around = text_around texts x.kind x.parent below in
-    let sound = first-sound texts x below len h f.0 (back-closes _ f.1) f.2 in
-    subst (λ (ts : List SourceToken). KeepsAll ts)
-    (sym (body_text (slice_range around (x.part.from + len) x.part.end))
-    ∙ ap (λ (t : List ℕ). body_tokens (slice_range t (x.part.from + len) x.part.end)) (sym p.text_is)
-    ∙ ap (λ (n : ℕ). body_tokens (slice_range text n x.part.end)) (sym p.at_is)
-    ∙ ap (λ (n : ℕ). body_tokens (slice_range text at n)) (sym p.end_is)) (sound.are_kept).0
+call-keeps texts x below len text at end h p f = grind (arith, first-sound, back-closes, body_text)
 
 -- what the usage comes to
 call-usage : (rules : Rules) (s : State) (line : ℕ) (texts : Texts) (x : Open) (below : List Open) (len id : ℕ) (text : List ℕ) (at end : ℕ) (fs : List Formal) → AreSound texts (x ∷ below)
@@ -368,16 +324,7 @@ step-call_deep line depth texts x below len id text at end new fault h p f used 
 scope-text : (texts : Texts) (x : Open) (below : List Open) (part : Part) → x.parent ≤ length below
     → scope_text texts (record { part = part; parent = x.parent; kind = x.kind } ∷ below) (open_scope x below) ≡ text_around texts x.kind x.parent below
 unfolding open_scope text_around scope_text
-scope-text texts x below part h = by x.kind
-  where
-    own : (kind : OpenKind) → scope_text texts (record { part = part; parent = x.parent; kind = kind } ∷ below) (suc (length below)) ≡ own_text texts kind
-    own kind = rw (next_is (suc (length below))) refl
-
-    by : (kind : OpenKind) → scope_text texts (record { part = part; parent = x.parent; kind = kind } ∷ below) (elim kind [ OpenActual ↦ x.parent | _ ↦ suc (length below) ])
-        ≡ text_around texts kind x.parent below
-    by (OpenBody id parts) = own (OpenBody id parts)
-    by OpenActual = text-around texts (record { part = part; parent = x.parent; kind = OpenActual }) below x.parent h
-    by (OpenDefault id place) = own (OpenDefault id place)
+scope-text texts x below part h = grind (arith, next_is, text-around)
 
 -- what is left behind a call that is bound
 call-left : (texts : Texts) (x : Open) (below : List Open) (len : ℕ) (text : List ℕ) (at end formals : ℕ) (ranges : List Range) (following : ℕ) (b : IsBoundAt text at end formals ranges following)
@@ -561,16 +508,7 @@ pub pass-call_refused : (texts : Texts) (view new : CursorsView) (peek : Peek) (
     → word ≡ record { source = peek.source; from = peek.at + 1; end = at }
     → IsPassed texts view new (Refused (record { kind = kind; word = word }))
 unfolding IsOpening IsFalling StaysRefused
-pass-call_refused texts view new peek len id parent text at kind o word h e b w =
-    let both = subst (λ (r : Opening). IsOpening texts.macros text at peek.end id parent view r new) e b in
-    subst (λ (v : CursorsView). IsPassed texts view v (Refused (record { kind = kind; word = word }))) (sym both.0) (record {
-      is_step = subst (λ (p : TextPlace). IsStep view.line view.depth texts view.opens (Refused (record { kind = kind; word = p })) view.opens) (sym w)
-          (peek-call_refused view.line view.depth texts view.opens peek len id text at (peek.at + 1) kind h refl both.1);
-      sound = h.sound;
-      kept = (refl, refl);
-      digits = tt;
-      refused = refl;
-    })
+pass-call_refused texts view new peek len id parent text at kind o word h e b w = grind (arith, peek-call_refused)
 
 -- a call that is bound where no further text may be open
 pub pass-call_deep : (texts : Texts) (view new : CursorsView) (peek : Peek) (len id parent : ℕ) (text : List ℕ) (at : ℕ) (o : Opening)
@@ -616,8 +554,7 @@ pub opening-open : (macros : List Macro) (text : List ℕ) (at end id parent : �
     → IsOpening macros text at end id parent old result new → 0 < length new.opens
 unfolding IsOpening
 opening-open macros text at end id parent old opening.Opened new some h = subst (λ (v : CursorsView). 0 < length v.opens) (sym h.opens) (omega arith)
-opening-open macros text at end id parent old (opening.Refused kind) new some h = subst (λ (v : CursorsView). 0 < length v.opens) (sym h.0) some
-opening-open macros text at end id parent old opening.Deep new some h = subst (λ (v : CursorsView). 0 < length v.opens) (sym h.0) some
+opening-open macros text at end id parent old _ new some h = subst (λ (v : CursorsView). 0 < length v.opens) (sym h.0) some
 
 -- A call in a source, whose kept text is bound, opens the body of its macro.
 
@@ -648,15 +585,7 @@ pub call-started : (table : TableView) (arguments : List ℕ) (id line : ℕ) (r
     → AreWithin 0 (length arguments) ranges
     → new ≡ record { opens = open_body (texts_of table.macros arguments) id (map range_part ranges) 0 ∷ []; line = line; depth = old.depth }
     → IsCallStarted (texts_of table.macros arguments) id line old new
-call-started table arguments id line ranges old new sound inside keeps tokens counted within is =
-    record {
-      ranges = ranges;
-      actuals = tokens;
-      counted = sym counted;
-      opens = is;
-      sound = subst (λ (v : CursorsView). AreSound (texts_of table.macros arguments) v.opens) (sym is)
-          (sound-started table arguments id ranges sound inside (each_kept (body_tokens arguments) keeps) tokens counted within);
-    }
+call-started table arguments id line ranges old new sound inside keeps tokens counted within is = grind (arith, sound-started, each_kept)
 
 -- a call with more or fewer parts
 pub call-miscounted : (table : TableView) (arguments : List ℕ) (id : ℕ) (kind : FaultKind) (old new : CursorsView) → kind ≡ ArgumentCount
@@ -680,6 +609,4 @@ pub started-opens : (table : TableView) (arguments : List ℕ) (id : ℕ) (range
     → record { part = record { from = 0; end = length body; mode = Plain }; parent = 0; kind = OpenBody id (map range_part ranges) } ∷ opens
     ≡ open_body (texts_of table.macros arguments) id (map range_part ranges) 0 ∷ []
 unfolding open_body
-started-opens table arguments id ranges body opens e none =
-    ap (λ (os : List Open). record { part = record { from = 0; end = length body; mode = Plain }; parent = 0; kind = OpenBody id (map range_part ranges) } ∷ os) none
-    ∙ ap (λ (b : List ℕ). record { part = record { from = 0; end = length b; mode = Plain }; parent = 0; kind = OpenBody id (map range_part ranges) } ∷ []) e
+started-opens table arguments id ranges body opens e none = grind arith

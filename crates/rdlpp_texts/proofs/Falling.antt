@@ -7,7 +7,7 @@ use Rattle.rdlpp_scan.specs.Tokens.{token_of}
 use Rattle.rdlpp_scan.specs.declared.token.Mode.TheVariants.{Plain}
 use Rattle.rdlpp_scan.proofs.TokenLens.{token_of-part}
 use Rattle.rdlpp_table.specs.Table.{Formal, Macro, formal_size, macro_size, table_size}
-use Rattle.rdlpp_table.specs.View.{formal_at, formals_of, macro_at, no_formal, no_macro}
+use Rattle.rdlpp_table.specs.View.{formal_at, formals_of, macro_at}
 use Rattle.rdlpp_table.proofs.Sizes.{default_least}
 use Rattle.rdlpp_meaning.specs.Opens.{Open, OpenActual, OpenBody, OpenDefault, OpenKind, Texts, found_standing, open_body, open_bytes, own_text, scope_open, scope_text, text_around}
 use Rattle.rdlpp_texts.specs.BoundCalls.{IsBoundCall, range_part}
@@ -21,12 +21,12 @@ use Rattle.rdlpp_texts.specs.Steps.{AreInside, IsKnown, IsUnlent}
 use Rattle.rdlpp_texts.specs.Turns.{Closes, HasFront, OpensBody, OpensStanding, Stays, Turned, TurnsOver}
 use Rattle.rdlpp_texts.specs.Usages.{IsUsed, front_name}
 use Rattle.rdlpp_texts.specs.declared.cursors.call.Opening.{Opening}
-use Rattle.rdlpp_texts.specs.declared.cursors.call.Opening.TheVariants.{Deep, Opened, Refused as Lacks}
+use Rattle.rdlpp_texts.specs.declared.cursors.call.Opening.TheVariants.{Opened}
 use Rattle.rdlpp_texts.specs.declared.peek.TextItem.{TextItem}
 use Rattle.rdlpp_texts.specs.declared.peek.TextItem.TheVariants as front
 use Rattle.rdlpp_texts.specs.declared.peek.Peek.{Peek}
 use Rattle.rdlpp_texts.specs.declared.step.CursorStep.{CursorStep}
-use Rattle.rdlpp_texts.specs.declared.step.CursorStep.TheVariants.{Lends, Refused, Silent}
+use Rattle.rdlpp_texts.specs.declared.step.CursorStep.TheVariants.{Lends}
 
 -- The digits of open texts fall at each step that isn't refused.
 
@@ -54,21 +54,11 @@ falls-closed x below =
 
 -- the innermost open text goes on
 pub falls-moved : (x y : Open) (below : List Open) → open_digit y < open_digit x → AreFalling (cursor_digits (x ∷ below)) (cursor_digits (y ∷ below))
-falls-moved x y below less =
-    subst (λ (ds : List ℕ). AreFalling ds (cursor_digits (y ∷ below))) (sym (digits-inner x below))
-    (subst (λ (ds : List ℕ). AreFalling (cursor_digits below ++ open_digit x ∷ []) ds) (sym (digits-inner y below))
-    (last-smaller (cursor_digits below) [] (open_digit x) (open_digit y) less))
+falls-moved x y below less = grind (arith, digits-inner, last-smaller)
 
 -- it goes on, and another one is opened
 pub falls-opened : (new x y : Open) (below : List Open) → open_digit y < open_digit x → AreFalling (cursor_digits (x ∷ below)) (cursor_digits (new ∷ y ∷ below))
-falls-opened new x y below less =
-    let both : cursor_digits (new ∷ y ∷ below) ≡ cursor_digits below ++ open_digit y ∷ open_digit new ∷ [] =
-    digits-inner new (y ∷ below)
-    ∙ ap (λ (ds : List ℕ). ds ++ open_digit new ∷ []) (digits-inner y below)
-    ∙ append_assoc (cursor_digits below) (open_digit y ∷ []) (open_digit new ∷ []) in
-    subst (λ (ds : List ℕ). AreFalling ds (cursor_digits (new ∷ y ∷ below))) (sym (digits-inner x below))
-    (subst (λ (ds : List ℕ). AreFalling (cursor_digits below ++ open_digit x ∷ []) ds) (sym both)
-    (last-smaller (cursor_digits below) (open_digit new ∷ []) (open_digit x) (open_digit y) less))
+falls-opened new x y below less = grind (arith, digits-inner, append_assoc, last-smaller)
 
 -- fewer bytes are left of a text that goes on
 digit-less : (from at end : ℕ) → from < at → at ≤ end → end - at + 1 < end - from + 1
@@ -83,9 +73,7 @@ falls-drop texts (x ∷ below) peek l = falls-closed x below
 -- so many bytes of an open text end in it
 pub run-ends : (texts : Texts) (x : Open) (below : List Open) (n : ℕ) → 0 < n → n ≤ length (open_bytes texts x below) → x.part.from + n ≤ x.part.end
 unfolding open_bytes
-run-ends texts x below n some inside =
-    let size = length-take (x.part.end - x.part.from) (drop x.part.from (text_around texts x.kind x.parent below)) in
-    omega (arith, size, some, inside)
+run-ends texts x below n some inside = grind (arith, length-take)
 
 -- the innermost open text goes on behind what is copied, by a look
 pub peek-moves : (texts : Texts) (opens : List Open) (peek : Peek) → IsPeekAhead texts opens peek → peek.from < peek.at
@@ -102,21 +90,13 @@ pub peek-opens : (texts : Texts) (opens : List Open) (peek : Peek) (at : ℕ) (n
     → AreFalling (cursor_digits opens) (cursor_digits (new ∷ moved_to at opens))
 unfolding IsPeek moved_to
 peek-opens texts [] peek at new l more inside = absurd l
-peek-opens texts (x ∷ below) peek at new l more inside =
-    let from = l.1 in
-    let end = l.2 in
-    falls-opened new x _ below (digit-less x.part.from at x.part.end (omega (arith, from, more)) (omega (arith, end, inside)))
+peek-opens texts (x ∷ below) peek at new l more inside = grind (arith, falls-opened, digit-less)
 
 -- a token at the front ends in its text, and isn't empty
 token-inside : (texts : Texts) (x : Open) (below : List Open) (len : ℕ) → 0 < length (open_bytes texts x below)
     → (token_of Plain (open_bytes texts x below)).len ≡ len → (0 < len) × (x.part.from + len ≤ x.part.end)
 unfolding open_bytes
-token-inside texts x below len some e =
-    let part = token_of-part Plain (open_bytes texts x below) some in
-    let inside = part.inside in
-    let not_empty = part.not_empty in
-    let size = length-take (x.part.end - x.part.from) (drop x.part.from (text_around texts x.kind x.parent below)) in
-    (omega (arith, not_empty, e), omega (arith, inside, e, size, not_empty))
+token-inside texts x below len some e = grind (arith, token_of-part, length-take)
 
 -- the name of a formal at the front ends in its text
 pub formal-inside : (texts : Texts) (opens : List Open) (peek : Peek) (len place : ℕ) → IsPeek texts opens peek → peek.front ≡ front.Formal len place
@@ -163,32 +143,20 @@ falls-twice (d ∷ xs) (e ∷ ys) (k ∷ zs) (inr f) (inr g) = inr (g.0 ∙ f.0,
 -- a table counts the bytes of each body
 body-fits : (macros : List Macro) (id : ℕ) → id < length macros → length (macro_at macros id).body ≤ table_size macros
 unfolding table_size macro_size
-body-fits macros id h =
-    let whole = get_or-le-sum_by macro_size macros id no_macro h in
-    omega (arith, whole)
+body-fits macros id h = grind (arith, get_or-le-sum_by)
 
 -- and those of each default text
 text-fits : (macros : List Macro) (id place : ℕ) → id < length macros → place < length (formals_of (macro_at macros id))
     → length (formal_at (formals_of (macro_at macros id)) place).text ≤ table_size macros
 unfolding table_size macro_size formal_size
-text-fits macros id place h k =
-    let whole = get_or-le-sum_by macro_size macros id no_macro h in
-    let formal = get_or-le-sum_by formal_size (formals_of (macro_at macros id)) place no_formal k in
-    let text = default_least (formal_at (formals_of (macro_at macros id)) place).text in
-    omega (arith, whole, formal, text)
+text-fits macros id place h k = grind (arith, get_or-le-sum_by, default_least)
 
 -- no text of an open text's own is longer
 own-short : (most : ℕ) (texts : Texts) (kind : OpenKind) → AreShort most texts → IsKnown texts.macros kind → length (own_text texts kind) ≤ most
 unfolding own_text
-own-short most texts (OpenBody id parts) h known =
-    let fits = body-fits texts.macros id known in
-    let all = h.definitions in
-    omega (arith, fits, all)
+own-short most texts (OpenBody id parts) h known = grind (arith, body-fits)
 own-short most texts OpenActual h known = omega arith
-own-short most texts (OpenDefault id place) h known =
-    let fits = text-fits texts.macros id place known.0 known.1 in
-    let all = h.definitions in
-    omega (arith, fits, all)
+own-short most texts (OpenDefault id place) h known = grind (arith, text-fits)
 
 -- nor is that of a scope
 scope-short : (most : ℕ) (texts : Texts) (opens : List Open) (k : ℕ) → AreShort most texts → AreInside texts opens → length (scope_text texts opens k) ≤ most
@@ -219,10 +187,7 @@ all-more P (e ∷ es) d all one = (all.0, all-more P es d all.1 one)
 pub digits-count : (opens : List Open) → length (cursor_digits opens) ≡ length opens
 unfolding cursor_digits
 digits-count [] = search rules
-digits-count (x ∷ below) =
-    let rest = digits-count below in
-    let more = ap (λ (ds : List ℕ). length ds) (digits-inner x below) ∙ length-append (cursor_digits below) (open_digit x ∷ []) in
-    omega (arith, rest, more)
+digits-count (x ∷ below) = grind (arith, digits-inner, length-append, (digits-count below))
 
 -- each is below the places of a digit, where no text has more bytes
 pub digits-short : (most places : ℕ) (texts : Texts) (opens : List Open) → AreShort most texts → AreInside texts opens → most + 1 < places
@@ -241,8 +206,7 @@ digits-short most places texts (x ∷ below) h inside room =
 pub outer-moved : (at : ℕ) (opens : List Open) → usage_id (moved_to at opens) ≡ usage_id opens
 unfolding usage_id moved_to
 outer-moved at [] = refl
-outer-moved at (x ∷ []) = refl
-outer-moved at (x ∷ y ∷ below) = refl
+outer-moved at _ = refl
 
 moved-many : (at : ℕ) (opens : List Open) → length (moved_to at opens) ≡ length opens
 unfolding moved_to
@@ -258,9 +222,8 @@ outer-more x (y ∷ below) some = refl
 -- where the innermost is closed
 outer-less : (opens : List Open) → StaysOutermost opens (drop 1 opens)
 unfolding usage_id
-outer-less [] = λ some. refl
 outer-less (x ∷ []) = λ some. absurd (omega (arith, some))
-outer-less (x ∷ y ∷ below) = λ some. refl
+outer-less _ = λ some. refl
 
 pub outer-closed : (view new : CursorsView) → new ≡ record view { opens = drop 1 view.opens } → StaysOutermost view.opens new.opens
 outer-closed view new e = subst (λ (v : CursorsView). StaysOutermost view.opens v.opens) (sym e) (outer-less view.opens)
@@ -275,16 +238,13 @@ outer-same view new e = λ some. ap (λ (v : CursorsView). usage_id v.opens) e
 
 -- where the innermost went on and one is opened in front of it
 pub outer-opened : (opens new : List Open) (x : Open) (at : ℕ) → 0 < length opens → new ≡ x ∷ moved_to at opens → StaysOutermost opens new
-outer-opened opens new x at some e =
-    let many = moved-many at opens in
-    λ more. ap usage_id e ∙ outer-more x (moved_to at opens) (omega (arith, many, some)) ∙ outer-moved at opens
+outer-opened opens new x at some e = grind (arith, moved-many, outer-more, outer-moved)
 
 -- where a call is opened or not
 pub outer-called : (macros : List Macro) (text : List ℕ) (view new : CursorsView) (end id parent at : ℕ) (o : Opening) → 0 < length view.opens → IsOpening macros text at end id parent view o new → StaysOutermost view.opens new.opens
 unfolding IsOpening
 outer-called macros text view new end id parent at Opened some b = outer-opened view.opens new.opens _ b.call.following some (ap (λ (v : CursorsView). v.opens) b.opens)
-outer-called macros text view new end id parent at (Lacks kind) some b = outer-same view new b.0
-outer-called macros text view new end id parent at Deep some b = outer-same view new b.0
+outer-called macros text view new end id parent at _ some b = outer-same view new b.0
 
 -- where a step was taken from a place further on
 pub outer-ahead : (opens mid new : List Open) (at : ℕ) → mid ≡ moved_to at opens → StaysOutermost mid new → StaysOutermost opens new
@@ -327,8 +287,7 @@ turned-call macros arguments text view new peek len at end id parent Opened l f 
     OpensBody peek.at len id b.call.following parts (peek-front (texts_of macros arguments) view.opens peek (front.Usage len) l f) used
     (bound-count macros text at end id b.call)
     (ap (λ (v : CursorsView). v.opens) b.opens ∙ ap (λ (h : ℕ). open_body (texts_of macros []) id parts h ∷ moved_to b.call.following view.opens) scope)
-turned-call macros arguments text view new peek len at end id parent (Lacks kind) l f used scope b = Stays (ap (λ (v : CursorsView). v.opens) b.0)
-turned-call macros arguments text view new peek len at end id parent Deep l f used scope b = Stays (ap (λ (v : CursorsView). v.opens) b.0)
+turned-call macros arguments text view new peek len at end id parent _ l f used scope b = Stays (ap (λ (v : CursorsView). v.opens) b.0)
 
 -- the innermost texts are closed, and then one more
 pub closes-more : (old mid new : List Open) → Closes old mid → new ≡ drop 1 mid → Closes old new
@@ -337,5 +296,4 @@ closes-more old mid new c e = (c.0 + 1, e ∙ ap (λ (opens : List Open). drop 1
 -- where no run is lent
 pub turned-unlent : (texts : Texts) (opens new : List Open) (step : CursorStep) → IsUnlent step → TurnsOver texts opens step new → Turned texts opens new
 turned-unlent texts opens new (Lends place) none t = absurd none
-turned-unlent texts opens new Silent none t = t
-turned-unlent texts opens new (Refused fault) none t = t
+turned-unlent texts opens new _ none t = t

@@ -5,9 +5,8 @@ use Rattle.std.proofs.lemmas.Bool.{false≢true}
 use Rattle.std.proofs.lemmas.Bool.Decides.{nat_tests}
 use Rattle.std.proofs.lemmas.Grind.{flat_map-append}
 use Rattle.std.proofs.lemmas.List.{reverse-append}
-use Rattle.std.proofs.lemmas.List.Elements.{All-cons, All-head, All-nil, All-tail}
+use Rattle.std.proofs.lemmas.List.Elements.{All-cons, All-head, All-tail}
 use Rattle.rdlpp_scan.specs.SourceTokens.{SourceToken}
-use Rattle.rdlpp_scan.specs.Tokens.{token_of}
 use Rattle.rdlpp_scan.specs.declared.token.Mode.TheVariants.{Plain}
 use Rattle.rdlpp_meaning.specs.Actuals.{Cut, Role, Space, after_leading_space, is_space, level_after, token_role, trimmed}
 use Rattle.rdlpp_meaning.specs.CallScan.{Split, all_parts, split, split_by}
@@ -37,8 +36,7 @@ solid role (x ∷ xs) = solid_front (is_space (role x)) x (solid role xs)
 solid_last : {A : Type 0} (b : Bool) (x z : A) (ys : List A) → solid_front b x (ys ++ z ∷ []) ≡ x ∷ (ys ++ z ∷ [])
 unfolding solid_front
 solid_last true x z [] = refl
-solid_last true x z (y ∷ ys) = refl
-solid_last false x z ys = refl
+solid_last _ x z ys = refl
 
 -- a last thing behind what is behind white space
 unfoldable last_after : {A : Type 0} → Bool → List A → A → List A
@@ -82,11 +80,7 @@ space_last_by role false y ys x e = last_more (is_space (role x)) y ys x
 
 -- what is behind white space, with one more thing at the end
 space_last : {A : Type 0} (role : A → Role) (ys : List A) (x : A) → after_leading_space role (ys ++ x ∷ []) ≡ last_after (is_space (role x)) (after_leading_space role ys) x
-space_last {A = A} role [] x =
-    space_front role x []
-    ∙ ap (λ (zs : List A). cond (is_space (role x)) zs (x ∷ [])) (space_nil role)
-    ∙ one_by (is_space (role x)) x
-    ∙ ap (λ (zs : List A). last_after (is_space (role x)) zs x) (sym (space_nil role))
+space_last {A = A} role [] x = grind (arith, space_front, space_nil, one_by)
 space_last {A = A} role (y ∷ ys) x =
     space_front role y (ys ++ x ∷ [])
     ∙ space_last_by role (is_space (role y)) y ys x (space_last role ys x)
@@ -126,8 +120,7 @@ pub record HasSolid {A : Type 0} (role : A → Role) (xs : List A) : Type 0 wher
 solid_front_whole : {A : Type 0} (b : Bool) (x : A) (s tail : List A) → (rest : List A) × (x ∷ (s ++ tail) ≡ solid_front b x s ++ rest)
 unfolding solid_front
 solid_front_whole true x [] tail = (x ∷ tail, refl)
-solid_front_whole true x (y ∷ ys) tail = (tail, refl)
-solid_front_whole false x s tail = (tail, refl)
+solid_front_whole _ x s tail = (tail, refl)
 
 -- they do
 pub has_solid : {A : Type 0} (role : A → Role) (xs : List A) → HasSolid role xs
@@ -195,10 +188,7 @@ cut_here : (closes : Bool) (r : Role) (k : ℕ) (t : SourceToken) (ts : List Sou
     → split_by r k t (split token_role (level_after r k) (inner_tokens closes (level_after r k) ts))
     ≡ record { first = []; further = all_parts (split token_role 0 (inner_tokens closes 0 ts)) }
 unfolding split_by all_parts
-cut_here closes r k t ts e f =
-    ap (λ (n : ℕ). split_by r k t (split token_role n (inner_tokens closes n ts))) (cut_level r k e f)
-    ∙ ap (λ (q : Role). split_by q k t (split token_role 0 (inner_tokens closes 0 ts))) e
-    ∙ ap (λ (n : ℕ). split_by Cut n t (split token_role 0 (inner_tokens closes 0 ts))) f
+cut_here closes r k t ts e f = grind (arith, cut_level)
 
 -- anything else is of the first part
 not_cut : (r : Role) (k : ℕ) (t : SourceToken) (s : Split SourceToken) → ends_part r k ≡ false
@@ -221,27 +211,8 @@ solid_step false at end t (y ∷ ys) = let n = length-append t.bytes (bytes_of (
 follows_step : (closes : Bool) (at : ℕ) (end : PartEnd) (t : SourceToken) (ts inner first : List SourceToken) (further : List (List SourceToken))
     → FollowsIn closes (at + length t.bytes) end ts inner first further → FollowsIn closes at end (t ∷ ts) (t ∷ inner) (t ∷ first) further
 unfolding FollowsIn
-follows_step closes at (Comma n) t ts inner first further c =
-    let size = length-append t.bytes (bytes_of first) in
-    let all = length-append t.bytes (bytes_of inner) in
-    record {
-      comma = c.comma;
-      more = c.more;
-      whole = ap (λ (us : List SourceToken). t ∷ us) c.whole;
-      cuts = c.cuts;
-      place = omega (arith, c.place, size);
-      size = omega (arith, c.size, all);
-      parts = c.parts;
-    }
-follows_step closes at (Last n) t ts inner first further c =
-    let size = length-append t.bytes (bytes_of first) in
-    record {
-      more = c.more;
-      whole = ap (λ (us : List SourceToken). t ∷ us) c.whole;
-      same = ap (λ (us : List SourceToken). t ∷ us) c.same;
-      place = omega (arith, c.place, size);
-      parts = c.parts;
-    }
+follows_step closes at (Comma n) t ts inner first further c = grind (arith, length-append)
+follows_step closes at (Last n) t ts inner first further c = grind (arith, length-append)
 
 -- a part that is found, by whether the first token ends the call, and by whether it ends the part
 part_by : (ends cuts : Bool) (closes : Bool) (start at level end : ℕ) (t : SourceToken) (ts : List SourceToken) (p : Part) → ends_part (token_role t) level ≡ cuts
@@ -249,46 +220,14 @@ part_by : (ends cuts : Bool) (closes : Bool) (start at level end : ℕ) (t : Sou
     → IsPartIn closes start at level end (t ∷ ts) (cond ends [] (t ∷ inner_tokens closes (level_after (token_role t) level) ts))
     (cond ends (record { from = start; to = end; end = Last at }) (cond cuts (record { from = start; to = end; end = Comma (at + length t.bytes) }) p))
 unfolding split solid solid_end FollowsIn all_parts
-part_by true cuts closes start at level end t ts p is rest = record {
-  from_is = refl;
-  to_is = refl;
-  follows = record { more = t ∷ ts; whole = refl; same = refl; place = omega arith; parts = refl };
-}
-part_by false true closes start at level end t ts p is rest =
-    let e = ends_is (token_role t) level is in
-    let inner = inner_tokens closes (level_after (token_role t) level) ts in
-    let cut = cut_here closes (token_role t) level t ts e.0 e.1 in
-    let same : length (bytes_of inner) ≡ length (bytes_of (inner_tokens closes 0 ts)) =
-    ap (λ (n : ℕ). length (bytes_of (inner_tokens closes n ts))) (cut_level (token_role t) level e.0 e.1) in
-    let size = length-append t.bytes (bytes_of inner) in
-    record {
-      from_is = refl;
-      to_is = sym (ap (λ (x : Split SourceToken). solid_end at end (solid token_role x.first)) cut);
-      follows = subst (λ (x : Split SourceToken). IsCutAt closes at (at + length t.bytes) (t ∷ ts) (t ∷ inner) x.first x.further) (sym cut)
-          (record { comma = t; more = ts; whole = refl; cuts = e.0; place = omega arith; size = omega (arith, same, size); parts = refl });
-    }
-part_by false false closes start at level end t ts p is rest =
-    let inner = inner_tokens closes (level_after (token_role t) level) ts in
-    let s : Split SourceToken = split token_role (level_after (token_role t) level) inner in
-    let same = not_cut (token_role t) level t s is in
-    record {
-      from_is = rest.from_is;
-      to_is =
-          rest.to_is
-          ∙ solid_step (is_space (token_role t)) at end t (solid token_role s.first)
-          ∙ sym (ap (λ (x : Split SourceToken). solid_end at end (solid token_role x.first)) same);
-      follows = subst (λ (x : Split SourceToken). FollowsIn closes at p.end (t ∷ ts) (t ∷ inner) x.first x.further) (sym same)
-          (follows_step closes at p.end t ts inner s.first s.further rest.follows);
-    }
+part_by true cuts closes start at level end t ts p is rest = grind arith
+part_by false true closes start at level end t ts p is rest = grind (arith, ends_is, cut_here, cut_level, length-append)
+part_by false false closes start at level end t ts p is rest = grind (arith, not_cut, solid_step, follows_step)
 
 -- each part that is found lies so
 part_in : (ts : List SourceToken) (closes : Bool) (start at level end : ℕ) → IsPartIn closes start at level end ts (inner_tokens closes level ts) (part_from closes start at level end ts)
 unfolding part_from inner_tokens split solid solid_end FollowsIn
-part_in [] closes start at level end = record {
-  from_is = refl;
-  to_is = refl;
-  follows = record { more = []; whole = refl; same = refl; place = omega arith; parts = refl };
-}
+part_in [] closes start at level end = grind arith
 part_in (t ∷ ts) closes start at level end =
     let here = at + length t.bytes in
     let e = cond (is_space (token_role t)) end here in
@@ -316,28 +255,14 @@ space_is r e = absurd (false≢true e)
 -- it ends no call, and opens nothing
 space_inner : (closes : Bool) (t : SourceToken) (ts : List SourceToken) → token_role t ≡ Space → inner_tokens closes 0 (t ∷ ts) ≡ t ∷ inner_tokens closes 0 ts
 unfolding inner_tokens level_after ends_text ends_call
-space_inner closes t ts is =
-    ap (λ (r : Role). cond (ends_text closes r 0) [] (t ∷ inner_tokens closes (level_after r 0) ts)) is
-    ∙ ap (λ (b : Bool). cond b [] (t ∷ inner_tokens closes 0 ts)) (none closes)
-  where
-    none : (closes : Bool) → ends_text closes Space 0 ≡ false
-    none true = refl
-    none false = refl
+space_inner closes t ts is = grind arith
 
 -- the first part that begins with what isn't white space has none in front
 solid_first : (cuts : Bool) (t : SourceToken) (s : Split SourceToken) → ends_part (token_role t) 0 ≡ cuts → is_space (token_role t) ≡ false
     → after_leading_space token_role (split_by (token_role t) 0 t s).first ≡ (split_by (token_role t) 0 t s).first
 unfolding split_by
-solid_first true t s e other =
-    let c = ends_is (token_role t) 0 e in
-    let empty : (split_by (token_role t) 0 t s).first ≡ [] = ap (λ (q : Role). (split_by q 0 t s).first) c.0 in
-    ap (after_leading_space token_role) empty ∙ space_nil token_role ∙ sym empty
-solid_first false t s e other =
-    let first : (split_by (token_role t) 0 t s).first ≡ t ∷ s.first = ap (λ (x : Split SourceToken). x.first) (not_cut (token_role t) 0 t s e) in
-    ap (after_leading_space token_role) first
-    ∙ space_front token_role t s.first
-    ∙ ap (λ b. cond b (after_leading_space token_role s.first) (t ∷ s.first)) other
-    ∙ sym first
+solid_first true t s e other = grind (arith, ends_is, space_nil)
+solid_first false t s e other = grind (arith, not_cut, space_front)
 
 -- or it is empty
 inner_first : (ends : Bool) (t : SourceToken) (ts : List SourceToken) → is_space (token_role t) ≡ false
@@ -373,33 +298,12 @@ lead_by true closes at t ts e h =
           ∙ h.first;
       further = ap (λ (x : Split SourceToken). x.further) here ∙ h.further;
     }
-lead_by false closes at t ts e h =
-    let there : space_from at (t ∷ ts) ≡ at = ap (λ b. cond b (space_from (at + length t.bytes) ts) at) e in
-    record {
-      lead = [];
-      rest = t ∷ ts;
-      whole = refl;
-      spaces = All-nil (λ u. token_role u ≡ Space);
-      place = omega (arith, there);
-      inner = refl;
-      first = inner_first (ends_text closes (token_role t) 0) t (inner_tokens closes (level_after (token_role t) 0) ts) e;
-      further = refl;
-    }
+lead_by false closes at t ts e h = grind (arith, inner_first)
 
 -- there is such white space, or none
 has_lead : (ts : List SourceToken) (closes : Bool) (at : ℕ) → HasLead closes at ts
 unfolding space_from split inner_tokens
-has_lead [] closes at =
-    record {
-      lead = [];
-      rest = [];
-      whole = refl;
-      spaces = All-nil (λ u. token_role u ≡ Space);
-      place = omega arith;
-      inner = refl;
-      first = space_nil token_role;
-      further = refl;
-    }
+has_lead [] closes at = grind (arith, space_nil)
 has_lead (t ∷ ts) closes at = lead_by (is_space (token_role t)) closes at t ts refl (has_lead ts closes (at + length t.bytes))
 
 -- behind white space a text goes on as plain text
@@ -468,14 +372,7 @@ first_more closes at (Last n) ts inner first further c = (c.more, c.whole)
 -- a text has tokens where it has bytes
 has_tokens : (bs : List ℕ) → nat_lt 0 (length (body_tokens bs)) ≡ nat_lt 0 (length bs)
 has_tokens [] = ap (λ (ts : List SourceToken). nat_lt 0 (length ts)) (body_text [] ∙ text_nil Plain)
-has_tokens (b ∷ bs) =
-    let T = b ∷ bs in
-    let step = text_step Plain T (omega arith) in
-    let n = length (text_tokens (token_of Plain T).next_mode (drop (token_of Plain T).len T)) in
-    ap (λ (ts : List SourceToken). nat_lt 0 (length ts)) (body_text T ∙ step) ∙ some_more n (length bs)
-  where
-    some_more : (k m : ℕ) → nat_lt 0 (suc k) ≡ nat_lt 0 (suc m)
-    some_more k m = grind (arith, nat_tests)
+has_tokens (b ∷ bs) = grind (arith, text_step, nat_lt, body_text, nat_tests)
 
 -- a range has bytes where its end is behind its beginning
 range_some : (from to n : ℕ) → n ≡ to - from → nat_lt from to ≡ nat_lt 0 n

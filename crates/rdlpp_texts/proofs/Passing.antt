@@ -1,14 +1,12 @@
 -- Steps of open texts: runs that are copied, and fronts that are neither a formal nor a usage.
-use Rattle.std.proofs.Common.{◌≡◌, ℕ, suc, ◌+◌, ◌-◌, ◌<◌, ◌≤◌, Bool, true, false, true≢false, List, [], ◌∷◌, ◌++◌, length, take, drop, refl, sym, ap, subst, ◌∙◌, arith, Option, None, Some, zero, All, unwrap_or, option_map, if◌then◌else◌, nat_lt, slice_index, slice_index_or, slice_range, ◌==◌, take-add, drop-drop, length-drop, length-take, take-take}
+use Rattle.std.proofs.Common.{◌≡◌, ℕ, suc, ◌+◌, ◌-◌, ◌<◌, ◌≤◌, Bool, true, false, true≢false, List, [], ◌∷◌, length, take, drop, refl, sym, ap, subst, ◌∙◌, arith, Option, None, Some, zero, All, unwrap_or, option_map, if◌then◌else◌, nat_lt, slice_index_or, slice_range, take-add, drop-drop, length-drop, length-take, take-take}
 use Rattle.std.specs.List.{AllByRecursion}
 use Rattle.std.proofs.lemmas.List.Elements.{All-tail}
-use Rattle.rdlpp_scan.specs.Bytes.{begins_perl, ends_block_comment}
-use Rattle.rdlpp_scan.specs.CleanTexts.{IsCleanText}
 use Rattle.rdlpp_scan.specs.SourceTokens.{Ordinary, SourceToken}
 use Rattle.rdlpp_scan.specs.TokenKinds.{opens_mode}
-use Rattle.rdlpp_scan.specs.Tokens.{block_token, first_place, string_stop, string_token, token_of, tokens_from, whole}
+use Rattle.rdlpp_scan.specs.Tokens.{block_token, string_token, token_of, tokens_from, whole}
 use Rattle.rdlpp_scan.specs.declared.token.Kind.{Kind}
-use Rattle.rdlpp_scan.specs.declared.token.Kind.TheVariants.{Back, BareBackquote, BlockComment, Name, Perl, Str}
+use Rattle.rdlpp_scan.specs.declared.token.Kind.TheVariants.{Back, BareBackquote, Name, Perl}
 use Rattle.rdlpp_scan.specs.declared.token.Mode.{Mode}
 use Rattle.rdlpp_scan.specs.declared.token.Mode.TheVariants.{InBlock, InStr, Plain}
 use Rattle.rdlpp_scan.specs.declared.token.Token.{Token}
@@ -17,7 +15,7 @@ use Rattle.rdlpp_scan.proofs.StopKinds.{closed_kind_plain}
 use Rattle.rdlpp_scan.proofs.TokenLens.{token_of-part, tokens_from-step}
 use Rattle.rdlpp_table.specs.ExpansionPoints.{is_none, point_at, point_name}
 use Rattle.rdlpp_table.specs.Table.{Formal}
-use Rattle.rdlpp_table.specs.View.{IsSound, TableView, formal_at, formal_named, formals_of, macro_at, no_formal, no_macro}
+use Rattle.rdlpp_table.specs.View.{IsSound, TableView, formal_at, formal_named, formals_of, macro_at}
 use Rattle.rdlpp_meaning.specs.Actuals.{token_role}
 use Rattle.rdlpp_meaning.specs.CallScan.{is_kept}
 use Rattle.rdlpp_meaning.specs.Expansion.{is_copied}
@@ -32,9 +30,9 @@ use Rattle.rdlpp_meaning.specs.declared.fault.FaultKind.TheVariants.{BareBackquo
 use Rattle.rdlpp_meaning.proofs.OpenScopes.{Alone, following-formals, following-open, first_after, first_bytes, first_kind, part-whole, range_after, standing-found}
 use Rattle.rdlpp_meaning.proofs.OpenSteps.{first_token, left-mode, step-bare as left-bare, step-closes, step-copies, step-formal as left-formal, step-formal_deep as left-formal_deep}
 use Rattle.rdlpp_meaning.proofs.Outcomes.{and_then-gives_gives, and_then-gives_nil}
-use Rattle.rdlpp_meaning.proofs.KeptTexts.{HasCleanTexts, clean_keeps_all, clean_table, first_spelled, text_nil, text_step}
+use Rattle.rdlpp_meaning.proofs.KeptTexts.{clean_keeps_all, clean_table, first_spelled, text_nil, text_step}
 use Rattle.rdlpp_texts.specs.BoundCalls.{KeepsAll}
-use Rattle.rdlpp_texts.specs.Digits.{IsFalling, cursor_digits}
+use Rattle.rdlpp_texts.specs.Digits.{IsFalling}
 use Rattle.rdlpp_texts.specs.TextItems.{AreCopied, IsTextItem, IsPeek, IsPeekAhead, run_len}
 use Rattle.rdlpp_texts.specs.Opened.{CursorsView, moved_to}
 use Rattle.rdlpp_texts.specs.Places.{place_bytes, source_formals, source_text, texts_of}
@@ -45,7 +43,6 @@ use Rattle.rdlpp_texts.specs.declared.peek.TextItem.TheVariants as front
 use Rattle.rdlpp_texts.specs.declared.peek.Peek.{Peek}
 use Rattle.rdlpp_texts.specs.declared.place.TextPlace.{TextPlace}
 use Rattle.rdlpp_texts.specs.declared.place.TextSource.{TextSource}
-use Rattle.rdlpp_texts.specs.declared.place.TextSource.TheVariants.{Arguments}
 use Rattle.rdlpp_texts.specs.declared.step.CursorFault.{CursorFault}
 use Rattle.rdlpp_texts.specs.declared.step.CursorStep.{CursorStep}
 use Rattle.rdlpp_texts.specs.declared.step.CursorStep.TheVariants.{Lends, Refused, Silent}
@@ -91,16 +88,12 @@ choice-none formals at bytes false t u h k = k
 -- the rest of a string is no stop
 string-none : (formals : List Formal) (at from : ℕ) (text bytes : List ℕ) → is_none (point_at formals at (string_token from text) bytes) ≡ true
 unfolding string_token whole point_at is_none of_kind
-string-none formals at from text bytes =
-    let point = from + string_stop false (drop from text) in
-    choice-none formals at bytes (slice_index text point == 34) (whole Str (suc point)) (of_kind Str point InStr) refl refl
+string-none formals at from text bytes = grind (arith, choice-none)
 
 -- nor is that of a comment
 block-none : (formals : List Formal) (at from : ℕ) (text bytes : List ℕ) → is_none (point_at formals at (block_token from text) bytes) ≡ true
 unfolding block_token whole point_at is_none of_kind
-block-none formals at from text bytes =
-    let point = from + first_place ends_block_comment (drop from text) in
-    choice-none formals at bytes (nat_lt point (length text)) (whole BlockComment (point + 2)) (of_kind BlockComment point InBlock) refl refl
+block-none formals at from text bytes = grind (arith, choice-none, nat_lt)
 
 -- nor is `<%`
 perl-none : (formals : List Formal) (at : ℕ) (bytes : List ℕ) → is_none (point_at formals at (whole Perl 2) bytes) ≡ true
@@ -116,17 +109,13 @@ pub point-plain : (formals : List Formal) (at : ℕ) (m : Mode) (text bytes : Li
     → is_none (point_at formals at (token_of m text) bytes) ≡ false → m ≡ Plain
 unfolding token_of
 point-plain formals at Plain text bytes e = refl
-point-plain formals at InStr text bytes e =
-    holds-fails (is_none (point_at formals at (if begins_perl text then whole Perl 2 else string_token 0 text) bytes))
-    (choice-none formals at bytes (begins_perl text) (whole Perl 2) (string_token 0 text) (perl-none formals at bytes) (string-none formals at 0 text bytes)) e
+point-plain formals at InStr text bytes e = grind (arith, choice-none, perl-none, string-none)
 point-plain formals at InBlock text bytes e =
     holds-fails (is_none (point_at formals at (block_token 0 text) bytes)) (block-none formals at 0 text bytes) e
 
 -- a part of a text behind some of its bytes
 pub slice-following : (text : List ℕ) (from to n : ℕ) → n ≤ length (slice_range text from to) → slice_range text (from + n) to ≡ drop n (slice_range text from to)
-slice-following text from to n h =
-    let size = length-take (to - from) (drop from text) in
-    sym (range_after text from to n (omega (arith, h, size)))
+slice-following text from to n h = grind (arith, length-take, range_after)
 
 -- what is left of an open text behind some of its bytes
 pub bytes-following : (texts : Texts) (x : Open) (below : List Open) (n : ℕ) (mode : Mode) → n ≤ length (open_bytes texts x below)
@@ -137,9 +126,7 @@ bytes-following texts x below n mode h = slice-following (text_around texts x.ki
 -- an open text behind some bytes and then others
 following-following : (x : Open) (n m : ℕ) (mode next : Mode) → open_after (open_after x n mode) m next ≡ open_after x (n + m) next
 unfolding open_after
-following-following x n m mode next =
-    let e : x.part.from + n + m ≡ x.part.from + (n + m) = omega arith in
-    ap (λ (from : ℕ). record { part = record { from = from; end = x.part.end; mode = next }; parent = x.parent; kind = x.kind }) e
+following-following x n m mode next = grind arith
 
 -- the formals of the scope of an open text
 abbrev pub HasFormals : Texts → List Formal → Open → List Open → Type 0
@@ -178,18 +165,7 @@ run-none : (rules : Rules) (s : State) (line depth : ℕ) (texts : Texts) (x : O
     → text_tokens x.part.mode (open_bytes texts x below) ≡ text_tokens Plain (open_bytes texts x below)
     → IsRun rules s line depth texts x below 0
 unfolding open_after
-run-none rules s line depth texts x below e = record {
-  inside = omega arith;
-  mode = x.part.mode;
-  plain = e;
-  goes = ap (λ (y : Open). open_left rules s line depth texts (y ∷ below)) same
-      ∙ sym (and_then-gives_nil (open_left rules s line depth texts (open_after x 0 x.part.mode ∷ below)));
-}
-  where
-    same : x ≡ open_after x 0 x.part.mode
-    same =
-        let e : x.part.from ≡ x.part.from + 0 = omega arith in
-        ap (λ (from : ℕ). record { part = record { from = from; end = x.part.end; mode = x.part.mode }; parent = x.parent; kind = x.kind }) e
+run-none rules s line depth texts x below e = grind (arith, and_then-gives_nil)
 
 -- one more token
 run-more : (rules : Rules) (s : State) (line depth : ℕ) (texts : Texts) (formals : List Formal) (x : Open) (below : List Open) (n : ℕ)
@@ -198,39 +174,12 @@ run-more : (rules : Rules) (s : State) (line depth : ℕ) (texts : Texts) (forma
     → IsRun rules s line depth texts (first_after texts x below) below n
     → IsRun rules s line depth texts x below ((token_of x.part.mode (open_bytes texts x below)).len + n)
 unfolding first_bytes first_after
-run-more rules s line depth texts formals x below n h f some e r =
-    let bytes = open_bytes texts x below in
-    let t = token_of x.part.mode bytes in
-    let part = token_of-part x.part.mode bytes some in
-    let rest : open_bytes texts (open_after x t.len t.next_mode) below ≡ drop t.len bytes = bytes-following texts x below t.len t.next_mode part.inside in
-    let own : take t.len bytes ++ take n (open_bytes texts (open_after x t.len t.next_mode) below) ≡ take (t.len + n) bytes =
-    ap (λ (b : List ℕ). take t.len bytes ++ take n b) rest ∙ sym (take-add t.len n bytes) in
-    let left : drop n (open_bytes texts (open_after x t.len t.next_mode) below) ≡ drop (t.len + n) bytes =
-    ap (λ (b : List ℕ). drop n b) rest ∙ drop-drop n t.len bytes in
-    let last : Outcome = open_left rules s line depth texts (open_after (open_after x t.len t.next_mode) n r.mode ∷ below) in
-    record {
-      inside = fits t.len n (open_bytes texts (open_after x t.len t.next_mode) below) bytes rest part.inside r.inside;
-      mode = r.mode;
-      plain = subst (λ (b : List ℕ). text_tokens r.mode b ≡ text_tokens Plain b) left r.plain;
-      goes = first-goes rules s line depth texts formals x below h f some e
-          ∙ ap (λ (o : Outcome). and_then (gives (take t.len bytes)) o) r.goes
-          ∙ and_then-gives_gives (take t.len bytes) (take n (open_bytes texts (open_after x t.len t.next_mode) below)) last
-          ∙ ap (λ (b : List ℕ). and_then (gives b) last) own
-          ∙ ap (λ (y : Open). and_then (gives (take (t.len + n) bytes)) (open_left rules s line depth texts (y ∷ below))) (following-following x t.len n t.next_mode r.mode);
-    }
-  where
-    fits : (a b : ℕ) (xs ys : List ℕ) → xs ≡ drop a ys → a ≤ length ys → b ≤ length xs → a + b ≤ length ys
-    fits a b xs ys e p q = let l = length-drop a ys in let k = ap (λ (zs : List ℕ). length zs) e in omega (arith, l, k, p, q)
+run-more rules s line depth texts formals x below n h f some e r = grind (arith, token_of-part, bytes-following, take-add, drop-drop, first-goes, and_then-gives_gives, following-following, length-drop)
 
 -- an empty text has the same tokens in each mode
 pub nil-same : (m : Mode) (bytes : List ℕ) → tokens_from m 0 bytes ≡ [] → text_tokens m bytes ≡ text_tokens Plain bytes
 nil-same m [] e = text_nil m ∙ sym (text_nil Plain)
-nil-same m (b ∷ bs) e =
-    let some : 0 < length (b ∷ bs) = omega arith in
-    absurd (none (token_of m (b ∷ bs)) (tokens_from m 0 (b ∷ bs)) _ e (tokens_from-step m (b ∷ bs) some (token_of-part m (b ∷ bs) some).not_empty))
-  where
-    none : (t : Token) (xs ys : List Token) → xs ≡ [] → xs ≡ t ∷ ys → ⊥
-    none t xs ys p q = cc
+nil-same m (b ∷ bs) e = grind (arith, tokens_from-step, token_of-part)
 
 -- the tokens before the first stop are a run, by whether the first one is a stop
 run-by : (rules : Rules) (s : State) (line depth : ℕ) (texts : Texts) (formals : List Formal) (ts : List Token) (x : Open) (below : List Open) (none : Bool)
@@ -240,9 +189,7 @@ run-by : (rules : Rules) (s : State) (line depth : ℕ) (texts : Texts) (formals
     → IsRun rules s line depth texts x below (if none then (token_of x.part.mode (open_bytes texts x below)).len + run_len formals ts (drop (token_of x.part.mode (open_bytes texts x below)).len (open_bytes texts x below)) else 0)
 run-by rules s line depth texts formals ts x below true h f some e r =
     run-more rules s line depth texts formals x below _ h f some e r
-run-by rules s line depth texts formals ts x below false h f some e r =
-    let m : x.part.mode ≡ Plain = point-plain formals 0 x.part.mode (open_bytes texts x below) (first_bytes texts x below) e in
-    run-none rules s line depth texts x below (ap (λ (mode : Mode). text_tokens mode (open_bytes texts x below)) m)
+run-by rules s line depth texts formals ts x below false h f some e r = grind (arith, point-plain, run-none)
 
 -- the tokens before the first stop are a run
 pub run-is : (rules : Rules) (s : State) (line depth : ℕ) (texts : Texts) (formals : List Formal) (ts : List Token) (x : Open) (below : List Open)
@@ -294,18 +241,12 @@ at-each P (x ∷ xs) (suc place) d all h = at-each P xs place d all.1 (omega (ar
 
 -- no call in the body of a table's macro drops a token
 pub body-keeps : (table : TableView) (id : ℕ) → IsSound table → id < length table.macros → KeepsAll (body_tokens (macro_at table.macros id).body)
-body-keeps table id sound h =
-    let clean = at-each HasCleanTexts table.macros id no_macro (clean_table table sound) h in
-    keeps_all_by (body_tokens (macro_at table.macros id).body) (clean_keeps_all (macro_at table.macros id).body clean.body)
+body-keeps table id sound h = grind (arith, at-each, clean_table, keeps_all_by, clean_keeps_all)
 
 -- nor one in the default text of a formal
 pub default-keeps : (table : TableView) (id place : ℕ) → IsSound table → id < length table.macros → place < length (formals_of (macro_at table.macros id))
     → KeepsAll (body_tokens (formal_at (formals_of (macro_at table.macros id)) place).text)
-default-keeps table id place sound h k =
-    let clean = at-each HasCleanTexts table.macros id no_macro (clean_table table sound) h in
-    let fs = formals_of (macro_at table.macros id) in
-    keeps_all_by (body_tokens (formal_at fs place).text) (clean_keeps_all (formal_at fs place).text
-    (at-each (λ (f : Formal). IsCleanText f.text) fs place no_formal clean.defaults k))
+default-keeps table id place sound h k = grind (arith, at-each, clean_table, keeps_all_by, clean_keeps_all)
 
 -- what holds of the tokens of a text holds of those behind the first
 following-first : (P : SourceToken → Type 0) (m : Mode) (bytes : List ℕ) → 0 < length bytes → All P (text_tokens m bytes)
@@ -342,11 +283,7 @@ pub sound-moved : (texts : Texts) (x : Open) (below : List Open) (at : ℕ) → 
     → KeepsAll (part_tokens (text_around texts x.kind x.parent below) (record { from = at; end = x.part.end; mode = Plain }))
     → AreSound texts (moved_to at (x ∷ below))
 unfolding moved_to
-sound-moved texts x below at h keeps = record {
-  are_open = h.are_open;
-  are_inside = ((h.are_inside).0, (((h.are_inside).1).0, (refl, (((h.are_inside).1).1).1)));
-  are_kept = (keeps, (h.are_kept).1);
-}
+sound-moved texts x below at h keeps = grind arith
 
 -- they are behind some bytes, where it is so of these bytes
 bytes-sound : (texts : Texts) (x : Open) (below : List Open) (n : ℕ) → AreSound texts (x ∷ below) → n ≤ length (open_bytes texts x below)
@@ -399,11 +336,7 @@ pub step-run : (line depth : ℕ) (texts : Texts) (x : Open) (below : List Open)
     → take n (open_bytes texts x below) ≡ place_bytes texts place
     → IsStep line depth texts (x ∷ below) (Lends place) (moved_to (x.part.from + n) (x ∷ below))
 unfolding IsStep StepsTo AreCopied moved_to open_after
-step-run line depth texts x below n place h some f p rules s m =
-    let mode : x.part.mode ≡ Plain = (h.are_inside).1.1.0 in
-    (run-goes rules s line depth texts (source_formals texts (front_source (x ∷ below))) x below n h.are_open (front-formals texts x below (h.are_open).0)
-    (ap (λ (md : Mode). run_len (source_formals texts (front_source (x ∷ below))) (tokens_from md 0 (open_bytes texts x below)) (open_bytes texts x below)) mode ∙ f.1))
-    ∙ ap (λ (bytes : List ℕ). and_then (gives bytes) (open_left rules s line depth texts (open_after x n Plain ∷ below))) p
+step-run line depth texts x below n place h some f p rules s m = grind (arith, run-goes, front-formals)
 
 -- the kind of the first token
 pub kind-first : (texts : Texts) (x : Open) (below : List Open) (kind : Kind) → x.part.mode ≡ Plain → (token_of Plain (open_bytes texts x below)).kind ≡ kind
@@ -423,27 +356,19 @@ pub step-bare : (line depth : ℕ) (texts : Texts) (x : Open) (below : List Open
     → fault.kind ≡ NoName → place_bytes texts fault.word ≡ []
     → IsStep line depth texts (x ∷ below) (Refused fault) new
 unfolding IsStep StepsTo IsTextItem
-step-bare line depth texts x below new fault h f k w rules s m =
-    left-bare rules s line depth texts x below f.0 (kind-first texts x below BareBackquote (h.are_inside).1.1.0 f.1)
-    ∙ sym (fault-same s line texts fault NoName [] k w)
+step-bare line depth texts x below new fault h f k w rules s m = grind (arith, left-bare, kind-first, fault-same)
 
 -- the bytes of the first token
 pub bytes-first : (texts : Texts) (x : Open) (below : List Open) (len : ℕ) → x.part.mode ≡ Plain → (token_of Plain (open_bytes texts x below)).len ≡ len
     → first_bytes texts x below ≡ take len (open_bytes texts x below)
 unfolding first_bytes
-bytes-first texts x below len m e =
-    ap (λ (md : Mode). take (token_of md (open_bytes texts x below)).len (open_bytes texts x below)) m
-    ∙ ap (λ (n : ℕ). take n (open_bytes texts x below)) e
+bytes-first texts x below len m e = grind arith
 
 -- behind a first token of a kind that closes, the open text goes on as plain text
 pub first-moved : (texts : Texts) (x : Open) (below : List Open) (len : ℕ) → x.part.mode ≡ Plain → opens_mode (token_of Plain (open_bytes texts x below)).kind ≡ false
     → (token_of Plain (open_bytes texts x below)).len ≡ len → first_after texts x below ≡ open_after x len Plain
 unfolding first_after
-first-moved texts x below len m k e =
-    let bytes = open_bytes texts x below in
-    ap (λ (md : Mode). open_after x (token_of md bytes).len (token_of md bytes).next_mode) m
-    ∙ ap (λ (md : Mode). open_after x (token_of Plain bytes).len md) (closed_kind_plain Plain bytes k)
-    ∙ ap (λ (n : ℕ). open_after x n Plain) e
+first-moved texts x below len m k e = grind (arith, closed_kind_plain)
 
 -- a name closes
 pub name-closes : (kind : Kind) → kind ≡ Name → opens_mode kind ≡ false
@@ -455,10 +380,7 @@ pub first-formal : (texts : Texts) (x : Open) (below : List Open) (len place : �
     → (token_of Plain (open_bytes texts x below)).len ≡ len
     → formal_named (source_formals texts (front_source (x ∷ below))) (take len (open_bytes texts x below)) ≡ Some place
     → formal_named (scope_formals texts.macros (x ∷ below) (open_scope x below)) (first_bytes texts x below) ≡ Some place
-first-formal texts x below len place mode h e named =
-    ap (λ (name : List ℕ). formal_named (scope_formals texts.macros (x ∷ below) (open_scope x below)) name) (bytes-first texts x below len mode e)
-    ∙ sym (ap (λ (fs : List Formal). formal_named fs (take len (open_bytes texts x below))) (front-formals texts x below h))
-    ∙ named
+first-formal texts x below len place mode h e named = grind (arith, bytes-first, front-formals)
 
 -- what a formal stands for is opened, where there is room
 pub step-formal : (line depth : ℕ) (texts : Texts) (x : Open) (below : List Open) (len place : ℕ) (new : Open) → AreSound texts (x ∷ below)
@@ -503,15 +425,7 @@ peek-ended line depth texts (x ∷ below) peek h l e =
 -- the first bytes of a range of a text are those of a range of another one, which is the same if it has a byte
 pub same-front : (text other : List ℕ) (from end n : ℕ) → 0 < n → n ≤ length (slice_range text from end) → (0 < length text → other ≡ text)
     → take n (slice_range text from end) ≡ slice_range other from (from + n)
-same-front text other from end n some inside e =
-    let size = length-take (end - from) (drop from text) in
-    let rest = length-drop from text in
-    let byte : 0 < length text = omega (arith, size, rest, some, inside) in
-    let fits : n ≤ end - from = omega (arith, size, inside) in
-    let back : n ≡ from + n - from = omega arith in
-    take-take n (end - from) (drop from text) fits
-    ∙ ap (λ (t : List ℕ). take n (drop from t)) (sym (e byte))
-    ∙ ap (λ (k : ℕ). take k (drop from other)) back
+same-front text other from end n some inside e = grind (arith, length-take, length-drop, take-take)
 
 -- what is copied is lent
 pub peek-run : (line depth : ℕ) (texts : Texts) (opens : List Open) (peek : Peek) → AreSound texts opens → IsPeekAhead texts opens peek → peek.from < peek.at
@@ -565,13 +479,7 @@ pub sound-body : (table : TableView) (arguments : List ℕ) (id : ℕ) → IsSou
     → option_map (λ (fs : List Formal). length fs) (macro_at table.macros id).formals ≡ None
     → AreSound (texts_of table.macros arguments) (open_body (texts_of table.macros []) id [] 0 ∷ [])
 unfolding open_body text_around own_text
-sound-body table arguments id sound h e =
-    let body = (macro_at table.macros id).body in
-    record {
-      are_open = (omega arith, ((no-formals (macro_at table.macros id).formals e, tt), tt));
-      are_inside = (h, (omega arith, (refl, tt)));
-      are_kept = (subst (λ (ts : List SourceToken). KeepsAll ts) (sym (part-whole body)) (body-keeps table id sound h), (tt, tt));
-    }
+sound-body table arguments id sound h e = grind (arith, no-formals, part-whole, body-keeps)
 
 -- it is so whatever is seen of it
 pub sound-opened : (table : TableView) (arguments : List ℕ) (id line depth : ℕ) (view : CursorsView) → IsSound table → id < length table.macros
@@ -594,62 +502,32 @@ pub record IsPassed (texts : Texts) (view new : CursorsView) (step : CursorStep)
 pub pass-ended : (texts : Texts) (view new : CursorsView) (peek : Peek) → AreSound texts view.opens → IsPeek texts view.opens peek → peek.front ≡ front.Ended
     → new ≡ record { opens = drop 1 view.opens; line = view.line; depth = view.depth } → IsPassed texts view new Silent
 unfolding IsFalling StaysRefused
-pass-ended texts view new peek h l e is =
-    let p = peek-ended view.line view.depth texts view.opens peek h l e in
-    subst (λ (v : CursorsView). IsPassed texts view v Silent) (sym is) (record {
-      is_step = p.0;
-      sound = p.1;
-      kept = (refl, refl);
-      digits = falls-drop texts view.opens peek l;
-      refused = tt;
-    })
+pass-ended texts view new peek h l e is = grind (arith, peek-ended, falls-drop)
 
 -- what is copied is lent
 pub pass-run : (texts : Texts) (view new : CursorsView) (peek : Peek) → AreSound texts view.opens → IsPeekAhead texts view.opens peek → peek.from < peek.at
     → new ≡ record { opens = moved_to peek.at view.opens; line = view.line; depth = view.depth }
     → IsPassed texts view new (Lends (record { source = peek.source; from = peek.from; end = peek.at }))
 unfolding IsFalling StaysRefused
-pass-run texts view new peek h l more is =
-    subst (λ (v : CursorsView). IsPassed texts view v (Lends (record { source = peek.source; from = peek.from; end = peek.at }))) (sym is) (record {
-      is_step = peek-run view.line view.depth texts view.opens peek h l more;
-      sound = peek-passed texts view.opens peek h l;
-      kept = (refl, refl);
-      digits = peek-moves texts view.opens peek l more;
-      refused = tt;
-    })
+pass-run texts view new peek h l more is = grind (arith, peek-run, peek-passed, peek-moves)
 
 -- a lone backquote is a fault
 pub pass-bare : (texts : Texts) (view : CursorsView) (peek : Peek) → AreSound texts view.opens → IsPeek texts view.opens peek → peek.front ≡ front.Bare
     → IsPassed texts view view (wordless NoName)
 unfolding IsFalling StaysRefused
-pass-bare texts view peek h l e = record {
-  is_step = peek-bare view.line view.depth texts view.opens view.opens peek (record { kind = NoName; word = record { source = Arguments; from = 0; end = 0 } }) h l e refl (no-word texts Arguments);
-  sound = h;
-  kept = (refl, refl);
-  digits = tt;
-  refused = refl;
-}
+pass-bare texts view peek h l e = grind (arith, peek-bare, no-word)
 
 -- a silent step at another line and depth that are the same
 pub silent-on : (rules : Rules) (s : State) (texts : Texts) (view mid new : CursorsView) → (mid.line ≡ view.line) × (mid.depth ≡ view.depth)
     → open_left rules s mid.line mid.depth texts mid.opens ≡ open_left rules s mid.line mid.depth texts new.opens
     → open_left rules s view.line view.depth texts mid.opens ≡ open_left rules s view.line view.depth texts new.opens
-silent-on rules s texts view mid new kept e =
-    subst (λ (l : ℕ). open_left rules s l view.depth texts mid.opens ≡ open_left rules s l view.depth texts new.opens) kept.0
-    (subst (λ (d : ℕ). open_left rules s mid.line d texts mid.opens ≡ open_left rules s mid.line d texts new.opens) kept.1 e)
+silent-on rules s texts view mid new kept e = grind arith
 
 -- a run that is lent, and behind it a step that lends nothing, are one step
 pub pass-on : (texts : Texts) (view mid new : CursorsView) (place : TextPlace) → IsPassed texts view mid (Lends place) → IsPassed texts mid new Silent
     → IsPassed texts view new (Lends place)
 unfolding IsFalling StaysRefused IsStep StepsTo
-pass-on texts view mid new place p q = record {
-  is_step = λ rules s e.
-      p.is_step rules s e ∙ ap (λ (o : Outcome). and_then (gives (place_bytes texts place)) o) (silent-on rules s texts view mid new p.kept (q.is_step rules s e));
-  sound = q.sound;
-  kept = (q.kept.0 ∙ p.kept.0, q.kept.1 ∙ p.kept.1);
-  digits = falls-twice (cursor_digits view.opens) (cursor_digits mid.opens) (cursor_digits new.opens) p.digits q.digits;
-  refused = tt;
-}
+pass-on texts view mid new place p q = grind (arith, silent-on, falls-twice)
 
 -- so they are where that step is refused, and nothing changes
 pub pass-following : (texts : Texts) (view mid new : CursorsView) (place : TextPlace) (step : CursorStep) → IsPassed texts view mid (Lends place) → IsPassed texts mid new step

@@ -12,7 +12,6 @@ use Rattle.rdlpp_scan.specs.declared.token.Kind.{Kind}
 use Rattle.rdlpp_scan.specs.declared.token.Kind.TheVariants.{Back, BareBackquote, Blank, Closer, Comma, LineComment, LineEnd, Name, Opener, Other, Perl, Word}
 use Rattle.rdlpp_scan.specs.declared.token.Mode.{Mode}
 use Rattle.rdlpp_scan.specs.declared.token.Mode.TheVariants.{InBlock, InStr, Plain}
-use Rattle.rdlpp_scan.specs.declared.token.Token.{Token}
 use Rattle.rdlpp_scan.proofs.StopKinds.{both_first, digit_token, letter_token, parts, token_parts}
 use Rattle.rdlpp_scan.proofs.OrdinaryLaws.{no_first}
 use Rattle.rdlpp_scan.proofs.TokenLens.{token_of-part, tokens_from-step}
@@ -36,11 +35,7 @@ use Rattle.rdlpp_texts.proofs.Stopping.{passed, running-point}
 
 white_in : (P : ℕ → Type 0) (b : ℕ) → P 32 → P 9 → P 13 → P 11 → P 12 → P 10 → is_white b ≡ true → P b
 unfolding is_white is_blank is_line_end
-white_in P b space tab return vertical form line h =
-    let at : (n : ℕ) → P n → (b == n) ≡ true → P b = λ n p e. subst P (sym (eqb-true b n e)) p in
-    ⊎_elim
-    (λ h5. ⊎_elim (λ h4. ⊎_elim (λ h3. ⊎_elim (λ h2. ⊎_elim (at 32 space) (at 9 tab) (or_cases _ _ h2)) (at 13 return) (or_cases _ _ h3)) (at 11 vertical) (or_cases _ _ h4)) (at 12 form) (or_cases _ _ h5))
-    (at 10 line) (or_cases _ _ h)
+white_in P b space tab return vertical form line h = grind (arith, eqb-true, or_cases)
 
 pub white_plain_argument : (level b : ℕ) → is_white b ≡ true → is_plain_argument_at level b ≡ true
 unfolding is_plain_argument_at is_plain_argument is_opener is_closer
@@ -54,9 +49,8 @@ of_white false true h = absurd (cc)
 of_white false false h = absurd (cc)
 
 of_plain_argument : (w c : Bool) → PlainArgument ≡ cond w White (cond c PlainArgument Mark) → (w ≡ false) × (c ≡ true)
-of_plain_argument true c h = absurd (cc)
 of_plain_argument false true h = (refl, refl)
-of_plain_argument false false h = absurd (cc)
+of_plain_argument _ c h = absurd (cc)
 
 of_mark : (w c : Bool) → Mark ≡ cond w White (cond c PlainArgument Mark) → w ≡ false
 of_mark true c h = absurd (cc)
@@ -88,10 +82,7 @@ end_dark text at over = ap (begins_white Plain) (drop_all at text over)
 pub other_dark : (mode : Mode) (text : List ℕ) → (mode ≡ Plain → ⊥) → begins_white mode text ≡ false
 unfolding begins_white
 other_dark Plain text h = absurd (h refl)
-other_dark InStr [] h = refl
-other_dark InStr (b ∷ bs) h = refl
-other_dark InBlock [] h = refl
-other_dark InBlock (b ∷ bs) h = refl
+other_dark _ _ h = refl
 
 -- The class of a byte by where it stands in the byte table.
 
@@ -118,23 +109,17 @@ high_is false false false false = refl
 
 plain_argument_high : (b : ℕ) → 64 ≤ b → (not (b == 91) && (not (b == 123) && (not (b == 93) && not (b == 125)))) ≡ is_plain_argument b
 unfolding is_plain_argument is_opener is_closer
-plain_argument_high b high =
-    rw (unequal b 40 (λ e. omega (arith, e, high)), unequal b 41 (λ e. omega (arith, e, high)), unequal b 44 (λ e. omega (arith, e, high)), unequal b 34 (λ e. omega (arith, e, high)), unequal b 47 (λ e. omega (arith, e, high)), unequal b 60 (λ e. omega (arith, e, high)))
-    (high_is (b == 91) (b == 123) (b == 93) (b == 125))
+plain_argument_high b high = grind (arith, unequal, high_is)
 
 dark_over : (b : ℕ) → 32 < b → is_white b ≡ false
 unfolding is_white is_blank is_line_end
-dark_over b over =
-    rw (unequal b 32 (λ e. omega (arith, e, over)), unequal b 9 (λ e. omega (arith, e, over)), unequal b 13 (λ e. omega (arith, e, over)), unequal b 11 (λ e. omega (arith, e, over)), unequal b 12 (λ e. omega (arith, e, over)), unequal b 10 (λ e. omega (arith, e, over)))
-    refl
+dark_over b over = grind (arith, unequal)
 
 -- a byte from 64 on
 pub high_class : (level b : ℕ) (plain_argument : Bool) → 64 ≤ b → plain_argument ≡ (not (b == 91) && (not (b == 123) && (not (b == 93) && not (b == 125))))
     → cond plain_argument PlainArgument Mark ≡ byte_class level b
 unfolding is_plain_argument_at
-high_class level b plain_argument high is =
-    dark_class level b plain_argument (dark_over b (omega (arith, high)))
-    (is ∙ plain_argument_high b high ∙ or_none (is_plain_argument b) ∙ sym (ap (λ (t : Bool). is_plain_argument b || (t && nat_lt 0 level)) (unequal b 44 (λ e. omega (arith, e, high)))))
+high_class level b plain_argument high is = grind (arith, dark_class, dark_over, plain_argument_high, or_none, nat_lt, unequal)
 
 low_is : (o c x : Bool) → (not o && (not c && x)) ≡ (not ((o || false) || false) && (not ((c || false) || false) && x))
 low_is true c x = refl
@@ -144,21 +129,14 @@ low_is false false x = refl
 plain_argument_low : (b : ℕ) → b < 64
     → (not (b == 40) && (not (b == 41) && (not (b == 44) && (not (b == 34) && (not (b == 47) && not (b == 60)))))) ≡ is_plain_argument b
 unfolding is_plain_argument is_opener is_closer
-plain_argument_low b low =
-    rw (unequal b 91 (λ e. omega (arith, e, low)), unequal b 123 (λ e. omega (arith, e, low)), unequal b 93 (λ e. omega (arith, e, low)), unequal b 125 (λ e. omega (arith, e, low)))
-    (low_is (b == 40) (b == 41) (not (b == 44) && (not (b == 34) && (not (b == 47) && not (b == 60)))))
+plain_argument_low b low = grind (arith, unequal, low_is)
 
 -- one between the blank and 64 that is no comma
 pub mark_class : (level b : ℕ) (plain_argument : Bool) → b < 64 → 32 < b → (b ≡ 44 → ⊥)
     → plain_argument ≡ (not (b == 40) && (not (b == 41) && (not (b == 34) && (not (b == 47) && not (b == 60)))))
     → cond plain_argument PlainArgument Mark ≡ byte_class level b
 unfolding is_plain_argument_at
-mark_class level b plain_argument low over other is =
-    let none = unequal b 44 other in
-    let rest = not (b == 34) && (not (b == 47) && not (b == 60)) in
-    dark_class level b plain_argument (dark_over b over)
-    (is ∙ sym (ap (λ (t : Bool). not (b == 40) && (not (b == 41) && (not t && rest))) none) ∙ plain_argument_low b low
-    ∙ or_none (is_plain_argument b) ∙ sym (ap (λ (t : Bool). is_plain_argument b || (t && nat_lt 0 level)) none))
+mark_class level b plain_argument low over other is = grind (arith, unequal, dark_class, dark_over, plain_argument_low, or_none, nat_lt)
 
 -- a comma, which is plain argument within further openers
 pub comma_class : (level b : ℕ) → b ≡ 44 → cond (nat_lt 0 level) PlainArgument Mark ≡ byte_class level b
@@ -201,9 +179,7 @@ space_turn false start at level end text n f = rest_turn false Plain text start 
 -- the search passes the word at the front of a text, if there is one
 word_skip : (closes : Bool) (start at level : ℕ) (bs : List ℕ) (n : ℕ) → n ≡ prefix_len is_word bs
     → part_from closes start at level at (text_tokens Plain bs) ≡ part_from closes start (at + n) level (at + n) (text_tokens Plain (drop n bs))
-word_skip closes start at level bs zero e =
-    let same : at ≡ at + 0 = omega arith in
-    ap (λ (k : ℕ). part_from closes start k level k (text_tokens Plain bs)) same
+word_skip closes start at level bs zero e = grind arith
 word_skip closes start at level bs (suc n) e =
     let all = prefix_len-le-length is_word bs in
     text_turn closes start at level at bs (suc n) (word_text bs (suc n) e (omega arith) (omega (arith, e, all)))
@@ -221,22 +197,12 @@ taken_step closes start at level end b bs f =
 -- so is a byte of a word
 word_step : (closes : Bool) (start at level end b : ℕ) (bs : List ℕ) → is_word b ≡ true
     → part_from closes start at level end (text_tokens Plain (b ∷ bs)) ≡ part_from closes start (at + 1) level (at + 1) (text_tokens Plain bs)
-word_step closes start at level end b bs e =
-    let k = prefix_len is_word bs in
-    let len : suc k ≡ prefix_len is_word (b ∷ bs) = sym (ap (λ (t : Bool). cond t (1 + k) 0) e ∙ one-add k) in
-    let all = prefix_len-le-length is_word bs in
-    taken_step closes start at level end b bs (word_text (b ∷ bs) (suc k) len (omega arith) (omega (arith, all)))
+word_step closes start at level end b bs e = grind (arith, one-add, prefix_len-le-length, taken_step, word_text)
 
 -- no blank is a letter
 pub blank_dark : (b : ℕ) → is_blank b ≡ true → is_letter b ≡ false
 unfolding is_letter is_blank
-blank_dark b h =
-    let P : ℕ → Type 0 = λ n. is_letter n ≡ false in
-    ⊎_elim (λ h4. ⊎_elim (λ h3. ⊎_elim (λ h2. ⊎_elim
-    (λ e. subst P (sym (eqb-true b 32 e)) refl) (λ e. subst P (sym (eqb-true b 9 e)) refl) (or_cases _ _ h2))
-    (λ e. subst P (sym (eqb-true b 13 e)) refl) (or_cases _ _ h3))
-    (λ e. subst P (sym (eqb-true b 11 e)) refl) (or_cases _ _ h4))
-    (λ e. subst P (sym (eqb-true b 12 e)) refl) (or_cases _ _ h)
+blank_dark b h = grind (arith, eqb-true, or_cases)
 
 -- blanks are a token
 blank_text : (text : List ℕ) (n : ℕ) → n ≡ prefix_len is_blank text → 0 < n → n ≤ length text → IsFirstToken Plain text (call.plain_token role.Space n)
@@ -252,9 +218,7 @@ blank_text (b ∷ bs) n is some inside = elim (cases_Bool (is_blank b)) [
 -- the search passes the blanks at the front of a text, if there are some
 blank_skip : (closes : Bool) (start at level end : ℕ) (bs : List ℕ) (n : ℕ) → n ≡ prefix_len is_blank bs
     → part_from closes start at level end (text_tokens Plain bs) ≡ part_from closes start (at + n) level end (text_tokens Plain (drop n bs))
-blank_skip closes start at level end bs zero e =
-    let same : at ≡ at + 0 = omega arith in
-    ap (λ (k : ℕ). part_from closes start k level end (text_tokens Plain bs)) same
+blank_skip closes start at level end bs zero e = grind arith
 blank_skip closes start at level end bs (suc n) e =
     let all = prefix_len-le-length is_blank bs in
     space_turn closes start at level end bs (suc n) (blank_text bs (suc n) e (omega arith) (omega (arith, e, all)))
@@ -344,13 +308,7 @@ mark_step closes start at level end b bs plain_argument blank line word =
 plain_argument_step : (closes : Bool) (start at level end b : ℕ) (bs : List ℕ) → is_plain_argument b ≡ true
     → part_from closes start at level end (text_tokens Plain (b ∷ bs)) ≡ part_from closes start (at + 1) level (cond (is_white b) end (at + 1)) (text_tokens Plain bs)
 unfolding is_white
-plain_argument_step closes start at level end b bs plain_argument =
-    let G : ℕ → Type 0 = λ n. part_from closes start at level end (text_tokens Plain (b ∷ bs)) ≡ part_from closes start (at + 1) level n (text_tokens Plain bs) in
-    cond_both (is_white b) _ _ G
-    (λ white. ⊎_elim (blank_step closes start at level end b bs) (line_step closes start at level end b bs) (or_cases _ _ white))
-    (λ dark.
-    let h = or_parts (is_blank b) (is_line_end b) dark in
-    ⊎_elim (word_step closes start at level end b bs) (mark_step closes start at level end b bs plain_argument h.0 h.1) (cases_Bool (is_word b)))
+plain_argument_step closes start at level end b bs plain_argument = grind (arith, cond_both, blank_step, line_step, or_cases, or_parts, word_step, mark_step, cases_Bool)
 
 -- a comma within an opener is a token that the search passes
 comma_turn : (closes : Bool) (start at k end : ℕ) (bs : List ℕ)
@@ -363,9 +321,7 @@ comma_step : (closes : Bool) (start at level end b : ℕ) (bs : List ℕ) → (b
     → part_from closes start at level end (text_tokens Plain (b ∷ bs)) ≡ part_from closes start (at + 1) level (cond (is_white b) end (at + 1)) (text_tokens Plain bs)
 unfolding is_white is_blank is_line_end
 comma_step closes start at zero end b bs e within = absurd (false≢true within)
-comma_step closes start at (suc k) end b bs e within =
-    let G : ℕ → Type 0 = λ n. part_from closes start at (suc k) end (text_tokens Plain (n ∷ bs)) ≡ part_from closes start (at + 1) (suc k) (cond (is_white n) end (at + 1)) (text_tokens Plain bs) in
-    subst G (sym (eqb-true b 44 e)) (comma_turn closes start at k end bs)
+comma_step closes start at (suc k) end b bs e within = grind (arith, eqb-true, comma_turn)
 
 both_last : (p q : Bool) → (p && q) ≡ true → q ≡ true
 both_last true q h = h
@@ -382,10 +338,7 @@ level_step closes start at level end b bs e =
 byte_passed : (closes : Bool) (text : List ℕ) (start at level end : ℕ) → at < length text → is_plain_argument_at level (get_or text at 0) ≡ true
     → part_from closes start (at + 1) level (cond (is_white (get_or text at 0)) end (at + 1)) (text_tokens Plain (drop (at + 1) text))
     ≡ part_from closes start at level end (text_tokens Plain (drop at text))
-byte_passed closes text start at level end inside plain_argument =
-    let b = get_or text at 0 in
-    sym (ap (λ (l : List ℕ). part_from closes start at level end (text_tokens Plain l)) (drop_more text at 0 inside)
-    ∙ level_step closes start at level end b (drop (at + 1) text) plain_argument)
+byte_passed closes text start at level end inside plain_argument = grind (arith, drop_more, level_step)
 
 -- white space leaves where the part ends, and any other plain argument byte moves it
 pub white_passed : (closes : Bool) (text : List ℕ) (start at level end : ℕ) → at < length text → White ≡ byte_class level (get_or text at 0)
@@ -417,22 +370,7 @@ kept_kind k bytes other = refl
 -- no `//` comment begins with another byte
 plain_other : (b c : ℕ) → (b == 47) ≡ false → plain_kind b c ≡ LineComment → ⊥
 unfolding plain_kind mark_kind
-plain_other b c slash =
-    let P : Kind → Type 0 = λ k. k ≡ LineComment → ⊥ in
-    cond_both (is_letter b) _ _ P (λ _ e. absurd (cc)) (λ _.
-    cond_both (is_blank b) _ _ P (λ _ e. absurd (cc)) (λ _.
-    cond_both (is_digit b) _ _ P (λ _ e. absurd (cc)) (λ _.
-    cond_both (b == 44) _ _ P (λ _ e. absurd (cc)) (λ _.
-    cond_both (is_opener b) _ _ P (λ _ e. absurd (cc)) (λ _.
-    cond_both (is_closer b) _ _ P (λ _ e. absurd (cc)) (λ _.
-    cond_both (is_line_end b) _ _ P (λ _ e. absurd (cc)) (λ _.
-    cond_both (b == 96 && is_letter c) _ _ P (λ _ e. absurd (cc)) (λ _.
-    cond_both (b == 96) _ _ P (λ _ e. absurd (cc)) (λ _.
-    cond_both (b == 34) _ _ P (λ _ e. absurd (cc)) (λ _.
-    cond_both (b == 47 && c == 47) _ _ P (λ h e. absurd (both_ways _ slash (both_first _ _ h))) (λ _.
-    cond_both (b == 47 && c == 42) _ _ P (λ h e. absurd (both_ways _ slash (both_first _ _ h))) (λ _.
-    cond_both (b == 60 && c == 37) _ _ P (λ _ e. absurd (cc)) (λ _.
-    cond_both (takes_word b && is_word c) _ _ P (λ _ e. absurd (cc)) (λ _ e. absurd (cc)))))))))))))))
+plain_other b c slash = grind (arith, cond_both, both_ways, both_first)
 
 -- nor in a string or in a block comment
 other_kind : (m : Mode) (b : ℕ) (bs : List ℕ) → (b == 47) ≡ false → kind_of m (b ∷ bs) ≡ LineComment → ⊥
@@ -444,10 +382,7 @@ other_kind InBlock b bs slash = λ e. absurd (cc)
 -- the first token of a text that begins so is kept
 first_kept : (m : Mode) (b : ℕ) (bs : List ℕ) → (b == 47) ≡ false → is_kept (token_role (first_spelled m (b ∷ bs))) ≡ true
 unfolding first_spelled token_role parts
-first_kept m b bs slash =
-    let T = b ∷ bs in
-    let bytes = take (token_of m T).len T in
-    ap (λ (t : Token). is_kept (kind_role t.kind bytes)) (token_parts m T) ∙ kept_kind (kind_of m T) bytes (other_kind m b bs slash)
+first_kept m b bs slash = grind (arith, token_parts, kept_kind, other_kind)
 
 -- the rest of a text without `/` has none
 rest_all : (n : ℕ) (bs : List ℕ) → IsFirstByte (is_byte 47) bs None → IsFirstByte (is_byte 47) (drop n bs) None
@@ -483,10 +418,7 @@ run bs = run_len [] (tokens_from Plain 0 bs) bs
 -- a token that is no stop is copied
 turn : (bs : List ℕ) (k : Kind) (n : ℕ) → 0 < length bs → token_of Plain bs ≡ whole k n → is_back k ≡ false → run bs ≡ n + run (drop n bs)
 unfolding run whole
-turn bs k n some is still =
-    let step : tokens_from Plain 0 bs ≡ whole k n ∷ tokens_from Plain 0 (drop n bs) =
-    tokens_from-step Plain bs some (token_of-part Plain bs some).not_empty ∙ ap (λ (t : Token). t ∷ tokens_from t.next_mode 0 (drop t.len bs)) is in
-    ap (λ (ts : List Token). run_len [] ts bs) step ∙ passed (whole k n) (tokens_from Plain 0 (drop n bs)) bs still
+turn bs k n some is still = grind (arith, tokens_from-step, token_of-part, passed)
 
 -- the word at the front of a text is copied, if there is one
 run_word : (bs : List ℕ) (n : ℕ) → n ≡ prefix_len is_word bs → run bs ≡ n + run (drop n bs)
@@ -603,20 +535,12 @@ inert_run (b ∷ bs) (suc n) few inert =
 -- a text that begins with a backquote begins with a usage or a lone backquote
 back_first : (bs : List ℕ) → get_or bs 0 0 ≡ 96 → is_back (token_of Plain bs).kind ≡ true
 unfolding parts kind_of plain_kind mark_kind is_back is_blank is_line_end is_letter is_digit is_opener is_closer
-back_first bs e =
-    ap (λ (t : Token). is_back t.kind) (token_parts Plain bs)
-    ∙ ap (λ (n : ℕ). is_back (plain_kind n (get_or bs 1 0))) e
-    ∙ cond_both (is_letter (get_or bs 1 0)) Back BareBackquote (λ (k : Kind). is_back k ≡ true) (λ _. refl) (λ _. refl)
+back_first bs e = grind (arith, token_parts, cond_both)
 
 -- the bytes in front of a place at or before the first backquote, where neither `"` nor `/` stands before it
 inert_before : (text : List ℕ) (at k : ℕ) → IsFirstByte (is_byte 96) text (Some at) → k ≤ at → ((i : ℕ) → i < k → is_byte2 34 47 (get_or (take at text) i 0) ≡ true → ⊥)
     → (i : ℕ) → i < k → ((get_or text i 0 == 96) ≡ false) × ((get_or text i 0 == 34) ≡ false) × ((get_or text i 0 == 47) ≡ false)
-inert_before text at k first few h i l =
-    let same : get_or (take at text) i 0 ≡ get_or text i 0 = get_or-take at text i 0 (omega (arith, l, few)) in
-    let back = false_from_ne_true (get_or text i 0 == 96) (λ b. first.0.before i (omega arith) (omega (arith, l, few)) b) in
-    let marks = false_from_ne_true (get_or text i 0 == 34 || get_or text i 0 == 47) (λ b. h i l (ap (λ (n : ℕ). n == 34 || n == 47) same ∙ b)) in
-    let m = or_parts (get_or text i 0 == 34) (get_or text i 0 == 47) marks in
-    (back, m.0, m.1)
+inert_before text at k first few h i l = grind (arith, get_or-take, false_from_ne_true, or_parts)
 
 -- so the run ends at the first backquote, where neither `"` nor `/` stands before it
 pub run_found : (text : List ℕ) (at : ℕ) (marks : Option ℕ) → IsFirstByte (is_byte 96) text (Some at) → marks ≡ None
@@ -637,10 +561,4 @@ pub run_after : (text : List ℕ) (at near : ℕ) (marks : Option ℕ) → IsFir
     → IsFirstByte (is_byte2 34 47) (take at text) marks → (near < length text) × (run_len [] (tokens_from Plain 0 text) text ≡ near + run_len [] (tokens_from Plain 0 (drop near text)) (drop near text))
 unfolding run
 run_after text at near None first e h = absurd (cc)
-run_after text at near (Some k) first e h =
-    let same : k ≡ near = cc in
-    let inside : at < length text = first.0.high in
-    let size : length (take at text) ≡ at = length-take-le at text (omega arith) in
-    let few : near < at = omega (arith, same, size, h.0.high) in
-    let inert = inert_before text at near first (omega (arith, few)) (λ i l. h.0.before i (omega arith) (omega (arith, same, l))) in
-    (omega (arith, few, inside), inert_run text near (omega (arith, few, inside)) inert)
+run_after text at near (Some k) first e h = grind (arith, length-take-le, inert_before, inert_run)

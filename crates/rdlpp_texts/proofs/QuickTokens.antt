@@ -1,14 +1,13 @@
 -- Tokens of a call that are told by their bytes: words, commas, brackets and white space.
-use Rattle.std.proofs.Common.{◌≡◌, ◌<◌, ◌≤◌, ℕ, zero, suc, subst, List, [], ◌∷◌, length, take, drop, slice_index, refl, sym, ap, ◌∙◌, arith, ◌==◌, ◌||◌, ◌+◌, Bool, true, false, cond, get_or, inl, inr, ⊎_elim, ◌⊎◌, ◌-◌, Option, None, ◌&&◌, one-add, eqb-true, drop-drop, get_or-drop, length-drop}
+use Rattle.std.proofs.Common.{◌≡◌, ◌<◌, ◌≤◌, ℕ, zero, suc, subst, List, [], ◌∷◌, length, take, drop, slice_index, refl, sym, ap, ◌∙◌, arith, ◌==◌, ◌||◌, ◌+◌, Bool, true, false, cond, get_or, inl, inr, ⊎_elim, ◌⊎◌, ◌-◌, Option, None, one-add, eqb-true, drop-drop, get_or-drop, length-drop}
 use Rattle.std.specs.List.{prefix_len}
 use Rattle.std.proofs.lemmas.Bool.{both_ways, cases_Bool, cond_both, or_cases, or_parts}
 use Rattle.std.proofs.lemmas.List.{drop_all}
 use Rattle.std.proofs.lemmas.List.Folds.{length-prefix_len}
 use Rattle.std.proofs.lemmas.Slice.{between_to_end}
 use Rattle.rdlpp_scan.specs.Bytes.{begins_block_comment, begins_line_comment, begins_perl, is_blank, is_closer, is_digit, is_letter, is_line_end, is_opener, is_word, takes_word}
-use Rattle.rdlpp_scan.specs.SourceTokens.{SourceToken}
 use Rattle.rdlpp_scan.specs.TokenParts.{kind_of, len_of, mark_kind, mode_after, plain_kind, stop_of}
-use Rattle.rdlpp_scan.specs.Tokens.{block_token, plain_token, string_token, token_of, whole}
+use Rattle.rdlpp_scan.specs.Tokens.{plain_token, token_of, whole}
 use Rattle.rdlpp_scan.specs.declared.token.Kind.{Kind}
 use Rattle.rdlpp_scan.specs.declared.token.Kind.TheVariants.{Blank, Closer, Comma, Name, Opener, Word}
 use Rattle.rdlpp_scan.specs.declared.token.Mode.{Mode}
@@ -25,7 +24,6 @@ use Rattle.rdlpp_texts.specs.CallParts.{ends_call, ends_part, ends_text, is_whit
 use Rattle.rdlpp_texts.specs.CallTokens as call
 use Rattle.rdlpp_texts.specs.CallTokens.{IsFirstToken, role_meant}
 use Rattle.rdlpp_texts.specs.PlainArgumentBytes.{begins_white}
-use Rattle.rdlpp_texts.specs.declared.parts.Part.{Part}
 use Rattle.rdlpp_texts.specs.declared.parts.PartEnd.TheVariants.{Comma as AtComma, Last}
 use Rattle.rdlpp_texts.specs.declared.tokens.CallRole.{CallRole}
 use Rattle.rdlpp_texts.specs.declared.tokens.CallRole.TheVariants as role
@@ -50,9 +48,7 @@ front_byte (suc n) (b ∷ bs) some = refl
 own_role : (mode : Mode) (text : List ℕ) → 0 < (token_of mode text).len
     → token_role (first_spelled mode text) ≡ kind_role (token_of mode text).kind (slice_index text 0 ∷ [])
 unfolding token_role first_spelled
-own_role mode text long =
-    let t = token_of mode text in
-    first_byte t.kind (take t.len text) (slice_index text 0 ∷ []) (front_byte t.len text long)
+own_role mode text long = grind (arith, first_byte, front_byte)
 
 -- the first token by its role, its length and what follows
 pub first_token_is : (mode : Mode) (text : List ℕ) (t : Token) (r : CallRole) → 0 < length text
@@ -74,12 +70,7 @@ first_token_is mode text t r some is long inside role =
 -- the token of blanks
 pub blank_token : (b : ℕ) (bs : List ℕ) → is_letter b ≡ false → is_blank b ≡ true → token_of Plain (b ∷ bs) ≡ whole Blank (prefix_len is_blank (b ∷ bs))
 unfolding kind_of parts stop_of mode_after len_of plain_kind whole
-blank_token b bs l d =
-    let T = b ∷ bs in
-    let kind : plain_kind b (get_or T 1 0) ≡ Blank =
-    rw (l, d) refl in
-    token_parts Plain T
-    ∙ ap (λ (k : Kind). parts Plain k T) kind
+blank_token b bs l d = grind (arith, token_parts)
 
 -- a token by what it is
 pub named : (text : List ℕ) (t : Token) (r : CallRole) → t ≡ token_of Plain text → 0 < t.len → t.len ≤ length text → role_meant r ≡ kind_role t.kind (get_or text 0 0 ∷ [])
@@ -141,17 +132,7 @@ peek_in n (b ∷ bs) t some e h = subst (λ (m : ℕ). IsFirstToken Plain (m ∷
 pub mark_first : (text : List ℕ) → (get_or text 0 0 == 44 || (is_opener (get_or text 0 0) || is_closer (get_or text 0 0))) ≡ true
     → IsFirstToken Plain text (call.plain_token (call.quick_role (get_or text 0 0)) 1)
 unfolding call.quick_role is_opener is_closer
-mark_first text h =
-    let b = get_or text 0 0 in
-    let P : CallRole → Type 0 = λ r. IsFirstToken Plain text (call.plain_token r 1) in
-    let by : (n : ℕ) (r : CallRole) → 0 < n → (b == n) ≡ true → call.quick_role n ≡ r → ((bs : List ℕ) → IsFirstToken Plain (n ∷ bs) (call.plain_token r 1)) → P (call.quick_role b) =
-    λ n r some e f g. subst P (sym (ap (λ (k : ℕ). call.quick_role k) (eqb-true b n e) ∙ f)) (peek_in n text (call.plain_token r 1) some (eqb-true b n e) g) in
-    ⊎_elim (λ e. by 44 role.Comma (omega arith) e refl comma_here)
-    (λ i. ⊎_elim
-    (λ o. ⊎_elim (λ p. ⊎_elim (λ e. by 40 role.Start (omega arith) e refl start_here) (λ e. by 91 role.Opener (omega arith) e refl square_here) (or_cases _ _ p))
-    (λ e. by 123 role.Opener (omega arith) e refl brace_here) (or_cases _ _ o))
-    (λ o. ⊎_elim (λ p. ⊎_elim (λ e. by 41 role.End (omega arith) e refl end_here) (λ e. by 93 role.Closer (omega arith) e refl square_ends) (or_cases _ _ p))
-    (λ e. by 125 role.Closer (omega arith) e refl brace_ends) (or_cases _ _ o)) (or_cases _ _ i)) (or_cases _ _ h)
+mark_first text h = grind (arith, eqb-true, peek_in, comma_here, start_here, square_here, or_cases, brace_here, end_here, square_ends, brace_ends)
 
 -- A turn of the search for the `(`, and of that for the end of a part.
 
@@ -170,13 +151,7 @@ pub opener_turn : (mode : Mode) (text : List ℕ) (at : ℕ) (token : CallToken)
     → opener_from at (text_tokens mode (drop at text))
     ≡ opener_by (role_meant token.role) (at + token.len) (opener_from (at + token.len) (text_tokens token.next_mode (drop (at + token.len) text)))
 unfolding opener_from
-opener_turn mode text at token f =
-    let later : ℕ → Option ℕ = λ n. opener_from (at + n) (text_tokens token.next_mode (drop token.len (drop at text))) in
-    ap (opener_from at) f.tokens
-    ∙ ap (λ (r : Role). opener_by r (at + length f.first.bytes) (later (length f.first.bytes))) f.role_is
-    ∙ ap (λ (n : ℕ). opener_by (role_meant token.role) (at + n) (later n)) f.size
-    ∙ ap (λ (x : List ℕ). opener_by (role_meant token.role) (at + token.len) (opener_from (at + token.len) (text_tokens token.next_mode x)))
-    (rest_after mode text at token)
+opener_turn mode text at token f = grind (arith, rest_after)
 
 -- the search for the end of a part at a token with which a text begins
 pub rest_turn : (closes : Bool) (mode : Mode) (text : List ℕ) (start at level end : ℕ) (token : CallToken) → IsFirstToken mode text token
@@ -186,13 +161,7 @@ pub rest_turn : (closes : Bool) (mode : Mode) (text : List ℕ) (start at level 
     (part_from closes start (at + token.len) (level_after (role_meant token.role) level)
     (cond (is_space (role_meant token.role)) end (at + token.len)) (text_tokens token.next_mode (drop token.len text))))
 unfolding part_from
-rest_turn closes mode text start at level end token f =
-    let later : Role → ℕ → List ℕ → Part = λ r n x. cond (ends_text closes r level) (record { from = start; to = end; end = Last at })
-    (cond (ends_part r level) (record { from = start; to = end; end = AtComma (at + n) })
-    (part_from closes start (at + n) (level_after r level) (cond (is_space r) end (at + n)) (text_tokens token.next_mode x))) in
-    ap (part_from closes start at level end) f.tokens
-    ∙ ap (λ (r : Role). later r (length f.first.bytes) (drop token.len text)) f.role_is
-    ∙ ap (λ (n : ℕ). later (role_meant token.role) n (drop token.len text)) f.size
+rest_turn closes mode text start at level end token f = grind arith
 
 -- the search for the end of a part at a token of a text
 pub part_turn : (closes : Bool) (mode : Mode) (text : List ℕ) (start at level end : ℕ) (token : CallToken) → IsFirstToken mode (drop at text) token
@@ -201,11 +170,7 @@ pub part_turn : (closes : Bool) (mode : Mode) (text : List ℕ) (start at level 
     (cond (ends_part (role_meant token.role) level) (record { from = start; to = end; end = AtComma (at + token.len) })
     (part_from closes start (at + token.len) (level_after (role_meant token.role) level)
     (cond (is_space (role_meant token.role)) end (at + token.len)) (text_tokens token.next_mode (drop (at + token.len) text))))
-part_turn closes mode text start at level end token f =
-    let later : List ℕ → Part = λ x. cond (ends_text closes (role_meant token.role) level) (record { from = start; to = end; end = Last at })
-    (cond (ends_part (role_meant token.role) level) (record { from = start; to = end; end = AtComma (at + token.len) })
-    (part_from closes start (at + token.len) (level_after (role_meant token.role) level) (cond (is_space (role_meant token.role)) end (at + token.len)) (text_tokens token.next_mode x))) in
-    rest_turn closes mode (drop at text) start at level end token f ∙ ap later (rest_after mode text at token)
+part_turn closes mode text start at level end token f = grind (arith, rest_turn, rest_after)
 
 -- a token lies in its text
 pub token_inside : (mode : Mode) (text : List ℕ) (at : ℕ) (token : CallToken) → at ≤ length text → IsFirstToken mode (drop at text) token
@@ -219,9 +184,7 @@ none_left mode text at over = ap (text_tokens mode) (drop_all at text over) ∙ 
 -- what is passed in front of a call
 pub opener_passes : (r : CallRole) (here : ℕ) (rest : Option ℕ) → (r ≡ role.Space) ⊎ ((r ≡ role.LineComment) ⊎ (r ≡ role.BlockComment)) → opener_by (role_meant r) here rest ≡ rest
 unfolding opener_by role_meant
-opener_passes r here rest h =
-    ⊎_elim (λ e. ap (λ (q : CallRole). opener_by (role_meant q) here rest) e)
-    (λ i. ⊎_elim (λ e. ap (λ (q : CallRole). opener_by (role_meant q) here rest) e) (λ e. ap (λ (q : CallRole). opener_by (role_meant q) here rest) e) i) h
+opener_passes r here rest h = grind arith
 
 -- a role that is none of those in front of a call, nor its `(`
 pub opener_lacks : (r : CallRole) (here : ℕ) (rest : Option ℕ)
@@ -231,24 +194,13 @@ opener_lacks role.Space here rest a b c d = absurd (a refl)
 opener_lacks role.LineComment here rest a b c d = absurd (b refl)
 opener_lacks role.BlockComment here rest a b c d = absurd (c refl)
 opener_lacks role.Start here rest a b c d = absurd (d refl)
-opener_lacks role.Opener here rest a b c d = refl
-opener_lacks role.End here rest a b c d = refl
-opener_lacks role.Closer here rest a b c d = refl
-opener_lacks role.Comma here rest a b c d = refl
-opener_lacks role.Text here rest a b c d = refl
+opener_lacks _ here rest a b c d = refl
 
 -- the level is at most one higher behind a token, and so at most the place behind it
 pub level_low : (r : CallRole) (level at len now : ℕ) → 0 < len → level ≤ at → now ≡ level_after (role_meant r) level → now ≤ at + len
 unfolding level_after role_meant
 level_low role.Space level at len now some low e = omega (arith, e)
-level_low role.LineComment level at len now some low e = omega (arith, e)
-level_low role.BlockComment level at len now some low e = omega (arith, e)
-level_low role.Start level at len now some low e = omega (arith, e)
-level_low role.Opener level at len now some low e = omega (arith, e)
-level_low role.End level at len now some low e = omega (arith, e)
-level_low role.Closer level at len now some low e = omega (arith, e)
-level_low role.Comma level at len now some low e = omega (arith, e)
-level_low role.Text level at len now some low e = omega (arith, e)
+level_low _ level at len now some low e = omega (arith, e)
 
 -- Parts of a call that are one word, or nothing, in front of a comma or the `)` of the call.
 
@@ -260,33 +212,22 @@ pub record IsWordAt (text : List ℕ) (at n : ℕ) : Type 0 where
 -- by the slice from there on
 pub word_at : (text : List ℕ) (at n : ℕ) → at ≤ length text → n ≡ prefix_len is_word (take (length text - at) (drop at text))
     → n ≤ length (take (length text - at) (drop at text)) → IsWordAt text at n
-word_at text at n in_text is few =
-    let rest = between_to_end text at (length text) (omega arith) in
-    let short : n ≤ length (drop at text) = subst (λ (x : List ℕ). n ≤ length x) rest few in
-    let size = length-drop at text in
-    record { word = is ∙ ap (prefix_len is_word) rest; inside = omega (arith, short, size, in_text) }
+word_at text at n in_text is few = grind (arith, between_to_end, length-drop)
 
 word_here : (text : List ℕ) (at n : ℕ) → IsWordAt text at (suc n) → IsFirstToken Plain (drop at text) (call.plain_token role.Text (suc n))
-word_here text at n w =
-    let size = length-drop at text in
-    let i = w.inside in
-    word_text (drop at text) (suc n) w.word (omega arith) (omega (arith, size, i))
+word_here text at n w = grind (arith, length-drop, word_text)
 
 -- the search for the end of a part passes it
 part_word : (closes : Bool) (text : List ℕ) (at n : ℕ) → IsWordAt text at n
     → part_from closes at at 0 at (text_tokens Plain (drop at text)) ≡ part_from closes at (at + n) 0 (at + n) (text_tokens Plain (drop (at + n) text))
 unfolding role_meant ends_text ends_call ends_part level_after is_space
-part_word closes text at zero w =
-    let e : at ≡ at + 0 = omega arith in
-    ap (λ (k : ℕ). part_from closes at k 0 k (text_tokens Plain (drop k text))) e
+part_word closes text at zero w = grind arith
 part_word true text at (suc n) w = part_turn true Plain text at at 0 at (call.plain_token role.Text (suc n)) (word_here text at n w)
 part_word false text at (suc n) w = part_turn false Plain text at at 0 at (call.plain_token role.Text (suc n)) (word_here text at n w)
 
 -- a byte that stands at a place is the first from there on
 first_at : (text : List ℕ) (at b : ℕ) → get_or text at 0 ≡ b → get_or (drop at text) 0 0 ≡ b
-first_at text at b e =
-    let zero_after : at + 0 ≡ at = omega arith in
-    get_or-drop at text 0 0 ∙ ap (λ (k : ℕ). get_or text k 0) zero_after ∙ e
+first_at text at b e = grind (arith, get_or-drop)
 
 comma_at : (text : List ℕ) (at : ℕ) → get_or text at 0 ≡ 44 → IsFirstToken Plain (drop at text) (call.plain_token role.Comma 1)
 comma_at text at e = peek_in 44 (drop at text) (call.plain_token role.Comma 1) (omega arith) (first_at text at 44 e) comma_here
@@ -332,47 +273,22 @@ closer_role bytes = neither (get_or bytes 0 0 == 41) End Down refl refl
 -- a token that begins with a byte in no run, and no LF, isn't white space
 mark_role : (b c : ℕ) (bytes : List ℕ) → is_line_end b ≡ false → is_space (kind_role (mark_kind b c) bytes) ≡ false
 unfolding mark_kind kind_role is_space
-mark_role b c bytes line =
-    let P : Kind → Type 0 = λ k. is_space (kind_role k bytes) ≡ false in
-    cond_both (b == 44) _ _ P (λ _. refl) (λ _.
-    cond_both (is_opener b) _ _ P (λ _. opener_role bytes) (λ _.
-    cond_both (is_closer b) _ _ P (λ _. closer_role bytes) (λ _.
-    cond_both (is_line_end b) _ _ P (λ h. absurd (both_ways _ line h)) (λ _.
-    cond_both (b == 96 && is_letter c) _ _ P (λ _. refl) (λ _.
-    cond_both (b == 96) _ _ P (λ _. refl) (λ _.
-    cond_both (b == 34) _ _ P (λ _. refl) (λ _.
-    cond_both (b == 47 && c == 47) _ _ P (λ _. refl) (λ _.
-    cond_both (b == 47 && c == 42) _ _ P (λ _. refl) (λ _.
-    cond_both (b == 60 && c == 37) _ _ P (λ _. refl) (λ _.
-    cond_both (takes_word b && is_word c) _ _ P (λ _. refl) (λ _. refl)))))))))))
+mark_role b c bytes line = grind (arith, cond_both, opener_role, closer_role, both_ways)
 
 -- nor is one that begins with a byte that isn't
 plain_role : (b c : ℕ) (bytes : List ℕ) → is_blank b ≡ false → is_line_end b ≡ false → is_space (kind_role (plain_kind b c) bytes) ≡ false
 unfolding plain_kind kind_role is_space
-plain_role b c bytes blank line =
-    let P : Kind → Type 0 = λ k. is_space (kind_role k bytes) ≡ false in
-    cond_both (is_letter b) _ _ P (λ _. refl) (λ _.
-    cond_both (is_blank b) _ _ P (λ h. absurd (both_ways _ blank h)) (λ _.
-    cond_both (is_digit b) _ _ P (λ _. refl) (λ _. mark_role b c bytes line)))
+plain_role b c bytes blank line = grind (arith, cond_both, both_ways, mark_role)
 
 -- the first token of such a text
 pub first_role : (b : ℕ) (bs : List ℕ) → is_blank b ≡ false → is_line_end b ≡ false → is_space (token_role (first_spelled Plain (b ∷ bs))) ≡ false
 unfolding first_spelled token_role kind_of parts
-first_role b bs blank line =
-    let T = b ∷ bs in
-    ap (λ (t : Token). is_space (kind_role t.kind (take (token_of Plain T).len T))) (token_parts Plain T)
-    ∙ plain_role b (get_or T 1 0) (take (token_of Plain T).len T) blank line
+first_role b bs blank line = grind (arith, token_parts, plain_role)
 
 -- a text that begins with a byte that isn't white space
 white_point : (at b : ℕ) (bs : List ℕ) → is_white b ≡ false → space_from at (text_tokens Plain (b ∷ bs)) ≡ at
 unfolding is_white space_from
-white_point at b bs dark =
-    let T = b ∷ bs in
-    let h = or_parts (is_blank b) (is_line_end b) dark in
-    let first = first_spelled Plain T in
-    let later = text_tokens (token_of Plain T).next_mode (drop (token_of Plain T).len T) in
-    ap (space_from at) (text_step Plain T (omega arith))
-    ∙ ap (λ (t : Bool). cond t (space_from (at + length first.bytes) later) at) (first_role b bs h.0 h.1)
+white_point at b bs dark = grind (arith, or_parts, text_step, first_role)
 
 -- a text that begins with a blank, as one token
 blanks_step : (at b : ℕ) (bs : List ℕ) → is_blank b ≡ true
@@ -420,23 +336,11 @@ white_step at b bs white = ⊎_elim (blank_step at b bs) (end_step at b bs) (or_
 white_from : (bs : List ℕ) (at : ℕ) → space_from at (text_tokens Plain bs) ≡ at + prefix_len is_white bs
 unfolding space_from
 white_from [] at = let e : at ≡ at + 0 = omega arith in ap (space_from at) (text_nil Plain) ∙ e
-white_from (b ∷ bs) at = elim (cases_Bool (is_white b)) [
-  | inl e ↦
-      let k = prefix_len is_white bs in
-      let len : prefix_len is_white (b ∷ bs) ≡ 1 + k = ap (λ (t : Bool). cond t (1 + k) 0) e in
-      let same : (at + 1) + k ≡ at + (1 + k) = omega arith in
-      white_step at b bs e ∙ white_from bs (at + 1) ∙ same ∙ sym (ap (λ (n : ℕ). at + n) len)
-  | inr e ↦
-      let none : prefix_len is_white (b ∷ bs) ≡ 0 = ap (λ (t : Bool). cond t (1 + prefix_len is_white bs) 0) e in
-      let same : at ≡ at + 0 = omega arith in
-      white_point at b bs e ∙ same ∙ sym (ap (λ (n : ℕ). at + n) none)
-]
+white_from (b ∷ bs) at = grind (arith, cases_Bool, white_step, white_point, (white_from bs (at + 1)))
 
 -- how many bytes of it there are
 pub white_is : (text : List ℕ) (n : ℕ) → n ≡ prefix_len is_white text → n ≡ space_from 0 (body_tokens text)
-white_is text n e =
-    let same : prefix_len is_white text ≡ 0 + prefix_len is_white text = omega arith in
-    e ∙ same ∙ sym (ap (space_from 0) (body_text text) ∙ white_from text 0)
+white_is text n e = grind (arith, body_text, white_from)
 
 -- A token of a call that begins with no white space isn't white space.
 
@@ -444,22 +348,11 @@ white_is text n e =
 first_dark : (mode : Mode) (text : List ℕ) → 0 < length text → begins_white mode text ≡ false → is_space (token_role (first_spelled mode text)) ≡ false
 unfolding begins_white is_white first_spelled token_role token_of kind_role is_space whole
 first_dark mode [] some dark = absurd (omega (arith, some))
-first_dark Plain (b ∷ bs) some dark =
-    let d = or_parts (is_blank b) (is_line_end b) dark in
-    first_role b bs d.0 d.1
-first_dark InStr (b ∷ bs) some dark =
-    let T = b ∷ bs in
-    let P : Token → Type 0 = λ t. is_space (kind_role t.kind (take t.len T)) ≡ false in
-    let t = string_token 0 T in
-    cond_both (begins_perl T) _ _ P (λ _. refl) (λ _. ap (λ (k : Kind). is_space (kind_role k (take t.len T))) (string_token-kind 0 T))
-first_dark InBlock (b ∷ bs) some dark =
-    let T = b ∷ bs in
-    let t = block_token 0 T in
-    ap (λ (k : Kind). is_space (kind_role k (take t.len T))) (block_token-kind 0 T)
+first_dark Plain (b ∷ bs) some dark = grind (arith, or_parts, first_role)
+first_dark InStr (b ∷ bs) some dark = grind (arith, cond_both, string_token-kind)
+first_dark InBlock (b ∷ bs) some dark = grind (arith, block_token-kind)
 
 -- nor is it as a token of a call
 pub dark_token : (mode : Mode) (text : List ℕ) (token : CallToken) → 0 < length text → IsFirstToken mode text token → begins_white mode text ≡ false
     → is_space (role_meant token.role) ≡ false
-dark_token mode text token some f dark =
-    let first : f.first ≡ first_spelled mode text = ap (λ (ts : List SourceToken). get_or ts 0 f.first) (sym f.tokens ∙ text_step mode text some) in
-    ap is_space (sym f.role_is) ∙ ap (λ (t : SourceToken). is_space (token_role t)) first ∙ first_dark mode text some dark
+dark_token mode text token some f dark = grind (arith, text_step, first_dark)

@@ -1,16 +1,15 @@
 -- The scopes of open texts: what a scope is by its frame, and what follows from it.
-use Rattle.std.proofs.Common.{◌≡◌, ℕ, suc, ◌+◌, ◌-◌, ◌<◌, ◌≤◌, Bool, true, false, List, [], ◌∷◌, map, length, take, drop, get_or, refl, sym, ap, subst, ◌∙◌, arith, eq-eqb, Option, None, Some, ◌⊎◌, inl, inr, if◌then◌else◌, ◌==◌, min, nat_le, ◌&&◌, ◌||◌, not, eqb-true, ne_eqb, leb-true, leb-false, take-take, take_all, length-take, length-drop, get_or-drop, get_or-take}
+use Rattle.std.proofs.Common.{◌≡◌, ℕ, suc, ◌+◌, ◌-◌, ◌<◌, ◌≤◌, Bool, true, false, List, [], ◌∷◌, map, length, take, drop, get_or, refl, sym, ap, subst, ◌∙◌, arith, eq-eqb, Option, None, Some, ◌⊎◌, if◌then◌else◌, ◌==◌, min, nat_le, ◌||◌, eqb-true, ne_eqb, leb-true, leb-false, take-take, take_all, length-take, length-drop, get_or-drop, get_or-take}
 use Rattle.std.specs.List.{list_any}
 use Rattle.std.proofs.lemmas.Bool.{eqb-false}
 use Rattle.std.proofs.lemmas.List.{length-map, get_or-map}
 use Rattle.rdlpp_scan.specs.declared.token.Mode.TheVariants.{Plain}
 use Rattle.rdlpp_table.specs.Table.{Formal, Macro}
 use Rattle.rdlpp_table.specs.View.{macro_at, formals_of, formal_at}
-use Rattle.rdlpp_meaning.specs.Opens.{Part, part_at, OpenKind, OpenBody, OpenActual, OpenDefault, Open, Texts, own_text, scope_text, text_around, open_standing, open_scope, scope_open, kind_standing, found_standing, kind_formals, found_formals, scope_formals}
+use Rattle.rdlpp_meaning.specs.Opens.{Part, part_at, OpenActual, OpenDefault, Open, Texts, own_text, scope_text, text_around, open_standing, open_scope, scope_open, kind_standing, found_standing, found_formals, scope_formals}
 use Rattle.rdlpp_meaning.proofs.OpenScopes.{not_next, next_is}
 use Rattle.rdlpp_texts.specs.BoundCalls.{range_part}
 use Rattle.rdlpp_texts.specs.declared.bindings.Range.{Range}
-use Rattle.rdlpp_texts.specs.declared.place.TextPlace.{TextPlace}
 use Rattle.rdlpp_texts.specs.declared.place.TextSource.{TextSource}
 use Rattle.rdlpp_texts.specs.declared.frame.Frame.{Frame}
 use Rattle.rdlpp_texts.specs.declared.frame.FrameKind.{FrameKind}
@@ -28,12 +27,7 @@ text_found texts (Some x) = own_text texts x.kind
 text-found : (texts : Texts) (opens : List Open) (k : ℕ) → scope_text texts opens k ≡ text_found texts (scope_open opens k)
 unfolding scope_text text_found scope_open
 text-found texts [] k = refl
-text-found texts (x ∷ below) k = by (k == suc (length below)) (text-found texts below k)
-  where
-    by : (own : Bool) → scope_text texts below k ≡ text_found texts (scope_open below k)
-        → (if own then own_text texts x.kind else scope_text texts below k) ≡ text_found texts (if own then Some x else scope_open below k)
-    by true e = refl
-    by false e = e
+text-found texts (x ∷ below) k = grind (arith, (text-found texts below k))
 
 -- a text that has a byte isn't empty
 no-byte : {A : Type 0} → 0 < 0 → A
@@ -43,25 +37,13 @@ no-byte h = absurd (omega (arith, h))
 source-found : (texts : Texts) (found : Option Open) → 0 < length (text_found texts found) → source_text texts (found_source found) ≡ text_found texts found
 unfolding text_found source_text own_text
 source-found texts None h = refl
-source-found texts (Some x) h = by x.kind h
-  where
-    by : (kind : OpenKind) → 0 < length (own_text texts kind) → source_text texts (kind_source kind) ≡ own_text texts kind
-    by (OpenBody id parts) h = refl
-    by OpenActual h = no-byte h
-    by (OpenDefault id place) h = refl
+source-found texts (Some x) h = grind arith
 
 -- the text in which the innermost open text lies is that of its source, if it has a byte
 pub source-around : (texts : Texts) (x : Open) (below : List Open) → 0 < length (text_around texts x.kind x.parent below)
     → source_text texts (front_source (x ∷ below)) ≡ text_around texts x.kind x.parent below
 unfolding front_source text_around source_text own_text
-source-around texts x below h = by x.kind h
-  where
-    by : (kind : OpenKind) → 0 < length (text_around texts kind x.parent below) → source_text texts (own_source kind x.parent below) ≡ text_around texts kind x.parent below
-    by (OpenBody id parts) h = refl
-    by (OpenDefault id place) h = refl
-    by OpenActual h =
-        let e = text-found texts below x.parent in
-        source-found texts (scope_open below x.parent) (subst (λ (bytes : List ℕ). 0 < length bytes) e h) ∙ sym e
+source-around texts x below h = grind (arith, text-found, source-found)
 
 -- the innermost open text is its own scope, or its parent is
 scope-front : (x : Open) (below : List Open) → scope_open (x ∷ below) (suc (length below)) ≡ Some x
@@ -77,35 +59,13 @@ scope-around x below k h = rw (not_next k (length below) h) refl
 pub source-scope : (x : Open) (below : List Open) → x.parent ≤ length below
     → front_source (x ∷ below) ≡ found_source (scope_open (x ∷ below) (open_scope x below))
 unfolding front_source open_scope
-source-scope x below h = by x.kind refl
-  where
-    own : scope_open (x ∷ below) (suc (length below)) ≡ Some x
-    own = scope-front x below
-
-    by : (kind : OpenKind) → x.kind ≡ kind → front_source (x ∷ below) ≡ found_source (scope_open (x ∷ below) (open_scope x below))
-    by (OpenBody id parts) e =
-        ap (λ (k : OpenKind). own_source k x.parent below) e
-        ∙ sym (ap (λ (k : OpenKind). found_source (scope_open (x ∷ below) (elim k [ OpenActual ↦ x.parent | _ ↦ suc (length below) ]))) e
-        ∙ ap (λ (o : Option Open). found_source o) own ∙ ap (λ (k : OpenKind). kind_source k) e)
-    by (OpenDefault id place) e =
-        ap (λ (k : OpenKind). own_source k x.parent below) e
-        ∙ sym (ap (λ (k : OpenKind). found_source (scope_open (x ∷ below) (elim k [ OpenActual ↦ x.parent | _ ↦ suc (length below) ]))) e
-        ∙ ap (λ (o : Option Open). found_source o) own ∙ ap (λ (k : OpenKind). kind_source k) e)
-    by OpenActual e =
-        ap (λ (k : OpenKind). own_source k x.parent below) e
-        ∙ sym (ap (λ (k : OpenKind). found_source (scope_open (x ∷ below) (elim k [ OpenActual ↦ x.parent | _ ↦ suc (length below) ]))) e
-        ∙ ap (λ (o : Option Open). found_source o) (scope-around x below x.parent h))
+source-scope x below h = grind (arith, scope-front, scope-around)
 
 -- the formals of the text of what a scope is are its own
 source-formals : (texts : Texts) (found : Option Open) → source_formals texts (found_source found) ≡ found_formals texts.macros found
 unfolding source_formals
 source-formals texts None = refl
-source-formals texts (Some x) = by x.kind
-  where
-    by : (kind : OpenKind) → source_formals texts (kind_source kind) ≡ kind_formals texts.macros kind
-    by (OpenBody id parts) = refl
-    by OpenActual = refl
-    by (OpenDefault id place) = refl
+source-formals texts (Some x) = grind arith
 
 -- those of the text in which an open text lies are those of its scope
 pub front-formals : (texts : Texts) (x : Open) (below : List Open) → x.parent ≤ length below
@@ -123,15 +83,7 @@ opens-length (frame ∷ below) bindings = ap (λ (n : ℕ). suc n) (opens-length
 pub front-within : (frames : List Frame) (bindings : List Range) → AreParentedFrames frames → front_scope (opens_of frames bindings) ≤ length frames
 unfolding opens_of front_scope open_scope
 front-within [] bindings h = omega arith
-front-within (y ∷ below) bindings h = by y.kind
-  where
-    n : length (opens_of below (bindings_below y.kind bindings)) ≡ length below
-    n = opens-length below (bindings_below y.kind bindings)
-
-    by : (kind : FrameKind) → elim (kind_of kind bindings) [ OpenActual ↦ y.parent | _ ↦ suc (length (opens_of below (bindings_below y.kind bindings))) ] ≤ suc (length below)
-    by (frame.Body id first) = omega (arith, n)
-    by frame.Actual = let parent = h.0 in omega (arith, parent)
-    by (frame.Default id place) = omega (arith, n)
+front-within (y ∷ below) bindings h = grind (arith, opens-length)
 
 -- the first ones of the first ones are some first ones
 pub record IsFirst {A : Type 0} (xs : List A) (n m : ℕ) : Type 0 where
@@ -148,8 +100,7 @@ take-first xs n m false e =
 -- the ranges around a frame are the first of all
 below-first : (kind : FrameKind) (bindings : List Range) (n : ℕ) → (kept : ℕ) × (take n (bindings_below kind bindings) ≡ take kept bindings)
 below-first (frame.Body id first) bindings n = let f = take-first bindings n first (nat_le n first) refl in (f.kept, f.same)
-below-first frame.Actual bindings n = (n, refl)
-below-first (frame.Default id place) bindings n = (n, refl)
+below-first _ bindings n = (n, refl)
 
 -- the open text that a scope is, by its frame
 pub record IsAtScope (frames : List Frame) (bindings : List Range) (k : ℕ) (frame : Frame) : Type 0 where
@@ -217,40 +168,24 @@ pub scope-actual : (frames : List Frame) (bindings : List Range) (own : Frame) �
     → own.parent ≡ front_scope (opens_of frames bindings)
 unfolding opens_of front_scope open_scope
 scope-actual [] bindings own some e k = no-byte some
-scope-actual (y ∷ ys) bindings own some e k =
-    let kind : y.kind ≡ frame.Actual = sym (ap (λ (s : Frame). s.kind) e) ∙ k in
-    ap (λ (s : Frame). s.parent) e
-    ∙ sym (ap (λ (c : FrameKind). elim (kind_of c bindings) [ OpenActual ↦ y.parent | _ ↦ suc (length (opens_of ys (bindings_below y.kind bindings))) ]) kind)
+scope-actual (y ∷ ys) bindings own some e k = grind arith
 
 -- and where it is none
 pub scope-other : (frames : List Frame) (bindings : List Range) (own : Frame) → 0 < length frames → own ≡ get_or frames 0 own → (own.kind ≡ frame.Actual → ⊥)
     → length frames ≡ front_scope (opens_of frames bindings)
 unfolding opens_of front_scope open_scope
 scope-other [] bindings own some e other = no-byte some
-scope-other (y ∷ ys) bindings own some e other =
-    ap (λ (n : ℕ). suc n) (sym (opens-length ys (bindings_below y.kind bindings)))
-    ∙ by y.kind (λ k. other (ap (λ (s : Frame). s.kind) e ∙ k))
-  where
-    by : (kind : FrameKind) → (kind ≡ frame.Actual → ⊥)
-        → suc (length (opens_of ys (bindings_below y.kind bindings)))
-        ≡ (elim (kind_of kind bindings) [ OpenActual ↦ y.parent | _ ↦ suc (length (opens_of ys (bindings_below y.kind bindings))) ])
-    by (frame.Body id first) other = refl
-    by frame.Actual other = absurd (other refl)
-    by (frame.Default id place) other = refl
+scope-other (y ∷ ys) bindings own some e other = grind (arith, opens-length)
 
 -- no scope but an open text's has a text of its own
 pub source-none : (frames : List Frame) (bindings : List Range) (scope : ℕ) → (scope ≡ 0) ⊎ ((scope ≡ 0 → ⊥) × (length frames < scope))
     → scope_open (opens_of frames bindings) scope ≡ None
-source-none frames bindings scope h = elim h [
-  | inl e ↦ ap (λ (k : ℕ). scope_open (opens_of frames bindings) k) e ∙ source-scope_none (opens_of frames bindings)
-  | inr m ↦ no-scope (opens_of frames bindings) scope (let n = opens-length frames bindings in let l = m.1 in omega (arith, n, l))
-]
+source-none frames bindings scope h = grind (arith, source-scope_none, no-scope, opens-length)
 
 -- where a frame's text lies is where its open text does
 kind-source : (kind : FrameKind) (bindings : List Range) → frame_source kind ≡ kind_source (kind_of kind bindings)
 kind-source (frame.Body id first) bindings = refl
-kind-source frame.Actual bindings = refl
-kind-source (frame.Default id place) bindings = refl
+kind-source _ bindings = refl
 
 -- where the text of a scope lies, by its frame
 pub source-at : (frames : List Frame) (bindings : List Range) (scope : ℕ) (own : Frame) (source : TextSource) → (scope ≡ 0 → ⊥) → scope ≤ length frames
@@ -278,13 +213,7 @@ pub front-other : (frames : List Frame) (bindings : List Range) (own : Frame) (s
     → source ≡ frame_source own.kind → source ≡ front_source (opens_of frames bindings)
 unfolding opens_of front_source
 front-other [] bindings own source some e other s = no-byte some
-front-other (y ∷ ys) bindings own source some e other s =
-    s ∙ ap (λ (z : Frame). frame_source z.kind) e ∙ by y.kind (λ k. other (ap (λ (z : Frame). z.kind) e ∙ k))
-  where
-    by : (kind : FrameKind) → (kind ≡ frame.Actual → ⊥) → frame_source kind ≡ own_source (kind_of kind bindings) y.parent (opens_of ys (bindings_below y.kind bindings))
-    by (frame.Body id first) other = refl
-    by frame.Actual other = absurd (other refl)
-    by (frame.Default id place) other = refl
+front-other (y ∷ ys) bindings own source some e other s = grind arith
 
 -- where what is left of the innermost open text lies, by its frame
 pub innermost-is : (frames : List Frame) (bindings : List Range) (own : Frame) (source : TextSource) → (length frames == 0) ≡ false → own ≡ get_or frames 0 own
@@ -292,9 +221,7 @@ pub innermost-is : (frames : List Frame) (bindings : List Range) (own : Frame) (
     → Some (record { source = source; from = min own.from own.end; end = own.end }) ≡ innermost_place (opens_of frames bindings)
 unfolding opens_of front_source innermost_place
 innermost-is [] bindings own source some e at = absurd (cc)
-innermost-is (y ∷ ys) bindings own source some e at =
-    let lies : Frame → TextSource → Option TextPlace = λ z s. Some (record { source = s; from = min z.from z.end; end = z.end }) in
-    ap (lies own) at ∙ ap (λ (z : Frame). lies z (front_source (opens_of (y ∷ ys) bindings))) e
+innermost-is (y ∷ ys) bindings own source some e at = grind arith
 
 -- and where none is open
 pub innermost-none : (frames : List Frame) (bindings : List Range) → length frames ≡ 0 → None ≡ innermost_place (opens_of frames bindings)
@@ -347,13 +274,7 @@ range-inside macros frames bindings scope own id first place bound some inside e
 part-kept : (bindings : List Range) (kept first place : ℕ) (range : Range) → range ≡ get_or bindings (first + place) range
     → place < length (map range_part (drop first (take kept bindings)))
     → part_at (map range_part (drop first (take kept bindings))) place ≡ range_part range
-part-kept bindings kept first place range e h =
-    let parts = length-map (drop first (take kept bindings)) range_part in
-    let dropped = length-drop first (take kept bindings) in
-    let size = length-take kept bindings in
-    let less : first + place < kept = omega (arith, parts, dropped, size, h) in
-    get_or-map range_part (drop first (take kept bindings)) place range (record { from = 0; end = 0; mode = Plain }) (omega (arith, parts, h))
-    ∙ ap (λ (r : Range). range_part r) (get_or-drop first (take kept bindings) place range ∙ get_or-take kept bindings (first + place) range less ∙ sym e)
+part-kept bindings kept first place range e h = grind (arith, length-map, length-drop, length-take, get_or-map, get_or-drop, get_or-take)
 
 -- the text that the formal at a place of a scope stands for, where it is a body
 pub standing-body : (macros : List Macro) (frames : List Frame) (bindings : List Range) (scope : ℕ) (own : Frame) (id first place : ℕ) (range : Range) (new : Frame) (bound : List Range)
@@ -406,29 +327,7 @@ pub standing-default : (formals : List Formal) (id place scope parent end : ℕ)
     → part_at parts place ≡ range_part range
     → default_open id place scope end ≡ open_standing formals id scope parent parts place
 unfolding open_standing
-standing-default formals id place scope parent end range parts some e p =
-    by (nat_le range.to range.from) refl e
-  where
-    by : (empty : Bool) → nat_le range.to range.from ≡ empty → end ≡ (if empty then length (formal_at formals place).text else 0)
-        → default_open id place scope end
-        ≡ (if ((part_at parts place).end - (part_at parts place).from == 0) && not (length (formal_at formals place).text == 0)
-        then default_open id place scope (length (formal_at formals place).text)
-        else actual_open parent (part_at parts place))
-    by false l f = absurd (omega (arith, some, f))
-    by true l f =
-        let less : range.to ≤ range.from = leb-true range.to range.from l in
-        let none : (range.to - range.from == 0) ≡ true = eq-eqb (range.to - range.from) 0 (omega (arith, less)) in
-        let has : (length (formal_at formals place).text == 0) ≡ false = ne_eqb (length (formal_at formals place).text) 0 (λ z. omega (arith, z, f, some)) in
-        ap (λ (n : ℕ). default_open id place scope n) f
-        ∙ sym (ap (λ (q : Part). if (q.end - q.from == 0) && not (length (formal_at formals place).text == 0)
-        then default_open id place scope (length (formal_at formals place).text)
-        else actual_open parent q) p
-        ∙ ap (λ (b : Bool). if b && not (length (formal_at formals place).text == 0)
-        then default_open id place scope (length (formal_at formals place).text)
-        else actual_open parent (range_part range)) none
-        ∙ ap (λ (b : Bool). if not b
-        then default_open id place scope (length (formal_at formals place).text)
-        else actual_open parent (range_part range)) has)
+standing-default formals id place scope parent end range parts some e p = grind (arith, nat_le, leb-true, eq-eqb)
 
 -- and its part does else
 pub standing-actual : (formals : List Formal) (id place scope parent end : ℕ) (range : Range) (parts : List Part) → end ≤ 0
@@ -436,26 +335,7 @@ pub standing-actual : (formals : List Formal) (id place scope parent end : ℕ) 
     → part_at parts place ≡ range_part range
     → actual_open parent (range_part range) ≡ open_standing formals id scope parent parts place
 unfolding open_standing
-standing-actual formals id place scope parent end range parts none e p =
-    sym (ap (λ (q : Part). if (q.end - q.from == 0) && not (length (formal_at formals place).text == 0)
-    then default_open id place scope (length (formal_at formals place).text)
-    else actual_open parent q) p
-    ∙ ap (λ (b : Bool). if b
-    then default_open id place scope (length (formal_at formals place).text)
-    else actual_open parent (range_part range)) (by (nat_le range.to range.from) refl e))
-  where
-    and-false : (b c : Bool) → c ≡ false → (b && c) ≡ false
-    and-false true c e = e
-    and-false false c e = refl
-
-    by : (empty : Bool) → nat_le range.to range.from ≡ empty → end ≡ (if empty then length (formal_at formals place).text else 0)
-        → ((range.to - range.from == 0) && not (length (formal_at formals place).text == 0)) ≡ false
-    by true l f =
-        and-false (range.to - range.from == 0) (not (length (formal_at formals place).text == 0))
-        (ap (λ (b : Bool). not b) (eq-eqb (length (formal_at formals place).text) 0 (omega (arith, f, none))))
-    by false l f =
-        let less = leb-false range.to range.from l in
-        ap (λ (b : Bool). b && not (length (formal_at formals place).text == 0)) (ne_eqb (range.to - range.from) 0 (λ z. omega (arith, less, z)))
+standing-actual formals id place scope parent end range parts none e p = grind (arith, nat_le, eq-eqb, leb-false)
 
 -- the source is in no macro's text
 ids-source : (opens : List Open) → hidden_ids opens 0 ≡ []
@@ -471,8 +351,7 @@ ids-around x below k h = rw (not_next k (length below) h) refl
 -- the scope in which a frame's call is written is its parent or the source
 outer-inside : (kind : FrameKind) (parent : ℕ) → kind_outer kind parent ≤ parent
 outer-inside (frame.Body id first) parent = omega arith
-outer-inside frame.Actual parent = omega arith
-outer-inside (frame.Default id place) parent = omega arith
+outer-inside _ parent = omega arith
 
 -- what a scope's frame tells of the macros in whose text it is
 pub record IsWritten (frames : List Frame) (bindings : List Range) (k id : ℕ) (own : Frame) : Type 0 where
@@ -553,6 +432,4 @@ written-further frames bindings k scope id own parented positive inside e here s
 pub written-source : (frames : List Frame) (bindings : List Range) (k scope id : ℕ) → k ≡ 0
     → list_any (λ j. id == j) (hidden_ids (opens_of frames bindings) k) ≡ list_any (λ j. id == j) (hidden_ids (opens_of frames bindings) scope)
     → false ≡ list_any (λ j. id == j) (hidden_ids (opens_of frames bindings) scope)
-written-source frames bindings k scope id e same =
-    sym (ap (λ (j : ℕ). list_any (λ i. id == i) (hidden_ids (opens_of frames bindings) j)) e
-    ∙ ap (λ (ids : List ℕ). list_any (λ i. id == i) ids) (ids-source (opens_of frames bindings))) ∙ same
+written-source frames bindings k scope id e same = grind (arith, ids-source)

@@ -1,5 +1,5 @@
 -- The frames of open texts and the ranges that they have bound.
-use Rattle.std.proofs.Common.{◌≡◌, ℕ, suc, ◌+◌, ◌-◌, ◌<◌, ◌≤◌, Bool, true, false, List, [], ◌∷◌, length, take, drop, get_or, refl, sym, ap, subst, ◌∙◌, arith, ◌⊎◌, inl, inr, ◌*◌, map, Global, ◌++◌, Option, None, Some, unwrap_or, Ok, Err, option_map, Result, Vec, if◌then◌else◌, nat_le, nat_lt, vec_capacity, vec_len, ◌==◌, ◌||◌, length-set, set, eqb-true, le-leb, ltb-true, ne_eqb, length-append, length-drop, length-take, take_all}
+use Rattle.std.proofs.Common.{◌≡◌, ℕ, suc, ◌+◌, ◌-◌, ◌<◌, ◌≤◌, Bool, true, false, List, [], ◌∷◌, length, take, drop, get_or, refl, sym, ap, subst, ◌∙◌, arith, ◌⊎◌, inl, inr, ◌*◌, map, Global, ◌++◌, Option, None, Some, unwrap_or, Ok, Err, option_map, Result, Vec, if◌then◌else◌, nat_le, nat_lt, vec_capacity, vec_len, ◌==◌, length-set, set, eqb-true, le-leb, ltb-true, ne_eqb, length-append, length-drop, length-take, take_all}
 use Rattle.std.specs.List.{AllByRecursion, list_any}
 use Rattle.std.proofs.Math.Seq.{drop-append_seam, take-append_seam}
 use Rattle.std.proofs.lemmas.Bool.{eqb-false, lt-leb}
@@ -34,23 +34,13 @@ frames-at frames first own inside e = drop_more frames first own inside ∙ ap (
 -- the ranges of a frame say nothing of the macros in whose text it is
 kind-ids : (kind : FrameKind) (xs ys : List Range) (ids : List ℕ) → own_ids (kind_of kind xs) ids ≡ own_ids (kind_of kind ys) ids
 kind-ids (frame.Body id first) xs ys ids = refl
-kind-ids frame.Actual xs ys ids = refl
-kind-ids (frame.Default id place) xs ys ids = refl
+kind-ids _ xs ys ids = refl
 
 -- nor do those of any
 ids-same : (frames : List Frame) (xs ys : List Range) (k : ℕ) → hidden_ids (opens_of frames xs) k ≡ hidden_ids (opens_of frames ys) k
 unfolding opens_of hidden_ids
 ids-same [] xs ys k = refl
-ids-same (y ∷ below) xs ys k =
-    let inner : List Range → List Open = λ (bs : List Range). opens_of below (bindings_below y.kind bs) in
-    let own : List Range → List ℕ = λ (bs : List Range). own_ids (kind_of y.kind bs) (hidden_ids (inner bs) y.parent) in
-    let owns : own xs ≡ own ys =
-    ap (λ (ids : List ℕ). own_ids (kind_of y.kind xs) ids) (ids-same below (bindings_below y.kind xs) (bindings_below y.kind ys) y.parent)
-    ∙ kind-ids y.kind xs ys (hidden_ids (inner ys) y.parent) in
-    ap (λ (m : ℕ). if k == suc m then own xs else hidden_ids (inner xs) k) (opens-length below (bindings_below y.kind xs))
-    ∙ ap (λ (ids : List ℕ). if k == suc (length below) then ids else hidden_ids (inner xs) k) owns
-    ∙ ap (λ (ids : List ℕ). if k == suc (length below) then own ys else ids) (ids-same below (bindings_below y.kind xs) (bindings_below y.kind ys) k)
-    ∙ sym (ap (λ (m : ℕ). if k == suc m then own ys else hidden_ids (inner ys) k) (opens-length below (bindings_below y.kind ys)))
+ids-same (y ∷ below) xs ys k = grind (arith, kind-ids, opens-length, (ids-same below (bindings_below y.kind xs) (bindings_below y.kind ys) k), (ids-same below (bindings_below y.kind xs) (bindings_below y.kind ys) y.parent))
 
 -- a scope that no frame is is in no macro's text
 pub ids-none : (frames : List Frame) (bindings : List Range) (k : ℕ) → (k ≡ 0) ⊎ ((k ≡ 0 → ⊥) × (length frames < k)) → hidden_ids (opens_of frames bindings) k ≡ []
@@ -113,24 +103,12 @@ bounded-at (y ∷ ys) bindings k own bounded positive inside e =
 -- what is within bounds is within wider ones
 pub within-wider : (ids : List ℕ) (a b : Bounds) → b.least ≤ a.least → a.greatest ≤ b.greatest → AllByRecursion (IsWithin a) ids → AllByRecursion (IsWithin b) ids
 within-wider [] a b low high h = h
-within-wider (id ∷ ids) a b low high h =
-    let least = h.0.0 in
-    let greatest = h.0.1 in
-    ((omega (arith, low, least), omega (arith, high, greatest)), within-wider ids a b low high h.1)
+within-wider (id ∷ ids) a b low high h = grind (arith, (within-wider ids a b low high h.1))
 
 -- a macro that bounds exclude is none of those within them
 pub excluded-none : (ids : List ℕ) (bounds : Bounds) (id : ℕ) → is_excluded bounds id ≡ true → AllByRecursion (IsWithin bounds) ids → list_any (λ j. id == j) ids ≡ false
 excluded-none [] bounds id out h = refl
-excluded-none (j ∷ ids) bounds id out h =
-    let least = h.0.0 in
-    let greatest = h.0.1 in
-    let outside = out-is (nat_lt id bounds.least) refl out in
-    let apart : (id == j) ≡ false = ne_eqb id j (λ e. omega (arith, e, least, greatest, outside)) in
-    rw apart (excluded-none ids bounds id out h.1)
-  where
-    out-is : (below : Bool) → nat_lt id bounds.least ≡ below → (below || nat_lt bounds.greatest id) ≡ true → (id < bounds.least) ⊎ (bounds.greatest < id)
-    out-is true e f = inl (ltb-true id bounds.least e)
-    out-is false e f = inr (ltb-true bounds.greatest id f)
+excluded-none (j ∷ ids) bounds id out h = grind (arith, nat_lt, ltb-true, (excluded-none ids bounds id out h.1))
 
 -- a scope whose frame's bounds exclude a macro isn't in its text
 pub bounded-excluded : (frames : List Frame) (bindings : List Range) (k scope id : ℕ) (own : Frame) → AreBounded frames → 0 < k → k ≤ length frames
@@ -151,17 +129,13 @@ text-bounded (frame.Default id place) bounds ids nobody h = h
 pub moved-bounded : (frames : List Frame) (first at : ℕ) (own : Frame) → first < length frames → own ≡ get_or frames first own → AreBounded (drop first frames)
     → AreBounded (drop first (set frames first (record own { from = at })))
 unfolding AreBounded
-moved-bounded frames first at own inside e h =
-    let both : AreBounded (own ∷ drop (first + 1) frames) = subst (λ (s : List Frame). AreBounded s) (frames-at frames first own inside e) h in
-    subst (λ (s : List Frame). AreBounded s) (sym (drop-set frames first (record own { from = at }) inside)) both
+moved-bounded frames first at own inside e h = grind (arith, frames-at, drop-set)
 
 -- so are those behind one that is closed
 pub closed-bounded : (frames : List Frame) (first : ℕ) (own : Frame) → first < length frames → own ≡ get_or frames first own → AreBounded (drop first frames)
     → AreBounded (drop (first + 1) frames)
 unfolding AreBounded
-closed-bounded frames first own inside e h =
-    let both : AreBounded (own ∷ drop (first + 1) frames) = subst (λ (s : List Frame). AreBounded s) (frames-at frames first own inside e) h in
-    both.1
+closed-bounded frames first own inside e h = grind (arith, frames-at)
 
 -- what is asked of the bounds of a frame in front of others
 abbrev pub IsBoundedOn : Frame → List Frame → Type 0
@@ -181,9 +155,7 @@ more-bounded new frames own h = (own, h)
 pub moved-on : (new : Frame) (frames : List Frame) (first at : ℕ) (own : Frame) → first < length frames → own ≡ get_or frames first own → IsBoundedOn new (drop first frames)
     → IsBoundedOn new (drop first (set frames first (record own { from = at })))
 unfolding opens_of hidden_ids
-moved-on new frames first at own inside e h =
-    let both : IsBoundedOn new (own ∷ drop (first + 1) frames) = subst (λ (s : List Frame). IsBoundedOn new s) (frames-at frames first own inside e) h in
-    subst (λ (s : List Frame). IsBoundedOn new s) (sym (drop-set frames first (record own { from = at }) inside)) both
+moved-on new frames first at own inside e h = grind (arith, frames-at, drop-set)
 
 -- the open frames as they are lent
 pub lent-bounded : (frames lent : List Frame) (first : ℕ) → lent ≡ frames → AreBounded (drop first frames) → AreBounded (take (length lent - first) (drop first lent))
@@ -219,10 +191,7 @@ none-within ids bounds e = subst (λ (xs : List ℕ). AllByRecursion (IsWithin b
 
 -- some text is open
 pub some-open : (frames : List Frame) (first : ℕ) (bindings : List Range) → 0 < length (opens_of (drop first frames) bindings) → first < length frames
-some-open frames first bindings some =
-    let n = opens-length (drop first frames) bindings in
-    let l = length-drop first frames in
-    omega (arith, n, l, some)
+some-open frames first bindings some = grind (arith, opens-length, length-drop)
 
 -- how many are
 pub open-count : (frames : List Frame) (first : ℕ) (bindings : List Range) → length (opens_of (drop first frames) bindings) ≡ length frames - first
@@ -243,66 +212,42 @@ laid-few (y ∷ ys) bindings h = h.0
 pub laid-bound : (frames : List Frame) (bindings : List Range) → AreLaid frames bindings → length bindings ≡ bound_by (opens_of frames bindings)
 unfolding AreLaid opens_of bound_by
 laid-bound [] bindings h = h
-laid-bound (y ∷ ys) bindings h = by y.kind (laid-bound ys (bindings_below y.kind bindings) h.1)
-  where
-    by : (kind : FrameKind) → length (bindings_below kind bindings) ≡ bound_by (opens_of ys (bindings_below kind bindings))
-        → length bindings ≡ bound_by (open_of (record y { kind = kind }) bindings ∷ opens_of ys (bindings_below kind bindings))
-    by (frame.Body id first) e =
-        let parts = length-map (drop first bindings) range_part in
-        let rest = length-drop first bindings in
-        let front = length-take first bindings in
-        omega (arith, parts, rest, front, e)
-    by frame.Actual e = omega (arith, e)
-    by (frame.Default id place) e = omega (arith, e)
+laid-bound (y ∷ ys) bindings h = grind (arith, length-map, length-drop, length-take, (laid-bound ys (bindings_below y.kind bindings) h.1))
 
 -- no more ranges are bound than there is room for
 pub bound-few : (frames : List Frame) (depth first : ℕ) (bindings : List Range) → length frames ≤ depth → AreLaid (drop first frames) bindings
     → bound_by (opens_of (drop first frames) bindings) ≤ depth * 255
-bound-few frames depth first bindings most laid =
-    let few = laid-few (drop first frames) bindings laid in
-    let bound = laid-bound (drop first frames) bindings laid in
-    let short = length-drop first frames in
-    omega (arith, most, few, bound, short)
+bound-few frames depth first bindings most laid = grind (arith, laid-few, laid-bound, length-drop)
 
 -- the ranges that are kept where a frame is closed
 pub kept-below : (kind : FrameKind) (bindings : List Range) → take (kept_by kind (length bindings)) bindings ≡ bindings_below kind bindings
 kept-below (frame.Body id first) bindings = refl
-kept-below frame.Actual bindings = take_all (length bindings) bindings (omega arith)
-kept-below (frame.Default id place) bindings = take_all (length bindings) bindings (omega arith)
+kept-below _ bindings = take_all (length bindings) bindings (omega arith)
 
 -- the open texts where the innermost is closed
 pub closed-opens : (frames : List Frame) (first : ℕ) (bindings : List Range) (own : Frame) (kept : ℕ) → first < length frames → own ≡ get_or frames first own
     → kept ≡ kept_by own.kind (length bindings)
     → opens_of (drop (first + 1) frames) (take kept bindings) ≡ drop 1 (opens_of (drop first frames) bindings)
 unfolding opens_of
-closed-opens frames first bindings own kept inside e k =
-    ap (λ (n : ℕ). opens_of (drop (first + 1) frames) (take n bindings)) k
-    ∙ ap (λ (bs : List Range). opens_of (drop (first + 1) frames) bs) (kept-below own.kind bindings)
-    ∙ sym (ap (λ (s : List Frame). drop 1 (opens_of s bindings)) (frames-at frames first own inside e))
+closed-opens frames first bindings own kept inside e k = grind (arith, kept-below, frames-at)
 
 -- they lie as frames do
 pub closed-laid : (frames : List Frame) (first : ℕ) (bindings : List Range) (own : Frame) (kept : ℕ) → first < length frames → own ≡ get_or frames first own
     → kept ≡ kept_by own.kind (length bindings) → AreLaid (drop first frames) bindings → AreLaid (drop (first + 1) frames) (take kept bindings)
 unfolding AreLaid
-closed-laid frames first bindings own kept inside e k laid =
-    let both : AreLaid (own ∷ drop (first + 1) frames) bindings = subst (λ (s : List Frame). AreLaid s bindings) (frames-at frames first own inside e) laid in
-    subst (λ (bs : List Range). AreLaid (drop (first + 1) frames) bs) (sym (ap (λ (n : ℕ). take n bindings) k ∙ kept-below own.kind bindings)) both.1
+closed-laid frames first bindings own kept inside e k laid = grind (arith, frames-at, kept-below)
 
 -- the open texts where the innermost goes on at a place
 pub moved-opens : (frames : List Frame) (first at : ℕ) (bindings : List Range) (own : Frame) → first < length frames → own ≡ get_or frames first own
     → opens_of (drop first (set frames first (record own { from = at }))) bindings ≡ moved_to at (opens_of (drop first frames) bindings)
 unfolding opens_of moved_to
-moved-opens frames first at bindings own inside e =
-    ap (λ (s : List Frame). opens_of s bindings) (drop-set frames first (record own { from = at }) inside)
-    ∙ sym (ap (λ (s : List Frame). moved_to at (opens_of s bindings)) (frames-at frames first own inside e))
+moved-opens frames first at bindings own inside e = grind (arith, drop-set, frames-at)
 
 -- they lie as frames do
 pub moved-laid : (frames : List Frame) (first at : ℕ) (bindings : List Range) (own : Frame) → first < length frames → own ≡ get_or frames first own
     → AreLaid (drop first frames) bindings → AreLaid (drop first (set frames first (record own { from = at }))) bindings
 unfolding AreLaid
-moved-laid frames first at bindings own inside e laid =
-    let both : AreLaid (own ∷ drop (first + 1) frames) bindings = subst (λ (s : List Frame). AreLaid s bindings) (frames-at frames first own inside e) laid in
-    subst (λ (s : List Frame). AreLaid s bindings) (sym (drop-set frames first (record own { from = at }) inside)) both
+moved-laid frames first at bindings own inside e laid = grind (arith, frames-at, drop-set)
 
 -- the frames where one more is opened
 pub entered : (frames wide : List Frame) (depth first place : ℕ) (new : Frame) → IsFree frames wide depth first place → drop place (set wide place new) ≡ new ∷ drop first frames
@@ -335,8 +280,7 @@ pushed-laid frames wide depth first place bindings new free same laid =
 -- what is no body binds nothing
 pub no-body_below : (kind : FrameKind) (bindings : List Range) → IsNoBody kind → bindings_below kind bindings ≡ bindings
 no-body_below (frame.Body id first) bindings nobody = absurd nobody
-no-body_below frame.Actual bindings nobody = refl
-no-body_below (frame.Default id place) bindings nobody = refl
+no-body_below _ bindings nobody = refl
 
 -- the open texts where a body is opened whose call binds nothing
 pub body-opens : (frames wide : List Frame) (depth first place : ℕ) (bindings : List Range) (id end parent n : ℕ) (bounds : Bounds) → IsFree frames wide depth first place → n ≡ length bindings
@@ -370,55 +314,24 @@ first-inside v first bindings some = let n = count_items v in let h = some-open 
 
 -- where fewer texts are open than may be there is room
 pub room-first : (v : Vec Frame Global) (depth first : ℕ) (bindings : List Range) → length (opens_of (drop first v.items) bindings) < depth → vec_len v < first + depth
-room-first v depth first bindings room =
-    let n = count_items v in
-    let h = open-count v.items first bindings in
-    omega (arith, n, h, room)
+room-first v depth first bindings room = grind (arith, count_items, open-count)
 
 -- frames of which none is open
 pub stack-made : (v : Vec Frame Global) (depth first : ℕ) (bindings : Vec Range Global) → vec_len v ≡ first → first ≤ depth → depth ≤ vec_capacity v → bindings.items ≡ []
     → vec_capacity bindings ≡ (depth + 1) * 255 → IsStack v.items (vec_capacity v) depth first bindings
 unfolding AreLaid
-stack-made v depth first bindings size few memory none room =
-    let n = count_items v in
-    record {
-      inside = omega (arith, n, size);
-      few = omega (arith, n, size, few);
-      reserved = memory;
-      laid = subst (λ (s : List Frame). AreLaid s bindings.items) (sym (drop_all first v.items (omega (arith, n, size)))) (ap (λ (bs : List Range). length bs) none);
-      bounded = subst (λ (s : List Frame). AreBounded s) (sym (drop_all first v.items (omega (arith, n, size)))) none-bounded;
-      room = omega (arith, room);
-    }
+stack-made v depth first bindings size few memory none room = grind (arith, count_items, drop_all, none-bounded)
 
 -- the frames where the innermost goes on at a place
 pub stack-moved : (frames : List Frame) (memory depth first at : ℕ) (bindings : Vec Range Global) (own : Frame) → first < length frames → own ≡ get_or frames first own
     → IsStack frames memory depth first bindings → IsStack (set frames first (record own { from = at })) memory depth first bindings
-stack-moved frames memory depth first at bindings own inside e h =
-    let n = length-set frames first (record own { from = at }) in
-    let few = h.few in
-    record {
-      inside = omega (arith, n, inside);
-      few = omega (arith, n, few);
-      reserved = h.reserved;
-      laid = moved-laid frames first at bindings.items own inside e h.laid;
-      bounded = moved-bounded frames first at own inside e h.bounded;
-      room = h.room;
-    }
+stack-moved frames memory depth first at bindings own inside e h = grind (arith, length-set, moved-laid, moved-bounded)
 
 -- where it is closed
 pub stack-closed : (frames : List Frame) (memory depth first : ℕ) (bindings new : Vec Range Global) (own : Frame) (kept : ℕ) → first < length frames → own ≡ get_or frames first own
     → kept ≡ kept_by own.kind (length bindings.items) → new.items ≡ take kept bindings.items → vec_capacity new ≡ vec_capacity bindings
     → IsStack frames memory depth first bindings → IsStack frames memory depth (first + 1) new
-stack-closed frames memory depth first bindings new own kept inside e k is more h =
-    let room = h.room in
-    record {
-      inside = omega (arith, inside);
-      few = h.few;
-      reserved = h.reserved;
-      laid = subst (λ (bs : List Range). AreLaid (drop (first + 1) frames) bs) (sym is) (closed-laid frames first bindings.items own kept inside e k h.laid);
-      bounded = closed-bounded frames first own inside e h.bounded;
-      room = omega (arith, room, more);
-    }
+stack-closed frames memory depth first bindings new own kept inside e k is more h = grind (arith, closed-laid, closed-bounded)
 
 -- where one more is opened that binds nothing
 pub stack-pushed : (frames wide : List Frame) (memory same_memory depth first place : ℕ) (bindings : Vec Range Global) (new : Frame) → IsFree frames wide depth first place → same_memory ≡ memory
@@ -440,35 +353,17 @@ stack-pushed frames wide memory same_memory depth first place bindings new free 
 
 -- as many texts are open as may be where no fewer are
 pub full-is : (count depth : ℕ) → count ≤ depth → (count == depth) ≡ nat_le depth count
-full-is count depth few = by (count == depth) refl
-  where
-    by : (full : Bool) → (count == depth) ≡ full → (count == depth) ≡ nat_le depth count
-    by true e =
-        let same : count ≡ depth = eqb-true count depth e in
-        e ∙ sym (le-leb depth count (omega (arith, same)))
-    by false e =
-        let apart : count ≡ depth → ⊥ = eqb-false count depth e in
-        e ∙ sym (lt-leb depth count (omega (arith, apart, few)))
+full-is count depth few = grind (arith, nat_le, eqb-true, le-leb, eqb-false, lt-leb)
 
 -- where no frame is left in front of the open texts, as many are open as may be if no more frames can be made
 pub full-first : (frames : List Frame) (first depth len : ℕ) (bindings : List Range) → first ≡ 0 → len ≡ length frames → length frames ≤ depth
     → (len == depth) ≡ nat_le depth (length (opens_of (drop first frames) bindings))
-full-first frames first depth len bindings z e few =
-    let n = open-count frames first bindings in
-    let count : len ≡ length (opens_of (drop first frames) bindings) = omega (arith, n, z, e) in
-    full-is len depth (omega (arith, e, few)) ∙ ap (nat_le depth) count
+full-first frames first depth len bindings z e few = grind (arith, open-count, full-is, nat_le)
 
 -- where a frame is left, more texts may be open
 pub full-some : (frames : List Frame) (first depth : ℕ) (bindings : List Range) → (first ≡ 0 → ⊥) → first ≤ length frames → length frames ≤ depth
     → (first == 0) ≡ nat_le depth (length (opens_of (drop first frames) bindings))
-full-some frames first depth bindings some inside few =
-    let n = open-count frames first bindings in
-    let none : (first == 0) ≡ false = by (first == 0) refl in
-    none ∙ sym (lt-leb depth _ (omega (arith, n, some, inside, few)))
-  where
-    by : (zero : Bool) → (first == 0) ≡ zero → (first == 0) ≡ false
-    by true e = absurd (some (eqb-true first 0 e))
-    by false e = e
+full-some frames first depth bindings some inside few = grind (arith, open-count, lt-leb, eqb-true)
 
 -- the frames from a place on
 pub tail-is : (part items : List Frame) (first : ℕ) → part ≡ items → take (length part - first) (drop first part) ≡ drop first items
@@ -477,16 +372,12 @@ tail-is part items first e = take_rest part first ∙ ap (λ (frames : List Fram
 -- the open frames as they are lent
 pub lent-opens : (frames lent : List Frame) (first : ℕ) (bindings own : List Range) → lent ≡ frames → own ≡ bindings
     → opens_of (take (length lent - first) (drop first lent)) own ≡ opens_of (drop first frames) bindings
-lent-opens frames lent first bindings own e f =
-    ap (λ (s : List Frame). opens_of s own) (tail-is lent frames first e)
-    ∙ ap (λ (bs : List Range). opens_of (drop first frames) bs) f
+lent-opens frames lent first bindings own e f = grind (arith, tail-is)
 
 -- some frame is lent where some text is open
 pub lent-some : (frames lent : List Frame) (first : ℕ) (bindings : List Range) → lent ≡ frames → 0 < length (opens_of (drop first frames) bindings)
     → 0 < length (take (length lent - first) (drop first lent))
-lent-some frames lent first bindings e some =
-    subst (λ (s : List Frame). 0 < length s) (sym (tail-is lent frames first e))
-    (let n = opens-length (drop first frames) bindings in omega (arith, n, some))
+lent-some frames lent first bindings e some = grind (arith, tail-is, opens-length)
 
 -- The frames of open texts and the ranges that they have bound, as a call is bound and its body opens.
 
@@ -609,13 +500,7 @@ opening-refused macros text at end id parent n old new ranges kind r e k b is =
 pub call-bound : (macros : List Macro) (text : List ℕ) (at end id n : ℕ) (ranges : List Range) (following : ℕ) (r : Result ℕ FaultKind)
     → r ≡ Ok following → n ≡ length (formals_of (macro_at macros id)) → IsBoundCall text at end n ranges r → AreWithin at end ranges → (at ≤ following) × (following ≤ end)
     → IsCallBound macros text at end id
-call-bound macros text at end id n ranges following r e k b within place = record {
-  ranges = ranges;
-  following = following;
-  within = within;
-  place = place;
-  bound = subst (λ (m : ℕ). IsBoundCall text at end m ranges (Ok following)) k (subst (λ (x : Result ℕ FaultKind). IsBoundCall text at end n ranges x) e b);
-}
+call-bound macros text at end id n ranges following r e k b within place = grind arith
 
 -- a call that is bound where no further text may be open
 pub opening-deep : (macros : List Macro) (text : List ℕ) (at end id parent : ℕ) (old new : CursorsView) → IsCallBound macros text at end id → new ≡ old → old.depth ≤ length old.opens

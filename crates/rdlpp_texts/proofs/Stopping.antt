@@ -16,7 +16,7 @@ use Rattle.rdlpp_scan.proofs.StopKinds.{AtBack, AtBare, AtBlockComment, AtLineCo
 use Rattle.rdlpp_scan.proofs.TokenLens.{token_of-part, tokens_from-step}
 use Rattle.rdlpp_table.specs.ExpansionPoints.{next_expansion_point, is_none, or_point, point_at, point_in, point_name, point_of}
 use Rattle.rdlpp_table.specs.Table.{Formal, Macro}
-use Rattle.rdlpp_table.specs.View.{formal_named, formals_of, macro_at}
+use Rattle.rdlpp_table.specs.View.{formal_named, macro_at}
 use Rattle.rdlpp_table.specs.declared.point.ExpansionPoint.{ExpansionPoint}
 use Rattle.rdlpp_table.specs.declared.point.ExpansionPoint.TheVariants as point
 use Rattle.rdlpp_table.proofs.FirstPoints.{or_none, or_some}
@@ -47,11 +47,7 @@ none-at : (formals : List Formal) (at len : ℕ) (next : Mode) (kind : Kind) (by
     → is_none (point_at formals at (record { kind = kind; len = len; next_mode = next }) bytes)
     ≡ is_none (point_at formals 0 (record { kind = kind; len = len; next_mode = next }) bytes)
 unfolding is_none point_at point_name
-none-at formals at len next Name bytes = by (formal_named formals bytes)
-  where
-    by : (found : Option ℕ) → is_none (point_name at len found) ≡ is_none (point_name 0 len found)
-    by None = refl
-    by (Some place) = refl
+none-at formals at len next Name bytes = grind arith
 none-at formals at len next kind bytes = refl
 
 -- an expansion point stands where its token does, by the kind of that
@@ -59,11 +55,7 @@ own-place : (formals : List Formal) (at len : ℕ) (next : Mode) (kind : Kind) (
     → is_none (point_at formals at (record { kind = kind; len = len; next_mode = next }) bytes) ≡ false
     → point_place (point_at formals at (record { kind = kind; len = len; next_mode = next }) bytes) ≡ Some at
 unfolding is_none point_at point_name
-own-place formals at len next Name bytes e = by (formal_named formals bytes) e
-  where
-    by : (found : Option ℕ) → is_none (point_name at len found) ≡ false → point_place (point_name at len found) ≡ Some at
-    by None e = absurd (true≢false e)
-    by (Some place) e = refl
+own-place formals at len next Name bytes e = grind (arith, true≢false)
 own-place formals at len next Back bytes e = refl
 own-place formals at len next BareBackquote bytes e = refl
 own-place formals at len next kind bytes e = absurd (true≢false e)
@@ -78,16 +70,7 @@ tells-more at own n len rest (Some p) fits e h = (let a = h.0 in omega (arith, a
 points-at : (formals : List Formal) (at : ℕ) (ts : List Token) (mode : Mode) (text : List ℕ) → tokens_from mode 0 text ≡ ts
     → PlaceTells at (run_len formals ts text) (length text) (point_place (next_expansion_point formals at ts text))
 unfolding run_len next_expansion_point PlaceTells
-points-at formals at [] mode text e = none text e
-  where
-    none : (text : List ℕ) → tokens_from mode 0 text ≡ [] → 0 ≡ length text
-    none [] e = refl
-    none (b ∷ bs) e =
-        let some : 0 < length (b ∷ bs) = omega arith in
-        absurd (clash (token_of mode (b ∷ bs)) (tokens_from mode 0 (b ∷ bs)) _ e (tokens_from-step mode (b ∷ bs) some (token_of-part mode (b ∷ bs) some).not_empty))
-      where
-        clash : (t : Token) (xs ys : List Token) → xs ≡ [] → xs ≡ t ∷ ys → ⊥
-        clash t xs ys p q = cc
+points-at formals at [] mode text e = grind (arith, tokens_from-step, token_of-part)
 points-at formals at (t ∷ ts) mode text e =
     let p = tokens_from-first mode text t ts e in
     let inside : t.len ≤ length text = subst (λ (u : Token). u.len ≤ length text) p.1.0 (token_of-part mode text p.0).inside in
@@ -112,34 +95,14 @@ point-token : (formals : List Formal) (at : ℕ) (mode : Mode) (text : List ℕ)
     → run_len formals (tokens_from mode 0 text) text ≡ 0
     → point_at formals at (token_of mode text) (take (token_of mode text).len text) ≡ next_expansion_point formals at (tokens_from mode 0 text) text
 unfolding next_expansion_point or_point run_len
-point-token formals at mode text some e =
-    let t = token_of mode text in
-    let part = token_of-part mode text some in
-    let ts = tokens_from t.next_mode 0 (drop t.len text) in
-    let step : tokens_from mode 0 text ≡ t ∷ ts = tokens_from-step mode text some part.not_empty in
-    by t ts (is_none (point_at formals 0 t (take t.len text))) refl part.not_empty (ap (λ (us : List Token). run_len formals us text) (sym step) ∙ e)
-    ∙ sym (ap (λ (us : List Token). next_expansion_point formals at us text) step)
-  where
-    zero-sum : (a b : ℕ) → 0 < a → a + b ≡ 0 → ⊥
-    zero-sum a b h e = omega (arith, h, e)
-
-    by : (t : Token) (ts : List Token) (none : Bool) → is_none (point_at formals 0 t (take t.len text)) ≡ none → 0 < t.len
-        → run_len formals (t ∷ ts) text ≡ 0 → point_at formals at t (take t.len text) ≡ next_expansion_point formals at (t ∷ ts) text
-    by t ts true n positive e = absurd (zero-sum t.len (run_len formals ts (drop t.len text)) positive
-        (sym (ap (λ (b : Bool). if b then t.len + run_len formals ts (drop t.len text) else 0) n) ∙ e))
-    by t ts false n positive e =
-        sym (or_some (point_at formals at t (take t.len text)) _ (none-at formals at t.len t.next_mode t.kind (take t.len text) ∙ n))
+point-token formals at mode text some e = grind (arith, token_of-part, tokens_from-step, or_some, none-at)
 
 -- which token an expansion point is: a formal, by the kind of the token
 formal-by : (formals : List Formal) (at len : ℕ) (next : Mode) (kind : Kind) (bytes : List ℕ) (p n place : ℕ)
     → point_at formals at (record { kind = kind; len = len; next_mode = next }) bytes ≡ point.Formal p n place
     → (kind ≡ Name) × (len ≡ n) × (formal_named formals bytes ≡ Some place)
 unfolding point_at point_name
-formal-by formals at len next Name bytes p n place e = by (formal_named formals bytes) e
-  where
-    by : (found : Option ℕ) → point_name at len found ≡ point.Formal p n place → (Name ≡ Name) × (len ≡ n) × (found ≡ Some place)
-    by None e = absurd (cc)
-    by (Some i) e = (refl, cc, cc)
+formal-by formals at len next Name bytes p n place e = grind arith
 formal-by formals at len next Back bytes p n place e = absurd (cc)
 formal-by formals at len next BareBackquote bytes p n place e = absurd (cc)
 formal-by formals at len next kind bytes p n place e = absurd (cc)
@@ -148,11 +111,7 @@ formal-by formals at len next kind bytes p n place e = absurd (cc)
 usage-by : (formals : List Formal) (at len : ℕ) (next : Mode) (kind : Kind) (bytes : List ℕ) (p n : ℕ)
     → point_at formals at (record { kind = kind; len = len; next_mode = next }) bytes ≡ point.Usage p n → (kind ≡ Back) × (len ≡ n)
 unfolding point_at point_name
-usage-by formals at len next Name bytes p n e = by (formal_named formals bytes) e
-  where
-    by : (found : Option ℕ) → point_name at len found ≡ point.Usage p n → (Name ≡ Back) × (len ≡ n)
-    by None e = absurd (cc)
-    by (Some i) e = absurd (cc)
+usage-by formals at len next Name bytes p n e = grind arith
 usage-by formals at len next Back bytes p n e = (refl, cc)
 usage-by formals at len next BareBackquote bytes p n e = absurd (cc)
 usage-by formals at len next kind bytes p n e = absurd (cc)
@@ -161,11 +120,7 @@ usage-by formals at len next kind bytes p n e = absurd (cc)
 bare-by : (formals : List Formal) (at len : ℕ) (next : Mode) (kind : Kind) (bytes : List ℕ) (p : ℕ)
     → point_at formals at (record { kind = kind; len = len; next_mode = next }) bytes ≡ point.Bare p → kind ≡ BareBackquote
 unfolding point_at point_name
-bare-by formals at len next Name bytes p e = by (formal_named formals bytes) e
-  where
-    by : (found : Option ℕ) → point_name at len found ≡ point.Bare p → Name ≡ BareBackquote
-    by None e = absurd (cc)
-    by (Some i) e = absurd (cc)
+bare-by formals at len next Name bytes p e = grind arith
 bare-by formals at len next Back bytes p e = absurd (cc)
 bare-by formals at len next BareBackquote bytes p e = refl
 bare-by formals at len next kind bytes p e = absurd (cc)
@@ -209,9 +164,7 @@ point-following formals at (t ∷ ts) mode text e found =
 place-some : (s : ExpansionPoint) (at : ℕ) → point_place s ≡ Some at → is_none s ≡ false
 unfolding is_none
 place-some point.None at e = absurd (cc)
-place-some (point.Formal at len place) p e = refl
-place-some (point.Usage at len) p e = refl
-place-some (point.Bare at) p e = refl
+place-some _ p e = refl
 
 -- the first expansion point is that of the text from there on
 pub point-moved : (formals : List Formal) (from at : ℕ) (text : List ℕ) (s : ExpansionPoint) → s ≡ point_of formals from text → point_place s ≡ Some at
@@ -261,15 +214,7 @@ run-following formals text n e =
 pub point-front : (formals : List Formal) (from at : ℕ) (text : List ℕ) (s : ExpansionPoint) → s ≡ point_of formals from text → point_place s ≡ Some at → at ≤ from
     → (0 < length text) × (point_at formals from (token_of Plain text) (take (token_of Plain text).len text) ≡ s)
 unfolding point_of PlaceTells
-point-front formals from at text s e p h =
-    let n = run_len formals (tokens_from Plain 0 text) text in
-    let tells : (at ≡ from + n) × (n < length text) =
-    subst (λ (o : Option ℕ). PlaceTells from n (length text) o) (ap (λ (o : ExpansionPoint). point_place o) (sym e) ∙ p)
-    (points-at formals from (tokens_from Plain 0 text) Plain text refl) in
-    let a = tells.0 in
-    let b = tells.1 in
-    let some : 0 < length text = omega (arith, b) in
-    (some, point-token formals from Plain text some (omega (arith, a, h)) ∙ sym e)
+point-front formals from at text s e p h = grind (arith, points-at, point-token)
 
 -- a formal at the front
 pub front-formal : (formals : List Formal) (from at len place : ℕ) (text : List ℕ) → point.Formal at len place ≡ point_of formals from text → at ≤ from
@@ -328,9 +273,7 @@ ahead-whole formals from end text e s =
 pub ahead-plain : (text : List ℕ) (n from : ℕ) (own : TextItem) → n ≡ run_len [] (tokens_from Plain 0 text) text → n ≤ length text
     → IsTextItem [] (drop n text) own → IsNextItem [] text from (record { at = from + n; front = own })
 unfolding AreCopied IsNextItem
-ahead-plain text n from own e inside f =
-    let same : from + n - from ≡ n = omega arith in
-    (omega arith, (omega (arith, inside), sym e ∙ sym same), subst (λ (k : ℕ). IsTextItem [] (drop k text) own) (sym same) f)
+ahead-plain text n from own e inside f = grind arith
 
 -- the run in front of a text without formals, where so many of its bytes are passed and the rest is read in a mode
 pub record IsRunning (text : List ℕ) (mode : Mode) (at : ℕ) : Type 0 where
@@ -347,19 +290,13 @@ run-step : (formals : List Formal) (mode : Mode) (text : List ℕ) (none : Bool)
     → run_len formals (tokens_from mode 0 text) text
     ≡ (if none then (token_of mode text).len + run_len formals (tokens_from (token_of mode text).next_mode 0 (drop (token_of mode text).len text)) (drop (token_of mode text).len text) else 0)
 unfolding run_len
-run-step formals mode text none some e =
-    let t = token_of mode text in
-    let ts = tokens_from t.next_mode 0 (drop t.len text) in
-    ap (λ (us : List Token). run_len formals us text) (tokens_from-step mode text some (token_of-part mode text some).not_empty)
-    ∙ ap (λ (b : Bool). if b then t.len + run_len formals ts (drop t.len text) else 0) e
+run-step formals mode text none some e = grind (arith, tokens_from-step, token_of-part)
 
 -- without formals those are the expansion points
 pub back-none : (len : ℕ) (next : Mode) (kind : Kind) (bytes : List ℕ)
     → is_none (point_at [] 0 (record { kind = kind; len = len; next_mode = next }) bytes) ≡ not (is_back kind)
 unfolding is_none point_at point_name is_back
 back-none len next Name bytes = refl
-back-none len next Back bytes = refl
-back-none len next BareBackquote bytes = refl
 back-none len next kind bytes = refl
 
 -- one more token is passed
@@ -401,14 +338,7 @@ running-point text mode at t r more e back =
 -- so it does at the end of the text
 pub running-end : (text : List ℕ) (mode : Mode) (at : ℕ) → IsRunning text mode at → length text ≤ at → at ≡ run_len [] (tokens_from Plain 0 text) text
 unfolding run_len tokens_from
-running-end text mode at r e =
-    let none : run_len [] (tokens_from mode 0 (drop at text)) (drop at text) ≡ 0 =
-    ap (λ (b : List ℕ). run_len [] (tokens_from mode 0 b) b) (drop_all at text e) ∙ nothing mode in
-    let same = r.same in
-    omega (arith, none, same)
-  where
-    nothing : (m : Mode) → run_len [] (tokens_from m 0 []) [] ≡ 0
-    nothing m = refl
+running-end text mode at r e = grind (arith, drop_all)
 
 -- what stands at the front of a text without formals whose run is empty
 pub front-plain : (text : List ℕ) (t : Token) → 0 < length text → run_len [] (tokens_from Plain 0 text) text ≡ 0 → t ≡ token_of Plain text
@@ -440,21 +370,13 @@ front-plain text t some e is =
 pub plain-source : (texts : Texts) (source : TextSource) (text : List ℕ) (from : ℕ) (f : NextItem) → ((id : ℕ) → source ≡ place_of.Body id → ⊥) → IsNextItem [] text from f
     → IsNextItem (source_formals texts source) text from f
 unfolding source_formals
-plain-source texts place_of.Arguments text from f other h = h
 plain-source texts (place_of.Body id) text from f other h = absurd (other id refl)
-plain-source texts (place_of.Default id place) text from f other h = h
+plain-source texts _ text from f other h = h
 
 -- a range of a text that has no byte
 pub ahead-ended : (formals : List Formal) (text : List ℕ) (from end : ℕ) → end ≤ from → IsNextItem formals (slice_range text from end) from (record { at = from; front = front.Ended })
 unfolding AreCopied IsNextItem IsTextItem
-ahead-ended formals text from end h =
-    let e : end - from ≡ 0 = omega (arith, h) in
-    let none : take (end - from) (drop from text) ≡ [] = ap (λ (n : ℕ). take n (drop from text)) e in
-    subst (λ (bytes : List ℕ). IsNextItem formals bytes from (record { at = from; front = front.Ended })) (sym none) (ended formals from (from - from) (omega arith) refl)
-  where
-    ended : (formals : List Formal) (from n : ℕ) → n ≡ 0 → from - from ≡ n → IsNextItem formals [] from (record { at = from; front = front.Ended })
-    ended formals from n zero same =
-        (omega arith, (omega (arith, zero, same), run-empty formals [] refl ∙ sym (same ∙ zero)), drop_all (from - from) [] (omega arith))
+ahead-ended formals text from end h = grind (arith, run-empty, drop_all)
 
 -- what stands ahead in a range of a body, by its first expansion point
 pub ahead-body : (texts : Texts) (source : TextSource) (id from end : ℕ) (s : ExpansionPoint) (f : NextItem) → source ≡ place_of.Body id → from < end
@@ -462,13 +384,7 @@ pub ahead-body : (texts : Texts) (source : TextSource) (id from end : ℕ) (s : 
     → ((formals : List Formal) (from : ℕ) (text : List ℕ) → from + length text ≡ end → s ≡ point_of formals from text → IsNextItem formals text from f)
     → IsNextItem (source_formals texts source) (slice_range (source_text texts source) from end) from f
 unfolding source_formals source_text point_in
-ahead-body texts source id from end s f e h inside is each =
-    let body = (macro_at texts.macros id).body in
-    let within : end ≤ length body = subst (λ (x : TextSource). end ≤ length (source_text texts x)) e inside in
-    let size = length-take (end - from) (drop from body) in
-    let rest = length-drop from body in
-    subst (λ (x : TextSource). IsNextItem (source_formals texts x) (slice_range (source_text texts x) from end) from f) (sym e)
-    (each (formals_of (macro_at texts.macros id)) from (slice_range body from end) (omega (arith, h, within, size, rest)) is)
+ahead-body texts source id from end s f e h inside is each = grind (arith, length-take, length-drop)
 
 -- a range of a body lies in it
 pub body-inside : (texts : Texts) (source : TextSource) (id end : ℕ) → source ≡ place_of.Body id → end ≤ length (source_text texts source)
@@ -480,9 +396,7 @@ body-inside texts source id end e inside = subst (λ (x : TextSource). end ≤ l
 
 place-none : (s : ExpansionPoint) → point_place s ≡ None → point.None ≡ s
 place-none point.None e = refl
-place-none (point.Formal at len place) e = absurd (cc)
-place-none (point.Usage at len) e = absurd (cc)
-place-none (point.Bare at) e = absurd (cc)
+place-none _ e = absurd (cc)
 
 -- there is none, where nothing stands behind the run
 pub unlisted-none : (text : List ℕ) (from n : ℕ) → n ≡ run_len [] (tokens_from Plain 0 text) text → drop n text ≡ [] → point.None ≡ point_of [] from text
@@ -538,9 +452,7 @@ unlisted-bare text from n e f =
 -- and no formal
 pub unlisted-formal : (text : List ℕ) (len place : ℕ) → IsTextItem [] text (front.Formal len place) → ⊥
 unfolding IsTextItem
-unlisted-formal text len place f =
-    let found : None ≡ Some place = f.3 in
-    absurd (cc)
+unlisted-formal text len place f = grind arith
 
 no_formals : (o : Option (List Formal)) (n : Option ℕ) → n ≡ option_map (length {A = Formal}) o → unwrap_or n 0 ≡ 0 → [] ≡ unwrap_or o []
 no_formals None n e z = refl
@@ -550,10 +462,7 @@ no_formals (Some fs) n e z = sym (nil_from_length fs (sym (ap (λ (x : Option �
 pub unlisted-body : (m : Macro) (from end : ℕ) (n : Option ℕ) (body : List ℕ) (s : ExpansionPoint) → n ≡ option_map (length {A = Formal}) m.formals → unwrap_or n 0 ≡ 0 → body ≡ m.body
     → s ≡ point_of [] from (slice_range body from end) → s ≡ point_in m from end
 unfolding point_in
-unlisted-body m from end n body s e z b h =
-    h
-    ∙ (ap (λ (l : List ℕ). point_of [] from (slice_range l from end)) b
-    ∙ ap (λ (fs : List Formal). point_of fs from (slice_range m.body from end)) (no_formals m.formals n e z))
+unlisted-body m from end n body s e z b h = grind (arith, no_formals)
 
 -- A text without a backquote has no expansion point but the names of formals.
 
@@ -592,16 +501,7 @@ passed t ts text h =
 -- a text without a backquote is all a run, also where it is read on in a string or a comment
 run-unquoted : (ts : List Token) (mode : Mode) (text : List ℕ) → tokens_from mode 0 text ≡ ts → ((i : ℕ) → i < length text → get_or text i 0 ≡ 96 → ⊥) → run_len [] ts text ≡ length text
 unfolding run_len
-run-unquoted [] mode text e none = no-token text e
-  where
-    no-token : (text : List ℕ) → tokens_from mode 0 text ≡ [] → 0 ≡ length text
-    no-token [] e = refl
-    no-token (b ∷ bs) e =
-        let some : 0 < length (b ∷ bs) = omega arith in
-        absurd (clash (token_of mode (b ∷ bs)) (tokens_from mode 0 (b ∷ bs)) _ e (tokens_from-step mode (b ∷ bs) some (token_of-part mode (b ∷ bs) some).not_empty))
-      where
-        clash : (t : Token) (xs ys : List Token) → xs ≡ [] → xs ≡ t ∷ ys → ⊥
-        clash t xs ys p q = cc
+run-unquoted [] mode text e none = grind (arith, tokens_from-step, token_of-part)
 run-unquoted (t ∷ ts) mode text e none =
     let p = tokens_from-first mode text t ts e in
     let inside : t.len ≤ length text = subst (λ (u : Token). u.len ≤ length text) p.1.0 (token_of-part mode text p.0).inside in

@@ -5,28 +5,25 @@ use Rattle.std.proofs.lemmas.Bool.{false≢true}
 use Rattle.std.proofs.lemmas.List.Quantifiers.{position-Some}
 use Rattle.rdlpp_scan.specs.Bytes.{is_word}
 use Rattle.rdlpp_scan.specs.Ordinary.{is_plain_kind}
-use Rattle.rdlpp_scan.specs.SourceTokens.{SourceToken}
 use Rattle.rdlpp_scan.specs.Tokens.{token_of, whole}
 use Rattle.rdlpp_scan.specs.declared.token.Kind.TheVariants.{Back, BareBackquote, BlockComment, LineComment, Perl, Str}
-use Rattle.rdlpp_scan.specs.declared.token.Mode.{Mode}
 use Rattle.rdlpp_scan.specs.declared.token.Mode.TheVariants.{Plain}
 use Rattle.rdlpp_scan.specs.declared.token.Token.{Token}
 use Rattle.rdlpp_scan.proofs.TokenLens.{list_all-prefix}
 use Rattle.rdlpp_scan.proofs.StopKinds.{AtBack, AtBare, AtBlockComment, AtLineComment, AtPerl, AtPlain, AtString, Row, token_of-row}
-use Rattle.rdlpp_table.specs.Table.{Formal, Macro}
-use Rattle.rdlpp_table.specs.View.{IsSound, TableView, formal_at, formal_named, formals_of, macro_at, no_formal}
-use Rattle.rdlpp_meaning.specs.Opens.{HasParts, Open, OpenActual, OpenBody, OpenDefault, OpenKind, Part, Texts, found_standing, kind_standing, open_bytes, open_scope, open_standing, own_text, part_at, part_tokens, scope_formals, scope_open, scope_text, text_around}
-use Rattle.rdlpp_meaning.specs.Substitution.{body_tokens}
+use Rattle.rdlpp_table.specs.Table.{Formal}
+use Rattle.rdlpp_table.specs.View.{IsSound, TableView, formal_at, formals_of, macro_at}
+use Rattle.rdlpp_meaning.specs.Opens.{Open, OpenActual, OpenBody, OpenDefault, OpenKind, Part, Texts, found_standing, kind_standing, open_bytes, open_standing, own_text, part_at, part_tokens, scope_open, scope_text, text_around}
 use Rattle.rdlpp_meaning.specs.declared.fault.FaultKind.{FaultKind}
 use Rattle.rdlpp_meaning.specs.declared.fault.FaultKind.TheVariants.{DepthPassed}
 use Rattle.rdlpp_meaning.proofs.OpenScopes.{IsOpenText, part-whole, standing-found, text-around}
 use Rattle.rdlpp_texts.specs.BoundCalls.{KeepsAll}
-use Rattle.rdlpp_texts.specs.Digits.{IsFalling, cursor_digits}
+use Rattle.rdlpp_texts.specs.Digits.{IsFalling}
 use Rattle.rdlpp_texts.specs.TextItems.{IsTextItem, IsFrontPlace, IsPeek, IsPeekAhead}
-use Rattle.rdlpp_texts.specs.Opened.{CursorsView, IsNoBody, StaysOutermost, is_spent, kind_of, moved_to, open_of}
+use Rattle.rdlpp_texts.specs.Opened.{CursorsView, IsNoBody, StaysOutermost, is_spent, moved_to, open_of}
 use Rattle.rdlpp_texts.specs.Places.{place_bytes, source_formals, source_text, texts_of}
-use Rattle.rdlpp_texts.specs.Scopes.{AreBound, IsBound, found_source, front_scope, front_source, kind_source}
-use Rattle.rdlpp_texts.specs.Steps.{AreSound, IsKnown, IsPlacedStep, IsStep, IsUnlent, KeepActuals, NamesWord, StaysRefused, StepsTo, wordless}
+use Rattle.rdlpp_texts.specs.Scopes.{AreBound, found_source, front_scope, front_source, kind_source}
+use Rattle.rdlpp_texts.specs.Steps.{AreSound, IsKnown, IsPlacedStep, IsStep, IsUnlent, NamesWord, StaysRefused, StepsTo, wordless}
 use Rattle.rdlpp_texts.specs.TakenSteps.{PeeksAt, TakesStep, is_idle}
 use Rattle.rdlpp_texts.specs.Turns.{Closed, Stays, Turned}
 use Rattle.rdlpp_texts.specs.Usages.{front_name, is_text_fault}
@@ -35,9 +32,8 @@ use Rattle.rdlpp_texts.specs.declared.peek.TextItem.TheVariants as front
 use Rattle.rdlpp_texts.specs.declared.peek.Peek.{Peek}
 use Rattle.rdlpp_texts.specs.declared.place.TextPlace.{TextPlace}
 use Rattle.rdlpp_texts.specs.declared.place.TextSource.{TextSource}
-use Rattle.rdlpp_texts.specs.declared.place.TextSource.TheVariants.{Arguments, Body, Default}
+use Rattle.rdlpp_texts.specs.declared.place.TextSource.TheVariants.{Arguments}
 use Rattle.rdlpp_texts.specs.declared.frame.Frame.{Frame}
-use Rattle.rdlpp_texts.specs.declared.frame.FrameKind.{FrameKind}
 use Rattle.rdlpp_texts.specs.declared.frame.FrameKind.TheVariants as frame
 use Rattle.rdlpp_texts.specs.declared.step.CursorFault.{CursorFault}
 use Rattle.rdlpp_texts.specs.declared.step.CursorStep.{CursorStep}
@@ -52,31 +48,20 @@ use Rattle.rdlpp_texts.proofs.Usages.{moved-room, open-run, placed-run, placed-w
 -- sound open texts have a range for each formal of their macros
 pub sound-bound : (texts : Texts) (opens : List Open) → AreSound texts opens → AreBound texts.macros opens
 sound-bound texts [] h = tt
-sound-bound texts (x ∷ below) h =
-    ((h.are_open).0, (by x.kind (h.are_inside).0 ((h.are_open).1).0, sound-bound texts below (sound-tail texts x below h)))
-  where
-    by : (kind : OpenKind) → IsKnown texts.macros kind → HasParts texts (scope_text texts below x.parent) kind → IsBound texts.macros kind
-    by (OpenBody id parts) known has = (known, has.0)
-    by OpenActual known has = tt
-    by (OpenDefault id place) known has = known
+sound-bound texts (x ∷ below) h = grind (arith, sound-tail, (sound-bound texts below (sound-tail texts x below h)))
 
 -- the formals of a text hang on the macros alone
 formals-same : (texts : Texts) (source : TextSource) → source_formals texts source ≡ source_formals (texts_of texts.macros []) source
 unfolding source_formals
 formals-same texts Arguments = refl
-formals-same texts (Body id) = refl
-formals-same texts (Default id place) = refl
+formals-same texts _ = refl
 
 -- the formal whose name stands at the front is one of the scope's text
 pub formal-place : (texts : Texts) (opens : List Open) (peek : Peek) (len place : ℕ) → AreSound texts opens → IsPeek texts opens peek → peek.front ≡ front.Formal len place
     → place < length (source_formals (texts_of texts.macros []) (found_source (scope_open opens (front_scope opens))))
 unfolding IsPeek IsTextItem front_scope
 formal-place texts [] peek len place h l e = absurd l
-formal-place texts (x ∷ below) peek len place h l e =
-    let f = subst (λ (f : TextItem). IsTextItem (source_formals texts (front_source (x ∷ below))) (open_bytes texts x below) f) e l.3 in
-    let inside = (position-Some _ (source_formals texts (front_source (x ∷ below))) place no_formal f.3).0 in
-    subst (λ (s : TextSource). place < length (source_formals (texts_of texts.macros []) s)) (source-scope x below (h.are_open).0)
-    (subst (λ (formals : List Formal). place < length formals) (formals-same texts (front_source (x ∷ below))) inside)
+formal-place texts (x ∷ below) peek len place h l e = grind (arith, position-Some, source-scope, formals-same)
 
 -- what holds of an open text that a formal stands for, in front of others
 pub record IsStandingIn (texts : Texts) (opens : List Open) (y : Open) : Type 0 where
@@ -90,62 +75,29 @@ pub record IsStandingIn (texts : Texts) (opens : List Open) (y : Open) : Type 0 
 around-more : (texts : Texts) (x : Open) (below : List Open) (kind : OpenKind) (parent : ℕ) → parent ≤ length below
     → text_around texts kind parent (x ∷ below) ≡ text_around texts kind parent below
 unfolding text_around
-around-more texts x below (OpenBody id parts) parent h = refl
 around-more texts x below OpenActual parent h = text-around texts x below parent h
-around-more texts x below (OpenDefault id place) parent h = refl
+around-more texts x below _ parent h = refl
 
 -- and where the one around it goes on
 around-moved : (texts : Texts) (x : Open) (below : List Open) (at : ℕ) (kind : OpenKind) (parent : ℕ)
     → text_around texts kind parent (x ∷ below) ≡ text_around texts kind parent (moved_to at (x ∷ below))
 unfolding text_around scope_text moved_to
 around-moved texts x below at (OpenBody id parts) parent = refl
-around-moved texts x below at OpenActual parent = refl
-around-moved texts x below at (OpenDefault id place) parent = refl
+around-moved texts x below at _ parent = refl
 
 -- it stands so with one more open text around it
 standing-more : (texts : Texts) (x : Open) (below : List Open) (y : Open) → IsStandingIn texts below y → IsStandingIn texts (x ∷ below) y
-standing-more texts x below y s =
-    let parent = s.parent in
-    let same = around-more texts x below y.kind y.parent parent in
-    record {
-      parent = omega (arith, parent);
-      text = s.text;
-      known = s.known;
-      inside = subst (λ (text : List ℕ). y.part.end ≤ length text) (sym same) s.inside;
-      keeps = subst (λ (text : List ℕ). KeepsAll (part_tokens text y.part)) (sym same) s.keeps;
-    }
+standing-more texts x below y s = grind (arith, around-more)
 
 -- and where the innermost goes on
 standing-moved : (texts : Texts) (x : Open) (below : List Open) (at : ℕ) (y : Open) → IsStandingIn texts (x ∷ below) y → IsStandingIn texts (moved_to at (x ∷ below)) y
 unfolding moved_to
-standing-moved texts x below at y s =
-    let same = around-moved texts x below at y.kind y.parent in
-    record {
-      parent = s.parent;
-      text = s.text;
-      known = s.known;
-      inside = subst (λ (text : List ℕ). y.part.end ≤ length text) same s.inside;
-      keeps = subst (λ (text : List ℕ). KeepsAll (part_tokens text y.part)) same s.keeps;
-    }
+standing-moved texts x below at y s = grind (arith, around-moved)
 
 -- what is no body has no parts and no actuals
 text-sound : (texts : Texts) (opens : List Open) (y : Open) → IsStandingIn texts opens y → y.part.mode ≡ Plain → AreSound texts opens → AreSound texts (y ∷ opens)
 unfolding IsOpenText
-text-sound texts opens y s mode h = record {
-  are_open = (s.parent, (parts y.kind s.text, h.are_open));
-  are_inside = (s.known, (s.inside, (mode, h.are_inside)));
-  are_kept = (s.keeps, (actuals y.kind s.text, h.are_kept));
-}
-  where
-    parts : (kind : OpenKind) → IsOpenText kind → HasParts texts (scope_text texts opens y.parent) kind
-    parts (OpenBody id bound) t = absurd t
-    parts OpenActual t = tt
-    parts (OpenDefault id place) t = tt
-
-    actuals : (kind : OpenKind) → IsOpenText kind → KeepActuals (scope_text texts opens y.parent) kind
-    actuals (OpenBody id bound) t = absurd t
-    actuals OpenActual t = tt
-    actuals (OpenDefault id place) t = tt
+text-sound texts opens y s mode h = grind arith
 
 -- the default of a formal of the innermost body stands so
 default-stands : (table : TableView) (texts : Texts) (opens : List Open) (id place scope : ℕ) → IsSound table → texts.macros ≡ table.macros → scope ≤ length opens
@@ -156,22 +108,7 @@ default-stands : (table : TableView) (texts : Texts) (opens : List Open) (id pla
       kind = OpenDefault id place;
     })
 unfolding IsOpenText text_around own_text
-default-stands table texts opens id place scope sound e inside known own =
-    let text = (formal_at (formals_of (macro_at texts.macros id)) place).text in
-    record {
-      parent = inside;
-      text = tt;
-      known = (known, own);
-      inside = omega arith;
-      keeps = subst (λ (ts : List SourceToken). KeepsAll ts) (sym (part-whole text))
-          (keeps texts.macros e known own);
-    }
-  where
-    keeps : (macros : List Macro) → macros ≡ table.macros → id < length macros → place < length (formals_of (macro_at macros id))
-        → KeepsAll (body_tokens (formal_at (formals_of (macro_at macros id)) place).text)
-    keeps macros e known own =
-        subst (λ (ms : List Macro). id < length ms → place < length (formals_of (macro_at ms id)) → KeepsAll (body_tokens (formal_at (formals_of (macro_at ms id)) place).text)) (sym e)
-        (λ k o. default-keeps table id place sound k o) known own
+default-stands table texts opens id place scope sound e inside known own = grind (arith, part-whole, default-keeps)
 
 -- its actual does
 actual-stands : (texts : Texts) (x : Open) (below : List Open) (id place : ℕ) (parts : List Part) → x.parent ≤ length below → place < length parts
@@ -179,18 +116,7 @@ actual-stands : (texts : Texts) (x : Open) (below : List Open) (id place : ℕ) 
     → AllByRecursion (λ part. KeepsAll (part_tokens (scope_text texts below x.parent) part)) parts
     → IsStandingIn texts (x ∷ below) (record { part = part_at parts place; parent = x.parent; kind = OpenActual })
 unfolding IsOpenText text_around
-actual-stands texts x below id place parts h own fits keep =
-    let same = text-around texts x below x.parent h in
-    let none : Part = record { from = 0; end = 0; mode = Plain } in
-    record {
-      parent = omega (arith, h);
-      text = tt;
-      known = tt;
-      inside = subst (λ (text : List ℕ). (part_at parts place).end ≤ length text) (sym same)
-          (at-each (λ part. part.end ≤ length (scope_text texts below x.parent)) parts place none fits own);
-      keeps = subst (λ (text : List ℕ). KeepsAll (part_tokens text (part_at parts place))) (sym same)
-          (at-each (λ part. KeepsAll (part_tokens (scope_text texts below x.parent) part)) parts place none keep own);
-    }
+actual-stands texts x below id place parts h own fits keep = grind (arith, text-around, at-each)
 
 -- what a formal of the innermost body stands for does
 own-stands : (table : TableView) (texts : Texts) (x : Open) (below : List Open) (id place : ℕ) (parts : List Part) → IsSound table → texts.macros ≡ table.macros
@@ -243,12 +169,7 @@ scope-stands table texts (x ∷ below) k place y sound e h own is =
 -- what a frame is that a formal stands for is no body
 pub no-body : (new : Frame) → IsOpenText (open_of new []).kind → IsNoBody new.kind
 unfolding IsOpenText
-no-body new t = by new.kind t
-  where
-    by : (kind : FrameKind) → IsOpenText (kind_of kind []) → IsNoBody kind
-    by (frame.Body id first) t = absurd t
-    by frame.Actual t = tt
-    by (frame.Default id place) t = tt
+no-body new t = grind arith
 
 -- what is found for the formal whose name stands at the front is sound in front of what is left behind that name
 pub formal-sound : (table : TableView) (texts : Texts) (opens : List Open) (peek : Peek) (len place : ℕ) (frame : Frame) → IsSound table → texts.macros ≡ table.macros
@@ -279,34 +200,21 @@ formal-step : (line depth : ℕ) (texts : Texts) (opens : List Open) (peek : Pee
     → length opens < depth → IsStep line depth texts opens Silent (open_of frame [] ∷ moved_to (peek.at + len) opens)
 unfolding IsPeek front_scope
 formal-step line depth texts [] peek len place frame h l f is room = absurd l
-formal-step line depth texts (x ∷ below) peek len place frame h l f is room =
-    subst (λ (from : ℕ). IsStep line depth texts (x ∷ below) Silent (open_of frame [] ∷ moved_to (from + len) (x ∷ below))) (sym l.1)
-    (step-formal line depth texts x below len place (open_of frame []) h
-    (subst (λ (f : TextItem). IsTextItem (source_formals texts (front_source (x ∷ below))) (open_bytes texts x below) f) f l.3) is room)
+formal-step line depth texts (x ∷ below) peek len place frame h l f is room = grind (arith, step-formal)
 
 -- some open text is found
 formal-found : (texts : Texts) (opens : List Open) (peek : Peek) (len place : ℕ) → AreSound texts opens → IsPeek texts opens peek → peek.front ≡ front.Formal len place
     → found_standing texts.macros (scope_open opens (front_scope opens)) (front_scope opens) place ≡ None → ⊥
 unfolding IsPeek IsTextItem front_scope
 formal-found texts [] peek len place h l f none = l
-formal-found texts (x ∷ below) peek len place h l f none =
-    let at = subst (λ (f : TextItem). IsTextItem (source_formals texts (front_source (x ∷ below))) (open_bytes texts x below) f) f l.3 in
-    let named : formal_named (scope_formals texts.macros (x ∷ below) (open_scope x below)) (take len (open_bytes texts x below)) ≡ Some place =
-    sym (ap (λ (fs : List Formal). formal_named fs (take len (open_bytes texts x below))) (front-formals texts x below (h.are_open).0)) ∙ at.3 in
-    let y = standing-found texts.macros (scope_open (x ∷ below) (open_scope x below)) (open_scope x below) place (take len (open_bytes texts x below)) named in
-    apart y.0 (sym y.1 ∙ none)
-  where
-    apart : (y : Open) → Some y ≡ None → ⊥
-    apart y e = cc
+formal-found texts (x ∷ below) peek len place h l f none = grind (arith, front-formals, standing-found)
 
 -- without a frame it is refused
 formal-deep : (line depth : ℕ) (texts : Texts) (opens new : List Open) (peek : Peek) (len place : ℕ) → AreSound texts opens → IsPeek texts opens peek
     → peek.front ≡ front.Formal len place → depth ≤ length opens → IsStep line depth texts opens (wordless DepthPassed) new
 unfolding IsPeek
 formal-deep line depth texts [] new peek len place h l f deep = absurd l
-formal-deep line depth texts (x ∷ below) new peek len place h l f deep =
-    step-formal_deep line depth texts x below len place new (record { kind = DepthPassed; word = record { source = Arguments; from = 0; end = 0 } }) h
-    (subst (λ (f : TextItem). IsTextItem (source_formals texts (front_source (x ∷ below))) (open_bytes texts x below) f) f l.3) deep refl (no-word texts Arguments)
+formal-deep line depth texts (x ∷ below) new peek len place h l f deep = grind (arith, step-formal_deep, no-word)
 
 -- so there is still room
 pub room-moved : (view mid : CursorsView) (at : ℕ) → nat_le view.depth (length view.opens) ≡ false
@@ -338,13 +246,7 @@ pass-formal table texts view mid new peek len place at frame sound same h l f is
 pub pass-deep : (texts : Texts) (view : CursorsView) (peek : Peek) (len place : ℕ) → AreSound texts view.opens → IsPeek texts view.opens peek
     → peek.front ≡ front.Formal len place → nat_le view.depth (length view.opens) ≡ true → IsPassed texts view view (wordless DepthPassed)
 unfolding IsFalling StaysRefused
-pass-deep texts view peek len place h l f full = record {
-  is_step = formal-deep view.line view.depth texts view.opens view.opens peek len place h l f (leb-true view.depth (length view.opens) full);
-  sound = h;
-  kept = (refl, refl);
-  digits = tt;
-  refused = refl;
-}
+pass-deep texts view peek len place h l f full = grind (arith, formal-deep, leb-true)
 
 -- and it is never so that a formal stands for nothing
 pub pass-nothing : (texts : Texts) (view : CursorsView) (peek : Peek) (len place : ℕ) (step : CursorStep) → AreSound texts view.opens → IsPeek texts view.opens peek
@@ -382,9 +284,7 @@ name-word bs len kind e =
 front-word : (texts : Texts) (opens : List Open) (peek : Peek) (len : ℕ) → IsPeek texts opens peek → peek.front ≡ front.Usage len → list_all is_word (front_name texts opens len) ≡ true
 unfolding IsPeek IsTextItem front_name
 front-word texts [] peek len l e = absurd l
-front-word texts (x ∷ below) peek len l e =
-    let f = subst (λ (f : TextItem). IsTextItem (source_formals texts (front_source (x ∷ below))) (open_bytes texts x below) f) e l.3 in
-    name-word (open_bytes texts x below) len f.1 f.2
+front-word texts (x ∷ below) peek len l e = grind (arith, name-word)
 
 -- a fault under the name of a usage has a word
 pub word-named : (texts : Texts) (opens : List Open) (peek : Peek) (len : ℕ) (kind : FaultKind) (word : TextPlace) → AreSound texts opens → IsPeek texts opens peek
@@ -409,39 +309,13 @@ taken-passed texts view new step t = record { is_step = t.step; sound = t.sound;
 pub takes-silent : (texts : Texts) (view new : CursorsView) → IsPassed texts view new Silent → StaysOutermost view.opens new.opens → Turned texts view.opens new.opens
     → TakesStep texts view Silent new
 unfolding IsPlacedStep
-takes-silent texts view new p outer turned = record {
-  step = p.is_step;
-  sound = p.sound;
-  kept = p.kept;
-  digits = p.digits;
-  refused = p.refused;
-  placed = tt;
-  lends = tt;
-  fault = tt;
-  word = tt;
-  stands = tt;
-  outer = outer;
-  turns = turned;
-}
+takes-silent texts view new p outer turned = grind arith
 
 -- a step is refused
 pub takes-refused : (texts : Texts) (view new : CursorsView) (fault : CursorFault) → IsPassed texts view new (Refused fault) → is_text_fault fault.kind ≡ true
     → IsPlacedStep texts (Refused fault) → NamesWord texts (Refused fault) → TakesStep texts view (Refused fault) new
 unfolding StaysRefused
-takes-refused texts view new fault p own placed word = record {
-  step = p.is_step;
-  sound = p.sound;
-  kept = p.kept;
-  digits = p.digits;
-  refused = p.refused;
-  placed = placed;
-  lends = tt;
-  fault = own;
-  word = word;
-  stands = tt;
-  outer = outer-same view new p.refused;
-  turns = Stays (ap (λ (v : CursorsView). v.opens) p.refused);
-}
+takes-refused texts view new fault p own placed word = grind (arith, outer-same)
 
 -- for a fault without a word
 pub takes-wordless : (texts : Texts) (view new : CursorsView) (kind : FaultKind) (step : CursorStep) → IsPassed texts view new (wordless kind) → step ≡ wordless kind → is_text_fault kind ≡ true
@@ -460,10 +334,7 @@ takes-named texts view new peek bytes len kind word l f is own p =
 -- no bytes are left of a text that has ended
 no-bytes : (texts : Texts) (x : Open) (below : List Open) → nat_le x.part.end x.part.from ≡ true → open_bytes texts x below ≡ []
 unfolding open_bytes
-no-bytes texts x below e =
-    let ended = leb-true x.part.end x.part.from e in
-    let none : x.part.end - x.part.from ≡ 0 = omega (arith, ended) in
-    ap (λ (n : ℕ). take n (drop x.part.from (text_around texts x.kind x.parent below))) none
+no-bytes texts x below e = grind (arith, leb-true)
 
 -- a look at it
 spent-peek : (texts : Texts) (x : Open) (below : List Open) → nat_le x.part.end x.part.from ≡ true
@@ -487,14 +358,7 @@ spent-closed texts view new h some e is = takes-silent texts view new (by view.o
 pub taken-twice : (texts : Texts) (view mid new : CursorsView) → TakesStep texts view Silent mid → TakesStep texts mid Silent new → StaysOutermost view.opens new.opens
     → Turned texts view.opens new.opens → TakesStep texts view Silent new
 unfolding IsFalling StaysRefused IsStep StepsTo
-taken-twice texts view mid new p q outer turned = takes-silent texts view new (record {
-  is_step = λ rules s e.
-      p.step rules s e ∙ silent-on rules s texts view mid new p.kept (q.step rules s e);
-  sound = q.sound;
-  kept = (q.kept.0 ∙ p.kept.0, q.kept.1 ∙ p.kept.1);
-  digits = falls-twice (cursor_digits view.opens) (cursor_digits mid.opens) (cursor_digits new.opens) p.digits q.digits;
-  refused = tt;
-}) outer turned
+taken-twice texts view mid new p q outer turned = grind (arith, takes-silent, silent-on, falls-twice)
 
 -- where nothing stands at the front, nothing is left
 pub ended-spent : (texts : Texts) (opens : List Open) (peek : Peek) → AreSound texts opens → IsPeek texts opens peek → peek.front ≡ front.Ended → is_spent opens ≡ true
@@ -539,16 +403,7 @@ idle-usage false count len f e = refl
 moved-same : (texts : Texts) (view mid : CursorsView) (peek : Peek) → AreSound texts view.opens → IsPeekAhead texts view.opens peek → peek.at ≤ peek.from
     → mid ≡ record { opens = moved_to peek.at view.opens; line = view.line; depth = view.depth } → mid ≡ view
 unfolding moved_to IsPeekAhead
-moved-same texts view mid peek h l less is = is ∙ ap (λ (opens : List Open). record { opens = opens; line = view.line; depth = view.depth }) (by view.opens h l)
-  where
-    by : (opens : List Open) → AreSound texts opens → IsPeekAhead texts opens peek → moved_to peek.at opens ≡ opens
-    by [] h l = refl
-    by (x ∷ below) h l =
-        let from = l.1 in
-        let order = l.2 in
-        let at : peek.at ≡ x.part.from = omega (arith, from, order, less) in
-        ap (λ (from : ℕ). record { part = record { from = from; end = x.part.end; mode = Plain }; parent = x.parent; kind = x.kind } ∷ below) at
-        ∙ ap (λ (mode : Mode). record { part = record { from = x.part.from; end = x.part.end; mode = mode }; parent = x.parent; kind = x.kind } ∷ below) (sym (h.are_inside).1.1.0)
+moved-same texts view mid peek h l less is = grind arith
 
 -- what a look tells of the open texts that go on behind what is copied
 peek-following : (texts : Texts) (opens : List Open) (peek : Peek) → IsPeekAhead texts opens peek → IsPeek texts (moved_to peek.at opens) peek
@@ -626,22 +481,13 @@ pub on-taken : (texts : Texts) (view mid new : CursorsView) (peek : Peek) (bytes
     → (is_idle lent (length mid.opens) peek.front ≡ false → TakesStep texts mid step new)
     → TakesStep texts view step new
 unfolding is_idle
-on-taken texts view mid new peek bytes lent step on less miss taken =
-    subst (λ (v : CursorsView). TakesStep texts v step new) (on.stays less) (taken (by lent miss))
-  where
-    by : (l : Bool) → l ≡ false → is_idle l (length mid.opens) peek.front ≡ false
-    by false e = refl
-    by true e = absurd (true≢false e)
+on-taken texts view mid new peek bytes lent step on less miss taken = grind (arith, true≢false)
 
 -- where two are open, one is behind the innermost
 pub rest-open : (view new : CursorsView) → 1 < length view.opens → new ≡ record { opens = drop 1 view.opens; line = view.line; depth = view.depth } → 0 < length new.opens
-rest-open view new many is =
-    let rest = length-drop 1 view.opens in
-    subst (λ (v : CursorsView). 0 < length v.opens) (sym is) (omega (arith, rest, many))
+rest-open view new many is = grind (arith, length-drop)
 
 -- fewer are open behind the innermost
 pub rest-fewer : (view new : CursorsView) → 0 < length view.opens → new ≡ record { opens = drop 1 view.opens; line = view.line; depth = view.depth }
     → length new.opens < length view.opens
-rest-fewer view new some is =
-    let rest = length-drop 1 view.opens in
-    subst (λ (v : CursorsView). length v.opens < length view.opens) (sym is) (omega (arith, rest, some))
+rest-fewer view new some is = grind (arith, length-drop)

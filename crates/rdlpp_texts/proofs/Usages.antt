@@ -10,7 +10,7 @@ use Rattle.rdlpp_scan.specs.Tokens.{token_of}
 use Rattle.rdlpp_scan.specs.declared.token.Kind.{Kind}
 use Rattle.rdlpp_scan.specs.declared.token.Kind.TheVariants.{Back}
 use Rattle.rdlpp_scan.specs.declared.token.Mode.TheVariants.{Plain}
-use Rattle.rdlpp_scan.proofs.TokenLens.{IsPart, token_of-part}
+use Rattle.rdlpp_scan.proofs.TokenLens.{token_of-part}
 use Rattle.rdlpp_table.specs.Table.{Formal, Macro, macro_named}
 use Rattle.rdlpp_table.specs.View.{IsSound, IsSoundMacro, TableView, macro_at, no_macro, place_named}
 use Rattle.rdlpp_table.proofs.Orders.{place_of_name}
@@ -22,12 +22,12 @@ use Rattle.rdlpp_meaning.specs.declared.fault.FaultKind.{FaultKind}
 use Rattle.rdlpp_meaning.specs.declared.fault.FaultKind.TheVariants.{ArgumentCount, ArgumentsMissing, ArgumentsOpen, BareBackquote, DepthPassed, DirectiveInText, RecursiveMacro, UndefinedMacro}
 use Rattle.rdlpp_meaning.proofs.OpenSteps.{first_usage, step-refused as left-refused, step-usage as left-usage, step-usage_deep as left-usage_deep, tokens_after}
 use Rattle.rdlpp_meaning.proofs.OpenScopes.{part-whole}
-use Rattle.rdlpp_texts.specs.BoundCalls.{KeepsAll, is_call_fault}
+use Rattle.rdlpp_texts.specs.BoundCalls.{is_call_fault}
 use Rattle.rdlpp_texts.specs.Digits.{IsFalling}
 use Rattle.rdlpp_texts.specs.TextItems.{AreCopied, IsNextItem, IsTextItem, IsPeek, IsPeekAhead}
 use Rattle.rdlpp_texts.specs.Opened.{AreParentedFrames, CursorsView, bindings_below, moved_to, open_of, opens_of}
 use Rattle.rdlpp_texts.specs.Places.{IsPlaced, IsSource, place_bytes, source_formals, source_text, texts_of}
-use Rattle.rdlpp_texts.specs.Scopes.{AreFurtherOut, found_source, front_scope, front_source, innermost_place, kind_source, own_ids, own_source, hidden_ids}
+use Rattle.rdlpp_texts.specs.Scopes.{AreFurtherOut, found_source, front_scope, front_source, innermost_place, kind_source, own_ids, hidden_ids}
 use Rattle.rdlpp_texts.specs.Steps.{AreInside, AreSound, IsKnown, IsPlacedStep, IsStep, StaysRefused, StepsTo, wordless}
 use Rattle.rdlpp_texts.specs.Usages.{IsRefused, IsUsed, front_name, is_text_fault, unknown_kind}
 use Rattle.rdlpp_texts.specs.declared.bindings.Range.{Range}
@@ -37,7 +37,6 @@ use Rattle.rdlpp_texts.specs.declared.peek.TextItem.TheVariants as front
 use Rattle.rdlpp_texts.specs.declared.peek.Peek.{Peek}
 use Rattle.rdlpp_texts.specs.declared.place.TextPlace.{TextPlace}
 use Rattle.rdlpp_texts.specs.declared.place.TextSource.{TextSource}
-use Rattle.rdlpp_texts.specs.declared.place.TextSource.TheVariants.{Arguments}
 use Rattle.rdlpp_texts.specs.declared.frame.Frame.{Frame}
 use Rattle.rdlpp_texts.specs.declared.step.CursorFault.{CursorFault}
 use Rattle.rdlpp_texts.specs.declared.step.CursorStep.{CursorStep}
@@ -51,9 +50,8 @@ use Rattle.rdlpp_texts.proofs.Stacking.{tail-is}
 
 -- the text of a known body or default is one that there is
 kind-known : (texts : Texts) (kind : OpenKind) → IsKnown texts.macros kind → IsSource texts (kind_source kind)
-kind-known texts (OpenBody id parts) h = h
 kind-known texts OpenActual h = tt
-kind-known texts (OpenDefault id place) h = h
+kind-known texts _ h = h
 
 -- so is that of a scope
 scope-known : (texts : Texts) (opens : List Open) (k : ℕ) → AreInside texts opens → IsSource texts (found_source (scope_open opens k))
@@ -68,12 +66,7 @@ scope-known texts (x ∷ below) k h = by (k == suc (length below)) (scope-known 
 -- the innermost open text lies in a text that there is
 pub source-known : (texts : Texts) (x : Open) (below : List Open) → AreInside texts (x ∷ below) → IsSource texts (front_source (x ∷ below))
 unfolding front_source
-source-known texts x below h = by x.kind h.0
-  where
-    by : (kind : OpenKind) → IsKnown texts.macros kind → IsSource texts (own_source kind x.parent below)
-    by (OpenBody id parts) k = k
-    by OpenActual k = scope-known texts below x.parent (((h.1).1).1)
-    by (OpenDefault id place) k = k
+source-known texts x below h = grind (arith, scope-known)
 
 -- a text has a byte, or it has none
 has-byte : (text : List ℕ) (other : List ℕ) (n : ℕ) → n ≤ length text → (0 < length text → other ≡ text) → n ≤ length other
@@ -89,17 +82,11 @@ source-inside texts x below h =
 pub innermost-placed : (texts : Texts) (opens : List Open) → AreInside texts opens → IfSome (innermost_place opens) (IsPlaced texts)
 unfolding innermost_place front_source
 innermost-placed texts [] h = tt
-innermost-placed texts (x ∷ below) h = record {
-  source = source-known texts x below h;
-  order = omega arith;
-  inside = source-inside texts x below h;
-}
+innermost-placed texts (x ∷ below) h = grind (arith, source-known, source-inside)
 
 -- a range that ends in a text is that of another one, where that is the same if it has a byte
 same-range : (text other : List ℕ) (from end : ℕ) → end ≤ length text → (0 < length text → other ≡ text) → slice_range other from end ≡ slice_range text from end
-same-range [] other from end h e =
-    let none : end - from ≡ 0 = omega (arith, h) in
-    ap (λ (n : ℕ). take n (drop from other)) none ∙ sym (ap (λ (n : ℕ). take n (drop from [])) none)
+same-range [] other from end h e = grind arith
 same-range (b ∷ bs) other from end h e = ap (λ (t : List ℕ). slice_range t from end) (e (omega arith))
 
 -- what stands ahead in the range in its text stands ahead in the open text
@@ -107,10 +94,7 @@ pub peek-front : (texts : Texts) (x : Open) (below : List Open) (source : TextSo
     → IsNextItem (source_formals texts source) (slice_range (source_text texts source) x.part.from x.part.end) x.part.from f
     → IsNextItem (source_formals texts (front_source (x ∷ below))) (open_bytes texts x below) x.part.from f
 unfolding open_bytes
-peek-front texts x below source f h e is =
-    subst (λ (bytes : List ℕ). IsNextItem (source_formals texts (front_source (x ∷ below))) bytes x.part.from f)
-    (same-range (text_around texts x.kind x.parent below) (source_text texts (front_source (x ∷ below))) x.part.from x.part.end (h.1).0 (source-around texts x below))
-    (subst (λ (s : TextSource). IsNextItem (source_formals texts s) (slice_range (source_text texts s) x.part.from x.part.end) x.part.from f) e is)
+peek-front texts x below source f h e is = grind (arith, same-range, source-around)
 
 -- what stands behind what is copied is what a look tells of the open texts of which the innermost goes on there
 peek-ahead : (texts : Texts) (x : Open) (below : List Open) (peek : Peek) → peek.source ≡ front_source (x ∷ below) → peek.from ≡ x.part.from → peek.end ≡ x.part.end
@@ -195,37 +179,18 @@ usage-some : (texts : Texts) (x : Open) (below : List Open) (len : ℕ)
     → IsTextItem (source_formals texts (front_source (x ∷ below))) (open_bytes texts x below) (front.Usage len)
     → (0 < len) × (len ≤ length (open_bytes texts x below))
 unfolding IsTextItem
-usage-some texts x below len f =
-    let part : IsPart (token_of Plain (open_bytes texts x below)) (open_bytes texts x below) = token_of-part Plain (open_bytes texts x below) f.0 in
-    let e : (token_of Plain (open_bytes texts x below)).len ≡ len = f.2 in
-    (subst (λ (n : ℕ). 0 < n) e part.not_empty, subst (λ (n : ℕ). n ≤ length (open_bytes texts x below)) e part.inside)
+usage-some texts x below len f = grind (arith, token_of-part)
 
 -- a usage lies there
 pub usage-place : (texts : Texts) (opens : List Open) (peek : Peek) (len : ℕ) → AreSound texts opens → IsPeek texts opens peek → peek.front ≡ front.Usage len
     → IsUsageInside texts peek len
 unfolding IsPeek open_bytes
 usage-place texts [] peek len h l e = absurd l
-usage-place texts (x ∷ below) peek len h l e =
-    let s = usage-some texts x below len (front-is texts x below peek len e l.3) in
-    let size = length-take (x.part.end - x.part.from) (drop x.part.from (text_around texts x.kind x.parent below)) in
-    let from : peek.at ≡ x.part.from = l.1 in
-    let end : peek.end ≡ x.part.end = l.2 in
-    let some : 0 < len = s.0 in
-    let inside = s.1 in
-    record {
-      some = some;
-      inside = omega (arith, size, from, end, some, inside);
-      source = subst (λ (t : TextSource). IsSource texts t) (sym l.0) (source-known texts x below h.are_inside);
-      within = subst (λ (t : TextSource). peek.end ≤ length (source_text texts t)) (sym l.0)
-          (subst (λ (n : ℕ). n ≤ length (source_text texts (front_source (x ∷ below)))) (sym end) (source-inside texts x below h.are_inside));
-    }
+usage-place texts (x ∷ below) peek len h l e = grind (arith, usage-some, front-is, length-take, source-known, source-inside)
 
 -- a part of a text behind its first byte
 following-first : (text : List ℕ) (from n : ℕ) → from + n ≤ length text → 0 < n → slice_range text (from + 1) (from + n) ≡ drop 1 (slice_range text from (from + n))
-following-first text from n h some =
-    let size = length-take (from + n - from) (drop from text) in
-    let rest = length-drop from text in
-    slice-following text from (from + n) 1 (omega (arith, h, some, size, rest))
+following-first text from n h some = grind (arith, length-take, length-drop, slice-following)
 
 -- the name of a usage is what stands behind its backquote
 pub usage-word : (texts : Texts) (opens : List Open) (peek : Peek) (len from end : ℕ) → AreSound texts opens → IsPeek texts opens peek → peek.front ≡ front.Usage len
@@ -299,9 +264,7 @@ pub recursive-refused : (texts : Texts) (opens : List Open) (name : List ℕ) (i
     → list_any (bytes_eq name) (hide_set texts opens (front_scope opens)) ≡ true
     → IsRefused texts opens name RecursiveMacro
 unfolding IsRefused
-recursive-refused texts opens name id r e w rules s line ts m =
-    unreserved-is text_reads rules s line _ name ts (Some (macro_at texts.macros id)) r (ap (λ (macros : List Macro). macro_named macros name) m ∙ e)
-    ∙ recursive-is text_reads rules line _ name ts (macro_at texts.macros id) w
+recursive-refused texts opens name id r e w rules s line ts m = grind (arith, unreserved-is, recursive-is)
 
 -- a usage of a macro comes to what its formals tell
 pub first-used : (rules : Rules) (s : State) (line : ℕ) (texts : Texts) (x : Open) (below : List Open) (len id : ℕ) → x.part.mode ≡ Plain
@@ -423,12 +386,7 @@ pub table-used : (table : TableView) (arguments : List ℕ) (opens : List Open) 
     → macro_named table.macros name ≡ Some (macro_at table.macros id)
     → false ≡ list_any (λ own. id == own) (hidden_ids opens (front_scope opens))
     → IsUsed (texts_of table.macros arguments) opens name id
-table-used table arguments opens name id h inside e l m w = record {
-  inside = l;
-  named = m;
-  unreserved = table-unreserved table name id h e l;
-  apart = table-hidden table arguments opens name id false h inside e w;
-}
+table-used table arguments opens name id h inside e l m w = grind (arith, table-unreserved, table-hidden)
 
 -- and it is refused where that is so
 pub table-recursive : (table : TableView) (arguments : List ℕ) (opens : List Open) (name : List ℕ) (id : ℕ) → IsSound table
@@ -458,22 +416,13 @@ inside-same view mid id written e w = subst (λ (v : CursorsView). written ≡ l
 pub frames-parented : (frames : List Frame) (bindings : List Range) → AreFurtherOut (opens_of frames bindings) → AreParentedFrames frames
 unfolding opens_of
 frames-parented [] bindings h = tt
-frames-parented (frame ∷ below) bindings h = (
-  let parent : frame.parent ≤ length (opens_of below (bindings_below frame.kind bindings)) = h.0 in
-      let n = opens-length below (bindings_below frame.kind bindings) in omega (arith, parent, n),
-  frames-parented below (bindings_below frame.kind bindings) h.1,
-)
+frames-parented (frame ∷ below) bindings h = grind (arith, opens-length, (frames-parented below (bindings_below frame.kind bindings) h.1))
 
 -- the scope of the innermost open text is one of the open texts
 pub scope-inside : (opens : List Open) → AreFurtherOut opens → front_scope opens ≤ length opens
 unfolding front_scope open_scope
 scope-inside [] h = omega arith
-scope-inside (x ∷ below) h = by x.kind
-  where
-    by : (kind : OpenKind) → elim kind [ OpenActual ↦ x.parent | _ ↦ suc (length below) ] ≤ suc (length below)
-    by (OpenBody id parts) = omega arith
-    by OpenActual = let parent : x.parent ≤ length below = h.0 in omega (arith, parent)
-    by (OpenDefault id place) = omega arith
+scope-inside (x ∷ below) h = grind arith
 
 -- open texts that go on are as many
 pub moved-length : (opens : List Open) (at : ℕ) → length (moved_to at opens) ≡ length opens
@@ -486,24 +435,14 @@ pub sound-following : (texts : Texts) (opens : List Open) (peek : Peek) (len at 
     → at ≡ peek.at + len → AreSound texts (moved_to at opens)
 unfolding IsPeek IsTextItem
 sound-following texts [] peek len at h l e k = absurd l
-sound-following texts (x ∷ below) peek len at h l e k =
-    let f = front-is texts x below peek len e l.3 in
-    let place : at ≡ x.part.from + len = k ∙ ap (λ (n : ℕ). n + len) l.1 in
-    subst (λ (n : ℕ). AreSound texts (moved_to n (x ∷ below))) (sym place) (first-sound texts x below len h f.0 (back-closes _ f.1) f.2)
+sound-following texts (x ∷ below) peek len at h l e k = grind (arith, front-is, first-sound, back-closes)
 
 -- the body of a macro without a list is sound in front of sound open texts that go on
 pub sound-used : (table : TableView) (arguments : List ℕ) (opens : List Open) (id at : ℕ) → IsSound table → AreSound (texts_of table.macros arguments) (moved_to at opens)
     → front_scope opens ≤ length opens → id < length table.macros → (macro_at table.macros id).formals ≡ None
     → AreSound (texts_of table.macros arguments) (open_body (texts_of table.macros arguments) id [] (front_scope opens) ∷ moved_to at opens)
 unfolding open_body text_around own_text
-sound-used table arguments opens id at sound moved scope inside none =
-    let body = (macro_at table.macros id).body in
-    let n = moved-length opens at in
-    record {
-      are_open = (omega (arith, scope, n), ((no-formals (macro_at table.macros id).formals (ap (λ (fs : Option (List Formal)). option_map (λ (xs : List Formal). length xs) fs) none), tt), moved.are_open));
-      are_inside = (inside, (omega arith, (refl, moved.are_inside)));
-      are_kept = (subst (λ (ts : List SourceToken). KeepsAll ts) (sym (part-whole body)) (body-keeps table id sound inside), (tt, moved.are_kept));
-    }
+sound-used table arguments opens id at sound moved scope inside none = grind (arith, moved-length, no-formals, part-whole, body-keeps)
 
 -- by a look: a usage that is refused
 peek-refused : (line depth : ℕ) (texts : Texts) (opens : List Open) (peek : Peek) (len from end : ℕ) (kind own : FaultKind) → AreSound texts opens → IsPeek texts opens peek
@@ -512,9 +451,7 @@ peek-refused : (line depth : ℕ) (texts : Texts) (opens : List Open) (peek : Pe
     → IsStep line depth texts opens (Refused (record { kind = own; word = record { source = peek.source; from = from; end = end } })) opens
 unfolding IsPeek
 peek-refused line depth texts [] peek len from end kind own h l e f g k r = absurd l
-peek-refused line depth texts (x ∷ below) peek len from end kind own h l e f g k r =
-    step-refused line depth texts x below len kind (x ∷ below) (record { kind = own; word = record { source = peek.source; from = from; end = end } }) h
-    (front-is texts x below peek len e l.3) r k (usage-word texts (x ∷ below) peek len from end h l e f g)
+peek-refused line depth texts (x ∷ below) peek len from end kind own h l e f g k r = grind (arith, step-refused, front-is, usage-word)
 
 -- a body for which there is no frame left
 peek-deep : (line depth : ℕ) (texts : Texts) (opens : List Open) (peek : Peek) (len id : ℕ) → AreSound texts opens → IsPeek texts opens peek
@@ -522,9 +459,7 @@ peek-deep : (line depth : ℕ) (texts : Texts) (opens : List Open) (peek : Peek)
     → IsStep line depth texts opens (wordless DepthPassed) opens
 unfolding IsPeek
 peek-deep line depth texts [] peek len id h l e used none deep = absurd l
-peek-deep line depth texts (x ∷ below) peek len id h l e used none deep =
-    step-opened_deep line depth texts x below len id (x ∷ below) (record { kind = DepthPassed; word = record { source = Arguments; from = 0; end = 0 } }) h
-    (front-is texts x below peek len e l.3) used none deep refl (no-word texts Arguments)
+peek-deep line depth texts (x ∷ below) peek len id h l e used none deep = grind (arith, step-opened_deep, front-is, no-word)
 
 -- a body that is opened
 peek-opened : (line depth : ℕ) (texts : Texts) (opens : List Open) (peek : Peek) (len id at : ℕ) → AreSound texts opens → IsPeek texts opens peek
@@ -533,10 +468,7 @@ peek-opened : (line depth : ℕ) (texts : Texts) (opens : List Open) (peek : Pee
     → IsStep line depth texts opens Silent (open_body texts id [] (front_scope opens) ∷ moved_to at opens)
 unfolding IsPeek front_scope
 peek-opened line depth texts [] peek len id at h l e used none room k = absurd l
-peek-opened line depth texts (x ∷ below) peek len id at h l e used none room k =
-    let place : at ≡ x.part.from + len = k ∙ ap (λ (n : ℕ). n + len) l.1 in
-    subst (λ (n : ℕ). IsStep line depth texts (x ∷ below) Silent (open_body texts id [] (open_scope x below) ∷ moved_to n (x ∷ below))) (sym place)
-    (step-opened line depth texts x below len id h (front-is texts x below peek len e l.3) used none room)
+peek-opened line depth texts (x ∷ below) peek len id at h l e used none room k = grind (arith, step-opened, front-is)
 
 -- a usage that is refused
 pub pass-refused : (texts : Texts) (view : CursorsView) (peek : Peek) (len : ℕ) (kind : FaultKind) (word : TextPlace) → AreSound texts view.opens → IsPeek texts view.opens peek
@@ -544,27 +476,14 @@ pub pass-refused : (texts : Texts) (view : CursorsView) (peek : Peek) (len : ℕ
     → IsRefused texts view.opens (front_name texts view.opens len) kind
     → IsPassed texts view view (Refused (record { kind = kind; word = word }))
 unfolding IsFalling StaysRefused
-pass-refused texts view peek len kind word h l e w r =
-    subst (λ (place : TextPlace). IsPassed texts view view (Refused (record { kind = kind; word = place }))) (sym w) (record {
-      is_step = peek-refused view.line view.depth texts view.opens peek len (peek.at + 1) (peek.at + len) kind kind h l e refl refl refl r;
-      sound = h;
-      kept = (refl, refl);
-      digits = tt;
-      refused = refl;
-    })
+pass-refused texts view peek len kind word h l e w r = grind (arith, peek-refused)
 
 -- a body for which there is no frame left
 pub pass-deep : (texts : Texts) (view : CursorsView) (peek : Peek) (len id : ℕ) → AreSound texts view.opens → IsPeek texts view.opens peek
     → peek.front ≡ front.Usage len → IsUsed texts view.opens (front_name texts view.opens len) id → (macro_at texts.macros id).formals ≡ None
     → view.depth ≤ length view.opens → IsPassed texts view view (wordless DepthPassed)
 unfolding IsFalling StaysRefused
-pass-deep texts view peek len id h l e used none deep = record {
-  is_step = peek-deep view.line view.depth texts view.opens peek len id h l e used none deep;
-  sound = h;
-  kept = (refl, refl);
-  digits = tt;
-  refused = refl;
-}
+pass-deep texts view peek len id h l e used none deep = grind (arith, peek-deep)
 
 -- a body that is opened
 pub pass-opened : (table : TableView) (arguments : List ℕ) (view new : CursorsView) (peek : Peek) (len id at : ℕ) → IsSound table
@@ -593,11 +512,7 @@ pub entered : (macros : List Macro) (id end parent at : ℕ) (view mid new : Cur
     → new ≡ record { opens = record { part = record { from = 0; end = end; mode = Plain }; parent = parent; kind = OpenBody id [] } ∷ mid.opens; line = mid.line; depth = mid.depth }
     → new ≡ record { opens = open_body (texts_of macros []) id [] (front_scope view.opens) ∷ moved_to at view.opens; line = view.line; depth = view.depth }
 unfolding open_body
-entered macros id end parent at view mid new e h m n =
-    n
-    ∙ ap (λ (v : CursorsView). record { opens = record { part = record { from = 0; end = end; mode = Plain }; parent = parent; kind = OpenBody id [] } ∷ v.opens; line = v.line; depth = v.depth }) m
-    ∙ ap (λ (k : ℕ). record { opens = record { part = record { from = 0; end = k; mode = Plain }; parent = parent; kind = OpenBody id [] } ∷ moved_to at view.opens; line = view.line; depth = view.depth }) e
-    ∙ ap (λ (k : ℕ). record { opens = record { part = record { from = 0; end = length (macro_at macros id).body; mode = Plain }; parent = k; kind = OpenBody id [] } ∷ moved_to at view.opens; line = view.line; depth = view.depth }) h
+entered macros id end parent at view mid new e h m n = grind arith
 
 -- so it is in front of those that are the same
 pub entered-same : (macros : List Macro) (id at : ℕ) (view mid new : CursorsView) → mid ≡ view
@@ -660,9 +575,7 @@ name-is texts opens peek len text h l e is =
 -- a name that a table hasn't is refused
 pub unknown-given : (texts : Texts) (opens : List Open) (name given : List ℕ) (kind : FaultKind) → given ≡ name → macro_named texts.macros given ≡ None
     → kind ≡ unknown_kind (is_reserved given) → IsRefused texts opens name kind
-unknown-given texts opens name given kind e none k =
-    subst (λ (n : List ℕ). IsRefused texts opens n kind) e
-    (subst (λ (f : FaultKind). IsRefused texts opens given f) (sym k) (unknown-refused texts opens given (is_reserved given) none refl))
+unknown-given texts opens name given kind e none k = grind (arith, unknown-refused)
 
 -- a macro has no list where it has no count of formals
 pub no-list : (formals : Option (List Formal)) (count : Option ℕ) (some : Bool) → count ≡ option_map (λ (fs : List Formal). length fs) formals → some ≡ is_some count
