@@ -344,9 +344,7 @@ usage_closed rules line name m fs text at end len c right all e =
 front_range : (text : List ℕ) (end i j : ℕ) → i ≤ j → j ≤ end → slice_range (take end text) i j ≡ slice_range text i j
 front_range text end i j low high =
     let whole : end ≡ i + (end - i) = omega (arith, low, high) in
-    ap (λ (n : ℕ). take (j - i) (drop i (take n text))) whole
-    ∙ ap (λ (x : List ℕ). take (j - i) x) (drop-take i (end - i) text)
-    ∙ take-take (j - i) (end - i) (drop i text) (omega (arith, low, high))
+    grind (arith, drop-take, take-take)
 
 -- ranges of the front of a text have its tokens
 front_tokens : (text : List ℕ) (end from to : ℕ) (ranges : List Range) → to ≤ end → AreWithin from to ranges → ranges_tokens (take end text) ranges ≡ ranges_tokens text ranges
@@ -377,14 +375,7 @@ after_opener text at end len o =
     let whole : end ≡ (at + len) + (end - (at + len)) = omega (arith, fits) in
     let following = length-drop len (slice_range text at end) in
     let front = length-take end text in
-    record {
-      fits = fits;
-      rest = ap (λ (n : ℕ). drop (at + len) (take n text)) whole
-          ∙ drop-take (at + len) (end - (at + len)) text
-          ∙ sym (range_after text at end len (omega (arith, fits)));
-      size = omega (arith, following, part, left, high, fits);
-      front = omega (arith, front, high);
-    }
+    grind (arith, drop-take, range_after)
 
 -- a call without a `(`
 pub missing : (text : List ℕ) (at end formals : ℕ) (ranges : List Range) → opener_from 0 (body_tokens (slice_range text at end)) ≡ None

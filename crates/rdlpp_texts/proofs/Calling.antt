@@ -138,13 +138,7 @@ pub source_bound : (rules : Rules) (line : ℕ) (name : List ℕ) (ts : List Sou
 unfolding usage_of_formals
 source_bound rules line name ts m fs bytes ranges following c count tokens =
     let h = has_actuals rules.argument_bytes ts bytes following c in
-    record {
-      used = c.used;
-      opens = ap (usage_of_call source_reads m fs line name) h.call
-          ∙ usage_counted m fs line name h.first h.further c.used true (actuals_of bytes) h.same count
-          ∙ ap (λ (xs : List (List SourceToken)). Opens m xs c.used) tokens;
-      rest = c.rest;
-    }
+    grind (arith, usage_counted)
 
 -- one with more or fewer parts than formals is refused for that
 pub source_counted : (rules : Rules) (line : ℕ) (name : List ℕ) (ts : List SourceToken) (m : Macro) (fs : List Formal) (bytes : List ℕ) (following : List SourceToken)
@@ -473,9 +467,7 @@ unfolding IsPeek
 peek-call_refused line depth texts [] peek len id text at from kind h g b = absurd (h.look_is)
 peek-call_refused line depth texts (x ∷ below) peek len id text at from kind h g b =
     let place = call-place texts x below peek len text at h.sound h.look_is h.front_is h.text_is h.at_is in
-    step-call_refused line depth texts x below len id text at peek.end kind (x ∷ below) (record { kind = kind; word = record { source = peek.source; from = from; end = at } }) h.sound place
-    (front-is texts x below peek len h.front_is (h.look_is).3) h.used h.list b refl
-    (usage-word texts (x ∷ below) peek len from at h.sound h.look_is h.front_is g h.at_is)
+    grind (arith, step-call_refused, front-is, usage-word)
 
 -- one that is bound where no further text may be open
 peek-call_deep : (line depth : ℕ) (texts : Texts) (opens : List Open) (peek : Peek) (len id : ℕ) (text : List ℕ) (at : ℕ)

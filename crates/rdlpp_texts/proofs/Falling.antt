@@ -107,10 +107,7 @@ formal-inside texts (x ∷ below) peek len place l e =
     let f = subst (λ (f : TextItem). IsTextItem (source_formals texts (front_source (x ∷ below))) (open_bytes texts x below) f) e l.3 in
     let t = token-inside texts x below len f.0 f.2 in
     let some = t.0 in
-    let inside = t.1 in
-    let from = l.1 in
-    let end = l.2 in
-    (omega (arith, some), omega (arith, inside, from, end))
+    grind arith
 
 -- so does a usage
 pub usage-inside : (texts : Texts) (opens : List Open) (peek : Peek) (len : ℕ) → IsPeek texts opens peek → peek.front ≡ front.Usage len
@@ -121,10 +118,7 @@ usage-inside texts (x ∷ below) peek len l e =
     let f = subst (λ (f : TextItem). IsTextItem (source_formals texts (front_source (x ∷ below))) (open_bytes texts x below) f) e l.3 in
     let t = token-inside texts x below len f.0 f.2 in
     let some = t.0 in
-    let inside = t.1 in
-    let from = l.1 in
-    let end = l.2 in
-    (omega (arith, some), omega (arith, inside, from, end))
+    grind arith
 
 -- digits that fall and then fall again fall
 pub falls-twice : (xs ys zs : List ℕ) → AreFalling xs ys → AreFalling ys zs → AreFalling xs zs

@@ -317,12 +317,7 @@ lead_after (t ∷ lead) rest bs e spaces =
     let later = drop (length t.bytes) bs in
     let h = lead_after lead rest later f.0 (All-tail P t lead spaces) in
     let size = length-append t.bytes (bytes_of lead) in
-    let left = length-drop (length t.bytes) bs in (
-      ap (λ (n : ℕ). text_tokens Plain (drop n bs)) size
-          ∙ ap (λ (x : List ℕ). text_tokens Plain x) (sym (drop-drop (length (bytes_of lead)) (length t.bytes) bs))
-          ∙ h.0,
-      omega (arith, size, left, h.1, f.1),
-    )
+    grind (arith, length-drop, drop-drop)
 
 -- what follows the first part, as a place in the text
 follows_at : (closes : Bool) (text : List ℕ) (start to : ℕ) (end : PartEnd) (ts first : List SourceToken) (further : List (List SourceToken)) → start ≤ length text
@@ -331,30 +326,10 @@ follows_at : (closes : Bool) (text : List ℕ) (start to : ℕ) (end : PartEnd) 
 unfolding FollowsIn Follows closes_text is_one_role inner_size
 follows_at closes text start to (Comma n) ts first further inside e low size c =
     let b = text_after Plain (drop start text) first c.comma c.more (e ∙ c.whole) (ap closes_text c.cuts) in
-    let one : length c.comma.bytes ≡ 1 = text_one Plain (drop start text) first c.comma c.more (e ∙ c.whole) (ap is_one_role c.cuts) in
-    let left = length-drop start text in
-    let k = length (bytes_of first) + length c.comma.bytes in
-    let rest : c.more ≡ body_tokens (drop n text) =
-    sym b.0
-    ∙ ap (λ (x : List ℕ). text_tokens Plain x) (drop-drop k start text)
-    ∙ ap (λ (i : ℕ). text_tokens Plain (drop i text)) (sym c.place)
-    ∙ sym (body_text (drop n text)) in
-    record {
-      after = omega (arith, c.place, low, one);
-      inside = omega (arith, c.place, b.1, left, inside);
-      size = size ∙ c.size ∙ ap (λ (us : List SourceToken). n + length (bytes_of (inner_tokens closes 0 us))) rest;
-      parts = c.parts ∙ ap (λ (us : List SourceToken). all_parts (split token_role 0 (inner_tokens closes 0 us))) rest;
-    }
+    grind (arith, text_one, length-drop, drop-drop, body_text)
 follows_at closes text start to (Last n) ts first further inside e low size c =
     let cut = text_cut Plain (drop start text) first c.more (e ∙ c.whole) in
-    let left = length-drop start text in
-    let same : length (bytes_of (inner_tokens closes 0 ts)) ≡ length (bytes_of first) = ap (λ (us : List SourceToken). length (bytes_of us)) c.same in
-    record {
-      after = omega (arith, c.place, low);
-      inside = omega (arith, c.place, cut.inside, left, inside);
-      size = omega (arith, size, same, c.place);
-      parts = c.parts;
-    }
+    grind (arith, length-drop)
 
 -- where what isn't white space ends, from its beginning on
 solid_size : (at : ℕ) (ts : List SourceToken) → solid_end at at ts ≡ at + length (bytes_of ts)
@@ -413,14 +388,4 @@ next_part_is closes text start p at is =
     ∙ sym (trimmed_is token_role (parts_in closes text).first) in
     let range : length (take (p.to - p.from) (drop p.from text)) ≡ p.to - p.from =
     let k = length-take (p.to - p.from) (drop p.from text) in let d = length-drop p.from text in omega (arith, q.from_is, to, cut.inside, size) in
-    record {
-      ordered = omega (arith, q.from_is, to);
-      inside = omega (arith, to, cut.inside, size);
-      actual = actual;
-      items =
-          range_some p.from p.to (length (take (p.to - p.from) (drop p.from text))) range
-          ∙ sym (has_tokens (take (p.to - p.from) (drop p.from text)))
-          ∙ ap (λ (ts : List SourceToken). nat_lt 0 (length ts)) actual;
-      follows = subst (λ (parts : List (List SourceToken)). Follows closes text p.to p.end parts) (sym h.further)
-          (follows_at closes text start p.to p.end h.rest first (split token_role 0 inner).further inside tokens (omega (arith, to, few)) (omega (arith, all, place)) q.follows);
-    }
+    grind (arith, range_some, has_tokens, nat_lt, follows_at)

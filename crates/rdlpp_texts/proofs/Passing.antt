@@ -21,7 +21,7 @@ use Rattle.rdlpp_meaning.specs.CallScan.{is_kept}
 use Rattle.rdlpp_meaning.specs.Expansion.{is_copied}
 use Rattle.rdlpp_meaning.specs.OpenItems.{open_left}
 use Rattle.rdlpp_meaning.specs.Opens.{AreOpen, Open, Texts, found_standing, open_after, open_body, open_bytes, open_scope, own_text, part_tokens, scope_formals, scope_open, text_around}
-use Rattle.rdlpp_meaning.specs.Outcome.{Outcome, and_then, fails, gives}
+use Rattle.rdlpp_meaning.specs.Outcome.{and_then, fails, gives}
 use Rattle.rdlpp_meaning.specs.State.{Rules, State, fault_at}
 use Rattle.rdlpp_meaning.specs.Substitution.{body_tokens}
 use Rattle.rdlpp_meaning.specs.TextTokens.{text_tokens}
@@ -212,9 +212,7 @@ run-is rules s line depth texts formals (t ∷ ts) x below h f e =
     subst (λ (b : List ℕ). IsRun rules s line depth texts (first_after texts x below) below (run_len formals ts b)) rest
     (run-is rules s line depth texts formals ts (first_after texts x below) below (following-open texts x below T.len T.next_mode h)
     (formals-following texts formals x below T.len T.next_mode f) tokens) in
-    subst (λ (u : Token). IsRun rules s line depth texts x below
-    (if is_none (point_at formals 0 u (take u.len bytes)) then u.len + run_len formals ts (drop u.len bytes) else 0)) same
-    (run-by rules s line depth texts formals ts x below (is_none (point_at formals 0 T (take T.len bytes))) h f p.0 refl inner)
+    grind (arith, run-by)
 
 -- a run before the first stop is lent in one piece
 pub run-goes : (rules : Rules) (s : State) (line depth : ℕ) (texts : Texts) (formals : List Formal) (x : Open) (below : List Open) (n : ℕ)
@@ -226,10 +224,7 @@ run-goes rules s line depth texts formals x below n h f e =
     let r : IsRun rules s line depth texts x below n =
     subst (λ (k : ℕ). IsRun rules s line depth texts x below k) e
     (run-is rules s line depth texts formals (tokens_from x.part.mode 0 (open_bytes texts x below)) x below h f refl) in
-    r.goes
-    ∙ ap (λ (o : Outcome). and_then (gives (take n (open_bytes texts x below))) o)
-    (left-mode rules s line depth texts x below n r.mode Plain
-    (subst (λ (b : List ℕ). text_tokens r.mode b ≡ text_tokens Plain b) (sym (bytes-following texts x below n r.mode r.inside)) r.plain))
+    grind (arith, left-mode, bytes-following)
 
 -- Open texts in which no call drops a token.
 
@@ -441,9 +436,7 @@ peek-run line depth texts (x ∷ below) peek h l more =
     step-run line depth texts x below n place h some l.3
     (same-front (text_around texts x.kind x.parent below) (source_text texts (front_source (x ∷ below))) x.part.from x.part.end n some l.3.0 (source-around texts x below)) in
     let at : peek.at ≡ x.part.from + n = omega (arith, from, more) in
-    subst (λ (s : TextSource). IsStep line depth texts (x ∷ below) (Lends (record { source = s; from = peek.from; end = peek.at })) (moved_to peek.at (x ∷ below))) (sym l.0)
-    (subst (λ (m : ℕ). IsStep line depth texts (x ∷ below) (Lends (record { source = front_source (x ∷ below); from = m; end = peek.at })) (moved_to peek.at (x ∷ below))) (sym l.1)
-    (subst (λ (m : ℕ). IsStep line depth texts (x ∷ below) (Lends (record { source = front_source (x ∷ below); from = x.part.from; end = m })) (moved_to m (x ∷ below))) (sym at) step))
+    grind arith
 
 -- behind what is copied the open texts are sound
 pub peek-passed : (texts : Texts) (opens : List Open) (peek : Peek) → AreSound texts opens → IsPeekAhead texts opens peek → AreSound texts (moved_to peek.at opens)

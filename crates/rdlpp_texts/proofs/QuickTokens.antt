@@ -316,11 +316,7 @@ blank_step : (at b : ℕ) (bs : List ℕ) → is_blank b ≡ true → space_from
 blank_step at b bs e =
     let k = prefix_len is_blank bs in
     let len : prefix_len is_blank (b ∷ bs) ≡ suc k = ap (λ (t : Bool). cond t (1 + k) 0) e ∙ one-add k in
-    let same : at + suc k ≡ (at + 1) + k = omega arith in
-    skip_blanks (b ∷ bs) at
-    ∙ ap (λ (n : ℕ). space_from (at + n) (text_tokens Plain (drop n (b ∷ bs)))) len
-    ∙ ap (λ (n : ℕ). space_from n (text_tokens Plain (drop k bs))) same
-    ∙ sym (skip_blanks bs (at + 1))
+    grind (arith, skip_blanks)
 
 -- so is an LF
 end_step : (at b : ℕ) (bs : List ℕ) → is_line_end b ≡ true → space_from at (text_tokens Plain (b ∷ bs)) ≡ space_from (at + 1) (text_tokens Plain bs)

@@ -16,7 +16,7 @@ use Rattle.rdlpp_texts.specs.declared.frame.FrameKind.{FrameKind}
 use Rattle.rdlpp_texts.specs.declared.frame.FrameKind.TheVariants as frame
 use Rattle.rdlpp_texts.specs.Opened.{kind_of, bindings_below, open_of, opens_of, frame_source, is_body_of, kind_outer, outer_of, AreParentedFrames}
 use Rattle.rdlpp_texts.specs.Places.{texts_of, source_text, source_formals}
-use Rattle.rdlpp_texts.specs.Scopes.{kind_source, found_source, own_source, front_source, front_scope, innermost_place, own_ids, hidden_ids, IsBound, AreBound}
+use Rattle.rdlpp_texts.specs.Scopes.{kind_source, found_source, front_source, front_scope, innermost_place, own_ids, hidden_ids, IsBound, AreBound}
 
 -- the text of a scope, by the open text that it is
 unfoldable text_found : Texts → Option Open → List ℕ
@@ -203,10 +203,7 @@ front-actual [] bindings own source some e k h = no-byte some
 front-actual (y ∷ ys) bindings own source some e k h =
     let kind : y.kind ≡ frame.Actual = sym (ap (λ (s : Frame). s.kind) e) ∙ k in
     let rest : take (suc (length ys) - 1) ys ≡ ys = take_all (suc (length ys) - 1) ys (omega arith) in
-    h bindings
-    ∙ ap (λ (s : List Frame). found_source (scope_open (opens_of s bindings) own.parent)) rest
-    ∙ ap (λ (s : Frame). found_source (scope_open (opens_of ys bindings) s.parent)) e
-    ∙ sym (ap (λ (c : FrameKind). own_source (kind_of c bindings) y.parent (opens_of ys (bindings_below c bindings))) kind)
+    grind arith
 
 -- and where it is none
 pub front-other : (frames : List Frame) (bindings : List Range) (own : Frame) (source : TextSource) → 0 < length frames → own ≡ get_or frames 0 own → (own.kind ≡ frame.Actual → ⊥)
@@ -254,21 +251,7 @@ pub range-inside : (macros : List Macro) (frames : List Frame) (bindings : List 
 unfolding source_formals
 range-inside macros frames bindings scope own id first place bound some inside e k h =
     let a = at-scope frames bindings scope own (omega (arith, some)) inside e in
-    let found : scope_open (opens_of frames bindings) scope ≡ Some (open_of (record own { kind = frame.Body id first }) (take a.kept bindings)) =
-    a.found ∙ ap (λ (c : FrameKind). Some (open_of (record own { kind = c }) (take a.kept bindings))) k in
-    let b : (id < length macros) × (length (formals_of (macro_at macros id)) ≤ length (map range_part (drop first (take a.kept bindings)))) =
-    bound-scope macros (opens_of frames bindings) scope (open_of (record own { kind = frame.Body id first }) (take a.kept bindings)) bound found in
-    let place_in : place < length (formals_of (macro_at macros id)) =
-    subst (λ (o : Option Open). place < length (source_formals (texts_of macros []) (found_source o))) found h in
-    let parts = length-map (drop first (take a.kept bindings)) range_part in
-    let dropped = length-drop first (take a.kept bindings) in
-    let kept = length-take a.kept bindings in
-    let many = b.1 in
-    record {
-      id_inside = b.0;
-      place_inside = place_in;
-      inside = omega (arith, parts, dropped, kept, many, place_in);
-    }
+    grind (arith, bound-scope, length-map, length-drop, length-take)
 
 -- the part that the formal at a place of a body has
 part-kept : (bindings : List Range) (kept first place : ℕ) (range : Range) → range ≡ get_or bindings (first + place) range
@@ -287,15 +270,7 @@ pub standing-body : (macros : List Macro) (frames : List Frame) (bindings : List
 unfolding source_formals
 standing-body macros frames bindings scope own id first place range new bound are some inside e k h r s =
     let a = at-scope frames bindings scope own (omega (arith, some)) inside e in
-    let found : scope_open (opens_of frames bindings) scope ≡ Some (open_of (record own { kind = frame.Body id first }) (take a.kept bindings)) =
-    a.found ∙ ap (λ (c : FrameKind). Some (open_of (record own { kind = c }) (take a.kept bindings))) k in
-    let b : (id < length macros) × (length (formals_of (macro_at macros id)) ≤ length (map range_part (drop first (take a.kept bindings)))) =
-    bound-scope macros (opens_of frames bindings) scope (open_of (record own { kind = frame.Body id first }) (take a.kept bindings)) are found in
-    let place_in : place < length (formals_of (macro_at macros id)) =
-    subst (λ (o : Option Open). place < length (source_formals (texts_of macros []) (found_source o))) found h in
-    let many = b.1 in
-    ap (λ (x : Open). Some x) (s (map range_part (drop first (take a.kept bindings))) (part-kept bindings a.kept first place range r (omega (arith, place_in, many))))
-    ∙ sym (ap (λ (o : Option Open). found_standing macros o scope place) found)
+    grind (arith, bound-scope, part-kept)
 
 -- it stands for nothing where it is none
 pub standing-other : (macros : List Macro) (frames : List Frame) (bindings : List Range) (scope : ℕ) (own : Frame) (place : ℕ)

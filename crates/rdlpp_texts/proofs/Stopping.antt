@@ -178,10 +178,7 @@ point-moved formals from at text s e p =
     (points-at formals from ts Plain text refl) in
     let here : at ≡ from + n = tells.0 in
     let less : n ≡ at - from = omega (arith, here) in
-    e
-    ∙ sym (point-following formals from ts Plain text refl (place-some (point_of formals from text) at (ap (λ (o : ExpansionPoint). point_place o) (sym e) ∙ p)))
-    ∙ ap (λ (k : ℕ). next_expansion_point formals k (tokens_from Plain 0 (drop n text)) (drop n text)) (sym here)
-    ∙ ap (λ (k : ℕ). next_expansion_point formals at (tokens_from Plain 0 (drop k text)) (drop k text)) less
+    grind (arith, point-following, place-some)
 
 -- no run stands in a text without bytes
 run-empty : (formals : List Formal) (bytes : List ℕ) → length bytes ≡ 0 → run_len formals (tokens_from Plain 0 bytes) bytes ≡ 0

@@ -152,12 +152,7 @@ pub peek-known : (texts : Texts) (frames : List Frame) (bindings : List Range) (
     → IsSource texts source × (own.end ≤ length (source_text texts source))
 peek-known texts frames bindings own source some e sound is =
     let inner = inner-is frames bindings own some e in
-    let x = open_of own bindings in
-    let below = opens_of inner.rest (bindings_below own.kind bindings) in
-    let s : AreSound texts (x ∷ below) = subst (λ (o : List Open). AreSound texts o) inner.is sound in
-    let at : source ≡ front_source (x ∷ below) = is ∙ ap (λ (o : List Open). front_source o) inner.is in
-    subst (λ (t : TextSource). IsSource texts t × (own.end ≤ length (source_text texts t))) (sym at)
-    (source-known texts x below s.are_inside, source-inside texts x below s.are_inside)
+    grind (arith, source-known, source-inside)
 
 -- A usage at the front of the innermost open text: its name, and what it comes to.
 
@@ -203,16 +198,7 @@ usage-word texts (x ∷ below) peek len from end h l e f g =
     let within = usage-place texts (x ∷ below) peek len h l e in
     let inside = within.inside in
     let ends = within.within in
-    let at : peek.at ≡ x.part.from = l.1 in
-    let own = source_text texts (front_source (x ∷ below)) in
-    ap (λ (t : TextSource). slice_range (source_text texts t) from end) l.0
-    ∙ ap (λ (n : ℕ). slice_range own n end) f
-    ∙ ap (λ (n : ℕ). slice_range own (peek.at + 1) n) g
-    ∙ following-first own peek.at len
-    (subst (λ (t : TextSource). peek.at + len ≤ length (source_text texts t)) l.0 (omega (arith, inside, ends))) s.0
-    ∙ ap (λ (n : ℕ). drop 1 (slice_range own n (n + len))) at
-    ∙ ap (λ (bytes : List ℕ). drop 1 bytes)
-    (sym (same-front (text_around texts x.kind x.parent below) own x.part.from x.part.end len s.0 s.1 (source-around texts x below)))
+    grind (arith, following-first, same-front, source-around)
 
 -- what the usage at the front comes to, by its name and the macros in whose text it is written
 first-is : (rules : Rules) (s : State) (line : ℕ) (texts : Texts) (x : Open) (below : List Open) (len : ℕ) → x.part.mode ≡ Plain
@@ -546,24 +532,14 @@ pub word-inside : (texts : Texts) (opens : List Open) (peek : Peek) (len : ℕ) 
     → word ≡ record { source = peek.source; from = peek.at + 1; end = peek.at + len } → IsPlaced texts word
 word-inside texts opens peek len word h l e is =
     let place = usage-place texts opens peek len h l e in
-    let some = place.some in
-    let inside = place.inside in
-    let within = place.within in
-    subst (λ (w : TextPlace). IsPlaced texts w) (sym is) (record {
-      source = place.source;
-      order = omega (arith, some);
-      inside = omega (arith, inside, within);
-    })
+    grind arith
 
 -- the name of a usage lies in its text
 pub name-inside : (texts : Texts) (opens : List Open) (peek : Peek) (len : ℕ) (text : List ℕ) → AreSound texts opens → IsPeek texts opens peek → peek.front ≡ front.Usage len
     → text ≡ source_text texts peek.source → (peek.at + 1 ≤ peek.at + len) × (peek.at + len ≤ length text)
 name-inside texts opens peek len text h l e is =
     let place = usage-place texts opens peek len h l e in
-    let some = place.some in
-    let inside = place.inside in
-    let within : peek.end ≤ length text = subst (λ (t : List ℕ). peek.end ≤ length t) (sym is) place.within in
-    (omega (arith, some), omega (arith, inside, within))
+    grind arith
 
 -- and is what stands there
 pub name-is : (texts : Texts) (opens : List Open) (peek : Peek) (len : ℕ) (text : List ℕ) → AreSound texts opens → IsPeek texts opens peek → peek.front ≡ front.Usage len
@@ -609,13 +585,7 @@ placed-run texts [] peek h l more = absurd l
 placed-run texts (x ∷ below) peek h l more =
     let from = l.1 in
     let ends = run-ends texts x below (peek.at - peek.from) (omega (arith, more)) l.3.0 in
-    let own : x.part.end ≤ length (source_text texts peek.source) =
-    subst (λ (t : TextSource). x.part.end ≤ length (source_text texts t)) (sym l.0) (source-inside texts x below h.are_inside) in
-    record {
-      source = subst (λ (t : TextSource). IsSource texts t) (sym l.0) (source-known texts x below h.are_inside);
-      order = omega (arith, more);
-      inside = omega (arith, from, more, ends, own);
-    }
+    grind (arith, source-inside, source-known)
 
 -- a text stays open behind a run that is lent
 pub open-run : (old new : CursorsView) (at : ℕ) → 0 < length old.opens → new ≡ record { opens = moved_to at old.opens; line = old.line; depth = old.depth } → 0 < length new.opens
