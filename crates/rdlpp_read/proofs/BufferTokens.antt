@@ -6,10 +6,10 @@ use Rattle.std.proofs.lemmas.List.Elements.{All-append, All-cons, All-drop, All-
 use Rattle.std.proofs.lemmas.List.Sums.{sum_by-append, sum_by-cons, sum_by_more_le}
 use Rattle.rdlpp_scan.specs.Bytes.{is_line_end}
 use Rattle.rdlpp_scan.specs.Front.{Break, front}
-use Rattle.rdlpp_scan.specs.Lines.{EndsLine, IsWholeLines, whole_lines_len}
-use Rattle.rdlpp_scan.specs.SourceTokens.{broken, line_ends, line_len, open_end, remaining_tokens, source_end, source_tokens}
+use Rattle.rdlpp_scan.specs.Lines.{EndsLine, whole_lines_len}
+use Rattle.rdlpp_scan.specs.SourceTokens.{broken, line_ends, open_end, remaining_tokens, source_end, source_tokens}
 use Rattle.rdlpp_scan.specs.declared.token.Mode.{Mode}
-use Rattle.rdlpp_scan.specs.declared.token.Mode.TheVariants.{InBlock, InStr, Plain}
+use Rattle.rdlpp_scan.specs.declared.token.Mode.TheVariants.{Plain}
 use Rattle.rdlpp_scan.proofs.SourceLaws.{IsWholeLines-drop, front-line_long, front-none, front-source_long}
 use Rattle.rdlpp_scan.proofs.RemainingLaws.{remaining-accept}
 use Rattle.rdlpp_read.specs.Buffer.{BufferView, EndsHeld, Gains, MovesOver, Slides, ahead_of, closed_buffer, entered_mode, held_of, rest_of, text_left, tokens_left, unread_of, unused_of}
@@ -27,11 +27,7 @@ gains-none exact old new same = record { rest = old; whole = refl; same = λ e. 
 
 -- two gains are one, where the first lost nothing
 gains-on : (one two exact : Type 0) (a b old mid new : List ℕ) → one → (exact → two) → Gains one a old mid → Gains two b mid new → Gains exact (a ++ b) old new
-gains-on one two exact a b old mid new first exactly g h = record {
-  rest = h.rest;
-  whole = g.whole ∙ (ap (λ v. a ++ v) (g.same first ∙ h.whole) ∙ sym (append_assoc a b h.rest));
-  same = λ e. h.same (exactly e);
-}
+gains-on one two exact a b old mid new first exactly g h = grind (arith, append_assoc)
 
 -- a gain of which less is asked
 gains-told : (exact own : Type 0) (gained old new : List ℕ) → (exact → own) → Gains own gained old new → Gains exact gained old new
@@ -73,30 +69,16 @@ slides-on has_known_texts one two exact then_exact unread old mid new t u exactl
 -- the window lost used bytes in front
 pub slides-compact : {R : Type 0} (has_known_texts exact : Type 0) (unread : R → List ℕ) (old new : BufferView R) (dropped : List ℕ) → old.window ≡ dropped ++ new.window → length dropped + new.at ≡ old.at →
     new.reader ≡ old.reader → Slides has_known_texts exact unread old new
-slides-compact has_known_texts exact unread old new dropped window used reader = record {
-  dropped = dropped;
-  gained = [];
-  window = append-nil old.window ∙ window;
-  used = used;
-  text = λ t. gains-none exact _ _ (ap (unread_of unread) (sym reader));
-}
+slides-compact has_known_texts exact unread old new dropped window used reader = grind (arith, append-nil, gains-none)
 
 -- such a move where more is known, or less is asked
 pub slides-told : {R : Type 0} (has_known_texts own exact own_exact : Type 0) (unread : R → List ℕ) (old new : BufferView R) → (has_known_texts → own) → (exact → own_exact)
     → Slides own own_exact unread old new → Slides has_known_texts exact unread old new
-slides-told has_known_texts own exact own_exact unread old new t exactly slides = record {
-  dropped = slides.dropped;
-  gained = slides.gained;
-  window = slides.window;
-  used = slides.used;
-  text = λ x. gains-told exact own_exact slides.gained _ _ exactly (slides.text (t x));
-}
+slides-told has_known_texts own exact own_exact unread old new t exactly slides = grind (arith, gains-told)
 
 -- a window that slid, and of which nothing was used
 pub moves-slid : {R : Type 0} (has_known_texts exact : Type 0) (unread : R → List ℕ) (old new : BufferView R) → Slides has_known_texts exact unread old new → MovesOver has_known_texts exact unread [] old new
-moves-slid has_known_texts exact unread old new slides =
-    let used = slides.used in
-    record { dropped = slides.dropped; gained = slides.gained; window = slides.window; used = omega arith; text = slides.text }
+moves-slid has_known_texts exact unread old new slides = grind arith
 
 -- a window of which bytes were used
 pub moves-past : {R : Type 0} (has_known_texts exact : Type 0) (unread : R → List ℕ) (uses : List ℕ) (old new : BufferView R) → new.window ≡ old.window → new.at ≡ old.at + length uses → new.reader ≡ old.reader
@@ -107,13 +89,7 @@ moves-past has_known_texts exact unread uses old new window at reader =
 -- such a move where more is known, or less is asked
 pub moves-told : {R : Type 0} (has_known_texts own exact own_exact : Type 0) (unread : R → List ℕ) (uses : List ℕ) (old new : BufferView R) → (has_known_texts → own) → (exact → own_exact)
     → MovesOver own own_exact unread uses old new → MovesOver has_known_texts exact unread uses old new
-moves-told has_known_texts own exact own_exact unread uses old new t exactly moves = record {
-  dropped = moves.dropped;
-  gained = moves.gained;
-  window = moves.window;
-  used = moves.used;
-  text = λ x. gains-told exact own_exact moves.gained _ _ exactly (moves.text (t x));
-}
+moves-told has_known_texts own exact own_exact unread uses old new t exactly moves = grind (arith, gains-told)
 
 -- two such moves are one, of which the first is exact
 pub moves-on : {R : Type 0} (has_known_texts one two exact then_exact : Type 0) (unread : R → List ℕ) (x y : List ℕ) (old mid new : BufferView R) → (has_known_texts → one) → (has_known_texts → two) → (exact → then_exact)
@@ -161,21 +137,13 @@ tokens-same unread old new line line_bytes mode open_token_line bytes_left held 
 pub lengthens-tokens : {R : Type 0} (has_known_texts : Type 0) (unread : R → List ℕ) (old new : BufferView R) → new.line ≡ old.line → new.line_bytes ≡ old.line_bytes → new.mode ≡ old.mode →
     new.open_token_line ≡ old.open_token_line → Lengthens has_known_texts unread old new → has_known_texts → tokens_left unread new ≡ tokens_left unread old
 unfolding tokens_left
-lengthens-tokens has_known_texts unread old new line line_bytes mode open_token_line l t =
-    let size : length (held_of new) ≡ length (held_of old) + length l.lines = ap length l.held ∙ length-append (held_of old) l.lines in
-    let short = l.short in
-    let law = remaining-accept old.line_bytes old.mode old.open_token_line old.line (held_of old) old.bytes_left l.lines (rest_of unread new) l.ends (omega arith) l.fits in
-    let held = l.held in
-    let left = l.bytes_left in
-    let rest = l.rest t in
-    cc
+lengthens-tokens has_known_texts unread old new line line_bytes mode open_token_line l t = grind (arith, length-append, remaining-accept)
 
 -- what stands at the end of a text that isn't broken
 ended_by : (most : ℕ) (m : Mode) (opened line : ℕ) → source_end (record { most = most; break = None }) m opened line ≡ ended_tokens m opened
 unfolding source_end open_end broken
 ended_by most Plain opened line = refl
-ended_by most InStr opened line = refl
-ended_by most InBlock opened line = refl
+ended_by most _ opened line = refl
 
 -- what remains where the text has ended
 end-tokens : {R : Type 0} (unread : R → List ℕ) (f : BufferView R) → held_of f ≡ [] → rest_of unread f ≡ [] → tokens_left unread f ≡ ended_tokens f.mode f.open_token_line
@@ -186,8 +154,7 @@ end-tokens unread f none ended = rw (none, ended, front-none) (ended_by f.line_b
 broken_by : (most : ℕ) (k : Break) (m : Mode) (opened line : ℕ) → source_end (record { most = most; break = Some k }) m opened line ≡ only_broken k.breach line
 unfolding source_end open_end broken line_ends
 broken_by most k Plain opened line = refl
-broken_by most k InStr opened line = ap (only_broken k.breach) (omega arith)
-broken_by most k InBlock opened line = ap (only_broken k.breach) (omega arith)
+broken_by most k _ opened line = ap (only_broken k.breach) (omega arith)
 
 -- a line that breaks the text is all that remains
 break-tokens : {R : Type 0} (unread : R → List ℕ) (f : BufferView R) (k : Break) → held_of f ≡ [] →
@@ -212,10 +179,7 @@ grows-tokens has_known_texts unread Failed old new none g t =
 
 -- bytes came, where nothing was held
 grows-bytes : {R : Type 0} (has_known_texts : Type 0) (unread : R → List ℕ) (fill : Fill) (old new : BufferView R) → held_of old ≡ [] → GrowsBy has_known_texts unread fill old new → HasBytes fill new
-grows-bytes has_known_texts unread Held old new none by =
-    let size : length (held_of new) ≡ length (held_of old) + length by.lines = ap length by.held ∙ length-append (held_of old) by.lines in
-    let some = by.some in
-    omega arith
+grows-bytes has_known_texts unread Held old new none by = grind (arith, length-append)
 grows-bytes has_known_texts unread End old new none by = by.0.held ∙ none
 grows-bytes has_known_texts unread SourceLong old new none by = by.0.held ∙ none
 grows-bytes has_known_texts unread LineLong old new none by = by.0.held ∙ none
@@ -264,10 +228,7 @@ compacts-rest unread old new c = let ahead = c.ahead in let reader = c.reader in
 
 -- what is held still ends at a line end, or where the text ends
 pub compacts-ends : {R : Type 0} (old new : BufferView R) → Compacts old new → EndsHeld old → EndsHeld new
-compacts-ends old new c ends = elim ends [
-  | inl whole ↦ inl (subst IsWholeLines (sym c.held) whole)
-  | inr none ↦ inr (c.reader ∙ none.0, c.ahead ∙ none.1)
-]
+compacts-ends old new c ends = grind arith
 
 -- what stays behind a move
 stays-from : {R : Type 0} (old mid new : BufferView R) → Compacts old mid → Stays mid new → Stays old new
@@ -275,36 +236,10 @@ stays-from old mid new c s = record { held = s.held ∙ c.held; bytes_left = s.b
 
 -- what was found behind a move
 compacts-by : {R : Type 0} (has_known_texts : Type 0) (unread : R → List ℕ) (fill : Fill) (old mid new : BufferView R) → Compacts old mid → GrowsBy has_known_texts unread fill mid new → GrowsBy has_known_texts unread fill old new
-compacts-by has_known_texts unread Held old mid new c by =
-    let left = c.bytes_left in
-    let most = c.line_bytes in
-    let fits = by.fits in
-    let short = by.short in
-    let left_now = by.bytes_left in
-    record {
-      lines = by.lines;
-      some = by.some;
-      before = subst IsWholeLines c.held by.before;
-      held = by.held ∙ ap (λ h. h ++ by.lines) c.held;
-      short = omega arith;
-      fits = omega arith;
-      bytes_left = omega arith;
-      ends = by.ends;
-      rest = λ t. sym (compacts-rest unread old mid c) ∙ by.rest t;
-    }
+compacts-by has_known_texts unread Held old mid new c by = grind (arith, compacts-rest)
 compacts-by has_known_texts unread End old mid new c by = (stays-from old mid new c by.0, λ t. sym (compacts-rest unread old mid c) ∙ by.1 t, by.2)
-compacts-by has_known_texts unread SourceLong old mid new c by =
-    let rest : line_len (rest_of unread mid) ≡ line_len (rest_of unread old) = ap line_len (compacts-rest unread old mid c) in
-    let held : length (held_of mid) ≡ length (held_of old) = ap length c.held in
-    let left = c.bytes_left in
-    let most = c.line_bytes in
-    (stays-from old mid new c by.0, λ t. (let h = by.1 t in omega arith), λ t. (let h = by.2 t in omega arith), λ t. by.3 t ∙ compacts-rest unread old mid c)
-compacts-by has_known_texts unread LineLong old mid new c by =
-    let rest : line_len (rest_of unread mid) ≡ line_len (rest_of unread old) = ap line_len (compacts-rest unread old mid c) in
-    let size : length (rest_of unread mid) ≡ length (rest_of unread old) = ap length (compacts-rest unread old mid c) in
-    let held : length (held_of mid) ≡ length (held_of old) = ap length c.held in
-    let most = c.line_bytes in
-    (stays-from old mid new c by.0, λ t. (let h = by.1 t in omega arith), λ t. (let h = by.2 t in omega arith))
+compacts-by has_known_texts unread SourceLong old mid new c by = grind (arith, compacts-rest, stays-from)
+compacts-by has_known_texts unread LineLong old mid new c by = grind (arith, compacts-rest, stays-from)
 compacts-by has_known_texts unread Failed old mid new c by = (stays-from old mid new c by.0, λ t. by.1 t ∙ compacts-rest unread old mid c, by.2)
 
 -- the same with all that goes with it
@@ -335,19 +270,13 @@ grows-text has_known_texts unread Failed old new by other t = let held = by.0.he
 -- where the end of a text was met, nothing is left of it
 grows-ended : {R : Type 0} (has_known_texts : Type 0) (unread : R → List ℕ) (fill : Fill) (old new : BufferView R) → held_of old ≡ [] → GrowsBy has_known_texts unread fill old new → fill ≡ End → text_left unread new ≡ []
 unfolding text_left
-grows-ended has_known_texts unread Held old new none by is = cc
 grows-ended has_known_texts unread End old new none by is = let held = by.0.held in let rest = by.2 in cc
-grows-ended has_known_texts unread SourceLong old new none by is = cc
-grows-ended has_known_texts unread LineLong old new none by is = cc
-grows-ended has_known_texts unread Failed old new none by is = cc
+grows-ended has_known_texts unread _ old new none by is = cc
 
 -- where a read failed, no whole line is ahead
 grows-short : {R : Type 0} (has_known_texts : Type 0) (unread : R → List ℕ) (fill : Fill) (old new : BufferView R) → GrowsBy has_known_texts unread fill old new → fill ≡ Failed → whole_lines_len (ahead_of new) ≡ 0
-grows-short has_known_texts unread Held old new by is = cc is
-grows-short has_known_texts unread End old new by is = cc is
-grows-short has_known_texts unread SourceLong old new by is = cc is
-grows-short has_known_texts unread LineLong old new by is = cc is
 grows-short has_known_texts unread Failed old new by is = by.2
+grows-short has_known_texts unread _ old new by is = cc is
 
 -- what a source has before its next byte, by what stood there
 pub grows-fills : {R : Type 0} (has_known_texts : Type 0) (unread : R → List ℕ) (fill : Fill) (old new : BufferView R) → held_of old ≡ [] → Grows has_known_texts unread fill old new → Fills has_known_texts unread fill old new
@@ -369,20 +298,7 @@ grows-fills has_known_texts unread fill old new none g = record {
 -- bytes of accepted lines are held
 pub held-fills : {R : Type 0} (has_known_texts : Type 0) (unread : R → List ℕ) (f : BufferView R) → f.at < f.accepted → f.accepted ≤ length f.window → Fills has_known_texts unread Held f f
 unfolding held_of
-held-fills has_known_texts unread f some inside = record {
-  line = refl;
-  line_bytes = refl;
-  mode = refl;
-  open_token_line = refl;
-  bytes = omega (arith, length-drop f.at (take f.accepted f.window), length-take-le f.accepted f.window inside);
-  unused = refl;
-  slides = slides-same has_known_texts (IsExact Held) unread f;
-  waits = inl refl;
-  short = λ is. cc is;
-  text = λ other t. refl;
-  ended = λ is. cc;
-  tokens = λ t. refl;
-}
+held-fills has_known_texts unread f some inside = grind (arith, length-drop, length-take-le, slides-same)
 
 -- where the end of a text was met, nothing was left of it before
 pub ended-text : {R : Type 0} (has_known_texts : Type 0) (unread : R → List ℕ) (old new : BufferView R) → Fills has_known_texts unread End old new → has_known_texts → text_left unread old ≡ []
@@ -439,10 +355,7 @@ slot-inner size first slots f s some is = subst (IsSlot size) (sym is) (All-get_
 
 -- the open slots with one more
 pub entered-include_stack : {R : Type 0} (first : ℕ) (slots : List (File R)) (f : File R) → 0 < first → first ≤ length slots → drop (first - 1) (set slots (first - 1) f) ≡ f ∷ drop first slots
-entered-include_stack first slots f some inside =
-    let more : first - 1 < length slots = omega arith in
-    let back : first - 1 + 1 ≡ first = omega arith in
-    drop-set slots (first - 1) f more ∙ ap (λ k. f ∷ drop k slots) back
+entered-include_stack first slots f some inside = grind (arith, drop-set)
 
 -- the last byte says whether bytes end in LF
 pub ends_mid_line-last : (ends_mid_line : Bool) (bytes : List ℕ) (last : ℕ) → 0 < length bytes → last ≡ get_or bytes (length bytes - 1) 0 → ends_mid_line_after ends_mid_line bytes ≡ not (is_line_end last)
@@ -462,12 +375,7 @@ slot-at size at slots f each more is = subst (IsSlot size) (sym is) (All-get_or 
 -- a slot that was just made
 pub closed-slot : {R : Type 0} (size : ℕ) (f : File R) → f.buffer ≡ closed_buffer 0 size → f.shift.number ≡ 0 → IsSlot size f
 unfolding closed_buffer
-closed-slot size f closed number = record {
-  size = ap (λ b. b.line_bytes) closed;
-  buffer = rw closed (record { used = omega arith; lines = omega arith; within = omega arith; counts = omega arith; opened = omega arith });
-  ends = none_ends f.buffer (ap (λ b. b.accepted) closed);
-  number = omega arith;
-}
+closed-slot size f closed number = grind (arith, none_ends)
 
 -- it has no reader
 pub closed-reader : {R : Type 0} (size : ℕ) (f : File R) → f.buffer ≡ closed_buffer 0 size → IsClosed f
@@ -507,12 +415,7 @@ held-bound files open_ =
 
 -- a part of what is held
 pub held-part : {R : Type 0} (files : FilesView R) (items : List (File R)) (i : ℕ) (f : File R) → items ≡ files.include_stack → AreOpen files → i < length items → f ≡ get_or items i f → held_bytes (take i items) + length f.buffer.window ≤ files.slots * files.line_bytes
-held-part {R} files items i f same open_ more is =
-    let size : File R → ℕ = λ g. length g.buffer.window in
-    let part : held_bytes (take i items) + size (get_or items i f) ≤ held_bytes items = sum_by_more_le size items i f more in
-    let whole : held_bytes items ≤ files.slots * files.line_bytes = rw same (held-bound files open_) in
-    let here : size f ≡ size (get_or items i f) = ap size is in
-    omega arith
+held-part {R} files items i f same open_ more is = grind (arith, sum_by_more_le, held-bound)
 
 -- what an open source may still give, and one more, is a digit
 digits-below : {R : Type 0} (size : ℕ) (include_stack : List (File R)) → All (IsSlot size) include_stack → All (λ (d : ℕ). d < 2 ^ 31) (source_digits include_stack)

@@ -66,10 +66,7 @@ onto_some b (suc n) h = refl
 pub whole-append-some : (xs ys : List ℕ) → 0 < whole_lines_len ys → whole_lines_len (xs ++ ys) ≡ length xs + whole_lines_len ys
 unfolding whole_lines_len
 whole-append-some [] ys h = omega arith
-whole-append-some (x ∷ xs) ys h =
-    let tail = whole-append-some xs ys h in
-    let some : 0 < whole_lines_len (xs ++ ys) = omega arith in
-    onto_some x (whole_lines_len (xs ++ ys)) some ∙ omega arith
+whole-append-some (x ∷ xs) ys h = grind (arith, onto_some, (whole-append-some xs ys h))
 
 -- a tail without a line end counts nothing
 pub whole-append-none : (xs ys : List ℕ) → whole_lines_len ys ≡ 0 → whole_lines_len (xs ++ ys) ≡ whole_lines_len xs
@@ -163,17 +160,11 @@ line-over room w r none some =
 
 -- the first line is too long, where none ends within the bytes that are left
 pub past-whole : (left : ℕ) (bytes : List ℕ) (ended : Bool) → whole_lines_len (take (min left (length bytes)) bytes) ≡ 0 → 0 < whole_lines_len bytes → IsPast bytes left ended
-past-whole left bytes ended none some = record {
-  within = λ more _. line-within bytes more some;
-  passes = λ more _. line-over left bytes more none some;
-}
+past-whole left bytes ended none some = grind (arith, line-within, line-over)
 
 -- the last line is too long
 pub past-last : (left : ℕ) (bytes : List ℕ) → whole_lines_len bytes ≡ 0 → left < length bytes → IsPast bytes left true
-past-last left bytes none long = record {
-  within = λ more h. rw (h refl, append-nil) (line_len-le bytes);
-  passes = λ more h. rw (h refl, append-nil) (omega (arith, none-line bytes none));
-}
+past-last left bytes none long = grind (arith, append-nil, line_len-le, none-line)
 
 -- a text goes on behind bytes without a line end
 pub line-longer : (bytes more : List ℕ) → whole_lines_len bytes ≡ 0 → 0 < length more → length bytes < line_len (bytes ++ more)
@@ -185,66 +176,35 @@ line-longer bytes more none some = line-more (length bytes) (bytes ++ more) (rw 
 pub ended_turn : {R : Type 0} (has_known_texts : Type 0) (unread : R → List ℕ) (old new : BufferView R) (reader : R) →
     old.reader ≡ Some reader → new ≡ record old { reader = None } → (has_known_texts → unread reader ≡ []) → length old.window ≤ old.line_bytes → ReadsOn has_known_texts unread old new
 unfolding unread_of
-ended_turn has_known_texts unread old new reader was becomes text within = record {
-  gained = [];
-  becomes = rw (becomes, append-nil) refl;
-  text = λ t. rw (was, becomes) (text t);
-  moves = inl (ap (λ f. f.reader) becomes);
-  within = rw becomes within;
-}
+ended_turn has_known_texts unread old new reader was becomes text within = grind (arith, append-nil)
 
 -- bytes came
 pub gained_turn : {R : Type 0} (has_known_texts : Type 0) (unread : R → List ℕ) (old new : BufferView R) (reader next : R) (bytes : List ℕ) →
     old.reader ≡ Some reader → new ≡ record old { window = old.window ++ bytes; reader = Some next } → 0 < length bytes →
     (has_known_texts → unread reader ≡ bytes ++ unread next) → length old.window + length bytes ≤ old.line_bytes → ReadsOn has_known_texts unread old new
 unfolding unread_of
-gained_turn has_known_texts unread old new reader next bytes was becomes some text within = record {
-  gained = bytes;
-  becomes = rw becomes refl;
-  text = λ t. rw (was, becomes) (text t);
-  moves = inr some;
-  within = rw becomes (omega (arith, length-append old.window bytes));
-}
+gained_turn has_known_texts unread old new reader next bytes was becomes some text within = grind (arith, length-append)
 
 -- a read failed
 pub failed_turn : {R : Type 0} (has_known_texts : Type 0) (unread : R → List ℕ) (old new : BufferView R) (reader next : R) →
     old.reader ≡ Some reader → new ≡ record old { reader = Some next } → (has_known_texts → unread next ≡ unread reader) → Stops has_known_texts unread Failed old new
 unfolding unread_of
-failed_turn has_known_texts unread old new reader next was becomes text = record {
-  becomes = rw becomes refl;
-  kind = inl refl;
-  full = λ e. absurd (cc);
-  goes_on = λ e. absurd (cc);
-  failed = λ _ t. rw (was, becomes) (text t);
-}
+failed_turn has_known_texts unread old new reader next was becomes text = grind arith
 
 -- a full window goes on
 pub long_turn : {R : Type 0} (has_known_texts : Type 0) (unread : R → List ℕ) (old new : BufferView R) (reader next : R) →
     old.reader ≡ Some reader → new ≡ record old { reader = Some next } → length old.window ≡ old.line_bytes →
     (has_known_texts → 0 < length (unread reader)) → Stops has_known_texts unread LineLong old new
 unfolding unread_of
-long_turn has_known_texts unread old new reader next was becomes full text = record {
-  becomes = rw becomes refl;
-  kind = inr refl;
-  full = λ _. full;
-  goes_on = λ _ t. rw was (text t);
-  failed = λ e. absurd (cc);
-}
+long_turn has_known_texts unread old new reader next was becomes full text = grind arith
 
 -- a read that gave nothing with room found nothing left
 pub none_left : (xs ys to : List ℕ) (n : ℕ) → (xs ≡ take n to ++ ys) × (n ≡ 0 → 0 < length to → ys ≡ []) → n ≡ 0 → 0 < length to → xs ≡ []
-none_left xs ys to n h e bytes_left =
-    let none : ys ≡ [] = h.1 e bytes_left in
-    let taken : take n to ≡ [] = ap (λ j. take j to) e in
-    h.0 ∙ rw (taken, none) refl
+none_left xs ys to n h e bytes_left = grind arith
 
 -- a read that gave something found some left
 pub some_left : (xs ys to : List ℕ) (n : ℕ) → (xs ≡ take n to ++ ys) × (n ≡ 0 → 0 < length to → ys ≡ []) → (n ≡ 0 → ⊥) → n ≤ length to → 0 < length xs
-some_left xs ys to n h e bytes_left =
-    let taken : length (take n to) ≡ n = length-take-le n to bytes_left in
-    let all : length xs ≡ length (take n to ++ ys) = ap length h.0 in
-    let some : 0 < n = omega arith in
-    omega (arith, length-append (take n to) ys)
+some_left xs ys to n h e bytes_left = grind (arith, length-take-le, length-append)
 
 -- the window after a read
 pub window_after : (filled n : ℕ) (old new : List ℕ) → take filled new ≡ take filled old → take (filled + n) new ≡ take filled old ++ take n (drop filled new)
@@ -255,13 +215,7 @@ window_after filled n old new kept = take-add filled n new ∙ ap (λ w. w ++ ta
 -- before the first turn
 pub search-starts : {S R : Type 0} (g : Ghosts S R) (sources : S) (f : BufferView R) → f.accepted ≤ length f.window → EndsHeld f → Searches g sources sources f f 0
 unfolding whole_lines_len
-search-starts g sources f inside ends = record {
-  seeks = record { at = refl; accepted = refl; inside = inside; bytes_left = refl; line = refl; line_bytes = refl; mode = refl; open_token_line = refl; held = refl; text = λ t. refl; slides = slides-same (g.has_known_texts sources) Unit g.unread f; waits = inl refl };
-  place = omega arith;
-  none = refl;
-  ends = ends;
-  call = record { failures = refl; refusals = refl; has_known_texts = λ t. t; catalog = refl };
-}
+search-starts g sources f inside ends = grind (arith, slides-same)
 
 -- what a turn adds stands behind what was ahead
 reads-ahead : {R : Type 0} (told : Type 0) (unread : R → List ℕ) (mid new : BufferView R) → mid.accepted ≤ length mid.window → (reads : ReadsOn told unread mid new) →
@@ -294,17 +248,11 @@ reads-slides told unread mid new reads = record {
 -- where no whole line is ahead after the turns so far, none was before them
 none-before : {R : Type 0} (has_known_texts : Type 0) (unread : R → List ℕ) (old mid : BufferView R) → Seeks has_known_texts unread old mid → whole_lines_len (ahead_of mid) ≡ 0 → whole_lines_len (ahead_of old) ≡ 0
 unfolding ahead_of
-none-before has_known_texts unread old mid seeks none = elim seeks.waits [
-  | inl same ↦ ap (λ (w : List ℕ). whole_lines_len (drop old.accepted w)) (sym same) ∙ ap (λ n. whole_lines_len (drop n mid.window)) (sym seeks.accepted) ∙ none
-  | inr before ↦ before
-]
+none-before has_known_texts unread old mid seeks none = grind arith
 
 -- bytes were read only where no whole line was ahead, if what came then leaves the window
 waits-on : {R : Type 0} (has_known_texts : Type 0) (unread : R → List ℕ) (old mid new : BufferView R) → Seeks has_known_texts unread old mid → new.window ≡ mid.window → new.at ≡ mid.at → WaitsForLines old new
-waits-on has_known_texts unread old mid new seeks window at = elim seeks.waits [
-  | inl same ↦ inl (let size = ap length (window ∙ same) in let place = at ∙ seeks.at in omega arith)
-  | inr none ↦ inr none
-]
+waits-on has_known_texts unread old mid new seeks window at = grind arith
 
 -- a turn that reads on keeps the text that remains
 seeks-on : {R : Type 0} (has_known_texts told : Type 0) (unread : R → List ℕ) (old mid new : BufferView R) → Seeks has_known_texts unread old mid → whole_lines_len (ahead_of mid) ≡ 0 → (has_known_texts → told) → ReadsOn told unread mid new → Seeks has_known_texts unread old new
@@ -330,18 +278,8 @@ seeks-on has_known_texts told unread old mid new seeks none tell reads =
 
 -- two calls that read without a fault are one
 pub calls-on : {S R : Type 0} (g : Ghosts S R) (failed : Bool) (first before after : S) → SourcesRead g false first before → SourcesRead g failed before after → SourcesRead g failed first after
-calls-on g true first before after one two = record {
-  failures = rw (← one.failures) two.failures;
-  refusals = two.refusals ∙ one.refusals;
-  has_known_texts = λ t. two.has_known_texts (one.has_known_texts t);
-  catalog = two.catalog ∙ one.catalog;
-}
-calls-on g false first before after one two = record {
-  failures = two.failures ∙ one.failures;
-  refusals = two.refusals ∙ one.refusals;
-  has_known_texts = λ t. two.has_known_texts (one.has_known_texts t);
-  catalog = two.catalog ∙ one.catalog;
-}
+calls-on g true first before after one two = grind arith
+calls-on g false first before after one two = grind arith
 
 -- what a text that is read on ends with
 reads-ends : {R : Type 0} (told : Type 0) (unread : R → List ℕ) (mid new : BufferView R) → mid.accepted ≤ length mid.window → IsSome mid.reader → EndsHeld mid → ReadsOn told unread mid new → EndsHeld new
@@ -378,11 +316,7 @@ fewer most len gained (Some r) (Some s) some within (inr more) = omega arith
 -- fewer turns remain
 pub fewer-turns : {R : Type 0} (has_known_texts : Type 0) (unread : R → List ℕ) (old new : BufferView R) → ReadsOn has_known_texts unread old new → IsSome old.reader → turns_left new < turns_left old
 unfolding turns_left
-fewer-turns has_known_texts unread old new reads some =
-    let len : length new.window ≡ length old.window + length reads.gained = ap (λ f. length f.window) reads.becomes ∙ length-append old.window reads.gained in
-    let most : new.line_bytes ≡ old.line_bytes = ap (λ f. f.line_bytes) reads.becomes in
-    let within = reads.within in
-    rw (len, most) (fewer old.line_bytes (length old.window) (length reads.gained) old.reader new.reader some (omega arith) reads.moves)
+fewer-turns has_known_texts unread old new reads some = grind (arith, length-append, fewer)
 
 -- nothing is unread behind the end of a text
 unread-ended : {R : Type 0} (unread : R → List ℕ) (r : Option R) → is_none r ≡ true → unread_of unread r ≡ []
@@ -432,10 +366,7 @@ accepts-line unread mid new a = elim a.lines.ends [
 
 -- where lines were accepted, what was held before them are whole lines
 accepts-before : {R : Type 0} (mid new : BufferView R) → EndsHeld mid → Accepts mid new → IsWholeLines (held_of mid)
-accepts-before mid new ends a = elim ends [
-  | inl whole ↦ whole
-  | inr none ↦ absurd (let some = a.lines.some in let inside = a.lines.inside in let size : length (ahead_of mid) ≡ 0 = ap length none.1 in omega arith)
-]
+accepts-before mid new ends a = grind arith
 
 -- no more is held than the window has
 pub held-le : {R : Type 0} (f : BufferView R) → length (held_of f) ≤ length f.window
@@ -474,28 +405,13 @@ seeks-stays has_known_texts unread old mid new seeks held left = record { held =
 -- nothing was accepted: the text has ended
 end-grows : {R : Type 0} (has_known_texts : Type 0) (unread : R → List ℕ) (old mid new : BufferView R) → Seeks has_known_texts unread old mid → new ≡ mid → ahead_of mid ≡ [] → mid.reader ≡ None → GrowsBy has_known_texts unread End old new
 unfolding rest_of unread_of
-end-grows has_known_texts unread old mid new seeks same none ended =
-    let nothing : rest_of unread mid ≡ [] = rw (none, ended) refl in
-    (seeks-stays has_known_texts unread old mid new seeks (ap held_of same) (ap (λ f. f.bytes_left) same), λ t. seeks.text t ∙ nothing, ap (rest_of unread) same ∙ nothing)
+end-grows has_known_texts unread old mid new seeks same none ended = grind (arith, seeks-stays)
 
 -- nothing was accepted: the source is too long
 source-grows : {R : Type 0} (has_known_texts : Type 0) (unread : R → List ℕ) (old mid new : BufferView R) → old.at ≡ 0 → Seeks has_known_texts unread old mid → length mid.window ≤ mid.line_bytes → new ≡ mid →
     IsPast (ahead_of mid) mid.bytes_left (is_none mid.reader) → GrowsBy has_known_texts unread SourceLong old new
 unfolding rest_of
-source-grows has_known_texts unread old mid new at seeks within same past =
-    let more = unread_of unread mid.reader in
-    let ended : is_none mid.reader ≡ true → more ≡ [] = unread-ended unread mid.reader in
-    let inside = past.within more ended in
-    let passes = past.passes more ended in
-    let most = seeks.line_bytes in
-    let left = seeks.bytes_left in
-    let parts = window-parts mid (seeks.at ∙ at) seeks.inside in
-    let held : length (held_of mid) ≡ length (held_of old) = ap length seeks.held in (
-      seeks-stays has_known_texts unread old mid new seeks (ap held_of same) (ap (λ f. f.bytes_left) same),
-      λ t. (let text : line_len (rest_of unread old) ≡ line_len (ahead_of mid ++ more) = ap line_len (seeks.text t) in omega arith),
-      λ t. (let text : line_len (rest_of unread old) ≡ line_len (ahead_of mid ++ more) = ap line_len (seeks.text t) in omega arith),
-      λ t. ap (rest_of unread) same ∙ sym (seeks.text t),
-    )
+source-grows has_known_texts unread old mid new at seeks within same past = grind (arith, unread-ended, window-parts, seeks-stays)
 
 -- what was found in the window
 found-by : {R : Type 0} (has_known_texts : Type 0) (unread : R → List ℕ) (fill : Fill) (old mid new : BufferView R) → old.at ≡ 0 → Seeks has_known_texts unread old mid → EndsHeld mid → length mid.window ≤ mid.line_bytes →
@@ -503,8 +419,7 @@ found-by : {R : Type 0} (has_known_texts : Type 0) (unread : R → List ℕ) (fi
 found-by has_known_texts unread Held old mid new at seeks ends within f = accepts-grows has_known_texts unread old mid new at seeks ends within f
 found-by has_known_texts unread End old mid new at seeks ends within f = end-grows has_known_texts unread old mid new seeks f.0 f.1 f.2
 found-by has_known_texts unread SourceLong old mid new at seeks ends within f = source-grows has_known_texts unread old mid new at seeks within f.0 f.1
-found-by has_known_texts unread LineLong old mid new at seeks ends within f = absurd f
-found-by has_known_texts unread Failed old mid new at seeks ends within f = absurd f
+found-by has_known_texts unread _ old mid new at seeks ends within f = absurd f
 
 -- what isn't used, before the search and where it has come
 seeks-unused : {R : Type 0} (has_known_texts : Type 0) (unread : R → List ℕ) (old mid : BufferView R) → Seeks has_known_texts unread old mid → unused_of mid ≡ unused_of old
@@ -514,9 +429,7 @@ seeks-unused has_known_texts unread old mid seeks = rw (seeks.bytes_left, seeks.
 -- what is found leaves all unused
 finds-unused : {R : Type 0} (fill : Fill) (mid new : BufferView R) → mid.at ≤ mid.accepted → Finds fill mid new → unused_of new ≡ unused_of mid
 unfolding unused_of
-finds-unused Held mid new order f =
-    let fits = f.lines.fits in
-    ap unused_of f.becomes ∙ omega arith
+finds-unused Held mid new order f = grind arith
 finds-unused End mid new order f = ap unused_of f.0
 finds-unused SourceLong mid new order f = ap unused_of f.0
 finds-unused LineLong mid new order f = absurd f
@@ -531,21 +444,11 @@ record SameScalars {R : Type 0} (mid new : BufferView R) : Type 0 where
 
 -- nothing changed at all
 same-scalars : {R : Type 0} (mid new : BufferView R) → new ≡ mid → SameScalars mid new
-same-scalars mid new same = record {
-  line = ap (λ f. f.line) same;
-  line_bytes = ap (λ f. f.line_bytes) same;
-  mode = ap (λ f. f.mode) same;
-  open_token_line = ap (λ f. f.open_token_line) same;
-}
+same-scalars mid new same = grind arith
 
 -- what is found changes nothing else
 finds-scalars : {R : Type 0} (fill : Fill) (mid new : BufferView R) → Finds fill mid new → SameScalars mid new
-finds-scalars Held mid new f = record {
-  line = ap (λ f. f.line) f.becomes;
-  line_bytes = ap (λ f. f.line_bytes) f.becomes;
-  mode = ap (λ f. f.mode) f.becomes;
-  open_token_line = ap (λ f. f.open_token_line) f.becomes;
-}
+finds-scalars Held mid new f = grind arith
 finds-scalars End mid new f = same-scalars mid new f.0
 finds-scalars SourceLong mid new f = same-scalars mid new f.0
 finds-scalars LineLong mid new f = absurd f
@@ -554,10 +457,9 @@ finds-scalars Failed mid new f = absurd f
 -- what is found leaves the window and the place in it
 finds-window : {R : Type 0} (fill : Fill) (mid new : BufferView R) → Finds fill mid new → (new.window ≡ mid.window) × (new.at ≡ mid.at)
 finds-window Held mid new f = (ap (λ f. f.window) f.becomes, ap (λ f. f.at) f.becomes)
-finds-window End mid new f = (ap (λ f. f.window) f.0, ap (λ f. f.at) f.0)
-finds-window SourceLong mid new f = (ap (λ f. f.window) f.0, ap (λ f. f.at) f.0)
 finds-window LineLong mid new f = absurd f
 finds-window Failed mid new f = absurd f
+finds-window _ mid new f = (ap (λ f. f.window) f.0, ap (λ f. f.at) f.0)
 
 -- so the window slid
 finds-slides : {R : Type 0} (has_known_texts : Type 0) (unread : R → List ℕ) (fill : Fill) (mid new : BufferView R) → Finds fill mid new → Slides has_known_texts (IsExact fill) unread mid new
@@ -565,14 +467,11 @@ finds-slides has_known_texts unread Held mid new f =
     slides-kept has_known_texts (IsExact Held) unread mid new (ap (λ f. f.window) f.becomes) (ap (λ f. f.at) f.becomes) (λ e t. ap (unread_of unread) (sym (ap (λ f. f.reader) f.becomes)))
 finds-slides has_known_texts unread End mid new f = subst (Slides has_known_texts (IsExact End) unread mid) (sym f.0) (slides-same has_known_texts (IsExact End) unread mid)
 finds-slides has_known_texts unread SourceLong mid new f = subst (Slides has_known_texts (IsExact SourceLong) unread mid) (sym f.0) (slides-same has_known_texts (IsExact SourceLong) unread mid)
-finds-slides has_known_texts unread LineLong mid new f = absurd f
-finds-slides has_known_texts unread Failed mid new f = absurd f
+finds-slides has_known_texts unread _ mid new f = absurd f
 
 -- what stops a reading leaves the window, and a read that failed leaves what is unread
 stops-slides : {R : Type 0} (told : Type 0) (unread : R → List ℕ) (fill : Fill) (mid new : BufferView R) → Stops told unread fill mid new → Slides told (IsExact fill) unread mid new
-stops-slides told unread fill mid new stops =
-    slides-kept told (IsExact fill) unread mid new (ap (λ f. f.window) stops.becomes) (ap (λ f. f.at) stops.becomes)
-    (λ e t. elim stops.kind [ inl failed ↦ sym (stops.failed failed t) | inr long ↦ absurd (e long) ])
+stops-slides told unread fill mid new stops = grind (arith, slides-kept)
 
 -- the search came to an end in the window
 pub found-grows : {R : Type 0} (has_known_texts : Type 0) (unread : R → List ℕ) (fill : Fill) (old mid new : BufferView R) → old.at ≡ 0 → Seeks has_known_texts unread old mid → EndsHeld mid → IsBuffer mid →
@@ -625,11 +524,9 @@ failed-grows has_known_texts told unread old mid new seeks tell none stops = (
 -- what stopped a reading
 stops-by : {R : Type 0} (has_known_texts told : Type 0) (unread : R → List ℕ) (fill : Fill) (old mid new : BufferView R) → old.at ≡ 0 → Seeks has_known_texts unread old mid → (has_known_texts → told) →
     whole_lines_len (ahead_of mid) ≡ 0 → Stops told unread fill mid new → GrowsBy has_known_texts unread fill old new
-stops-by has_known_texts told unread Held old mid new at seeks tell none stops = absurd (elim stops.kind [ inl e ↦ cc | inr e ↦ cc ])
-stops-by has_known_texts told unread End old mid new at seeks tell none stops = absurd (elim stops.kind [ inl e ↦ cc | inr e ↦ cc ])
-stops-by has_known_texts told unread SourceLong old mid new at seeks tell none stops = absurd (elim stops.kind [ inl e ↦ cc | inr e ↦ cc ])
 stops-by has_known_texts told unread LineLong old mid new at seeks tell none stops = line-grows has_known_texts told unread old mid new at seeks tell none stops
 stops-by has_known_texts told unread Failed old mid new at seeks tell none stops = failed-grows has_known_texts told unread old mid new seeks tell none stops
+stops-by has_known_texts told unread _ old mid new at seeks tell none stops = absurd (elim stops.kind [ inl e ↦ cc | inr e ↦ cc ])
 
 -- reading came to an end
 pub stops-grows : {R : Type 0} (has_known_texts told : Type 0) (unread : R → List ℕ) (fill : Fill) (old mid new : BufferView R) → old.at ≡ 0 → Seeks has_known_texts unread old mid → (has_known_texts → told) →
@@ -652,10 +549,9 @@ finds-ends Held mid new at ends f = elim f.lines.ends [
   | inl whole ↦ inl (subst IsWholeLines (sym (accepts-held mid new at f)) (IsWholeLines-append (held_of mid) (take f.len (ahead_of mid)) (accepts-before mid new ends f) whole))
   | inr last ↦ inr (ap (λ f. f.reader) f.becomes ∙ none-reader mid.reader last.0, accepts-ahead mid new f ∙ drop_all f.len (ahead_of mid) (omega (arith, last.1)))
 ]
-finds-ends End mid new at ends f = subst EndsHeld (sym f.0) ends
-finds-ends SourceLong mid new at ends f = subst EndsHeld (sym f.0) ends
 finds-ends LineLong mid new at ends f = absurd f
 finds-ends Failed mid new at ends f = absurd f
+finds-ends _ mid new at ends f = subst EndsHeld (sym f.0) ends
 
 -- the same where reading came to an end
 pub stops-ends : {R : Type 0} (told : Type 0) (unread : R → List ℕ) (fill : Fill) (mid new : BufferView R) → IsSome mid.reader → EndsHeld mid → Stops told unread fill mid new → EndsHeld new

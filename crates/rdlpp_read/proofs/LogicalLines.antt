@@ -1,5 +1,5 @@
 -- Logical lines that are taken in over several lines, and what a `line` is given.
-use Rattle.std.proofs.Common.{◌≡◌, ℕ, ◌+◌, ◌-◌, ◌≤◌, ◌<◌, false, List, [], ◌∷◌, ◌++◌, length, take, drop, None, Some, refl, sym, ap, subst, ◌∙◌, arith, inl, inr, ◌≢◌, suc, Bool, true, ◌&&◌, ◌||◌, get_or, ◌⊎◌, ◌*◌, eqb, leb, Option, option_map, unwrap_or, Err, IfOk, IsOk, Ok, Result, bytes_eq, fold, if◌then◌else◌, IsUtf8, drop_of_length-le, drop-cons, take-suc, eqb-true, le-leb, ne_eqb, append-nil, append_assoc, drop-drop, length-append, length-drop, length-take-le, take-append-drop}
+use Rattle.std.proofs.Common.{◌≡◌, ℕ, ◌+◌, ◌-◌, ◌≤◌, ◌<◌, false, List, [], ◌∷◌, ◌++◌, length, take, drop, None, Some, refl, sym, ap, subst, ◌∙◌, arith, inl, inr, ◌≢◌, suc, Bool, true, ◌&&◌, ◌||◌, get_or, ◌⊎◌, ◌*◌, eqb, leb, Option, option_map, unwrap_or, Err, IfOk, IsOk, Ok, Result, bytes_eq, fold, if◌then◌else◌, IsUtf8, drop_of_length-le, drop-cons, take-suc, eqb-true, le-leb, append-nil, append_assoc, drop-drop, length-append, length-drop, length-take-le, take-append-drop}
 use Rattle.std.specs.List.{prefix_len}
 use Rattle.std.specs.Result.{result_ok}
 use Rattle.std.specs.Str.{is_utf8}
@@ -18,7 +18,7 @@ use Rattle.rdlpp_scan.specs.declared.token.Mode.TheVariants.{Plain}
 use Rattle.rdlpp_scan.proofs.TokenSteps.{HoldsDefine-more, logical_len-after_lines, logical_len-within}
 use Rattle.rdlpp_scan.proofs.SourceLaws.{line_len-ended}
 use Rattle.rdlpp_scan.proofs.RemainingLaws.{remaining-end, remaining-logical, remaining-logical_full, remaining-logical_last, remaining-logical_source, remaining-opened}
-use Rattle.rdlpp_meaning.specs.Meaning.{Renumbered, digits_value, is_level, past_blank_bytes, quote_place, renumbered, renumbered_name}
+use Rattle.rdlpp_meaning.specs.Meaning.{digits_value, is_level, past_blank_bytes, quote_place, renumbered, renumbered_name}
 use Rattle.rdlpp_meaning.specs.Parts.{only_blanks}
 use Rattle.rdlpp_meaning.proofs.LiveText.{only_blanks-append}
 use Rattle.rdlpp_source.specs.declared.sources.Sources.{Ghosts}
@@ -39,18 +39,7 @@ use Rattle.rdlpp_read.proofs.Growing.{calls-on, held-le}
 -- before the first line is taken in
 pub continues-starts : {S R : Type 0} (g : Ghosts S R) (sources : S) (f : BufferView R) → EndsHeld f → Continues g sources sources f f 0
 unfolding whole_lines_len logical_len
-continues-starts g sources f ends = record {
-  extends = record { line = refl; line_bytes = refl; mode = refl; open_token_line = refl; unused = refl; more = []; held = sym (append-nil (held_of f)) };
-  slides = slides-same (g.has_known_texts sources) Unit g.unread f;
-  tokens = λ t. refl;
-  text = λ t. refl;
-  define = λ t h. h;
-  place = omega arith;
-  whole = refl;
-  none = refl;
-  ends = ends;
-  call = record { failures = refl; refusals = refl; has_known_texts = λ t. t; catalog = refl };
-}
+continues-starts g sources f ends = grind (arith, append-nil, slides-same)
 
 -- the search goes on behind the first bytes, which are whole lines
 logical-from : (h : List ℕ) (seen : ℕ) → seen ≤ length h → IsWholeLines (take seen h) → logical_len 0 0 (take seen h) ≡ None →
@@ -97,9 +86,7 @@ define-last : {R : Type 0} (unread : R → List ℕ) (f : BufferView R) → f.mo
     rest_of unread f ≡ [] → length (held_of f) ≤ f.line_bytes →
     tokens_left unread f ≡ record { sort = Definition; bytes = take (length (held_of f)) (held_of f); line = f.line } ∷ tokens_left unread (consumed f (length (held_of f)))
 unfolding tokens_left remaining_tokens held_of line_ends rest_of ahead_of
-define-last unread f plain holds none ended short =
-    let law = remaining-logical_last f.line_bytes f.open_token_line f.line (held_of f) f.bytes_left (rw ended at holds) none short in
-    rw (consumed-tokens unread f (length (held_of f)) plain, plain, ended, take-length, drop-length, remaining-end) law
+define-last unread f plain holds none ended short = grind (arith, remaining-logical_last, consumed-tokens, take-length, drop-length, remaining-end)
 
 -- no more is held than a line may have
 held-short : {R : Type 0} (f : BufferView R) → IsBuffer f → length (held_of f) ≤ f.line_bytes
@@ -114,31 +101,11 @@ slides-following g first now fill answer old mid new seen c exact grows =
 -- the logical line was found
 pub found-line : {S R : Type 0} (g : Ghosts S R) (first now : S) (old mid : BufferView R) (seen len : ℕ) → Continues g first now old mid seen → IsBuffer mid →
     logical_len 0 0 (take (length (held_of mid) - seen) (drop seen (held_of mid))) ≡ Some len → HoldsLine (g.has_known_texts first) g.unread (Whole (seen + len)) old mid
-found-line g first now old mid seen len c sound some =
-    let found = found-at (held_of mid) seen len c.place c.whole c.none some in
-    let within = logical_len-within 0 0 (held_of mid) (seen + len) found in
-    let line = c.extends.line in
-    record {
-      extends = c.extends;
-      has = (within.1, inl found, c.tokens);
-      slides = slides-on (g.has_known_texts first) (g.has_known_texts first) (g.has_known_texts first) (IsExactLine (Whole (seen + len))) Unit g.unread old mid mid (λ t. t) (λ t. t) (λ e. tt) c.slides (slides-same (g.has_known_texts first) Unit g.unread mid);
-      text = λ other t. c.text t;
-      define = λ t plain holds. sym (c.tokens t)
-          ∙ (define-whole g.unread mid (seen + len) (c.extends.mode ∙ plain) (c.define t holds) found (held-short mid sound)
-          ∙ ap (λ l. record { sort = Definition; bytes = take (seen + len) (held_of mid); line = l } ∷ tokens_left g.unread (consumed mid (seen + len))) line);
-    }
+found-line g first now old mid seen len c sound some = grind (arith, found-at, logical_len-within, slides-on, slides-same, define-whole, held-short)
 
 -- nothing came
 extends-stays : {R : Type 0} (has_known_texts : Type 0) (unread : R → List ℕ) (fill : Fill) (old mid new : BufferView R) → Extends old mid → Grows has_known_texts unread fill mid new → Stays mid new → Extends old new
-extends-stays has_known_texts unread fill old mid new e grows stays = record {
-  line = grows.line ∙ e.line;
-  line_bytes = grows.line_bytes ∙ e.line_bytes;
-  mode = grows.mode ∙ e.mode;
-  open_token_line = grows.open_token_line ∙ e.open_token_line;
-  unused = grows.unused ∙ e.unused;
-  more = e.more;
-  held = stays.held ∙ e.held;
-}
+extends-stays has_known_texts unread fill old mid new e grows stays = grind arith
 
 -- the tokens stay where nothing came and nothing was lost
 stays-tokens : {S R : Type 0} (g : Ghosts S R) (first now : S) (fill : Fill) (old mid new : BufferView R) (seen : ℕ) → Continues g first now old mid seen → Grows (g.has_known_texts now) g.unread fill mid new → Stays mid new →
@@ -242,13 +209,7 @@ continues-on g first now after old mid new seen len c none all ends grows call =
 
 -- more is held
 pub fewer-lines : {R : Type 0} (has_known_texts : Type 0) (unread : R → List ℕ) (mid new : BufferView R) → Grows has_known_texts unread Held mid new → new.line_bytes - length (held_of new) < mid.line_bytes - length (held_of mid)
-fewer-lines has_known_texts unread mid new grows =
-    let l = grows.by in
-    let size : length (held_of new) ≡ length (held_of mid) + length l.lines = ap length l.held ∙ length-append (held_of mid) l.lines in
-    let most = grows.line_bytes in
-    let short = l.short in
-    let some = l.some in
-    omega arith
+fewer-lines has_known_texts unread mid new grows = grind (arith, length-append)
 
 -- Whether only blanks stand behind bytes, by their last one.
 
@@ -290,9 +251,7 @@ blanks_blank first at bs some within ne e = blanks_last first at bs some within 
 pub level_other : (bytes : List ℕ) → (get_or bytes 0 0 < 48) ⊎ (50 < get_or bytes 0 0) → is_level bytes ≡ false
 unfolding is_level
 level_other bytes (inl low) = rw (lt-leb 48 (get_or bytes 0 0) low) refl
-level_other bytes (inr high) =
-    let n = get_or bytes 0 0 in
-    rw (le-leb 48 n (omega arith), lt-leb n 50 high) refl
+level_other bytes (inr high) = grind (arith, le-leb, lt-leb)
 
 -- no text is no level
 pub level_none : (bytes : List ℕ) → eqb (length bytes) 0 ≡ true → is_level bytes ≡ false
@@ -303,9 +262,7 @@ level_none (b ∷ bs) none = let zero_is : length (b ∷ bs) ≡ 0 = eqb-true (l
 pub level_digit : (bytes : List ℕ) → 48 ≤ get_or bytes 0 0 → get_or bytes 0 0 ≤ 50
     → is_level bytes ≡ (eqb (length (past_blank_bytes (drop 1 bytes))) 0 || bytes_eq (past_blank_bytes (drop 1 bytes)) (10 ∷ []))
 unfolding is_level
-level_digit bytes low high =
-    let n = get_or bytes 0 0 in
-    rw (le-leb 48 n low, le-leb n 50 high) refl
+level_digit bytes low high = grind (arith, le-leb)
 
 -- a number with one more digit
 abbrev pub with_digit : ℕ → ℕ → ℕ
@@ -375,21 +332,12 @@ quote_at_taken taken place bytes more is =
 -- at the closing quote
 pub quote_at : (taken : Bool) (place : ℕ) (bytes : List ℕ) → place < length bytes → taken ≡ false → get_or bytes place 0 ≡ 34
     → moved place (quote_place taken (drop place bytes)) ≡ Some place
-quote_at taken place bytes more is quote =
-    ap (λ (t : Bool). moved place (quote_place t (drop place bytes))) is
-    ∙ ap (λ (x : List ℕ). moved place (quote_place false x)) (drop-cons bytes place 0 more)
-    ∙ quote_here place (get_or bytes place 0) (drop (suc place) bytes) quote
+quote_at taken place bytes more is quote = grind (arith, drop-cons, quote_here)
 
 -- at another byte
 pub quote_at_other : (taken : Bool) (place : ℕ) (bytes : List ℕ) → place < length bytes → taken ≡ false → (get_or bytes place 0 ≡ 34 → ⊥)
     → moved place (quote_place taken (drop place bytes)) ≡ moved (place + 1) (quote_place (eqb (get_or bytes place 0) 92) (drop (place + 1) bytes))
-quote_at_other taken place bytes more is other =
-    let b = get_or bytes place 0 in
-    let one : suc place ≡ place + 1 = omega arith in
-    ap (λ (t : Bool). moved place (quote_place t (drop place bytes))) is
-    ∙ ap (λ (x : List ℕ). moved place (quote_place false x)) (drop-cons bytes place 0 more)
-    ∙ quote_later place b (drop (suc place) bytes) (ne_eqb b 34 other)
-    ∙ ap (λ (n : ℕ). moved n (quote_place (eqb b 92) (drop n bytes))) one
+quote_at_other taken place bytes more is other = grind (arith, drop-cons, quote_later)
 
 -- a text that doesn't begin with a quote gives no name
 pub unnamed : (number : ℕ) (bytes : List ℕ) → eqb (get_or bytes 0 0) 34 ≡ false → renumbered_name number bytes ≡ None
@@ -404,13 +352,7 @@ unnamed_none number (b ∷ bs) none = let zero_is : length (b ∷ bs) ≡ 0 = eq
 -- one whose string isn't closed gives none
 pub name_open : (number : ℕ) (bytes : List ℕ) → quote_place false (drop 1 bytes) ≡ None → renumbered_name number bytes ≡ None
 unfolding renumbered_name
-name_open number bytes open_is =
-    let P : Bool → Type 0 = λ t. (if t then elim (quote_place false (drop 1 bytes)) as (λ _. Option Renumbered) [
-      | None ↦ None
-      | Some n ↦ if leb 1 n && leb n 1024 && is_utf8 (take n (drop 1 bytes)) && is_level (past_blank_bytes (drop (n + 2) bytes))
-          then Some (record { number = number; name = take n (drop 1 bytes) }) else None
-    ] else None) ≡ None in
-    elim (eqb (get_or bytes 0 0) 34) as P [ true ↦ rw open_is refl | false ↦ refl ]
+name_open number bytes open_is = grind arith
 
 -- whether a name of so many bytes is one that a `line` may give
 abbrev pub may_name : ℕ → List ℕ → Bool
@@ -442,14 +384,11 @@ fails_second false c d b e = refl
 
 pub fails_third : (a b d : Bool) (c : Bool) → c ≡ false → (a && b && c && d) ≡ false
 fails_third true true d c e = rw e refl
-fails_third true false d c e = refl
-fails_third false b d c e = refl
+fails_third _ b d c e = refl
 
 pub fails_fourth : (a b c : Bool) (d : Bool) → d ≡ false → (a && b && c && d) ≡ false
 fails_fourth true true true d e = e
-fails_fourth true true false d e = refl
-fails_fourth true false c d e = refl
-fails_fourth false b c d e = refl
+fails_fourth _ b c d e = refl
 
 pub all_four : (a b c d : Bool) → a ≡ true → b ≡ true → c ≡ true → d ≡ true → (a && b && c && d) ≡ true
 all_four a b c d e f g h = rw (e, f, g, h) refl
@@ -489,15 +428,7 @@ name_no_text number n bytes q other =
 -- text of 1 to 1,024 bytes is, and a longer one isn't
 pub name_text : {E : Type 0} (n : ℕ) (bytes text : List ℕ) (name : Result (ArrayString 1024) E) → IsQuoted bytes n → text ≡ take n (drop 1 bytes) → IsUtf8 (take n (drop 1 bytes))
     → (IsOk name → length text ≤ 1024) × (length text ≤ 1024 → IsOk name) → IfOk name (λ t. t.bytes ≡ text) → IsShownName (result_ok name) bytes
-name_text n bytes text (Ok t) q is utf8 short same = λ number.
-    let size : length text ≡ n = ap length is ∙ length-take-le n (drop 1 bytes) q.inside in
-    let some = q.some in
-    let fits = short.0 refl in
-    let own : take n (drop 1 bytes) ≡ t.bytes = sym (same ∙ is) in
-    name_accepted number n bytes q.quote q.place
-    (all_four (leb 1 n) (leb n 1024) (is_utf8 (take n (drop 1 bytes))) (is_level (past_blank_bytes (drop (n + 2) bytes)))
-    (le-leb 1 n (omega arith)) (le-leb n 1024 (omega arith)) (is_utf8-from_IsUtf8 (take n (drop 1 bytes)) utf8) q.level)
-    ∙ ap (λ (x : List ℕ). Some (record { number = number; name = x })) own
+name_text n bytes text (Ok t) q is utf8 short same = grind (arith, length-take-le, name_accepted, all_four, le-leb, is_utf8-from_IsUtf8)
 name_text n bytes text (Err e) q is utf8 short same = λ number.
     let size : length text ≡ n = ap length is ∙ length-take-le n (drop 1 bytes) q.inside in
     let long : leb n 1024 ≡ false = elim (leb_tells n 1024) [ inl h ↦ absurd (let no : false ≡ true = short.1 (let most = h.1 in omega arith) in cc) | inr h ↦ h.0 ] in

@@ -12,13 +12,7 @@ use Rattle.rdlpp_read.proofs.arguments.line.given_line.Goals as goal
 numbered : (rest word : List ℕ) (n number : ℕ) → word ≡ past_blank_bytes rest → n ≡ prefix_len is_digit (past_blank_bytes rest)
     → (number ≡ digits_value (take n word)) × (0 < number) × (number ≤ 2147483647)
     → renumbered rest ≡ renumbered_name number (past_blank_bytes (drop n word))
-numbered rest word n number text len j =
-    let digits : take n word ≡ take (prefix_len is_digit (past_blank_bytes rest)) (past_blank_bytes rest) =
-    ap (λ (k : ℕ). take k word) len ∙ ap (take (prefix_len is_digit (past_blank_bytes rest))) text in
-    let following : drop n word ≡ drop (prefix_len is_digit (past_blank_bytes rest)) (past_blank_bytes rest) =
-    ap (λ (k : ℕ). drop k word) len ∙ ap (drop (prefix_len is_digit (past_blank_bytes rest))) text in
-    line_numbered rest number (j.0 ∙ ap digits_value digits) j.1 j.2
-    ∙ ap (λ (x : List ℕ). renumbered_name number (past_blank_bytes x)) (sym following)
+numbered rest word n number text len j = grind (arith, line_numbered)
 
 pub slice_bounds-past_blanks-end : goal.slice_bounds-past_blanks-end
 slice_bounds-past_blanks-end c =
