@@ -1,15 +1,15 @@
 -- What the bytes at the front of a text tell, and what remains of open sources for each kind of token there.
-use Rattle.std.proofs.Common.{◌≡◌, ◌≢◌, ℕ, suc, ◌-◌, ◌<◌, Bool, true, false, cond, ◌&&◌, ◌==◌, List, [], ◌∷◌, length, take, drop, slice_index, refl, sym, ap, ◌∙◌, arith, Option, Some, None, subst, ◌+◌, ◌≤◌, not, ◌++◌, append-nil, inl, inr, bytes_eq, codes, eqb-true, drop-drop, length-drop, length-take-le}
+use Rattle.std.proofs.Common.{◌≡◌, ◌≢◌, ℕ, suc, ◌-◌, ◌<◌, Bool, true, false, cond, List, [], ◌∷◌, length, take, drop, slice_index, refl, sym, ap, ◌∙◌, arith, Option, Some, None, subst, ◌+◌, ◌≤◌, not, ◌++◌, append-nil, inl, inr, bytes_eq, codes, eqb-true, drop-drop, length-drop, length-take-le}
 use Rattle.std.specs.List.{list_all, prefix_len}
 use Rattle.std.proofs.lemmas.Bool.{and_parts, cond_both, false≢true}
 use Rattle.std.proofs.lemmas.Slice.Eq.{bytes_eq-Decides}
-use Rattle.rdlpp_scan.specs.Bytes.{begins_block_comment, begins_line_comment, begins_perl, is_blank, is_closer, is_digit, is_letter, is_line_end, is_opener, is_word, takes_word}
+use Rattle.rdlpp_scan.specs.Bytes.{begins_block_comment, begins_line_comment, begins_perl, is_blank, is_digit, is_letter, is_line_end, is_word, takes_word}
 use Rattle.rdlpp_scan.specs.Front.{Breach}
 use Rattle.rdlpp_scan.specs.Names.{directive_named}
 use Rattle.rdlpp_scan.specs.Reserved.{is_reserved}
 use Rattle.rdlpp_scan.specs.Resumed.{opening}
 use Rattle.rdlpp_scan.specs.SourceTokens.{Broken, Ordinary, SourceToken, line_ends, remaining_tokens}
-use Rattle.rdlpp_scan.specs.Tokens.{first_place, plain_len, plain_token, stops_plain_text, string_token, token_of, whole}
+use Rattle.rdlpp_scan.specs.Tokens.{first_place, plain_len, plain_token, stops_plain_text, token_of, whole}
 use Rattle.rdlpp_scan.specs.declared.token.Directive.{Directive}
 use Rattle.rdlpp_scan.specs.declared.token.Directive.TheVariants.{Define, Else, Elsif, Endif, Ifdef, Ifndef, Include, Line, Undef}
 use Rattle.rdlpp_scan.specs.declared.token.Kind.{Kind}
@@ -23,8 +23,8 @@ use Rattle.rdlpp_scan.proofs.SourceLaws.{line_ends-cons}
 use Rattle.rdlpp_scan.proofs.StopKinds.{AtBack, AtBare, AtBlockComment, AtLineComment, AtPerl, AtPlain, AtString, Row, block_token-kind, string_token-kind, token_of-row}
 use Rattle.rdlpp_table.specs.Table.{macro_named}
 use Rattle.rdlpp_meaning.specs.Expansion.{bytes_of, is_copied, usage_token}
-use Rattle.rdlpp_meaning.specs.Meaning.{Passage, Progress, after_bytes, goes_on, leaves, refusal}
-use Rattle.rdlpp_meaning.specs.Opened.{Waiting, all_resumed, unwound}
+use Rattle.rdlpp_meaning.specs.Meaning.{Progress, after_bytes, goes_on, leaves, refusal}
+use Rattle.rdlpp_meaning.specs.Opened.{Waiting, all_resumed}
 use Rattle.rdlpp_meaning.specs.Outcome.{Report, fails}
 use Rattle.rdlpp_meaning.specs.Parts.{Command, directive_of, line_ends_of, only_blanks}
 use Rattle.rdlpp_meaning.specs.Resumed.{Live, Place, Skipped, resumed}
@@ -35,9 +35,9 @@ use Rattle.rdlpp_meaning.proofs.Directives.{all_resumed_after, all_resumed_fails
 use Rattle.rdlpp_meaning.proofs.LiveText.{resumed_bare, resumed_broken, resumed_broken_parts, resumed_copied, resumed_copied_parts, resumed_undefined}
 use Rattle.rdlpp_meaning.proofs.Outcomes.{after_bytes-nil, fails-goes_on}
 use Rattle.rdlpp_meaning.proofs.Skipping.{all_copied_skipped, resumed_skipped, resumed_skipped_broken, resumed_skipped_broken_parts, resumed_skipped_parts}
-use Rattle.rdlpp_read.specs.Arguments.{IsLead, Lacks, Leads, NoName, NoString}
+use Rattle.rdlpp_read.specs.Arguments.{IsLead, Lacks, Leads, NoString}
 use Rattle.rdlpp_read.specs.Buffer.{BufferView, ahead_of, entered_mode, held_of, rest_of, tokens_left}
-use Rattle.rdlpp_front.specs.SourceItems.{AtOrdinary, AtToken, HasName, IsDirective, IsGivenString, IsNameAfter, IsNamed, IsStringAfter, IsText, IsUsage, NameAfter, StringAfter, argument_name, is_text_kind, usage_name, word_of}
+use Rattle.rdlpp_front.specs.SourceItems.{AtOrdinary, AtToken, HasName, IsDirective, IsGivenString, IsNameAfter, IsNamed, IsStringAfter, IsText, IsUsage, StringAfter, argument_name, is_text_kind, usage_name, word_of}
 use Rattle.rdlpp_front.specs.Names.{IsWordBytes}
 use Rattle.rdlpp_front.specs.declared.item.Argument.{Argument}
 
@@ -47,11 +47,7 @@ use Rattle.rdlpp_front.specs.declared.item.Argument.{Argument}
 pub stops_at_front : (bs : List ℕ) → 0 < length bs → plain_len bs ≡ 0 → stops_plain_text bs ≡ true
 unfolding plain_len first_place
 stops_at_front [] some none = absurd (omega arith)
-stops_at_front (b ∷ bs) some none =
-    let P : Bool → Type 0 = λ t. cond t 0 (suc (first_place stops_plain_text bs)) ≡ 0 → t ≡ true in
-    let at_true : P true = λ e. refl in
-    let at_false : P false = λ e. absurd (omega arith) in
-    elim (stops_plain_text (b ∷ bs)) as P [ true ↦ at_true | false ↦ at_false ] none
+stops_at_front (b ∷ bs) some none = grind arith
 
 -- what begins where ordinary text stops, at no backquote, is `<%`, or a string or a comment
 text_by_row : (bs : List ℕ) (t : Token) → Row bs t → stops_plain_text bs ≡ true → slice_index bs 0 ≢ 96
@@ -68,11 +64,7 @@ text_by_row bs t (AtPlain h q) stop back other = absurd (let no : false ≡ true
 -- the rest of a string
 string_text : (bs : List ℕ) → ((token_of InStr bs).kind ≡ Perl → ⊥) → is_text_kind (token_of InStr bs).kind ≡ true
 unfolding token_of is_text_kind whole
-string_text bs other =
-    let P : Bool → Type 0 = λ t. ((cond t (whole Perl 2) (string_token 0 bs)).kind ≡ Perl → ⊥) → is_text_kind (cond t (whole Perl 2) (string_token 0 bs)).kind ≡ true in
-    let at_true : P true = λ h. absurd (h refl) in
-    let at_false : P false = λ h. ap is_text_kind (string_token-kind 0 bs) in
-    elim (begins_perl bs) as P [ true ↦ at_true | false ↦ at_false ] other
+string_text bs other = grind (arith, string_token-kind)
 
 -- the rest of a block comment
 comment_text : (bs : List ℕ) → is_text_kind (token_of InBlock bs).kind ≡ true
@@ -137,12 +129,7 @@ front_byte (x ∷ xs) b some e = ap (λ (y : ℕ). y ∷ xs) e
 -- a token at a backquote with a name is that backquote and its name
 pub back_text : (bs : List ℕ) → slice_index bs 0 ≡ 96 → (token_of Plain bs).kind ≡ Back
     → take (token_of Plain bs).len bs ≡ 96 ∷ take ((token_of Plain bs).len - 1) (drop 1 bs)
-back_text bs e h =
-    let n = prefix_len is_word (drop 1 bs) in
-    let first : take (token_of Plain bs).len bs ≡ take (suc n) (96 ∷ drop 1 bs) =
-    ap (λ (k : ℕ). take k bs) (back_len bs e h) ∙ ap (take (suc n)) (front_byte bs 96 (omega arith) e) in
-    let same : (token_of Plain bs).len - 1 ≡ n = omega (arith, back_len bs e h) in
-    first ∙ sym (ap (λ (k : ℕ). 96 ∷ take k (drop 1 bs)) same)
+back_text bs e h = grind (arith, back_len, front_byte)
 
 -- one of two tokens, by a test
 by_test : (t : Bool) (x y : Token) (G : Type 0) → (t ≡ true → x.kind ≡ Back → G) → (y.kind ≡ Back → G) → (cond t x y).kind ≡ Back → G
@@ -152,33 +139,14 @@ by_test false x y G first second h = second h
 -- a token with a backquote's name begins with the backquote
 pub back_front : (bs : List ℕ) → (token_of Plain bs).kind ≡ Back → slice_index bs 0 ≡ 96
 unfolding token_of plain_token whole
-back_front bs h =
-    let b = slice_index bs 0 in
-    let G : Type 0 = b ≡ 96 in
-    by_test (begins_perl bs) _ _ G (λ t e. absurd (cc))
-    (by_test (is_line_end b) _ _ G (λ t e. absurd (cc))
-    (by_test (is_blank b) _ _ G (λ t e. absurd (cc))
-    (by_test (begins_line_comment bs) _ _ G (λ t e. absurd (cc))
-    (by_test (begins_block_comment bs) _ _ G (λ t e. absurd (cc (block_token-kind 2 bs)))
-    (by_test (b == 34) _ _ G (λ t e. absurd (cc (string_token-kind 1 bs)))
-    (by_test (is_letter b) _ _ G (λ t e. absurd (cc))
-    (by_test (is_digit b) _ _ G (λ t e. absurd (cc))
-    (by_test (takes_word b && is_word (slice_index bs 1)) _ _ G (λ t e. absurd (cc))
-    (by_test (b == 96 && is_letter (slice_index bs 1)) _ _ G (λ t e. eqb-true b 96 (and_parts (b == 96) (is_letter (slice_index bs 1)) t).0)
-    (by_test (b == 96) _ _ G (λ t e. absurd (cc))
-    (by_test (is_opener b) _ _ G (λ t e. absurd (cc))
-    (by_test (is_closer b) _ _ G (λ t e. absurd (cc))
-    (by_test (b == 44) _ _ G (λ t e. absurd (cc)) (λ e. absurd (cc))))))))))))))) h
+back_front bs h = grind (arith, block_token-kind, string_token-kind, eqb-true, and_parts)
 
 -- What the word of a directive at the front of held bytes tells: which directive it is.
 
 -- where a text is a name, it is that of its directive, or else of one of the others
 named_or : (b : Bool) (name word : List ℕ) (own d : Directive) (others : Option Directive) → bytes_eq name word ≡ b → 96 ∷ word ≡ word_of own
     → (others ≡ Some d → 96 ∷ name ≡ word_of d) → cond b (Some own) others ≡ Some d → 96 ∷ name ≡ word_of d
-named_or true name word own d others e w rest h =
-    let same : name ≡ word = (bytes_eq-Decides name word).0 e in
-    let eq : own ≡ d = cc in
-    ap (λ (z : List ℕ). 96 ∷ z) same ∙ w ∙ ap word_of eq
+named_or true name word own d others e w rest h = grind (arith, bytes_eq-Decides)
 named_or false name word own d others e w rest h = rest h
 
 -- the name of a directive, behind a backquote, is its word
@@ -204,12 +172,8 @@ word_len d held some is =
 -- what stands behind the word of a directive is what it is given
 pub named_here : (own d : Directive) (held : List ℕ) (len : ℕ) (a : Option Argument) → own ≡ d → 0 < length held → IsDirective own held
     → len ≡ (token_of Plain held).len → IsNameAfter len held a → IsNamed d held a
-named_here own d held len None same some is whole h =
-    let word : IsDirective d held = subst (λ (x : Directive). IsDirective x held) same is in
-    record { word = word; none = subst (λ (n : ℕ). NoName (drop n held)) (whole ∙ word_len d held some word) h }
-named_here own d held len (Some a) same some is whole h =
-    let word : IsDirective d held = subst (λ (x : Directive). IsDirective x held) same is in
-    record { word = word; name = subst (λ (n : ℕ). NameAfter n held a.start a.stop) (whole ∙ word_len d held some word) h }
+named_here own d held len None same some is whole h = grind (arith, word_len)
+named_here own d held len (Some a) same some is whole h = grind (arith, word_len)
 
 -- the string that stands behind the word of an `include` is what it is given
 pub string_here : (own : Directive) (held : List ℕ) (len : ℕ) (a : Option Argument) → own ≡ Include → 0 < length held → IsDirective own held
@@ -228,36 +192,20 @@ string_here own held len (Some a) same some is whole h =
 pub text_inside : (mode : Mode) (held : List ℕ) (len : ℕ) (next : Mode) → 0 < length held → IsText mode held len next → (0 < len) × (len ≤ length held)
 unfolding plain_len
 text_inside mode held len next some (AtOrdinary plain following has whole) = (has, omega (arith, whole, first_place-le stops_plain_text held))
-text_inside mode held len next some (AtToken kind following whole) =
-    let part = token_of-part mode held some in
-    (omega (arith, whole, part.not_empty), omega (arith, whole, part.inside))
+text_inside mode held len next some (AtToken kind following whole) = grind (arith, token_of-part)
 
 -- a usage at the front of what is held
 pub usage_inside : (held : List ℕ) (len : ℕ) → 0 < length held → IsUsage held len → (0 < len) × (len ≤ length held)
-usage_inside held len some usage =
-    let part = token_of-part Plain held some in
-    (omega (arith, usage.whole, part.not_empty), omega (arith, usage.whole, part.inside))
+usage_inside held len some usage = grind (arith, token_of-part)
 
 -- a word has bytes
 word_some : (d : Directive) → 0 < length (word_of d)
 word_some Define = omega arith
-word_some Undef = omega arith
-word_some Ifdef = omega arith
-word_some Ifndef = omega arith
-word_some Elsif = omega arith
-word_some Else = omega arith
-word_some Endif = omega arith
-word_some Include = omega arith
-word_some Line = omega arith
+word_some _ = omega arith
 
 -- a directive with its name
 pub name_inside : (d : Directive) (held : List ℕ) (start stop : ℕ) → HasName d held start stop → (0 < start) × (start < stop) × (stop ≤ length held)
-name_inside d held start stop has =
-    let g = has.name.given in
-    let starts = has.name.starts in
-    let stops = has.name.stops in
-    let inside : length (word_of d) + has.name.to ≤ length held = omega (arith, g.inside, g.some, length-drop (length (word_of d)) held) in
-    (omega (arith, word_some d), omega (arith, g.some), omega arith)
+name_inside d held start stop has = grind (arith, length-drop, word_some)
 
 -- the name of a usage is a word
 pub usage_word : (held : List ℕ) (len : ℕ) → IsUsage held len → IsWordBytes (usage_name held len)
@@ -276,16 +224,7 @@ lead_word bytes n (Lacks other zero_is) = rw zero_is refl
 
 -- the name of a directive is a word
 pub name_word : (d : Directive) (held : List ℕ) (start stop : ℕ) → HasName d held start stop → IsWordBytes (argument_name held start stop)
-name_word d held start stop has =
-    let g = has.name.given in
-    let n = length (word_of d) in
-    let starts = has.name.starts in
-    let stops = has.name.stops in
-    let size : has.name.to - has.name.from ≡ stop - start = omega arith in
-    let at : drop has.name.from (drop n held) ≡ drop start held = drop-drop has.name.from n held ∙ ap (λ (i : ℕ). drop i held) (omega arith) in
-    let name : take (has.name.to - has.name.from) (drop has.name.from (drop n held)) ≡ argument_name held start stop =
-    ap (take (has.name.to - has.name.from)) at ∙ ap (λ (i : ℕ). take i (drop start held)) size in
-    subst IsWordBytes name (lead_word (drop has.name.from (drop n held)) (has.name.to - has.name.from) g.name)
+name_word d held start stop has = grind (arith, drop-drop, lead_word)
 
 -- Fronts where no text is copied.
 
@@ -346,27 +285,8 @@ part_without_ends (b ∷ bs) =
 -- a comment up to its line's end has no line ends
 pub comment_without_ends : (mode : Mode) (bs : List ℕ) → (token_of mode bs).kind ≡ LineComment → line_ends (take (token_of mode bs).len bs) ≡ 0
 unfolding token_of plain_token whole
-comment_without_ends Plain bs =
-    let b = slice_index bs 0 in
-    let c = slice_index bs 1 in
-    let P : Token → Type 0 = λ t. t.kind ≡ LineComment → line_ends (take t.len bs) ≡ 0 in
-    cond_both (begins_perl bs) _ _ P (λ _ e. absurd (cc)) (λ _.
-    cond_both (is_line_end b) _ _ P (λ _ e. absurd (cc)) (λ _.
-    cond_both (is_blank b) _ _ P (λ _ e. absurd (cc)) (λ _.
-    cond_both (begins_line_comment bs) _ _ P (λ _ e. part_without_ends bs) (λ _.
-    cond_both (begins_block_comment bs) _ _ P (λ _ e. absurd (cc (block_token-kind 2 bs))) (λ _.
-    cond_both (b == 34) _ _ P (λ _ e. absurd (cc (string_token-kind 1 bs))) (λ _.
-    cond_both (is_letter b) _ _ P (λ _ e. absurd (cc)) (λ _.
-    cond_both (is_digit b) _ _ P (λ _ e. absurd (cc)) (λ _.
-    cond_both (takes_word b && is_word c) _ _ P (λ _ e. absurd (cc)) (λ _.
-    cond_both (b == 96 && is_letter c) _ _ P (λ _ e. absurd (cc)) (λ _.
-    cond_both (b == 96) _ _ P (λ _ e. absurd (cc)) (λ _.
-    cond_both (is_opener b) _ _ P (λ _ e. absurd (cc)) (λ _.
-    cond_both (is_closer b) _ _ P (λ _ e. absurd (cc)) (λ _.
-    cond_both (b == 44) _ _ P (λ _ e. absurd (cc)) (λ _ e. absurd (cc)))))))))))))))
-comment_without_ends InStr bs =
-    let P : Token → Type 0 = λ t. t.kind ≡ LineComment → line_ends (take t.len bs) ≡ 0 in
-    cond_both (begins_perl bs) _ _ P (λ _ e. absurd (cc)) (λ _ e. absurd (cc (string_token-kind 0 bs)))
+comment_without_ends Plain bs = grind (arith, cond_both, part_without_ends, block_token-kind, string_token-kind)
+comment_without_ends InStr bs = grind (arith, cond_both, string_token-kind)
 comment_without_ends InBlock bs = λ e. absurd (cc (block_token-kind 0 bs))
 
 -- An open source where its next bytes are used: what is held, what stands behind it, and the tokens that remain.
@@ -389,18 +309,13 @@ held_entered b next = refl
 pub tokens_plain : {R : Type 0} (unread : R → List ℕ) (b : BufferView R) → b.mode ≡ Plain
     → tokens_left unread b ≡ remaining_tokens b.line_bytes Plain b.line b.line (held_of b) b.bytes_left (rest_of unread b)
 unfolding tokens_left
-tokens_plain unread b mode =
-    ap (λ (m : Mode). remaining_tokens b.line_bytes m b.open_token_line b.line (held_of b) b.bytes_left (rest_of unread b)) mode
-    ∙ remaining-opened b.line_bytes b.open_token_line b.line b.line (held_of b) b.bytes_left (rest_of unread b)
+tokens_plain unread b mode = grind (arith, remaining-opened)
 
 -- the tokens behind bytes that are used
 pub tokens_used : {R : Type 0} (unread : R → List ℕ) (b : BufferView R) (n l o : ℕ) → b.mode ≡ Plain
     → remaining_tokens b.line_bytes Plain o (b.line + l) (drop n (held_of b)) b.bytes_left (rest_of unread b) ≡ tokens_left unread (used_buffer b n l)
 unfolding rest_of ahead_of
-tokens_used unread b n l o mode =
-    remaining-opened b.line_bytes o (b.line + l) (b.line + l) (drop n (held_of b)) b.bytes_left (rest_of unread b)
-    ∙ ap (λ (held : List ℕ). remaining_tokens b.line_bytes Plain (b.line + l) (b.line + l) held b.bytes_left (rest_of unread b)) (sym (held_used b n l))
-    ∙ sym (tokens_plain unread (used_buffer b n l) mode)
+tokens_used unread b n l o mode = grind (arith, remaining-opened, held_used, tokens_plain)
 
 -- the tokens behind bytes that are used, in the mode that stands there
 pub tokens_entered : {R : Type 0} (unread : R → List ℕ) (b : BufferView R) (n l : ℕ) (next : Mode)
@@ -418,11 +333,7 @@ pub all_resumed_after_fails : (rules : Rules) (ws : List Waiting) (place : Place
     → resumed rules place first ts s ≡ after_bytes x (leaves (fails f) t)
     → all_resumed rules ws place first ts s ≡ after_bytes x (leaves (fails f) t)
 unfolding all_resumed
-all_resumed_after_fails rules ws place first ts s t x f e =
-    let next : State → Passage = λ after. unwound rules ws after in
-    ap (λ (p : Passage). goes_on p next) e
-    ∙ after_bytes-goes_on x (leaves (fails f) t) next
-    ∙ ap (λ (p : Passage). after_bytes x p) (fails-goes_on f t next)
+all_resumed_after_fails rules ws place first ts s t x f e = grind (arith, after_bytes-goes_on, fails-goes_on)
 
 -- a refusal in the innermost source ends the include stack with its fault
 pub all_resumed_refused : (rules : Rules) (ws : List Waiting) (place : Place) (first : Bool) (ts : List SourceToken) (s : State) (kind : FaultKind) (word : List ℕ) (c : Command)
@@ -437,36 +348,26 @@ module _ (rules : Rules) (ws : List Waiting) (os : List Progress) (first : Bool)
   pub all_resumed_copied : (ts more : List SourceToken) (s : State) → list_all is_copied ts ≡ true
       → all_resumed rules ws (Live os) first (ts ++ more) s
       ≡ after_bytes (bytes_of ts) (all_resumed rules ws (Live os) (only_blanks first (bytes_of ts)) more s)
-  all_resumed_copied ts more s e =
-      all_resumed_after rules ws (Live os) (Live os) first (only_blanks first (bytes_of ts)) (ts ++ more) more s s (bytes_of ts)
-      (resumed_copied rules os first ts more s e)
+  all_resumed_copied ts more s e = grind (arith, all_resumed_after, resumed_copied)
 
   -- a token that is copied may be written in two parts
   pub all_resumed_copied_parts : (k : Kind) (x y : List ℕ) (line : ℕ) (more : List SourceToken) (s : State)
       → is_copied (record { sort = Ordinary k; bytes = x ++ y; line = line }) ≡ true
       → all_resumed rules ws (Live os) first (record { sort = Ordinary k; bytes = x ++ y; line = line } ∷ more) s
       ≡ after_bytes x (all_resumed rules ws (Live os) (only_blanks first x) (record { sort = Ordinary k; bytes = y; line = line } ∷ more) s)
-  all_resumed_copied_parts k x y line more s e =
-      all_resumed_after rules ws (Live os) (Live os) first (only_blanks first x)
-      (record { sort = Ordinary k; bytes = x ++ y; line = line } ∷ more) (record { sort = Ordinary k; bytes = y; line = line } ∷ more) s s x
-      (resumed_copied_parts rules os first k x y line more s e)
+  all_resumed_copied_parts k x y line more s e = grind (arith, all_resumed_after, resumed_copied_parts)
 
   -- a broken token may be written in two parts
   pub all_resumed_broken_parts : (b : Breach) (x y : List ℕ) (line : ℕ) (more : List SourceToken) (s : State)
       → all_resumed rules ws (Live os) first (record { sort = Broken b; bytes = x ++ y; line = line } ∷ more) s
       ≡ after_bytes x (all_resumed rules ws (Live os) (only_blanks first x) (record { sort = Broken b; bytes = y; line = line } ∷ more) s)
-  all_resumed_broken_parts b x y line more s =
-      all_resumed_after rules ws (Live os) (Live os) first (only_blanks first x)
-      (record { sort = Broken b; bytes = x ++ y; line = line } ∷ more) (record { sort = Broken b; bytes = y; line = line } ∷ more) s s x
-      (resumed_broken_parts rules os first b x y line more s)
+  all_resumed_broken_parts b x y line more s = grind (arith, all_resumed_after, resumed_broken_parts)
 
   -- a broken token gives its bytes and its fault
   pub all_resumed_broken : (b : Breach) (bytes : List ℕ) (line : ℕ) (more : List SourceToken) (s : State)
       → all_resumed rules ws (Live os) first (record { sort = Broken b; bytes = bytes; line = line } ∷ more) s
       ≡ after_bytes bytes (leaves (fails (fault_at (breach_kind b) line [] s)) s)
-  all_resumed_broken b bytes line more s =
-      all_resumed_after_fails rules ws (Live os) first (record { sort = Broken b; bytes = bytes; line = line } ∷ more) s s bytes
-      (fault_at (breach_kind b) line [] s) (resumed_broken rules os first b bytes line more s)
+  all_resumed_broken b bytes line more s = grind (arith, all_resumed_after_fails, resumed_broken)
 
   -- a broken token without bytes gives its fault alone
   pub all_resumed_only_broken : (b : Breach) (line : ℕ) (more : List SourceToken) (s : State)
@@ -479,17 +380,13 @@ module _ (rules : Rules) (ws : List Waiting) (os : List Progress) (first : Bool)
   pub all_resumed_bare : (bytes : List ℕ) (line : ℕ) (more : List SourceToken) (s : State)
       → all_resumed rules ws (Live os) first (record { sort = Ordinary BareBackquote; bytes = bytes; line = line } ∷ more) s
       ≡ leaves (fails (fault_at LoneBackquote line [] s)) s
-  all_resumed_bare bytes line more s =
-      all_resumed_fails rules ws (Live os) first (record { sort = Ordinary BareBackquote; bytes = bytes; line = line } ∷ more) s s
-      (fault_at LoneBackquote line [] s) (resumed_bare rules os first bytes line more s)
+  all_resumed_bare bytes line more s = grind (arith, all_resumed_fails, resumed_bare)
 
   -- a usage of a name that isn't defined is a fault
   pub all_resumed_undefined : (name : List ℕ) (line : ℕ) (more : List SourceToken) (s : State)
       → is_reserved name ≡ false → macro_named s.macros name ≡ None
       → all_resumed rules ws (Live os) first (usage_token name line ∷ more) s ≡ leaves (fails (fault_at UndefinedMacro line name s)) s
-  all_resumed_undefined name line more s r e =
-      all_resumed_fails rules ws (Live os) first (usage_token name line ∷ more) s s (fault_at UndefinedMacro line name s)
-      (resumed_undefined rules os first name line more s r e)
+  all_resumed_undefined name line more s r e = grind (arith, all_resumed_fails, resumed_undefined)
 
 -- What a place among conditionals writes of text that is copied in live text: there its bytes, and in skipped text their LF bytes.
 
@@ -523,36 +420,12 @@ open_text k bytes line (inr is) = rw is refl
 
 -- live text is written as it is
 pub live_writes : (rules : Rules) (ws : List Waiting) (os : List Progress) (s : State) → Writes rules ws (Live os) (λ x. x) s
-live_writes rules ws os s = record {
-  nothing = refl;
-  copied = λ first ts more e. all_resumed_copied rules ws os first ts more s e;
-  parts = λ first k x y line more o. all_resumed_copied_parts rules ws os first k x y line more s (open_copied k (x ++ y) line o);
-  broken_parts = λ first b x y line more. all_resumed_broken_parts rules ws os first b x y line more s;
-  broken = λ first b bytes line more. all_resumed_broken rules ws os first b bytes line more s;
-}
+live_writes rules ws os s = grind (arith, all_resumed_copied, all_resumed_copied_parts, open_copied, all_resumed_broken_parts, all_resumed_broken)
 
 -- of skipped text the LF bytes are
 pub skipped_writes : (rules : Rules) (ws : List Waiting) (n : ℕ) (p : Progress) (os : List Progress) (s : State) → Writes rules ws (Skipped n p os) line_ends_of s
 unfolding line_ends_of
-skipped_writes rules ws n p os s =
-    let here = Skipped n p os in
-    record {
-      nothing = refl;
-      copied = λ first ts more e.
-          all_resumed_after rules ws here here first (only_blanks first (bytes_of ts)) (ts ++ more) more s s (line_ends_of (bytes_of ts))
-          (resumed_skipped rules n p os first ts more s (all_copied_skipped ts e));
-      parts = λ first k x y line more o.
-          all_resumed_after rules ws here here first (only_blanks first x)
-          (record { sort = Ordinary k; bytes = x ++ y; line = line } ∷ more) (record { sort = Ordinary k; bytes = y; line = line } ∷ more) s s (line_ends_of x)
-          (resumed_skipped_parts rules n p os first k x y line more s (open_text k (x ++ y) line o) (open_text k y line o));
-      broken_parts = λ first b x y line more.
-          all_resumed_after rules ws here here first (only_blanks first x)
-          (record { sort = Broken b; bytes = x ++ y; line = line } ∷ more) (record { sort = Broken b; bytes = y; line = line } ∷ more) s s (line_ends_of x)
-          (resumed_skipped_broken_parts rules n p os first b x y line more s);
-      broken = λ first b bytes line more.
-          all_resumed_after_fails rules ws here first (record { sort = Broken b; bytes = bytes; line = line } ∷ more) s s (line_ends_of bytes)
-          (fault_at (breach_kind b) line [] s) (resumed_skipped_broken rules n p os first b bytes line more s);
-    }
+skipped_writes rules ws n p os s = grind (arith, all_resumed_after, resumed_skipped, all_copied_skipped, resumed_skipped_parts, open_text, resumed_skipped_broken_parts, all_resumed_after_fails, resumed_skipped_broken)
 
 -- one token that is copied
 pub writes_one : (rules : Rules) (ws : List Waiting) (place : Place) (writes : List ℕ → List ℕ) (s : State) → Writes rules ws place writes s

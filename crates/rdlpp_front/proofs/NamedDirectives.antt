@@ -54,13 +54,7 @@ word_alone : (d : Directive) → has_own_token d ≡ false → IsWordToken d
 unfolding has_own_token directive_of directive_named
 word_alone Define e = absurd (cc)
 word_alone Line e = absurd (cc)
-word_alone Undef e = record { other = refl; also = refl; directive = λ line. refl }
-word_alone Ifdef e = record { other = refl; also = refl; directive = λ line. refl }
-word_alone Ifndef e = record { other = refl; also = refl; directive = λ line. refl }
-word_alone Elsif e = record { other = refl; also = refl; directive = λ line. refl }
-word_alone Else e = record { other = refl; also = refl; directive = λ line. refl }
-word_alone Endif e = record { other = refl; also = refl; directive = λ line. refl }
-word_alone Include e = record { other = refl; also = refl; directive = λ line. refl }
+word_alone _ e = record { other = refl; also = refl; directive = λ line. refl }
 
 -- the word of a directive begins it
 pub word_directive : (d : Directive) (line : ℕ) → has_own_token d ≡ false → directive_of (word_token d line) ≡ Some d
@@ -79,25 +73,12 @@ wants_word d e = cc
 pub word_line_ends : (d : Directive) → line_ends (word_of d) ≡ 0
 unfolding line_ends is_line_end
 word_line_ends Define = refl
-word_line_ends Undef = refl
-word_line_ends Ifdef = refl
-word_line_ends Ifndef = refl
-word_line_ends Elsif = refl
-word_line_ends Else = refl
-word_line_ends Endif = refl
-word_line_ends Include = refl
-word_line_ends Line = refl
+word_line_ends _ = refl
 
 -- the tokens at a directive whose word is a token
 pub word_tokens : {R : Type 0} (d : Directive) (unread : R → List ℕ) (b : BufferView R) → has_own_token d ≡ false
     → HoldsFront b → b.mode ≡ Plain → IsDirective d (held_of b) → tokens_left unread b ≡ word_token d b.line ∷ tokens_left unread (used_buffer b (length (word_of d)) 0)
-word_tokens d unread b word holds mode is =
-    let held = held_of b in
-    let len = (token_of Plain held).len in
-    let alone = word_alone d word in
-    back_tokens unread b holds mode is.kind (rw is.word alone.other) (rw is.word alone.also)
-    ∙ ap (λ (xs : List ℕ). record { sort = Ordinary Back; bytes = xs; line = b.line } ∷ tokens_left unread (used_buffer b len 0)) is.word
-    ∙ ap (λ (n : ℕ). word_token d b.line ∷ tokens_left unread (used_buffer b n 0)) (word_len d held holds.some is)
+word_tokens d unread b word holds mode is = grind (arith, word_alone, back_tokens, word_len)
 
 -- a token of such a kind isn't a name
 no_name_by : (sort : Sort) (bytes : List ℕ) (line : ℕ) (ts : List SourceToken) → (k : Kind) → (sort ≡ Ordinary k) ⊎ (is_ordinary (record { sort = sort; bytes = bytes; line = line }) ≡ false) → (k ≡ Name → ⊥)
@@ -135,11 +116,7 @@ pub record IsGiven (d : Directive) (ts : List SourceToken) (name text : List ℕ
 
 pub given_of : (d : Directive) (ts : List SourceToken) (name text : List ℕ) (following : List SourceToken) (used : ℕ)
     → argument_of d ts ≡ record { given = Some name; text = text; used = used } → drop used ts ≡ following → IsGiven d ts name text following
-given_of d ts name text following used e h = record {
-  given = ap (λ (a : Argument). a.given) e;
-  taken = ap (λ (a : Argument). a.text) e;
-  rest = ap (λ (a : Argument). drop a.used ts) e ∙ h;
-}
+given_of d ts name text following used e h = grind arith
 
 module _ (most l room : ℕ) (rest : List ℕ) where
   -- the tokens of what is held and behind it, on the line of the directive
@@ -150,13 +127,7 @@ module _ (most l room : ℕ) (rest : List ℕ) where
   lead_tokens : (z : List ℕ) (k : Kind) (n : ℕ) → EndsLine z rest → 0 < length z → (token_of Plain z).kind ≡ k → n ≡ (token_of Plain z).len
       → is_plain_kind k ≡ true → is_kept_kind k ≡ true → (token_of Plain z).next_mode ≡ Plain → line_ends (take (token_of Plain z).len z) ≡ 0
       → tokens_of z ≡ record { sort = Ordinary k; bytes = take n z; line = l } ∷ tokens_of (drop n z)
-  lead_tokens z k n ends some is len plain kept closed none =
-      let t = token_of Plain z in
-      let line : l + line_ends (take t.len z) ≡ l = omega (arith, none) in
-      remaining-closed most Plain l l z room rest some ends (ap is_kept_kind is ∙ kept) closed
-      ∙ ap (λ (m : ℕ). record { sort = Ordinary t.kind; bytes = take t.len z; line = l } ∷ remaining_tokens most Plain l m (drop t.len z) room rest) line
-      ∙ ap (λ (m : Kind). record { sort = Ordinary m; bytes = take t.len z; line = l } ∷ tokens_of (drop t.len z)) is
-      ∙ ap (λ (m : ℕ). record { sort = Ordinary k; bytes = take m z; line = l } ∷ tokens_of (drop m z)) (sym len)
+  lead_tokens z k n ends some is len plain kept closed none = grind (arith, remaining-closed)
 
   pub blank_lead : (z : List ℕ) (n : ℕ) → EndsLine z rest → 0 < length z → (token_of Plain z).kind ≡ Blank → n ≡ (token_of Plain z).len
       → tokens_of z ≡ blank_token (take n z) l ∷ tokens_of (drop n z)
@@ -213,9 +184,7 @@ module _ (most l room : ℕ) (rest : List ℕ) where
       takes_name d (tokens_of r) wants
       ∙ ap (past_blanks name_in_front) (blank_lead r bl ends some is len)
       ∙ ap (after_blanks blank) (lacks_name z (EndsLine-drop bl r rest ends) gone other)
-  after_missing d wants r bl ends none gone (Lacks lacks zero_is) other =
-      let at_zero : (0 < length r → (token_of Plain r).kind ≡ Name → ⊥) = subst (λ (m : ℕ). 0 < length (drop m r) → (token_of Plain (drop m r)).kind ≡ Name → ⊥) zero_is other in
-      takes_name d (tokens_of r) wants ∙ lacks_blank r ends none lacks ∙ lacks_name r ends none at_zero
+  after_missing d wants r bl ends none gone (Lacks lacks zero_is) other = grind (arith, takes_name, lacks_blank, lacks_name)
 
 -- a name has a byte
 pub lead_name : (bytes : List ℕ) (n : ℕ) → IsLead Name bytes n → 0 < n → (0 < length bytes) × ((token_of Plain bytes).kind ≡ Name) × (n ≡ (token_of Plain bytes).len)
@@ -301,12 +270,7 @@ begins_word d held _ _ (Bare bare is) = is
 
 -- the word of a directive lies in what is held
 pub word_within : (d : Directive) (held : List ℕ) → IsDirective d held → 0 < length held → (0 < length (word_of d)) × (length (word_of d) ≤ length held)
-word_within d held is some =
-    let whole = word_len d held some is in
-    let part = token_of-part Plain held some in
-    let inside = part.inside in
-    let positive = part.not_empty in
-    (omega arith, omega arith)
+word_within d held is some = grind (arith, word_len, token_of-part)
 
 -- and so does what it is given
 pub begins_within : (d : Directive) (held : List ℕ) (given : Option (List ℕ)) (len : ℕ) → Begins d held given len → 0 < length held → (0 < len) × (len ≤ length held)
@@ -336,9 +300,7 @@ module _ {R : Type 0} (d : Directive) (unread : R → List ℕ) (b : BufferView 
 
   -- the word in front
   at_word : has_own_token d ≡ false → IsDirective d (held_of b) → tokens_left unread b ≡ word_token d b.line ∷ tokens_at (length (word_of d))
-  at_word word is =
-      word_tokens d unread b word holds mode is
-      ∙ ap (λ (ts : List SourceToken). word_token d b.line ∷ ts) (sym (at_used (length (word_of d))))
+  at_word word is = grind (arith, word_tokens, at_used)
 
   -- a directive with what it takes, from a place behind its word up to another
   pub given_in_front_of : has_own_token d ≡ false → IsDirective d (held_of b) → (from to start stop : ℕ) → from < to → start ≡ length (word_of d) + from → stop ≡ length (word_of d) + to

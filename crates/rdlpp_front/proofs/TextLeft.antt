@@ -1,12 +1,11 @@
 -- What text, a usage, a `define`, a `line` and an end in front do to what remains.
-use Rattle.std.proofs.Common.{◌≡◌, ℕ, ◌+◌, ◌<◌, Bool, true, false, List, [], ◌∷◌, ◌++◌, length, take, drop, refl, sym, ap, ◌∙◌, subst, inl, arith, ◌-◌, None, suc, ◌≤◌, ◌==◌, not, cond, ◌&&◌, Option, Some, inr, ◌⊎◌, option_map, IfSome, bytes_eq, codes, append_assoc, length-append, length-drop, length-take-le, take-append-drop}
-use Rattle.std.specs.List.{AllByRecursion}
+use Rattle.std.proofs.Common.{◌≡◌, ℕ, ◌+◌, ◌<◌, Bool, true, false, List, [], ◌∷◌, ◌++◌, length, take, drop, refl, sym, ap, ◌∙◌, subst, inl, arith, None, suc, ◌≤◌, ◌==◌, not, cond, ◌&&◌, Option, Some, inr, ◌⊎◌, option_map, IfSome, bytes_eq, codes, append_assoc, length-append, length-drop, length-take-le, take-append-drop}
 use Rattle.std.proofs.Math.Seq.{take-length}
 use Rattle.std.proofs.lemmas.Bool.{false≢true}
 use Rattle.std.proofs.lemmas.List.{drop-take, drop_all}
 use Rattle.rdlpp_scan.specs.Bytes.{begins_perl, is_line_end}
 use Rattle.rdlpp_scan.specs.Defines.{HoldsDefine}
-use Rattle.rdlpp_scan.specs.Front.{Breach, DefineCut, DefineLong, PerlFound}
+use Rattle.rdlpp_scan.specs.Front.{Breach, PerlFound}
 use Rattle.rdlpp_scan.specs.Lines.{EndsLine, ended_line_len}
 use Rattle.rdlpp_scan.specs.Reserved.{is_reserved, reserved_names}
 use Rattle.rdlpp_scan.specs.Resumed.{line_with, onto_tokens, opening, with_part}
@@ -92,10 +91,7 @@ part_move rules ws place writes s w b held l ts (Copies k bytes line more open_ 
     ∙ w.parts b k held bytes l more open_
     ∙ ap (λ (o : Passage). after_bytes (writes held) o) (one l ∙ sym (one line))
     ∙ sym (ap (λ (us : List SourceToken). after_bytes (writes held) (all_resumed rules ws place first us s)) is)
-part_move rules ws place writes s w b held l ts (Breaks k bytes line is) =
-    ap (λ (us : List SourceToken). all_resumed rules ws place b (onto_tokens held l us) s) is
-    ∙ w.broken_parts b k held bytes line []
-    ∙ sym (ap (λ (us : List SourceToken). after_bytes (writes held) (all_resumed rules ws place (only_blanks b held) us s)) is)
+part_move rules ws place writes s w b held l ts (Breaks k bytes line is) = grind arith
 
 module _ (rules : Rules) (ws : List Waiting) (place : Place) (writes : List ℕ → List ℕ) (s : State) (written : Writes rules ws place writes s) (b : Bool) (most : ℕ) (m : Mode) (o l : ℕ) (held : List ℕ) (room : ℕ) (rest : List ℕ) (h : TextHeld m held rest) where
   -- what remains in a mode, from a line on where a token opened, behind so many bytes
@@ -143,24 +139,11 @@ module _ (rules : Rules) (ws : List Waiting) (place : Place) (writes : List ℕ 
   -- `<%` is a fault
   only_broken : (first : Bool) (line : ℕ)
       → all_resumed rules ws place first (record { sort = Broken PerlFound; bytes = []; line = line } ∷ []) s ≡ leaves (fails (fault_at (breach_kind PerlFound) line [] s)) s
-  only_broken first line =
-      let fault = leaves (fails (fault_at (breach_kind PerlFound) line [] s)) s in
-      written.broken first PerlFound [] line [] ∙ ap (λ (x : List ℕ). after_bytes x fault) written.nothing ∙ after_bytes-nil fault
+  only_broken first line = grind (arith, after_bytes-nil)
 
   -- a string that `<%` cuts
   move_cut : (token_of m held).kind ≡ Str → (token_of m held).next_mode ≡ InStr → (token_of m held).len < length held → begins_perl (drop (token_of m held).len held) ≡ true → Moves (token_of m held)
-  move_cut kind mode lt perl =
-      let t = token_of m held in
-      let w = take t.len held in
-      let z = drop t.len held in
-      let next = l + line_ends w in
-      let some : 0 < length z = omega (arith, length-drop t.len held) in
-      let following : remaining_tokens most t.next_mode (opening m o l) next z room rest ≡ record { sort = Broken PerlFound; bytes = []; line = next } ∷ [] =
-      ap (λ (n : Mode). remaining_tokens most n (opening m o l) next z room rest) mode ∙ remaining-perl_in_string most (opening m o l) next z room rest some perl in
-      ap (λ (ts : List SourceToken). all_resumed rules ws place b ts s) (remaining-cut_string most m o l held room rest h.some h.ends kind mode lt)
-      ∙ written.broken b PerlFound w next []
-      ∙ ap (λ (x : Passage). after_bytes (writes w) x)
-      (sym (ap (λ (ts : List SourceToken). all_resumed rules ws place (only_blanks b w) ts s) following ∙ only_broken (only_blanks b w) next))
+  move_cut kind mode lt perl = grind (arith, length-drop, remaining-perl_in_string, remaining-cut_string, only_broken)
 
   by_seam : (v : Token) → Seam held [] (token_of m held) v → Moves (token_of m held)
   by_seam v (Closed e closed) = move_closed closed
@@ -219,11 +202,7 @@ module _ {R : Type 0} (rules : Rules) (unread : R → List ℕ) (ws : List Waiti
       → let t = token_of b.mode (held_of b) in
       let w = take t.len (held_of b) in
       left_of first b ≡ after_bytes (writes w) (left_of (only_blanks first w) (used_buffer (entered_mode b t.next_mode) t.len (line_ends w)))
-  token_left first b text =
-      let t = token_of b.mode (held_of b) in
-      let w = take t.len (held_of b) in
-      token_here first b text
-      ∙ ap (λ (ts : List SourceToken). after_bytes (writes w) (all_resumed rules ws place (only_blanks first w) ts s)) (tokens_entered unread b t.len (line_ends w) t.next_mode)
+  token_left first b text = grind (arith, token_here, tokens_entered)
 
   -- what text that is copied comes to, by its length and the mode behind it
   abbrev Copied : Bool → BufferView R → ℕ → Mode → Type 0
@@ -232,15 +211,8 @@ module _ {R : Type 0} (rules : Rules) (unread : R → List ℕ) (ws : List Waiti
 
   -- text that is copied, in either form
   copied_left : (first : Bool) (b : BufferView R) (n : ℕ) (next : Mode) → HoldsFront b → IsText b.mode (held_of b) n next → Copied first b n next
-  copied_left first b n next holds (AtOrdinary plain following has whole) =
-      subst (λ (k : ℕ). Copied first b k next) (sym whole)
-      (subst (λ (m : Mode). Copied first b (plain_len (held_of b)) m) (sym following)
-      (ordinary_left first b plain (ends_line unread b holds.ends)))
-  copied_left first b n next holds (AtToken kind following whole) =
-      let t = token_of b.mode (held_of b) in
-      subst (λ (k : ℕ). Copied first b k next) (sym whole)
-      (subst (λ (m : Mode). Copied first b t.len m) (sym following)
-      (token_left first b (record { some = holds.some; ends = ends_line unread b holds.ends; kind = kind })))
+  copied_left first b n next holds (AtOrdinary plain following has whole) = grind (arith, ordinary_left, ends_line)
+  copied_left first b n next holds (AtToken kind following whole) = grind (arith, token_left, ends_line)
 
   -- text that is copied in live text is written as the place writes it
   written_left : (f : File R) (len lines : ℕ) (next : Mode)
@@ -249,10 +221,7 @@ module _ {R : Type 0} (rules : Rules) (unread : R → List ℕ) (ws : List Waiti
       ≡ after_bytes (writes (take len (held_of f.buffer)))
       (source_left rules unread ws place (consumed_file len lines (with_file_buffer (entered_mode f.buffer next) f)) s)
   unfolding source_left held_of entered_mode
-  written_left f len lines next holds text e =
-      let w = take len (held_of f.buffer) in
-      copied_left f.blanks f.buffer len next holds text
-      ∙ ap (λ (k : ℕ). after_bytes (writes w) (left_of (only_blanks f.blanks w) (used_buffer (entered_mode f.buffer next) len k))) (sym e)
+  written_left f len lines next holds text e = grind (arith, copied_left)
 
 -- text that is copied is written as it is
 pub text_left : {R : Type 0} (rules : Rules) (unread : R → List ℕ) (ws : List Waiting) (os : List Progress) (f : File R) (s : State) (len lines : ℕ) (next : Mode)
@@ -282,53 +251,27 @@ pub back_tokens : {R : Type 0} (unread : R → List ℕ) (b : BufferView R)
     → tokens_left unread b
     ≡ record { sort = Ordinary Back; bytes = take (token_of Plain (held_of b)).len (held_of b); line = b.line }
     ∷ tokens_left unread (used_buffer b (token_of Plain (held_of b)).len 0)
-back_tokens unread b holds mode kind other also =
-    let held = held_of b in
-    let rest = rest_of unread b in
-    let len = (token_of Plain held).len in
-    let line : b.line ≡ b.line + 0 = omega arith in
-    let following : remaining_tokens b.line_bytes Plain b.line b.line (drop len held) b.bytes_left rest ≡ tokens_left unread (used_buffer b len 0) =
-    ap (λ (k : ℕ). remaining_tokens b.line_bytes Plain b.line k (drop len held) b.bytes_left rest) line
-    ∙ tokens_used unread b len 0 b.line mode in
-    tokens_plain unread b mode
-    ∙ remaining-back b.line_bytes b.line b.line held b.bytes_left rest holds.some (ends_line unread b holds.ends)
-    kind other also
-    ∙ ap (λ (ts : List SourceToken). record { sort = Ordinary Back; bytes = take len held; line = b.line } ∷ ts) following
+back_tokens unread b holds mode kind other also = grind (arith, tokens_used, tokens_plain, remaining-back, ends_line)
 
 -- a name that isn't reserved isn't `define`
 not_define : (name : List ℕ) → is_reserved name ≡ false → bytes_eq name (codes "define") ≡ false
 unfolding is_reserved reserved_names
-not_define name e =
-    let h : AllByRecursion (λ word. bytes_eq name word ≡ false) reserved_names = none_of_words name reserved_names e in
-    h.0
+not_define name e = grind (arith, none_of_words)
 
 -- nor is it `line`
 not_line : (name : List ℕ) → is_reserved name ≡ false → bytes_eq name (codes "line") ≡ false
 unfolding is_reserved reserved_names
-not_line name e =
-    let h : AllByRecursion (λ word. bytes_eq name word ≡ false) reserved_names = none_of_words name reserved_names e in
-    h.1.1.1.1.1.1.1.1.0
+not_line name e = grind (arith, none_of_words)
 
 -- the text of a usage
 pub usage_text : (held : List ℕ) (len : ℕ) → IsUsage held len → take len held ≡ 96 ∷ usage_name held len
-usage_text held len usage =
-    subst (λ (k : ℕ). take k held ≡ 96 ∷ take (k - 1) (drop 1 held)) (sym usage.whole)
-    (back_text held (back_front held usage.kind) usage.kind)
+usage_text held len usage = grind (arith, back_text, back_front)
 
 -- the tokens at a usage
 usage_buffer : {R : Type 0} (unread : R → List ℕ) (b : BufferView R) (len : ℕ)
     → HoldsFront b → b.mode ≡ Plain → IsUsage (held_of b) len
     → tokens_left unread b ≡ usage_token (usage_name (held_of b) len) b.line ∷ tokens_left unread (used_buffer b len 0)
-usage_buffer unread b len holds mode usage =
-    let held = held_of b in
-    let k = (token_of Plain held).len in
-    let name = usage_name held len in
-    let text : take k held ≡ 96 ∷ name = ap (λ (i : ℕ). take i held) (sym usage.whole) ∙ usage_text held len usage in
-    let other : bytes_eq (take k held) (codes "`define") ≡ false = rw text (not_define name usage.free) in
-    let also : bytes_eq (take k held) (codes "`line") ≡ false = rw text (not_line name usage.free) in
-    back_tokens unread b holds mode usage.kind other also
-    ∙ ap (λ (xs : List ℕ). record { sort = Ordinary Back; bytes = xs; line = b.line } ∷ tokens_left unread (used_buffer b k 0)) text
-    ∙ ap (λ (i : ℕ). usage_token name b.line ∷ tokens_left unread (used_buffer b i 0)) (sym usage.whole)
+usage_buffer unread b len holds mode usage = grind (arith, usage_text, not_define, not_line, back_tokens)
 
 module _ {R : Type 0} (unread : R → List ℕ) (f : File R) (len : ℕ) where
   -- the tokens at a usage, and behind it
@@ -360,12 +303,7 @@ module _ {R : Type 0} (rules : Rules) (unread : R → List ℕ) (ws : List Waiti
 -- a `define` directive in front of a source is one in its held bytes
 pub holds_define : {R : Type 0} (unread : R → List ℕ) (f : File R)
     → HoldsFront f.buffer → IsDirective Define (held_of f.buffer) → HoldsDefine (held_of f.buffer) (rest_of unread f.buffer)
-holds_define unread f holds is = record {
-  some = holds.some;
-  ends = ends_line unread f.buffer holds.ends;
-  kind = is.kind;
-  word = rw is.word refl;
-}
+holds_define unread f holds is = grind (arith, ends_line)
 
 -- the same buffer, by what its line counts
 pub consumed_used : {R : Type 0} (b : BufferView R) (len lines : ℕ) → lines ≡ line_ends (take len (held_of b)) → consumed b len ≡ used_buffer b len lines
@@ -392,18 +330,14 @@ module _ {R : Type 0} (rules : Rules) (unread : R → List ℕ) (ws : List Waiti
       → HoldsDefine (held_of f.buffer) (rest_of unread f.buffer)
       → source_left rules unread ws (Live os) f s ≡ leaves (fails (fault_at LineTooLong f.buffer.line [] s)) s
   unfolding source_left breach_kind
-  define_long_left line t mode holds =
-      ap (λ (ts : List SourceToken). all_resumed rules ws (Live os) f.blanks ts s) (line.define t mode holds)
-      ∙ all_resumed_only_broken rules ws os f.blanks DefineLong f.buffer.line [] s
+  define_long_left line t mode holds = grind (arith, all_resumed_only_broken)
 
   -- a `define` that the limit of its source cuts is a fault
   pub define_cut_left : HoldsLine has_known_texts unread SourceLong f.buffer new → has_known_texts → f.buffer.mode ≡ Plain
       → HoldsDefine (held_of f.buffer) (rest_of unread f.buffer)
       → source_left rules unread ws (Live os) f s ≡ leaves (fails (fault_at SourceTooLong f.buffer.line [] s)) s
   unfolding source_left breach_kind
-  define_cut_left line t mode holds =
-      ap (λ (ts : List SourceToken). all_resumed rules ws (Live os) f.blanks ts s) (line.define t mode holds)
-      ∙ all_resumed_only_broken rules ws os f.blanks DefineCut f.buffer.line [] s
+  define_cut_left line t mode holds = grind (arith, all_resumed_only_broken)
 
 -- a logical line is that of its own bytes
 logical_len-take : (x y : ℕ) (bs : List ℕ) (n : ℕ) → logical_len x y bs ≡ Some n → logical_len x y (take n bs) ≡ Some n
@@ -457,28 +391,19 @@ record WholeRest (bytes : List ℕ) (len : ℕ) : Type 0 where
 
 -- by where it ends behind the word
 rest_by : (rest : List ℕ) (len n : ℕ) → 7 + n ≡ len → IsLine (take n rest) → WholeRest (codes "`define" ++ rest) len
-rest_by rest len n same line =
-    subst (λ (k : ℕ). WholeRest (codes "`define" ++ rest) k) same
-    (record { wide = omega arith; whole = subst IsLine (sym (define_rest rest n)) line })
+rest_by rest len n same line = grind (arith, define_rest)
 
 -- where it ends
 rest_ended : (rest : List ℕ) (len : ℕ) (o : Option ℕ) → logical_len 0 0 rest ≡ o → seven_more o ≡ Some len → WholeRest (codes "`define" ++ rest) len
 unfolding seven_more
 rest_ended rest len None e h = cc
-rest_ended rest len (Some n) e h =
-    let all : suc (suc (suc (suc (suc (suc (suc n)))))) ≡ len = cc in
-    let inside = (logical_len-within 0 0 rest n e).1 in
-    let size : n ≡ length (take n rest) = sym (length-take-le n rest inside) in
-    rest_by rest len n (omega arith)
-    (subst (λ (o : Option ℕ). IfSome o (λ k. k ≡ length (take n rest))) (sym (logical_len-take 0 0 rest n e)) size)
+rest_ended rest len (Some n) e h = grind (arith, logical_len-within, length-take-le, rest_by, logical_len-take)
 
 -- where the text ends first
 rest_open : (rest : List ℕ) (len : ℕ) (o : Option ℕ) → logical_len 0 0 rest ≡ o → seven_more o ≡ None → len ≡ length (codes "`define" ++ rest) → WholeRest (codes "`define" ++ rest) len
 unfolding seven_more
 rest_open rest len (Some n) e h size = cc
-rest_open rest len None e h size =
-    rest_by rest len (length rest) (omega (arith, size, length-append (codes "`define") rest))
-    (subst IsLine (sym (take-length rest)) (subst (λ (o : Option ℕ). IfSome o (λ k. k ≡ length rest)) (sym e) tt))
+rest_open rest len None e h size = grind (arith, rest_by, length-append, take-length)
 
 -- the logical line of a `define`, which may go on behind what was held of it
 whole_rest : {R : Type 0} (has_known_texts : Type 0) (unread : R → List ℕ) (held more : List ℕ) (new : BufferView R) (len : ℕ) → 0 < length held → IsDirective Define held
@@ -527,15 +452,7 @@ line_inside held some = (line_len-some held some, line_len-le held)
 -- the tokens at a `line`
 pub line_buffer : {R : Type 0} (unread : R → List ℕ) (b : BufferView R)
     → HoldsFront b → b.mode ≡ Plain → IsDirective Line (held_of b) → tokens_left unread b ≡ line_token (line_text (held_of b)) b.line ∷ tokens_left unread (used_buffer b (line_len (held_of b)) (line_ends (line_text (held_of b))))
-line_buffer unread b holds mode is =
-    let held = held_of b in
-    let n = line_len held in
-    let other : bytes_eq (take (token_of Plain held).len held) (codes "`define") ≡ false = rw is.word refl in
-    let also : bytes_eq (take (token_of Plain held).len held) (codes "`line") ≡ true = rw is.word refl in
-    tokens_plain unread b mode
-    ∙ remaining-line b.line_bytes b.line b.line held b.bytes_left (rest_of unread b) holds.some (ends_line unread b holds.ends)
-    is.kind other also
-    ∙ ap (λ (ts : List SourceToken). line_token (line_text held) b.line ∷ ts) (tokens_used unread b n (line_ends (line_text held)) b.line mode)
+line_buffer unread b holds mode is = grind (arith, tokens_plain, remaining-line, ends_line, tokens_used)
 
 -- a `line` comes to what its line gives
 pub line_moves : {R : Type 0} (rules : Rules) (unread : R → List ℕ) (ws : List Waiting) (place : Place) (f : File R) (s : State) → HoldsFront f.buffer → f.buffer.mode ≡ Plain → IsDirective Line (held_of f.buffer)
@@ -598,9 +515,7 @@ module _ {R : Type 0} (rules : Rules) (unread : R → List ℕ) (ws : List Waiti
   pub broken_left : (b : Breach) (line : ℕ) → tokens_left unread f.buffer ≡ breaks_alone b line
       → source_left rules unread ws (Live os) f s ≡ leaves (fails (fault_at (breach_kind b) line [] s)) s
   unfolding source_left
-  broken_left b line e =
-      ap (λ (ts : List SourceToken). all_resumed rules ws (Live os) f.blanks ts s) e
-      ∙ all_resumed_only_broken rules ws os f.blanks b line [] s
+  broken_left b line e = grind (arith, all_resumed_only_broken)
 
   -- the end of a text is told by its mode
   ended_by : (has_known_texts : Type 0) (new : BufferView R) (m : Mode) → Fills has_known_texts unread fill.End f.buffer new → has_known_texts → f.buffer.mode ≡ m
@@ -612,10 +527,7 @@ module _ {R : Type 0} (rules : Rules) (unread : R → List ℕ) (ws : List Waiti
       → source_left rules unread ws (Live (o ∷ os)) f s
       ≡ leaves (fails (record { kind = OpenConditional; name = s.name; line = o.line; word = [] })) s
   unfolding source_left unclosed
-  unclosed_left o has_known_texts new fills t mode =
-      ap (λ (ts : List SourceToken). all_resumed rules ws (Live (o ∷ os)) f.blanks ts s) (ended_by has_known_texts new Plain fills t mode)
-      ∙ all_resumed_fails rules ws (Live (o ∷ os)) f.blanks [] s s (record { kind = OpenConditional; name = s.name; line = o.line; word = [] })
-      (live_unclosed rules o os f.blanks s)
+  unclosed_left o has_known_texts new fills t mode = grind (arith, ended_by, all_resumed_fails, live_unclosed)
 
 -- where no token remains of the innermost source, the next goes on
 nothing_left : (rules : Rules) (ws : List Waiting) (first : Bool) (s : State) → all_resumed rules ws (Live []) first [] s ≡ unwound rules ws s
@@ -627,10 +539,7 @@ module _ {R : Type 0} (rules : Rules) (unread : R → List ℕ) (ws : List Waiti
   pub ended_left : (has_known_texts : Type 0) (new : BufferView R) → Fills has_known_texts unread fill.End f.buffer new → has_known_texts → f.buffer.mode ≡ Plain
       → source_left rules unread ws (Live []) f s ≡ unwound rules ws s
   unfolding source_left
-  ended_left has_known_texts new fills t mode =
-      ap (λ (ts : List SourceToken). all_resumed rules ws (Live []) f.blanks ts s)
-      (fills.tokens t ∙ ap (λ (n : Mode). ended_tokens n f.buffer.open_token_line) mode)
-      ∙ nothing_left rules ws f.blanks s
+  ended_left has_known_texts new fills t mode = grind (arith, nothing_left)
 
   -- with the same tokens the same remains
   pub same_left : (place : Place) (new : BufferView R) → tokens_left unread new ≡ tokens_left unread f.buffer
@@ -669,12 +578,4 @@ module _ {R : Type 0} (rules : Rules) (unread : R → List ℕ) (ws : List Waiti
   unfolding source_left breach_kind
   refused_left kind holds (AtPerl is) =
       broken_left rules unread ws os f s PerlFound f.buffer.line (perl_tokens unread f.buffer holds is)
-  refused_left kind holds (AtBare mode is) =
-      let b = f.buffer in
-      let held = held_of b in
-      let rest = rest_of unread b in
-      ap (λ (ts : List SourceToken). all_resumed rules ws (Live os) f.blanks ts s)
-      (tokens_plain unread b mode
-      ∙ remaining-bare b.line_bytes b.line b.line held b.bytes_left rest holds.some (ends_line unread b holds.ends)
-      is)
-      ∙ all_resumed_bare rules ws os f.blanks (take 1 held) b.line (remaining_tokens b.line_bytes Plain b.line b.line (drop 1 held) b.bytes_left rest) s
+  refused_left kind holds (AtBare mode is) = grind (arith, tokens_plain, remaining-bare, ends_line, all_resumed_bare)
