@@ -55,36 +55,18 @@ seen-rest stored d some = sym (ap (drop 1) (seen-last stored d some))
 
 -- the innermost, of so many
 pub innermost_seen : (stored : List StoredProgress) (n : ℕ) (o : StoredProgress) → n ≡ length stored → 0 < n → o ≡ get_or stored (n - 1) o → progress_of o ∷ drop 1 (seen_of stored) ≡ seen_of stored
-innermost_seen stored n o size some is =
-    let last : n - 1 ≡ length stored - 1 = ap (λ (k : ℕ). k - 1) size in
-    let own : o ≡ get_or stored (length stored - 1) o = is ∙ ap (λ (k : ℕ). get_or stored k o) last in
-    let seen = seen-last stored o (omega arith) in
-    ap (λ (x : List Progress). progress_of o ∷ drop 1 x) seen
-    ∙ ap (λ (p : StoredProgress). progress_of p ∷ seen_of (take (length stored - 1) stored)) own
-    ∙ sym seen
+innermost_seen stored n o size some is = grind (arith, seen-last)
 
 -- all but the innermost, of so many
 pub rest_seen : (stored after : List StoredProgress) (n : ℕ) → n ≡ length stored → 0 < n → after ≡ take (n - 1) stored → seen_of after ≡ drop 1 (seen_of stored)
 rest_seen [] after n size some is = absurd (omega arith)
-rest_seen (o ∷ os) after n size some is =
-    let last : n - 1 ≡ length (o ∷ os) - 1 = ap (λ (k : ℕ). k - 1) size in
-    ap seen_of (is ∙ ap (λ (k : ℕ). take k (o ∷ os)) last) ∙ seen-rest (o ∷ os) o (omega arith)
+rest_seen (o ∷ os) after n size some is = grind (arith, seen-rest)
 
 -- the innermost behind a branch
 pub turned_seen : (stored after : List StoredProgress) (n : ℕ) (o next : StoredProgress) (word : Directive) (holds : Bool) → n ≡ length stored → 0 < n → o ≡ get_or stored (n - 1) o
     → next ≡ record { line = o.line; taken = o.taken || holds; closing = is_else word } → after ≡ set stored (n - 1) next → seen_of after ≡ turned_open word holds (seen_of stored)
 unfolding turned_open
-turned_seen stored after n o next word holds size some is turns becomes =
-    let last : n - 1 ≡ length stored - 1 = ap (λ (k : ℕ). k - 1) size in
-    let rest = seen_of (take (length stored - 1) stored) in
-    let g = get_or stored (length stored - 1) o in
-    let own : o ≡ g = is ∙ ap (λ (k : ℕ). get_or stored k o) last in
-    let made : StoredProgress → List Progress = λ p. record { line = p.line; taken = p.taken || holds; closing = is_else word } ∷ rest in
-    ap seen_of (becomes ∙ ap (λ (k : ℕ). set stored k next) last)
-    ∙ seen-set stored next (omega arith)
-    ∙ ap (λ (p : StoredProgress). progress_of p ∷ rest) turns
-    ∙ ap made own
-    ∙ sym (ap (turned_open word holds) (seen-last stored o (omega arith)))
+turned_seen stored after n o next word holds size some is turns becomes = grind (arith, seen-set, seen-last)
 
 -- as many are seen as are counted
 pub count_seen : (stored : List StoredProgress) (open_now : List Progress) (n : ℕ) → seen_of stored ≡ open_now → n ≡ length stored → n ≡ length open_now
@@ -93,20 +75,13 @@ count_seen stored open_now n seen size = size ∙ sym (seen-length stored) ∙ a
 -- where none of the open conditionals is the innermost source's
 pub place_none : (P : Place → Type 0) (below : ℕ) (v : ConditionsView) → length v.open_now ≡ below → P (Live []) → P (place_of below v)
 unfolding place_of own_conditions place_by
-place_none P below v all p =
-    let none : length v.open_now - below ≡ 0 = omega arith in
-    subst P (sym (ap (λ (n : ℕ). place_by v.skipped (take n v.open_now)) none)) p
+place_none P below v all p = grind arith
 
 -- where some are
 pub place_some : (P : Place → Type 0) (below : ℕ) (v : ConditionsView) (o : Progress) (rest : List Progress) → o ∷ rest ≡ v.open_now → below < length v.open_now
     → ((os : List Progress) → P (place_by v.skipped (o ∷ os))) → P (place_of below v)
 unfolding place_of own_conditions
-place_some P below v o rest is more p =
-    let k = length v.open_now - below - 1 in
-    let size : length v.open_now - below ≡ suc k = omega arith in
-    let here : place_by v.skipped (take (length v.open_now - below) v.open_now) ≡ place_by v.skipped (o ∷ take k rest) =
-    ap (λ (n : ℕ). place_by v.skipped (take n v.open_now)) size ∙ ap (λ (x : List Progress). place_by v.skipped (take (suc k) x)) (sym is) in
-    subst P (sym here) (p (take k rest))
+place_some P below v o rest is more p = grind arith
 
 -- at some of them, whichever it is
 place_at : (P : Place → Type 0) (below : ℕ) (skipped : Option ℕ) (os : List Progress) → below < length os → ((p : Progress) (rest : List Progress) → P (place_by skipped (p ∷ rest)))
@@ -125,16 +100,14 @@ place_any P below v more p = place_at P below v.skipped v.open_now more p
 -- a branch of one that opened in skipped text
 pub branch_inner : (skipped : Option ℕ) (o : Progress) (os : List Progress) (word : Directive) → 0 < unwrap_or skipped 0 → IsBranch (place_by skipped (o ∷ os)) word Inner
 unfolding place_by
-branch_inner None o os word some = absurd (omega arith)
-branch_inner (Some zero) o os word some = absurd (omega arith)
 branch_inner (Some (suc n)) o os word some = refl
+branch_inner _ o os word some = absurd (omega arith)
 
 -- a branch of the innermost
 pub branch_own : (skipped : Option ℕ) (o : Progress) (os : List Progress) (word : Directive) (branch : Branch) → unwrap_or skipped 0 ≤ 0 → IsTurn o word branch → IsBranch (place_by skipped (o ∷ os)) word branch
 unfolding place_by
-branch_own None o os word branch none turns = turns
-branch_own (Some zero) o os word branch none turns = turns
 branch_own (Some (suc n)) o os word branch none turns = absurd (omega arith)
+branch_own _ o os word branch none turns = turns
 
 -- the end of one that opened in skipped text
 pub closes_inner : {A : Type 0} (skipped : Option ℕ) (o : Progress) (os : List Progress) (x : A) (inner : ℕ) (old new : ConditionsView) → inner ≡ unwrap_or skipped 0 → 0 < inner → new ≡ with_inner (inner - 1) old
@@ -142,17 +115,14 @@ pub closes_inner : {A : Type 0} (skipped : Option ℕ) (o : Progress) (os : List
 unfolding place_by
 closes_inner None o os x inner old new is some becomes = absurd (omega arith)
 closes_inner (Some zero) o os x inner old new is some becomes = absurd (omega arith)
-closes_inner (Some (suc n)) o os x inner old new is some becomes =
-    let one : inner - 1 ≡ n = omega arith in
-    (tt, becomes ∙ ap (λ (k : ℕ). with_inner k old) one)
+closes_inner (Some (suc n)) o os x inner old new is some becomes = grind arith
 
 -- the end of the innermost
 pub closes_own : {A : Type 0} (skipped : Option ℕ) (o : Progress) (os : List Progress) (x : A) (inner : ℕ) (old new : ConditionsView) → inner ≡ unwrap_or skipped 0 → inner ≤ 0 → new ≡ closed_one old
     → Closes {A = A} (place_by skipped (o ∷ os)) (Ok x) old new
 unfolding place_by
-closes_own None o os x inner old new is none becomes = (tt, becomes)
-closes_own (Some zero) o os x inner old new is none becomes = (tt, becomes)
 closes_own (Some (suc n)) o os x inner old new is none becomes = absurd (omega arith)
+closes_own _ o os x inner old new is none becomes = (tt, becomes)
 
 -- what is left open
 pub unclosed_some : (skipped : Option ℕ) (o : Progress) (os : List Progress) (line : ℕ) → line ≡ o.line → IsUnclosed (place_by skipped (o ∷ os)) (Some line)
@@ -183,17 +153,12 @@ turn_named o word closing other taken = (other, λ c s w. rw (closing, w, other,
 -- where no more may be opened
 pub opens_none : (v : ConditionsView) (holds : Bool) → length v.open_now ≡ v.limit → opening_within (conditions_left v) (Holds holds) ≡ TestFault TooManyConditionals []
 unfolding conditions_left opening_within
-opens_none v holds full =
-    let none : v.limit - length v.open_now ≡ 0 = omega arith in
-    ap (λ (n : ℕ). opening_within n (Holds holds)) none
+opens_none v holds full = grind arith
 
 -- where one more may
 pub opens_one : (v : ConditionsView) (holds : Bool) → length v.open_now < v.limit → opening_within (conditions_left v) (Holds holds) ≡ Holds holds
 unfolding conditions_left opening_within
-opens_one v holds room =
-    let k = v.limit - length v.open_now - 1 in
-    let some : v.limit - length v.open_now ≡ suc k = omega arith in
-    ap (λ (n : ℕ). opening_within n (Holds holds)) some
+opens_one v holds room = grind arith
 
 -- Steps through skipped text.
 
