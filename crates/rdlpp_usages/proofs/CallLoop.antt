@@ -62,9 +62,7 @@ after_rest unread f len next = refl
 less_unused : {R : Type 0} (f : BufferView R) (len : ℕ) (next : Mode) → len ≤ length (held_of f)
     → unused_of (used_buffer f len next) + length (take len (held_of f)) ≡ unused_of f
 unfolding unused_of entered_mode held_of
-less_unused f len next inside =
-    let size = length-take-le len (drop f.at (take f.accepted f.window)) inside in
-    omega (arith, size, length-drop f.at (take f.accepted f.window), length-take f.accepted f.window)
+less_unused f len next inside = grind (arith, length-take-le, length-drop, length-take)
 
 -- a window of which the first held bytes are used
 pub used_moves : {R : Type 0} (has_known_texts exact : Type 0) (unread : R → List ℕ) (f : BufferView R) (len : ℕ) (next : Mode) → len ≤ length (held_of f) → MovesOver has_known_texts exact unread (take len (held_of f)) f (used_buffer f len next)
@@ -128,17 +126,7 @@ pub fill_goes_on : {R : Type 0} (has_known_texts : Type 0) (unread : R → List 
     → unused_of new ≡ unused_of old → new.mode ≡ old.mode → (has_known_texts → tokens_left unread new ≡ tokens_left unread old)
     → GoesOn has_known_texts unread at at room [] [] old new
 unfolding reading
-fill_goes_on has_known_texts unread at room old new unused mode tokens =
-    record {
-      unused = omega (arith, unused);
-      fits = omega arith;
-      reads = λ t.
-          ap (λ ts. read at (is_open old.mode) room ts) (sym (tokens t))
-          ∙ ap (λ (m : Mode). read at (is_open m) room (tokens_left unread new)) (sym mode)
-          ∙ ap (λ n. read at (is_open new.mode) n (tokens_left unread new)) (let same : room ≡ room - 0 = omega arith in same)
-          ∙ sym (onto_kept-nil (read at (is_open new.mode) (room - 0) (tokens_left unread new)));
-      bytes = λ t. ap bytes_of (sym (tokens t));
-    }
+fill_goes_on has_known_texts unread at room old new unused mode tokens = grind (arith, onto_kept-nil)
 
 -- less room, twice
 less_room : (room a b c : ℕ) → c ≡ a + b → (room - a) - b ≡ room - c
@@ -148,32 +136,13 @@ less_room room a b c e = omega (arith, e)
 pub goes_on_twice : {R : Type 0} (has_known_texts : Type 0) (unread : R → List ℕ) (at to last : CallState) (room : ℕ) (k l u v : List ℕ) (f g h : BufferView R)
     → GoesOn has_known_texts unread at to room k u f g → GoesOn has_known_texts unread to last (room - length k) l v g h → GoesOn has_known_texts unread at last room (k ++ l) (u ++ v) f h
 unfolding reading
-goes_on_twice has_known_texts unread at to last room k l u v f g h a b =
-    let size : length (k ++ l) ≡ length k + length l = length-append k l in
-    record {
-      unused = omega (arith, a.unused, b.unused, length-append u v);
-      fits = omega (arith, a.fits, b.fits, size);
-      reads = λ t.
-          a.reads t ∙ ap (onto_kept k) (b.reads t)
-          ∙ sym (onto_kept-append k l (read last (is_open h.mode) ((room - length k) - length l) (tokens_left unread h)))
-          ∙ ap (λ n. onto_kept (k ++ l) (read last (is_open h.mode) n (tokens_left unread h))) (less_room room (length k) (length l) (length (k ++ l)) size);
-      bytes = λ t.
-          a.bytes t ∙ ap (λ z. u ++ z) (b.bytes t) ∙ sym (append_assoc u v (bytes_of (tokens_left unread h)));
-    }
+goes_on_twice has_known_texts unread at to last room k l u v f g h a b = grind (arith, length-append, onto_kept-append, less_room, append_assoc)
 
 -- reading went on, and then came to an answer
 pub tells_after : {R : Type 0} (has_known_texts : Type 0) (unread : R → List ℕ) (at to : CallState) (room : ℕ) (k l u v : List ℕ) (f g h : BufferView R) (result : CallRead)
     → GoesOn has_known_texts unread at to room k u f g → TellsCall has_known_texts unread to (room - length k) l v g h result → TellsCall has_known_texts unread at room (k ++ l) (u ++ v) f h result
 unfolding onto_kept
-tells_after has_known_texts unread at to room k l u v f g h Closed a b =
-    record {
-      unused = omega (arith, a.unused, b.unused, length-append u v);
-      fits = omega (arith, a.fits, b.fits, length-append k l);
-      plain = b.plain;
-      reads = λ t. a.reads t ∙ ap (onto_kept k) (b.reads t);
-      bytes = λ t.
-          a.bytes t ∙ ap (λ z. u ++ z) (b.bytes t) ∙ sym (append_assoc u v (bytes_of (tokens_left unread h)));
-    }
+tells_after has_known_texts unread at to room k l u v f g h Closed a b = grind (arith, length-append, append_assoc)
 tells_after has_known_texts unread at to room k l u v f g h (Refused kind) a b = λ t. a.reads t ∙ ap (onto_kept k) (b t)
 tells_after has_known_texts unread at to room k l u v f g h (BrokenCall kind line) a b = λ t. a.reads t ∙ ap (onto_kept k) (b t)
 tells_after has_known_texts unread at to room k l u v f g h Failed a b =
@@ -189,9 +158,8 @@ pub tells_told : {R : Type 0} (has_known_texts : Type 0) (unread : R → List �
     → TellsCall Unit unread at room k u f g result → TellsCall has_known_texts unread at room k u f g result
 tells_told has_known_texts unread at room k u f g Closed a =
     record { unused = a.unused; fits = a.fits; plain = a.plain; reads = λ t. a.reads tt; bytes = λ t. a.bytes tt }
-tells_told has_known_texts unread at room k u f g (Refused kind) a = λ t. a tt
-tells_told has_known_texts unread at room k u f g (BrokenCall kind line) a = λ t. a tt
 tells_told has_known_texts unread at room k u f g Failed a = record { to = a.to; goes_on = goes_on_told has_known_texts unread at a.to room k u f g a.goes_on }
+tells_told has_known_texts unread at room k u f g _ a = λ t. a tt
 
 -- bytes that were used, and bytes behind them
 pub used_twice : {R : Type 0} (f g : BufferView R) (x y : List ℕ) (include_stack : List (File R)) → with_used g y (with_used f x include_stack) ≡ with_used g (x ++ y) include_stack
@@ -227,10 +195,7 @@ used_is len lines next (s ∷ outer) e = rw e refl
 pub used_files : {R : Type 0} (len lines : ℕ) (next : Mode) (files mid new : FilesView R) → mid ≡ record files { include_stack = with_buffer (entered_mode (inner_buffer files.include_stack) next) files.include_stack }
     → new ≡ record mid { include_stack = with_inner (consumed_file len lines) mid.include_stack } → lines ≡ line_ends (take len (held_of (inner_buffer files.include_stack)))
     → new ≡ record files { include_stack = with_used (used_buffer (inner_buffer files.include_stack) len next) (take len (held_of (inner_buffer files.include_stack))) files.include_stack }
-used_files {R = R} len lines next files mid new entered used counted =
-    let F : FilesView R → FilesView R = λ m. record m { include_stack = with_inner (consumed_file len lines) m.include_stack } in
-    let G : List (File R) → FilesView R = λ n. record files { include_stack = n } in
-    used ∙ ap F entered ∙ ap G (used_is len lines next files.include_stack counted)
+used_files {R = R} len lines next files mid new entered used counted = grind (arith, used_is)
 
 -- The reading of a call as it goes on: what was read so far, and what each turn makes of it.
 
@@ -419,16 +384,7 @@ answered_unfilled g first now old mid new most store at result r only unused mov
 pub answered_failed : {S R : Type 0} (g : Ghosts S R) (first now : S) (old new : FilesView R) (most : ℕ) (store : StoreView) (at : CallState)
     → IsReading g true first now old new most store at
     → ReadsCall (g.has_known_texts first) g.unread Before most store.bytes Failed old.include_stack new.include_stack
-answered_failed g first now old new most store at r =
-    record {
-      used = r.used;
-      inner = r.inner;
-      unused = r.goes_on.unused;
-      moves = moves-told (g.has_known_texts first) (g.has_known_texts first) (IsExactCall Failed) Unit g.unread r.used (inner_buffer old.include_stack) (inner_buffer new.include_stack) (λ t. t) (λ _. tt) r.moves;
-      so_far = record { to = at; used = r.used; there = inner_buffer new.include_stack; goes_on = r.goes_on; whole = (let on = r.goes_on.unused in omega (arith, on)) };
-      text = λ exact t. r.text t;
-      answer = record { to = at; goes_on = r.goes_on };
-    }
+answered_failed g first now old new most store at r = grind (arith, moves-told)
 
 -- what an answer at the end of a text tells
 pub end_tells : {R : Type 0} (has_known_texts : Type 0) (unread : R → List ℕ) (at : CallState) (room : ℕ) (old new : BufferView R) (result : CallRead)
@@ -436,24 +392,18 @@ pub end_tells : {R : Type 0} (has_known_texts : Type 0) (unread : R → List ℕ
     → (has_known_texts → tokens_left unread old ≡ ended_tokens old.mode old.open_token_line)
     → TellsCall has_known_texts unread at room [] [] old new result
 unfolding reading
-end_tells has_known_texts unread at room old new (Refused kind) e mode opened tokens =
-    λ t. ap (read at (is_open old.mode) room) (tokens t)
-    ∙ sym (ap (λ (m : Mode). read at (is_open m) room (ended_tokens m old.open_token_line)) mode)
-    ∙ sym (ap (λ n. read at (is_open new.mode) room (ended_tokens new.mode n)) opened)
-    ∙ e
-end_tells has_known_texts unread at room old new (Broken kind line) e mode opened tokens =
-    λ t. ap (read at (is_open old.mode) room) (tokens t)
-    ∙ sym (ap (λ (m : Mode). read at (is_open m) room (ended_tokens m old.open_token_line)) mode)
-    ∙ sym (ap (λ n. read at (is_open new.mode) room (ended_tokens new.mode n)) opened)
-    ∙ e
 end_tells has_known_texts unread at room old new Closed e mode opened tokens = absurd e
 end_tells has_known_texts unread at room old new Failed e mode opened tokens = absurd e
+end_tells has_known_texts unread at room old new _ e mode opened tokens =
+    λ t. ap (read at (is_open old.mode) room) (tokens t)
+    ∙ sym (ap (λ (m : Mode). read at (is_open m) room (ended_tokens m old.open_token_line)) mode)
+    ∙ sym (ap (λ n. read at (is_open new.mode) room (ended_tokens new.mode n)) opened)
+    ∙ e
 
 pub end_read : {R : Type 0} (at : CallState) (room : ℕ) (f : BufferView R) (result : CallRead) → IsEndOfText at room f result → is_failed_call result ≡ false
-end_read at room f (Refused kind) e = refl
-end_read at room f (Broken kind line) e = refl
 end_read at room f Closed e = absurd e
 end_read at room f Failed e = absurd e
+end_read at room f _ e = refl
 
 -- what a line that breaks the text tells
 pub break_tells : {R : Type 0} (has_known_texts : Type 0) (unread : R → List ℕ) (at : CallState) (room : ℕ) (old new : BufferView R) (b : Breach) (line : ℕ)

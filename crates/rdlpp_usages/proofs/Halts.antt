@@ -30,7 +30,6 @@ use Rattle.rdlpp_meaning.proofs.ReadCalls.{BrokenRest, IsRest, WholeRest, commen
 use Rattle.rdlpp_meaning.proofs.LargerRuns.{row-string}
 use Rattle.rdlpp_usages.specs.CallActions.{Around, IsAround, tokens_at, tokens_after}
 use Rattle.rdlpp_scan.specs.declared.token.Directive.{Directive}
-use Rattle.rdlpp_scan.specs.declared.token.Directive.TheVariants.{Undef, Ifdef, Ifndef, Elsif, Else, Endif, Include}
 use Rattle.rdlpp_scan.specs.Reserved.{is_reserved, reserved_names}
 use Rattle.rdlpp_meaning.specs.State.{breach_kind}
 use Rattle.rdlpp_meaning.proofs.LiveText.{source_role_directive, source_role_text, usage_text}
@@ -58,35 +57,21 @@ kept_role_by k bytes line h = refl
 kept_role : (m : Mode) (k : Kind) (bytes : List ℕ) (line : ℕ) → is_kept_kind k ≡ true → role_in (is_open m) (record { sort = Ordinary k; bytes = bytes; line = line }) ≡ kind_role k bytes
 unfolding role_in is_open rest_role
 kept_role Plain k bytes line h = kept_role_by k bytes line h
-kept_role InStr k bytes line h = refl
-kept_role InBlock k bytes line h = refl
+kept_role _ k bytes line h = refl
 
 -- the first of tokens is read by its role
 pub head_read : (at : CallState) (p : Bool) (room : ℕ) (t : SourceToken) (ts : List SourceToken) (r : Role) (n : ℕ) (next : Mode)
     → role_in p t ≡ r → length t.bytes ≡ n → next ≡ Plain
     → read at p room (t ∷ ts) ≡ read_by (turn at r (nat_le n room)) t ts (read (call_state_after at r) (is_open next) (room_after at room r n) ts)
 unfolding read is_open
-head_read at p room t ts r n next role size plain =
-    let F : Role → ℕ → Bool → Reading = λ q i b. read_by (turn at q (nat_le i room)) t ts (read (call_state_after at q) b (room_after at room q i) ts) in
-    ap (λ q. F q (length t.bytes) false) role ∙ ap (λ i. F r i false) size ∙ ap (F r n) (sym (ap is_open plain))
+head_read at p room t ts r n next role size plain = grind (arith, nat_le)
 
 -- a token that is whole in held bytes
 pub whole_first : (at : CallState) (m : Mode) (room : ℕ) (held : List ℕ) (t : Token) (r : Role) (a : Around)
     → length (take t.len held) ≡ t.len → t.next_mode ≡ Plain → role_in (is_open m) (own_token t held a.line) ≡ r
     → tokens_at a m held ≡ own_token t held a.line ∷ remaining_tokens a.most Plain a.line (a.line + line_ends (take t.len held)) (drop t.len held) a.left a.rest
     → IsFirst at m room held t r a
-whole_first at m room held t r a size closed role e =
-    let own = take t.len held in
-    let T = own_token t held a.line in
-    let us = tokens_after a m held t.len t.next_mode in
-    let following : remaining_tokens a.most Plain a.line (a.line + line_ends own) (drop t.len held) a.left a.rest ≡ us =
-    remaining-opened a.most a.line (opening m a.opened a.line) (a.line + line_ends own) (drop t.len held) a.left a.rest
-    ∙ ap (λ (n : Mode). tokens_after a m held t.len n) (sym closed) in
-    let all : tokens_at a m held ≡ T ∷ us = e ∙ ap (λ ts. T ∷ ts) following in
-    record {
-      reads = ap (read at (is_open m) room) all ∙ head_read at (is_open m) room T us r t.len t.next_mode role size closed;
-      bytes = ap bytes_of all;
-    }
+whole_first at m room held t r a size closed role e = grind (arith, following, remaining-opened, head_read)
 
 -- a token that is closed in held bytes
 closed_first : (at : CallState) (m : Mode) (room : ℕ) (held : List ℕ) (a : Around) → IsAround held a → 0 < length held → is_kept_kind (token_of m held).kind ≡ true → (token_of m held).next_mode ≡ Plain
@@ -123,21 +108,13 @@ comment_head ts (BrokenRest b bytes line h is) = record { first = record { sort 
 -- a part in front of tokens, in bytes
 onto_bytes : (part : List ℕ) (line : ℕ) (ts : List SourceToken) → IsHead ts → bytes_of (onto_tokens part line ts) ≡ part ++ bytes_of ts
 unfolding onto_tokens with_part
-onto_bytes part line ts h =
-    ap (λ us. bytes_of (onto_tokens part line us)) h.is
-    ∙ append_assoc part h.first.bytes (bytes_of h.more)
-    ∙ ap (λ us. part ++ bytes_of us) (sym h.is)
+onto_bytes part line ts h = grind (arith, append_assoc)
 
 -- a part behind the `(`
 part_read : (k room line : ℕ) (p : Bool) (part : List ℕ) (t : SourceToken) (ts us : List SourceToken) → IsHead ts → t.bytes ≡ part
     → read (Inside k) p room (onto_tokens part line ts) ≡ read_by (turn_fitting (nat_le (length part) room) Keeps) t us (read (Inside k) true (room - length part) ts)
 unfolding onto_tokens
-part_read k room line p part t ts us h own =
-    ap (λ xs. read (Inside k) p room (onto_tokens part line xs)) h.is
-    ∙ part_inside p k room line part h.first h.more h.sort
-    ∙ ap (λ xs. part_kept (nat_le (length part) room) part (read (Inside k) true (room - length part) xs)) (sym h.is)
-    ∙ ap (λ z. part_kept (nat_le (length part) room) z (read (Inside k) true (room - length part) ts)) (sym own)
-    ∙ part_by_turn (nat_le (length part) room) t us (read (Inside k) true (room - length part) ts)
+part_read k room line p part t ts us h own = grind (arith, part_inside, nat_le, part_by_turn)
 
 -- a string or comment of which a part is held, behind the `(`
 open_inside : (k : ℕ) (m : Mode) (room : ℕ) (held : List ℕ) (t : Token) (r : Role) (a : Around) → t.len ≤ length held
@@ -174,9 +151,7 @@ string_part_before : (room line : ℕ) (part : List ℕ) (ts : List SourceToken)
 unfolding onto_tokens with_part line_with
 string_part_before room line part ts (WholeRest bytes own more is) some quote =
     ap (λ xs. read Before false room (onto_tokens part line xs)) is ∙ string_before room line (part ++ bytes) more
-string_part_before room line part ts (BrokenRest b bytes own h is) some quote =
-    ap (λ xs. read Before false room (onto_tokens part line xs)) is
-    ∙ open_string_before room own (part ++ bytes) b [] h (ap (λ (z : ℕ). z == 34) (front_first part bytes some) ∙ quote)
+string_part_before room line part ts (BrokenRest b bytes own h is) some quote = grind (arith, open_string_before, front_first)
 
 -- before the `(`, a comment that is broken, and of which a part passed before
 torn_comment_before : (room line own : ℕ) (part bytes : List ℕ) (b : Breach) (ts : List SourceToken)
@@ -193,16 +168,11 @@ comment_before p room line part ts (WholeRest bytes own more is) some other =
     ap (λ xs. read Before p room (onto_tokens part line xs)) is ∙ comment_part_before p room line own part bytes more ∙ ap (read Before true room) (sym is)
 comment_before true room line part ts (BrokenRest b bytes own h is) some other =
     ap (λ xs. read Before true room (onto_tokens part line xs)) is ∙ torn_comment_before room line own part bytes b [] ∙ ap (read Before true room) (sym is)
-comment_before false room line part ts (BrokenRest b bytes own h is) some other =
-    ap (λ xs. read Before false room (onto_tokens part line xs)) is
-    ∙ open_comment_before false room line own part bytes b [] h (ap (λ (z : ℕ). z == 34) (front_first part bytes some) ∙ other refl)
-    ∙ ap (read Before true room) (sym is)
+comment_before false room line part ts (BrokenRest b bytes own h is) some other = grind (arith, open_comment_before, front_first)
 
 comment_slash : (bs : List ℕ) (t : Token) → Row bs t → t.kind ≡ BlockComment → (slice_index bs 0 == 34) ≡ false
 unfolding whole is_plain_kind begins_block_comment
-comment_slash bs t (AtBlockComment h e) is =
-    let byte : slice_index bs 0 ≡ 47 = eqb-true (slice_index bs 0) 47 (and_parts (slice_index bs 0 == 47) (slice_index bs 1 == 42) h).0 in
-    ap (λ (z : ℕ). z == 34) byte
+comment_slash bs t (AtBlockComment h e) is = grind (arith, eqb-true, and_parts)
 comment_slash bs t (AtString h e) is = absurd (cc)
 comment_slash bs t (AtPerl h e) is = let i = ap (λ (u : Token). u.kind) e in absurd (cc)
 comment_slash bs t (AtLineComment h e) is = absurd (cc)
@@ -221,11 +191,7 @@ none_after held n e = drop_all n held (omega (arith, e))
 whole_part : (m next : Mode) (held : List ℕ) (n : ℕ) (a : Around) (mode : Mode) → n ≡ length held → mode ≡ next
     → tokens_at a m held ≡ onto_tokens held a.line (remaining_tokens a.most next (opening m a.opened a.line) (a.line + line_ends held) [] a.left a.rest)
     → tokens_at a m held ≡ onto_tokens (take n held) a.line (tokens_after a m held n mode)
-whole_part m next held n a mode len is e =
-    let F : List ℕ → List ℕ → Mode → List SourceToken =
-    λ own left d. onto_tokens own a.line (remaining_tokens a.most d (opening m a.opened a.line) (a.line + line_ends own) left a.left a.rest) in
-    e ∙ ap (λ own. F own [] next) (sym (all_held held n len)) ∙ ap (λ left. F (take n held) left next) (sym (none_after held n len))
-    ∙ ap (F (take n held) (drop n held)) (sym is)
+whole_part m next held n a mode len is e = grind (arith, all_held, none_after)
 
 -- a string that `<%` cuts, in front of what remains behind its part
 cut_part : (m : Mode) (held : List ℕ) (a : Around) → IsAround held a → 0 < length held → (token_of m held).kind ≡ Str → (token_of m held).next_mode ≡ InStr → (token_of m held).len < length held → begins_perl (drop (token_of m held).len held) ≡ true
@@ -307,14 +273,12 @@ string_mode at InBlock held kind lead is = let k = block_token-kind 0 held in ab
 
 string_begins : (m : Mode) (held : List ℕ) → (token_of m held).kind ≡ Str → m ≡ Plain → (slice_index held 0 == 34) ≡ true
 string_begins Plain held kind is = row-string held (token_of Plain held) (token_of-row held) kind
-string_begins InStr held kind is = absurd (cc)
-string_begins InBlock held kind is = absurd (cc)
+string_begins _ held kind is = absurd (cc)
 
 comment_begins : (m : Mode) (held : List ℕ) → (token_of m held).kind ≡ BlockComment → is_open m ≡ false → (slice_index held 0 == 34) ≡ false
 unfolding is_open
 comment_begins Plain held kind is = comment_slash held (token_of Plain held) (token_of-row held) kind
-comment_begins InStr held kind is = absurd (false≢true (sym is))
-comment_begins InBlock held kind is = absurd (false≢true (sym is))
+comment_begins _ held kind is = absurd (false≢true (sym is))
 
 -- the role of a string, and of a comment
 string_role : (k : Kind) (bytes : List ℕ) → k ≡ Str → Text ≡ kind_role k bytes
@@ -455,16 +419,7 @@ after_test b rest h e = sym (ap (λ t. t || rest) h) ∙ e
 named_directive : (name : List ℕ) → is_reserved name ≡ true → bytes_eq (96 ∷ name) (codes "`define") ≡ false → bytes_eq (96 ∷ name) (codes "`line") ≡ false
     → is_some (directive_named (96 ∷ name)) ≡ true
 unfolding is_reserved reserved_names directive_named
-named_directive name reserved other also =
-    test_or (bytes_eq name (codes "undef")) Undef _ _
-    (test_or (bytes_eq name (codes "ifdef")) Ifdef _ _
-    (test_or (bytes_eq name (codes "ifndef")) Ifndef _ _
-    (test_or (bytes_eq name (codes "elsif")) Elsif _ _
-    (test_or (bytes_eq name (codes "else")) Else _ _
-    (test_or (bytes_eq name (codes "endif")) Endif _ _
-    (test_or (bytes_eq name (codes "include")) Include None (bytes_eq name (codes "line") || false)
-    (λ e. absurd (false≢true (after_test (bytes_eq name (codes "line")) false also e)))))))))
-    (after_test (bytes_eq name (codes "define")) _ other reserved)
+named_directive name reserved other also = grind (arith, test_or, false≢true, after_test)
 
 -- an option that is there
 there : (o : Option Directive) → is_some o ≡ true → (d : Directive) × (o ≡ Some d)
@@ -487,10 +442,7 @@ front_bytes (b ∷ bs) n some = refl
 -- a backquote with a name is that backquote and its name
 back_by : (bs : List ℕ) (t : Token) → Row bs t → t.kind ≡ Back → 0 < length bs → take t.len bs ≡ 96 ∷ take (t.len - 1) (drop 1 bs)
 unfolding whole is_plain_kind
-back_by bs t (AtBack h e) is some =
-    let len = ap (λ (u : Token). u.len) e in
-    let more : suc (t.len - 1) ≡ t.len = omega (arith, len) in
-    ap (λ n. take n bs) (sym more) ∙ front_bytes bs (t.len - 1) some ∙ ap (λ b. b ∷ take (t.len - 1) (drop 1 bs)) (eqb-true (slice_index bs 0) 96 h)
+back_by bs t (AtBack h e) is some = grind (arith, front_bytes, eqb-true)
 back_by bs t (AtPerl h e) is some = let i = ap (λ (u : Token). u.kind) e in absurd (cc)
 back_by bs t (AtLineComment h e) is some = absurd (cc)
 back_by bs t (AtBlockComment h e) is some = absurd (cc)
@@ -506,40 +458,12 @@ pub directive_reads : (at : CallState) (room : ℕ) (held : List ℕ) (a : Aroun
     → is_reserved (take ((token_of Plain held).len - 1) (drop 1 held)) ≡ true
     → read at false room (tokens_at a Plain held) ≡ ReadRefused (fault_at_end at)
 unfolding remaining_tokens Halts
-directive_reads at room held a around some is reserved =
-    let t = token_of Plain held in
-    let own = take t.len held in
-    let name = take (t.len - 1) (drop 1 held) in
-    let more = (front a.most a.left a.rest).text in
-    let b = following a.most a.left held a.rest around.ends in
-    let c = course a.most a.left a.rest in
-    let bs = held ++ more in
-    let text : own ≡ 96 ∷ name = back_bytes held is some in
-    let size = length-append held more in
-    let T : SourceToken = record { sort = Ordinary Back; bytes = own; line = a.line } in
-    let P : Step → Type 0 = Halts in
-    let halts : Halts (cond (bytes_eq own (codes "`define")) (define_step c a.line bs) (cond (bytes_eq own (codes "`line")) (line_step a.line bs) (Next T))) =
-    cond_both (bytes_eq own (codes "`define")) _ _ P (λ _. define_halts c a.line bs) (λ other.
-    cond_both (bytes_eq own (codes "`line")) _ _ P (λ _. line_halts a.line bs) (λ also.
-    ap (λ (z : List ℕ). source_role (record { sort = Ordinary Back; bytes = z; line = a.line })) text
-    ∙ name_halts name a.line reserved (sym (ap (λ (z : List ℕ). bytes_eq z (codes "`define")) text) ∙ other) (sym (ap (λ (z : List ℕ). bytes_eq z (codes "`line")) text) ∙ also))) in
-    halted_tokens c at room a.opened a.line bs (omega (arith, size))
-    (subst P (sym (back_held c a.opened a.line held more some b.ends is)) halts)
+directive_reads at room held a around some is reserved = grind (arith, following, back_bytes, length-append, cond_both, define_halts, line_halts, name_halts, halted_tokens, back_held)
 
 -- a name that isn't reserved is neither word
 not_word : (name : List ℕ) → is_reserved name ≡ false → (bytes_eq (96 ∷ name) (codes "`define") ≡ false) × (bytes_eq (96 ∷ name) (codes "`line") ≡ false)
 unfolding is_reserved reserved_names
-not_word name free =
-    let a = or_parts (bytes_eq name (codes "define")) _ free in
-    let b = or_parts (bytes_eq name (codes "undef")) _ a.1 in
-    let c = or_parts (bytes_eq name (codes "ifdef")) _ b.1 in
-    let d = or_parts (bytes_eq name (codes "ifndef")) _ c.1 in
-    let e = or_parts (bytes_eq name (codes "elsif")) _ d.1 in
-    let f = or_parts (bytes_eq name (codes "else")) _ e.1 in
-    let g = or_parts (bytes_eq name (codes "endif")) _ f.1 in
-    let h = or_parts (bytes_eq name (codes "include")) _ g.1 in
-    let i = or_parts (bytes_eq name (codes "line")) _ h.1 in
-    (a.0, i.0)
+not_word name free = grind (arith, or_parts)
 
 -- a backquoted name that isn't reserved is text of a call
 pub name_first : (at : CallState) (room : ℕ) (held : List ℕ) (a : Around) → IsAround held a → 0 < length held → (token_of Plain held).kind ≡ Back

@@ -9,7 +9,7 @@ use Rattle.rdlpp_scan.specs.Reserved.{is_reserved}
 use Rattle.rdlpp_scan.specs.Resumed.{opening}
 use Rattle.rdlpp_scan.specs.SourceTokens.{SourceToken, line_ends, remaining_tokens}
 use Rattle.rdlpp_scan.specs.TokenKinds.{is_one_byte, opens_mode}
-use Rattle.rdlpp_scan.specs.Tokens.{plain_token, string_token, token_of, whole}
+use Rattle.rdlpp_scan.specs.Tokens.{plain_token, token_of, whole}
 use Rattle.rdlpp_scan.specs.declared.token.Kind.{Kind}
 use Rattle.rdlpp_scan.specs.declared.token.Kind.TheVariants.{Back, Blank, Closer, Comma, Name, Opener, Other, Perl, Word}
 use Rattle.rdlpp_scan.specs.declared.token.Mode.{Mode}
@@ -23,7 +23,7 @@ use Rattle.rdlpp_scan.proofs.TokenLens.{token_of-part}
 use Rattle.rdlpp_scan.proofs.TokenSteps.{is_kept_kind}
 use Rattle.rdlpp_meaning.specs.Actuals as role
 use Rattle.rdlpp_meaning.specs.Actuals.{Dropped, End, Ends, Halt, KeptComment, Role, Space, Start, Stops, Text, kept_size, kind_role, level_after}
-use Rattle.rdlpp_meaning.specs.CallReading.{ReadClosed, Reading, ReadRefused, ReadStopped, onto_kept, read, read_by, role_in}
+use Rattle.rdlpp_meaning.specs.CallReading.{Reading, ReadRefused, onto_kept, read, read_by, role_in}
 use Rattle.rdlpp_meaning.specs.CallScan.{Before, Breaks, Closes, Inside, Keeps, Passes, TurnFault, CallState, Turn, fault_at_end, room_after, call_state_after, call_state_after_lead, turn, turn_before, turn_fitting, turn_inside}
 use Rattle.rdlpp_meaning.specs.Expansion.{bytes_of}
 use Rattle.rdlpp_meaning.specs.declared.fault.FaultKind.{FaultKind}
@@ -74,25 +74,13 @@ passes_room r k room n kept more = kept.turns (nat_le n room) ∙ ap (λ b. turn
 one_level : (r : Role) (k : ℕ) → level_after r k ≤ k + 1
 unfolding level_after
 one_level role.Start k = omega arith
-one_level role.Up k = omega arith
-one_level role.End k = omega arith
-one_level role.Down k = omega arith
 one_level r k = omega arith
 
 -- and is kept where it fits
 pub keeps_step : (r : Role) (k room : ℕ) (t : Token) (level : ℕ) → IsKeptAt r k → t.len ≤ room → 0 < t.len → level ≡ level_after r k
     → IsStep (Inside k) r room t (record { len = t.len; next_mode = t.next_mode; call_state = InsideCall level; is_kept = true })
 unfolding turn turn_fitting call_state_meant call_state_after room_after level_in
-keeps_step r k room t level kept fits some is =
-    record {
-      len = refl;
-      mode = refl;
-      call_state = ap Inside is;
-      turns = kept.turns (nat_le t.len room) ∙ ap (λ b. turn_fitting b Keeps) (le-leb t.len room fits);
-      left = ap (λ n. room - n) (kept.size t.len);
-      fits = fits;
-      level = omega (arith, one_level r k);
-    }
+keeps_step r k room t level kept fits some is = grind (arith, nat_le, le-leb, one_level)
 
 -- a `//` comment is passed
 pub comment_step : (k room : ℕ) (t : Token) → IsStep (Inside k) role.Dropped room t (record { len = t.len; next_mode = t.next_mode; call_state = InsideCall k; is_kept = false })
@@ -173,29 +161,14 @@ end_kind k bytes e = absurd (cc)
 closes_taken : (at : CallState) (m : Mode) (room : ℕ) (held : List ℕ) (t : Token) (r : Role) → t.len ≡ 1 → t.next_mode ≡ Plain
     → ((a : Around) → IsAround held a → IsFirst at m room held t r a) → turn at r (nat_le t.len room) ≡ Closes → IsClose at m room held
 unfolding read_by
-closes_taken at m room held t r one plain first closes =
-    record {
-      reads = λ a around.
-          let us = tokens_after a m held t.len t.next_mode in
-          (first a around).reads
-          ∙ ap (λ (w : Turn). read_by w (own_token t held a.line) us (read (call_state_after at r) (is_open t.next_mode) (room_after at room r t.len) us)) closes
-          ∙ ap (λ d. ReadClosed [] (tokens_after a m held t.len d)) plain
-          ∙ ap (λ n. ReadClosed [] (tokens_after a m held n Plain)) one;
-      bytes = λ a around.
-          (first a around).bytes
-          ∙ ap (λ d. take t.len held ++ bytes_of (tokens_after a m held t.len d)) plain
-          ∙ ap (λ n. take n held ++ bytes_of (tokens_after a m held n Plain)) one;
-    }
+closes_taken at m room held t r one plain first closes = grind arith
 
 -- a token at which the call is refused
 refused_taken : (at : CallState) (m : Mode) (room : ℕ) (held : List ℕ) (t : Token) (r : Role) (f : FaultKind)
     → ((a : Around) → IsAround held a → IsFirst at m room held t r a) → turn at r (nat_le t.len room) ≡ TurnFault f
     → (a : Around) → IsAround held a → read at (is_open m) room (tokens_at a m held) ≡ ReadRefused f
 unfolding read_by
-refused_taken at m room held t r f first refuses a around =
-    let us = tokens_after a m held t.len t.next_mode in
-    (first a around).reads
-    ∙ ap (λ (w : Turn). read_by w (own_token t held a.line) us (read (call_state_after at r) (is_open t.next_mode) (room_after at room r t.len) us)) refuses
+refused_taken at m room held t r f first refuses a around = grind arith
 
 -- each answer, by the role of the first token
 taken_by : (at : CallState) (m : Mode) (room : ℕ) (held : List ℕ) (t : Token) (r : Role) (x : CallAction) → 0 < t.len → t.len ≤ length held
@@ -212,8 +185,7 @@ taken_by at m room held t r PerlFound some inside lead end first answer = absurd
 text_refused : (at : CallState) (fits b : Bool) → call_state_after at Text ≡ Before → turn at Text fits ≡ cond b Keeps Passes → at ≢ at
 unfolding turn turn_before call_state_after call_state_after_lead
 text_refused Before fits true is e = absurd (cc)
-text_refused Before fits false is e = absurd (cc)
-text_refused (Inside k) fits b is e = absurd (cc)
+text_refused _ fits b is e = absurd (cc)
 
 -- behind what is used before the `(` no string is open
 no_string : (at : CallState) (m : Mode) (held : List ℕ) (fits b : Bool) (own : List ℕ) → Seam held [] (token_of m held) (token_of m (held ++ []))
@@ -271,9 +243,7 @@ name_taken at room held t x some is back free answer =
 pub directive_taken : (at : CallState) (room : ℕ) (held : List ℕ) (t : Token) → 0 < length held → t ≡ token_of Plain held → t.kind ≡ Back
     → is_reserved (take (t.len - 1) (drop 1 held)) ≡ true → IsAction at Plain room held (Refused (fault_at_end at))
 unfolding is_open
-directive_taken at room held t some is back reserved a around =
-    directive_reads at room held a around some (ap (λ (w : Token). w.kind) (sym is) ∙ back)
-    (ap (λ (w : Token). is_reserved (take (w.len - 1) (drop 1 held))) (sym is) ∙ reserved)
+directive_taken at room held t some is back reserved a around = grind (arith, directive_reads)
 
 -- embedded Perl
 pub perl_taken : (at : CallState) (m : Mode) (room : ℕ) (held : List ℕ) → 0 < length held → (token_of m held).kind ≡ Perl → IsAction at m room held PerlFound
@@ -284,11 +254,7 @@ perl_taken at m room held some is a around =
 pub back_mode : (m : Mode) (held : List ℕ) → (token_of m held).kind ≡ Back → m ≡ Plain
 unfolding token_of whole
 back_mode Plain held is = refl
-back_mode InStr held is =
-    let P : Bool → Type 0 = λ b. (cond b (whole Perl 2) (string_token 0 held)).kind ≡ Back → InStr ≡ Plain in
-    let at_true : P true = λ e. absurd (cc) in
-    let at_false : P false = λ e. (let k = string_token-kind 0 held in absurd (cc)) in
-    elim (begins_perl held) as P [ true ↦ at_true | false ↦ at_false ] is
+back_mode InStr held is = grind (arith, string_token-kind)
 back_mode InBlock held is = let k = block_token-kind 0 held in absurd (cc)
 
 -- a kind that is neither of the two stands in the list as it is
@@ -303,16 +269,7 @@ kept_kind k a b = refl
 -- where a test passes, another one passes as long at least
 longer : (p q : ℕ → Bool) → ((b : ℕ) → p b ≡ true → q b ≡ true) → (bs : List ℕ) → prefix_len p bs ≤ prefix_len q bs
 longer p q h [] = omega arith
-longer p q h (b ∷ bs) = elim (cases_Bool (p b)) [
-  | inl e ↦
-      let first : prefix_len p (b ∷ bs) ≡ 1 + prefix_len p bs = ap (λ (t : Bool). cond t (1 + prefix_len p bs) 0) e in
-      let second : prefix_len q (b ∷ bs) ≡ 1 + prefix_len q bs = ap (λ (t : Bool). cond t (1 + prefix_len q bs) 0) (h b e) in
-      let rest = longer p q h bs in
-      omega (arith, first, second, rest)
-  | inr e ↦
-      let first : prefix_len p (b ∷ bs) ≡ 0 = ap (λ (t : Bool). cond t (1 + prefix_len p bs) 0) e in
-      omega (arith, first)
-]
+longer p q h (b ∷ bs) = grind (arith, cases_Bool, (longer p q h bs))
 
 -- it passes behind its first bytes for as long as it did
 following : (p : ℕ → Bool) (m : ℕ) (bs : List ℕ) → m ≤ prefix_len p bs → prefix_len p (drop m bs) + m ≡ prefix_len p bs
@@ -378,10 +335,7 @@ record IsPlainArgumentToken (held : List ℕ) (t : Token) : Type 0 where
 
 -- a byte that isn't plain argument is none of a class
 none_of : (p : ℕ → Bool) (b n : ℕ) → p n ≡ false → p b ≡ true → (b == n) ≡ false
-none_of p b n dark e = elim (cases_Bool (b == n)) [
-  | inl h ↦ absurd (false≢true (sym dark ∙ subst (λ (m : ℕ). p m ≡ true) (eqb-true b n h) e))
-  | inr h ↦ h
-]
+none_of p b n dark e = grind (arith, cases_Bool, false≢true, eqb-true)
 
 plain_argument_by : (b : ℕ) (p : ℕ → Bool) → p b ≡ true → p 10 ≡ false → p 40 ≡ false → p 91 ≡ false → p 123 ≡ false → p 41 ≡ false → p 93 ≡ false → p 125 ≡ false
     → p 34 ≡ false → p 47 ≡ false → p 60 ≡ false → p 96 ≡ false → is_plain_argument b ≡ true
@@ -431,12 +385,7 @@ plain_argument_token b bs plain_argument =
 
 plain_argument_first : (held : List ℕ) → 0 < prefix_len is_plain_argument held → IsPlainArgumentToken held (token_of Plain held)
 plain_argument_first [] some = absurd (omega (arith, some))
-plain_argument_first (b ∷ bs) some = elim (cases_Bool (is_plain_argument b)) [
-  | inl e ↦ plain_argument_token b bs e
-  | inr e ↦
-      let none : prefix_len is_plain_argument (b ∷ bs) ≡ 0 = ap (λ (t : Bool). cond t (1 + prefix_len is_plain_argument bs) 0) e in
-      absurd (omega (arith, none, some))
-]
+plain_argument_first (b ∷ bs) some = grind (arith, cases_Bool, plain_argument_token)
 
 -- so many bytes are kept at a level of further openers, which stays
 abbrev plain_argument_use : ℕ → ℕ → Consumed
@@ -593,8 +542,7 @@ end_fault (Inside k) = refl
 without_kept : (bytes : List ℕ) (r : Reading) (f : FaultKind) → onto_kept bytes r ≡ ReadRefused f → r ≡ ReadRefused f
 unfolding onto_kept
 without_kept bytes (ReadRefused g) f e = e
-without_kept bytes (ReadStopped g line) f e = cc
-without_kept bytes (ReadClosed kept following) f e = cc
+without_kept bytes _ f e = cc
 
 -- one fault
 same_fault : (g f : FaultKind) → ReadRefused g ≡ ReadRefused f → g ≡ f
@@ -606,9 +554,8 @@ by_turn : (u : Turn) (t : SourceToken) (ts : List SourceToken) (rest : Reading) 
 unfolding read_by
 by_turn Passes t ts rest f own further e = further e
 by_turn Keeps t ts rest f own further e = further (without_kept t.bytes rest f e)
-by_turn Closes t ts rest f own further e = cc
 by_turn (TurnFault g) t ts rest f own further e = subst (λ (k : FaultKind). is_read_fault k ≡ true) (same_fault g f e) own
-by_turn (Breaks g line) t ts rest f own further e = cc
+by_turn _ t ts rest f own further e = cc
 
 -- a reading that is refused is so for a fault of a call
 pub refused_fault : (at : CallState) (part : Bool) (room : ℕ) (ts : List SourceToken) (f : FaultKind) → read at part room ts ≡ ReadRefused f → is_read_fault f ≡ true

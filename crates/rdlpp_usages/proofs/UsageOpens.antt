@@ -1,5 +1,5 @@
 -- A usage in a source whose call is read and bound: what remains, and the opening of its body.
-use Rattle.std.proofs.Common.{◌≡◌, ℕ, suc, Bool, false, List, [], ◌∷◌, ◌++◌, map, take, drop, Option, None, Some, refl, sym, ap, ◌∙◌, inl, inr, zero, ◌<◌, true, length, subst, arith, ◌+◌, ◌-◌, ◌≤◌, option_map, IsTrue, if◌then◌else◌, is_some, unwrap_or, ◌==◌, ◌↔◌, eqb-true, true≢false, drop-drop, length-append, length-drop, length-take, length-take-le, take-append-drop}
+use Rattle.std.proofs.Common.{◌≡◌, ℕ, suc, Bool, false, List, [], ◌∷◌, ◌++◌, map, take, drop, Option, None, Some, refl, sym, ap, ◌∙◌, inl, inr, zero, ◌<◌, true, length, subst, arith, ◌+◌, ◌≤◌, option_map, IsTrue, if◌then◌else◌, is_some, unwrap_or, ◌==◌, ◌↔◌, eqb-true, true≢false, drop-drop, length-append, length-drop, length-take, length-take-le, take-append-drop}
 use Rattle.std.proofs.lemmas.Bool.{false≢true}
 use Rattle.std.proofs.lemmas.Grind.{flat_map-append}
 use Rattle.std.proofs.lemmas.List.{append_cancel_right, length-map}
@@ -8,27 +8,27 @@ use Rattle.rdlpp_scan.specs.SourceTokens.{SourceToken}
 use Rattle.rdlpp_scan.specs.declared.token.Mode.TheVariants.{Plain}
 use Rattle.rdlpp_table.specs.Table.{Formal, Macro, macro_named}
 use Rattle.rdlpp_table.specs.View.{formals_of, macro_at}
-use Rattle.rdlpp_meaning.specs.Actuals.{kept, source_reads, token_role}
-use Rattle.rdlpp_meaning.specs.CallScan.{Before, call_of}
-use Rattle.rdlpp_meaning.specs.Expansion.{Opens, UsageFault, Usage, bound_parts, bytes_of, expand, usage_of, usage_of_formals, usage_of_macro, usage_token}
+use Rattle.rdlpp_meaning.specs.Actuals.{kept, source_reads}
+use Rattle.rdlpp_meaning.specs.CallScan.{Before}
+use Rattle.rdlpp_meaning.specs.Expansion.{Opens, UsageFault, bytes_of, expand, usage_of, usage_of_formals, usage_of_macro, usage_token}
 use Rattle.rdlpp_meaning.specs.Meaning.{Passage, Progress, goes_on, leaves}
 use Rattle.rdlpp_meaning.specs.OpenItems.{open_left}
-use Rattle.rdlpp_meaning.specs.Opened.{Waiting, all_resumed, unwound}
-use Rattle.rdlpp_meaning.specs.Opens.{Open, Part, Texts, open_body, part_tokens}
+use Rattle.rdlpp_meaning.specs.Opened.{Waiting, all_resumed}
+use Rattle.rdlpp_meaning.specs.Opens.{Open, Part, Texts, open_body}
 use Rattle.rdlpp_meaning.specs.Outcome.{Outcome, fails}
 use Rattle.rdlpp_meaning.specs.Parts.{only_blanks}
 use Rattle.rdlpp_meaning.specs.Resumed.{Live, leading, resumed}
 use Rattle.rdlpp_meaning.specs.State.{Rules, State, fault_at}
 use Rattle.rdlpp_meaning.specs.Substitution.{substituted}
 use Rattle.rdlpp_meaning.specs.declared.fault.FaultKind.{FaultKind}
-use Rattle.rdlpp_meaning.specs.declared.fault.FaultKind.TheVariants.{ArgumentBytes, ArgumentCount, ArgumentsMissing, ArgumentsOpen, DirectiveInText, EmbeddedPerl, LineTooLong, OpenComment, OpenString, SourceTooLong, UndefinedMacro}
+use Rattle.rdlpp_meaning.specs.declared.fault.FaultKind.TheVariants.{ArgumentBytes, ArgumentCount, ArgumentsMissing, ArgumentsOpen, EmbeddedPerl, LineTooLong, OpenComment, OpenString, SourceTooLong}
 use Rattle.rdlpp_meaning.proofs.Directives.{all_resumed_fails}
 use Rattle.rdlpp_meaning.proofs.OpenSteps.{first-left}
 use Rattle.rdlpp_meaning.proofs.Outcomes.{goes_on-assoc}
 use Rattle.rdlpp_meaning.proofs.ReadCalls.{IsReadCall}
 use Rattle.rdlpp_meaning.proofs.SourceCalls.{resumed_opens, resumed_refuses}
 use Rattle.rdlpp_meaning.proofs.LiveText.{only_blanks-append}
-use Rattle.rdlpp_texts.specs.BoundCalls.{actuals_of, range_part}
+use Rattle.rdlpp_texts.specs.BoundCalls.{range_part}
 use Rattle.rdlpp_texts.specs.Calls.{IsCallStarted}
 use Rattle.rdlpp_texts.specs.Opened.{CursorsView, bound_by, usage_id}
 use Rattle.rdlpp_texts.specs.Places.{texts_of}
@@ -47,7 +47,7 @@ use Rattle.rdlpp_read.proofs.BufferTokens.{moves-on, moves-past, moves-told, tex
 use Rattle.rdlpp_front.specs.SourceItems.{IsUsage, usage_name}
 use Rattle.rdlpp_front.specs.SourceLeft.{HoldsFront, source_left}
 use Rattle.rdlpp_front.proofs.TextLeft.{usage_left, usage_text}
-use Rattle.rdlpp_usages.specs.CallReads.{IsCallOf, IsExactCall, MeansCall, ReadsCall, TellsCall, is_read_fault, with_used}
+use Rattle.rdlpp_usages.specs.CallReads.{IsCallOf, MeansCall, ReadsCall, is_read_fault, with_used}
 use Rattle.rdlpp_usages.specs.Store.{StoreView}
 use Rattle.rdlpp_usages.specs.Usages.{BindsKept, ExpansionView, IsExactOpening, IsOpenAlone, IsRun, KeepsOpening, KeepsUsage, RefusesCall, StaysAt, StaysLent, TakesUsageStep, TellsCallUsage, TellsUsage, UsesCall, UsesSource, inner_left, is_opened, is_usage_fault, texts_left}
 use Rattle.rdlpp_usages.specs.declared.expansion.Opening.{Opening}
@@ -79,22 +79,14 @@ usage_without_list : (rules : Rules) (s : State) (line : ℕ) (name : List ℕ) 
     → is_reserved name ≡ false → macro_named s.macros name ≡ Some m → m.formals ≡ None
     → usage_of rules s source_reads line [] name ts ≡ Opens m [] 0
 unfolding usage_of usage_of_macro usage_of_formals
-usage_without_list rules s line name ts m reserved found formals =
-    let named : Option Macro → Usage SourceToken = λ x. elim x [ None ↦ UsageFault UndefinedMacro name line | Some y ↦ usage_of_macro rules source_reads line [] name ts y ] in
-    let own : Usage SourceToken = usage_of_formals rules source_reads line name ts m m.formals in
-    ap (λ (b : Bool). if b then UsageFault DirectiveInText name line else named (macro_named s.macros name)) reserved
-    ∙ ap named found
-    ∙ ap (usage_of_formals rules source_reads line name ts m) formals
+usage_without_list rules s line name ts m reserved found formals = grind arith
 
 -- what a source goes on with, it goes on with in front of those that wait
 all_resumed_on : (rules : Rules) (ws : List Waiting) (os : List Progress) (first flag : Bool) (ts following : List SourceToken) (s : State) (p : Passage)
     → resumed rules (Live os) first ts s ≡ goes_on p (λ after. resumed rules (Live os) flag following after)
     → all_resumed rules ws (Live os) first ts s ≡ goes_on p (λ after. all_resumed rules ws (Live os) flag following after)
 unfolding all_resumed
-all_resumed_on rules ws os first flag ts following s p e =
-    let next : State → Passage = λ after. unwound rules ws after in
-    ap (λ (q : Passage). goes_on q next) e
-    ∙ goes_on-assoc p (λ after. resumed rules (Live os) flag following after) next
+all_resumed_on rules ws os first flag ts following s p e = grind (arith, goes_on-assoc)
 
 -- a source of which a usage and its call were used: what is behind them
 pub record IsAfter {R : Type 0} (unread : R → List ℕ) (f new : File R) (len : ℕ) (used : List ℕ) : Type 0 where
@@ -120,11 +112,7 @@ module _ {R : Type 0} (rules : Rules) (unread : R → List ℕ) (ws : List Waiti
       → macro_named s.macros (usage_name (held_of f.buffer) len) ≡ Some m → m.formals ≡ Some fs
       → usage_of_formals rules source_reads f.buffer.line (usage_name (held_of f.buffer) len) (leading (tokens_left unread (consumed_file len 0 f).buffer)) m (Some fs) ≡ UsageFault kind word at
       → source_left rules unread ws (Live os) f s ≡ leaves (fails (fault_at kind at word s)) s
-  call_refused holds plain usage m fs kind word at found formals e =
-      let name = usage_name (held_of f.buffer) len in
-      let ts = tokens_left unread (consumed_file len 0 f).buffer in
-      token_refused holds plain usage kind word at
-      (usage_with_list source_reads rules s f.buffer.line [] name (leading ts) m fs (UsageFault kind word at) usage.free found refl formals e)
+  call_refused holds plain usage m fs kind word at found formals e = grind (arith, token_refused, usage_with_list)
 
   -- a call that is bound opens its body, and the source goes on behind it
   pub call_opens : HoldsFront f.buffer → f.buffer.mode ≡ Plain → IsUsage (held_of f.buffer) len
@@ -191,17 +179,7 @@ read_call rules most ts bytes following limit c =
 pub kept_bound : {R : Type 0} (has_known_texts : Type 0) (unread : R → List ℕ) (most : ℕ) (macros : List Macro) (id line : ℕ) (bytes now : List ℕ) (c : CursorsView) (old new : BufferView R)
     → MeansCall has_known_texts unread most bytes old new call.Closed → BindsKept macros id line bytes now Opened c
     → TellsCallUsage has_known_texts unread most macros id Opened c.opens now old new
-kept_bound has_known_texts unread most macros id line bytes now c old new means binds =
-    record {
-      ranges = binds.ranges;
-      body = subst (λ (bs : List ℕ). c.opens ≡ open_body (texts_of macros bs) id (map range_part binds.ranges) 0 ∷ []) (sym binds.stays) binds.body;
-      bound = λ rules at name fs limit formals t.
-          let ts = tokens_left unread old in
-          let following = tokens_left unread new in
-          subst (λ (bs : List ℕ). OpensBound rules at name ts (macro_at macros id) fs bs binds.ranges following) (sym binds.stays)
-          (source_bound rules at name ts (macro_at macros id) fs bytes binds.ranges following
-          (read_call rules most ts bytes following limit (means t)) (sym (binds.count fs formals)) (binds.actuals fs formals));
-    }
+kept_bound has_known_texts unread most macros id line bytes now c old new means binds = grind (arith, source_bound, read_call)
 
 -- one that was read and isn't bound is refused
 pub kept_unbound : {R : Type 0} (has_known_texts : Type 0) (unread : R → List ℕ) (most : ℕ) (macros : List Macro) (id line : ℕ) (bytes now : List ℕ) (kind : FaultKind) (c : CursorsView) (old new : BufferView R)
@@ -219,20 +197,12 @@ kept_unbound has_known_texts unread most macros id line bytes now kind c old new
 -- one that lacks something is refused
 pub call_lacks : {R : Type 0} (has_known_texts : Type 0) (unread : R → List ℕ) (most : ℕ) (macros : List Macro) (id : ℕ) (bytes now : List ℕ) (kind : FaultKind) (opens : List Open) (old new : BufferView R)
     → MeansCall has_known_texts unread most bytes old new (call.Refused kind) → TellsCallUsage has_known_texts unread most macros id (Refused kind) opens now old new
-call_lacks has_known_texts unread most macros id bytes now kind opens old new means =
-    λ rules at name fs limit formals t.
-    let ts = tokens_left unread old in
-    source_lacks rules at name ts (macro_at macros id) fs kind
-    (ap (λ (n : ℕ). call_of token_role kept n (leading ts)) limit ∙ means t)
+call_lacks has_known_texts unread most macros id bytes now kind opens old new means = grind (arith, source_lacks)
 
 -- one with a broken token is refused for that
 pub call_breaks : {R : Type 0} (has_known_texts : Type 0) (unread : R → List ℕ) (most : ℕ) (macros : List Macro) (id : ℕ) (bytes now : List ℕ) (kind : FaultKind) (own : ℕ) (opens : List Open) (old new : BufferView R)
     → MeansCall has_known_texts unread most bytes old new (call.Broken kind own) → TellsCallUsage has_known_texts unread most macros id (Broken kind own) opens now old new
-call_breaks has_known_texts unread most macros id bytes now kind own opens old new means =
-    λ rules at name fs limit formals t.
-    let ts = tokens_left unread old in
-    source_breaks rules at name ts (macro_at macros id) fs kind own
-    (ap (λ (n : ℕ). call_of token_role kept n (leading ts)) limit ∙ means t)
+call_breaks has_known_texts unread most macros id bytes now kind own opens old new means = grind (arith, source_breaks)
 
 -- the number of open texts that there may be
 deeper : (n : ℕ) → 0 < n → (d : ℕ) × (n ≡ suc d)
@@ -244,9 +214,7 @@ texts_same : (rules : Rules) (s : State) (macros : List Macro) (e : ExpansionVie
     → e.opens ≡ opens → e.line ≡ line → e.depth ≡ depth → depth ≡ suc d
     → goes_on (leaves (open_left rules s line (suc d) (texts_of macros e.arguments) opens) s) next ≡ goes_on (texts_left rules s macros e) next
 unfolding texts_left
-texts_same rules s macros e opens line d depth next o l same deep =
-    let remains : ℕ → ℕ → List Open → Passage = λ at n xs. goes_on (leaves (open_left rules s at n (texts_of macros e.arguments) xs) s) next in
-    ap (λ (n : ℕ). remains line n opens) (sym (same ∙ deep)) ∙ ap (λ (at : ℕ). remains at e.depth opens) (sym l) ∙ ap (λ (xs : List Open). remains e.line e.depth xs) (sym o)
+texts_same rules s macros e opens line d depth next o l same deep = grind arith
 
 -- the macros of a run
 run_named : (rules : Rules) (s : State) (macros : List Macro) (depth most : ℕ) (name : List ℕ) (m : Macro) → IsRun rules s macros depth most → macro_named macros name ≡ Some m
@@ -305,16 +273,14 @@ seen_of c arguments = record { opens = c.opens; arguments = arguments.bytes; lin
 -- nothing has changed behind a fault, where the kept bytes stay
 stays_open : (step : CursorStep) (c now : CursorsView) (arguments : StoreView) → StaysRefused c step now → StaysAt (seen_of c arguments) step (seen_of now arguments)
 unfolding StaysRefused StaysAt
-stays_open (Lends place) c now arguments stays = tt
-stays_open Silent c now arguments stays = tt
 stays_open (Fault fault) c now arguments stays = ap (λ (v : CursorsView). seen_of v arguments) stays
+stays_open _ c now arguments stays = tt
 
 -- and a text stays open behind bytes that are lent
 lent_open : (step : CursorStep) (c now : CursorsView) (arguments : StoreView) → KeepsOpen step now.opens → StaysLent (seen_of c arguments) step (seen_of now arguments)
 unfolding StaysLent
 lent_open (Lends place) c now arguments some = (some, refl)
-lent_open Silent c now arguments some = tt
-lent_open (Fault fault) c now arguments some = tt
+lent_open _ c now arguments some = tt
 
 -- a step behind which the kept bytes stay
 pub step_kept : (macros : List Macro) (old : ExpansionView) (c now : CursorsView) (arguments : StoreView) (bytes : List ℕ) (step : CursorStep) → seen_of c arguments ≡ old → bytes ≡ arguments.bytes
@@ -378,9 +344,7 @@ unfolding StaysRefused
 still_open (Lends place) old c now bytes other lends stays same some none =
     let size : length now.opens ≡ 0 = ap length none in absurd (omega (arith, lends, size))
 still_open Silent old c now bytes other lends stays same some none = absurd (other refl)
-still_open (Fault fault) old c now bytes other lends stays same some none =
-    let count : length now.opens ≡ length old = ap (λ (v : CursorsView). length v.opens) stays ∙ ap length same in
-    let size : length now.opens ≡ 0 = ap length none in absurd (omega (arith, count, size, some))
+still_open (Fault fault) old c now bytes other lends stays same some none = grind arith
 
 -- a fault of reading a call is one of its usage
 pub read_usage : (kind : FaultKind) → is_read_fault kind ≡ true → is_usage_fault kind ≡ true
@@ -408,8 +372,7 @@ pub kept_tells : {R : Type 0} (has_known_texts : Type 0) (unread : R → List �
     → MeansCall has_known_texts unread most bytes old new call.Closed → BindsKept macros id line bytes now opening c → TellsCallUsage has_known_texts unread most macros id opening c.opens now old new
 kept_tells has_known_texts unread most macros id line bytes now Opened c old new means binds = kept_bound has_known_texts unread most macros id line bytes now c old new means binds
 kept_tells has_known_texts unread most macros id line bytes now (Refused kind) c old new means binds = kept_unbound has_known_texts unread most macros id line bytes now kind c old new means binds
-kept_tells has_known_texts unread most macros id line bytes now (Broken kind own) c old new means binds = absurd binds
-kept_tells has_known_texts unread most macros id line bytes now Failed c old new means binds = absurd binds
+kept_tells has_known_texts unread most macros id line bytes now _ c old new means binds = absurd binds
 
 -- what is kept of a call that was read, by what binding it comes to
 pub kept_call : {R : Type 0} (has_known_texts : Type 0) (unread : R → List ℕ) (most : ℕ) (macros : List Macro) (id line : ℕ) (bytes now : List ℕ) (opening : Opening) (c : CursorsView) (old new : List (File R))
@@ -417,8 +380,7 @@ pub kept_call : {R : Type 0} (has_known_texts : Type 0) (unread : R → List ℕ
 kept_call has_known_texts unread most macros id line bytes now Opened c old new plain r binds =
     λ t. record { call = r.used; plain = plain; text = r.text (λ own e. cc e) t; kept = r.answer.reads t }
 kept_call has_known_texts unread most macros id line bytes now (Refused kind) c old new plain r binds = r.so_far
-kept_call has_known_texts unread most macros id line bytes now (Broken kind own) c old new plain r binds = absurd binds
-kept_call has_known_texts unread most macros id line bytes now Failed c old new plain r binds = absurd binds
+kept_call has_known_texts unread most macros id line bytes now _ c old new plain r binds = absurd binds
 
 -- so it is with a body that is opened
 pub body_usage : (texts : Texts) (id : ℕ) (parts : List Part) (opens : List Open) → opens ≡ open_body texts id parts 0 ∷ [] → usage_id opens ≡ Some id
@@ -428,23 +390,12 @@ body_usage texts id parts opens e = ap usage_id e
 -- a call that opens the body of its macro binds as many actuals as that has formals
 pub bindings_called : (texts : Texts) (id line : ℕ) (old new : CursorsView) → IsCallStarted texts id line old new → bound_by new.opens ≡ length (formals_of (macro_at texts.macros id))
 unfolding bound_by open_body
-bindings_called texts id line old new s =
-    let fs = formals_of (macro_at texts.macros id) in
-    let opens : bound_by new.opens ≡ length (map range_part s.ranges) + 0 = ap (λ (v : CursorsView). bound_by v.opens) s.opens in
-    let parts = length-map s.ranges range_part in
-    let same : length (bound_parts fs (actuals_of texts.arguments)) ≡ length s.ranges = ap length s.actuals ∙ length-map (map range_part s.ranges) (part_tokens texts.arguments) ∙ parts in
-    let count = count_exact fs (actuals_of texts.arguments) (sym s.counted) in
-    omega (arith, opens, parts, same, count)
+bindings_called texts id line old new s = grind (arith, length-map, count_exact)
 
 -- and its body is open alone
 pub alone_called : (macros : List Macro) (arguments : List ℕ) (id line : ℕ) (old new : CursorsView) → IsCallStarted (texts_of macros arguments) id line old new → IsOpenAlone macros id new.opens
 unfolding open_body
-alone_called macros arguments id line old new s =
-    let fs = formals_of (macro_at macros id) in
-    let parts = length-map s.ranges range_part in
-    let same : length (bound_parts fs (actuals_of arguments)) ≡ length s.ranges = ap length s.actuals ∙ length-map (map range_part s.ranges) (part_tokens arguments) ∙ parts in
-    let count = count_exact fs (actuals_of arguments) (sym s.counted) in
-    record { parts = map range_part s.ranges; count = omega (arith, parts, same, count); body = ap (λ (v : CursorsView). v.opens) s.opens }
+alone_called macros arguments id line old new s = grind (arith, length-map, count_exact)
 
 -- so is that of a macro without a list
 pub alone_plain : (macros : List Macro) (id : ℕ) (opens : List Open) → (macro_at macros id).formals ≡ None → opens ≡ open_body (texts_of macros []) id [] 0 ∷ [] → IsOpenAlone macros id opens
@@ -466,10 +417,7 @@ keeps_listed (Some fs) has_known_texts unread most opening arguments from now e 
 pub keeps_listed_by : {R : Type 0} (macros : List Macro) (id : ℕ) (has_known_texts : Type 0) (unread : R → List ℕ) (own most : ℕ) (opening : Opening) (arguments : List ℕ) (mid include_stack new : List (File R)) → own ≡ most → mid ≡ include_stack
     → is_some (macro_at macros id).formals ≡ true
     → KeepsOpening has_known_texts unread own opening arguments (inner_buffer mid) (inner_buffer new) → KeepsUsage (macro_at macros id).formals has_known_texts unread most opening arguments (inner_buffer include_stack) (inner_buffer new)
-keeps_listed_by {R} macros id has_known_texts unread own most opening arguments mid include_stack new same is listed keeps =
-    keeps_listed (macro_at macros id).formals has_known_texts unread most opening arguments (inner_buffer include_stack) (inner_buffer new) listed
-    (subst (λ (ns : List (File R)). KeepsOpening has_known_texts unread most opening arguments (inner_buffer ns) (inner_buffer new)) is
-    (subst (λ (n : ℕ). KeepsOpening has_known_texts unread n opening arguments (inner_buffer mid) (inner_buffer new)) same keeps))
+keeps_listed_by {R} macros id has_known_texts unread own most opening arguments mid include_stack new same is listed keeps = grind (arith, keeps_listed)
 
 -- of one without a list
 pub keeps_plain : {R : Type 0} (formals : Option (List Formal)) (has_known_texts : Type 0) (unread : R → List ℕ) (most : ℕ) (opening : Opening) (arguments : List ℕ) (from now : BufferView R) → formals ≡ None
@@ -515,32 +463,13 @@ pub uses_name : {R : Type 0} (has_known_texts : Type 0) (unread : R → List ℕ
     → UsesSource has_known_texts unread opening include_stack (with_inner (consumed_file len 0) include_stack)
 unfolding unused_of held_of
 uses_name has_known_texts unread opening [] len some has inside = absurd (omega arith)
-uses_name has_known_texts unread opening (f ∷ outer) len some has inside =
-    let held = held_of f.buffer in
-    let room : length held ≤ f.buffer.accepted - f.buffer.at = omega (arith, length-drop f.buffer.at (take f.buffer.accepted f.buffer.window), length-take f.buffer.accepted f.buffer.window) in
-    let size = length-take len held in
-    record {
-      used = take len held;
-      some = omega arith;
-      inner = refl;
-      unused = omega arith;
-      moves = name_moves has_known_texts (IsExactOpening opening) unread f len inside;
-      text = λ exact t. name_text unread f len;
-    }
+uses_name has_known_texts unread opening (f ∷ outer) len some has inside = grind (arith, length-drop, length-take, name_moves, name_text)
 
 -- those of a call that was read are used, where its answer is that of the reading
 pub uses_call : {R : Type 0} (has_known_texts : Type 0) (unread : R → List ℕ) (most : ℕ) (kept : List ℕ) (read : CallRead) (opening : Opening) (old new : List (File R))
     → ReadsCall has_known_texts unread Before most kept read old new → (opening ≡ Opened → read ≡ call.Closed)
     → ((own : ℕ) → read ≡ call.Broken LineTooLong own → opening ≡ Broken LineTooLong own) → UsesCall has_known_texts unread opening old new
-uses_call has_known_texts unread most kept read opening old new r closed broken =
-    record {
-      used = r.used;
-      inner = r.inner;
-      unused = r.unused;
-      moves = moves-told has_known_texts has_known_texts (IsExactOpening opening) (IsExactCall read) unread r.used (inner_buffer old) (inner_buffer new) (λ t. t) (λ exact own e. exact own (broken own e)) r.moves;
-      text = λ exact t. r.text (λ own e. exact own (broken own e)) t;
-      bytes = λ o t. (subst (λ (c : CallRead). TellsCall has_known_texts unread Before most kept r.used (inner_buffer old) (inner_buffer new) c) (closed o) r.answer).bytes t;
-    }
+uses_call has_known_texts unread most kept read opening old new r closed broken = grind (arith, moves-told)
 
 -- and then those of its call
 pub uses_more : {R : Type 0} (has_known_texts : Type 0) (unread : R → List ℕ) (opening : Opening) (old mid new : List (File R)) → UsesSource has_known_texts unread Opened old mid → UsesCall has_known_texts unread opening mid new
@@ -615,8 +544,4 @@ module _ {R : Type 0} (rules : Rules) (unread : R → List ℕ) (ws : List Waiti
       → TellsCallUsage has_known_texts unread own macros id opening e.opens e.arguments (inner_buffer mid) (inner_buffer new) → UsesCall has_known_texts unread opening mid new → has_known_texts
       → (opening ≡ Opened → e.line ≡ (inner_buffer include_stack).line) → e.depth ≡ depth
       → TellsUsage rules s unread ws os macros (inner_buffer include_stack).line (usage_name (held_of (inner_buffer include_stack)) len) opening e include_stack new
-  call_means_by has_known_texts opening include_stack mid new e own same_most is some ends held plain usage run room found listed t uses told line same =
-      call_means has_known_texts opening include_stack new e some ends held plain usage run room found listed
-      (subst (λ (ns : List (File R)). TellsCallUsage has_known_texts unread most macros id opening e.opens e.arguments (inner_buffer ns) (inner_buffer new)) is
-      (subst (λ (n : ℕ). TellsCallUsage has_known_texts unread n macros id opening e.opens e.arguments (inner_buffer mid) (inner_buffer new)) same_most t))
-      (subst (λ (ns : List (File R)). UsesCall has_known_texts unread opening ns new) is uses) told line same
+  call_means_by has_known_texts opening include_stack mid new e own same_most is some ends held plain usage run room found listed t uses told line same = grind (arith, call_means)
