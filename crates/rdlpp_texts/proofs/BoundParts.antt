@@ -1,5 +1,5 @@
 -- The parts of a call that are bound to ranges of its text are its actuals.
-use Rattle.std.proofs.Common.{◌≡◌, ◌≤◌, ◌<◌, ◌⊎◌, inl, inr, ℕ, ◌+◌, ◌-◌, Bool, true, false, List, [], ◌∷◌, ◌++◌, map, length, take, drop, min, refl, sym, ap, ◌∙◌, subst, arith, append_assoc, suc, not, ◌&&◌, ◌||◌, zero, cond, filter, All, Some, None, ⊎_elim, Err, Ok, nat_lt, slice_range, ◌==◌, replicate, eqb-true, ltb-true, append-nil, drop-drop, length-drop, length-take, take-take}
+use Rattle.std.proofs.Common.{◌≡◌, ◌≤◌, ◌<◌, ◌⊎◌, inl, inr, ℕ, ◌+◌, ◌-◌, Bool, true, false, List, [], ◌∷◌, ◌++◌, map, length, take, drop, min, refl, sym, ap, ◌∙◌, subst, arith, append_assoc, suc, not, ◌&&◌, zero, cond, filter, All, Some, None, ⊎_elim, Err, Ok, nat_lt, slice_range, ◌==◌, replicate, eqb-true, ltb-true, append-nil, drop-drop, length-drop, length-take, take-take}
 use Rattle.std.specs.List.{AllByRecursion, prefix_len}
 use Rattle.std.proofs.Math.Seq.{drop-append_seam}
 use Rattle.std.proofs.lemmas.Bool.{false≢true}
@@ -199,14 +199,6 @@ bound_to closes text from formals further to old new end closed within many some
 
 -- Whether the parts of a call are so many as its formals, by how many follow the first and by whether that has items.
 
--- nothing is less than a number or that is zero
-none_less : (n : ℕ) → not (nat_lt 0 n) ≡ ((n == 0) || false)
-none_less n = grind (arith, nat_tests)
-
--- two actuals or more aren't one
-not_one : (n : ℕ) → (suc (suc n) == 1) ≡ false
-not_one n = grind (arith, nat_tests)
-
 -- one or more aren't none
 not_none : (n : ℕ) → (suc n == 0) ≡ false
 not_none n = grind (arith, nat_tests)
@@ -219,8 +211,8 @@ same_count n m k l e f some = grind (arith, nat_tests)
 none_count : (a : List SourceToken) (more : List (List SourceToken)) (further : ℕ) → length (a ∷ more) ≡ further + 1
     → ((further == 0) && not (nat_lt 0 (length a))) ≡ is_count [] (a ∷ more)
 unfolding is_count
-none_count a [] further e = grind (arith, nat_lt, none_less)
-none_count a (b ∷ bs) further e = grind (arith, nat_lt, not_none, not_one)
+none_count a [] further e = grind (arith, nat_lt)
+none_count a (b ∷ bs) further e = grind (arith, nat_lt, not_none)
 
 -- where no formals are wanted
 pub count_none : (closes : Bool) (text : List ℕ) (formals further : ℕ) (items : Bool) (fs : List Formal) → length fs ≡ formals → formals ≡ 0

@@ -1,5 +1,5 @@
 -- Usages of a macro with a list, in open texts and in a source, whose call is bound.
-use Rattle.std.proofs.Common.{◌≡◌, ◌≤◌, ℕ, ◌+◌, ◌-◌, Bool, false, List, [], ◌∷◌, map, drop, ap, ◌∙◌, arith, Option, None, Some, suc, true, cond, take, refl, sym, true≢false, ◌<◌, length, subst, is_some, unwrap_or, Err, Global, Vec, bytes_eq, slice_range, vec_len, drop-drop, length-drop, length-take}
+use Rattle.std.proofs.Common.{◌≡◌, ◌≤◌, ℕ, ◌+◌, ◌-◌, Bool, false, List, [], ◌∷◌, map, drop, ap, ◌∙◌, arith, Option, None, Some, suc, true, cond, take, refl, sym, true≢false, ◌<◌, length, subst, is_some, unwrap_or, Err, Global, Vec, bytes_eq, slice_range, vec_len, drop-drop}
 use Rattle.std.specs.List.{AllByRecursion, list_any}
 use Rattle.std.proofs.lemmas.List.{length-map}
 use Rattle.std.proofs.lemmas.List.Elements.{All-cons, All-head, All-nil, All-tail}
@@ -227,10 +227,6 @@ has-list : {A : Type 0} (o : Option A) → is_some o ≡ true → (x : A) × (o 
 has-list None e = absurd (true≢false (sym e))
 has-list (Some x) e = (x, refl)
 
--- a text that has a range with a byte has one
-some-byte : (text : List ℕ) (from end : ℕ) → 0 < length (slice_range text from end) → 0 < length text
-some-byte text from end some = grind (arith, length-take, length-drop)
-
 -- where the call of a usage at the front of an open text stands: in the text in which that lies, behind the usage
 pub record IsCallPlace (texts : Texts) (x : Open) (below : List Open) (len : ℕ) (text : List ℕ) (at end : ℕ) : Type 0 where
   pub text_is : text ≡ text_around texts x.kind x.parent below
@@ -242,7 +238,7 @@ call-place : (texts : Texts) (x : Open) (below : List Open) (peek : Peek) (len :
     → peek.front ≡ front.Usage len → text ≡ source_text texts peek.source → at ≡ peek.at + len
     → IsCallPlace texts x below len text at peek.end
 unfolding IsPeek IsTextItem open_bytes
-call-place texts x below peek len text at h l e is k = grind (arith, front-is, source-around, some-byte)
+call-place texts x below peek len text at h l e is k = grind (arith, front-is, source-around)
 
 -- the tokens behind a usage
 call-tokens : (texts : Texts) (x : Open) (below : List Open) (len : ℕ) (text : List ℕ) (at end : ℕ) → AreSound texts (x ∷ below) → IsCallPlace texts x below len text at end

@@ -78,22 +78,15 @@ unfolding point_at Alone of_kind
 alone-by formals at len next Name bytes e = name-point at len (formal_named formals bytes) e
 alone-by formals at len next kind bytes e = tt
 
--- the same of a choice of two tokens of which neither is a stop
-choice-none : (formals : List Formal) (at : ℕ) (bytes : List ℕ) (b : Bool) (t u : Token)
-    → is_none (point_at formals at t bytes) ≡ true → is_none (point_at formals at u bytes) ≡ true
-    → is_none (point_at formals at (if b then t else u) bytes) ≡ true
-choice-none formals at bytes true t u h k = h
-choice-none formals at bytes false t u h k = k
-
 -- the rest of a string is no stop
 string-none : (formals : List Formal) (at from : ℕ) (text bytes : List ℕ) → is_none (point_at formals at (string_token from text) bytes) ≡ true
 unfolding string_token whole point_at is_none of_kind
-string-none formals at from text bytes = grind (arith, choice-none)
+string-none formals at from text bytes = grind arith
 
 -- nor is that of a comment
 block-none : (formals : List Formal) (at from : ℕ) (text bytes : List ℕ) → is_none (point_at formals at (block_token from text) bytes) ≡ true
 unfolding block_token whole point_at is_none of_kind
-block-none formals at from text bytes = grind (arith, choice-none, nat_lt)
+block-none formals at from text bytes = grind (arith, nat_lt)
 
 -- nor is `<%`
 perl-none : (formals : List Formal) (at : ℕ) (bytes : List ℕ) → is_none (point_at formals at (whole Perl 2) bytes) ≡ true
@@ -109,7 +102,7 @@ pub point-plain : (formals : List Formal) (at : ℕ) (m : Mode) (text bytes : Li
     → is_none (point_at formals at (token_of m text) bytes) ≡ false → m ≡ Plain
 unfolding token_of
 point-plain formals at Plain text bytes e = refl
-point-plain formals at InStr text bytes e = grind (arith, choice-none, perl-none, string-none)
+point-plain formals at InStr text bytes e = grind (arith, perl-none, string-none)
 point-plain formals at InBlock text bytes e =
     holds-fails (is_none (point_at formals at (block_token 0 text) bytes)) (block-none formals at 0 text bytes) e
 

@@ -1,5 +1,5 @@
 -- Text that is passed byte by byte: in the search for the end of a part, and up to a backquote.
-use Rattle.std.proofs.Common.{◌≡◌, ⊎_elim, ℕ, ◌<◌, ◌≤◌, ◌&&◌, ◌||◌, ◌==◌, not, nat_lt, cond, Bool, true, false, List, [], ◌∷◌, drop, length, get_or, refl, sym, ap, ◌∙◌, subst, arith, inl, inr, ◌⊎◌, is_some, zero, suc, ◌+◌, one-add, take, Option, Some, None, eqb-true, get_or-drop, get_or-take, length-drop, length-take-le}
+use Rattle.std.proofs.Common.{◌≡◌, ⊎_elim, ℕ, ◌<◌, ◌≤◌, ◌&&◌, ◌==◌, not, nat_lt, cond, Bool, true, false, List, [], ◌∷◌, drop, length, get_or, refl, sym, ap, ◌∙◌, subst, arith, inl, inr, ◌⊎◌, is_some, zero, suc, ◌+◌, one-add, take, Option, Some, None, eqb-true, get_or-drop, get_or-take, length-drop, length-take-le}
 use Rattle.std.specs.List.{prefix_len}
 use Rattle.std.proofs.lemmas.Bool.{and_parts, both_ways, cases_Bool, cond_both, false_from_ne_true, false≢true, not-true, or_cases, or_left, or_parts}
 use Rattle.std.proofs.lemmas.List.{drop_all, drop_more}
@@ -90,26 +90,15 @@ other_dark _ _ h = refl
 unequal : (b n : ℕ) → (b ≡ n → ⊥) → (b == n) ≡ false
 unequal b n h = elim (cases_Bool (b == n)) [ inl e ↦ absurd (h (eqb-true b n e)) | inr e ↦ e ]
 
-or_none : (p : Bool) → p ≡ (p || false)
-or_none true = refl
-or_none false = refl
-
 -- the class of a byte that isn't white space
 dark_class : (level b : ℕ) (plain_argument : Bool) → is_white b ≡ false → plain_argument ≡ is_plain_argument_at level b → cond plain_argument PlainArgument Mark ≡ byte_class level b
 unfolding byte_class
 dark_class level b plain_argument dark is =
     ap (λ (t : Bool). cond t PlainArgument Mark) is ∙ sym (ap (λ (t : Bool). cond t White (cond (is_plain_argument_at level b) PlainArgument Mark)) dark)
 
-high_is : (o p c d : Bool) → (not o && (not p && (not c && not d))) ≡ (not ((false || o) || p) && (not ((false || c) || d) && true))
-high_is true p c d = refl
-high_is false true c d = refl
-high_is false false true d = refl
-high_is false false false true = refl
-high_is false false false false = refl
-
 plain_argument_high : (b : ℕ) → 64 ≤ b → (not (b == 91) && (not (b == 123) && (not (b == 93) && not (b == 125)))) ≡ is_plain_argument b
 unfolding is_plain_argument is_opener is_closer
-plain_argument_high b high = grind (arith, unequal, high_is)
+plain_argument_high b high = grind (arith, unequal)
 
 dark_over : (b : ℕ) → 32 < b → is_white b ≡ false
 unfolding is_white is_blank is_line_end
@@ -119,24 +108,19 @@ dark_over b over = grind (arith, unequal)
 pub high_class : (level b : ℕ) (plain_argument : Bool) → 64 ≤ b → plain_argument ≡ (not (b == 91) && (not (b == 123) && (not (b == 93) && not (b == 125))))
     → cond plain_argument PlainArgument Mark ≡ byte_class level b
 unfolding is_plain_argument_at
-high_class level b plain_argument high is = grind (arith, dark_class, dark_over, plain_argument_high, or_none, nat_lt, unequal)
-
-low_is : (o c x : Bool) → (not o && (not c && x)) ≡ (not ((o || false) || false) && (not ((c || false) || false) && x))
-low_is true c x = refl
-low_is false true x = refl
-low_is false false x = refl
+high_class level b plain_argument high is = grind (arith, dark_class, dark_over, plain_argument_high, nat_lt, unequal)
 
 plain_argument_low : (b : ℕ) → b < 64
     → (not (b == 40) && (not (b == 41) && (not (b == 44) && (not (b == 34) && (not (b == 47) && not (b == 60)))))) ≡ is_plain_argument b
 unfolding is_plain_argument is_opener is_closer
-plain_argument_low b low = grind (arith, unequal, low_is)
+plain_argument_low b low = grind (arith, unequal)
 
 -- one between the blank and 64 that is no comma
 pub mark_class : (level b : ℕ) (plain_argument : Bool) → b < 64 → 32 < b → (b ≡ 44 → ⊥)
     → plain_argument ≡ (not (b == 40) && (not (b == 41) && (not (b == 34) && (not (b == 47) && not (b == 60)))))
     → cond plain_argument PlainArgument Mark ≡ byte_class level b
 unfolding is_plain_argument_at
-mark_class level b plain_argument low over other is = grind (arith, unequal, dark_class, dark_over, plain_argument_low, or_none, nat_lt)
+mark_class level b plain_argument low over other is = grind (arith, unequal, dark_class, dark_over, plain_argument_low, nat_lt)
 
 -- a comma, which is plain argument within further openers
 pub comma_class : (level b : ℕ) → b ≡ 44 → cond (nat_lt 0 level) PlainArgument Mark ≡ byte_class level b

@@ -16,7 +16,7 @@ use Rattle.rdlpp_scan.specs.declared.token.Token.{Token}
 use Rattle.rdlpp_scan.proofs.StopKinds.{block_token-kind, digit_token, letter_token, parts, string_token-kind, token_parts}
 use Rattle.rdlpp_scan.proofs.CleanTexts.{blank-step, line-step}
 use Rattle.rdlpp_table.proofs.Defaults.{comma_token}
-use Rattle.rdlpp_meaning.specs.Actuals.{Down, End, Role, Start, Up, is_space, kind_role, level_after, token_role}
+use Rattle.rdlpp_meaning.specs.Actuals.{Down, End, Role, Start, is_space, kind_role, level_after, token_role}
 use Rattle.rdlpp_meaning.specs.Substitution.{body_tokens, spelled}
 use Rattle.rdlpp_meaning.specs.TextTokens.{text_tokens}
 use Rattle.rdlpp_meaning.proofs.KeptTexts.{body_text, first_size, first_spelled, text_nil, text_step}
@@ -262,10 +262,6 @@ neither : (c : Bool) (r q : Role) → is_space r ≡ false → is_space q ≡ fa
 neither true r q h k = h
 neither false r q h k = k
 
-opener_role : (bytes : List ℕ) → is_space (kind_role Opener bytes) ≡ false
-unfolding kind_role is_space
-opener_role bytes = neither (get_or bytes 0 0 == 40) Start Up refl refl
-
 closer_role : (bytes : List ℕ) → is_space (kind_role Closer bytes) ≡ false
 unfolding kind_role is_space
 closer_role bytes = neither (get_or bytes 0 0 == 41) End Down refl refl
@@ -273,7 +269,7 @@ closer_role bytes = neither (get_or bytes 0 0 == 41) End Down refl refl
 -- a token that begins with a byte in no run, and no LF, isn't white space
 mark_role : (b c : ℕ) (bytes : List ℕ) → is_line_end b ≡ false → is_space (kind_role (mark_kind b c) bytes) ≡ false
 unfolding mark_kind kind_role is_space
-mark_role b c bytes line = grind (arith, cond_both, opener_role, closer_role, both_ways)
+mark_role b c bytes line = grind (arith, cond_both, closer_role, both_ways)
 
 -- nor is one that begins with a byte that isn't
 plain_role : (b c : ℕ) (bytes : List ℕ) → is_blank b ≡ false → is_line_end b ≡ false → is_space (kind_role (plain_kind b c) bytes) ≡ false

@@ -84,17 +84,12 @@ unfolding innermost_place front_source
 innermost-placed texts [] h = tt
 innermost-placed texts (x ∷ below) h = grind (arith, source-known, source-inside)
 
--- a range that ends in a text is that of another one, where that is the same if it has a byte
-same-range : (text other : List ℕ) (from end : ℕ) → end ≤ length text → (0 < length text → other ≡ text) → slice_range other from end ≡ slice_range text from end
-same-range [] other from end h e = grind arith
-same-range (b ∷ bs) other from end h e = ap (λ (t : List ℕ). slice_range t from end) (e (omega arith))
-
 -- what stands ahead in the range in its text stands ahead in the open text
 pub peek-front : (texts : Texts) (x : Open) (below : List Open) (source : TextSource) (f : NextItem) → AreInside texts (x ∷ below) → source ≡ front_source (x ∷ below)
     → IsNextItem (source_formals texts source) (slice_range (source_text texts source) x.part.from x.part.end) x.part.from f
     → IsNextItem (source_formals texts (front_source (x ∷ below))) (open_bytes texts x below) x.part.from f
 unfolding open_bytes
-peek-front texts x below source f h e is = grind (arith, same-range, source-around)
+peek-front texts x below source f h e is = grind (arith, source-around)
 
 -- what stands behind what is copied is what a look tells of the open texts of which the innermost goes on there
 peek-ahead : (texts : Texts) (x : Open) (below : List Open) (peek : Peek) → peek.source ≡ front_source (x ∷ below) → peek.from ≡ x.part.from → peek.end ≡ x.part.end
