@@ -13,6 +13,7 @@ use Rattle.rdlpp_scan.specs.declared.token.Directive.{Directive}
 use Rattle.rdlpp_scan.specs.declared.token.Directive.TheVariants.{Endif, Ifdef, Ifndef, Include}
 use Rattle.rdlpp_scan.specs.declared.token.Kind.{Kind}
 use Rattle.rdlpp_scan.specs.declared.token.Kind.TheVariants.{BareBackquote, Blank, Str}
+use Rattle.rdlpp_scan.specs.declared.token.Mode.{Mode}
 use Rattle.rdlpp_scan.specs.declared.token.Mode.TheVariants.{InStr, Plain}
 use Rattle.rdlpp_scan.specs.declared.token.Token.{Token}
 use Rattle.rdlpp_scan.proofs.RemainingLaws.{Breaks, Copies, FirstToken, Resumes, remaining-bare, remaining-closed, remaining-cut_string, remaining-first, remaining-in_string, remaining-open_string, whole-line_ends}
@@ -25,7 +26,7 @@ use Rattle.rdlpp_meaning.specs.Moves.{Passes, is_move}
 use Rattle.rdlpp_meaning.specs.Meaning.{Passage, Progress, added_end, at_start_of, after_bytes, leaves, origin_line, unclosed}
 use Rattle.rdlpp_meaning.specs.Opened.{Waiting, all_resumed, waiting}
 use Rattle.rdlpp_meaning.specs.Outcome.{fails}
-use Rattle.rdlpp_meaning.specs.Parts.{argument_of, after_blanks, command_of, line_ends_of, no_argument, only_blanks, past_blanks, string_in_front}
+use Rattle.rdlpp_meaning.specs.Parts.{argument_of, after_blanks, after_directive, command_of, line_ends_of, no_argument, only_blanks, past_blanks, string_in_front}
 use Rattle.rdlpp_meaning.specs.Resumed.{Live, Skipped}
 use Rattle.rdlpp_meaning.specs.State.{LongPath, NoSource, Rules, Source, State, breach_kind, fault_at, shown_line}
 use Rattle.rdlpp_meaning.specs.declared.fault.FaultKind.TheVariants.{IncludeName, OpenConditional, PathTooLong, SourceNotFound, TooManyIncludes}
@@ -36,7 +37,7 @@ use Rattle.rdlpp_meaning.proofs.Outcomes.{after_bytes-nil}
 use Rattle.rdlpp_read.specs.Arguments.{Closes, ClosesString, IsClosedString, IsLead, Lacks, Leads, Opens as OpensString}
 use Rattle.rdlpp_read.specs.Buffer.{BufferView, held_of, rest_of, tokens_left}
 use Rattle.rdlpp_read.specs.Files.{consumed_file}
-use Rattle.rdlpp_read.specs.Filling.{Fills, only_broken}
+use Rattle.rdlpp_read.specs.Filling.{Fills, ended_tokens, only_broken}
 use Rattle.rdlpp_read.specs.declared.buffer.filling.Fill.TheVariants as fill
 use Rattle.rdlpp_read.specs.declared.files.File.{File}
 use Rattle.rdlpp_read.proofs.BufferTokens.{ends_line}
@@ -161,7 +162,11 @@ module _ {R : Type 0} (rules : Rules) (unread : R → List ℕ) (ws : List Waiti
       → source_left rules unread ws (Skipped n p os) f s
       ≡ leaves (fails (record { kind = OpenConditional; name = s.name; line = p.line; word = [] })) s
   unfolding source_left unclosed
-  skipped_unclosed_left n has_known_texts new fills t mode = grind (arith, all_resumed_fails, skipped_unclosed)
+  skipped_unclosed_left n has_known_texts new fills t mode =
+      ap (λ (ts : List SourceToken). all_resumed rules ws (Skipped n p os) f.blanks ts s)
+      (fills.tokens t ∙ ap (λ (m : Mode). ended_tokens m f.buffer.open_token_line) mode)
+      ∙ all_resumed_fails rules ws (Skipped n p os) f.blanks [] s s (record { kind = OpenConditional; name = s.name; line = p.line; word = [] })
+      (skipped_unclosed rules n p os f.blanks s)
 
 -- What an `include` with its string in front does to what remains: it opens the source that is found, or is a fault.
 
@@ -197,7 +202,14 @@ module _ (most l room : ℕ) (rest : List ℕ) where
   -- a string in front that closes on its line
   string_lead : (z : List ℕ) (n : ℕ) → EndsLine z rest → ClosesString z n → tokens_of z ≡ string_token (take n z) l ∷ tokens_of (drop n z)
   unfolding is_kept_kind
-  string_lead z n ends c = grind (arith, no_line_end, remaining-closed)
+  string_lead z n ends c =
+      let t = token_of Plain z in
+      let none : line_ends (take t.len z) ≡ 0 = ap (λ (k : ℕ). line_ends (take k z)) (sym c.whole) ∙ (no_line_end (take n z) c.line).0 in
+      let line : l + line_ends (take t.len z) ≡ l = omega (arith, none) in
+      remaining-closed most Plain l l z room rest c.some ends (ap is_kept_kind c.kind) c.closed
+      ∙ ap (λ (m : ℕ). record { sort = Ordinary t.kind; bytes = take t.len z; line = l } ∷ remaining_tokens most Plain l m (drop t.len z) room rest) line
+      ∙ ap (λ (m : Kind). record { sort = Ordinary m; bytes = take t.len z; line = l } ∷ tokens_of (drop t.len z)) c.kind
+      ∙ ap (λ (m : ℕ). string_token (take m z) l ∷ tokens_of (drop m z)) (sym c.whole)
 
   -- behind the word: blanks, and then a string
   string_given : (r : List ℕ) (bl n : ℕ) → EndsLine r rest → IsLead Blank r bl → ClosesString (drop bl r) n
@@ -248,7 +260,16 @@ module _ {R : Type 0} (rules : Rules) (unread : R → List ℕ) (ws : List Waiti
   waits : (i : GivenInFront Include unread f.buffer (Some (argument_name (held_of f.buffer) start stop)) stop) (text : List ℕ)
       → waiting rules os f.blanks (word_token Include f.buffer.line) i.tokens s text ≡ waiting_file rules unread os stop f s text
   unfolding waiting command_of
-  waits i text = grind arith
+  waits i text =
+      let w : Bool → List SourceToken → Waiting = λ first ts. record {
+        open_conditionals = os;
+        first = first;
+        tokens = ts;
+        state = s;
+        ending = added_end text ++ origin_line rules s.name (shown_line s.shift f.buffer.line);
+      } in
+      ap (λ (z : List ℕ). w (only_blanks f.blanks z) (after_directive Include i.tokens)) i.text
+      ∙ ap (λ (ts : List SourceToken). w (only_blanks f.blanks (take stop (held_of f.buffer))) ts) i.following
 
   -- an `include` that finds a source opens it, and the source that stood innermost waits
   pub include_left : (k : ℕ) (path text : List ℕ)
@@ -372,7 +393,9 @@ resumed_string part l ts o (inl some) (Copies k bytes line more (inl str) is) =
     ap (λ (us : List SourceToken). string_in_front (onto_tokens part l us)) is
     ∙ ap (λ (m : Kind). string_in_front (record { sort = Ordinary m; bytes = part ++ bytes; line = l } ∷ more)) str
     ∙ long_string (part ++ bytes) l more (omega (arith, line_ends-append part bytes))
-resumed_string part l ts o (inl some) (Copies k bytes line more (inr block) is) = grind arith
+resumed_string part l ts o (inl some) (Copies k bytes line more (inr block) is) =
+    ap (λ (us : List SourceToken). string_in_front (onto_tokens part l us)) is
+    ∙ ap (λ (m : Kind). string_in_front (record { sort = Ordinary m; bytes = part ++ bytes; line = l } ∷ more)) block
 resumed_string part l ts o (inr ended) (Copies k bytes line more open_ is) =
     ap (λ (us : List SourceToken). string_in_front (onto_tokens part l us)) ended
 resumed_string part l ts o h (Breaks k bytes line is) =
@@ -387,7 +410,17 @@ module _ (most l room : ℕ) (rest : List ℕ) where
   closed_long : (z : List ℕ) → EndsLine z rest → 0 < length z → (token_of Plain z).kind ≡ Str → (token_of Plain z).next_mode ≡ Plain
       → ((n : ℕ) → ClosesString z n → ⊥) → string_in_front (tokens_after z) ≡ no_argument
   unfolding is_kept_kind
-  closed_long z ends some is closed none = grind (arith, ended_some, remaining-closed, long_string)
+  closed_long z ends some is closed none =
+      let t = token_of Plain z in
+      let w = take t.len z in
+      let P : Option ℕ → Type 0 = λ o. ended_line_len w ≡ o → 0 < line_ends w in
+      let at_none : P None = λ e. absurd (none t.len (record { some = some; kind = is; closed = closed; whole = refl; line = e })) in
+      let at_some : (n : ℕ) → P (Some n) = λ n e. ended_some w n e in
+      let has : 0 < line_ends w = elim (ended_line_len w) as P [ None ↦ at_none | Some n ↦ at_some n ] refl in
+      let following = remaining_tokens most Plain l (l + line_ends w) (drop t.len z) room rest in
+      ap string_in_front (remaining-closed most Plain l l z room rest some ends (ap is_kept_kind is) closed)
+      ∙ ap (λ (k : Kind). string_in_front (record { sort = Ordinary k; bytes = w; line = l } ∷ following)) is
+      ∙ long_string w l following has
 
   -- a string that doesn't close on its line, by what is held of it
   string_by_seam : (z : List ℕ) (v : Token) → Seam z [] (token_of Plain z) v → EndsLine z rest → 0 < length z → (token_of Plain z).kind ≡ Str
@@ -437,7 +470,9 @@ module _ (most l room : ℕ) (rest : List ℕ) where
   string_missing r bl ends none gone (Leads some is len) closed =
       ap (past_blanks string_in_front) (blank_lead most l room rest r bl ends some is len)
       ∙ ap (after_blanks (blank_token (take bl r) l)) (lacks_string (drop bl r) (EndsLine-drop bl r rest ends) gone closed)
-  string_missing r bl ends none gone (Lacks lacks zero_is) closed = grind (arith, lacks_blank, lacks_string)
+  string_missing r bl ends none gone (Lacks lacks zero_is) closed =
+      let at_zero : IsClosedString r 0 = subst (λ (m : ℕ). IsClosedString (drop m r) 0) zero_is closed in
+      lacks_blank r ends none lacks ∙ lacks_string r ends none at_zero
 
 module _ {R : Type 0} (rules : Rules) (unread : R → List ℕ) (ws : List Waiting) (os : List Progress) (f : File R) (s : State) where
   -- an `include` without a string on its line is a fault

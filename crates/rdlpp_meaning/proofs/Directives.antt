@@ -11,7 +11,7 @@ use Rattle.rdlpp_meaning.specs.Expansion.{bytes_of}
 use Rattle.rdlpp_meaning.specs.Meaning.{Checked, NameFault, Fine, IncludedMeaning, Passage, Progress, Renumbered, added_end, at_start_of, back_in, after_bytes, defines, goes_on, includes, includes_found, includes_given, includes_named, leaves, mean, included_meaning_of, origin_line, refusal, renumbered, renumbers, single, text_meaning, undefines, unquoted}
 use Rattle.rdlpp_meaning.specs.Opened.{Waiting, all_resumed, ending_of, unwound, waiting}
 use Rattle.rdlpp_meaning.specs.Outcome.{Outcome, Report, fails, gives}
-use Rattle.rdlpp_meaning.specs.Parts.{Argument, Command, Piece, Single, argument_of, after_blanks, after_directive, command_in_front, command_of, directive_of, name_in_front, no_argument, one_argument, only_blanks, parts_of, past_blanks, piece_of, pieces, string_in_front}
+use Rattle.rdlpp_meaning.specs.Parts.{Argument, Command, Piece, Single, argument_of, after_blanks, after_directive, command_in_front, command_of, directive_of, line_ends_of, name_in_front, no_argument, one_argument, only_blanks, parts_of, past_blanks, piece_of, pieces, string_in_front}
 use Rattle.rdlpp_meaning.specs.Resumed.{Live, Place, following, resume, resumed}
 use Rattle.rdlpp_meaning.specs.State.{Accepted, Defined, LongPath, Lookup, NoSource, DefinitionFault, Rules, Source, State, shown_line}
 use Rattle.rdlpp_meaning.specs.declared.fault.FaultKind.{FaultKind}
@@ -27,7 +27,9 @@ pub pieces_skip : (first : Bool) (k : ℕ) (ts : List SourceToken)
 unfolding pieces only_blanks
 pieces_skip first zero ts = refl
 pieces_skip first (suc k) [] = refl
-pieces_skip first (suc k) (t ∷ ts) = grind (arith, only_blanks-append, (pieces_skip (only_blanks first t.bytes) k ts))
+pieces_skip first (suc k) (t ∷ ts) =
+    pieces_skip (only_blanks first t.bytes) k ts
+    ∙ ap (λ (f : Bool). pieces f 0 (drop k ts)) (sym (only_blanks-append first t.bytes (bytes_of (take k ts))))
 
 -- what holds of nothing, of a name and of a string in front, and of what blanks stand before, holds of what a directive is given
 module _ (P : List SourceToken → Argument → Type 0) (none : (ts : List SourceToken) → P ts no_argument)
@@ -109,7 +111,15 @@ pub pieces_directive : (d : Directive) (first : Bool) (t : SourceToken) (ts : Li
     ≡ piece_of (command_in_front d first t ts)
     ∷ pieces (only_blanks first (command_in_front d first t ts).text) 0 (after_directive d ts)
 unfolding pieces command_of
-pieces_directive d first t ts e = grind (arith, pieces_skip, only_blanks-append, argument_takes)
+pieces_directive d first t ts e =
+    let a = argument_of d ts in
+    let c = command_in_front d first t ts in
+    rw (e, pieces)
+    (ap (λ (ps : List Piece). piece_of c ∷ ps)
+    (pieces_skip (only_blanks first t.bytes) a.used ts
+    ∙ ap (λ (f : Bool). pieces f 0 (drop a.used ts))
+    (sym (only_blanks-append first t.bytes (bytes_of (take a.used ts)))
+    ∙ ap (λ (x : List ℕ). only_blanks first (t.bytes ++ x)) (argument_takes d ts))))
 
 -- what remains where a directive stands in front that is a piece
 pub directive_piece : (rules : Rules) (place : Place) (d : Directive) (first : Bool) (t : SourceToken) (ts : List SourceToken) (s : State) (p : Piece)
@@ -117,7 +127,9 @@ pub directive_piece : (rules : Rules) (place : Place) (d : Directive) (first : B
     → resumed rules place first (t ∷ ts) s
     ≡ resume rules (included_meaning_of rules s.sources_left) place (p ∷ pieces (only_blanks first (command_in_front d first t ts).text) 0 (after_directive d ts)) s
 unfolding resumed
-directive_piece rules place d first t ts s p e is = grind (arith, pieces_directive)
+directive_piece rules place d first t ts s p e is =
+    let rest = pieces (only_blanks first (command_in_front d first t ts).text) 0 (after_directive d ts) in
+    ap (λ (ps : List Piece). resume rules (included_meaning_of rules s.sources_left) place ps s) (pieces_directive d first t ts e ∙ ap (λ (x : Piece). x ∷ rest) is)
 
 -- a passage without a fault keeps how many more sources may be opened
 Keeps : State → Passage → Type 0
@@ -179,13 +191,19 @@ named_keeps : (rules : Rules) (included_meaning : IncludedMeaning) (name : List 
 unfolding includes_named
 named_keeps rules None name c s =
     choice_keeps (length name == 0 || not (is_utf8 name)) s _ _ (refusal_keeps IncludeName [] c s) (refusal_keeps TooManyIncludes [] c s)
-named_keeps rules (Some within) name c s = grind (arith, choice_keeps, refusal_keeps, found_keeps)
+named_keeps rules (Some within) name c s =
+    choice_keeps (length name == 0 || not (is_utf8 name)) s _ _ (refusal_keeps IncludeName [] c s)
+    (found_keeps rules within (rules.find s.path name) c s)
 
 -- a `line` keeps it
 renumbers_keeps : (rules : Rules) (r : Option Renumbered) (c : Command) (s : State) → Keeps s (renumbers rules r c s)
 unfolding renumbers Keeps leaves
 renumbers_keeps rules None c s = refusal_keeps BadLine [] c s
-renumbers_keeps rules (Some r) c s = grind (arith, choice_keeps, refusal_keeps)
+renumbers_keeps rules (Some r) c s = choice_keeps c.first s _ _ moved (refusal_keeps BadLine [] c s)
+  where
+    moved : Keeps s (leaves (gives (line_ends_of c.text ++ origin_line rules r.name r.number))
+        (record s { name = r.name; shift = record { from = suc c.line; number = r.number } }))
+    moved e = refl
 
 -- an `include` keeps it, by whether a string stands there
 given_keeps : (rules : Rules) (included_meaning : IncludedMeaning) (given : Option (List ℕ)) (c : Command) (s : State) → Keeps s (includes_given rules included_meaning given c s)
@@ -337,7 +355,11 @@ include_searched : (rules : Rules) (name : List ℕ) (c : Command) (s : State) (
     → includes_named rules (included_meaning_of rules s.sources_left) name c s
     ≡ includes_found rules (λ u text. mean rules (included_meaning_of rules n) (parts_of (rules.tokens text)) u) found c s
 unfolding includes_named included_meaning_of
-include_searched rules name c s n found e left f = grind arith
+include_searched rules name c s n found e left f =
+    let within : State → List ℕ → Passage = λ u text. mean rules (included_meaning_of rules n) (parts_of (rules.tokens text)) u in
+    ap (λ (k : ℕ). includes_named rules (included_meaning_of rules k) name c s) left
+    ∙ ap (λ (b : Bool). if b then refusal IncludeName [] c s else includes_found rules within (rules.find s.path name) c s) e
+    ∙ ap (λ (x : Lookup). includes_found rules within x c s) f
 
 -- what an included text means in an `include` is what remains at its start
 included_resumed : (rules : Rules) (path text : List ℕ) (s : State) (n : ℕ) → s.sources_left ≡ suc n
@@ -481,14 +503,18 @@ pub all_resumed_after : (rules : Rules) (ws : List Waiting) (place new : Place) 
     → resumed rules place first ts s ≡ after_bytes x (resumed rules new then_first us t)
     → all_resumed rules ws place first ts s ≡ after_bytes x (all_resumed rules ws new then_first us t)
 unfolding all_resumed
-all_resumed_after rules ws place new first then_first ts us s t x e = grind (arith, after_bytes-goes_on)
+all_resumed_after rules ws place new first then_first ts us s t x e =
+    ap (λ (p : Passage). goes_on p (λ after. unwound rules ws after)) e
+    ∙ after_bytes-goes_on x (resumed rules new then_first us t) (λ after. unwound rules ws after)
 
 -- a fault of the innermost source ends the nest
 pub all_resumed_fails : (rules : Rules) (ws : List Waiting) (place : Place) (first : Bool) (ts : List SourceToken) (s t : State) (f : Report)
     → resumed rules place first ts s ≡ leaves (fails f) t
     → all_resumed rules ws place first ts s ≡ leaves (fails f) t
 unfolding all_resumed
-all_resumed_fails rules ws place first ts s t f e = grind (arith, fails-goes_on)
+all_resumed_fails rules ws place first ts s t f e =
+    ap (λ (p : Passage). goes_on p (λ after. unwound rules ws after)) e
+    ∙ fails-goes_on f t (λ after. unwound rules ws after)
 
 -- Conditionals in a nest of open sources: what the words `ifdef`, `ifndef`, `elsif`, `else` and `endif` do in live text and in
 -- skipped text that they end, and the end of a source in an open conditional, where any sources wait.

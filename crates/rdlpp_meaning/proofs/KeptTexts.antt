@@ -7,7 +7,7 @@ use Rattle.std.proofs.lemmas.List.Elements.{All-append, All-cons, All-head, All-
 use Rattle.rdlpp_scan.specs.CleanTexts.{IsCleanText, IsCleanToken}
 use Rattle.rdlpp_scan.specs.Comments.{is_line_comment, other_texts, other_tokens, token_texts, without_line_comments}
 use Rattle.rdlpp_scan.specs.Front.{Breach, Break, CommentOpen, DefineCut, DefineLong, StringOpen}
-use Rattle.rdlpp_scan.specs.Pieces.{mode_after, tokens_len}
+use Rattle.rdlpp_scan.specs.Pieces.{tokens_len}
 use Rattle.rdlpp_scan.specs.SourceTokens.{Broken, Course, Definition, Last, Next, Ordinary, Renumbering, Sort, SourceToken, Step, broken, line_after, line_ends, open_end, source_end, source_step, source_tokens}
 use Rattle.rdlpp_scan.specs.TokenKinds.{is_one_byte, is_ordinary, opens_mode}
 use Rattle.rdlpp_scan.specs.Tokens.{token_of, tokens_from}
@@ -137,20 +137,7 @@ text_cut m bs us vs e =
     let own : bytes_of us ≡ take k bs = sym (ap (λ (xs : List SourceToken). bytes_of xs) c.front) ∙ spelled_bytes c.before bs in
     let size : length (bytes_of us) ≡ k = let n = length-take k bs in let l = ap length own in omega arith in
     let following = tokens_from-after_some c.before c.following m bs c.whole in
-    record {
-      bytes = own ∙ ap (λ (n : ℕ). take n bs) (sym size);
-      inside = omega (arith, size, fits);
-      front =
-          ap (λ (x : List ℕ). spelled (tokens_from m 0 x) x) own
-          ∙ ap (λ (ts : List Token). spelled ts (take k bs)) (tokens_from-front c.before c.following m bs c.whole)
-          ∙ spelled_front c.before bs
-          ∙ c.front;
-      mode = mode_after m c.before;
-      back =
-          ap (λ (n : ℕ). spelled (tokens_from (mode_after m c.before) 0 (drop n bs)) (drop n bs)) size
-          ∙ ap (λ (ts : List Token). spelled ts (drop k bs)) following
-          ∙ c.back;
-    }
+    grind (arith, tokens_from-front, spelled_front)
 
 -- whether a token of a role leaves plain text behind it, wherever it stands
 unfoldable pub closes_text : Role → Bool
@@ -223,11 +210,7 @@ pub text_one : (m : Mode) (bs : List ℕ) (us : List SourceToken) (u : SourceTok
     → text_tokens m bs ≡ us ++ u ∷ vs → is_one_role (token_role u) ≡ true → length u.bytes ≡ 1
 text_one m bs us u vs e one =
     let c = text_cut m bs us (u ∷ vs) e in
-    let rest = drop (length (bytes_of us)) bs in
-    let f = begins c.mode rest u vs c.back in
-    ap (λ (v : SourceToken). length v.bytes) (sym f.first)
-    ∙ first_size c.mode rest f.some
-    ∙ first_one c.mode rest (ap (λ (v : SourceToken). is_one_role (token_role v)) f.first ∙ one)
+    grind (arith, begins, first_size, first_one)
 
 -- behind a token that leaves plain text, a text has the tokens that follow
 pub text_after : (m : Mode) (bs : List ℕ) (us : List SourceToken) (u : SourceToken) (vs : List SourceToken)
@@ -235,10 +218,7 @@ pub text_after : (m : Mode) (bs : List ℕ) (us : List SourceToken) (u : SourceT
     → (text_tokens Plain (drop (length (bytes_of us) + length u.bytes) bs) ≡ vs) × (length (bytes_of us) + length u.bytes ≤ length bs)
 text_after m bs us u vs e closed =
     let c = text_cut m bs us (u ∷ vs) e in
-    let n = length (bytes_of us) in
-    let f = first_after c.mode (drop n bs) u vs c.back closed in
-    let size = length-drop n bs in
-    (ap (λ (x : List ℕ). text_tokens Plain x) (sym (drop-drop (length u.bytes) n bs)) ∙ f.0, omega (arith, f.1, size, c.inside))
+    grind (arith, first_after, length-drop, drop-drop)
 
 -- The bytes that a call keeps have exactly the tokens that it keeps, but for their lines.
 
@@ -492,11 +472,7 @@ kept_call_text c m opened line bs ts ks used e closed =
     let cut = text_cut Plain text us q.others q.row in
     let same : filter (λ t. is_kept (token_role t)) us ≡ map unlined ks =
     kept-map token_role token_role unlined unlined_role closed.inner ∙ ap (map unlined) (sym (closed.keeps ∙ kept_same closed.inner)) in
-    body_text (bytes_of ks)
-    ∙ ap (λ (x : List ℕ). text_tokens Plain x) (sym (unlined_bytes ks))
-    ∙ ap (λ (vs : List SourceToken). text_tokens Plain (bytes_of vs)) (sym same)
-    ∙ kept_text Plain (bytes_of us) us cut.front
-    ∙ same
+    grind (arith, body_text, unlined_bytes, kept_text)
 
 -- and each of them is kept
 pub kept_call_keeps : (ts ks : List SourceToken) (used : ℕ) → IsClosed source_role ts ks used → All (λ t. is_kept (token_role t) ≡ true) (map unlined ks)

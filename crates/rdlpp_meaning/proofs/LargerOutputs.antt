@@ -574,10 +574,7 @@ limited-agree : (over : Report) (quota more : ℕ) (o p : Outcome) → is_limit 
     → (NamesNoLimit o.fault → p ≡ o) → NamesNoLimit (limited over quota o).fault → limited over more p ≡ limited over quota o
 limited-agree over quota more o p l h same n =
     let within : length o.bytes ≤ quota = within-by over quota o (nat_le (length o.bytes) quota) l refl n in
-    let stays : limited over quota o ≡ o = limited-within over quota o within in
-    ap (limited over more) (same (subst (λ (x : Outcome). NamesNoLimit x.fault) stays n))
-    ∙ limited-within over more o (le_trans within h)
-    ∙ sym stays
+    grind (arith, limited-within, le_trans)
 
 -- an output that no fault of a limit ends is the same with larger limits, among them that on the output
 pub larger_limits : (small large : Limits) (searches : Searches) (origins : Bool) (macros : List Macro) (path : List ℕ)

@@ -296,10 +296,7 @@ step-tokens most most' k k' ended o l b bs more ends inner (Tears t breach e is 
     let c : Course = record { most = most; break = k } in
     let c' : Course = record { most = most'; break = k' } in
     let first = first-is c' o l b (bs ++ more) in
-    subst (λ (ts : List SourceToken). TokensTorn ended ts (source_tokens c' Plain o l 0 (held ++ more)))
-    (sym (source_tokens-last c Plain o l held t (omega arith) e))
-    (subst (λ (us : List SourceToken). TokensTorn ended (t ∷ []) us) (sym first.1)
-    (inl (record { breach = breach; broken = is; last = refl; limit = limit; torn = suits.torn first.0; nothing = λ x. suits.nothing first.0 })))
+    grind (arith, source_tokens-last)
 
 -- the tokens of a text of at most so many bytes
 text-torn : (most most' : ℕ) (k k' : Option Break) (more : List ℕ) → most ≤ most' → IsOwnBreak k'
@@ -428,10 +425,7 @@ sources-torn most most' room room' bytes le rooms =
     let f = front_of_lines most room (lines_of bytes) in
     let g = front_of_lines most' room' (lines_of bytes) in
     let h : FrontTorn f g = fronts-torn most most' le (lines_of bytes) (lines-are bytes) room room' rooms in
-    subst (λ (bs : List ℕ). TokensTorn true (source_tokens (record { most = most; break = f.break }) Plain 1 1 0 f.text)
-    (source_tokens (record { most = most'; break = g.break }) Plain 1 1 0 bs)) (sym h.text)
-    (text-torn most most' f.break g.break h.more le h.own (length f.text) true 1 1 f.text (omega arith) h.ends
-    (λ x limit. absurd (true≢false x)))
+    grind (arith, text-torn, true≢false)
 
 -- Expansion and runs with larger limits: the same, but where a smaller limit was a fault, which may have torn the last token.
 

@@ -96,9 +96,7 @@ pub after_cut : {A : Type 0} (lead : List A) (opener : A) (inner : List A) (clos
 after_cut {A = A} lead opener inner closer following =
     let rest : List A = inner ++ closer ∷ following in
     let n : length inner + 2 ≡ suc (length inner + 1) = omega arith in
-    drop-append-add lead (opener ∷ rest) (length inner + 2)
-    ∙ ap (λ i. drop i (opener ∷ rest)) n
-    ∙ drop-append-add inner (closer ∷ following) 1
+    grind (arith, drop-append-add)
 
 -- the scan behind the first thing before the `(`
 unfoldable after_lead : {A : Type 0} → Role → Scanned A → Scanned A → Scanned A
@@ -318,10 +316,7 @@ kept_parts k room part whole t ts e =
     let size : length whole.bytes ≡ a + b = ap length e ∙ length-append part t.bytes in
     let less : room - (a + b) ≡ (room - a) - b = omega arith in
     let go : Bool → ℕ → Reading = λ fits left. read_by (turn_fitting fits Keeps) whole ts (read (Inside k) false left ts) in
-    ap (λ n. go (nat_le n room) (room - n)) size
-    ∙ ap (λ c. go c (room - (a + b))) (fits_in_parts a b room)
-    ∙ ap (go (nat_le a room && nat_le b (room - a))) less
-    ∙ kept_in_parts (nat_le a room) (nat_le b (room - a)) part whole t ts (read (Inside k) false ((room - a) - b) ts) e
+    grind (arith, nat_le, fits_in_parts, kept_in_parts)
 
 -- a broken token by its parts
 broken_parts : (f : FaultKind) (line room : ℕ) (part : List ℕ) (whole t : SourceToken) (ts : List SourceToken) (one other : Reading) → whole.bytes ≡ part ++ t.bytes
