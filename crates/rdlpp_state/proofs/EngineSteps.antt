@@ -6,7 +6,7 @@ use Rattle.rdlpp_meaning.specs.declared.fault.Fault.{Fault}
 use Rattle.rdlpp_meaning.specs.declared.fault.FaultKind.{FaultKind}
 use Rattle.rdlpp_meaning.specs.declared.fault.FaultKind.TheVariants as fault
 use Rattle.rdlpp_meaning.specs.Meaning.{Passage, after_bytes, leaves, outcome}
-use Rattle.rdlpp_meaning.specs.Outcome.{Report, report_of, Outcome, fails, gives}
+use Rattle.rdlpp_meaning.specs.Outcome.{Report, report_of, Outcome, fails}
 use Rattle.rdlpp_meaning.specs.State.{fault_at}
 use Rattle.rdlpp_meaning.proofs.Outcomes.{outcome-after_bytes, outcome-leaves}
 use Rattle.rdlpp_read.specs.Buffer.{Slides, reading_line_of}
@@ -14,11 +14,8 @@ use Rattle.rdlpp_read.specs.Calls.{SourcesRead}
 use Rattle.rdlpp_read.specs.Files.{inner_buffer, with_buffer}
 use Rattle.rdlpp_state.specs.Calls.{SourcesCalled}
 use Rattle.rdlpp_state.specs.Engine.{EngineView}
-use Rattle.rdlpp_state.specs.Failures.{MayGoOn}
 use Rattle.rdlpp_state.specs.Held.{IsBounded}
 use Rattle.rdlpp_state.specs.Standing.{LendNone, LendsNone, LendsWhere, Reaches, StandsIn}
-use Rattle.rdlpp_state.specs.Stored.{AreParts}
-use Rattle.rdlpp_read.specs.declared.files.File.{File}
 use Rattle.rdlpp_state.proofs.Stores.{KeepsStores, keeps_refused, none_called}
 use Rattle.rdlpp_state.specs.Pending.{nothing_pending}
 use Rattle.rdlpp_state.specs.Pieces.{kept_answer, lent_answer}
@@ -46,66 +43,12 @@ left_open g e free open_ = rw (free, open_) refl
 -- a kept fault
 pub steps_kept : {S R : Type 0} (g : Ghosts S R) (e : EngineView S R) (f : Report) → IsStarted e → IsBounded e → e.kept ≡ Some f → UncutStep g e e (Err f)
 unfolding has_met uncut_of kept_uncut no_len
-steps_kept g e f started bounded kept = record {
-  limits = refl;
-  origins = refl;
-  main = refl;
-  started = started;
-  kept = λ h is. (let same : Some f ≡ Some h = sym kept ∙ is in cc, refl);
-  ended = λ none closed. absurd (let no : Some f ≡ None = sym kept ∙ none in cc);
-  passed = λ none past. absurd (let no : Some f ≡ None = sym kept ∙ none in cc);
-  keeps = kept;
-  free = tt;
-  own = λ none. absurd (let no : Some f ≡ None = sym kept ∙ none in cc);
-  ends = λ no. absurd (cc);
-  failed = λ met. absurd (let no : false ≡ true = rw kept at met in cc);
-  call = rw kept (not_called g e.sources);
-  answers = λ own t. rw kept refl;
-  text = λ none. absurd (let no : Some f ≡ None = sym kept ∙ none in cc);
-  reads = λ met. absurd (let no : false ≡ true = rw kept at met in cc);
-  halts = λ none. absurd (let no : Some f ≡ None = sym kept ∙ none in cc);
-  falls = λ bytes no. absurd (cc);
-  lends = λ bytes no. absurd (cc);
-  quota = omega arith;
-  most_bytes = refl;
-  most_macros = refl;
-  bounded = bounded;
-  stands = λ none. absurd (let no : Some f ≡ None = sym kept ∙ none in cc);
-  lets_go = λ h. h;
-  stores = λ t h. h;
-}
+steps_kept g e f started bounded kept = grind (arith, not_called)
 
 -- the end once more
 pub steps_ended : {S R : Type 0} (g : Ghosts S R) (e : EngineView S R) → IsStarted e → IsBounded e → e.kept ≡ None → e.phase ≡ Closed → UncutStep g e e (Ok None)
 unfolding has_met uncut_of kept_uncut phase_uncut no_len
-steps_ended g e started bounded free closed = record {
-  limits = refl;
-  origins = refl;
-  main = refl;
-  started = started;
-  kept = λ h is. absurd (let no : None ≡ Some h = sym free ∙ is in cc);
-  ended = λ none is. (refl, refl);
-  passed = λ none past. absurd (let no : Closed ≡ OverLimit = sym closed ∙ past in cc);
-  keeps = tt;
-  free = free;
-  own = λ none. tt;
-  ends = λ same. (free, closed);
-  failed = λ met. absurd (let no : false ≡ true = rw free at met in cc);
-  call = rw free (not_called g e.sources);
-  answers = λ own t. (rw (free, closed) refl, rw (free, closed) refl);
-  text = λ none open_. absurd (let no : Closed ≡ Open = sym closed ∙ open_ in cc);
-  reads = λ met. absurd (let no : false ≡ true = rw free at met in cc);
-  halts = λ none open_. absurd (let no : Closed ≡ Open = sym closed ∙ open_ in cc);
-  falls = λ bytes no. absurd (cc);
-  lends = λ bytes no. absurd (cc);
-  quota = omega arith;
-  most_bytes = refl;
-  most_macros = refl;
-  bounded = bounded;
-  stands = λ _ _ bytes e. absurd (cc);
-  lets_go = λ h. h;
-  stores = λ t h. h;
-}
+steps_ended g e started bounded free closed = grind (arith, not_called)
 
 -- no step at all
 abbrev pub reaches_same : {S R : Type 0} (g : Ghosts S R) (e : EngineView S R) → Reaches g e e
@@ -210,36 +153,7 @@ module _ {S R : Type 0} (g : Ghosts S R) (old new : EngineView S R) (free : old.
       → SourcesCalled g false false old.sources new.sources
       → (g.has_known_texts old.sources → text_of g old ≡ leaves (fails f) (state_of new)) → KeepsStores g old new → UncutStep g old new (Err f)
   unfolding has_met no_len is_call_failed
-  walks_kept f own becomes halts call text stores =
-      let still : new.phase ≡ Open = ap (λ e. e.phase) becomes ∙ open_ in
-      record {
-        limits = ap (λ e. e.limits) becomes;
-        origins = ap (λ e. e.origins) becomes;
-        main = ap (λ e. e.main) becomes;
-        started = λ fresh. (let no : Open ≡ Fresh = sym still ∙ fresh in cc);
-        kept = λ h is. absurd (let no : None ≡ Some h = sym free ∙ is in cc);
-        ended = λ _ closed. absurd (let no : Open ≡ Closed = sym open_ ∙ closed in cc);
-        passed = λ _ past. absurd (let no : Open ≡ OverLimit = sym open_ ∙ past in cc);
-        keeps = ap (λ e. e.kept) becomes;
-        free = tt;
-        own = λ _. own.write;
-        ends = λ e. absurd (cc);
-        failed = λ met. absurd (let no : false ≡ true = rw (free, own.read, own.memory) at met in cc);
-        call = rw (free, own.read, own.memory) call;
-        answers = λ _ t. left_open g old free open_ ∙ (ap outcome (text t) ∙ outcome-leaves (fails f) (state_of new));
-        text = λ _ _ _ t. text t;
-        reads = λ met. absurd (let no : false ≡ true = rw (free, own.read, own.memory) at met in cc);
-        halts = λ _ _. halts;
-        falls = λ bytes e. absurd (cc);
-        lends = λ bytes e. absurd (cc);
-        quota = omega (arith, ap (λ e. e.quota) becomes);
-        most_bytes = ap (λ e. e.table.most_bytes) becomes;
-        most_macros = ap (λ e. e.table.most_macros) becomes;
-        bounded = bounded;
-        stands = λ _ _ bytes e. absurd (cc);
-        lets_go = stores.lets_go;
-        stores = stores.stores;
-      }
+  walks_kept f own becomes halts call text stores = grind (arith, left_open, outcome-leaves)
 
   -- a fault at the front of what is held
   pub walks_fault : (f : Report) → IsOwn f.kind → new ≡ record old { kept = Some f; files = new.files; sources = new.sources }
@@ -255,36 +169,7 @@ module _ {S R : Type 0} (g : Ghosts S R) (old new : EngineView S R) (free : old.
       → new ≡ record old { kept = Some f; files = new.files; sources = new.sources; expansion = new.expansion } → HaltsAt g 0 old new → StopsReading g old new
       → SourcesCalled g (is_read_failed f.kind) (is_memory_kind f.kind) old.sources new.sources → KeepsStores g old new → UncutStep g old new (Err f)
   unfolding has_met no_len
-  walks_ceased f fails met write becomes halts reads call stores =
-      let still : new.phase ≡ Open = ap (λ e. e.phase) becomes ∙ open_ in
-      record {
-        limits = ap (λ e. e.limits) becomes;
-        origins = ap (λ e. e.origins) becomes;
-        main = ap (λ e. e.main) becomes;
-        started = λ fresh. (let no : Open ≡ Fresh = sym still ∙ fresh in cc);
-        kept = λ h k. absurd (let no : None ≡ Some h = sym free ∙ k in cc);
-        ended = λ _ closed. absurd (let no : Open ≡ Closed = sym open_ ∙ closed in cc);
-        passed = λ _ past. absurd (let no : Open ≡ OverLimit = sym open_ ∙ past in cc);
-        keeps = ap (λ e. e.kept) becomes;
-        free = tt;
-        own = λ _. write;
-        ends = λ e. absurd (cc);
-        failed = λ _. fails;
-        call = rw free call;
-        answers = λ own t. absurd (let no : true ≡ false = sym (rw free met) ∙ own in cc);
-        text = λ _ _ own t. absurd (let no : true ≡ false = sym (rw free met) ∙ own in cc);
-        reads = λ _. reads;
-        halts = λ _ _. halts;
-        falls = λ bytes e. absurd (cc);
-        lends = λ bytes e. absurd (cc);
-        quota = omega (arith, ap (λ e. e.quota) becomes);
-        most_bytes = ap (λ e. e.table.most_bytes) becomes;
-        most_macros = ap (λ e. e.table.most_macros) becomes;
-        bounded = bounded;
-        stands = λ _ _ bytes e. absurd (cc);
-        lets_go = stores.lets_go;
-        stores = stores.stores;
-      }
+  walks_ceased f fails met write becomes halts reads call stores = grind arith
 
   -- at the front of what is held
   pub walks_stopped : (f : Report) → FailsAt new f → is_call_failed f.kind ≡ true → is_write_failed f.kind ≡ false
@@ -317,42 +202,7 @@ module _ {S R : Type 0} (g : Ghosts S R) (old new : EngineView S R) (free : old.
       → SourcesCalled g false false old.sources new.sources
       → (g.has_known_texts old.sources → EndsText new (text_of g old)) → UncutStep g old new (Ok None)
   unfolding has_met no_len uncut_of kept_uncut phase_uncut
-  walks_end becomes drained idle call text =
-      let closed : new.phase ≡ Closed = ap (λ e. e.phase) becomes in
-      let none : new.kept ≡ None = ap (λ e. e.kept) becomes ∙ free in
-      record {
-        limits = ap (λ e. e.limits) becomes;
-        origins = ap (λ e. e.origins) becomes;
-        main = ap (λ e. e.main) becomes;
-        started = λ fresh. (let no : Closed ≡ Fresh = sym closed ∙ fresh in cc);
-        kept = λ h is. absurd (let no : None ≡ Some h = sym free ∙ is in cc);
-        ended = λ _ is. absurd (let no : Open ≡ Closed = sym open_ ∙ is in cc);
-        passed = λ _ past. absurd (let no : Open ≡ OverLimit = sym open_ ∙ past in cc);
-        keeps = tt;
-        free = none;
-        own = λ _. tt;
-        ends = λ e. (none, closed);
-        failed = λ met. absurd (let no : false ≡ true = rw free at met in cc);
-        call = rw free call;
-        answers = λ _ t. (left_open g old free open_ ∙ (ap outcome ((text t).text) ∙ outcome-leaves (gives []) (text t).last), rw (none, closed) refl);
-        text = λ _ _ _ t. text t;
-        reads = λ met. absurd (let no : false ≡ true = rw free at met in cc);
-        halts = λ _ _. ap (λ e. e.pending) becomes ∙ drained;
-        falls = λ bytes e. absurd (cc);
-        lends = λ bytes e. absurd (cc);
-        quota = omega (arith, ap (λ e. e.quota) becomes);
-        most_bytes = ap (λ e. e.table.most_bytes) becomes;
-        most_macros = ap (λ e. e.table.most_macros) becomes;
-        bounded = bounded;
-        stands = λ _ _ bytes e. absurd (cc);
-        lets_go = λ h. record { idle = λ _ is. ap (λ e. e.expansion.arguments) becomes ∙ h.idle (inl free) (none_called old.table.macros old.expansion.opens idle) };
-        stores = λ t h. record {
-          lets_go = record { idle = λ _ is. ap (λ e. e.expansion.arguments) becomes ∙ h.lets_go.idle (inl free) (none_called old.table.macros old.expansion.opens idle) };
-          parts = subst (λ (ns : List (File R)). AreParts g.unread (g.catalog new.sources) (MayGoOn new) ns) (sym (text t).closed) tt;
-          begun = λ _. inl (ap (λ e. e.expansion.arguments) becomes ∙ h.lets_go.idle (inl free) (none_called old.table.macros old.expansion.opens idle));
-          call = λ fs called. absurd (let no : None ≡ Some fs = sym (none_called new.table.macros new.expansion.opens (ap (λ e. e.expansion.opens) becomes ∙ idle)) ∙ called in cc);
-        };
-      }
+  walks_end becomes drained idle call text = grind (arith, left_open, outcome-leaves, none_called, called)
 
 -- what a part of a step did that lends nothing, in so many parts at most, where no fault was kept
 pub record IsSilent {S R : Type 0} (g : Ghosts S R) (n : ℕ) (old mid : EngineView S R) : Type 0 where
@@ -398,20 +248,14 @@ counts_or false b old mid new e p q = let P : ℕ → Type 0 = λ n. Counts b n 
 -- one call and then another, of which one at most failed, and one at most was refused memory
 pub called_after : {S R : Type 0} (g : Ghosts S R) (a b c d : Bool) (old mid new : S) → (a && b) ≡ false → (c && d) ≡ false →
     SourcesCalled g a c old mid → SourcesCalled g b d mid new → SourcesCalled g (a || b) (c || d) old new
-called_after g a b c d old mid new e f first then_ = record {
-  failures = counts_or a b _ _ _ e first.failures then_.failures;
-  refusals = counts_or c d _ _ _ f first.refusals then_.refusals;
-  has_known_texts = λ t. then_.has_known_texts (first.has_known_texts t);
-  catalog = then_.catalog ∙ first.catalog;
-}
+called_after g a b c d old mid new e f first then_ = grind (arith, counts_or)
 
 -- all of a piece is lent, whatever may still be
 told_over : {S R : Type 0} (g : Ghosts S R) (answer : Result (Option (List ℕ)) Report) (a b : ℕ) (p : Passage) (new : EngineView S R)
     → TellsText (all_of a) g answer p new → TellsText (all_of b) g answer p new
 unfolding all_of
 told_over g (Ok (Some bytes)) a b p new has_known_texts = record { piece = has_known_texts.piece; lent = has_known_texts.lent; text = has_known_texts.text }
-told_over g (Ok None) a b p new has_known_texts = has_known_texts
-told_over g (Err f) a b p new has_known_texts = has_known_texts
+told_over g _ a b p new has_known_texts = has_known_texts
 
 -- where no byte was lent, the same remains
 silent_text : (quota : ℕ) (old new : Passage) → LendsText (all_of quota) [] old new → old ≡ new
@@ -484,10 +328,8 @@ silent_then g n m old mid new answer first then_ =
 -- where bytes may follow, the main text is open
 pub follows : (p : Phase) → may_follow p ≡ true → p ≡ Open
 unfolding may_follow
-follows Fresh h = cc h
 follows Open h = refl
-follows OverLimit h = cc h
-follows Closed h = cc h
+follows _ h = cc h
 
 -- a step that lent nothing is such a part
 silent_step : {S R : Type 0} (g : Ghosts S R) (m : ℕ) (old mid : EngineView S R) → UncutStepWithin g m old mid (Ok (Some [])) → IsSilent g (m + 1) old mid

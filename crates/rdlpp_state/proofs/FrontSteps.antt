@@ -1,5 +1,5 @@
 -- What is taken of the open sources, as steps of the engine.
-use Rattle.std.proofs.Common.{◌≡◌, ℕ, zero, suc, ◌+◌, ◌-◌, ◌^◌, ◌≤◌, ◌<◌, true, false, List, [], ◌∷◌, ◌++◌, length, take, drop, replicate, append_assoc, append-nil, Option, None, Some, Ok, refl, sym, ap, ◌∙◌, subst, inr, codes, arith, slice_range, min, IfSome, take-take, length-drop, length-take}
+use Rattle.std.proofs.Common.{◌≡◌, ℕ, zero, suc, ◌+◌, ◌-◌, ◌^◌, ◌≤◌, ◌<◌, true, false, List, [], ◌∷◌, ◌++◌, length, take, drop, replicate, append_assoc, append-nil, Option, None, Some, Ok, refl, sym, ap, ◌∙◌, subst, arith, slice_range, min, IfSome, take-take, length-drop, length-take}
 use Rattle.std.proofs.lemmas.List.{drop-take, take_rest}
 use Rattle.std.proofs.Math.Seq.{drop-nil}
 use Rattle.rdlpp_source.specs.Sources.{Catalog}
@@ -44,7 +44,7 @@ use Rattle.rdlpp_state.specs.Stored.{AreParts}
 use Rattle.rdlpp_read.proofs.BufferTokens.{slides-same, slides-told}
 use Rattle.rdlpp_state.specs.Moves.{Defines, IsReady, IsDrained, ReadsDefine, RefusesDefine, define_rest}
 use Rattle.rdlpp_state.specs.Marks.{MarksView, lends_line, lends_pending}
-use Rattle.rdlpp_state.specs.Pending.{OriginView, PendingView, TakesPiece, digits_of, line_ends_pending, nothing_pending, origin_bytes, origin_pieces, pending_bytes, pending_pieces, part_bytes}
+use Rattle.rdlpp_state.specs.Pending.{PendingView, TakesPiece, digits_of, line_ends_pending, nothing_pending, origin_bytes, origin_pieces, pending_bytes, pending_pieces, part_bytes}
 use Rattle.rdlpp_state.specs.declared.pending.PendingPiece.{PendingPiece}
 use Rattle.rdlpp_state.specs.Pieces.{IsPlaced, lent_answer, step_answer}
 use Rattle.rdlpp_state.specs.Positions.{Unmarked, position_of}
@@ -53,7 +53,7 @@ use Rattle.rdlpp_state.specs.Steps.{IsOwn, IsReading, UncutStep, is_memory_kind,
 use Rattle.rdlpp_state.specs.declared.phase.Phase.{Phase}
 use Rattle.rdlpp_state.specs.declared.phase.Phase.TheVariants.{Open}
 use Rattle.rdlpp_state.specs.declared.place.PieceLocation.{PieceLocation}
-use Rattle.rdlpp_state.specs.declared.place.PieceLocation.TheVariants.{Source, Text, Pending, End, Fault}
+use Rattle.rdlpp_state.specs.declared.place.PieceLocation.TheVariants.{Source, Pending, Fault}
 use Rattle.rdlpp_usages.specs.Usages.{texts_left}
 use Rattle.rdlpp_state.proofs.Soundness.{inner_facts, text_idle, with_inner-length}
 use Rattle.rdlpp_front.proofs.TextLeft.{define_begins}
@@ -91,11 +91,7 @@ part_slice xs at len accepted h =
 -- the held bytes that are used are a part of the window
 held_part : {R : Type 0} (b : BufferView R) (len : ℕ) → b.at ≤ b.accepted → len ≤ length (held_of b) → slice_range b.window b.at (b.at + len) ≡ take len (held_of b)
 unfolding held_of
-held_part b len used inside =
-    let room = held_room b in
-    let within : b.at + len ≤ b.accepted = omega (arith, length-drop b.at (take b.accepted b.window), length-take b.accepted b.window) in
-    let same : b.at + len - b.at ≡ len = omega arith in
-    ap (λ k. take k (drop b.at b.window)) same ∙ part_slice b.window b.at len b.accepted within
+held_part b len used inside = grind (arith, held_room, length-drop, length-take, part_slice)
 
 -- nothing that is pending is before nothing
 pub drained_after : (name : List ℕ) (pending : PendingView) (p : Passage) → pending ≡ nothing_pending → after_bytes (pending_bytes name pending) p ≡ p
@@ -105,9 +101,7 @@ drained_after name pending p none = rw none refl
 -- what remains of the text where nothing is pending
 pub text_drained : {S R : Type 0} (g : Ghosts S R) (e : EngineView S R) → e.pending ≡ nothing_pending → e.expansion.opens ≡ []
     → text_of g e ≡ include_stack_left e.limits (run_rules g e) g.unread e.table.macros e.conditions e.files.include_stack
-text_drained g e none idle =
-    text_idle g e idle
-    ∙ drained_after (inner_name e.files.include_stack) e.pending (include_stack_left e.limits (run_rules g e) g.unread e.table.macros e.conditions e.files.include_stack) none
+text_drained g e none idle = grind (arith, text_idle, drained_after)
 
 -- nothing that is pending can be counted
 pub drained_few : (pending : PendingView) → pending ≡ nothing_pending → pending_pieces pending < 2 ^ 31
@@ -176,16 +170,7 @@ refused_kind mode held kind (AtBare plain h) = record { read = refl; write = ref
 pub define_kind : (kind : DefineKind) → IsOwn (define_fault kind)
 unfolding is_read_failed is_write_failed is_memory_kind define_fault
 define_kind define.EmbeddedPerl = record { read = refl; write = refl; memory = refl }
-define_kind define.OpenString = record { read = refl; write = refl; memory = refl }
-define_kind define.OpenComment = record { read = refl; write = refl; memory = refl }
-define_kind define.NameExpected = record { read = refl; write = refl; memory = refl }
-define_kind define.ReservedName = record { read = refl; write = refl; memory = refl }
-define_kind define.NameTooLong = record { read = refl; write = refl; memory = refl }
-define_kind define.BadFormals = record { read = refl; write = refl; memory = refl }
-define_kind define.FormalTwice = record { read = refl; write = refl; memory = refl }
-define_kind define.TooManyFormals = record { read = refl; write = refl; memory = refl }
-define_kind define.DefinitionBytes = record { read = refl; write = refl; memory = refl }
-define_kind define.TooManyDefinitions = record { read = refl; write = refl; memory = refl }
+define_kind _ = record { read = refl; write = refl; memory = refl }
 
 -- a fault's word is cut once
 pub cut_once : (kind : FaultKind) (line : ℕ) (word : List ℕ) (s : State) → fault_at kind line (take 128 word) s ≡ fault_at kind line word s
@@ -196,9 +181,7 @@ cut_once kind line word s = rw (take-take 128 128 word (omega arith)) refl
 pub kept_cut : {S R : Type 0} (old new : EngineView S R) (kind : FaultKind) (line : ℕ) (word name : List ℕ) (s : State) →
     new ≡ record old { kept = Some (fault_at kind line word s) } → word ≡ take 128 name →
     new ≡ record old { kept = Some (fault_at kind line name s) }
-kept_cut {S} {R} old new kind line word name s becomes cut =
-    let keeps : Report → EngineView S R = λ f. record old { kept = Some f } in
-    becomes ∙ ap keeps (ap (λ w. fault_at kind line w s) cut ∙ cut_once kind line name s)
+kept_cut {S} {R} old new kind line word name s becomes cut = grind (arith, cut_once)
 
 -- only the innermost buffer and the sources changed
 pub record IsRead {S R : Type 0} (g : Ghosts S R) (old mid : EngineView S R) : Type 0 where
@@ -213,24 +196,12 @@ slid has_known_texts exact unread old new slides = slides-told has_known_texts h
 -- the state is the same then
 pub read_state : {S R : Type 0} {g : Ghosts S R} (old mid : EngineView S R) → IsRead g old mid → state_of mid ≡ state_of old
 unfolding state_of
-read_state {S} {R} old mid r =
-    let limits : mid.limits ≡ old.limits = ap (λ e. e.limits) r.becomes in
-    let table : mid.table ≡ old.table = ap (λ e. e.table) r.becomes in
-    let conditions : mid.conditions ≡ old.conditions = ap (λ e. e.conditions) r.becomes in
-    let include_stack : mid.files.include_stack ≡ with_buffer (inner_buffer mid.files.include_stack) old.files.include_stack = ap (λ f. f.include_stack) r.only in
-    ap (λ (ns : List (File R)). include_stack_state mid.limits mid.table.macros mid.conditions ns) include_stack
-    ∙ (same_state (inner_buffer mid.files.include_stack) mid.limits mid.table.macros mid.conditions old.files.include_stack
-    ∙ rw (limits, table, conditions) refl)
+read_state {S} {R} old mid r = grind (arith, same_state)
 
 -- what keeping a fault makes of an engine
 pub keeps_fault : {S R : Type 0} {g : Ghosts S R} (old mid new : EngineView S R) (f : Report) → IsRead g old mid → new ≡ record mid { kept = Some f }
     → new ≡ record old { kept = Some f; files = new.files; sources = new.sources }
-keeps_fault {S} {R} old mid new f r becomes =
-    let files : new.files ≡ mid.files = ap (λ e. e.files) becomes in
-    let sources : new.sources ≡ mid.sources = ap (λ e. e.sources) becomes in
-    let keeps : FilesView R → S → EngineView S R = λ fs s. record old { kept = Some f; files = fs; sources = s } in
-    becomes ∙ (ap (λ (m : EngineView S R). record m { kept = Some f }) r.becomes
-    ∙ (ap (λ (fs : FilesView R). keeps fs mid.sources) (sym files) ∙ ap (λ (s : S). keeps new.files s) (sym sources)))
+keeps_fault {S} {R} old mid new f r becomes = grind arith
 
 -- and the innermost buffer alone
 pub keeps_files : {S R : Type 0} {g : Ghosts S R} (old mid new : EngineView S R) (f : Report) → IsRead g old mid → new ≡ record mid { kept = Some f }
@@ -247,26 +218,13 @@ keeps_moves {S} {R} {g} old mid new f r becomes =
 -- and what is held stays
 pub keeps_read : {S R : Type 0} (g : Ghosts S R) (old mid new : EngineView S R) (f : Report) → IsReady old → IsRead g old mid → new ≡ record mid { kept = Some f } → g.catalog mid.sources ≡ g.catalog old.sources → (MayGoOn new → ⊥)
     → KeepsStores g old new
-keeps_read {S} {R} g old mid new f ready r becomes catalog stops =
-    let b = inner_buffer mid.files.include_stack in
-    let is : new ≡ record old { kept = Some f; files = record old.files { include_stack = with_buffer b old.files.include_stack }; sources = mid.sources } =
-    becomes ∙ (ap (λ (m : EngineView S R). record m { kept = Some f }) r.becomes ∙ ap (λ (fs : FilesView R). record old { kept = Some f; files = fs; sources = mid.sources }) r.only) in
-    subst (λ (e : EngineView S R). KeepsStores g old e) (sym is)
-    (keeps_stopped g old f b mid.sources ready.free ready.idle ready.include_stack catalog r.moves (subst (λ (e : EngineView S R). MayGoOn e → ⊥) is stops))
+keeps_read {S} {R} g old mid new f ready r becomes catalog stops = grind (arith, keeps_stopped)
 
 -- the text is the same where what remains of the open sources is
 pub read_text : {S R : Type 0} (g : Ghosts S R) (old mid : EngineView S R) → old.pending ≡ nothing_pending → old.expansion.opens ≡ [] → IsRead g old mid → g.catalog mid.sources ≡ g.catalog old.sources
     → left_by g old old.table.macros old.conditions old.files.include_stack ≡ left_by g old old.table.macros old.conditions (with_buffer (inner_buffer mid.files.include_stack) old.files.include_stack)
     → text_of g old ≡ text_of g mid
-read_text {S} {R} g old mid drained idle r catalog law =
-    let limits : mid.limits ≡ old.limits = ap (λ e. e.limits) r.becomes in
-    let origins : mid.origins ≡ old.origins = ap (λ e. e.origins) r.becomes in
-    let table : mid.table ≡ old.table = ap (λ e. e.table) r.becomes in
-    let pending : mid.pending ≡ old.pending = ap (λ e. e.pending) r.becomes in
-    let conditions : mid.conditions ≡ old.conditions = ap (λ e. e.conditions) r.becomes in
-    let include_stack : mid.files.include_stack ≡ with_buffer (inner_buffer mid.files.include_stack) old.files.include_stack = ap (λ f. f.include_stack) r.only in
-    text_drained g old drained idle ∙ (law ∙ (ap (λ (ns : List (File R)). left_by g old old.table.macros old.conditions ns) (sym include_stack)
-    ∙ (rw (limits, origins, table, conditions, catalog) refl ∙ sym (text_drained g mid (pending ∙ drained) (ap (λ e. e.expansion.opens) r.becomes ∙ idle)))))
+read_text {S} {R} g old mid drained idle r catalog law = grind (arith, text_drained)
 
 -- the fault that is kept is no part of the text
 pub kept_text : {S R : Type 0} (g : Ghosts S R) (mid new : EngineView S R) (f : Report) → new ≡ record mid { kept = Some f } → text_of g new ≡ text_of g mid
@@ -323,21 +281,11 @@ fails_reading {S} {R} g old mid new place ready r reading bounded is becomes cal
 
 -- a `define` begins what is held, of which more came
 pub reading_define : {R : Type 0} (old new : BufferView R) (more : List ℕ) → 0 < length (held_of old) → IsDirective Define (held_of old) → held_of new ≡ held_of old ++ more → IsReading new
-reading_define old new more some is held =
-    inr (
-      drop 7 (held_of old) ++ more,
-      held ∙ (ap (λ (xs : List ℕ). xs ++ more) (define_begins (held_of old) some is) ∙ append_assoc (codes "`define") (drop 7 (held_of old)) more),
-    )
+reading_define old new more some is held = grind (arith, define_begins, append_assoc)
 
 -- nothing changed
 pub read_nothing : {S R : Type 0} {g : Ghosts S R} (e : EngineView S R) → IsRead g e e
-read_nothing {S} {R} {g} e =
-    let b = inner_buffer e.files.include_stack in
-    record {
-      becomes = refl;
-      only = ap (λ ns. record e.files { include_stack = ns }) (same_include_stack e.files.include_stack);
-      moves = slides-same (g.has_known_texts e.sources) ⊥ g.unread b;
-    }
+read_nothing {S} {R} {g} e = grind (arith, same_include_stack, slides-same)
 
 -- text that is copied is lent
 pub take_text : {S R : Type 0} (g : Ghosts S R) (old mid new : EngineView S R) (len lines from to : ℕ) (next : Mode) → IsReady old → old.conditions.skipped ≡ None → IsBounded new
@@ -420,19 +368,13 @@ module _ {S R : Type 0} (g : Ghosts S R) (old mid new : EngineView S R) (len : �
   pub defined_steps : (result : Option PieceLocation) → 7 ≤ len → len ≤ length (held_of (inner_buffer mid.files.include_stack)) → length (held_of (inner_buffer mid.files.include_stack)) < 2 ^ 31 → ReadsDefine len mid new result → UncutStep g old new (step_answer new result)
   defined_steps None wide inside few reads = accepted_steps wide inside few reads
   defined_steps (Some Fault) wide inside few reads = refused_steps Fault refl reads
-  defined_steps (Some (Source start end)) wide inside few reads = absurd reads
-  defined_steps (Some (Text p)) wide inside few reads = absurd reads
-  defined_steps (Some (Pending n)) wide inside few reads = absurd reads
-  defined_steps (Some End) wide inside few reads = absurd reads
+  defined_steps _ wide inside few reads = absurd reads
 
 -- a `define` leaves no place, or the fault that is kept
 pub defined_placed : {S R : Type 0} (len : ℕ) (old new : EngineView S R) (result : Option PieceLocation) → ReadsDefine len old new result → IfSome result (IsPlaced new)
 defined_placed len old new None reads = tt
 defined_placed len old new (Some Fault) reads = tt
-defined_placed len old new (Some (Source start end)) reads = absurd reads
-defined_placed len old new (Some (Text p)) reads = absurd reads
-defined_placed len old new (Some (Pending n)) reads = absurd reads
-defined_placed len old new (Some End) reads = absurd reads
+defined_placed len old new _ reads = absurd reads
 
 -- bytes in front of bytes
 pub after_twice : (x y : List ℕ) (p : Passage) → after_bytes (x ++ y) p ≡ after_bytes x (after_bytes y p)
@@ -510,15 +452,7 @@ opened_phase p e = ap is_open e
 
 -- an engine that goes on still does where bytes were filled in
 pub ready_filled : {S R : Type 0} {g : Ghosts S R} (old mid : EngineView S R) → IsReady old → IsRead g old mid → IsSoundEngine mid.limits mid.phase mid.table mid.files mid.conditions → AreOpen mid.files → IsReady mid
-ready_filled old mid ready r sound files = record {
-  open_ = ap (λ e. e.phase) r.becomes ∙ ready.open_;
-  free = ap (λ e. e.kept) r.becomes ∙ ready.free;
-  pending = ap (λ e. e.pending) r.becomes ∙ ready.pending;
-  idle = ap (λ e. e.expansion.opens) r.becomes ∙ ready.idle;
-  include_stack = sound.open_ (opened_phase mid.phase (ap (λ e. e.phase) r.becomes ∙ ready.open_));
-  sound = sound;
-  files = files;
-}
+ready_filled old mid ready r sound files = grind (arith, opened_phase)
 
 -- what remains of an engine that goes on, where what it begins with ends the output
 module _ {S R : Type 0} (g : Ghosts S R) (e : EngineView S R) where
@@ -583,15 +517,7 @@ module _ {S R : Type 0} (g : Ghosts S R) (old mid : EngineView S R) (ready : IsR
 
 -- no more is held than a line may have
 pub held_few : {S R : Type 0} (e : EngineView S R) → IsSoundEngine e.limits e.phase e.table e.files e.conditions → AreOpen e.files → 0 < length e.files.include_stack → length (held_of (inner_buffer e.files.include_stack)) < 2 ^ 31
-held_few e sound files some =
-    let inner = inner_facts e.files some files in
-    let room = held_room (inner_buffer e.files.include_stack) in
-    let lines = inner.buffer.lines in
-    let within = inner.buffer.within in
-    let size = inner.size in
-    let most = sound.line_bytes in
-    let range = sound.in_range.line_bytes.1 in
-    omega arith
+held_few e sound files some = grind (arith, inner_facts, held_room)
 
 -- what stands where a mode is entered
 pub entered_at : {R : Type 0} (include_stack : List (File R)) (next : Mode) → (inner_buffer (with_buffer (entered_mode (inner_buffer include_stack) next) include_stack)).at ≡ (inner_buffer include_stack).at
@@ -610,38 +536,21 @@ pub record IsRoom {S R : Type 0} (e : EngineView S R) (len start : ℕ) : Type 0
   pub few : start + len < 2 ^ 64
 
 pub room_of : {S R : Type 0} (e : EngineView S R) (len start : ℕ) → IsReady e → len ≤ length (held_of (inner_buffer e.files.include_stack)) → start ≡ (inner_buffer e.files.include_stack).at → IsRoom e len start
-room_of e len start ready inside is =
-    let inner = inner_facts e.files ready.include_stack ready.files in
-    let room = held_room (inner_buffer e.files.include_stack) in
-    let used = inner.buffer.used in
-    let lines = inner.buffer.lines in
-    let within = inner.buffer.within in
-    let size = inner.size in
-    let most = ready.sound.line_bytes in
-    let range = ready.sound.in_range.line_bytes.1 in
-    record { inside = omega arith; few = omega arith }
+room_of e len start ready inside is = grind (arith, inner_facts, held_room)
 
 -- the text that is lent lies in the window
 pub text_placed : {S R : Type 0} (old mid new : EngineView S R) (len lines start : ℕ) (next : Mode) → IsReady old → IsRoom old len start
     → mid ≡ record old { files = record old.files { include_stack = with_buffer (entered_mode (inner_buffer old.files.include_stack) next) old.files.include_stack } }
     → (marks : MarksView) → new ≡ record mid { files = record mid.files { include_stack = with_inner (consumed_file len lines) mid.files.include_stack }; marks = marks }
     → IsPlaced new (Source start (start + len))
-text_placed {S} {R} old mid new len lines start next ready room enters marks uses =
-    let include_stack : new.files.include_stack ≡ with_inner (consumed_file len lines) (with_buffer (entered_mode (inner_buffer old.files.include_stack) next) old.files.include_stack) =
-    ap (λ e. e.files.include_stack) uses ∙ ap (λ (m : EngineView S R). with_inner (consumed_file len lines) m.files.include_stack) enters in
-    let window = ap (λ ns. length (inner_buffer ns).window) include_stack ∙ ap length (same_window old.files.include_stack len lines next) in
-    let size = ap length include_stack ∙ (with_inner-length (consumed_file len lines) (with_buffer (entered_mode (inner_buffer old.files.include_stack) next) old.files.include_stack) ∙ with_inner-length (λ f. record f { buffer = entered_mode (inner_buffer old.files.include_stack) next }) old.files.include_stack) in
-    let some = ready.include_stack in
-    let inside = room.inside in
-    (omega arith, omega arith, omega arith)
+text_placed {S} {R} old mid new len lines start next ready room enters marks uses = grind (arith, same_window, with_inner-length)
 
 -- what is dropped of a short text
 drop_min : (xs : List ℕ) (m k : ℕ) → m ≡ min (length xs) k → drop m xs ≡ drop k xs
 drop_min [] m k e = drop-nil m ∙ sym (drop-nil k)
 drop_min (x ∷ xs) zero zero e = refl
-drop_min (x ∷ xs) zero (suc k) e = absurd (omega arith)
-drop_min (x ∷ xs) (suc m) zero e = absurd (omega arith)
 drop_min (x ∷ xs) (suc m) (suc k) e = drop_min xs m k (omega arith)
+drop_min _ _ _ e = absurd (omega arith)
 
 -- what stands behind the word of a `define`
 pub after_word : (line : List ℕ) (len m : ℕ) → length line ≡ len → m ≡ min len 7 → take (length line - m) (drop m line) ≡ drop 7 line
@@ -668,34 +577,11 @@ pub defines_by : {S R : Type 0} (len : ℕ) (old now new : EngineView S R) (tabl
     → define_of old.table.most_bytes old.table.most_macros old.table.macros (define_rest old len) ≡ table_define.Accepted table.macros
     → lines ≡ line_ends (take len (held_of (inner_buffer old.files.include_stack))) → Defines len old new
 unfolding nothing_pending line_ends_pending
-defines_by {S} {R} len old now new table pending lines used queues adds nothing limits accepted counted =
-    let files : FilesView R = record old.files { include_stack = with_inner (consumed_file len lines) old.files.include_stack } in
-    let none : now.pending.line_ends ≡ 0 = ap (λ e. e.pending.line_ends) used ∙ ap (λ o. o.line_ends) nothing in
-    let count : now.pending.line_ends + lines ≡ lines = omega arith in
-    let empty : now.pending.origin ≡ None = ap (λ e. e.pending.origin) used ∙ ap (λ o. o.origin) nothing in
-    let queues_of : ℕ → Option OriginView → PendingView = λ n o. record { line_ends = n; origin = o } in
-    let exact : pending ≡ line_ends_pending lines = adds ∙ (ap (λ (n : ℕ). queues_of n now.pending.origin) count ∙ ap (queues_of lines) empty) in
-    let makes : TableView → PendingView → EngineView S R = λ t o. record old { table = t; files = files; pending = o } in
-    record {
-      macros = table.macros;
-      accepted = accepted;
-      lines = lines;
-      counted = counted;
-      becomes = queues ∙ (ap (λ (e : EngineView S R). record e { pending = pending }) used
-          ∙ (ap (makes table) exact ∙ ap (λ (t : TableView). makes t (line_ends_pending lines)) (table_same old.table table limits.0 limits.1)));
-    }
+defines_by {S} {R} len old now new table pending lines used queues adds nothing limits accepted counted = grind (arith, table_same)
 
 -- it goes on in its open sources where no text of a usage is open
 pub ready_idle : {S R : Type 0} (e : EngineView S R) → IsDrained e → e.expansion.opens ≡ [] → IsSoundEngine e.limits e.phase e.table e.files e.conditions → AreOpen e.files → IsReady e
-ready_idle e drained idle sound files = record {
-  open_ = drained.open_;
-  free = drained.free;
-  pending = drained.pending;
-  idle = idle;
-  include_stack = sound.open_ (opened_phase e.phase drained.open_);
-  sound = sound;
-  files = files;
-}
+ready_idle e drained idle sound files = grind (arith, opened_phase)
 
 -- the same engine, with something else pending
 pub owing : {S R : Type 0} (a b : EngineView S R) (pending : PendingView) → a ≡ b → record a { pending = pending } ≡ record b { pending = pending }

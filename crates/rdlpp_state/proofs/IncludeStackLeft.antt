@@ -62,9 +62,7 @@ take_nothing (suc n) = refl
 -- where no conditional is open
 pub no_place : (below : ℕ) (v : ConditionsView) → v.open_now ≡ [] → place_of below v ≡ Live []
 unfolding place_of own_conditions place_by
-no_place below v none =
-    ap (λ (os : List Progress). place_by v.skipped (take (length os - below) os)) none
-    ∙ ap (place_by v.skipped) (take_nothing (length {A = Progress} [] - below))
+no_place below v none = grind (arith, take_nothing)
 
 -- of the sources, a change of the innermost changes none that is around it
 below_inner : {R : Type 0} (most : ℕ) (change : File R → File R) (include_stack : List (File R)) → ((f : File R) → (change f).conditions_below ≡ f.conditions_below)
@@ -81,19 +79,11 @@ inner_below-same change (f ∷ outer) same = same f
 -- the innermost source changes, of which no more bytes aren't used
 pub conditions_inner : {R : Type 0} (limits : Limits) (v : ConditionsView) (change : File R → File R) (include_stack : List (File R)) → ((f : File R) → (change f).conditions_below ≡ f.conditions_below)
     → unused_of (inner_buffer (with_inner change include_stack)) ≤ unused_of (inner_buffer include_stack) → AreConditions limits v include_stack → AreConditions limits v (with_inner change include_stack)
-conditions_inner limits v change include_stack same less s = record {
-  limit = s.limit;
-  few = s.few;
-  below = below_inner (length v.open_now) change include_stack same s.below;
-  own = λ n e. (let some = s.own n e in let around = inner_below-same change include_stack same in omega arith);
-  counted = (let few = s.counted in omega arith);
-}
+conditions_inner limits v change include_stack same less s = grind (arith, below_inner, inner_below-same)
 
 -- where no source is open, no conditional is
 pub conditions_none : {R : Type 0} (limits : Limits) (v : ConditionsView) (include_stack : List (File R)) → include_stack ≡ [] → AreConditions limits v include_stack → v.open_now ≡ []
-conditions_none {R} limits v include_stack none s =
-    let below : AreBelow {R = R} (length v.open_now) [] = subst (λ (ns : List (File R)). AreBelow (length v.open_now) ns) none s.below in
-    nil_from_length v.open_now below
+conditions_none {R} limits v include_stack none s = grind (arith, nil_from_length)
 
 -- where a source has no conditional of its own that is open, text is live
 pub conditions_live : {R : Type 0} (limits : Limits) (v : ConditionsView) (include_stack : List (File R)) → length v.open_now ≡ inner_below include_stack → AreConditions limits v include_stack → v.skipped ≡ None
@@ -102,47 +92,28 @@ conditions_live limits v include_stack alone s = live_unless v.skipped (λ n e. 
 -- where the innermost source ends, with no conditional of its own open
 pub conditions_left : {R : Type 0} (limits : Limits) (v : ConditionsView) (f : File R) (outer : List (File R)) → length v.open_now ≡ f.conditions_below
     → unused_of (inner_buffer outer) < 2 ^ 31 → AreConditions limits v (f ∷ outer) → AreConditions limits v outer
-conditions_left limits v f outer alone few s =
-    let live = conditions_live limits v (f ∷ outer) alone s in
-    record {
-      limit = s.limit;
-      few = s.few;
-      below = rw alone s.below.1;
-      own = λ n e. absurd (let no : None ≡ Some n = sym live ∙ e in cc);
-      counted = rw live (omega arith);
-    }
+conditions_left limits v f outer alone few s = grind (arith, conditions_live)
 
 -- where the main text has ended, with no conditional open
 pub conditions_closed : {R : Type 0} (limits : Limits) (v : ConditionsView) (include_stack : List (File R)) → 0 < length include_stack → length include_stack ≤ 1 → length v.open_now ≡ inner_below include_stack
     → AreConditions limits v include_stack → AreConditions {R = R} limits v []
 unfolding unused_of closed_buffer
-conditions_closed limits v [] some few alone s = absurd (omega arith)
 conditions_closed limits v (f ∷ []) some few alone s = conditions_left limits v f [] alone (omega arith) s
-conditions_closed limits v (f ∷ g ∷ outer) some few alone s = absurd (omega arith)
+conditions_closed limits v _ some few alone s = absurd (omega arith)
 
 -- where one more source is opened in live text
 pub conditions_opened : {R : Type 0} (limits : Limits) (v : ConditionsView) (f : File R) (include_stack : List (File R)) → v.skipped ≡ None → f.conditions_below ≤ length v.open_now → AreBelow f.conditions_below include_stack
     → unused_of f.buffer < 2 ^ 31 → AreConditions limits v include_stack → AreConditions limits v (f ∷ include_stack)
-conditions_opened limits v f include_stack live most below few s = record {
-  limit = s.limit;
-  few = s.few;
-  below = (most, below);
-  own = λ n e. absurd (let no : None ≡ Some n = sym live ∙ e in cc);
-  counted = rw live (omega arith);
-}
+conditions_opened limits v f include_stack live most below few s = grind arith
 
 -- the innermost source's own conditionals, of which the innermost is one
 own_cons : (below : ℕ) (o : Progress) (os : List Progress) → below ≤ length os → take (length (o ∷ os) - below) (o ∷ os) ≡ o ∷ take (length os - below) os
-own_cons below o os some =
-    let size : length (o ∷ os) - below ≡ suc (length os - below) = omega arith in
-    ap (λ (n : ℕ). take n (o ∷ os)) size
+own_cons below o os some = grind arith
 
 -- those around it are the same without it
 pub outer_cons : (below : ℕ) (o : Progress) (os : List Progress) → below ≤ length os → outer_open below (o ∷ os) ≡ outer_open below os
 unfolding outer_open
-outer_cons below o os some =
-    let size : length (o ∷ os) - below ≡ suc (length os - below) = omega arith in
-    ap (λ (n : ℕ). drop n (o ∷ os)) size
+outer_cons below o os some = grind arith
 
 -- in a branch of its own innermost conditional
 place_in_branch : (live : Bool) (o : Progress) (os : List Progress) → place_by (skipped_by live) (o ∷ os) ≡ in_branch live o os
@@ -170,9 +141,7 @@ place_skipped below v n o os is some skips =
 -- where none is its own
 pub place_outside : (below : ℕ) (v : ConditionsView) → length v.open_now ≡ below → place_of below v ≡ Live []
 unfolding place_of own_conditions place_by
-place_outside below v same =
-    let none : length v.open_now - below ≡ 0 = omega arith in
-    ap (λ (n : ℕ). place_by v.skipped (take n v.open_now)) none
+place_outside below v same = grind arith
 
 -- where the innermost source stands: outside of all its conditionals, in a branch of its own innermost, or in conditionals that opened in skipped text
 pub data Standing (below : ℕ) (v : ConditionsView) : Type 0 where

@@ -16,7 +16,7 @@ use Rattle.rdlpp_meaning.proofs.Outcomes.{limited-fails, limited-gives, limited-
 use Rattle.rdlpp_meaning.proofs.Skipping.{line_ends_of-owed}
 use Rattle.rdlpp_source.specs.Sources.{Catalog}
 use Rattle.rdlpp_source.specs.declared.sources.Sources.{Ghosts}
-use Rattle.rdlpp_texts.specs.Places.{IsPlaced as IsTextPlaced, place_bytes, source_text, texts_of}
+use Rattle.rdlpp_texts.specs.Places.{place_bytes, source_text, texts_of}
 use Rattle.rdlpp_texts.specs.declared.place.TextPlace.{TextPlace}
 use Rattle.rdlpp_conditions.specs.Conditions.{ConditionsView}
 use Rattle.rdlpp_read.specs.Buffer.{entered_mode}
@@ -35,10 +35,10 @@ use Rattle.rdlpp_state.specs.Standing.{StandsIn}
 use Rattle.rdlpp_state.specs.Steps.{Step, UncutStepWithin, all_of, has_met, is_call_failed, lent_len, may_follow, no_len}
 use Rattle.rdlpp_state.specs.Stored.{HoldsStores, LetsGo}
 use Rattle.rdlpp_state.specs.declared.pending.PendingPart.{PendingPart}
-use Rattle.rdlpp_state.specs.declared.pending.PendingPart.TheVariants.{Colon, Digits, Label, LineEnds, Name}
+use Rattle.rdlpp_state.specs.declared.pending.PendingPart.TheVariants.{Digits, Label, LineEnds, Name}
 use Rattle.rdlpp_state.specs.declared.pending.PendingPiece.{PendingPiece}
 use Rattle.rdlpp_state.specs.declared.phase.Phase.{Phase}
-use Rattle.rdlpp_state.specs.declared.phase.Phase.TheVariants.{Closed, Fresh, Open, OverLimit}
+use Rattle.rdlpp_state.specs.declared.phase.Phase.TheVariants.{Fresh, Open, OverLimit}
 use Rattle.rdlpp_state.specs.declared.place.PieceLocation.TheVariants.{Pending, Source, Text}
 use Rattle.rdlpp_state.specs.declared.positions.Lent.TheVariants.{Ending, Line, Origin}
 use Rattle.rdlpp_state.specs.declared.positions.LineStep.TheVariants.{Next}
@@ -73,11 +73,9 @@ pub takes_origin : (part : PendingPart) (name : List ℕ) (number : ℕ)
     → let origin : OriginView = record { part = part; number = number } in
     TakesPiece name (record { line_ends = 0; origin = Some origin }) (record { line_ends = 0; origin = after_piece origin }) (first_piece (length name) origin)
 unfolding part_bytes pending_bytes pending_pieces origin_bytes origin_pieces line_from pieces_from after_piece first_piece digits_of
-takes_origin LineEnds name number = record { inside = omega arith; bytes = refl; fewer = omega arith }
-takes_origin Label name number = record { inside = omega arith; bytes = refl; fewer = omega arith }
 takes_origin Name name number = record { inside = omega arith; bytes = whole_after name _; fewer = omega arith }
-takes_origin Colon name number = record { inside = omega arith; bytes = refl; fewer = omega arith }
 takes_origin Digits name number = record { inside = omega arith; bytes = whole_after (decimal number) _; fewer = omega arith }
+takes_origin _ name number = record { inside = omega arith; bytes = refl; fewer = omega arith }
 
 -- so it is where nothing stands before it
 pub takes_first : (name : List ℕ) (name_len lines : ℕ) (at following : Option OriginView) (origin : OriginView) (piece : PendingPiece)
@@ -116,9 +114,7 @@ pending_origin c limits origins name number = origin_line_pending origins (sourc
 pub pending_with_origin : (c : Catalog) (limits : Limits) (origins : Bool) (name w : List ℕ) (lines number : ℕ) → lines ≡ line_ends w
     → pending_bytes name (record { line_ends = lines; origin = origin_pending origins number }) ≡ line_ends_of w ++ origin_line (source_rules c limits origins) name number
 unfolding pending_bytes source_rules rules_of
-pending_with_origin c limits origins name w lines number counted =
-    ap (λ (x : List ℕ). replicate lines 10 ++ x) (origin_line_pending origins (source_rules c limits origins) name number refl)
-    ∙ ap (λ (x : List ℕ). x ++ origin_line (source_rules c limits origins) name number) (ap (λ n. replicate n 10) counted ∙ sym (line_ends_of-owed w))
+pending_with_origin c limits origins name w lines number counted = grind (arith, origin_line_pending, line_ends_of-owed)
 
 -- an LF that is pending where a text ends in mid-line, and an origin line behind it
 pub pending_ends_mid_line : (c : Catalog) (limits : Limits) (origins : Bool) (name : List ℕ) (ends_mid_line : Bool) (number : ℕ)
@@ -162,10 +158,7 @@ pub source_position : {S R : Type 0} (old : EngineView S R) (len lines : ℕ) (n
     → position_of (record old { files = record old.files { include_stack = with_inner (consumed_file len lines) (with_buffer (entered_mode (inner_buffer old.files.include_stack) next) old.files.include_stack) }; marks = lends_line (inner_buffer old.files.include_stack).line old.marks })
     ≡ Some (source_place old)
 unfolding state_of is_open
-source_position old len lines next free open_ =
-    position_open _ free (ap is_open open_)
-    ∙ marked_line old.marks (inner_buffer old.files.include_stack).line _ _ (state_of old)
-    (used_name old.limits old.table.macros old.conditions old.files.include_stack len lines next) (used_shift old.limits old.table.macros old.conditions old.files.include_stack len lines next)
+source_position old len lines next free open_ = grind (arith, position_open, marked_line, used_name, used_shift)
 
 -- text of a usage is lent
 pub usage_position : {S R : Type 0} (old : EngineView S R) (x : ExpansionView) → old.kept ≡ None → old.phase ≡ Open
@@ -212,10 +205,7 @@ drained_marks line m = refl
 pub position_kept : {S R : Type 0} (mid new : EngineView S R) → new ≡ record mid { phase = new.phase; quota = new.quota } → mid.kept ≡ None → is_open mid.phase ≡ true → is_open new.phase ≡ true
     → position_of new ≡ position_of mid
 unfolding state_of
-position_kept {S} {R} mid new becomes free opens still =
-    let none : new.kept ≡ None = ap (λ e. e.kept) becomes ∙ free in
-    position_open new none still
-    ∙ (ap (λ (e : EngineView S R). marked_place e.marks (state_of e).name (state_of e).shift) becomes ∙ sym (position_open mid free opens))
+position_kept {S} {R} mid new becomes free opens still = grind (arith, position_open)
 
 -- the marks of an engine were changed, and nothing else
 pub marking : {S R : Type 0} (inside e after : EngineView S R) (m : MarksView) (change : MarksView → MarksView) → inside ≡ e → e ≡ after → m ≡ change inside.marks
@@ -263,26 +253,14 @@ position_first e f outer is none opens =
 pub untaken : {S R : Type 0} (result : Option PendingPiece) (inside old : EngineView S R) (m : MarksView) (rest : PendingView) (line : ℕ) → inside ≡ old → m ≡ lends_pending inside.pending line inside.marks
     → IfNone result ((inside.pending ≡ nothing_pending) × (rest ≡ inside.pending)) → IfNone result ((old.pending ≡ nothing_pending) × (record inside { marks = m; pending = rest } ≡ old))
 untaken (Some piece) inside old m rest line is marks none = tt
-untaken None inside old m rest line is marks none = (
-  ap (λ e. e.pending) (sym is) ∙ none.0,
-  ap (λ (n : MarksView). record inside { marks = n; pending = rest }) (marks ∙ (ap (λ (o : PendingView). lends_pending o line inside.marks) none.0 ∙ drained_marks line inside.marks))
-      ∙ (ap (λ (o : PendingView). record inside { pending = o }) none.1 ∙ is),
-)
+untaken None inside old m rest line is marks none = grind (arith, drained_marks)
 
 -- the first piece is taken out, and its place is marked
 pub takes_marked : {S R : Type 0} (result : Option PendingPiece) (inside old : EngineView S R) (m : MarksView) (rest : PendingView) (line name_len : ℕ) → inside ≡ old → m ≡ lends_pending inside.pending line inside.marks
     → line ≡ (inner_buffer old.files.include_stack).line → length (inner_name old.files.include_stack) ≡ name_len
     → IfSome result (λ piece. (name : List ℕ) → length name ≡ name_len → TakesPiece name inside.pending rest piece) → IfSome result (TakesPending old (record inside { marks = m; pending = rest }))
 takes_marked None inside old m rest line name_len is marks here size takes = tt
-takes_marked {S} {R} (Some piece) inside old m rest line name_len is marks here size takes =
-    let name = inner_name old.files.include_stack in
-    record {
-      rest = rest;
-      takes = subst (λ (o : PendingView). TakesPiece name o rest piece) (ap (λ e. e.pending) is) (takes name size);
-      becomes = ap (λ (n : MarksView). record inside { marks = n; pending = rest }) marks
-          ∙ (ap (λ (e : EngineView S R). record e { pending = rest; marks = lends_pending e.pending line e.marks }) is
-          ∙ ap (λ (n : ℕ). record old { pending = rest; marks = lends_pending old.pending n old.marks }) here);
-    }
+takes_marked {S} {R} (Some piece) inside old m rest line name_len is marks here size takes = grind arith
 
 -- and so is what is pending, or the open texts
 pub owing_marked : {S R : Type 0} (inside e : EngineView S R) (pending : PendingView) (m : MarksView) (change : MarksView → MarksView) → inside ≡ e → m ≡ change inside.marks
@@ -292,9 +270,7 @@ owing_marked {S} {R} inside e pending m change is marks =
 
 pub marked_usage : {S R : Type 0} (inside old : EngineView S R) (x : ExpansionView) (m : MarksView) (line : ℕ) → inside ≡ old → m ≡ lends_usage line inside.marks → line ≡ old.expansion.line
     → record inside { expansion = x; marks = m } ≡ record old { expansion = x; marks = lends_usage old.expansion.line old.marks }
-marked_usage {S} {R} inside old x m line is marks here =
-    ap (λ (n : MarksView). record inside { expansion = x; marks = n }) marks
-    ∙ (ap (λ (e : EngineView S R). record e { expansion = x; marks = lends_usage line e.marks }) is ∙ ap (λ (n : ℕ). record old { expansion = x; marks = lends_usage n old.marks }) here)
+marked_usage {S} {R} inside old x m line is marks here = grind arith
 
 -- what is marked where a piece of what is pending is lent, by what is pending
 origin_marked : (origin : Option OriginView) (m : MarksView) (n : ℕ) → pending_number origin ≡ Some n → record m { lent = Origin n } ≡ lends_origin origin m
@@ -331,9 +307,7 @@ part_len xs from to order inside = length-take-le (to - from) (drop from xs) (om
 
 -- the first bytes of a part
 pub part_cut : (xs : List ℕ) (from to len : ℕ) → len ≤ to - from → slice_range xs from (from + len) ≡ take len (slice_range xs from to)
-part_cut xs from to len h =
-    let same : from + len - from ≡ len = omega arith in
-    ap (λ k. take k (drop from xs)) same ∙ sym (take-take len (to - from) (drop from xs) h)
+part_cut xs from to len h = grind (arith, take-take)
 
 -- an outcome without bytes is within each limit
 tells_end : (over : Report) (quota : ℕ) (o : Outcome) → o ≡ gives [] → limited over quota o ≡ gives []
@@ -409,9 +383,7 @@ module _ {S R : Type 0} (g : Ghosts S R) (e : EngineView S R) (quota : ℕ) wher
   phase_same : (phase : Phase) → phase_uncut g phase (record e { quota = quota }) ≡ phase_uncut g phase e
   unfolding phase_uncut text_of state_of
   phase_same Fresh = refl
-  phase_same Open = refl
-  phase_same OverLimit = refl
-  phase_same Closed = refl
+  phase_same _ = refl
 
   kept_same : (kept : Option Report) → kept_uncut g kept (record e { quota = quota }) ≡ kept_uncut g kept e
   unfolding kept_uncut
@@ -425,10 +397,8 @@ module _ {S R : Type 0} (g : Ghosts S R) (e : EngineView S R) (quota : ℕ) wher
 -- where bytes may follow, the main text is open
 follows_open : (p : Phase) → may_follow p ≡ true → is_open p ≡ true
 unfolding may_follow is_open
-follows_open Fresh h = cc h
 follows_open Open h = refl
-follows_open OverLimit h = cc h
-follows_open Closed h = cc h
+follows_open _ h = cc h
 
 -- the text, the work left and what is held don't hang on how far an engine is, nor on what may still be lent
 same_text : {S R : Type 0} (g : Ghosts S R) (e : EngineView S R) (phase : Phase) (quota : ℕ) → text_of g (record e { phase = phase; quota = quota }) ≡ text_of g e
@@ -556,11 +526,7 @@ pub record IsPart {S R : Type 0} (mid new : EngineView S R) (n len : ℕ) : Type
   pub expansion : new.expansion ≡ mid.expansion
 
 spent_part : {S R : Type 0} (mid new : EngineView S R) (n len : ℕ) → IsSpent mid new n len → IsPart mid new n len
-spent_part mid new n len spent =
-    elim (cases_lt mid.quota n) [
-      | inl over ↦ (let p = spent.passes over in record { inside = omega (arith, p.0); files = ap (λ e. e.files) p.1; table = ap (λ e. e.table) p.1; pending = ap (λ e. e.pending) p.1; expansion = ap (λ e. e.expansion) p.1 })
-      | inr under ↦ (let p = spent.fits under in record { inside = omega (arith, p.0); files = ap (λ e. e.files) p.1; table = ap (λ e. e.table) p.1; pending = ap (λ e. e.pending) p.1; expansion = ap (λ e. e.expansion) p.1 })
-    ]
+spent_part mid new n len spent = grind (arith, cases_lt)
 
 -- a piece, cut to what may still be lent
 pub cut_piece : {S R : Type 0} (g : Ghosts S R) (old mid new : EngineView S R) (xs : List ℕ) (n len : ℕ) → UncutStepWithin g most_silent old mid (Ok (Some xs)) → length xs ≡ n → IsSpent mid new n len → Step g old new (Ok (Some (take len xs)))
@@ -613,13 +579,7 @@ cut_text {S} {R} g old mid new place len w placed spent =
 
 -- it lies in that text
 pub text_cut_placed : {S R : Type 0} (mid new : EngineView S R) (place : TextPlace) (len : ℕ) → IsPlaced mid (Text place) → IsSpent mid new (place.end - place.from) len → IsPlaced new (Text (cut_place place len))
-text_cut_placed {S} {R} mid new place len placed spent =
-    let part = spent_part mid new (place.end - place.from) len spent in
-    let less = part.inside in
-    let order = placed.order in
-    let inside = placed.inside in
-    subst (λ ts. IsTextPlaced ts (cut_place place len)) (sym (texts_same mid new (place.end - place.from) len part))
-    (record { source = placed.source; order = omega arith; inside = omega arith })
+text_cut_placed {S} {R} mid new place len placed spent = grind (arith, spent_part, texts_same)
 
 -- the fault that is kept, or the end where none is
 pub cut_kept : {S R : Type 0} (g : Ghosts S R) (old new : EngineView S R) (kept : Option Report) → UncutStepWithin g most_silent old new (kept_answer kept) → Step g old new (kept_answer kept)
@@ -629,9 +589,7 @@ cut_kept g old new (Some f) w = cut_fault g old new f w
 -- the part is the same where only what may be lent and how far the engine is changed
 part_same : {S R : Type 0} (mid new : EngineView S R) (piece : PendingPiece) (n len k : ℕ) → IsPart mid new n len → pending_part new (cut_to piece k) ≡ pending_part mid piece
 unfolding cut_to
-part_same mid new piece n len k part =
-    ap (λ f. part_bytes piece.part (inner_name f.include_stack) (digits_of new.pending.origin)) part.files
-    ∙ ap (λ o. part_bytes piece.part (inner_name mid.files.include_stack) (digits_of o.origin)) part.pending
+part_same mid new piece n len k part = grind arith
 
 -- a piece that is pending, cut to what may still be lent
 pub cut_pending : {S R : Type 0} (g : Ghosts S R) (old mid new : EngineView S R) (piece : PendingPiece) (len : ℕ) → UncutStepWithin g most_silent old mid (lent_answer mid (Pending piece))
@@ -647,11 +605,4 @@ cut_pending g old mid new piece len w placed spent =
 -- such a piece is a place
 pub pending_placed : {S R : Type 0} (mid new : EngineView S R) (piece : PendingPiece) (len : ℕ) → IsPlaced mid (Pending piece) → IsSpent mid new piece.len len → IsPlaced new (Pending (cut_to piece len))
 unfolding cut_to
-pending_placed mid new piece len placed spent =
-    let part = spent_part mid new piece.len len spent in
-    let inside = part.inside in
-    let most = placed.1 in
-    let size : length (pending_part new (cut_to piece len)) ≡ length (pending_part mid piece) = ap length (part_same mid new piece piece.len len len part) in
-    let open_ : length new.files.include_stack ≡ length mid.files.include_stack = ap (λ f. length f.include_stack) part.files in
-    let some = placed.0 in
-    (omega arith, omega arith)
+pending_placed mid new piece len placed spent = grind (arith, spent_part, part_same)

@@ -1,5 +1,5 @@
 -- A new engine: its bound, its stores, and the opening of its main text.
-use Rattle.std.proofs.Common.{◌≡◌, inl, ℕ, ◌+◌, ◌*◌, ◌^◌, ◌≤◌, ◌<◌, List, [], ◌∷◌, ◌++◌, None, length, map, reverse, sum_by, ap, ◌∙◌, subst, arith, Bool, Some, refl, sym, suc, zero, ◌&&◌, true, false, take, lit<, slice_index, ◌-◌, leb, get_or, Err, inr, All, IsAscii, IsCharBoundary, IsUtf8, mul-le-mul_right, take_all}
+use Rattle.std.proofs.Common.{◌≡◌, inl, ℕ, ◌+◌, ◌*◌, ◌^◌, ◌≤◌, ◌<◌, List, [], ◌∷◌, ◌++◌, None, length, map, ap, ◌∙◌, subst, arith, Bool, Some, refl, sym, suc, zero, ◌&&◌, true, false, take, lit<, slice_index, leb, get_or, Err, inr, All, IsAscii, IsCharBoundary, IsUtf8, mul-le-mul_right, take_all}
 use Rattle.std.specs.List.{list_all}
 use Rattle.std.proofs.lemmas.Bool.{cases_lt, cond-false, cond-true}
 use Rattle.std.proofs.lemmas.Bool.Decides.{nat_tests}
@@ -11,7 +11,7 @@ use Rattle.rdlpp_scan.specs.SourceTokens.{SourceToken, whole_tokens}
 use Rattle.rdlpp_table.specs.Limits.{AreInRange}
 use Rattle.rdlpp_table.specs.declared.limits.Limits.{Limits}
 use Rattle.rdlpp_table.proofs.Sizes.{length_table_bytes}
-use Rattle.rdlpp_meaning.specs.Meaning.{Passage, Progress, after_bytes, origin_line, outcome}
+use Rattle.rdlpp_meaning.specs.Meaning.{Passage, after_bytes, origin_line, outcome}
 use Rattle.rdlpp_meaning.specs.Opened.{all_resumed}
 use Rattle.rdlpp_meaning.specs.Outcome.{Outcome, Report, and_then, fails, gives}
 use Rattle.rdlpp_meaning.specs.Output.{character_place, name_cut, opening_fault, output, start_state}
@@ -41,9 +41,8 @@ use Rattle.rdlpp_state.specs.Engine.{AreOpenTexts, EngineView, IsSoundEngine, is
 use Rattle.rdlpp_state.specs.Failures.{MayGoOn}
 use Rattle.rdlpp_state.specs.Held.{HoldsDefinitions, IsBounded, bound_of, held_bytes, held_told, stores_of}
 use Rattle.rdlpp_state.specs.Includes.{kind_of_source}
-use Rattle.rdlpp_state.specs.OpenConditionals.{AreBelow}
 use Rattle.rdlpp_state.specs.Opening.{Starts, fresh_engine, is_device_fault, is_memory_fault, is_opening_kind, looked_up_output, opened_engine, searches_of, unopened_engine}
-use Rattle.rdlpp_state.specs.Pending.{origin_pending, pending_bytes}
+use Rattle.rdlpp_state.specs.Pending.{pending_bytes}
 use Rattle.rdlpp_state.specs.Remaining.{file_state, inner_name, kept_uncut, left_of, lookup_of, include_stack_left, include_stack_state, output_fault, phase_uncut, run_rules, source_rules, uncut_of, waiting_around}
 use Rattle.rdlpp_state.specs.Steps.{is_memory_kind, is_read_failed}
 use Rattle.rdlpp_state.specs.Stored.{AreParts, HoldsNoText, HoldsStores, LetsGo}
@@ -74,56 +73,17 @@ windows_within {R} size (f ∷ fs) each =
 pub is_bounded : {S R : Type 0} (e : EngineView S R) → IsSoundEngine e.limits e.phase e.table e.files e.conditions → AreOpen e.files
     → AreOpenTexts e.limits e.phase e.table.macros e.expansion → IsRoomy e.expansion → IsBounded e
 unfolding stores_of held_bytes bound_of
-is_bounded e sound files texts room =
-    let windows = held_windows-len e.files.include_stack in
-    let most = held-bound e.files files in
-    let slots : e.files.slots * e.files.line_bytes ≡ (e.limits.includes + 1) * e.limits.line_bytes =
-    ap (λ (n : ℕ). n * e.files.line_bytes) sound.slots ∙ ap (λ (n : ℕ). (e.limits.includes + 1) * n) sound.line_bytes in
-    let kept = room.fits in
-    let most_kept = texts.most_is in
-    let size = sound.size in
-    let bytes = sound.definition_bytes in
-    let few_texts = room.few in
-    let few_bound = room.bound in
-    let depth = texts.depth_is in
-    let few_open = sound.conditions_of.few in
-    let limit = sound.conditions_of.limit in
-    let few_sources = files.few in
-    let slots_are = sound.slots in
-    record {
-      bytes = omega (arith, length_table_bytes e.table.macros);
-      windows = subst (λ (n : ℕ). All (λ (w : List ℕ). length w ≤ n) (held_windows e.files.include_stack)) sound.line_bytes (windows_within e.files.line_bytes e.files.include_stack files.each);
-      cursors = omega (arith, few_texts, depth);
-      bindings = omega (arith, few_bound, depth);
-      conditions = omega (arith, few_open, limit);
-      sources = omega (arith, few_sources, slots_are);
-      texts = texts.sound;
-    }
+is_bounded e sound files texts room = grind (arith, held_windows-len, held-bound, length_table_bytes, windows_within)
 
 -- as many bytes as all buffers have can be counted
 pub slots_fit : (limits : Limits) → AreInRange limits → (limits.includes + 1) * limits.line_bytes < 2 ^ 64
-slots_fit limits range =
-    let most : (limits.includes + 1) * limits.line_bytes ≤ 65 * limits.line_bytes = mul-le-mul_right limits.line_bytes (omega (arith, range.includes.1)) in
-    let lines = range.line_bytes.1 in
-    omega arith
+slots_fit limits range = grind (arith, mul-le-mul_right)
 
 -- where the main text is closed and no fault is kept, nothing is held but definitions
 pub closed_holds : {S R : Type 0} (e : EngineView S R) → IsSoundEngine e.limits e.phase e.table e.files e.conditions → AreOpenTexts e.limits e.phase e.table.macros e.expansion
     → e.phase ≡ Closed → e.kept ≡ None → LetsGo e → HoldsDefinitions (held_told e)
 unfolding held_told stores_of held_windows bound_by is_open
-closed_holds {S} {R} e sound texts closed free lets_go =
-    let shut = ap is_open closed in
-    let include_stack = sound.closed shut in
-    let opens = texts.closed shut in
-    let below : AreBelow {R = R} (length e.conditions.open_now) [] = subst (λ ns. AreBelow (length e.conditions.open_now) ns) include_stack sound.conditions_of.below in
-    record {
-      arguments = ap length (lets_go.idle (inl free) (none_called e.table.macros e.expansion.opens opens));
-      buffers = ap (λ ns. sum_by length (reverse (map (λ f. f.buffer.window) ns))) include_stack;
-      cursors = ap length opens;
-      bindings = ap bound_by opens;
-      conditions = below;
-      sources = ap length include_stack;
-    }
+closed_holds {S} {R} e sound texts closed free lets_go = grind (arith, none_called)
 
 -- What an engine holds of texts before its main text is opened: nothing.
 
@@ -134,11 +94,7 @@ new_holds limits sources origins = record { sources = refl; opens = refl; argume
 
 -- and with one in which a macro was defined
 pub define_holds : {S R : Type 0} (old new : EngineView S R) → new ≡ record old { table = record old.table { macros = new.table.macros } } → HoldsNoText old → HoldsNoText new
-define_holds old new only h = record {
-  sources = ap (λ e. e.files.include_stack) only ∙ h.sources;
-  opens = ap (λ e. e.expansion.opens) only ∙ h.opens;
-  arguments = ap (λ e. e.expansion.arguments) only ∙ h.arguments;
-}
+define_holds old new only h = grind arith
 
 -- it keeps nothing of a call
 pub none_lets_go : {S R : Type 0} (e : EngineView S R) → HoldsNoText e → LetsGo e
@@ -146,12 +102,7 @@ none_lets_go e h = record { idle = λ _ _. h.arguments }
 
 -- and its stores are those of the texts that are open, which are none
 pub none_stores : {S R : Type 0} (g : Ghosts S R) (e : EngineView S R) → HoldsNoText e → HoldsStores g e
-none_stores {S} {R} g e h = record {
-  lets_go = none_lets_go e h;
-  parts = subst (λ (ns : List (File R)). AreParts g.unread (g.catalog e.sources) (MayGoOn e) ns) (sym h.sources) tt;
-  call = λ fs called. absurd (let no : None ≡ Some fs = sym (none_called e.table.macros e.expansion.opens h.opens) ∙ called in cc);
-  begun = λ _. inl h.arguments;
-}
+none_stores {S} {R} g e h = grind (arith, none_lets_go, none_called)
 
 -- Words are text.
 
@@ -167,11 +118,10 @@ both false b h = absurd (cc)
 
 -- the first bytes of a word are ASCII
 pub words-take : (n : ℕ) (bs : List ℕ) → IsWordBytes bs → IsAscii (take n bs)
-words-take zero bs h = λ i. lit< tt
-words-take (suc n) [] h = λ i. lit< tt
 words-take (suc n) (b ∷ bs) h =
     let parts = both (is_word b) (list_all is_word bs) h in
     λ i. elim i as (λ j. slice_index (b ∷ take n bs) j < 128) [ zero ↦ word-ascii b parts.0 | suc j ↦ words-take n bs parts.1 j ]
+words-take _ bs h = λ i. lit< tt
 
 -- the first bytes of a word are text
 pub words-utf8 : (n : ℕ) (bs : List ℕ) → IsWordBytes bs → IsUtf8 (take n bs)
@@ -194,9 +144,7 @@ within b h i = grind (arith, nat_tests)
 -- a byte behind the end goes on with nothing
 goes_on-past : (bytes : List ℕ) (n : ℕ) → length bytes ≤ n → goes_on bytes n ≡ false
 unfolding goes_on
-goes_on-past bytes n h =
-    let past : get_or bytes n 0 ≡ 0 = get_or_past bytes n 0 h in
-    ap (λ b. leb 128 b && leb b 191) past
+goes_on-past bytes n h = grind (arith, get_or_past)
 
 -- at a boundary no character goes on
 goes_on-boundary : (bytes : List ℕ) (n : ℕ) → n < length bytes → IsCharBoundary bytes n → goes_on bytes n ≡ false
@@ -206,14 +154,7 @@ goes_on-boundary bytes n h at = begins (get_or bytes n 0) (at.1 h)
 -- where there is no boundary a character goes on
 goes_on-inside : (bytes : List ℕ) (n : ℕ) → n < length bytes → (IsCharBoundary bytes n → ⊥) → goes_on bytes n ≡ true
 unfolding goes_on
-goes_on-inside bytes n h out =
-    elim (cases_lt (get_or bytes n 0) 128) [
-      | inl low ↦ absurd (out (omega arith, λ i j. absurd (omega arith)))
-      | inr high ↦ elim (cases_lt (get_or bytes n 0) 192) [
-        | inl low ↦ within (get_or bytes n 0) high low
-        | inr top ↦ absurd (out (omega arith, λ i j. top))
-      ]
-    ]
+goes_on-inside bytes n h out = grind (arith, cases_lt, within)
 
 -- the place of a cut, one byte before
 place-here : (bytes : List ℕ) (n : ℕ) → goes_on bytes (suc n) ≡ false → character_place bytes (suc n) ≡ suc n
@@ -232,19 +173,13 @@ first bytes r h = omega arith
 -- where a text ends before a place, the greatest boundary up to that place is its end
 end_reached : (bytes : List ℕ) (r most : ℕ) → length bytes ≤ most
     → ((i : ℕ) → r < i → i ≤ most → IsCharBoundary bytes i → ⊥) → length bytes ≤ r
-end_reached bytes r most h nearest =
-    elim (cases_lt r (length bytes)) [
-      | inl before ↦ absurd (nearest (length bytes) before h (omega arith, λ i j. absurd (omega arith)))
-      | inr past ↦ past
-    ]
+end_reached bytes r most h nearest = grind (arith, cases_lt)
 
 -- the greatest boundary up to a place is where a name is cut
 pub cut_at_boundary : (bytes : List ℕ) (most r : ℕ) → r ≤ most → IsCharBoundary bytes r
     → ((i : ℕ) → r < i → i ≤ most → IsCharBoundary bytes i → ⊥)
     → take r bytes ≡ take (character_place bytes most) bytes
-cut_at_boundary bytes zero r below at nearest =
-    let none : r ≡ character_place bytes zero = first bytes r below in
-    ap (λ n. take n bytes) none
+cut_at_boundary bytes zero r below at nearest = grind (arith, first)
 cut_at_boundary bytes (suc k) r below at nearest =
     elim (cases_lt (suc k) (length bytes)) [
       | inr past ↦
@@ -273,9 +208,7 @@ name_cut_at bytes r below at nearest = cut_at_boundary bytes 1024 r below at nea
 -- where no source waits, what remains of the text is what is pending and what remains of its only source
 alone : (rules : Rules) (x : List ℕ) (ts : List SourceToken) (s : State) → outcome (after_bytes x (all_resumed rules [] (Live []) true ts s)) ≡ and_then (gives x) (remains rules (Live []) true ts s)
 unfolding remains
-alone rules x ts s =
-    outcome-after_bytes x (all_resumed rules [] (Live []) true ts s)
-    ∙ ap (λ (p : Passage). and_then (gives x) (outcome p)) (all_resumed_alone rules (Live []) true ts s)
+alone rules x ts s = grind (arith, outcome-after_bytes, all_resumed_alone)
 
 -- what remains of a main text that was opened, where no text of a usage is
 left_idle : {S R : Type 0} (g : Ghosts S R) (e : EngineView S R) (s : S) (path : List ℕ) (found : Found R) → e.expansion.opens ≡ []
@@ -295,17 +228,7 @@ left_opened : {S R : Type 0} (g : Ghosts S R) (e : EngineView S R) (s : S) (path
     (remains (run_rules g e) (Live []) true ((run_rules g e).tokens (g.unread found.reader))
     (start_state e.table.macros e.limits.includes e.limits.conditions found.path.bytes)))
 unfolding include_stack_left waiting_around include_stack_state file_state source_left opened_engine opened_buffer tokens_left held_of rest_of ahead_of unread_of whole_tokens source_rules rules_of start_state no_shift
-left_opened g e s path found most none unopened idle catalog =
-    let rules = run_rules g e in
-    let ts = whole_tokens e.limits.line_bytes e.limits.source_bytes (g.unread found.reader) in
-    let starts : ℕ → State = λ n. record (start_state e.table.macros e.limits.includes e.limits.conditions found.path.bytes) { sources_left = n } in
-    let count : e.limits.conditions - length {A = Progress} [] ≡ e.limits.conditions = omega arith in
-    let all : e.limits.includes - 0 ≡ e.limits.includes = omega arith in
-    let x = pending_bytes found.path.bytes (record { line_ends = 0; origin = origin_pending e.origins 1 }) in
-    let cuts : List ℕ → ℕ → Outcome = λ y n. limited (output_fault (name_cut path)) e.limits.output_bytes (and_then (gives y) (remains rules (Live []) true ts (starts n))) in
-    left_idle g e s path found idle
-    ∙ rw (none, most, catalog, no_place 0 e.conditions unopened, unopened, count) (ap (limited (output_fault (name_cut path)) e.limits.output_bytes) (alone rules x ts (starts (e.limits.includes - 0)))
-    ∙ (ap (cuts x) all ∙ ap (λ (y : List ℕ). cuts y e.limits.includes) (pending_origin (g.catalog e.sources) e.limits e.origins found.path.bytes 1)))
+left_opened g e s path found most none unopened idle catalog = grind (arith, left_idle, no_place, alone, pending_origin)
 
 -- what remains where no main text was opened
 left_unopened : {S R : Type 0} (g : Ghosts S R) (e : EngineView S R) (s : S) (kind : FaultKind) (path : List ℕ)
@@ -393,36 +316,7 @@ starts_refused : {S R : Type 0} (g : Ghosts S R) (e : EngineView S R) (s : S) (k
     → fails (opening_fault kind path) ≡ looked_up_output g e path)
     → Starts g e (unopened_engine (record e { sources = s }) (opening_fault kind path)) path (Some (opening_fault kind path))
 unfolding unopened_engine is_device_fault is_memory_fault opening_fault stores_of
-starts_refused {S} {R} g e s kind path own none idle bounded failures refusals has_known_texts catalog told = record {
-  limits = refl;
-  origins = refl;
-  table = refl;
-  started = λ h. cc;
-  keeps = refl;
-  opens = λ is. absurd (cc is);
-  refused = λ f is.
-      let same : opening_fault kind path ≡ f = cc is in
-      (sym same ∙ ap (λ (t : Report). opening_fault t.kind path) same, ap (unopened_engine (record e { sources = s })) same);
-  call = record { failures = failures; refusals = refusals; has_known_texts = has_known_texts; catalog = catalog };
-  remains_output = λ device memory telling. left_unopened g e s kind path ∙ told device memory telling;
-  bounded = record {
-    bytes = bounded.bytes;
-    windows = bounded.windows;
-    cursors = bounded.cursors;
-    bindings = bounded.bindings;
-    conditions = bounded.conditions;
-    sources = bounded.sources;
-    texts = bounded.texts;
-  };
-  kinds = own;
-  lets_go = λ h. record { idle = λ _ _. h };
-  stores = λ h _. record {
-    lets_go = record { idle = λ _ _. h };
-    parts = subst (λ (ns : List (File R)). AreParts g.unread (g.catalog s) (MayGoOn (unopened_engine (record e { sources = s }) (opening_fault kind path))) ns) (sym none) tt;
-    begun = λ _. inl h;
-    call = λ fs called. absurd (let no : None ≡ Some fs = sym (none_called e.table.macros e.expansion.opens idle) ∙ called in cc);
-  };
-}
+starts_refused {S} {R} g e s kind path own none idle bounded failures refusals has_known_texts catalog told = grind (arith, left_unopened, none_called)
 
 -- a start that the sources refuse
 pub starts_not_found : {S R : Type 0} (g : Ghosts S R) (e : EngineView S R) (s : S) (fault : SourceFault) (path : List ℕ)

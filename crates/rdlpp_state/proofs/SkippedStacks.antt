@@ -1,5 +1,5 @@
 -- What remains of the open sources behind skipped text that is passed.
-use Rattle.std.proofs.Common.{◌≡◌, ℕ, ◌+◌, ◌-◌, ◌<◌, Bool, true, false, ◌||◌, cond, List, [], ◌∷◌, ◌++◌, length, take, drop, Option, None, Some, refl, sym, ap, subst, ◌∙◌, arith, ◌≤◌, bytes_eq, codes, slice_index, take-add, eqb-true, length-drop}
+use Rattle.std.proofs.Common.{◌≡◌, ℕ, ◌+◌, ◌-◌, ◌<◌, Bool, true, false, ◌||◌, cond, List, [], ◌∷◌, ◌++◌, length, take, drop, Option, None, Some, refl, sym, ap, subst, ◌∙◌, arith, ◌≤◌, slice_index, take-add, eqb-true, length-drop}
 use Rattle.std.specs.List.{list_all}
 use Rattle.std.proofs.lemmas.Bool.{and_parts}
 use Rattle.rdlpp_scan.specs.Bytes.{is_line_end, is_word}
@@ -12,7 +12,7 @@ use Rattle.rdlpp_scan.specs.Resumed.{opening}
 use Rattle.rdlpp_scan.specs.SourceTokens.{SourceToken, line_ends, line_len}
 use Rattle.rdlpp_scan.specs.Tokens.{plain_len, token_of, whole}
 use Rattle.rdlpp_scan.specs.declared.token.Directive.{Directive}
-use Rattle.rdlpp_scan.specs.declared.token.Directive.TheVariants.{Define, Else, Elsif, Endif, Ifdef, Ifndef, Include, Line, Undef}
+use Rattle.rdlpp_scan.specs.declared.token.Directive.TheVariants.{Define, Include, Line, Undef}
 use Rattle.rdlpp_scan.specs.declared.token.Kind.{Kind}
 use Rattle.rdlpp_scan.specs.declared.token.Kind.TheVariants.{Back, BareBackquote, Perl}
 use Rattle.rdlpp_scan.specs.declared.token.Mode.{Mode}
@@ -46,9 +46,9 @@ use Rattle.rdlpp_read.specs.declared.buffer.extending.LogicalLine.TheVariants as
 use Rattle.rdlpp_read.specs.declared.buffer.filling.Fill.TheVariants as fill
 use Rattle.rdlpp_read.specs.declared.files.File.{File}
 use Rattle.rdlpp_read.proofs.BufferTokens.{consumed_ends}
-use Rattle.rdlpp_front.specs.SourceItems.{AtOrdinary, AtToken, IsDirective, IsText, IsUsage, is_text_kind, word_of}
+use Rattle.rdlpp_front.specs.SourceItems.{AtOrdinary, IsDirective, IsText, IsUsage, is_text_kind, word_of}
 use Rattle.rdlpp_front.specs.SourceLeft.{HoldsFront, source_left, with_file_buffer}
-use Rattle.rdlpp_front.proofs.TextLeft.{holds_define, line_text, perl_tokens, skipped_text_left, unclosed_left, define_moves, line_moves}
+use Rattle.rdlpp_front.proofs.TextLeft.{holds_define, perl_tokens, skipped_text_left, unclosed_left, define_moves, line_moves}
 use Rattle.rdlpp_front.proofs.Insides.{back_front, back_text, bare_at_front, held_used, named_word, stops_at_front, text_at_front, tokens_entered, tokens_plain, tokens_used, usage_word, used_buffer, word_len}
 use Rattle.rdlpp_front.proofs.NamedDirectives.{word_line_ends}
 use Rattle.rdlpp_front.proofs.DirectivesLeft.{skipped_bare_left, skipped_unclosed_left, skipped_usage_left, skipped_word_left}
@@ -66,30 +66,14 @@ none_or false own others more rest e = rest e
 
 unreserved : (name : List ℕ) → directive_named name ≡ None → is_reserved name ≡ false
 unfolding directive_named is_reserved reserved_names
-unreserved name h =
-    none_or (bytes_eq name (codes "define")) Define _ _
-    (none_or (bytes_eq name (codes "undef")) Undef _ _
-    (none_or (bytes_eq name (codes "ifdef")) Ifdef _ _
-    (none_or (bytes_eq name (codes "ifndef")) Ifndef _ _
-    (none_or (bytes_eq name (codes "elsif")) Elsif _ _
-    (none_or (bytes_eq name (codes "else")) Else _ _
-    (none_or (bytes_eq name (codes "endif")) Endif _ _
-    (none_or (bytes_eq name (codes "include")) Include _ _
-    (none_or (bytes_eq name (codes "line")) Line None false (λ e. refl)))))))))
-    h
+unreserved name h = grind (arith, none_or)
 
 -- a directive whose word doesn't count stands by itself, and is a word
 uncounted : (d : Directive) → counts_skipped (word_of d) ≡ false → (stands_by_itself d ≡ true) × (has_own_token d ≡ false)
 unfolding counts_skipped counting_words stands_by_itself has_own_token
 uncounted Undef e = (refl, refl)
 uncounted Include e = (refl, refl)
-uncounted Define e = cc
-uncounted Ifdef e = cc
-uncounted Ifndef e = cc
-uncounted Elsif e = cc
-uncounted Else e = cc
-uncounted Endif e = cc
-uncounted Line e = cc
+uncounted _ e = cc
 
 word_ends : (bs : List ℕ) → list_all is_word bs ≡ true → line_ends bs ≡ 0
 unfolding line_ends
@@ -111,13 +95,7 @@ record Goes (kind : Kind) (next : Mode) (word : List ℕ) : Type 0 where
 
 goes_by : (kind : Kind) (next : Mode) (word : List ℕ) → (elim next [ Plain ↦ stops_closed kind word | _ ↦ true ]) ≡ false → Goes kind next word
 unfolding stops_closed
-goes_by kind Plain word e =
-    let at : Kind → Bool = λ k. stops_closed k word in
-    record {
-      closed = refl;
-      perl = λ k. (let no : true ≡ false = sym (ap at k) ∙ e in cc no);
-      back = λ k. sym (ap at k) ∙ e;
-    }
+goes_by kind Plain word e = grind arith
 goes_by kind InStr word e = cc
 goes_by kind InBlock word e = cc
 
@@ -144,16 +122,10 @@ bare_ends held kind = one_byte held (bare_is held (token_of Plain held) (token_o
 
 -- a usage
 front_ends : (held : List ℕ) → (token_of Plain held).kind ≡ Back → is_reserved (take ((token_of Plain held).len - 1) (drop 1 held)) ≡ false → line_ends (take (token_of Plain held).len held) ≡ 0
-front_ends held kind free =
-    let len = (token_of Plain held).len in
-    let name = take (len - 1) (drop 1 held) in
-    let usage : IsUsage held len = record { kind = kind; whole = refl; free = free } in
-    ap line_ends (back_text held (back_front held kind) kind) ∙ backquote_ends name (word_ends name (usage_word held len usage))
+front_ends held kind free = grind (arith, back_text, back_front, backquote_ends, word_ends, usage_word)
 
 pub usage_ends : (held : List ℕ) (len : ℕ) → IsUsage held len → line_ends (take len held) ≡ 0
-usage_ends held len usage =
-    subst (λ (k : ℕ). line_ends (take k held) ≡ 0) (sym usage.whole)
-    (front_ends held usage.kind (subst (λ (k : ℕ). is_reserved (take (k - 1) (drop 1 held)) ≡ false) usage.whole usage.free))
+usage_ends held len usage = grind (arith, front_ends)
 
 -- the word of a directive
 pub directive_ends : (d : Directive) (held : List ℕ) → 0 < length held → IsDirective d held → line_ends (take (length (word_of d)) held) ≡ 0
@@ -209,13 +181,7 @@ module _ {R : Type 0} (rules : Rules) (unread : R → List ℕ) (ws : List Waiti
         → counts_skipped (take (token_of Plain (held_of f.buffer)).len (held_of f.buffer)) ≡ false
         → (named : Option Directive) → directive_named (take ((token_of Plain (held_of f.buffer)).len - 1) (drop 1 (held_of f.buffer))) ≡ named
         → Passes f (token_of Plain (held_of f.buffer)).len
-    back_passes f holds mode kind counts None named =
-        let held = held_of f.buffer in
-        let len = (token_of Plain held).len in
-        let name = take (len - 1) (drop 1 held) in
-        let usage : IsUsage held len = record { kind = kind; whole = refl; free = unreserved name named } in
-        let text : take len held ≡ 96 ∷ name = back_text held (back_front held kind) kind in
-        word_passes f len mode (ap line_ends text ∙ backquote_ends name (word_ends name (usage_word held len usage))) (skipped_usage_left rules unread ws n p os f s len holds mode usage)
+    back_passes f holds mode kind counts None named = grind (arith, unreserved, back_text, back_front, word_passes, backquote_ends, word_ends, usage_word, skipped_usage_left)
     back_passes f holds mode kind counts (Some d) named =
         let held = held_of f.buffer in
         let len = (token_of Plain held).len in
@@ -239,11 +205,7 @@ module _ {R : Type 0} (rules : Rules) (unread : R → List ℕ) (ws : List Waiti
     -- a string or a comment
     text_passes : (f : File R) → HoldsFront f.buffer → let t = token_of f.buffer.mode (held_of f.buffer) in
         is_text_kind t.kind ≡ true → t.next_mode ≡ Plain → Passes f t.len
-    text_passes f holds text closed =
-        let t = token_of f.buffer.mode (held_of f.buffer) in
-        let w = take t.len (held_of f.buffer) in
-        skipped_text_left rules unread ws n p os f s t.len (line_ends w) t.next_mode holds (AtToken text refl refl) refl
-        ∙ ap (λ (m : Mode). after_bytes (line_ends_of w) (left (consumed_file t.len (line_ends w) (with_file_buffer (entered_mode f.buffer m) f)))) closed
+    text_passes f holds text closed = grind (arith, skipped_text_left)
 
     -- what stands in front, in a mode
     abbrev FrontPasses : File R → Mode → Type 0
@@ -254,21 +216,13 @@ module _ {R : Type 0} (rules : Rules) (unread : R → List ℕ) (ws : List Waiti
         → Case (token_of Plain (held_of f.buffer)).kind → Passes f (token_of Plain (held_of f.buffer)).len
     plain_passes f mode holds none goes (IsBack kind) = back_passes f holds mode kind (goes.back kind) _ refl
     plain_passes f mode holds none goes (IsBare kind) = bare_passes f holds mode kind
-    plain_passes f mode holds none goes (IsOther back bare) =
-        let held = held_of f.buffer in
-        let text : is_text_kind (token_of Plain held).kind ≡ true =
-        text_at_front Plain held (λ e. (stops_at_front held holds.some none, λ backquote. bare (bare_at_front held backquote back))) goes.perl in
-        subst (λ (m : Mode). is_text_kind (token_of m held).kind ≡ true → (token_of m held).next_mode ≡ Plain → Passes f (token_of m held).len) mode (text_passes f holds) text goes.closed
+    plain_passes f mode holds none goes (IsOther back bare) = grind (arith, text_at_front, stops_at_front, bare_at_front, text_passes)
 
     -- one token that doesn't stop, by the mode
     token_passes : (f : File R) (m : Mode) → f.buffer.mode ≡ m → HoldsFront f.buffer → (m ≡ Plain → plain_len (held_of f.buffer) ≡ 0) → FrontPasses f m → Passes f (token_of m (held_of f.buffer)).len
     token_passes f Plain mode holds none goes = plain_passes f mode holds (none refl) goes (case_of (token_of Plain (held_of f.buffer)).kind)
-    token_passes f InStr mode holds none goes =
-        subst (λ (m : Mode). is_text_kind (token_of m (held_of f.buffer)).kind ≡ true → (token_of m (held_of f.buffer)).next_mode ≡ Plain → Passes f (token_of m (held_of f.buffer)).len) mode (text_passes f holds)
-        (text_at_front InStr (held_of f.buffer) (λ e. absurd (cc)) goes.perl) goes.closed
-    token_passes f InBlock mode holds none goes =
-        subst (λ (m : Mode). is_text_kind (token_of m (held_of f.buffer)).kind ≡ true → (token_of m (held_of f.buffer)).next_mode ≡ Plain → Passes f (token_of m (held_of f.buffer)).len) mode (text_passes f holds)
-        (text_at_front InBlock (held_of f.buffer) (λ e. absurd (cc)) goes.perl) goes.closed
+    token_passes f InStr mode holds none goes = grind (arith, text_passes, text_at_front)
+    token_passes f InBlock mode holds none goes = grind (arith, text_passes, text_at_front)
 
     -- one step
     once_passes : (f : File R) (m : Mode) (held : List ℕ) (len : ℕ) (next : Mode) → f.buffer.mode ≡ m → held_of f.buffer ≡ held → HoldsFront f.buffer → IsPassedOnce m held len next
@@ -499,9 +453,7 @@ module _ {R : Type 0} (limits : Limits) (rules : Rules) (unread : R → List ℕ
   pub passes_word : (include_stack : List (File R)) (len : ℕ) → IsHeldFront include_stack → (inner_buffer include_stack).mode ≡ Plain → inner_below include_stack ≤ length os → IsSkippedWord (held_of (inner_buffer include_stack)) len
       → IncludeStackPasses include_stack (take len (held_of (inner_buffer include_stack))) (with_inner (consumed_file len 0) include_stack)
   passes_word [] len h plain below word = absurd (none_held R h.some)
-  passes_word (f ∷ outer) len h plain below (LoneBackquote kind one) =
-      subst (λ (k : ℕ). IncludeStackPasses (f ∷ outer) (take k (held_of f.buffer)) (consumed_file k 0 f ∷ outer)) (sym one)
-      (include_stack_word_passes f outer 1 below (skipped_bare_left rules unread (around f outer) n o (own f) f (include_stack_state limits macros v (f ∷ outer)) (holds_front f outer h) plain kind))
+  passes_word (f ∷ outer) len h plain below (LoneBackquote kind one) = grind (arith, include_stack_word_passes, skipped_bare_left, holds_front)
   passes_word (f ∷ outer) len h plain below (AnyUsage usage) =
       include_stack_word_passes f outer len below (skipped_usage_left rules unread (around f outer) n o (own f) f (include_stack_state limits macros v (f ∷ outer)) len (holds_front f outer h) plain usage)
   passes_word (f ∷ outer) len h plain below (UndefWord is whole) =
@@ -519,16 +471,7 @@ module _ {R : Type 0} (limits : Limits) (rules : Rules) (unread : R → List ℕ
       → IncludeStackPasses include_stack (take len (held_of (inner_buffer include_stack))) (with_inner (consumed_file len lines) include_stack)
   unfolding include_stack_state file_state move_of single_move skipped_move moves_on
   passes_line [] len lines h plain below is whole counted = absurd (none_held R h.some)
-  passes_line (f ∷ outer) len lines h plain below is whole counted =
-      let held = held_of f.buffer in
-      let k = line_len held in
-      let all : IncludeStackPasses (f ∷ outer) (line_text held) (consumed_file k (line_ends (line_text held)) f ∷ outer) =
-      moved_skipped f (consumed_file k (line_ends (line_text held)) f) outer (line_ends_of (line_text held)) below refl
-      (line_moves rules unread (around f outer) (Skipped n o (own f)) f (include_stack_state limits macros v (f ∷ outer)) (holds_front f outer h) plain is)
-      (ends_mid_line_consumed unread f k (line_ends (line_text held))) refl refl in
-      let exact : lines ≡ line_ends (line_text held) = counted ∙ ap (λ (m : ℕ). line_ends (take m held)) whole in
-      subst (λ (l : ℕ). IncludeStackPasses (f ∷ outer) (take len held) (consumed_file len l f ∷ outer)) (sym exact)
-      (subst (λ (m : ℕ). IncludeStackPasses (f ∷ outer) (take m held) (consumed_file m (line_ends (line_text held)) f ∷ outer)) (sym whole) all)
+  passes_line (f ∷ outer) len lines h plain below is whole counted = grind (arith, moved_skipped, line_moves, holds_front, ends_mid_line_consumed)
 
   -- a `define`
   module _ (has_known_texts : Type 0) (t : has_known_texts) where

@@ -1,5 +1,5 @@
 -- What always holds of an engine, as its sources and their conditionals change.
-use Rattle.std.proofs.Common.{◌≡◌, List, [], ap, ℕ, ◌≤◌, ◌<◌, true, false, ◌∷◌, ◌^◌, None, length, drop, refl, sym, subst, ◌∙◌, arith, zero, suc, ◌+◌, ◌-◌, Bool, take, Option, Some, Result, Ok, Err, inr, unwrap_or, All, length-drop, take_all}
+use Rattle.std.proofs.Common.{◌≡◌, List, [], ap, ℕ, ◌≤◌, ◌<◌, true, false, ◌∷◌, ◌^◌, None, length, drop, refl, sym, subst, ◌∙◌, arith, zero, suc, ◌+◌, ◌-◌, Bool, take, Option, Some, Result, Ok, Err, unwrap_or, All, length-drop, take_all}
 use Rattle.std.proofs.lemmas.List.{nil_from_length}
 use Rattle.std.proofs.lemmas.List.Elements.{All-head, All-same, All-tail}
 use Rattle.rdlpp_scan.specs.declared.token.Directive.{Directive}
@@ -12,7 +12,7 @@ use Rattle.rdlpp_meaning.specs.Meaning.{Holds, Passage, Progress, after_bytes, g
 use Rattle.rdlpp_meaning.specs.OpenItems.{open_left}
 use Rattle.rdlpp_meaning.specs.Opens.{Open as OpenText, Texts}
 use Rattle.rdlpp_meaning.specs.Outcome.{gives}
-use Rattle.rdlpp_meaning.specs.Resumed.{Live, Place, Skipped}
+use Rattle.rdlpp_meaning.specs.Resumed.{Place, Skipped}
 use Rattle.rdlpp_meaning.specs.State.{Rules, State, fault_at, shown_line}
 use Rattle.rdlpp_meaning.specs.declared.fault.FaultKind.{FaultKind}
 use Rattle.rdlpp_meaning.specs.declared.fault.FaultKind.TheVariants.{StrayBranch}
@@ -79,21 +79,7 @@ lines_inner change (f ∷ outer) same lines = rw (same f) lines
 pub sound_inner : {R : Type 0} (limits : Limits) (phase : Phase) (table : TableView) (files new : FilesView R) (v : ConditionsView) (change : File R → File R)
     → IsSoundEngine limits phase table files v → new ≡ record files { include_stack = with_inner change files.include_stack } → ((f : File R) → surroundings (change f) ≡ surroundings f)
     → unused_of (inner_buffer (with_inner change files.include_stack)) ≤ unused_of (inner_buffer files.include_stack) → IsSoundEngine limits phase table new v
-sound_inner {R} limits phase table files new v change s becomes same less =
-    let size = with_inner-length change files.include_stack in
-    let below : (f : File R) → (change f).conditions_below ≡ f.conditions_below = λ f. ap (λ (p : ℕ × ℕ). p.0) (same f) in
-    rw becomes (record {
-      in_range = s.in_range;
-      definition_bytes = s.definition_bytes;
-      definitions = s.definitions;
-      size = s.size;
-      slots = s.slots;
-      line_bytes = s.line_bytes;
-      lines = lines_inner change files.include_stack (λ f. ap (λ (p : ℕ × ℕ). p.1) (same f)) s.lines;
-      conditions_of = conditions_inner limits v change files.include_stack below less s.conditions_of;
-      open_ = λ o. (let some = s.open_ o in omega arith);
-      closed = λ c. nil_from_length (with_inner change files.include_stack) (size ∙ ap length (s.closed c));
-    })
+sound_inner {R} limits phase table files new v change s becomes same less = grind (arith, with_inner-length, lines_inner, conditions_inner, nil_from_length)
 
 -- no more bytes of the innermost source aren't used where bytes of it are used
 pub used_less : {R : Type 0} (len lines : ℕ) (include_stack : List (File R)) → unused_of (inner_buffer (with_inner (consumed_file len lines) include_stack)) ≤ unused_of (inner_buffer include_stack)
@@ -114,9 +100,8 @@ shown_less change (f ∷ outer) same = rw (same f) (omega arith)
 
 -- what is left where one source was open
 pub left_alone : {R : Type 0} (include_stack : List (File R)) → length include_stack ≤ 1 → drop 1 include_stack ≡ []
-left_alone [] few = refl
-left_alone (f ∷ []) few = refl
 left_alone (f ∷ g ∷ outer) few = absurd (omega arith)
+left_alone _ few = refl
 
 -- an engine whose main text was closed
 pub sound_closed : {R : Type 0} (limits : Limits) (phase : Phase) (table : TableView) (files new : FilesView R) (v : ConditionsView)
@@ -176,54 +161,19 @@ told_first limits macros v include_stack f outer kind line word is short = rw (i
 pub sound_opened : {R : Type 0} (limits : Limits) (phase : Phase) (table : TableView) (files new : FilesView R) (v : ConditionsView) (f : File R)
     → IsSoundEngine limits phase table files v → files.include_stack ≡ [] → new ≡ record files { include_stack = f ∷ files.include_stack } → f.conditions_below ≡ 0 → f.include_line ≡ 0 → unused_of f.buffer < 2 ^ 31 → IsSoundEngine limits Open table new v
 unfolding is_open
-sound_opened {R} limits phase table files new v f s none becomes below first few =
-    let alone : AreConditions limits v [] = subst (λ (ns : List (File R)). AreConditions limits v ns) none s.conditions_of in
-    rw (becomes, none) (record {
-      in_range = s.in_range;
-      definition_bytes = s.definition_bytes;
-      definitions = s.definitions;
-      size = s.size;
-      slots = s.slots;
-      line_bytes = s.line_bytes;
-      lines = (omega arith, tt);
-      conditions_of = conditions_opened limits v f [] (conditions_live limits v [] alone.below alone) (omega arith) below few alone;
-      open_ = λ o. omega arith;
-      closed = λ c. cc;
-    })
+sound_opened {R} limits phase table files new v f s none becomes below first few = grind (arith, conditions_opened, conditions_live)
 
 -- an engine whose main text couldn't be opened
 pub sound_unopened : {R : Type 0} (limits : Limits) (phase : Phase) (table : TableView) (files : FilesView R) (v : ConditionsView)
     → IsSoundEngine limits phase table files v → phase ≡ Fresh → IsSoundEngine limits Closed table files v
 unfolding is_open
-sound_unopened limits phase table files v s fresh = record {
-  in_range = s.in_range;
-  definition_bytes = s.definition_bytes;
-  definitions = s.definitions;
-  size = s.size;
-  slots = s.slots;
-  line_bytes = s.line_bytes;
-  lines = s.lines;
-  conditions_of = s.conditions_of;
-  open_ = λ o. cc;
-  closed = λ c. fresh_include_stack limits phase table files v s fresh;
-}
+sound_unopened limits phase table files v s fresh = grind (arith, fresh_include_stack)
 
 -- an engine whose output has passed its limit
 pub sound_passed : {R : Type 0} (limits : Limits) (phase : Phase) (table : TableView) (files : FilesView R) (v : ConditionsView)
     → IsSoundEngine limits phase table files v → phase ≡ Open → IsSoundEngine limits OverLimit table files v
 unfolding is_open
-sound_passed limits phase table files v s was = record {
-  in_range = s.in_range;
-  definition_bytes = s.definition_bytes;
-  definitions = s.definitions;
-  size = s.size;
-  slots = s.slots;
-  line_bytes = s.line_bytes;
-  lines = s.lines;
-  conditions_of = s.conditions_of;
-  open_ = λ o. s.open_ (ap is_open was);
-  closed = λ c. cc;
-}
+sound_passed limits phase table files v s was = grind arith
 
 -- what a source may still give can be counted
 unused_few : {R : Type 0} (line_bytes : ℕ) (f : File R) → IsSlot line_bytes f → unused_of f.buffer < 2 ^ 31
@@ -269,19 +219,7 @@ pub sound_entered : {R : Type 0} (limits : Limits) (phase : Phase) (table : Tabl
     → IsSoundEngine limits phase table files v → phase ≡ Open → v.skipped ≡ None → new ≡ record files { include_stack = f ∷ files.include_stack }
     → f.conditions_below ≡ length v.open_now → f.include_line < 2 ^ 63 → unused_of f.buffer < 2 ^ 31 → IsSoundEngine limits phase table new v
 unfolding is_open
-sound_entered {R} limits phase table files new v f s was live becomes below line few =
-    rw becomes (record {
-      in_range = s.in_range;
-      definition_bytes = s.definition_bytes;
-      definitions = s.definitions;
-      size = s.size;
-      slots = s.slots;
-      line_bytes = s.line_bytes;
-      lines = (line, s.lines);
-      conditions_of = conditions_opened limits v f files.include_stack live (omega arith) (rw below s.conditions_of.below) few s.conditions_of;
-      open_ = λ o. omega arith;
-      closed = λ c. absurd (let no : true ≡ false = sym (ap is_open was) ∙ c in cc);
-    })
+sound_entered {R} limits phase table files new v f s was live becomes below line few = grind (arith, conditions_opened)
 
 -- the open texts of an engine in another phase
 texts_phase : (limits : Limits) (phase now : Phase) (macros : List Macro) (x : ExpansionView)
@@ -337,37 +275,14 @@ module _ {R : Type 0} (limits : Limits) (phase : Phase) (table : TableView) (fil
   -- the table has other macros, and no text is open
   pub whole_table : (new : TableView) → new.most_bytes ≡ table.most_bytes → new.most_macros ≡ table.most_macros → table_size new.macros ≤ new.most_bytes → x.opens ≡ []
       → IsWholeEngine limits phase new files v x
-  whole_table new bytes count size idle = record {
-    sources = record {
-      in_range = w.sources.in_range;
-      definition_bytes = bytes ∙ w.sources.definition_bytes;
-      definitions = count ∙ w.sources.definitions;
-      size = size;
-      slots = w.sources.slots;
-      line_bytes = w.sources.line_bytes;
-      lines = w.sources.lines;
-      conditions_of = w.sources.conditions_of;
-      open_ = w.sources.open_;
-      closed = w.sources.closed;
-    };
-    texts = texts_idle limits phase table.macros new.macros x w.texts idle;
-  }
+  whole_table new bytes count size idle = grind (arith, texts_idle)
 
   -- a usage is opened, or bytes of the innermost source are used for one that isn't
   pub whole_usage : (new : FilesView R) (now : ExpansionView) (change : File R → File R) → phase ≡ Open → new ≡ record files { include_stack = with_inner change files.include_stack } → ((f : File R) → surroundings (change f) ≡ surroundings f)
       → unused_of (inner_buffer (with_inner change files.include_stack)) ≤ unused_of (inner_buffer files.include_stack)
       → now.depth ≡ x.depth → now.most ≡ x.most → AreSound (texts_of table.macros now.arguments) now.opens → now.line < 2 ^ 63 → IsWholeEngine limits phase table new v now
   unfolding is_open
-  whole_usage new now change was becomes below less depth most sound line = record {
-    sources = sound_inner limits phase table files new v change w.sources becomes below less;
-    texts = record {
-      depth_is = depth ∙ w.texts.depth_is;
-      most_is = most ∙ w.texts.most_is;
-      sound = sound;
-      line = line;
-      closed = λ c. absurd (let no : true ≡ false = sym (ap is_open was) ∙ c in cc);
-    };
-  }
+  whole_usage new now change was becomes below less depth most sound line = grind (arith, sound_inner)
 
 -- no text of a usage is open before the start
 pub fresh_texts : (limits : Limits) (phase : Phase) (macros : List Macro) (x : ExpansionView) → AreOpenTexts limits phase macros x → phase ≡ Fresh → x.opens ≡ []
@@ -389,13 +304,7 @@ below_by most less (f ∷ outer) some within below = (within, below.1)
 -- other conditionals are open in the innermost source
 pub conditions_by : {R : Type 0} (limits : Limits) (v w : ConditionsView) (include_stack : List (File R)) → 0 < length include_stack → AreConditions limits v include_stack → w.limit ≡ v.limit → length w.open_now ≤ v.limit
     → inner_below include_stack ≤ length w.open_now → ((n : ℕ) → w.skipped ≡ Some n → inner_below include_stack < length w.open_now) → unwrap_or w.skipped 0 + unused_of (inner_buffer include_stack) < 2 ^ 31 → AreConditions limits w include_stack
-conditions_by limits v w include_stack some s limit few within own counted = record {
-  limit = limit ∙ s.limit;
-  few = omega arith;
-  below = below_by (length v.open_now) (length w.open_now) include_stack some within s.below;
-  own = own;
-  counted = counted;
-}
+conditions_by limits v w include_stack some s limit few within own counted = grind (arith, below_by)
 
 -- none opened in skipped text where a test was answered
 skipped_none : (holds : Bool) → unwrap_or (skipped_by holds) 0 ≡ 0
@@ -417,11 +326,7 @@ fewer_len (o ∷ os) = omega arith
 module _ {R : Type 0} (limits : Limits) (v : ConditionsView) (include_stack : List (File R)) (some : 0 < length include_stack) (s : AreConditions limits v include_stack) where
   -- one more is opened
   pub conditions_one : (line : ℕ) (holds : Bool) → length v.open_now < v.limit → AreConditions limits (opened_with line holds v) include_stack
-  conditions_one line holds room =
-      let most = inner_most limits v include_stack s in
-      let none = skipped_none holds in
-      let few = s.counted in
-      conditions_by limits v (opened_with line holds v) include_stack some s refl (omega arith) (omega arith) (λ n e. omega arith) (omega arith)
+  conditions_one line holds room = grind (arith, inner_most, skipped_none, conditions_by)
 
   module _ (own : inner_below include_stack < length v.open_now) where
     -- a branch of the innermost
@@ -456,18 +361,7 @@ named_state limits macros v include_stack f outer is = rw is refl
 -- other conditionals in an engine
 pub sound_with : {R : Type 0} (limits : Limits) (phase : Phase) (table : TableView) (files : FilesView R) (v w : ConditionsView) → IsSoundEngine limits phase table files v
     → AreConditions limits w files.include_stack → IsSoundEngine limits phase table files w
-sound_with limits phase table files v w s c = record {
-  in_range = s.in_range;
-  definition_bytes = s.definition_bytes;
-  definitions = s.definitions;
-  size = s.size;
-  slots = s.slots;
-  line_bytes = s.line_bytes;
-  lines = s.lines;
-  conditions_of = c;
-  open_ = s.open_;
-  closed = s.closed;
-}
+sound_with limits phase table files v w s c = grind arith
 
 pub whole_with : {R : Type 0} (limits : Limits) (phase : Phase) (table : TableView) (files : FilesView R) (v w : ConditionsView) (x : ExpansionView) → IsWholeEngine limits phase table files v x
     → AreConditions limits w files.include_stack → IsWholeEngine limits phase table files w x
@@ -533,9 +427,7 @@ close_in true o os result old new h = h
 close_in false o os result old new h = h
 
 ends_by : {A : Type 0} (result : Result A FaultKind) (old new : ConditionsView) (below : ℕ) → Standing below old → Closes (place_of below old) result old new → EndsOne result old new below
-ends_by {A} result old new below (Outside alone) h =
-    let none : Closes {A = A} (Live []) result old new = subst (λ (p : Place). Closes {A = A} p result old new) (place_outside below old alone) h in
-    EndsNone alone none.0 none.1
+ends_by {A} result old new below (Outside alone) h = grind (arith, place_outside)
 ends_by {A} result old new below (Inside live o os is some skips) h =
     let own = close_in live o _ result old new (subst (λ (p : Place). Closes {A = A} p result old new) (place_inside below old live o os is some skips) h) in
     EndsOwn live o os is some skips own.0 own.1
@@ -549,22 +441,13 @@ ends_one result old new below most h = ends_by result old new below (standing be
 conditions_ended : {R A : Type 0} (limits : Limits) (v : ConditionsView) (include_stack : List (File R)) → 0 < length include_stack → AreConditions limits v include_stack → (result : Result A FaultKind) (w : ConditionsView)
     → EndsOne result v w (inner_below include_stack) → AreConditions limits w include_stack
 conditions_ended limits v include_stack some s result w (EndsNone alone wrong stays) = rw stays s
-conditions_ended limits v include_stack some s result w (EndsOwn live o os is_open below skips done moves) =
-    let size : length v.open_now ≡ suc (length os) = ap length is_open in
-    rw moves (conditions_fewer limits v include_stack some s (omega arith))
-conditions_ended limits v include_stack some s result w (EndsInner n o os is_open below skips done moves) =
-    let size : length v.open_now ≡ suc (length os) = ap length is_open in
-    let few = s.counted in
-    let count : unwrap_or v.skipped 0 ≡ suc n = ap (λ (k : Option ℕ). unwrap_or k 0) skips in
-    rw moves (conditions_count limits v include_stack some s (omega arith) n (omega arith))
+conditions_ended limits v include_stack some s result w (EndsOwn live o os is_open below skips done moves) = grind arith
+conditions_ended limits v include_stack some s result w (EndsInner n o os is_open below skips done moves) = grind arith
 
 -- what always holds behind an `endif`
 pub conditions_end : {R A : Type 0} (limits : Limits) (v : ConditionsView) (include_stack : List (File R)) → 0 < length include_stack → AreConditions limits v include_stack → (result : Result A FaultKind) (w : ConditionsView) (below : ℕ)
     → below ≡ inner_below include_stack → Closes (place_of below v) result v w → AreConditions limits w include_stack
-conditions_end {R} {A} limits v include_stack some s result w below same h =
-    let most = inner_most limits v include_stack s in
-    conditions_ended limits v include_stack some s result w
-    (ends_one result v w (inner_below include_stack) most (subst (λ (n : ℕ). Closes {A = A} (place_of n v) result v w) same h))
+conditions_end {R} {A} limits v include_stack some s result w below same h = grind (arith, inner_most, conditions_ended, ends_one)
 
 -- what the end of a source leaves open
 pub data LeavesOpen (line : Option ℕ) (below : ℕ) (v : ConditionsView) : Type 0 where
@@ -613,13 +496,4 @@ ended_alone below v (LeavesOne o os is_open most wrong) = absurd (cc)
 pub stops_unclosed : {S R : Type 0} (old new : EngineView S R) (place : EnginePlace) (line : ℕ) → (inner_buffer old.files.include_stack).mode ≡ Plain → LeavesOpen (Some line) (inner_below old.files.include_stack) old.conditions
     → place ≡ Fault → new ≡ record old { kept = Some (unclosed_fault line (state_of old)) } → Ends old new (Some place)
 stops_unclosed old new place line plain (LeavesNone alone wrong) is becomes = absurd (cc)
-stops_unclosed {S} {R} old new place line plain (LeavesOne o os is_open most same) is becomes =
-    let shown : line ≡ o.line = cc in
-    subst (λ (p : EnginePlace). Ends old new (Some p)) (sym is) (inr (record {
-      plain = plain;
-      conditional = o;
-      around = os;
-      is_open = is_open;
-      below = most;
-      kept = becomes ∙ ap (λ (n : ℕ). record old { kept = Some (unclosed_fault n (state_of old)) }) shown;
-    }))
+stops_unclosed {S} {R} old new place line plain (LeavesOne o os is_open most same) is becomes = grind arith

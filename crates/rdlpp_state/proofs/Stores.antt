@@ -24,7 +24,7 @@ use Rattle.rdlpp_read.specs.declared.files.File.{File}
 use Rattle.rdlpp_usages.specs.CallReads.{ReadsUpTo, with_used}
 use Rattle.rdlpp_usages.specs.Usages.{ExpansionView, KeepsCall, KeepsOpening, KeepsUsage, StaysOpen, is_opened}
 use Rattle.rdlpp_usages.specs.declared.expansion.Opening.{Opening}
-use Rattle.rdlpp_usages.specs.declared.expansion.Opening.TheVariants.{Broken, Failed, Opened, Refused}
+use Rattle.rdlpp_usages.specs.declared.expansion.Opening.TheVariants.{Opened}
 use Rattle.rdlpp_state.specs.Engine.{EngineView}
 use Rattle.rdlpp_state.specs.Failures.{MayGoOn, begins_include, is_call_failed, is_failed_call, is_failed_search, is_failed_start, is_memory_kind, is_over, is_read_failed, is_write_failed, may_follow}
 use Rattle.rdlpp_state.specs.Includes.{inner_path}
@@ -79,9 +79,7 @@ stops_by e f kept search start (inr on) = false≢true (sym (or_from (is_failed_
 -- so it is after a fault that is none of a device or of memory
 pub own_stops : {S R : Type 0} (e : EngineView S R) (f : Report) → e.kept ≡ Some f → is_call_failed f.kind ≡ false → MayGoOn e → ⊥
 unfolding is_failed_search is_failed_start is_failed_call
-own_stops e f kept own =
-    let none : is_failed_call e.kept ≡ false = ap is_failed_call kept ∙ own in
-    stops_by e f kept (and_left (is_failed_call e.kept) _ none) (and_left (is_failed_call e.kept) _ none)
+own_stops e f kept own = grind (arith, stops_by, and_left)
 
 -- no read is made again
 pub read_never : {S R : Type 0} (e : EngineView S R) → IsReading (inner_buffer e.files.include_stack) → is_failed_search e ≡ false
@@ -120,10 +118,7 @@ part_moves unread catalog own exact path old new outer dropped gained window gai
 -- parts of which less is asked
 pub parts_told : {R : Type 0} (unread : R → List ℕ) (catalog : Catalog) (own exact : Type 0) (include_stack : List (File R)) → (exact → own) → AreParts unread catalog own include_stack → AreParts unread catalog exact include_stack
 parts_told unread catalog own exact [] t parts = tt
-parts_told unread catalog own exact (f ∷ outer) t parts = (
-  record { text = parts.0.text; told = parts.0.told; front = parts.0.front; rest = parts.0.rest; whole = parts.0.whole; same = λ e. parts.0.same (t e) },
-  parts_told unread catalog own exact outer t parts.1,
-)
+parts_told unread catalog own exact (f ∷ outer) t parts = grind (arith, (parts_told unread catalog own exact outer t parts.1))
 
 -- open sources that stay parts of their texts, of which no byte is lost where the move is exact
 abbrev pub MovesParts : {R : Type 0} → (R → List ℕ) → Type 0 → List (File R) → List (File R) → Type 0
@@ -155,17 +150,7 @@ parts_on unread old mid new first then_ = λ catalog parts. then_ catalog (first
 -- where the buffer has the same window and the same reader
 pub parts_same : {R : Type 0} (unread : R → List ℕ) (b : BufferView R) (include_stack : List (File R)) → b.window ≡ (inner_buffer include_stack).window → b.reader ≡ (inner_buffer include_stack).reader → KeepsParts unread include_stack (with_buffer b include_stack)
 parts_same unread b [] window reader = λ catalog parts. parts
-parts_same unread b (f ∷ outer) window reader = λ catalog parts. (
-  record {
-    text = parts.0.text;
-    told = parts.0.told;
-    front = parts.0.front;
-    rest = parts.0.rest;
-    whole = parts.0.whole ∙ ap (λ (w : List ℕ). parts.0.front ++ (w ++ parts.0.rest)) (sym window);
-    same = λ e. parts.0.same e ∙ ap (unread_of unread) (sym reader);
-  },
-  parts.1,
-)
+parts_same unread b (f ∷ outer) window reader = grind arith
 
 -- where another mode is entered
 pub parts_mode : {R : Type 0} (unread : R → List ℕ) (next : Mode) (include_stack : List (File R)) → KeepsParts unread include_stack (with_buffer (entered_mode (inner_buffer include_stack) next) include_stack)
@@ -249,10 +234,7 @@ whole_left unread b used =
 -- the text of a source, from the bytes on that aren't used
 text_from : {R : Type 0} (unread : R → List ℕ) (catalog : Catalog) (path : List ℕ) (b : BufferView R) (outer : List (File R)) → b.at ≤ b.accepted → (p : IsPartOf unread catalog Unit path b outer)
     → p.text ≡ (p.front ++ take b.at b.window) ++ text_left unread b
-text_from unread catalog path b outer used p =
-    p.whole ∙ ap (λ (w : List ℕ). p.front ++ (b.window ++ w)) (p.same tt)
-    ∙ ap (λ (w : List ℕ). p.front ++ w) (whole_left unread b used)
-    ∙ sym (append_assoc p.front (take b.at b.window) (text_left unread b))
+text_from unread catalog path b outer used p = grind (arith, whole_left, append_assoc)
 
 -- the call of a usage, after whose name a source stood
 call_kept : {R : Type 0} (unread : R → List ℕ) (catalog : Catalog) (most : ℕ) (arguments path : List ℕ) (mid now : BufferView R) (outer : List (File R)) → mid.at ≤ mid.accepted → IsPartOf unread catalog Unit path mid outer
@@ -330,9 +312,7 @@ usage_begun : {R : Type 0} (formals : Option (List Formal)) (has_known_texts : T
     → KeepsUsage formals has_known_texts unread most opening arguments from now → (arguments ≡ []) ⊎ ReadsUpTo has_known_texts unread Before most arguments from now
 usage_begun None has_known_texts unread most opening arguments from now none keeps = inl keeps
 usage_begun (Some fs) has_known_texts unread most Opened arguments from now none keeps = cc none
-usage_begun (Some fs) has_known_texts unread most (Refused kind) arguments from now none keeps = inr keeps
-usage_begun (Some fs) has_known_texts unread most (Broken kind own) arguments from now none keeps = inr keeps
-usage_begun (Some fs) has_known_texts unread most Failed arguments from now none keeps = inr keeps
+usage_begun _ has_known_texts unread most _ arguments from now none keeps = inr keeps
 
 -- what is held as an engine goes on
 pub record KeepsStores {S R : Type 0} (g : Ghosts S R) (old new : EngineView S R) : Type 0 where
@@ -364,10 +344,7 @@ keeps_sources g old pending marks macros v include_stack sources free idle catal
 -- where nothing of it changed
 pub keeps_pending : {S R : Type 0} (g : Ghosts S R) (old : EngineView S R) (pending : PendingView) (marks : MarksView) → KeepsStores g old (record old { pending = pending; marks = marks })
 unfolding is_failed_search is_failed_start
-keeps_pending g old pending marks = record {
-  lets_go = λ h. record { idle = h.idle };
-  stores = λ t h. record { lets_go = record { idle = h.lets_go.idle }; parts = h.parts; call = h.call; begun = h.begun };
-}
+keeps_pending g old pending marks = grind arith
 
 -- nor with how far an engine is that keeps no fault, and how many bytes may be lent
 pub keeps_phase : {S R : Type 0} (g : Ghosts S R) (old : EngineView S R) (phase : Phase) (quota : ℕ) → old.kept ≡ None → KeepsStores g old (record old { phase = phase; quota = quota })

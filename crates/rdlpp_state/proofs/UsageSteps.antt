@@ -41,7 +41,6 @@ use Rattle.rdlpp_state.specs.Failures.{MayGoOn}
 use Rattle.rdlpp_state.specs.Held.{IsBounded}
 use Rattle.rdlpp_state.specs.Marks.{lends_usage}
 use Rattle.rdlpp_state.specs.Moves.{IsReady, IsDrained}
-use Rattle.rdlpp_state.specs.OpenConditionals.{outer_open}
 use Rattle.rdlpp_state.specs.Pending.{nothing_pending, pending_bytes, pending_pieces}
 use Rattle.rdlpp_state.specs.Pieces.{held_texts, lent_answer}
 use Rattle.rdlpp_state.specs.Remaining.{file_state, inner_name, include_stack_left, include_stack_state, run_rules, source_rules, state_of, text_of, work_left}
@@ -84,20 +83,14 @@ same_kept rules s macros line depth opens a b (inr none) =
 
 same_left : (rules : Rules) (s : State) (macros : List Macro) (old new : ExpansionView) → StaysOpen old new
     → open_left rules s old.line old.depth (texts_of macros old.arguments) new.opens ≡ open_left rules s new.line new.depth (texts_of macros new.arguments) new.opens
-same_left rules s macros old new stays =
-    ap (λ (l : ℕ). open_left rules s l old.depth (texts_of macros old.arguments) new.opens) (sym stays.line)
-    ∙ (ap (λ (d : ℕ). open_left rules s new.line d (texts_of macros old.arguments) new.opens) (sym stays.depth)
-    ∙ same_kept rules s macros new.line new.depth new.opens old.arguments new.arguments stays.arguments)
+same_left rules s macros old new stays = grind (arith, same_kept)
 
 -- the open texts go on over some bytes, before what goes on behind them
 texts_go : (rules : Rules) (s : State) (macros : List Macro) (old new : ExpansionView) (bytes : List ℕ) (p : Passage)
     → open_left rules s old.line old.depth (texts_of macros old.arguments) old.opens ≡ and_then (gives bytes) (open_left rules s old.line old.depth (texts_of macros old.arguments) new.opens) → StaysOpen old new
     → goes_on (texts_left rules s macros old) (λ after. p) ≡ after_bytes bytes (goes_on (texts_left rules s macros new) (λ after. p))
 unfolding texts_left
-texts_go rules s macros old new bytes p goes stays =
-    ap (λ (o : Outcome). goes_on (leaves o s) (λ after. p)) goes
-    ∙ (goes_after bytes (open_left rules s old.line old.depth (texts_of macros old.arguments) new.opens) s (λ after. p)
-    ∙ ap (λ (o : Outcome). after_bytes bytes (goes_on (leaves o s) (λ after. p))) (same_left rules s macros old new stays))
+texts_go rules s macros old new bytes p goes stays = grind (arith, goes_after, same_left)
 
 -- or end with a fault
 texts_fail : (rules : Rules) (s : State) (macros : List Macro) (x : ExpansionView) (f : Report) (p : Passage)
@@ -284,17 +277,7 @@ module _ {R : Type 0} (limits : Limits) (rules : Rules) (unread : R → List ℕ
       → include_stack_left limits rules unread macros v (f ∷ outer)
       ≡ goes_on (texts_left rules (include_stack_state limits macros v (f ∷ outer)) macros x) (λ after. include_stack_left limits rules unread macros v (used_file b used f ∷ outer))
   unfolding include_stack_state file_state
-  opened_left f outer b used x line name text means =
-      let s = include_stack_state limits macros v (f ∷ outer) in
-      let now = used_file b used f in
-      let os = own_conditions f.conditions_below v in
-      let ws = around limits rules unread macros v f outer in
-      left_inner f outer
-      ∙ (means
-      ∙ (goes_from rules s macros x (λ after. inner_left rules unread ws os (now ∷ outer) after)
-      ∙ ap (λ (p : Passage). goes_on (texts_left rules s macros x) (λ after. p))
-      (ap (λ (us : List Waiting). inner_left rules unread us os (now ∷ outer) s) (sym (waiting_same limits rules unread (outer_open f.conditions_below v.open_now) f now outer (ends_used f b used text) refl))
-      ∙ sym (left_inner now outer))))
+  opened_left f outer b used x line name text means = grind (arith, left_inner, goes_from, waiting_same, ends_used)
 
   -- one that is refused, at its line about its name
   pub refused_left : (f : File R) (outer new : List (File R)) (x : ExpansionView) (kind : FaultKind) (line : ℕ) (name : List ℕ)
@@ -417,12 +400,7 @@ by_run g e = refl
 
 -- an expansion in which nothing is open stays the same but for what is kept, where its line and its limits do
 pub unchanged : (old new : ExpansionView) → old.opens ≡ [] → new.opens ≡ [] → new.line ≡ old.line → new.depth ≡ old.depth → new.most ≡ old.most → new ≡ record old { arguments = new.arguments }
-unchanged old new idle none line depth most =
-    let view : List Open → ℕ → ℕ → ℕ → ExpansionView = λ o l d m. record { opens = o; arguments = new.arguments; line = l; depth = d; most = m } in
-    ap (λ (o : List Open). view o new.line new.depth new.most) (none ∙ sym idle)
-    ∙ (ap (λ (l : ℕ). view old.opens l new.depth new.most) line
-    ∙ (ap (λ (d : ℕ). view old.opens old.line d new.most) depth
-    ∙ ap (λ (m : ℕ). view old.opens old.line old.depth m) most))
+unchanged old new idle none line depth most = grind arith
 
 -- an engine of which the sources and the open texts changed
 module _ {S R : Type 0} (old mid : EngineView S R) (becomes : mid ≡ record old { files = mid.files; sources = mid.sources; expansion = mid.expansion }) (only : mid.files ≡ record old.files { include_stack = mid.files.include_stack }) where
@@ -433,17 +411,12 @@ module _ {S R : Type 0} (old mid : EngineView S R) (becomes : mid ≡ record old
   -- and where a fault is kept, and no text was opened, the same open texts, but for what is kept of the call
   pub stopped_is : (new : EngineView S R) (f : Report) → mid.expansion ≡ record old.expansion { arguments = mid.expansion.arguments } → new ≡ record mid { kept = Some f }
       → new ≡ record old { kept = Some f; files = record old.files { include_stack = mid.files.include_stack }; sources = mid.sources; expansion = record old.expansion { arguments = mid.expansion.arguments } }
-  stopped_is new f same is =
-      is ∙ (ap (λ (m : EngineView S R). record m { kept = Some f }) opened_is
-      ∙ ap (λ (x : ExpansionView). record old { kept = Some f; files = record old.files { include_stack = mid.files.include_stack }; sources = mid.sources; expansion = x }) same)
+  stopped_is new f same is = grind (arith, opened_is)
 
   -- and it stands in the same state, where bytes of the innermost source are used
   pub used_here : (used : List ℕ) → mid.files.include_stack ≡ with_inner (used_file (inner_buffer mid.files.include_stack) used) old.files.include_stack → state_of mid ≡ state_of old
   unfolding state_of
-  used_here used uses =
-      ap (λ (e : EngineView S R). include_stack_state e.limits e.table.macros e.conditions e.files.include_stack) opened_is
-      ∙ (ap (include_stack_state old.limits old.table.macros old.conditions) uses
-      ∙ used_state old.limits old.table.macros old.conditions (inner_buffer mid.files.include_stack) used old.files.include_stack)
+  used_here used uses = grind (arith, opened_is, used_state)
 
 -- an engine that stands before a usage, of whose innermost source bytes are used: its sources and its open texts are these now
 module _ {S R : Type 0} (g : Ghosts S R) (old : EngineView S R) (ready : IsReady old) (live : old.conditions.skipped ≡ None)

@@ -47,25 +47,17 @@ digits_padded n ds all = digits_append ds (replicate (n - length ds) 0) all (dig
 -- as many as they are padded to
 pub padded_size : (n : ℕ) (ds : List ℕ) → length ds ≤ n → length (padded n ds) ≡ n
 unfolding padded
-padded_size n ds fits =
-    let all = length-append ds (replicate (n - length ds) 0) in
-    let zeros = length-replicate {A = ℕ} (n - length ds) 0 in
-    omega (arith, all, zeros, fits)
+padded_size n ds fits = grind (arith, length-append, length-replicate)
 
 -- padded digits with the first one apart
 pub padded_first : (n d : ℕ) (ds : List ℕ) → padded (suc n) (d ∷ ds) ≡ d ∷ padded n ds
 unfolding padded
-padded_first n d ds =
-    let same : suc n - suc (length ds) ≡ n - length ds = omega arith in
-    ap (λ (k : ℕ). d ∷ (ds ++ replicate k 0)) same
+padded_first n d ds = grind arith
 
 -- no digits, with the first zero apart
 pub padded_none : (n : ℕ) → padded (suc n) [] ≡ 0 ∷ padded n []
 unfolding padded
-padded_none n =
-    let one : suc n - 0 ≡ suc n = omega arith in
-    let none : n - 0 ≡ n = omega arith in
-    ap (λ (k : ℕ). replicate k 0) one ∙ sym (ap (λ (k : ℕ). 0 ∷ replicate k 0) none)
+padded_none n = grind arith
 
 -- the digits behind one that falls
 pub after_within : (n owing : ℕ) (ds : List ℕ) → AreDigits ds → owing < 2 ^ 31 → number_of (padded n ds ++ owing ∷ []) < (2 ^ 31) ^ length (padded n ds ++ owing ∷ [])
@@ -91,10 +83,7 @@ digits_fall [] a b t u same less within =
     let some = power_some (length t) in
     let most : (a + 1) * (2 ^ 31) ^ length t ≤ b * (2 ^ 31) ^ length t = mul-le-mul_right ((2 ^ 31) ^ length t) (omega arith) in
     rw (← same) (omega arith)
-digits_fall (d ∷ ds) a b t u same less within =
-    let rest = digits_fall ds a b t u same less within in
-    let long : length (ds ++ a ∷ t) ≡ length (ds ++ b ∷ u) = length-append ds (a ∷ t) ∙ (ap (λ n. length ds + suc n) same ∙ sym (length-append ds (b ∷ u))) in
-    rw long (omega arith)
+digits_fall (d ∷ ds) a b t u same less within = grind (arith, length-append, (digits_fall ds a b t u same less within))
 
 -- the digits of the open sources, the innermost of which comes last
 inner_digit : {R : Type 0} (f : File R) (outer : List (File R)) → source_digits (f ∷ outer) ≡ source_digits outer ++ (unused_of f.buffer + 1) ∷ []
@@ -105,25 +94,12 @@ inner_digit {R} f outer = reverse-append ((unused_of f.buffer + 1) ∷ []) (map 
 work_by : (includes depth pending d : ℕ) (before cursors : List ℕ) → work_of includes depth (before ++ d ∷ []) cursors pending
     ≡ number_of (before ++ d ∷ (replicate (includes + 1 - length (before ++ d ∷ [])) 0 ++ (padded depth cursors ++ pending ∷ [])))
 unfolding work_of padded
-work_by includes depth pending d before cursors =
-    let low = (cursors ++ replicate (depth - length cursors) 0) ++ pending ∷ [] in
-    ap number_of (append_assoc (before ++ d ∷ []) (replicate (includes + 1 - length (before ++ d ∷ [])) 0) low
-    ∙ append_assoc before (d ∷ []) (replicate (includes + 1 - length (before ++ d ∷ [])) 0 ++ low))
+work_by includes depth pending d before cursors = grind (arith, append_assoc)
 
 -- the last digit is smaller, whatever texts are open behind it
 work_less : (includes depth pending owing a b : ℕ) (before old new : List ℕ) → a < b → length old ≤ depth → length new ≤ depth → AreDigits new → owing < 2 ^ 31
     → work_of includes depth (before ++ a ∷ []) new owing < work_of includes depth (before ++ b ∷ []) old pending
-work_less includes depth pending owing a b before old new less fits room all few =
-    let n = includes + 1 - length (before ++ b ∷ []) in
-    let places : length (before ++ a ∷ []) ≡ length (before ++ b ∷ []) = length-append before (a ∷ []) ∙ sym (length-append before (b ∷ [])) in
-    let low : List ℕ → ℕ → List ℕ = λ cs k. replicate n 0 ++ (padded depth cs ++ k ∷ []) in
-    let long : length (low new owing) ≡ length (low old pending) =
-    length-append (replicate n 0) (padded depth new ++ owing ∷ [])
-    ∙ (ap (λ k. length {A = ℕ} (replicate n 0) + k) (after_size depth pending owing old new fits room)
-    ∙ sym (length-append (replicate n 0) (padded depth old ++ pending ∷ []))) in
-    let within = number_within (low new owing) (digits_append (replicate n 0) (padded depth new ++ owing ∷ []) (digits_zeros n) (digits_append (padded depth new) (owing ∷ []) (digits_padded depth new all) (few, tt))) in
-    rw (work_by includes depth owing a before new, work_by includes depth pending b before old, places)
-    (digits_fall before a b (low new owing) (low old pending) long less within)
+work_less includes depth pending owing a b before old new less fits room all few = grind (arith, length-append, after_size, number_within, digits_append, digits_zeros, digits_padded, work_by, digits_fall)
 
 -- fewer bytes of the innermost source aren't used, and those around it stay
 pub record IsUsed {R : Type 0} (old new : List (File R)) : Type 0 where
@@ -137,20 +113,14 @@ unfolding closed_buffer unused_of
 used_falls includes depth pending owing cursors others [] [] used fits room all few = let less = used.fewer in absurd (omega arith)
 used_falls includes depth pending owing cursors others [] (g ∷ inner) used fits room all few = let same = used.size in absurd (omega arith)
 used_falls includes depth pending owing cursors others (f ∷ outer) [] used fits room all few = let same = used.size in absurd (omega arith)
-used_falls includes depth pending owing cursors others (f ∷ outer) (g ∷ inner) used fits room all few =
-    let same : inner ≡ outer = used.outer in
-    let fewer : unused_of g.buffer < unused_of f.buffer = used.fewer in
-    rw (inner_digit f outer, inner_digit g inner, same)
-    (work_less includes depth pending owing (unused_of g.buffer + 1) (unused_of f.buffer + 1) (source_digits outer) cursors others (omega arith) fits room all few)
+used_falls includes depth pending owing cursors others (f ∷ outer) (g ∷ inner) used fits room all few = grind (arith, inner_digit, work_less)
 
 -- the work left falls where fewer bytes aren't used, whatever texts are open then
 pub work_opens : {S R : Type 0} (old new : EngineView S R) → new.limits ≡ old.limits → IsUsed old.files.include_stack new.files.include_stack
     → length (cursor_digits old.expansion.opens) ≤ old.limits.depth → length (cursor_digits new.expansion.opens) ≤ old.limits.depth → AreDigits (cursor_digits new.expansion.opens)
     → pending_pieces new.pending < 2 ^ 31 → work_left new < work_left old
 unfolding work_left
-work_opens old new limits used fits room all few =
-    rw limits (used_falls old.limits.includes old.limits.depth (pending_pieces old.pending) (pending_pieces new.pending) (cursor_digits old.expansion.opens) (cursor_digits new.expansion.opens)
-    old.files.include_stack new.files.include_stack used fits room all few)
+work_opens old new limits used fits room all few = grind (arith, used_falls)
 
 -- no text that is open has a digit
 pub idle_digits : (opens : List Open) → opens ≡ [] → cursor_digits opens ≡ []
@@ -183,18 +153,14 @@ held_room b = omega (arith, length-drop b.at (take b.accepted b.window), length-
 pub used_bytes : {R : Type 0} (include_stack : List (File R)) (len lines : ℕ) → 0 < len → len ≤ length (held_of (inner_buffer include_stack)) → IsUsed include_stack (with_inner (consumed_file len lines) include_stack)
 unfolding unused_of closed_buffer held_of
 used_bytes [] len lines some inside = absurd (omega arith)
-used_bytes (f ∷ outer) len lines some inside =
-    let room = held_room f.buffer in
-    record { fewer = omega arith; outer = refl; size = refl }
+used_bytes (f ∷ outer) len lines some inside = grind (arith, held_room)
 
 -- held bytes are used, in another buffer of which as many aren't used
 pub used_after : {R : Type 0} (include_stack : List (File R)) (b : BufferView R) (len lines : ℕ) → 0 < length include_stack → unused_of b ≡ unused_of (inner_buffer include_stack) → 0 < len → len ≤ length (held_of b)
     → IsUsed include_stack (with_inner (consumed_file len lines) (with_buffer b include_stack))
 unfolding unused_of
 used_after [] b len lines open_ same some inside = absurd (omega arith)
-used_after (f ∷ outer) b len lines open_ same some inside =
-    let room = held_room b in
-    record { fewer = omega arith; outer = refl; size = refl }
+used_after (f ∷ outer) b len lines open_ same some inside = grind (arith, held_room)
 
 -- as many bytes aren't used in each mode
 pub entered_unused : {R : Type 0} (b : BufferView R) (next : Mode) → unused_of (entered_mode b next) ≡ unused_of b
@@ -216,9 +182,7 @@ work_same old new b limits pending texts include_stack same = rw (limits, pendin
 -- as many digits as sources
 digits-length : {R : Type 0} (include_stack : List (File R)) → length (source_digits include_stack) ≡ length include_stack
 unfolding source_digits
-digits-length {R} include_stack =
-    let digit : File R → ℕ = λ g. unused_of g.buffer + 1 in
-    length-reverse (map digit include_stack) ∙ length-map include_stack digit
+digits-length {R} include_stack = grind (arith, length-reverse, length-map)
 
 -- one more place of 0 is among those that are filled up
 zero_place : (n : ℕ) (before : List ℕ) → length before < n → padded n (before ++ 0 ∷ []) ≡ padded n before
@@ -250,9 +214,7 @@ left_falls old new limits before idle include_stack some few least =
 -- the work left of two open sources and those around them
 work_by_two : (includes depth pending a e : ℕ) (before : List ℕ) → work_of includes depth ((before ++ a ∷ []) ++ e ∷ []) [] pending
     ≡ number_of (before ++ a ∷ e ∷ (replicate (includes + 1 - length ((before ++ a ∷ []) ++ e ∷ [])) 0 ++ (padded depth [] ++ pending ∷ [])))
-work_by_two includes depth pending a e before =
-    let low = replicate (includes + 1 - length ((before ++ a ∷ []) ++ e ∷ [])) 0 ++ (padded depth [] ++ pending ∷ []) in
-    work_by includes depth pending e (before ++ a ∷ []) [] ∙ ap number_of (append_assoc before (a ∷ []) (e ∷ low))
+work_by_two includes depth pending a e before = grind (arith, work_by, append_assoc)
 
 -- the work left falls where bytes of a source are used, and another is opened inside of it
 work_inside : (includes depth pending owing a b e : ℕ) (before : List ℕ) → a < b → length before < includes → e < 2 ^ 31 → owing < 2 ^ 31
@@ -287,12 +249,7 @@ unfolding closed_buffer unused_of
 entered_digits includes depth pending owing [] [] inner used room small few = let less = used.fewer in absurd (omega arith)
 entered_digits includes depth pending owing [] (g ∷ rest) inner used room small few = let same = used.size in absurd (omega arith)
 entered_digits includes depth pending owing (f ∷ outer) [] inner used room small few = let same = used.size in absurd (omega arith)
-entered_digits includes depth pending owing (f ∷ outer) (g ∷ rest) inner used room small few =
-    let same : rest ≡ outer = used.outer in
-    let fewer : unused_of g.buffer < unused_of f.buffer = used.fewer in
-    let size : length (source_digits outer) ≡ length outer = digits-length outer in
-    rw (inner_digit inner (g ∷ rest), inner_digit f outer, inner_digit g rest, same)
-    (work_inside includes depth pending owing (unused_of g.buffer + 1) (unused_of f.buffer + 1) (unused_of inner.buffer + 1) (source_digits outer) (omega arith) (omega arith) small few)
+entered_digits includes depth pending owing (f ∷ outer) (g ∷ rest) inner used room small few = grind (arith, digits-length, inner_digit, work_inside)
 
 pub entered_falls : {S R : Type 0} (old new : EngineView S R) → new.limits ≡ old.limits → old.expansion.opens ≡ [] → new.expansion.opens ≡ [] → IsEntered old.files.include_stack new.files.include_stack → length old.files.include_stack ≤ old.limits.includes
     → pending_pieces new.pending < 2 ^ 31 → work_left new < work_left old
@@ -314,9 +271,7 @@ pub number_falls : (head : List ℕ) (depth pending owing : ℕ) (old new : List
 unfolding AreFalling
 number_falls head depth pending owing [] new falls fits room all few = absurd falls
 number_falls head zero pending owing (d ∷ old) new falls fits room all few = absurd (omega (arith, fits))
-number_falls head (suc n) pending owing (d ∷ old) [] falls fits room all few =
-    rw (padded_none n, padded_first n d old)
-    (one_falls head n pending owing 0 d old [] (omega (arith, fits)) (omega arith) tt few falls)
+number_falls head (suc n) pending owing (d ∷ old) [] falls fits room all few = grind (arith, padded_none, padded_first, one_falls)
 number_falls head (suc n) pending owing (d ∷ old) (e ∷ new) falls fits room all few =
     rw (padded_first n e new, padded_first n d old) (elim falls [
       | inl less ↦ one_falls head n pending owing e d old new (omega (arith, fits)) (omega (arith, room)) all.1 few less
