@@ -131,11 +131,6 @@ pub back_text : (bs : List ℕ) → slice_index bs 0 ≡ 96 → (token_of Plain 
     → take (token_of Plain bs).len bs ≡ 96 ∷ take ((token_of Plain bs).len - 1) (drop 1 bs)
 back_text bs e h = grind (arith, back_len, front_byte)
 
--- one of two tokens, by a test
-by_test : (t : Bool) (x y : Token) (G : Type 0) → (t ≡ true → x.kind ≡ Back → G) → (y.kind ≡ Back → G) → (cond t x y).kind ≡ Back → G
-by_test true x y G first second h = first refl h
-by_test false x y G first second h = second h
-
 -- a token with a backquote's name begins with the backquote
 pub back_front : (bs : List ℕ) → (token_of Plain bs).kind ≡ Back → slice_index bs 0 ≡ 96
 unfolding token_of plain_token whole

@@ -259,9 +259,6 @@ reaches_after n m raw text (PastByte i k b r t e p) = reaches_after i k r t p
 reaches_after n m raw text (PastLine i k r t p) = reaches_after i k r t p
 reaches_after n m raw text (PastReturn i k r t p) = reaches_after i k r t p
 
-abbrev len_by : Bool → Bool → ℕ
-len_by line return = cond line 1 (cond return 2 0)
-
 -- where no continuation begins, none begins in a front of the text
 front_none : (n b : ℕ) (raw : List ℕ) → continuation_len (b ∷ raw) ≡ 0 → continuation_len (b ∷ take n raw) ≡ 0
 unfolding continuation_len
