@@ -1,5 +1,5 @@
 -- Searches: the folder of a path, and the answer that a search comes to.
-use Rattle.std.proofs.Common.{◌≡◌, ℕ, zero, suc, ◌+◌, true, false, ◌==◌, cond, List, [], ◌∷◌, get_or, take, drop, refl, ap, sym, ◌∙◌, arith, add-one, ne_eqb, Result, Ok, Err, subst, ◌-◌, ◌^◌, min, Bool, length, Option, None, Some, nat_lt}
+use Rattle.std.proofs.Common.{◌≡◌, ℕ, zero, suc, ◌+◌, true, false, ◌==◌, cond, List, [], ◌∷◌, get_or, take, drop, refl, ap, sym, ◌∙◌, arith, add-one, ne_eqb, Result, Ok, Err, subst, ◌-◌, ◌^◌, min, Bool, Option, None, Some, nat_lt}
 use Rattle.std.specs.Bool.{⊤}
 use Rattle.std.specs.List.{list_any}
 use Rattle.std.specs.Str.{NoCharPasses}
@@ -8,10 +8,10 @@ use Rattle.std.proofs.lemmas.Bool.{or_right}
 use Rattle.std.proofs.lemmas.List.Elements.{All-from_get_or}
 use Rattle.std.proofs.lemmas.List.Folds.{list_any_none}
 use Rattle.std.proofs.lemmas.Str.Pattern.{NoCharPasses-char, drop_at_char}
-use Rattle.rdlpp_source.specs.Asked.{Answered, Answers, Comes, Ends, SearchFault, Search, Wanted, asked_catalog, failed_search, first_search, folders_of, is_found, known_search, search_at, search_of, search_or, seen_failures, standing_at, standing_text, text_at, unread_of}
+use Rattle.rdlpp_source.specs.Asked.{Answered, Answers, Comes, Ends, SearchFault, Search, Wanted, asked_catalog, failed_search, first_search, folders_of, is_found, known_search, search_at, search_of, search_or, seen_failures, standing_text, text_at, unread_of}
 use Rattle.rdlpp_source.specs.Counts.{Counts}
 use Rattle.rdlpp_source.specs.Search.{answer_at, answer_or, at_path, candidates, first_answer, folder_of}
-use Rattle.rdlpp_source.specs.Sources.{Answer, Finds, Gives, Missing, Overlong, Present, is_device, is_no_memory}
+use Rattle.rdlpp_source.specs.Sources.{Answer, Finds, Gives, Missing, Present, is_device, is_no_memory}
 use Rattle.rdlpp_source.specs.declared.asked.AskedTexts.{AskedTexts}
 use Rattle.rdlpp_source.specs.declared.asked.Standing.{Standing}
 use Rattle.rdlpp_source.specs.declared.asked.Standing.TheVariants.{Absent as Gone, Failed, Text}
@@ -19,7 +19,7 @@ use Rattle.rdlpp_source.specs.declared.asked.Stop.{Stop}
 use Rattle.rdlpp_source.specs.declared.asked.Stop.TheVariants.{Absent as NotThere, Failed as NotOpened, NoMemory as NoRoom, PathTooLong as TooLong, Wanted as NotKnown}
 use Rattle.rdlpp_source.specs.declared.sources.Found.{Found}
 use Rattle.rdlpp_source.specs.declared.sources.SourceFault.{SourceFault}
-use Rattle.rdlpp_source.specs.declared.sources.SourceFault.TheVariants.{Absent, Device, NoMemory, PathTooLong}
+use Rattle.rdlpp_source.specs.declared.sources.SourceFault.TheVariants.{Device, NoMemory}
 
 -- The folder of a path ends with the last `/`.
 
@@ -40,10 +40,7 @@ folder_of-step b bs h = ap (λ t. cond t (b ∷ folder_of bs) []) h
 -- the folder goes up to and with a `/` that no other follows
 folder_of-last : (i : ℕ) (bs rest : List ℕ) → drop i bs ≡ 47 ∷ rest → list_any (λ c. c == 47) rest ≡ false → folder_of bs ≡ take (suc i) bs
 folder_of-last i [] rest e h = refl
-folder_of-last zero (b ∷ bs) rest e h =
-    let any : list_any (λ c. c == 47) (b ∷ bs) ≡ true = ap (λ xs. list_any (λ c. c == 47) xs) e in
-    let none : list_any (λ c. c == 47) bs ≡ false = ap (λ xs. list_any (λ c. c == 47) (drop 1 xs)) e ∙ h in
-    folder_of-step b bs any ∙ ap (λ xs. b ∷ xs) (folder_of-none bs none)
+folder_of-last zero (b ∷ bs) rest e h = grind (arith, folder_of-step, folder_of-none)
 folder_of-last (suc i) (b ∷ bs) rest e h =
     let any : list_any (λ c. c == 47) (drop i bs) ≡ true = ap (λ xs. list_any (λ c. c == 47) xs) e in
     folder_of-step b bs (or_right (b == 47) (list_any (λ c. c == 47) bs) (any-drop i bs any))
@@ -102,11 +99,7 @@ cond_says true s t x y p q = p
 cond_says false s t x y p q = q
 
 at_says : (texts : AskedTexts) (path : List ℕ) → Says (search_at texts path) (answer_at (text_at texts) path)
-at_says texts path =
-    cond_says (nat_lt 1024 (length path)) (Answered Overlong) (cond (list_any (λ b. b == 10) path) (Answered Missing) (known_search texts.asks path (standing_at texts path)))
-    Overlong (cond (list_any (λ b. b == 10) path) Missing (at_path path (text_at texts path))) refl
-    (cond_says (list_any (λ b. b == 10) path) (Answered Missing) (known_search texts.asks path (standing_at texts path)) Missing (at_path path (text_at texts path)) refl
-    (known_says texts.asks path (standing_at texts path)))
+at_says texts path = grind (arith, cond_says, nat_lt, known_says)
 
 or_says : (s t : Search) (x y : Answer) → Says s x → Says t y → Says (search_or s t) (answer_or x y)
 or_says (Answered Missing) t x y p q = subst (λ (a : Answer). Says t (answer_or a y)) (sym p) q
@@ -169,11 +162,7 @@ cond_answered false s t p q = q
 
 at_answered : (texts : AskedTexts) (path : List ℕ) → texts.asks ≡ false → is_answered (search_at texts path) ≡ true
 unfolding is_answered
-at_answered texts path e =
-    let known = known_search texts.asks path (standing_at texts path) in
-    cond_answered (nat_lt 1024 (length path)) (Answered Overlong) (cond (list_any (λ b. b == 10) path) (Answered Missing) known) refl
-    (cond_answered (list_any (λ b. b == 10) path) (Answered Missing) known refl
-    (subst (λ (asks : Bool). is_answered (known_search asks path (standing_at texts path)) ≡ true) (sym e) (known_answered path (standing_at texts path))))
+at_answered texts path e = grind (arith, cond_answered, nat_lt, known_answered)
 
 or_answered : (s t : Search) → is_answered s ≡ true → is_answered t ≡ true → is_answered (search_or s t) ≡ true
 unfolding is_answered
