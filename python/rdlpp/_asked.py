@@ -1,7 +1,7 @@
 """Sources that a run asks for: files, the entries of a mapping, or what a callable gives.
 
-Each is a callable from a path to its text, or to None where nothing is there. It raises `Unreadable` where
-something is there that can't be read; any other exception ends the run and comes out of it.
+Each tells the text at a path, or None where nothing is there. It raises `Unreadable` where something is there that
+can't be read; any other exception ends the run and comes out of it.
 
 A text that can be had again isn't kept while nobody reads it: where its path is included again it is asked for again.
 """
@@ -10,7 +10,7 @@ import ctypes
 import errno
 import os
 import stat
-from typing import Any, Callable, List, Mapping, Optional, Protocol, Tuple, Union
+from typing import Any, Callable, Mapping, Optional, Protocol, Tuple, Union
 
 from ._written import Part, Written, roomy
 
@@ -19,12 +19,14 @@ Bytes = Union[bytes, bytearray, memoryview]
 # Which file one is, by whatever path it is opened: its device, and its number there.
 FileId = Tuple[int, int]
 
+LF, NUL = b"\n\0"
 NUL_IN_NAME = "file name contained an unexpected NUL byte"
 # How much is read at once: a signal is seen between two such parts.
 PART = 4_194_304
-SMALL_PART = 65_536
 # The size from which on a file is read into the room of the output: a bytes object of that size is made of new pages each time.
 LARGE = 131_072
+# How much more is asked of a smaller one than its size, which files of /proc don't tell.
+MORE = 4_096
 
 # How a file is opened.
 HOW = os.O_RDONLY | os.O_CLOEXEC
@@ -46,8 +48,8 @@ class Asked(Protocol):
     stays: bool
     file: Optional[FileId]
 
-    def __call__(self, path: str, written: Written) -> Union[Bytes, Part, None]:
-        """The text at a path. What it reads itself stands in the room that it is lent, behind what was written."""
+    def text_at(self, path: bytes, written: Written) -> Union[Bytes, Part, None]:
+        """The text at a path in UTF-8. What it reads itself may stand in the room that it is lent, after what was written."""
 
 
 class Unreadable(Exception):
@@ -73,7 +75,7 @@ class Unreadable(Exception):
 
 class Disk:
     """Files. Of each as much is read as a run can use: up to the first line that passes a limit, so that also
-    devices without an end are read to one.
+    devices without an end are read to one. A small file is read whole.
 
     An error without a number isn't the system's: a signal's handler raised it, and it comes out.
 
@@ -87,13 +89,13 @@ class Disk:
         self._most = source_bytes + line_bytes + 1
         self._line = line_bytes
 
-    def __call__(self, path: str, written: Written) -> Union[bytes, Part, None]:
-        if "\n" in path:
+    def text_at(self, path: bytes, written: Written) -> Union[bytes, Part, None]:
+        if LF in path:
             return None
-        if "\0" in path:
+        if NUL in path:
             raise Unreadable(ValueError(NUL_IN_NAME), False)
         try:
-            file = os.open(path.encode(), HOW)
+            file = os.open(path, HOW)
         except OSError as error:
             if error.errno is None:
                 raise
@@ -113,30 +115,18 @@ class Disk:
         """What a run can use of an open file, which may grow meanwhile."""
         self.file = None
         told = os.fstat(file)
-        is_regular = stat.S_ISREG(told.st_mode)
-        self.stays = not is_regular
-        self.file = (told.st_dev, told.st_ino) if is_regular else None
-        if is_regular and told.st_size < LARGE:
-            return self._small_text(file)
+        self.stays = not stat.S_ISREG(told.st_mode)
+        if not self.stays:
+            self.file = (told.st_dev, told.st_ino)
+            if told.st_size < LARGE:
+                text = os.read(file, told.st_size + MORE)
+                if not os.read(file, 1):
+                    return text
+                os.lseek(file, 0, os.SEEK_SET)
         return self._large_text(file, told.st_size, written)
 
-    def _small_text(self, file: int) -> bytes:
-        """What a run can use of a small file."""
-        parts: List[bytes] = []
-        length = line = 0
-        while length < self._most and line <= self._line:
-            room = self._most - length
-            part = os.read(file, room if room < SMALL_PART else SMALL_PART)
-            if not part:
-                break
-            last = part.rfind(b"\n")
-            line = len(part) - 1 - last if last >= 0 else line + len(part)
-            length += len(part)
-            parts.append(part)
-        return parts[0] if len(parts) == 1 else b"".join(parts)
-
     def _large_text(self, file: int, size: int, written: Written) -> Part:
-        """The same of a larger file, or of one whose size isn't known: it is read into the room behind what was written."""
+        """The same of a large file, or of one whose size isn't known: it is read into the room after what was written."""
         length = line = 0
         while length < self._most and line <= self._line:
             room = min(roomy(max(size, length)), self._most)
@@ -144,7 +134,7 @@ class Disk:
             count = os.readv(file, [memoryview(_part.from_address(place))[: room - length]])
             if not count:
                 break
-            last = _last(place, ord("\n"), count)
+            last = _last(place, LF, count)
             line = place + count - 1 - last if last else line + count
             length += count
         return Part(written.end(0), length)
@@ -178,11 +168,12 @@ class Checked:
         self.file: Optional[FileId] = None
         self._text_at, self._name, self._wanted = text_at, name, wanted
 
-    def __call__(self, path: str, written: Written) -> Optional[Bytes]:
+    def text_at(self, path: bytes, written: Written) -> Optional[Bytes]:
+        shown = path.decode()
         try:
-            text = self._text_at(path)
+            text = self._text_at(shown)
         except (StopIteration, StopAsyncIteration) as error:
-            raise RuntimeError(f"{self._name.format(path)} raised {type(error).__name__}") from error
+            raise RuntimeError(f"{self._name.format(shown)} raised {type(error).__name__}") from error
         if text is None or isinstance(text, (bytes, bytearray, memoryview)):
             return text
-        raise TypeError(f"{self._name.format(path)} must {self._wanted}, not {type(text).__name__}")
+        raise TypeError(f"{self._name.format(shown)} must {self._wanted}, not {type(text).__name__}")

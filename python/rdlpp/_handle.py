@@ -41,7 +41,8 @@ class OwnedHandle:
         self.buffers: Any = (ctypes.c_char * (library.NAME_ROOM + library.WORD_ROOM))()
         name = ctypes.addressof(self.buffers)
         self.word = name + library.NAME_ROOM
-        self.told = (ctypes.c_void_p(name), library.NAME_LENGTH, ctypes.c_void_p(self.word), library.WORD_LENGTH)
+        pointer = ctypes.c_void_p.from_param
+        self.told = (pointer(name), library.NAME_LENGTH, pointer(self.word), library.WORD_LENGTH)
         self._request = library.Request()
         self._request.asks = True
         self._open = (ctypes.byref(self._request), *self.told, self.at)

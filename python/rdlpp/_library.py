@@ -13,7 +13,8 @@ NAME_ROOM = 1024
 WORD_ROOM = 128
 TEXT_ROOM = 64
 MAP_ROOM = 65_536
-NAME_LENGTH, WORD_LENGTH, MAP_LENGTH = map(ctypes.c_size_t, (NAME_ROOM, WORD_ROOM, MAP_ROOM))
+# As calls take them, which else make such a thing of each argument anew.
+NAME_LENGTH, WORD_LENGTH, MAP_LENGTH = map(ctypes.c_size_t.from_param, (NAME_ROOM, WORD_ROOM, MAP_ROOM))
 
 
 class GivenLimits(ctypes.Structure):
@@ -74,10 +75,10 @@ class Outcome(ctypes.Structure):
     ]
 
 
-class Mapped(ctypes.Structure):
-    """`rdlpp_mapped`."""
+class Mapped(Outcome):
+    """`rdlpp_mapped`: an outcome, and what stands after it."""
 
-    _fields_ = [("outcome", Outcome), ("map_length", ctypes.c_size_t)]
+    _fields_ = [("map_length", ctypes.c_size_t)]
 
 
 class Handle(ctypes.Structure):
@@ -116,7 +117,7 @@ give = _frequent("rdlpp_give", ctypes.c_uint32)
 give_once = _frequent("rdlpp_give_once", ctypes.c_uint32)
 give_absent = _declared("rdlpp_give_absent", ctypes.c_uint32, _handle, *_text)
 give_failed = _declared("rdlpp_give_failed", ctypes.c_uint32, _handle, *_text)
-position = _declared("rdlpp_position", Outcome, _handle, *_buffer)
+position = _frequent("rdlpp_position", Outcome)
 definitions = _declared("rdlpp_definitions", ctypes.c_size_t, _handle, *_buffer)
 notes = _declared("rdlpp_notes", ctypes.c_size_t, _handle, *_buffer)
 close_handle = _declared("rdlpp_close", None, _handle)
@@ -124,10 +125,8 @@ _fault_text = _declared("rdlpp_fault_text", ctypes.c_size_t, ctypes.c_uint32, *_
 _version = _declared("rdlpp_version", ctypes.c_size_t, *_buffer)
 
 
-def lent(text: Union[Bytes, Part]) -> Tuple[Any, int]:
+def lent(text: Union[bytearray, memoryview, Part]) -> Tuple[Any, int]:
     """A text as the pointer and the length that a call takes; it is copied only where its memory can't be lent."""
-    if isinstance(text, bytes):
-        return text, len(text)
     if isinstance(text, Part):
         return ctypes.c_char_p(text.place), text.length
     view = memoryview(text)

@@ -1,7 +1,7 @@
 """An output that is read from the library, which asks for the sources that it needs."""
 
 import ctypes
-from typing import Dict, List, Optional, Set, Tuple
+from typing import Dict, List, Optional, Tuple, Union
 
 from . import _library as library
 from ._asked import FileId, Unreadable
@@ -22,8 +22,6 @@ class Reading:
     Attributes:
         is_over: whether nothing is left to read.
         fault: the fault that ended it, once it was read up to there.
-        sources: the sources that were opened, in order, as the keys: of each file the path by which it was opened first, and of
-            what lies in none each path.
         text_bytes: how many bytes the texts have that were given.
         runs: the lines of the line map for what `read_mapped` wrote.
     """
@@ -35,13 +33,13 @@ class Reading:
         self._handle = self._owned[0]
         self.is_over = False
         self.fault: Optional[Fault] = None
-        self.sources: Dict[str, None] = {}
-        self._files: Set[FileId] = set()
+        # the sources that were opened: by each file the path by which it was opened first, by each other path itself
+        self._sources: Dict[Union[FileId, bytes], bytes] = {}
         self.text_bytes = 0
         for _, text in request.texts:
             self.text_bytes += len(text)
-        # how many bytes the handle was given, of texts and of all else
-        self._given = self.text_bytes + len(request.path) + BESIDE
+        # how many bytes the handle was given beside them
+        self._given = len(request.path) + BESIDE
         self.runs: List[bytes] = []
         self._asked, self._main = request.asked, request.path
         self._limits = request.limits
@@ -60,29 +58,23 @@ class Reading:
             _raise_refusal(outcome.status)
 
     def read(self, written: Written, most: int) -> None:
-        """Reads once, at most so many bytes.
+        """Reads once, at most so many bytes, and no more than there is room for.
 
         It may be none, also where more follow: `is_over` tells the end.
         """
-        handle = self._handle
-        handle.place.value, handle.most.value = written.end(most), most
-        outcome = library.read_handle(*handle.read)
-        written.filled += outcome.length
-        if outcome.status != library.MORE:
-            self._go_on(outcome, written)
+        handle, left = self._handle, written.room - written.filled
+        handle.place.value, handle.most.value = written.place + written.filled, most if most < left else left
+        self._go_on(library.read_handle(*handle.read), written)
 
     def read_mapped(self, written: Written, most: int) -> None:
         """Reads once, as `read` does, and adds the lines of the line map for what it wrote to `runs`."""
-        handle = self._handle
+        handle, left = self._handle, written.room - written.filled
+        handle.place.value, handle.most.value = written.place + written.filled, most if most < left else left
         lines, words = handle.mapped()
-        handle.place.value, handle.most.value = written.end(most), most
-        mapped = library.read_mapped(*words)
-        if mapped.map_length:
-            self.runs.append(lines[: mapped.map_length])
-        outcome = mapped.outcome
-        written.filled += outcome.length
-        if outcome.status != library.MORE:
-            self._go_on(outcome, written)
+        outcome = library.read_mapped(*words)
+        if outcome.map_length:
+            self.runs.append(lines[: outcome.map_length])
+        self._go_on(outcome, written)
 
     def position(self) -> Optional[Position]:
         """The place of the first byte of what was read last, where there is one."""
@@ -90,6 +82,10 @@ class Reading:
         if outcome.status != library.WHOLE:
             return None
         return Position(self._shown_name(outcome), outcome.line, outcome.number)
+
+    def sources(self) -> Tuple[str, ...]:
+        """The path of each source that was opened, in order: of a file the one by which it was opened first."""
+        return tuple([path.decode() for path in list(self._sources.values())])
 
     def definitions(self) -> bytes:
         """The live definitions, as `define` lines."""
@@ -102,7 +98,7 @@ class Reading:
         except IndexError:
             return
         self._handle = CLOSED
-        if handle.is_small and self._given <= MOST_GIVEN and self._home is kept_here():
+        if handle.is_small and self.text_bytes + self._given <= MOST_GIVEN and self._home is kept_here():
             self._home[:] = [handle]
         else:
             handle.close()
@@ -114,53 +110,48 @@ class Reading:
         self.close()
 
     def _go_on(self, outcome: library.Outcome, written: Written) -> None:
-        """Does what the outcome of a read asks for, which ended before its room was full, so that the next one goes on."""
-        status = outcome.status
-        if status == library.WANTED:
-            self._give(self._handle.buffers[: outcome.name_length], written)
-        elif status == library.WHOLE:
-            self.is_over = True
-        elif status == library.STOPPED:
-            self.fault = self._fault(outcome)
-            self.is_over = True
-        else:
-            _raise_refusal(status)
+        """Counts what a read wrote, and does what its outcome asks for, so that the next one goes on.
 
-    def _give(self, path: bytes, written: Written) -> None:
-        """Tells the library what stands at a path: a text may stand behind what was written, since it is copied."""
-        shown = path.decode()
+        Where a source is wanted it tells the library what stands there: a text may stand after what was written, since it is
+        copied.
+        """
+        written.filled += outcome.length
+        status = outcome.status
+        if status != library.WANTED:
+            if status != library.MORE:
+                self._end(outcome)
+            return
+        path, asked = self._handle.buffers[: outcome.name_length], self._asked
         self._given += len(path) + BESIDE
         try:
-            text = self._asked(shown, written)
+            text = asked.text_at(path, written)
         except Unreadable as unreadable:
-            self._unreadable = shown, unreadable
+            self._unreadable = path.decode(), unreadable
             if unreadable.is_open:
-                self._note(shown)
+                self._sources.setdefault(asked.file or path, path)
             _raise_refusal(library.give_failed(self._handle.at, path, len(path)))
             return
         if text is None:
             _raise_refusal(library.give_absent(self._handle.at, path, len(path)))
             return
-        self._note(shown)
-        place, length = library.lent(text)
+        self._sources.setdefault(asked.file or path, path)
+        place, length = (text, len(text)) if isinstance(text, bytes) else library.lent(text)
         self.text_bytes += length
-        self._given += length
         # the main text is open up to the end
-        give = library.give if self._asked.stays or path == self._main else library.give_once
+        give = library.give if asked.stays or path == self._main else library.give_once
         handle = self._handle
         handle.path_length.value, handle.text_length.value = len(path), length
         status = give(handle.at, path, handle.path_length, place, handle.text_length)
-        if status not in (library.WHOLE, library.CHANGED):
+        if status != library.WHOLE and status != library.CHANGED:
             _raise_refusal(status)
 
-    def _note(self, path: str) -> None:
-        """Notes a source that was opened, unless its file or its path is there."""
-        file = self._asked.file
-        if file in self._files:
-            return
-        if file is not None:
-            self._files.add(file)
-        self.sources[path] = None
+    def _end(self, outcome: library.Outcome) -> None:
+        """Takes the outcome that ends an output."""
+        if outcome.status == library.STOPPED:
+            self.fault = self._fault(outcome)
+        elif outcome.status != library.WHOLE:
+            _raise_refusal(outcome.status)
+        self.is_over = True
 
     def _shown_name(self, outcome: library.Outcome) -> str:
         name: bytes = self._handle.buffers[: outcome.name_length]

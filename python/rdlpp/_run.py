@@ -19,8 +19,7 @@ def _read_all(reading: Reading, read: Callable[[Written, int], None]) -> bytes:
     while not reading.is_over:
         if written.filled == written.room:
             written.end(roomy(max(reading.text_bytes - written.filled, 0)))
-        left = written.room - written.filled
-        read(written, left if left < PART else PART)
+        read(written, PART)
     return written.take()
 
 
@@ -109,6 +108,6 @@ def run(
     with Reading(request_of(source, include_dirs, defines, limits, origins, files, read)) as reading:
         text = _read_all(reading, reading.read_mapped)
         definitions = reading.definitions()
-    output = Output(text, Lines(b"".join(reading.runs), text), tuple(reading.sources), definitions)
+    output = Output(text, Lines(b"".join(reading.runs), text), reading.sources(), definitions)
     _raise_fault(reading, text, output)
     return output

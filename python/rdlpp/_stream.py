@@ -109,7 +109,7 @@ class Stream(Iterator[bytes], AsyncIterator[bytes]):
     @property
     def sources(self) -> Tuple[str, ...]:
         """The path of each source that was opened up to here, in order, once: of a file the first path by which it was opened."""
-        return tuple(self._reading.sources)
+        return self._reading.sources()
 
     def __enter__(self) -> "Stream":
         return self

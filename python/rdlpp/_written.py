@@ -57,6 +57,7 @@ class Written:
     """Room for bytes, which are written behind those that were, and then taken as a bytes object, once.
 
     Attributes:
+        place: where they stand.
         filled: how many bytes were written.
         room: how many there is room for.
     """
@@ -70,8 +71,8 @@ class Written:
         # The one object without bytes is everybody's, so there is room for one byte more.
         held = _new(None, room + 1)
         self._held = ctypes.c_void_p(held)
-        self._place: int = held + HEAD
-        _prefer(HUGE_PAGES, self._place, room)
+        self.place: int = held + HEAD
+        _prefer(HUGE_PAGES, self.place, room)
 
     def end(self, least: int) -> int:
         """The address behind the bytes that were written, with room for so many more at least. What stands there stays
@@ -79,21 +80,21 @@ class Written:
         if self.room - self.filled < least:
             room = max(self.filled + least, self.room + self.room // 2)
             self._grow(_whole_pages(room, HUGE_PAGE if self.room >= LARGE else PAGE))
-        return self._place + self.filled
+        return self.place + self.filled
 
     def take(self) -> bytes:
         """The bytes that were written. A few are copied, which takes less time than to give their object another length."""
         if self.filled <= FEW:
-            return ctypes.string_at(self._place, self.filled)
+            return ctypes.string_at(self.place, self.filled)
         _resize(ctypes.byref(self._held), self.filled)
         return cast(bytes, ctypes.py_object.from_buffer(self._held).value)
 
     def _grow(self, room: int) -> None:
         # A zero byte is written behind the room, for which no huge page should be made.
-        _prefer(SMALL_PAGES, self._place, self.room)
+        _prefer(SMALL_PAGES, self.place, self.room)
         _resize(ctypes.byref(self._held), room + 1)
-        self._place, self.room = cast(int, self._held.value) + HEAD, room
-        _prefer(HUGE_PAGES, self._place, room)
+        self.place, self.room = cast(int, self._held.value) + HEAD, room
+        _prefer(HUGE_PAGES, self.place, room)
 
     def __del__(self) -> None:
         _forget(self._held)

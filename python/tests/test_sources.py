@@ -389,6 +389,14 @@ class Files(Sources):
         with mock.patch.object(_asked.os, "fstat", lambda file: told):
             self.assertEqual(rdlpp.preprocess("m"), text)
 
+    def test_a_small_file_that_grows_meanwhile(self):
+        text = b"reg a @ 0x0;\n" * 20_000
+        self.write("m", text)
+        for size in (0, 13, 100_000):
+            told = mock.Mock(st_size=size, st_mode=os.stat("m").st_mode)
+            with mock.patch.object(_asked.os, "fstat", lambda file: told):
+                self.assertEqual(rdlpp.preprocess("m"), text)
+
     def test_a_large_file_that_shrinks_meanwhile(self):
         self.write("m", b"reg a @ 0x0;\n")
         told = mock.Mock(st_size=2 * _asked.PART, st_mode=os.stat("m").st_mode)
