@@ -77,7 +77,7 @@ class OwnedHandle:
         """The room for the lines of a line map, and all that a read takes which writes them."""
         if self._mapped is None:
             room = (ctypes.c_char * library.MAP_ROOM)()
-            self._mapped = room, (*self.read[:3], room, library.MAP_LENGTH, *self.told)
+            self._mapped = room, (*self.read[:3], ctypes.byref(room), library.MAP_LENGTH, *self.told)
         return self._mapped
 
     def close(self) -> None:
