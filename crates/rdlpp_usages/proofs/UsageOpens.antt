@@ -10,11 +10,11 @@ use Rattle.rdlpp_table.specs.Table.{Formal, Macro, macro_named}
 use Rattle.rdlpp_table.specs.View.{formals_of, macro_at}
 use Rattle.rdlpp_meaning.specs.Actuals.{kept, source_reads}
 use Rattle.rdlpp_meaning.specs.CallScan.{Before}
-use Rattle.rdlpp_meaning.specs.Expansion.{Opens, UsageFault, bytes_of, expand, usage_of, usage_of_formals, usage_of_macro, usage_token}
+use Rattle.rdlpp_meaning.specs.Expansion.{bound_parts, Opens, UsageFault, bytes_of, expand, usage_of, usage_of_formals, usage_of_macro, usage_token}
 use Rattle.rdlpp_meaning.specs.Meaning.{Passage, Progress, goes_on, leaves}
 use Rattle.rdlpp_meaning.specs.OpenItems.{open_left}
 use Rattle.rdlpp_meaning.specs.Opened.{Waiting, all_resumed}
-use Rattle.rdlpp_meaning.specs.Opens.{Open, Part, Texts, open_body}
+use Rattle.rdlpp_meaning.specs.Opens.{Open, Part, Texts, open_body, part_tokens}
 use Rattle.rdlpp_meaning.specs.Outcome.{Outcome, fails}
 use Rattle.rdlpp_meaning.specs.Parts.{only_blanks}
 use Rattle.rdlpp_meaning.specs.Resumed.{Live, leading, resumed}
@@ -28,7 +28,7 @@ use Rattle.rdlpp_meaning.proofs.Outcomes.{goes_on-assoc}
 use Rattle.rdlpp_meaning.proofs.ReadCalls.{IsReadCall}
 use Rattle.rdlpp_meaning.proofs.SourceCalls.{resumed_opens, resumed_refuses}
 use Rattle.rdlpp_meaning.proofs.LiveText.{only_blanks-append}
-use Rattle.rdlpp_texts.specs.BoundCalls.{range_part}
+use Rattle.rdlpp_texts.specs.BoundCalls.{actuals_of, range_part}
 use Rattle.rdlpp_texts.specs.Calls.{IsCallStarted}
 use Rattle.rdlpp_texts.specs.Opened.{CursorsView, bound_by, usage_id}
 use Rattle.rdlpp_texts.specs.Places.{texts_of}
@@ -49,7 +49,7 @@ use Rattle.rdlpp_front.specs.SourceLeft.{HoldsFront, source_left}
 use Rattle.rdlpp_front.proofs.TextLeft.{usage_left, usage_text}
 use Rattle.rdlpp_usages.specs.CallReads.{IsCallOf, MeansCall, ReadsCall, is_read_fault, with_used}
 use Rattle.rdlpp_usages.specs.Store.{StoreView}
-use Rattle.rdlpp_usages.specs.Usages.{BindsKept, ExpansionView, IsExactOpening, IsOpenAlone, IsRun, KeepsOpening, KeepsUsage, RefusesCall, StaysAt, StaysLent, TakesUsageStep, TellsCallUsage, TellsUsage, UsesCall, UsesSource, inner_left, is_opened, is_usage_fault, texts_left}
+use Rattle.rdlpp_usages.specs.Usages.{BindsKept, ExpansionView, IsExactOpening, IsOpenAlone, IsOwnLine, IsRun, IsUsageFault, KeepsOpening, KeepsUsage, LeavesOpen, RefusesCall, StaysAt, StaysLent, TakesUsageStep, TellsCallUsage, TellsUsage, UsesCall, UsesSource, inner_left, is_opened, is_usage_fault, texts_left}
 use Rattle.rdlpp_usages.specs.declared.expansion.Opening.{Opening}
 use Rattle.rdlpp_usages.specs.declared.expansion.Opening.TheVariants.{Broken, Failed, Opened, Refused}
 use Rattle.rdlpp_usages.specs.declared.reading.CallRead.{CallRead}
@@ -383,29 +383,61 @@ kept_call has_known_texts unread most macros id line bytes now (Refused kind) c 
 kept_call has_known_texts unread most macros id line bytes now _ c old new plain r binds = absurd binds
 
 -- so it is with a body that is opened
-pub body_usage : (texts : Texts) (id : ℕ) (parts : List Part) (opens : List Open) → opens ≡ open_body texts id parts 0 ∷ [] → usage_id opens ≡ Some id
+body_usage : (texts : Texts) (id : ℕ) (parts : List Part) (opens : List Open) → opens ≡ open_body texts id parts 0 ∷ [] → usage_id opens ≡ Some id
 unfolding usage_id open_body
 body_usage texts id parts opens e = ap usage_id e
 
--- a call that opens the body of its macro binds as many actuals as that has formals
-pub bindings_called : (texts : Texts) (id line : ℕ) (old new : CursorsView) → IsCallStarted texts id line old new → bound_by new.opens ≡ length (formals_of (macro_at texts.macros id))
+-- and it binds as many actuals as it has parts
+body_bindings : (texts : Texts) (id : ℕ) (parts : List Part) (opens : List Open) → opens ≡ open_body texts id parts 0 ∷ [] → bound_by opens ≡ length parts
 unfolding bound_by open_body
-bindings_called texts id line old new s = grind (arith, length-map, count_exact)
+body_bindings texts id parts opens e = let is : bound_by opens ≡ length parts + 0 = ap bound_by e in omega (arith, is)
 
--- and its body is open alone
-pub alone_called : (macros : List Macro) (arguments : List ℕ) (id line : ℕ) (old new : CursorsView) → IsCallStarted (texts_of macros arguments) id line old new → IsOpenAlone macros id new.opens
+-- and is open alone, with as many as its macro has formals
+body_alone : (macros : List Macro) (id : ℕ) (parts : List Part) (opens : List Open) → length parts ≡ length (formals_of (macro_at macros id)) → opens ≡ open_body (texts_of macros []) id parts 0 ∷ []
+    → IsOpenAlone macros id opens
+body_alone macros id parts opens count body =
+    record {
+      parts = parts;
+      count = count;
+      body = body;
+      some = rw body (omega arith);
+      usage = body_usage (texts_of macros []) id parts opens body;
+      bindings = body_bindings (texts_of macros []) id parts opens body ∙ count;
+    }
+
+-- a body that is opened on a line leaves itself alone
+opened_alone : (macros : List Macro) (id line before now : ℕ) (parts : List Part) (opens : List Open) → length parts ≡ length (formals_of (macro_at macros id)) → opens ≡ open_body (texts_of macros []) id parts 0 ∷ [] → now ≡ line
+    → LeavesOpen macros id line before Opened now opens
+opened_alone macros id line before now parts opens count body is =
+    record { line_is = is; lets_go = λ e. absurd (true≢false e); alone = λ _. body_alone macros id parts opens count body; fault = tt; own = tt }
+
+-- what is left where the body of a macro with a list is opened
+pub leaves_called : (macros : List Macro) (arguments : List ℕ) (id line before : ℕ) (old new : CursorsView) → IsCallStarted (texts_of macros arguments) id line old new → LeavesOpen macros id line before Opened new.line new.opens
 unfolding open_body
-alone_called macros arguments id line old new s = grind (arith, length-map, count_exact)
+leaves_called macros arguments id line before old new s =
+    let fs = formals_of (macro_at macros id) in
+    let parts = length-map s.ranges range_part in
+    let same : length (bound_parts fs (actuals_of arguments)) ≡ length s.ranges = ap length s.actuals ∙ length-map (map range_part s.ranges) (part_tokens arguments) ∙ parts in
+    let count = count_exact fs (actuals_of arguments) (sym s.counted) in
+    opened_alone macros id line before new.line (map range_part s.ranges) new.opens (omega (arith, parts, same, count)) (ap (λ (v : CursorsView). v.opens) s.opens) (ap (λ (v : CursorsView). v.line) s.opens)
 
--- so is that of a macro without a list
-pub alone_plain : (macros : List Macro) (id : ℕ) (opens : List Open) → (macro_at macros id).formals ≡ None → opens ≡ open_body (texts_of macros []) id [] 0 ∷ [] → IsOpenAlone macros id opens
-alone_plain macros id opens none is = record { parts = []; count = sym (ap (λ (o : Option (List Formal)). length (unwrap_or o [])) none); body = is }
+-- and where that of a macro without one is
+pub leaves_plain : (macros : List Macro) (id line before now : ℕ) (opens : List Open) → (macro_at macros id).formals ≡ None → opens ≡ open_body (texts_of macros []) id [] 0 ∷ [] → now ≡ line
+    → LeavesOpen macros id line before Opened now opens
+leaves_plain macros id line before now opens none is at =
+    opened_alone macros id line before now [] opens (sym (ap (λ (o : Option (List Formal)). length (unwrap_or o [])) none)) is at
 
--- a macro without a list binds none
-pub bindings_plain : (texts : Texts) (id : ℕ) (opens : List Open) → (macro_at texts.macros id).formals ≡ None → opens ≡ open_body texts id [] 0 ∷ []
-    → bound_by opens ≡ length (formals_of (macro_at texts.macros id))
-unfolding bound_by open_body
-bindings_plain texts id opens none is = ap bound_by is ∙ sym (ap (λ (o : Option (List Formal)). length (unwrap_or o [])) none)
+-- what is left where no body is opened
+pub leaves_none : (macros : List Macro) (id line before : ℕ) (opening : Opening) (now : ℕ) (opens : List Open) → is_opened opening ≡ false → now ≡ before → opens ≡ [] → IsUsageFault opening → IsOwnLine opening
+    → LeavesOpen macros id line before opening now opens
+leaves_none macros id line before opening now opens e same none fault own =
+    record {
+      line_is = same ∙ ap (λ (b : Bool). if b then line else before) (sym e);
+      lets_go = λ _. none;
+      alone = λ o. absurd (true≢false (sym o ∙ e));
+      fault = fault;
+      own = own;
+    }
 
 -- what is kept of a usage with a list
 pub keeps_listed : {R : Type 0} (formals : Option (List Formal)) (has_known_texts : Type 0) (unread : R → List ℕ) (most : ℕ) (opening : Opening) (arguments : List ℕ) (from now : BufferView R) → is_some formals ≡ true

@@ -1,6 +1,6 @@
 -- What a usage in a source comes to: open texts, and then what remains of the source behind it, or a fault.
 -- A definition that names no source is this project's own.
-use Rattle.std.specs.Prelude.{◌≡◌, ℕ, ◌+◌, ◌*◌, ◌<◌, ◌≤◌, Bool, true, false, List, [], ◌∷◌, ◌++◌, ◌⊎◌, length, map, Option, None, Some, ◌^◌}
+use Rattle.std.specs.Prelude.{◌≡◌, ℕ, ◌+◌, ◌*◌, ◌<◌, ◌≤◌, Bool, true, false, List, [], ◌∷◌, ◌++◌, ◌⊎◌, length, map, Option, None, Some, if◌then◌else◌, ◌^◌}
 use Rattle.rdlpp_scan.specs.declared.token.Mode.TheVariants.{Plain}
 use Rattle.rdlpp_table.specs.Table.{Formal, Macro}
 use Rattle.rdlpp_table.specs.View.{formals_of, macro_at}
@@ -28,7 +28,7 @@ use Rattle.rdlpp_usages.specs.CallReads.{with_used, ReadsUpTo}
 use Rattle.rdlpp_usages.specs.Reads.{reading}
 use Rattle.rdlpp_texts.specs.Digits.{IsFalling}
 use Rattle.rdlpp_texts.specs.TextItems.{StandsAt}
-use Rattle.rdlpp_texts.specs.Opened.{CursorsView, bound_by, StaysOutermost}
+use Rattle.rdlpp_texts.specs.Opened.{CursorsView, bound_by, usage_id, StaysOutermost}
 use Rattle.rdlpp_texts.specs.Places.{texts_of}
 use Rattle.rdlpp_texts.specs.Steps.{AreSound, IsPlacedStep, IsStep, NamesWord}
 use Rattle.rdlpp_texts.specs.Turns.{TurnsOver}
@@ -165,6 +165,9 @@ pub record IsOpenAlone (macros : List Macro) (id : ℕ) (opens : List Open) : Ty
   pub parts : List Part
   pub count : length parts ≡ length (formals_of (macro_at macros id))
   pub body : opens ≡ open_body (texts_of macros []) id parts 0 ∷ []
+  pub some : 0 < length opens
+  pub usage : usage_id opens ≡ Some id
+  pub bindings : bound_by opens ≡ length (formals_of (macro_at macros id))
 
 -- a call of a source was kept whole: reading it from a place on keeps these bytes, and leaves what remains of the source now
 pub record KeepsCall {R : Type 0} (unread : R → List ℕ) (most : ℕ) (arguments : List ℕ) (from now : BufferView R) : Type 0 where
@@ -247,3 +250,12 @@ IsOwnLine Opened = Unit
 IsOwnLine (Refused kind) = Unit
 IsOwnLine (Broken kind own) = own < 2 ^ 63
 IsOwnLine Failed = Unit
+
+-- what the opening of a usage of a macro leaves: the macro's body alone is open, on the usage's line, where it was opened; else nothing is
+-- open, the line is as it was, and the fault is one of a usage
+pub record LeavesOpen (macros : List Macro) (id line before : ℕ) (opening : Opening) (now : ℕ) (opens : List Open) : Type 0 where
+  pub line_is : now ≡ (if is_opened opening then line else before)
+  pub lets_go : is_opened opening ≡ false → opens ≡ []
+  pub alone : is_opened opening ≡ true → IsOpenAlone macros id opens
+  pub fault : IsUsageFault opening
+  pub own : IsOwnLine opening

@@ -1,20 +1,20 @@
 // The expansion of a usage in a source.
-ghost use Rattle.std.specs.Prelude.{◌≡◌, ◌↔◌, ◌*◌, ◌<◌, ◌≤◌, ◌==◌, List, [], length, IfOk, IsTrue, Some, is_some, if◌then◌else◌, true, false};
+ghost use Rattle.std.specs.Prelude.{◌≡◌, ◌↔◌, ◌*◌, ◌<◌, ◌≤◌, ◌==◌, List, [], length, IfOk, IsTrue, Some, is_some, true};
 ghost use Rattle.rdlpp_scan.specs.declared.token.Mode.TheVariants.{Plain};
 ghost use Rattle.rdlpp_table.specs.Table.{macro_named};
-ghost use Rattle.rdlpp_table.specs.View.{formals_of, macro_at};
+ghost use Rattle.rdlpp_table.specs.View.{macro_at};
 ghost use Rattle.rdlpp_meaning.specs.Meaning.{Progress};
 ghost use Rattle.rdlpp_meaning.specs.Opened.{Waiting};
 ghost use Rattle.rdlpp_meaning.specs.State.{Rules, State};
 ghost use Rattle.rdlpp_read.specs.Buffer.{held_of};
 ghost use Rattle.rdlpp_read.specs.Calls.{SourcesRead};
 ghost use Rattle.rdlpp_read.specs.Files.{consumed_file, inner_buffer, with_inner};
-ghost use Rattle.rdlpp_texts.specs.Opened.{bound_by, usage_id};
+ghost use Rattle.rdlpp_texts.specs.Opened.{bound_by};
 ghost use Rattle.rdlpp_texts.specs.Places.{texts_of};
 ghost use Rattle.rdlpp_texts.specs.Scopes.{innermost_place};
 ghost use Rattle.rdlpp_texts.specs.Steps.{AreSound};
 ghost use Rattle.rdlpp_front.specs.SourceItems.{IsUsage, usage_name};
-ghost use Rattle.rdlpp_usages.specs.Usages.{BindsKept, IsOpenAlone, IsRun, KeepsOpening, KeepsUsage, TakesUsageStep, TellsCallUsage, TellsUsage, UsesCall, UsesSource, IsRoomy, is_failed_opening, is_opened, IsUsageFault, IsOwnLine};
+ghost use Rattle.rdlpp_usages.specs.Usages.{BindsKept, IsRun, KeepsOpening, KeepsUsage, TakesUsageStep, TellsCallUsage, TellsUsage, UsesCall, UsesSource, IsRoomy, LeavesOpen, is_failed_opening};
 
 use crate::{ArgumentStore, CallRead, read_call};
 use rdlpp_meaning::FaultKind;
@@ -204,19 +204,12 @@ impl Expansion {
         requires closed { self.old.opens ≡ [] }
         requires room { 0 < self.old.depth }
         ensures limits { (self.new.depth ≡ self.old.depth) × (self.new.most ≡ self.old.most) }
-        ensures line { self.new.line ≡ (if is_opened result then (inner_buffer files.old.include_stack).line else self.old.line) }
         ensures only { files.new ≡ record files.old { include_stack = files.new.include_stack } }
         ensures call { SourcesRead S.Sources (is_failed_opening result) sources.old sources.new }
         ensures uses { UsesSource (S.has_known_texts sources.old) S.unread result files.old.include_stack files.new.include_stack }
         ensures sound { AreSound (texts_of table.now.macros self.new.arguments) self.new.opens }
-        ensures lets_go { is_opened result ≡ false → self.new.opens ≡ [] }
-        ensures opens { is_opened result ≡ true → 0 < length self.new.opens }
-        ensures usage { is_opened result ≡ true → usage_id self.new.opens ≡ Some id }
-        ensures bindings { is_opened result ≡ true → bound_by self.new.opens ≡ length (formals_of (macro_at table.now.macros id)) }
-        ensures alone { is_opened result ≡ true → IsOpenAlone table.now.macros id self.new.opens }
+        ensures opens { LeavesOpen table.now.macros id (inner_buffer files.old.include_stack).line self.old.line result self.new.line self.new.opens }
         ensures keeps { KeepsUsage (macro_at table.now.macros id).formals (S.has_known_texts sources.old) S.unread self.old.most result self.new.arguments (inner_buffer (with_inner (consumed_file len 0) files.old.include_stack)) (inner_buffer files.new.include_stack) }
-        ensures fault { IsUsageFault result }
-        ensures own { IsOwnLine result }
         ensures unheld { is_failed_opening result ≡ true → held_of (inner_buffer files.new.include_stack) ≡ [] }
         ensures means { (rules : Rules) (s : State) (ws : List Waiting) (os : List Progress) → IsRun rules s table.now.macros self.old.depth self.old.most → S.has_known_texts sources.old → TellsUsage rules s S.unread ws os table.now.macros (inner_buffer files.old.include_stack).line (usage_name (held_of (inner_buffer files.old.include_stack)) len) result self.new files.old.include_stack files.new.include_stack }
     {
@@ -253,15 +246,8 @@ fn bind_kept(table: &Table, arguments: &ArgumentStore, texts: &mut Cursors, usag
     requires closed { texts.old.opens ≡ [] }
     requires room { 0 < texts.old.depth }
     ensures depth { texts.new.depth ≡ texts.old.depth }
-    ensures line { texts.new.line ≡ (if is_opened result then usage.line else texts.old.line) }
     ensures binds { BindsKept table.now.macros usage.id usage.line arguments.now.bytes arguments.now.bytes result texts.new }
-    ensures lets_go { is_opened result ≡ false → texts.new.opens ≡ [] }
-    ensures opens { is_opened result ≡ true → 0 < length texts.new.opens }
-    ensures usage { is_opened result ≡ true → usage_id texts.new.opens ≡ Some usage.id }
-    ensures bindings { is_opened result ≡ true → bound_by texts.new.opens ≡ length (formals_of (macro_at table.now.macros usage.id)) }
-    ensures alone { is_opened result ≡ true → IsOpenAlone table.now.macros usage.id texts.new.opens }
-    ensures fault { IsUsageFault result }
-    ensures own { IsOwnLine result }
+    ensures opens { LeavesOpen table.now.macros usage.id usage.line texts.old.line result texts.new.line texts.new.opens }
     ensures sound { AreSound (texts_of table.now.macros arguments.now.bytes) texts.new.opens }
 {
     match texts.open_call(table, arguments.bytes(), usage.id, usage.line) {
@@ -290,15 +276,8 @@ fn open_call<S: Sources>(
     ensures call { SourcesRead S.Sources (is_failed_opening result) sources.old sources.new }
     ensures uses { UsesCall (S.has_known_texts sources.old) S.unread result files.old.include_stack files.new.include_stack }
     ensures sound { AreSound (texts_of table.now.macros arguments.new.bytes) texts.new.opens }
-    ensures line { texts.new.line ≡ (if is_opened result then usage.line else texts.old.line) }
-    ensures lets_go { is_opened result ≡ false → texts.new.opens ≡ [] }
-    ensures opens { is_opened result ≡ true → 0 < length texts.new.opens }
-    ensures usage { is_opened result ≡ true → usage_id texts.new.opens ≡ Some usage.id }
-    ensures bindings { is_opened result ≡ true → bound_by texts.new.opens ≡ length (formals_of (macro_at table.now.macros usage.id)) }
-    ensures alone { is_opened result ≡ true → IsOpenAlone table.now.macros usage.id texts.new.opens }
+    ensures opens { LeavesOpen table.now.macros usage.id usage.line texts.old.line result texts.new.line texts.new.opens }
     ensures keeps { KeepsOpening (S.has_known_texts sources.old) S.unread arguments.old.most result arguments.new.bytes (inner_buffer files.old.include_stack) (inner_buffer files.new.include_stack) }
-    ensures fault { IsUsageFault result }
-    ensures own { IsOwnLine result }
     ensures unheld { is_failed_opening result ≡ true → held_of (inner_buffer files.new.include_stack) ≡ [] }
     ensures comes_to { TellsCallUsage (S.has_known_texts sources.old) S.unread arguments.old.most table.now.macros usage.id result texts.new.opens arguments.new.bytes (inner_buffer files.old.include_stack) (inner_buffer files.new.include_stack) }
 {

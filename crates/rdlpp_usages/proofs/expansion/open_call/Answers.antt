@@ -2,7 +2,7 @@ use Rattle.std.proofs.Common.{refl}
 use Rattle.rdlpp_read.specs.Files.{inner_buffer}
 use Rattle.rdlpp_usages.specs.declared.reading.CallRead.TheVariants as call
 use Rattle.rdlpp_usages.specs.declared.expansion.Opening.TheVariants.{Refused, Broken, Failed}
-use Rattle.rdlpp_usages.proofs.UsageOpens.{call_breaks, call_lacks, kept_call, kept_tells, read_usage, uses_call}
+use Rattle.rdlpp_usages.proofs.UsageOpens.{call_breaks, call_lacks, kept_call, kept_tells, leaves_none, read_usage, uses_call}
 use Rattle.rdlpp_usages.proofs.expansion.open_call.Goals as goal
 
 pub returns-in-Closed-clause-comes_to : goal.returns-in-Closed-clause-comes_to
@@ -25,11 +25,17 @@ returns-in-Broken-clause-comes_to g c =
     call_breaks _ _ _ c.args.table.now.macros c.args.usage.id c.read_call.new.store.bytes c.read_call.new.store.bytes c.in-Broken.kind c.in-Broken.own
     c.args.texts.now.opens (inner_buffer c.args.files.now.include_stack) (inner_buffer c.read_call.new.files.include_stack) c.in-Broken.ensures.means
 
-pub returns-in-Refused-clause-fault : goal.returns-in-Refused-clause-fault
-returns-in-Refused-clause-fault g c = read_usage c.in-Refused.kind c.in-Refused.ensures.fault
+pub returns-in-Refused-clause-opens : goal.returns-in-Refused-clause-opens
+returns-in-Refused-clause-opens g c =
+    leaves_none c.args.table.now.macros c.args.usage.id c.args.usage.line c.args.texts.now.line (Refused c.in-Refused.kind) _ _ refl refl c.requires.closed (read_usage c.in-Refused.kind c.in-Refused.ensures.fault) tt
 
-pub returns-in-Broken-clause-fault : goal.returns-in-Broken-clause-fault
-returns-in-Broken-clause-fault g c = read_usage c.in-Broken.kind c.in-Broken.ensures.fault
+pub returns-in-Broken-clause-opens : goal.returns-in-Broken-clause-opens
+returns-in-Broken-clause-opens g c =
+    leaves_none c.args.table.now.macros c.args.usage.id c.args.usage.line c.args.texts.now.line (Broken c.in-Broken.kind c.in-Broken.own) _ _ refl refl c.requires.closed (read_usage c.in-Broken.kind c.in-Broken.ensures.fault) c.in-Broken.ensures.line
+
+pub returns-in-Failed-clause-opens : goal.returns-in-Failed-clause-opens
+returns-in-Failed-clause-opens g c =
+    leaves_none c.args.table.now.macros c.args.usage.id c.args.usage.line c.args.texts.now.line Failed _ _ refl refl c.requires.closed tt tt
 
 pub returns-in-Closed-clause-uses : goal.returns-in-Closed-clause-uses
 returns-in-Closed-clause-uses g c =

@@ -36,7 +36,7 @@ invariant_of-self g c =
     (o.only ∙ ap (λ ns. record files { include_stack = ns }) o.uses.inner) (λ f. refl)
     (subst (λ ns. unused_of (inner_buffer ns) ≤ unused_of (inner_buffer files.include_stack)) o.uses.inner less)
     o.limits.0 o.limits.1 (o.sound)
-    (line_few c.open_usage-opening.result _ _ _ (2 ^ 63) o.line (omega arith) c.self.invariant.texts.line)
+    (line_few c.open_usage-opening.result _ _ _ (2 ^ 63) o.opens.line_is (omega arith) c.self.invariant.texts.line)
 
 pub returns : goal.returns
 returns g c =
@@ -48,20 +48,20 @@ returns g c =
       uses = o.uses;
       depth = o.limits.0;
       most = o.limits.1;
-      line = o.line;
+      line = o.opens.line_is;
       room = rw (← c.self.view_is) at c.facts.ensures.room;
       now_room = c.facts-2.ensures;
       sound = o.sound;
-      lets_go = o.lets_go;
+      lets_go = o.opens.lets_go;
       some = rw (← c.self.view_is) at c.requires.some;
-      bindings = o.bindings;
-      alone = λ e. (c.args.id, (refl, o.alone e));
-      called = λ e. called_by c.self.inside.table.macros c.args.id c.open_usage-opening.new.self.opens (o.usage e);
+      bindings = λ e. (o.opens.alone e).bindings;
+      alone = λ e. (c.args.id, (refl, o.opens.alone e));
+      called = λ e. called_by c.self.inside.table.macros c.args.id c.open_usage-opening.new.self.opens (o.opens.alone e).usage;
       macro = macro_at c.self.inside.table.macros c.args.id;
       named = rw (← c.self.view_is) at c.requires.named;
       keeps = o.keeps;
-      fault = o.fault;
-      own = o.own;
+      fault = o.opens.fault;
+      own = o.opens.own;
       unheld = o.unheld;
       means = o.means;
     })

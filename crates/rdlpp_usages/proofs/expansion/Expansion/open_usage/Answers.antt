@@ -3,7 +3,7 @@ use Rattle.rdlpp_read.specs.Buffer.{EndsHeld}
 use Rattle.rdlpp_table.specs.View.{macro_at}
 use Rattle.rdlpp_front.proofs.Insides.{usage_inside}
 use Rattle.rdlpp_usages.specs.declared.expansion.Opening.TheVariants.{Opened}
-use Rattle.rdlpp_usages.proofs.UsageOpens.{alone_plain, bindings_plain, body_means, body_usage, call_means_by, is_list, keeps_listed_by, keeps_plain, no_list, opened_line, uses_more, uses_name}
+use Rattle.rdlpp_usages.proofs.UsageOpens.{body_means, call_means_by, is_list, keeps_listed_by, keeps_plain, leaves_plain, no_list, opened_line, uses_more, uses_name}
 use Rattle.rdlpp_usages.proofs.expansion.Expansion.open_usage.Goals as goal
 
 pub consume-requires-clause-inside : goal.consume-requires-clause-inside
@@ -41,7 +41,7 @@ returns-clause-means g c =
     (subst EndsHeld c.file.ensures.buffer c.file.ensures.ends) c.requires.held c.requires.plain c.requires.usage run c.requires.room c.requires.named
     (is_list _ (ap is_some (sym c.arity.ensures) ∙ c.is_none.ensures ∙ ap (λ (b : Bool). not b) c.if-is_none.false))
     c.open_call.ensures.comes_to c.open_call.ensures.uses t
-    (λ o. opened_line c.open_call.result _ c.line-line.result _ c.open_call.ensures.line o ∙ c.line-line.ensures ∙ ap (λ b. b.line) c.file.ensures.buffer)
+    (λ o. opened_line c.open_call.result _ c.line-line.result _ c.open_call.ensures.opens.line_is o ∙ c.line-line.ensures ∙ ap (λ b. b.line) c.file.ensures.buffer)
     (c.open_call.ensures.limits.0 ∙ ap (λ e. e.depth) c.self.view_is)
 
 pub returns-then-is_none-clause-keeps : goal.returns-then-is_none-clause-keeps
@@ -55,13 +55,11 @@ returns-clause-keeps g c =
     c.consume.new.self.include_stack _ c.open_call.new.files.include_stack (ap (λ e. e.most) c.self.view_is) (ap (λ fs. fs.include_stack) c.consume.ensures.used)
     (is_list _ (ap is_some (sym c.arity.ensures) ∙ c.is_none.ensures ∙ ap (λ (b : Bool). not b) c.if-is_none.false)) c.open_call.ensures.keeps
 
-pub returns-then-is_none-clause-usage : goal.returns-then-is_none-clause-usage
-returns-then-is_none-clause-usage g c = λ _. body_usage _ _ _ _ (ap (λ v. v.opens) c.open_body.ensures.opens)
+pub returns-then-is_none-clause-opens : goal.returns-then-is_none-clause-opens
+returns-then-is_none-clause-opens g c =
+    leaves_plain _ _ _ _ _ _ (no_list _ (ap is_some (sym c.arity.ensures) ∙ c.is_none.ensures ∙ ap (λ (b : Bool). not b) c.if-is_none.true)) (ap (λ v. v.opens) c.open_body.ensures.opens)
+    (ap (λ v. v.line) c.open_body.ensures.opens ∙ c.line-line.ensures ∙ ap (λ b. b.line) c.file.ensures.buffer)
 
-pub returns-then-is_none-clause-bindings : goal.returns-then-is_none-clause-bindings
-returns-then-is_none-clause-bindings g c =
-    λ _. bindings_plain _ _ _ (no_list _ (ap is_some (sym c.arity.ensures) ∙ c.is_none.ensures ∙ ap (λ (b : Bool). not b) c.if-is_none.true)) (ap (λ v. v.opens) c.open_body.ensures.opens)
-
-pub returns-then-is_none-clause-alone : goal.returns-then-is_none-clause-alone
-returns-then-is_none-clause-alone g c =
-    λ _. alone_plain _ _ _ (no_list _ (ap is_some (sym c.arity.ensures) ∙ c.is_none.ensures ∙ ap (λ (b : Bool). not b) c.if-is_none.true)) (ap (λ v. v.opens) c.open_body.ensures.opens)
+pub returns-clause-opens : goal.returns-clause-opens
+returns-clause-opens g c =
+    rw (← c.self.view_is, ← c.file.ensures.buffer, ← c.line-line.ensures) c.open_call.ensures.opens
