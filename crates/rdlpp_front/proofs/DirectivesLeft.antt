@@ -22,7 +22,7 @@ use Rattle.rdlpp_scan.proofs.Seams.{BeforePerl, Closed, OpenComment, OpenString,
 use Rattle.rdlpp_scan.proofs.TokenLens.{token_of-part}
 use Rattle.rdlpp_scan.proofs.TokenSteps.{is_kept_kind}
 use Rattle.rdlpp_meaning.specs.Expansion.{usage_token}
-use Rattle.rdlpp_meaning.specs.Moves.{Passes, is_move}
+use Rattle.rdlpp_meaning.specs.Moves.{Passes}
 use Rattle.rdlpp_meaning.specs.Meaning.{Passage, Progress, added_end, at_start_of, after_bytes, leaves, origin_line, unclosed}
 use Rattle.rdlpp_meaning.specs.Opened.{Waiting, all_resumed, waiting}
 use Rattle.rdlpp_meaning.specs.Outcome.{fails}
@@ -30,7 +30,7 @@ use Rattle.rdlpp_meaning.specs.Parts.{argument_of, after_blanks, after_directive
 use Rattle.rdlpp_meaning.specs.Resumed.{Live, Skipped}
 use Rattle.rdlpp_meaning.specs.State.{LongPath, NoSource, Rules, Source, State, breach_kind, fault_at, shown_line}
 use Rattle.rdlpp_meaning.specs.declared.fault.FaultKind.TheVariants.{IncludeName, OpenConditional, PathTooLong, SourceNotFound, TooManyIncludes}
-use Rattle.rdlpp_meaning.proofs.Directives.{all_resumed_after, all_resumed_fails, all_resumed_include, blank_token, include_bad_name, include_long_path, include_nameless, include_not_found, include_too_deep, opens_conditional, string_token, takes_string_at_once, takes_string_after_blanks, wants_name}
+use Rattle.rdlpp_meaning.proofs.Directives.{all_resumed_after, all_resumed_fails, blank_token, opens_conditional, string_token, takes_string_at_once, takes_string_after_blanks, wants_name}
 use Rattle.rdlpp_meaning.proofs.Skipping.{bare_skipped, directive_word, has_own_token, is_skipped, resumed_skipped, resumed_skipped_broken, skipped_unclosed, stands_by_itself, usage_skipped}
 use Rattle.rdlpp_meaning.proofs.Moves.{word_moves}
 use Rattle.rdlpp_meaning.proofs.Outcomes.{after_bytes-nil}
@@ -44,7 +44,7 @@ use Rattle.rdlpp_read.proofs.BufferTokens.{ends_line}
 use Rattle.rdlpp_front.specs.SourceItems.{HasString, IsDirective, IsUsage, LacksString, argument_name, include_name, usage_name, word_of}
 use Rattle.rdlpp_front.specs.SourceLeft.{HoldsFront, source_left}
 use Rattle.rdlpp_front.proofs.TextLeft.{counted, not_counted, usage_text, usage_tokens}
-use Rattle.rdlpp_front.proofs.NamedDirectives.{GivenInFront, IsGiven, blank_lead, given_in_front_of, given_of, gone_blanks, gone_word, nothing_in_front_of, nothing_tokens, refused_move, stands_bare, word_at, word_directive, word_token, word_tokens}
+use Rattle.rdlpp_front.proofs.NamedDirectives.{GivenInFront, IsGiven, blank_lead, given_in_front_of, given_of, gone_blanks, gone_word, nothing_in_front_of, nothing_tokens, stands_bare, word_at, word_directive, word_token, word_tokens}
 use Rattle.rdlpp_front.proofs.Insides.{all_resumed_after_fails, tokens_plain, tokens_used, used_buffer}
 
 -- a directive that opens a conditional wants a name
@@ -129,11 +129,11 @@ module _ {R : Type 0} (rules : Rules) (unread : R → List ℕ) (ws : List Waiti
 
 module _ {R : Type 0} (rules : Rules) (unread : R → List ℕ) (ws : List Waiting) (p : Progress) (os : List Progress) (f : File R) (s : State) where
   -- the word of a directive that leaves the text skipped writes nothing, and changes at most how many conditionals opened there
-  pub word_left : (d : Directive) (n m : ℕ) → has_own_token d ≡ false → is_move d ≡ true → Passes rules d n m p os
+  pub word_left : (d : Directive) (n m : ℕ) → has_own_token d ≡ false → Passes rules d n m p os
       → HoldsFront f.buffer → f.buffer.mode ≡ Plain → IsDirective d (held_of f.buffer) → source_left rules unread ws (Skipped n p os) f s
       ≡ source_left rules unread ws (Skipped m p os) (consumed_file (length (word_of d)) 0 f) s
   unfolding source_left
-  word_left d n m word moves passes holds mode is =
+  word_left d n m word passes holds mode is =
       let b = f.buffer in
       let tok = word_token d b.line in
       let ts = tokens_left unread (consumed_file (length (word_of d)) 0 f).buffer in
@@ -141,7 +141,7 @@ module _ {R : Type 0} (rules : Rules) (unread : R → List ℕ) (ws : List Waiti
       sym (word_at d (held_of b) (rest_of unread b) holds.some (ends_line unread b holds.ends) is) in
       let left = all_resumed rules ws (Skipped m p os) (only_blanks f.blanks (word_of d)) ts s in
       ap (λ (us : List SourceToken). all_resumed rules ws (Skipped n p os) f.blanks us s) (word_tokens d unread b word holds mode is)
-      ∙ word_moves rules ws n m p os d f.blanks tok ts s (word_directive d b.line word) moves passes
+      ∙ word_moves rules ws n m p os d f.blanks tok ts s (word_directive d b.line word) passes
       ∙ ap (λ (x : List ℕ). after_bytes x left) (directive_word tok d (word_directive d b.line word) word).no_line_end
       ∙ after_bytes-nil left
       ∙ ap (λ (x : List ℕ). all_resumed rules ws (Skipped m p os) (only_blanks f.blanks x) ts s) text
@@ -168,7 +168,7 @@ module _ {R : Type 0} (rules : Rules) (unread : R → List ℕ) (ws : List Waiti
       ∙ all_resumed_fails rules ws (Skipped n p os) f.blanks [] s s (record { kind = OpenConditional; name = s.name; line = p.line; word = [] })
       (skipped_unclosed rules n p os f.blanks s)
 
--- What an `include` with its string in front does to what remains: it opens the source that is found, or is a fault.
+-- An `include` with its string in front.
 
 -- a text whose first line doesn't end has no LF
 no_line_end : (bytes : List ℕ) → ended_line_len bytes ≡ None → (line_ends bytes ≡ 0) × (list_any is_line_end bytes ≡ false)
@@ -229,7 +229,7 @@ module _ (most l room : ℕ) (rest : List ℕ) where
       subst P (sym zero_is) at_zero c
 
 -- an `include` with its string in front
-string_in_front_of : {R : Type 0} (unread : R → List ℕ) (b : BufferView R) → HoldsFront b → b.mode ≡ Plain → (start stop : ℕ) → HasString (held_of b) start stop → GivenInFront Include unread b (Some (argument_name (held_of b) start stop)) stop
+pub string_in_front_of : {R : Type 0} (unread : R → List ℕ) (b : BufferView R) → HoldsFront b → b.mode ≡ Plain → (start stop : ℕ) → HasString (held_of b) start stop → GivenInFront Include unread b (Some (argument_name (held_of b) start stop)) stop
 string_in_front_of unread b holds mode start stop has =
     let held = held_of b in
     let r = drop (length (word_of Include)) held in
@@ -239,87 +239,7 @@ string_in_front_of unread b holds mode start stop has =
     (string_given b.line_bytes b.line b.bytes_left (rest_of unread b) r has.from k (EndsLine-drop (length (word_of Include)) held (rest_of unread b) (ends_line unread b holds.ends)) g.space
     (closed_string (drop has.from r) k g.string (omega (arith, g.some))))
 
--- a source that waits for the text that its `include` has found, as a file of which the directive is used
-abbrev pub waiting_file : {R : Type 0} → Rules → (R → List ℕ) → List Progress → ℕ → File R → State → List ℕ → Waiting
-waiting_file rules unread os stop f s text = record {
-  open_conditionals = os;
-  first = (consumed_file stop 0 f).blanks;
-  tokens = tokens_left unread (consumed_file stop 0 f).buffer;
-  state = s;
-  ending = added_end text ++ origin_line rules s.name (shown_line s.shift f.buffer.line);
-}
-
-module _ {R : Type 0} (rules : Rules) (unread : R → List ℕ) (ws : List Waiting) (os : List Progress) (f : File R) (s : State)
-    (holds : HoldsFront f.buffer) (mode : f.buffer.mode ≡ Plain)
-    (start stop : ℕ) (has : HasString (held_of f.buffer) start stop) where
-  -- the tokens at the `include`
-  abbrev string_front : GivenInFront Include unread f.buffer (Some (argument_name (held_of f.buffer) start stop)) stop
-  string_front = string_in_front_of unread f.buffer holds mode start stop has
-
-  -- the source that stood innermost waits
-  waits : (i : GivenInFront Include unread f.buffer (Some (argument_name (held_of f.buffer) start stop)) stop) (text : List ℕ)
-      → waiting rules os f.blanks (word_token Include f.buffer.line) i.tokens s text ≡ waiting_file rules unread os stop f s text
-  unfolding waiting command_of
-  waits i text =
-      let w : Bool → List SourceToken → Waiting = λ first ts. record {
-        open_conditionals = os;
-        first = first;
-        tokens = ts;
-        state = s;
-        ending = added_end text ++ origin_line rules s.name (shown_line s.shift f.buffer.line);
-      } in
-      ap (λ (z : List ℕ). w (only_blanks f.blanks z) (after_directive Include i.tokens)) i.text
-      ∙ ap (λ (ts : List SourceToken). w (only_blanks f.blanks (take stop (held_of f.buffer))) ts) i.following
-
-  -- an `include` that finds a source opens it, and the source that stood innermost waits
-  pub include_left : (k : ℕ) (path text : List ℕ)
-      → (length (include_name (held_of f.buffer) start stop) == 0 || not (is_utf8 (include_name (held_of f.buffer) start stop))) ≡ false → s.sources_left ≡ suc k
-      → rules.find s.path (include_name (held_of f.buffer) start stop) ≡ Source path text
-      → source_left rules unread ws (Live os) f s
-      ≡ after_bytes (origin_line rules path 1)
-      (all_resumed rules (waiting_file rules unread os stop f s text ∷ ws) (Live []) true (rules.tokens text) (at_start_of path s))
-  unfolding source_left
-  include_left k path text name left found =
-      ap (λ (ts : List SourceToken). all_resumed rules ws (Live os) f.blanks ts s) string_front.all
-      ∙ all_resumed_include rules ws os f.blanks (word_token Include f.buffer.line) string_front.tokens s (argument_name (held_of f.buffer) start stop) k path text
-      (word_directive Include f.buffer.line include_word) string_front.given name left found
-      ∙ ap (λ (w : Waiting). after_bytes (origin_line rules path 1) (all_resumed rules (w ∷ ws) (Live []) true (rules.tokens text) (at_start_of path s))) (waits string_front text)
-
-  -- an `include` of an empty name, or of one that isn't UTF-8, is a fault
-  pub include_bad_left : (length (include_name (held_of f.buffer) start stop) == 0 || not (is_utf8 (include_name (held_of f.buffer) start stop))) ≡ true
-      → source_left rules unread ws (Live os) f s ≡ leaves (fails (fault_at IncludeName f.buffer.line [] s)) s
-  include_bad_left name =
-      refused_move rules unread ws f s Include string_front.tokens (Live os) IncludeName [] string_front.all
-      (include_bad_name rules os f.blanks (word_token Include f.buffer.line) string_front.tokens s (argument_name (held_of f.buffer) start stop)
-      (word_directive Include f.buffer.line include_word) string_front.given name)
-
-  -- where no more sources may be opened, it is a fault
-  pub include_deep_left : (length (include_name (held_of f.buffer) start stop) == 0 || not (is_utf8 (include_name (held_of f.buffer) start stop))) ≡ false → s.sources_left ≡ 0
-      → source_left rules unread ws (Live os) f s ≡ leaves (fails (fault_at TooManyIncludes f.buffer.line [] s)) s
-  include_deep_left name left =
-      refused_move rules unread ws f s Include string_front.tokens (Live os) TooManyIncludes [] string_front.all
-      (include_too_deep rules os f.blanks (word_token Include f.buffer.line) string_front.tokens s (argument_name (held_of f.buffer) start stop)
-      (word_directive Include f.buffer.line include_word) string_front.given name left)
-
-  -- and where the search finds nothing
-  pub include_absent_left : (k : ℕ) → (length (include_name (held_of f.buffer) start stop) == 0 || not (is_utf8 (include_name (held_of f.buffer) start stop))) ≡ false
-      → s.sources_left ≡ suc k → rules.find s.path (include_name (held_of f.buffer) start stop) ≡ NoSource
-      → source_left rules unread ws (Live os) f s ≡ leaves (fails (fault_at SourceNotFound f.buffer.line [] s)) s
-  include_absent_left k name left found =
-      refused_move rules unread ws f s Include string_front.tokens (Live os) SourceNotFound [] string_front.all
-      (include_not_found rules os f.blanks (word_token Include f.buffer.line) string_front.tokens s (argument_name (held_of f.buffer) start stop) k
-      (word_directive Include f.buffer.line include_word) string_front.given name left found)
-
-  -- or a path that is too long
-  pub include_overlong_left : (k : ℕ) → (length (include_name (held_of f.buffer) start stop) == 0 || not (is_utf8 (include_name (held_of f.buffer) start stop))) ≡ false
-      → s.sources_left ≡ suc k → rules.find s.path (include_name (held_of f.buffer) start stop) ≡ LongPath
-      → source_left rules unread ws (Live os) f s ≡ leaves (fails (fault_at PathTooLong f.buffer.line [] s)) s
-  include_overlong_left k name left found =
-      refused_move rules unread ws f s Include string_front.tokens (Live os) PathTooLong [] string_front.all
-      (include_long_path rules os f.blanks (word_token Include f.buffer.line) string_front.tokens s (argument_name (held_of f.buffer) start stop) k
-      (word_directive Include f.buffer.line include_word) string_front.given name left found)
-
--- An `include` in front behind which no string stands that closes on its line is a fault.
+-- An `include` in front behind which no string stands that closes on its line.
 
 -- a text with LF bytes has one
 any_line_end : (bytes : List ℕ) → 0 < line_ends bytes → list_any is_line_end bytes ≡ true
@@ -474,22 +394,16 @@ module _ (most l room : ℕ) (rest : List ℕ) where
       let at_zero : IsClosedString r 0 = subst (λ (m : ℕ). IsClosedString (drop m r) 0) zero_is closed in
       lacks_blank r ends none lacks ∙ lacks_string r ends none at_zero
 
-module _ {R : Type 0} (rules : Rules) (unread : R → List ℕ) (ws : List Waiting) (os : List Progress) (f : File R) (s : State) where
-  -- an `include` without a string on its line is a fault
-  pub include_nameless_left : HoldsFront f.buffer → f.buffer.mode ≡ Plain → LacksString (held_of f.buffer) → source_left rules unread ws (Live os) f s ≡ leaves (fails (fault_at IncludeName f.buffer.line [] s)) s
-  unfolding no_argument
-  include_nameless_left holds mode lacks =
-      let b = f.buffer in
-      let held = held_of b in
-      let rest = rest_of unread b in
-      let n = length (word_of Include) in
-      let r = drop n held in
-      let ends = ends_line unread b holds.ends in
-      let bl = lacks.none.start in
-      let i =
-      nothing_in_front_of Include unread b holds mode include_word lacks.word
-      (string_missing b.line_bytes b.line b.bytes_left rest r bl (EndsLine-drop n held rest ends)
-      (gone_word Include held rest holds.some ends lacks.word) (gone_blanks Include held rest holds.some ends lacks.word bl lacks.none.space)
-      lacks.none.space lacks.none.none) in
-      refused_move rules unread ws f s Include i.tokens (Live os) IncludeName [] i.all
-      (include_nameless rules os f.blanks (word_token Include b.line) i.tokens s (word_directive Include b.line include_word) i.given)
+-- an `include` without a string on its line in front
+pub no_string_in_front_of : {R : Type 0} (unread : R → List ℕ) (b : BufferView R) → HoldsFront b → b.mode ≡ Plain → LacksString (held_of b) → GivenInFront Include unread b None (length (word_of Include))
+no_string_in_front_of unread b holds mode lacks =
+    let held = held_of b in
+    let rest = rest_of unread b in
+    let n = length (word_of Include) in
+    let r = drop n held in
+    let ends = ends_line unread b holds.ends in
+    let bl = lacks.none.start in
+    nothing_in_front_of Include unread b holds mode include_word lacks.word
+    (string_missing b.line_bytes b.line b.bytes_left rest r bl (EndsLine-drop n held rest ends)
+    (gone_word Include held rest holds.some ends lacks.word) (gone_blanks Include held rest holds.some ends lacks.word bl lacks.none.space)
+    lacks.none.space lacks.none.none)

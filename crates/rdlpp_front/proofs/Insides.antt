@@ -330,14 +330,6 @@ pub all_resumed_after_fails : (rules : Rules) (ws : List Waiting) (place : Place
 unfolding all_resumed
 all_resumed_after_fails rules ws place first ts s t x f e = grind (arith, after_bytes-goes_on, fails-goes_on)
 
--- a refusal in the innermost source ends the include stack with its fault
-pub all_resumed_refused : (rules : Rules) (ws : List Waiting) (place : Place) (first : Bool) (ts : List SourceToken) (s : State) (kind : FaultKind) (word : List ℕ) (c : Command)
-    → resumed rules place first ts s ≡ refusal kind word c s
-    → all_resumed rules ws place first ts s ≡ leaves (fails (fault_at kind c.line word s)) s
-unfolding refusal
-all_resumed_refused rules ws place first ts s kind word c e =
-    all_resumed_fails rules ws place first ts s s (fault_at kind c.line word s) e
-
 module _ (rules : Rules) (ws : List Waiting) (os : List Progress) (first : Bool) where
   -- tokens that are copied give their bytes
   pub all_resumed_copied : (ts more : List SourceToken) (s : State) → list_all is_copied ts ≡ true

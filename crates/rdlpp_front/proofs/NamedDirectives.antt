@@ -15,9 +15,9 @@ use Rattle.rdlpp_scan.proofs.RemainingLaws.{FirstToken, blanks-line_ends, name-l
 use Rattle.rdlpp_scan.proofs.SourceLaws.{EndsLine-drop, line_ends-append}
 use Rattle.rdlpp_scan.proofs.TokenLens.{token_of-part}
 use Rattle.rdlpp_scan.proofs.TokenSteps.{is_kept_kind}
-use Rattle.rdlpp_meaning.specs.State.{Rules, State, fault_at}
-use Rattle.rdlpp_meaning.specs.Parts.{Argument, Command, argument_of, after_blanks, after_directive, command_in_front, command_of, directive_named, directive_of, name_in_front, no_argument, only_blanks, past_blanks}
-use Rattle.rdlpp_meaning.specs.Resumed.{Place, following, resumed}
+use Rattle.rdlpp_meaning.specs.State.{Rules, State}
+use Rattle.rdlpp_meaning.specs.Parts.{Argument, Command, argument_of, after_blanks, after_directive, command_of, directive_named, directive_of, name_in_front, no_argument, only_blanks, past_blanks}
+use Rattle.rdlpp_meaning.specs.Resumed.{Place}
 use Rattle.rdlpp_meaning.specs.Opened.{Waiting, all_resumed}
 use Rattle.rdlpp_meaning.proofs.Skipping.{has_own_token}
 use Rattle.rdlpp_meaning.proofs.Moves.{directive_moves}
@@ -27,13 +27,11 @@ use Rattle.rdlpp_read.specs.Buffer.{BufferView, held_of, rest_of, tokens_left}
 use Rattle.rdlpp_front.specs.SourceItems.{HasName, IsDirective, IsNamed, LacksName, argument_name, given_by, given_len, word_of}
 use Rattle.rdlpp_front.specs.declared.item.Argument.{Argument as Given}
 use Rattle.rdlpp_front.specs.SourceLeft.{HoldsFront, source_left}
-use Rattle.rdlpp_front.proofs.Insides.{all_resumed_refused, name_inside, tokens_used, used_buffer, word_len}
+use Rattle.rdlpp_front.proofs.Insides.{name_inside, tokens_used, used_buffer, word_len}
 use Rattle.rdlpp_read.proofs.BufferTokens.{ends_line}
-use Rattle.rdlpp_front.proofs.TextLeft.{back_tokens}
-use Rattle.rdlpp_meaning.specs.declared.fault.FaultKind.{FaultKind}
-use Rattle.rdlpp_meaning.specs.Outcome.{fails}
-use Rattle.rdlpp_meaning.specs.Moves.{is_move, move_of, moves_on}
-use Rattle.rdlpp_meaning.specs.Meaning.{Passage, leaves, refusal}
+use Rattle.rdlpp_front.proofs.TextLeft.{back_tokens, file_moves}
+use Rattle.rdlpp_meaning.specs.Moves.{move_of, nest_moves}
+use Rattle.rdlpp_meaning.specs.Meaning.{Passage}
 use Rattle.rdlpp_read.specs.declared.files.File.{File}
 use Rattle.rdlpp_read.specs.Files.{consumed_file}
 
@@ -374,17 +372,6 @@ module _ {R : Type 0} (d : Directive) (unread : R → List ℕ) (b : BufferView 
       lacks.none.space (lead_none (drop lacks.none.start r) 0 lacks.none.none refl))
   in_front_of _ _ (Bare bare is) = nothing_in_front_of (bare_word d bare) is (bare_takes d (tokens_at (length (word_of d))) bare)
 
--- a directive that is refused, as an `include` may be
-module _ {R : Type 0} (rules : Rules) (unread : R → List ℕ) (ws : List Waiting) (f : File R) (s : State) (d : Directive) where
-  pub refused_move : (tokens : List SourceToken) (place : Place) (kind : FaultKind) (word : List ℕ)
-      → tokens_left unread f.buffer ≡ word_token d f.buffer.line ∷ tokens
-      → resumed rules place f.blanks (word_token d f.buffer.line ∷ tokens) s ≡ refusal kind word (command_in_front d f.blanks (word_token d f.buffer.line) tokens) s
-      → source_left rules unread ws place f s ≡ leaves (fails (fault_at kind f.buffer.line word s)) s
-  unfolding source_left command_of
-  refused_move tokens place kind word all e =
-      ap (λ (ts : List SourceToken). all_resumed rules ws place f.blanks ts s) all
-      ∙ all_resumed_refused rules ws place f.blanks (word_token d f.buffer.line ∷ tokens) s kind word (command_in_front d f.blanks (word_token d f.buffer.line) tokens) e
-
 -- an `undef` wants a name
 pub undef_wants : wants_name Undef ≡ true
 unfolding wants_name
@@ -392,22 +379,11 @@ undef_wants = refl
 
 -- The directive at the front of what is held, as a command, and what remains at it.
 
--- a directive that wants a name is a move
-wants_moves : (d : Directive) → wants_name d ≡ true → is_move d ≡ true
-unfolding wants_name is_move
-wants_moves Include e = cc
-wants_moves d e = refl
-
--- and so is one that takes nothing but its word
-bare_moves : (d : Directive) → stands_bare d ≡ true → is_move d ≡ true
-unfolding stands_bare is_move
-bare_moves Include e = cc
-bare_moves d e = refl
-
-pub begins_moves : (d : Directive) (held : List ℕ) (given : Option (List ℕ)) (len : ℕ) → Begins d held given len → (has_own_token d ≡ false) × (is_move d ≡ true)
-begins_moves d held _ _ (Named start stop wants has) = (wants_word d wants, wants_moves d wants)
-begins_moves d held _ _ (Nameless wants lacks) = (wants_word d wants, wants_moves d wants)
-begins_moves d held _ _ (Bare bare is) = (bare_word d bare, bare_moves d bare)
+-- one that begins what is held is a token
+pub begins_token : (d : Directive) (held : List ℕ) (given : Option (List ℕ)) (len : ℕ) → Begins d held given len → has_own_token d ≡ false
+begins_token d held _ _ (Named start stop wants has) = wants_word d wants
+begins_token d held _ _ (Nameless wants lacks) = wants_word d wants
+begins_token d held _ _ (Bare bare is) = bare_word d bare
 
 -- the directive at the front of what is held, as a command
 abbrev pub held_command : {R : Type 0} → Directive → Option (List ℕ) → ℕ → File R → Command
@@ -415,18 +391,16 @@ held_command d given len f = record { word = d; given = given; text = take len (
 
 -- what remains at it is what it comes to, and then what remains behind it
 pub held_moves : {R : Type 0} (rules : Rules) (unread : R → List ℕ) (ws : List Waiting) (f : File R) (s : State) (d : Directive) (given : Option (List ℕ)) (len : ℕ)
-    → HoldsFront f.buffer → f.buffer.mode ≡ Plain → Begins d (held_of f.buffer) given len → (place : Place)
-    → source_left rules unread ws place f s ≡ moves_on (move_of rules (held_command d given len f) place s) f.buffer.line s (λ new t. source_left rules unread ws new (consumed_file len 0 f) t)
+    → has_own_token d ≡ false → GivenInFront d unread f.buffer given len → (place : Place)
+    → source_left rules unread ws place f s ≡ file_moves rules unread ws (move_of rules (held_command d given len f) place s) f.buffer.line s (consumed_file len 0 f)
 unfolding source_left command_of
-held_moves rules unread ws f s d given len holds mode begins place =
-    let i = in_front_of d unread f.buffer holds mode given len begins in
-    let is = begins_moves d (held_of f.buffer) given len begins in
+held_moves rules unread ws f s d given len word i place =
     let tok = word_token d f.buffer.line in
     let a = argument_of d i.tokens in
     let by : Option (List ℕ) → List ℕ → Command = λ name text. record { word = d; given = name; text = text; line = f.buffer.line; first = f.blanks } in
-    let at : Command → List SourceToken → Passage = λ c ts. moves_on (move_of rules c place s) f.buffer.line s (λ new t. all_resumed rules ws new (only_blanks f.blanks c.text) ts t) in
+    let at : Command → List SourceToken → Passage = λ c ts. nest_moves rules ws (move_of rules c place s) f.buffer.line s (only_blanks f.blanks c.text) ts in
     ap (λ (ts : List SourceToken). all_resumed rules ws place f.blanks ts s) i.all
-    ∙ directive_moves rules ws place d f.blanks tok i.tokens s (word_directive d f.buffer.line is.0) is.1
+    ∙ directive_moves rules ws place d f.blanks tok i.tokens s (word_directive d f.buffer.line word)
     ∙ ap (λ (name : Option (List ℕ)). at (by name (word_of d ++ a.text)) (after_directive d i.tokens)) i.given
     ∙ ap (λ (text : List ℕ). at (by given text) (after_directive d i.tokens)) i.text
     ∙ ap (at (by given (take len (held_of f.buffer)))) i.following

@@ -26,7 +26,7 @@ use Rattle.rdlpp_table.specs.Table.{macro_named}
 use Rattle.rdlpp_meaning.specs.Expansion.{is_copied, usage_token}
 use Rattle.rdlpp_meaning.specs.Meaning.{Passage, Progress, after_bytes, leaves, unclosed}
 use Rattle.rdlpp_meaning.specs.Opened.{Waiting, all_resumed, unwound}
-use Rattle.rdlpp_meaning.specs.Moves.{is_move, move_of, moves_on}
+use Rattle.rdlpp_meaning.specs.Moves.{Move, move_of, nest_moves}
 use Rattle.rdlpp_meaning.specs.Outcome.{fails}
 use Rattle.rdlpp_meaning.specs.Parts.{line_ends_of, only_blanks, pieces, Command, argument_of, directive_of}
 use Rattle.rdlpp_meaning.specs.Resumed.{Live, Place, Skipped, resume, resumed}
@@ -310,18 +310,22 @@ pub consumed_used : {R : Type 0} (b : BufferView R) (len lines : ℕ) → lines 
 unfolding consumed
 consumed_used b len lines e = ap (λ (n : ℕ). used_buffer b len n) (sym e)
 
+-- what remains where a construct in front of the innermost source comes to this, by that source behind it
+abbrev pub file_moves : {R : Type 0} → Rules → (R → List ℕ) → List Waiting → Move → ℕ → State → File R → Passage
+file_moves rules unread ws m line s g = nest_moves rules ws m line s g.blanks (tokens_left unread g.buffer)
+
 -- a `define` whose logical line is held comes to what that does
 pub define_moves : {R : Type 0} (rules : Rules) (unread : R → List ℕ) (ws : List Waiting) (place : Place) (f : File R) (s : State) (has_known_texts : Type 0) (new : BufferView R) (len lines : ℕ)
     → HoldsLine has_known_texts unread (Whole len) f.buffer new → has_known_texts → f.buffer.mode ≡ Plain → HoldsDefine (held_of f.buffer) (rest_of unread f.buffer) → lines ≡ line_ends (take len (held_of new))
     → let c : Command = record { word = Define; given = None; text = take len (held_of new); line = f.buffer.line; first = f.blanks } in
-    source_left rules unread ws place f s ≡ moves_on (move_of rules c place s) f.buffer.line s (λ p t. source_left rules unread ws p (consumed_file len lines (with_file_buffer new f)) t)
-unfolding source_left directive_of argument_of is_move
+    source_left rules unread ws place f s ≡ file_moves rules unread ws (move_of rules c place s) f.buffer.line s (consumed_file len lines (with_file_buffer new f))
+unfolding source_left directive_of argument_of
 define_moves rules unread ws place f s has_known_texts new len lines line t mode holds count =
     let w = take len (held_of new) in
     let c : Command = record { word = Define; given = None; text = w; line = f.buffer.line; first = f.blanks } in
     ap (λ (ts : List SourceToken). all_resumed rules ws place f.blanks ts s) (line.define t mode holds)
-    ∙ whole_moves rules ws place Define f.blanks Definition w f.buffer.line (tokens_left unread (consumed new len)) s refl refl refl
-    ∙ ap (λ (b : BufferView _). moves_on (move_of rules c place s) f.buffer.line s (λ p u. all_resumed rules ws p (only_blanks f.blanks w) (tokens_left unread b) u)) (consumed_used new len lines count)
+    ∙ whole_moves rules ws place Define f.blanks Definition w f.buffer.line (tokens_left unread (consumed new len)) s refl refl
+    ∙ ap (λ (b : BufferView _). nest_moves rules ws (move_of rules c place s) f.buffer.line s (only_blanks f.blanks w) (tokens_left unread b)) (consumed_used new len lines count)
 
 module _ {R : Type 0} (rules : Rules) (unread : R → List ℕ) (ws : List Waiting) (os : List Progress) (f : File R) (s : State)
     (has_known_texts : Type 0) (new : BufferView R) where
@@ -457,13 +461,12 @@ line_buffer unread b holds mode is = grind (arith, tokens_plain, remaining-line,
 -- a `line` comes to what its line gives
 pub line_moves : {R : Type 0} (rules : Rules) (unread : R → List ℕ) (ws : List Waiting) (place : Place) (f : File R) (s : State) → HoldsFront f.buffer → f.buffer.mode ≡ Plain → IsDirective Line (held_of f.buffer)
     → let c : Command = record { word = Line; given = None; text = line_text (held_of f.buffer); line = f.buffer.line; first = f.blanks } in
-    source_left rules unread ws place f s
-    ≡ moves_on (move_of rules c place s) f.buffer.line s (λ p t. source_left rules unread ws p (consumed_file (line_len (held_of f.buffer)) (line_ends (line_text (held_of f.buffer))) f) t)
-unfolding source_left directive_of argument_of is_move
+    source_left rules unread ws place f s ≡ file_moves rules unread ws (move_of rules c place s) f.buffer.line s (consumed_file (line_len (held_of f.buffer)) (line_ends (line_text (held_of f.buffer))) f)
+unfolding source_left directive_of argument_of
 line_moves rules unread ws place f s holds mode is =
     let w = line_text (held_of f.buffer) in
     ap (λ (ts : List SourceToken). all_resumed rules ws place f.blanks ts s) (line_buffer unread f.buffer holds mode is)
-    ∙ whole_moves rules ws place Line f.blanks Renumbering w f.buffer.line (tokens_left unread (used_buffer f.buffer (line_len (held_of f.buffer)) (line_ends w))) s refl refl refl
+    ∙ whole_moves rules ws place Line f.blanks Renumbering w f.buffer.line (tokens_left unread (used_buffer f.buffer (line_len (held_of f.buffer)) (line_ends w))) s refl refl
 
 -- What a `line` is given, by what stands behind its word.
 

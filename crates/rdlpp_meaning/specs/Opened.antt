@@ -1,11 +1,9 @@
 -- What remains of a nest of open sources: of the innermost, and then of each that waits for the text that it includes.
 -- A definition that names no source is this project's own.
 use Rattle.std.specs.Prelude.{ℕ, Bool, List, [], ◌∷◌, ◌++◌}
-use Rattle.rdlpp_scan.specs.declared.token.Directive.TheVariants.{Include}
 use Rattle.rdlpp_scan.specs.SourceTokens.{SourceToken}
 use Rattle.rdlpp_meaning.specs.Outcome.{gives}
 use Rattle.rdlpp_meaning.specs.State.{Rules, shown_line, State}
-use Rattle.rdlpp_meaning.specs.Parts.{only_blanks, command_in_front, after_directive}
 use Rattle.rdlpp_meaning.specs.Meaning.{Passage, leaves, after_bytes, goes_on, Progress, origin_line, back_in, added_end}
 use Rattle.rdlpp_meaning.specs.Resumed.{Place, Live, resumed}
 
@@ -19,18 +17,14 @@ pub record Waiting : Type 0 where
   pub state : State
   pub ending : List ℕ
 
--- what is written behind the text that an `include` has found
-abbrev pub ending_of : Rules → SourceToken → State → List ℕ → List ℕ
-ending_of rules t s text = added_end text ++ origin_line rules s.name (shown_line s.shift t.line)
-
--- a source that waits for the text that its `include` has found
-unfoldable pub waiting : Rules → List Progress → Bool → SourceToken → List SourceToken → State → List ℕ → Waiting
-waiting rules os first t ts s text = record {
+-- a source that waits for the text that an `include` on a line has found: what remains of it behind that
+unfoldable pub waiting : Rules → List Progress → Bool → List SourceToken → ℕ → State → List ℕ → Waiting
+waiting rules os first ts line s text = record {
   open_conditionals = os;
-  first = only_blanks first (command_in_front Include first t ts).text;
-  tokens = after_directive Include ts;
+  first = first;
+  tokens = ts;
   state = s;
-  ending = ending_of rules t s text;
+  ending = added_end text ++ origin_line rules s.name (shown_line s.shift line);
 }
 
 -- what remains where an included text has ended, in the sources that wait, innermost first (source: this project's profile)

@@ -9,7 +9,7 @@ use Rattle.rdlpp_scan.specs.declared.token.Mode.{Mode}
 use Rattle.rdlpp_scan.specs.declared.token.Mode.TheVariants.{Plain}
 use Rattle.rdlpp_table.specs.Table.{Macro, macro_named, without}
 use Rattle.rdlpp_table.specs.declared.limits.Limits.{Limits}
-use Rattle.rdlpp_meaning.specs.Moves.{Move, Moves, Passes, Stops, branching_move, by_move, closing_move, in_branch, is_move, move_of, opening_move, single_move, skipped_move, turning_move, undef_move}
+use Rattle.rdlpp_meaning.specs.Moves.{Move, Moves, Passes, Stops, branching_move, by_move, closing_move, in_branch, move_of, opening_move, single_move, skipped_move, turning_move, undef_move}
 use Rattle.rdlpp_meaning.specs.Meaning.{Checked, begun, in_conditional, opening, past_conditional, turn, turned, NameFault, Fine, Holds, Progress, TestFault, Test, after_bytes, is_defined, is_else, leaves, macro_name, name_test, opening_within, wants_defined}
 use Rattle.rdlpp_meaning.specs.Outcome.{fails}
 use Rattle.rdlpp_meaning.specs.Parts.{Command, line_ends_of}
@@ -17,7 +17,6 @@ use Rattle.rdlpp_meaning.specs.Resumed.{Live, Place, Skipped}
 use Rattle.rdlpp_meaning.specs.State.{Rules, State, fault_at}
 use Rattle.rdlpp_meaning.specs.declared.fault.FaultKind.{FaultKind}
 use Rattle.rdlpp_meaning.specs.declared.fault.FaultKind.TheVariants as fault
-use Rattle.rdlpp_meaning.specs.declared.fault.FaultKind.TheVariants.{BadLine}
 use Rattle.rdlpp_meaning.proofs.Directives.{branches_conditional, opens_conditional, wants_name}
 use Rattle.rdlpp_meaning.proofs.Skipping.{has_own_token, line_ends_of-owed}
 use Rattle.rdlpp_source.specs.declared.sources.Sources.{Ghosts}
@@ -38,7 +37,7 @@ use Rattle.rdlpp_front.specs.declared.item.Argument.{Argument}
 use Rattle.rdlpp_front.proofs.DirectivesLeft.{end_bare, opening_wants}
 use Rattle.rdlpp_front.proofs.TextLeft.{line_inside}
 use Rattle.rdlpp_front.proofs.Insides.{held_entered, text_inside, usage_inside}
-use Rattle.rdlpp_front.proofs.NamedDirectives.{Bare, Begins, begins_moves, begins_word, wants_word, named_begins, stands_bare, undef_wants, word_within}
+use Rattle.rdlpp_front.proofs.NamedDirectives.{Bare, Begins, begins_token, begins_word, wants_word, named_begins, stands_bare, undef_wants, word_within}
 use Rattle.rdlpp_state.specs.Calls.{SourcesCalled}
 use Rattle.rdlpp_state.specs.Conditionals.{AnyUsage, DoesByTest, IncludeWord, IsGivenBranch, IsSkippedWord, LoneBackquote, OpensOne, UndefWord, goes_past, opening_word, passes_over, test_of}
 use Rattle.rdlpp_state.specs.Engine.{EngineView}
@@ -145,23 +144,18 @@ unfolding opens_conditional
 opening_opens true = refl
 opening_opens false = refl
 
-opening_moves : (defined : Bool) → is_move (opening_word defined) ≡ true
-unfolding is_move
-opening_moves true = refl
-opening_moves false = refl
-
 opening_test : (defined : Bool) (name : List ℕ) (s : State) → name_test (wants_defined (opening_word defined)) (Fine name) s ≡ Holds (test_of defined (is_some (macro_named s.macros name)))
 unfolding name_test wants_defined is_defined
 opening_test true name s = refl
 opening_test false name s = refl
 
 -- a test that is done is what is come to by it
-pub does_test : {S R : Type 0} (old new : EngineView S R) (x : Test) (len : ℕ) (result : Option PieceLocation) (next : Bool → ConditionsView) (place : Bool → Place) (t : State) → IsOwnTest x
+pub does_test : {S R : Type 0} (g : Ghosts S R) (old new : EngineView S R) (x : Test) (len : ℕ) (result : Option PieceLocation) (next : Bool → ConditionsView) (place : Bool → Place) (t : State) → IsOwnTest x
     → ((b : Bool) → Lands old.limits old.conditions (next b) old.table.macros old.files.include_stack (with_inner (consumed_file len 0) old.files.include_stack) (place b) t)
-    → DoesByTest x next len old new result → Does len old new result (by_move x (λ b. Moves [] (place b) t))
+    → DoesByTest x next len old new result → Does g len old old new result (by_move x (λ b. Moves [] (place b) t))
 unfolding by_move goes_past
-does_test old new (TestFault kind word) len result next place t own lands does = (does.0, does.1, own)
-does_test old new (Holds b) len result next place t own lands does =
+does_test g old new (TestFault kind word) len result next place t own lands does = (does.0, does.1, own)
+does_test g old new (Holds b) len result next place t own lands does =
     record { none = refl; done = does.0; macros = old.table.macros; conditions = next b; lands = lands b; becomes = does.1 }
 
 -- what the word of a conditional comes to
@@ -248,9 +242,9 @@ module _ {S R : Type 0} (g : Ghosts S R) (old new : EngineView S R) (ready : IsR
 
   -- an engine that does what a directive comes to there
   steps : (d : Directive) (given : Option (List ℕ)) (len : ℕ) (result : Option PieceLocation) (place : Place) (m : Move) → Begins d held given len → place_of (inner_below old.files.include_stack) old.conditions ≡ place
-      → comes_to d given len place ≡ m → Does len old new result m → UncutStep g old new (step_answer new result)
+      → comes_to d given len place ≡ m → Does g len old old new result m → UncutStep g old new (step_answer new result)
   steps d given len result place m begins is comes does =
-      directive_steps g old new ready bounded some plain d given len result begins (subst (Does len old new result) (sym (placed d given len place is ∙ comes)) does)
+      directive_steps g old new ready bounded some plain d given len result begins (subst (Does g len old old new result) (sym (placed d given len place is ∙ comes)) does)
 
   -- no more conditionals are open around the innermost source than are open
   most : inner_below old.files.include_stack ≤ length old.conditions.open_now
@@ -262,12 +256,12 @@ module _ {S R : Type 0} (g : Ghosts S R) (old new : EngineView S R) (ready : IsR
 
   -- the word of one that leaves skipped text skipped is used
   pub directive_word_steps : (d : Directive) (n m : ℕ) (o : Progress) (os : List Progress) → old.conditions.open_now ≡ o ∷ os → inner_below old.files.include_stack ≤ length os → old.conditions.skipped ≡ Some n
-      → has_own_token d ≡ false → is_move d ≡ true → Passes (run_rules g old) d n m o (take (length os - inner_below old.files.include_stack) os) → IsDirective d held
+      → has_own_token d ≡ false → Passes (run_rules g old) d n m o (take (length os - inner_below old.files.include_stack) os) → IsDirective d held
       → new ≡ goes_past (with_count m old.conditions) (length (word_of d)) old → UncutStep g old new (step_answer new None)
   unfolding goes_past
-  directive_word_steps d n m o os is_open below skips word moves passes is becomes =
-      does_step g old new ready bounded some plain (length (word_of d)) None (Moves [] (Skipped m o (take (length os - inner_below old.files.include_stack) os)) here) (word_within d held is some)
-      (passing_moves old.limits (run_rules g old) g.unread old.table.macros old.conditions old.files.include_stack d n m o _ (plain_front old ready some plain) word moves passes
+  directive_word_steps d n m o os is_open below skips word passes is becomes =
+      does_step g old old new ready bounded refl (not_called g old.sources) (length (word_of d)) None (Moves [] (Skipped m o (take (length os - inner_below old.files.include_stack) os)) here) (word_within d held is some)
+      (λ t. passing_moves old.limits (run_rules g old) g.unread old.table.macros old.conditions old.files.include_stack d n m o _ (plain_front old ready some plain) word passes
       (place_skipped (inner_below old.files.include_stack) old.conditions n o os is_open below skips) is)
       (record {
         none = refl;
@@ -345,7 +339,7 @@ module _ {S R : Type 0} (g : Ghosts S R) (old new : EngineView S R) (ready : IsR
           ap (opening_within here.conditions_left) (opening_test defined name here ∙ ap (λ (ms : List Macro). Holds (test_of defined (is_some (macro_named ms name)))) macros)
           ∙ ap (λ (n : ℕ). opening_within n holds) (here_left ∙ ap (λ (n : ℕ). n - length old.conditions.open_now) (sym ready.sound.conditions_of.limit)) in
           steps (opening_word defined) _ _ result (Live own) _ (named_begins (opening_word defined) held a wants named) lives (opening_here defined _ _ (Fine name) fine ∙ ap (λ (x : Test). by_move x next) test)
-          (does_test old new _ _ result _ (λ t. in_branch t (opened_at here (inner_buffer old.files.include_stack).line t) own) (in_conditional here) (opening_own (conditions_left old.conditions) _)
+          (does_test g old new _ _ result _ (λ t. in_branch t (opened_at here (inner_buffer old.files.include_stack).line t) own) (in_conditional here) (opening_own (conditions_left old.conditions) _)
           (λ t. lands_opened old.limits old.table.macros old.conditions (given_len (opening_word defined) a) old.files.include_stack t ready.include_stack most) opens)
 
   -- a branch of the innermost conditional comes to its test, by the name that it is given
@@ -361,8 +355,7 @@ module _ {S R : Type 0} (g : Ghosts S R) (old new : EngineView S R) (ready : IsR
     inner_steps (MeetsNone alone wrong) becomes = absurd (cc)
     inner_steps (MeetsOwn own) becomes = absurd own.turns
     inner_steps (MeetsInner n o os is_open below skips same) becomes =
-        let is = begins_moves d held _ _ branch_begins in
-        directive_word_steps d (suc n) (suc n) o os is_open below skips is.0 is.1 (branching_passes (run_rules g old) d n o _ (given_branches d held a given)) branch_word
+        directive_word_steps d (suc n) (suc n) o os is_open below skips (begins_token d held _ _ branch_begins) (branching_passes (run_rules g old) d n o _ (given_branches d held a given)) branch_word
         (becomes ∙ ap (λ (k : Option ℕ). goes_past (record old.conditions { skipped = k }) (length (word_of d)) old) skips)
 
     -- of the innermost conditional, it goes by its test
@@ -375,7 +368,7 @@ module _ {S R : Type 0} (g : Ghosts S R) (old new : EngineView S R) (ready : IsR
         steps d _ _ result (in_branch own.live own.conditional around) _ branch_begins
         (place_inside (inner_below old.files.include_stack) old.conditions own.live own.conditional own.around own.is_open own.within own.skips)
         (turning_by (run_rules g old) d (given_by held a) _ _ _ own.live own.conditional around here (given_branches d held a given) ∙ ap (λ (y : Test). by_move y (λ t. Moves [] (next t) here)) (turns _ here refl ∙ is _ refl))
-        (does_test old new x _ result _ next here owns
+        (does_test g old new x _ result _ next here owns
         (λ t. lands_turned old.limits old.table.macros old.conditions (given_len d a) own.conditional own.around own.is_open old.files.include_stack d t ready.include_stack own.within) does)
 
     -- it is refused
@@ -645,7 +638,7 @@ module _ {S R : Type 0} (g : Ghosts S R) (old new : EngineView S R) (ready : IsR
     opening_steps defined v is counts becomes =
         let one : s.count + 1 ≡ suc s.count = omega arith in
         let word = wants_word (opening_word defined) (opening_wants (opening_word defined) (opening_opens defined)) in
-        directive_word_steps g old new ready bounded some plain (opening_word defined) s.count (suc s.count) s.conditional s.around s.is_open s.below s.skips word (opening_moves defined)
+        directive_word_steps g old new ready bounded some plain (opening_word defined) s.count (suc s.count) s.conditional s.around s.is_open s.below s.skips word
         (opening_passes (run_rules g old) defined s.count s.conditional _) is
         (becomes ∙ ap (λ (x : ConditionsView). goes_past x (length (word_of (opening_word defined))) old) (counts ∙ ap (λ (n : ℕ). with_count n old.conditions) one))
 

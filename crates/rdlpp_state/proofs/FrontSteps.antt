@@ -287,6 +287,17 @@ reading_define old new more some is held = grind (arith, define_begins, append_a
 pub read_nothing : {S R : Type 0} {g : Ghosts S R} (e : EngineView S R) → IsRead g e e
 read_nothing {S} {R} {g} e = grind (arith, same_include_stack, slides-same)
 
+-- only the sources changed
+pub read_sources : {S R : Type 0} (g : Ghosts S R) (old mid : EngineView S R) → mid ≡ record old { sources = mid.sources } → IsRead g old mid
+read_sources {S} {R} g old mid becomes =
+    let files : mid.files ≡ old.files = ap (λ e. e.files) becomes in
+    let nothing : IsRead g old old = read_nothing old in
+    record {
+      becomes = becomes ∙ ap (λ (fs : FilesView R). record old { files = fs; sources = mid.sources }) (sym files);
+      only = subst (λ (fs : FilesView R). fs ≡ record old.files { include_stack = with_buffer (inner_buffer fs.include_stack) old.files.include_stack }) (sym files) nothing.only;
+      moves = subst (λ (fs : FilesView R). Slides (g.has_known_texts old.sources) ⊥ g.unread (inner_buffer old.files.include_stack) (inner_buffer fs.include_stack)) (sym files) nothing.moves;
+    }
+
 -- text that is copied is lent
 pub take_text : {S R : Type 0} (g : Ghosts S R) (old mid new : EngineView S R) (len lines from to : ℕ) (next : Mode) → IsReady old → old.conditions.skipped ≡ None → IsBounded new
     → 0 < length (held_of (inner_buffer old.files.include_stack)) → IsText (inner_buffer old.files.include_stack).mode (held_of (inner_buffer old.files.include_stack)) len next

@@ -33,7 +33,7 @@ use Rattle.rdlpp_read.proofs.BufferTokens.{ends_mid_line_after-append}
 use Rattle.rdlpp_front.specs.SourceItems.{IsDirective, IsRefused, IsText, IsUsage, usage_name}
 use Rattle.rdlpp_front.specs.SourceLeft.{HoldsFront, source_left, with_file_buffer}
 use Rattle.rdlpp_front.proofs.DirectivesLeft.{skipped_broken_left}
-use Rattle.rdlpp_front.proofs.TextLeft.{broken_left, define_cut_left, define_long_left, define_moves, ended_left, filled_left, held_left, holds_define, refused_left, text_left as text_law, undefined_left}
+use Rattle.rdlpp_front.proofs.TextLeft.{broken_left, define_cut_left, define_long_left, define_moves, ended_left, file_moves, filled_left, held_left, holds_define, refused_left, text_left as text_law, undefined_left}
 use Rattle.rdlpp_state.specs.OpenConditionals.{AreBelow, AreConditions, inner_below, outer_open}
 use Rattle.rdlpp_state.specs.Remaining.{ending_after, file_state, include_stack_left, include_stack_state, waiting_around}
 
@@ -302,14 +302,14 @@ module _ {R : Type 0} (limits : Limits) (rules : Rules) (unread : R → List ℕ
             let place = Live (own_conditions f.conditions_below v) in
             let s = include_stack_state limits macros v (f ∷ outer) in
             source_left rules unread (around f outer) place f s
-            ≡ moves_on (define_move d c place s) f.buffer.line s (λ p u. source_left rules unread (around f outer) p (consumed_file len lines (with_file_buffer new f)) u))
+            ≡ file_moves rules unread (around f outer) (define_move d c place s) f.buffer.line s (consumed_file len lines (with_file_buffer new f)))
         unfolding include_stack_state file_state move_of single_move
         include_stack_define f outer new len lines d h plain define holds counted is =
             let c : Command = record { word = Define; given = None; text = take len (held_of new); line = f.buffer.line; first = f.blanks } in
             let place = Live (own_conditions f.conditions_below v) in
             let s = include_stack_state limits macros v (f ∷ outer) in
             define_moves rules unread (around f outer) place f s has_known_texts new len lines holds t plain (holds_define unread f h define) counted
-            ∙ ap (λ (x : Defined). moves_on (define_move x c place s) f.buffer.line s (λ p u. source_left rules unread (around f outer) p (consumed_file len lines (with_file_buffer new f)) u)) is
+            ∙ ap (λ (x : Defined). file_moves rules unread (around f outer) (define_move x c place s) f.buffer.line s (consumed_file len lines (with_file_buffer new f))) is
 
         -- a `define` that is accepted
         pub include_stack_defined : (include_stack : List (File R)) (new : BufferView R) (len lines : ℕ) (now : List Macro) → 0 < length (held_of (inner_buffer include_stack)) → EndsHeld (inner_buffer include_stack)
@@ -317,7 +317,7 @@ module _ {R : Type 0} (limits : Limits) (rules : Rules) (unread : R → List ℕ
             → rules.define macros (drop 7 (take len (held_of new))) ≡ Accepted now → lines ≡ line_ends (take len (held_of new))
             → include_stack_left limits rules unread macros v include_stack
             ≡ after_bytes (line_ends_of (take len (held_of new))) (include_stack_left limits rules unread now v (with_inner (consumed_file len lines) (with_buffer new include_stack)))
-        unfolding include_stack_state file_state define_move moves_on
+        unfolding include_stack_state file_state source_left define_move moves_on
         include_stack_defined [] new len lines now some ends plain define holds accepted counted = absurd (none_held R some)
         include_stack_defined (f ∷ outer) new len lines now some ends plain define holds accepted counted =
             let held = with_file_buffer new f in

@@ -1,27 +1,25 @@
 -- Sources that an `include` opens, and their end, as steps of the engine.
-use Rattle.std.proofs.Common.{◌≡◌, ℕ, suc, ◌-◌, ◌≤◌, ◌<◌, Bool, true, false, not, ◌||◌, ◌==◌, List, [], ◌∷◌, ◌++◌, length, take, drop, None, refl, sym, ap, ◌∙◌, arith, ◌+◌, Some, Result, Ok, Err, subst, ◌^◌, Option, inl, inr, IfSome, if◌then◌else◌, max, IsUtf8, length-drop}
+use Rattle.std.proofs.Common.{◌≡◌, ℕ, suc, ◌-◌, ◌≤◌, ◌<◌, Bool, true, false, ◌==◌, List, [], ◌∷◌, ◌++◌, length, take, drop, None, refl, sym, ap, ◌∙◌, arith, ◌+◌, Some, Result, Ok, Err, subst, ◌^◌, Option, inl, inr, IfSome, if◌then◌else◌, max, IsUtf8, length-drop}
 use Rattle.std.specs.Str.{is_utf8}
 use Rattle.std.proofs.lemmas.Bool.{or_right}
 use Rattle.std.proofs.lemmas.List.Elements.{All-head, All-same, All-tail}
 use Rattle.std.proofs.lemmas.Str.{IsUtf8-from_is_utf8}
-use Rattle.rdlpp_scan.specs.Bytes.{is_line_end}
 use Rattle.rdlpp_scan.specs.Front.{Breach}
-use Rattle.rdlpp_scan.specs.SourceTokens.{SourceToken, whole_tokens}
 use Rattle.rdlpp_scan.specs.declared.token.Directive.TheVariants.{Include}
 use Rattle.rdlpp_scan.specs.declared.token.Mode.{Mode}
 use Rattle.rdlpp_scan.specs.declared.token.Mode.TheVariants.{Plain}
 use Rattle.rdlpp_table.specs.Table.{Macro}
 use Rattle.rdlpp_table.specs.declared.limits.Limits.{Limits}
-use Rattle.rdlpp_meaning.specs.Meaning.{Passage, Progress, added_end, at_start_of, back_in, after_bytes, goes_on, leaves, origin_line, unquoted}
-use Rattle.rdlpp_meaning.specs.Opened.{Waiting, all_resumed, unwound}
-use Rattle.rdlpp_meaning.specs.Outcome.{Report, fails}
+use Rattle.rdlpp_meaning.specs.Meaning.{Passage, Progress, back_in, after_bytes, goes_on, origin_line, unquoted}
+use Rattle.rdlpp_meaning.specs.Moves.{Enters, Move, Stops, found_move, include_move, move_of, single_move}
+use Rattle.rdlpp_meaning.specs.Opened.{all_resumed, unwound}
+use Rattle.rdlpp_meaning.specs.Outcome.{Report}
 use Rattle.rdlpp_meaning.specs.Output.{start_state}
 use Rattle.rdlpp_meaning.specs.Profile.{rules_of}
 use Rattle.rdlpp_meaning.specs.Resumed.{Live, Place as OwnPlace, resumed}
-use Rattle.rdlpp_meaning.specs.State.{LongPath, NoSource, Rules, Source, State, breach_kind, fault_at, no_shift, shown_line}
+use Rattle.rdlpp_meaning.specs.State.{LongPath, NoSource, Rules, Source, State, breach_kind, fault_at, shown_line, Lookup}
 use Rattle.rdlpp_meaning.specs.declared.fault.FaultKind.{FaultKind}
 use Rattle.rdlpp_meaning.specs.declared.fault.FaultKind.TheVariants.{IncludeName, PathTooLong, ReadFailed, SourceMemory, SourceNotFound, TooManyIncludes}
-use Rattle.rdlpp_meaning.proofs.Directives.{added_end-in_line, in_line, line_end_if}
 use Rattle.rdlpp_source.specs.Counts.{Counts}
 use Rattle.rdlpp_source.specs.Sources.{Catalog, Finds, is_device, is_no_memory}
 use Rattle.rdlpp_source.specs.declared.sources.Found.{Found}
@@ -29,16 +27,17 @@ use Rattle.rdlpp_source.specs.declared.sources.SourceFault.{SourceFault}
 use Rattle.rdlpp_source.specs.declared.sources.SourceFault.TheVariants as source
 use Rattle.rdlpp_source.specs.declared.sources.Sources.{Ghosts}
 use Rattle.rdlpp_conditions.specs.Conditions.{ConditionsView, own_conditions, place_of}
-use Rattle.rdlpp_read.specs.Buffer.{BufferView, EndsHeld, Slides, ahead_of, held_of, opened_buffer, rest_of, text_left, tokens_left, unread_of, unused_of}
+use Rattle.rdlpp_read.specs.Buffer.{BufferView, held_of, tokens_left}
 use Rattle.rdlpp_read.specs.Files.{AreOpen, FilesView, IsSlot, consumed_file, entered_file, inner_buffer, shift_of, ends_mid_line_after, with_buffer, with_inner}
 use Rattle.rdlpp_read.specs.Filling.{Fills, ended_tokens, only_broken}
 use Rattle.rdlpp_read.specs.declared.buffer.filling.Fill.TheVariants as fill
 use Rattle.rdlpp_read.specs.declared.files.File.{File}
 use Rattle.rdlpp_read.proofs.BufferTokens.{ended-text}
-use Rattle.rdlpp_front.specs.SourceItems.{HasString, LacksString, include_name, word_of}
-use Rattle.rdlpp_front.specs.SourceLeft.{source_left}
+use Rattle.rdlpp_front.specs.SourceItems.{HasString, LacksString, include_name, word_of, argument_name}
+use Rattle.rdlpp_front.specs.SourceLeft.{source_left, HoldsFront}
 use Rattle.rdlpp_front.proofs.TextLeft.{ended_left}
-use Rattle.rdlpp_front.proofs.DirectivesLeft.{include_absent_left, include_bad_left, include_deep_left, include_left, include_nameless_left, include_overlong_left, waiting_file}
+use Rattle.rdlpp_front.proofs.DirectivesLeft.{include_word, no_string_in_front_of, string_in_front_of}
+use Rattle.rdlpp_front.proofs.NamedDirectives.{GivenInFront}
 use Rattle.rdlpp_state.specs.Calls.{SourcesCalled}
 use Rattle.rdlpp_state.specs.Conditionals.{unclosed_fault}
 use Rattle.rdlpp_state.specs.Engine.{AreIncluded, EngineView}
@@ -49,49 +48,25 @@ use Rattle.rdlpp_state.specs.Moves.{Closes, Ends, IsReady, Returns, StopsOpen, S
 use Rattle.rdlpp_state.specs.OpenConditionals.{inner_below, outer_open}
 use Rattle.rdlpp_state.specs.Pending.{PendingView, nothing_pending, origin_pending, origin_pieces, pending_bytes, pending_pieces}
 use Rattle.rdlpp_state.specs.Pieces.{IsPlaced, lent_answer, step_answer}
-use Rattle.rdlpp_state.specs.Positions.{AfterSource, Unmarked}
+use Rattle.rdlpp_state.specs.Positions.{AfterSource}
 use Rattle.rdlpp_state.specs.Remaining.{ending_after, file_state, find_of, inner_name, lookup_of, include_stack_left, include_stack_state, run_rules, source_rules, state_of, waiting_around}
 use Rattle.rdlpp_state.specs.Standing.{InSources, Nowhere}
 use Rattle.rdlpp_state.specs.Steps.{IsOwn, OnSearch, UncutStep, is_call_failed, is_memory_kind, is_read_failed, is_write_failed}
 use Rattle.rdlpp_state.specs.declared.phase.Phase.TheVariants.{Closed}
 use Rattle.rdlpp_state.specs.declared.place.PieceLocation.{PieceLocation}
 use Rattle.rdlpp_state.specs.declared.place.PieceLocation.TheVariants.{End, Fault, Pending, Source as SourcePlace, Text}
-use Rattle.rdlpp_state.proofs.IncludeStackLeft.{around, at_live, conditions_live, inner_below-same, live_place, include_stack_ended, include_stack_open, none_held, ends_mid_line_consumed, waiting_same}
+use Rattle.rdlpp_state.proofs.IncludeStackLeft.{around, conditions_live, inner_below-same, live_place, include_stack_ended, include_stack_open}
 use Rattle.rdlpp_state.proofs.EngineSteps.{kept_at, not_called, walks_end, walks_stopped}
-use Rattle.rdlpp_state.proofs.FrontSteps.{Fails, IsRead, keeps_fault, keeps_files, keeps_moves, kept_text, left_by, lends_by, read_nothing, read_text, refuses, refuses_by, text_drained}
-use Rattle.rdlpp_state.proofs.Stores.{KeepsStores, keeps_searched, own_kind, parts_around, parts_entered}
-use Rattle.rdlpp_state.proofs.LentPieces.{pending_few, pending_origin, pending_ends_mid_line}
+use Rattle.rdlpp_state.proofs.FrontSteps.{Fails, IsRead, keeps_fault, keeps_files, keeps_moves, kept_text, left_by, lends_by, read_text, refuses, refuses_by, text_drained, read_sources}
+use Rattle.rdlpp_state.proofs.Stores.{KeepsStores, keeps_searched, own_kind, parts_around}
+use Rattle.rdlpp_state.proofs.LentPieces.{pending_few, pending_ends_mid_line}
 use Rattle.rdlpp_state.proofs.SkippedStacks.{unclosed_at}
 use Rattle.rdlpp_state.proofs.Soundness.{inner_facts, with_inner-length}
-use Rattle.rdlpp_state.proofs.WorkFacts.{entered_falls, left_falls, used_bytes}
+use Rattle.rdlpp_state.proofs.WorkFacts.{left_falls}
+use Rattle.rdlpp_state.proofs.StackMoves.{Comes, all_own, front_command, front_moves, none_own}
+use Rattle.rdlpp_state.proofs.DirectiveMoves.{Does, does_step}
 
 -- Sources that are included, in the open ones: where one is opened, and where it ends.
-
--- whether a text ends in mid-line, by its bytes
-ends_mid_line_is : (ends_mid_line : Bool) (bs : List ℕ) → ends_mid_line_after ends_mid_line bs ≡ in_line ends_mid_line bs
-unfolding ends_mid_line_after in_line
-ends_mid_line_is ends_mid_line [] = refl
-ends_mid_line_is ends_mid_line (b ∷ bs) = ends_mid_line_is (not (is_line_end b)) bs
-
--- the LF that is added behind a text
-added_by : (text : List ℕ) → (if ends_mid_line_after false text then 10 ∷ [] else []) ≡ added_end text
-unfolding line_end_if
-added_by text = ap (λ (t : Bool). if t then 10 ∷ [] else []) (ends_mid_line_is false text) ∙ sym (added_end-in_line text)
-
--- none of what is open is around all of it
-all_own : (os : List Progress) (n : ℕ) → n ≡ length os → outer_open n os ≡ os
-unfolding outer_open
-all_own os n whole = let none : length os - n ≡ 0 = omega arith in ap (λ k. drop k os) none
-
-none_own : (v : ConditionsView) (n : ℕ) → n ≡ length v.open_now → own_conditions n v ≡ []
-unfolding own_conditions
-none_own v n whole = let none : length v.open_now - n ≡ 0 = omega arith in ap (λ k. take k v.open_now) none
-
--- the macros of a source that waits don't count
-macros_free : (rules : Rules) (ws : List Waiting) (a b : Waiting) (place : OwnPlace) (first : Bool) (ts : List SourceToken) (s : State) (macros : List Macro)
-    → a ≡ record b { state = record b.state { macros = macros } } → all_resumed rules (a ∷ ws) place first ts s ≡ all_resumed rules (b ∷ ws) place first ts s
-unfolding all_resumed unwound back_in
-macros_free rules ws a b place first ts s macros same = rw same refl
 
 module _ {R : Type 0} (limits : Limits) (rules : Rules) (unread : R → List ℕ) (macros : List Macro) (v : ConditionsView) (live : v.skipped ≡ None) where
   -- where an included source has ended, the one around it goes on
@@ -120,148 +95,6 @@ module _ {R : Type 0} (limits : Limits) (rules : Rules) (unread : R → List ℕ
       ∙ (ended_left rules unread ws f s has_known_texts new fills t plain
       ∙ unwinds f g outer os (all_own v.open_now f.conditions_below own))
 
-  -- a source as it is included: nothing of it is read, and the conditionals that are open are around it
-  abbrev pub included_file : Found R → File R → File R
-  included_file found f = entered_file found limits.source_bytes limits.line_bytes (length v.open_now) f.buffer.line
-
-  -- the source around it waits
-  waits_as : (f : File R) (outer : List (File R)) (found : Found R) (stop : ℕ)
-      → let s = include_stack_state limits macros v (f ∷ outer) in
-      let g = consumed_file stop 0 f in
-      let w : Waiting = record {
-        open_conditionals = own_conditions f.conditions_below v;
-        first = g.blanks;
-        tokens = tokens_left unread g.buffer;
-        state = file_state limits [] (length v.open_now) (length outer) g;
-        ending = ending_after rules unread (included_file found f) g;
-      } in
-      waiting_file rules unread (own_conditions f.conditions_below v) stop f s (unread found.reader) ≡ record w { state = record w.state { macros = macros } }
-  unfolding include_stack_state file_state ending_after text_left held_of rest_of ahead_of unread_of opened_buffer
-  waits_as f outer found stop =
-      let s = include_stack_state limits macros v (f ∷ outer) in
-      let g = consumed_file stop 0 f in
-      let makes : List ℕ → Waiting = λ x. record {
-        open_conditionals = own_conditions f.conditions_below v;
-        first = g.blanks;
-        tokens = tokens_left unread g.buffer;
-        state = s;
-        ending = x ++ origin_line rules f.name.bytes (shown_line (shift_of f.shift) f.buffer.line);
-      } in
-      ap makes (sym (added_by (unread found.reader)))
-
-  -- the state at the beginning of an included source
-  starts_as : (f : File R) (outer : List (File R)) (found : Found R) (stop : ℕ)
-      → at_start_of found.path.bytes (include_stack_state limits macros v (f ∷ outer)) ≡ include_stack_state limits macros v (included_file found f ∷ consumed_file stop 0 f ∷ outer)
-  unfolding at_start_of include_stack_state file_state no_shift
-  starts_as f outer found stop =
-      let s = include_stack_state limits macros v (f ∷ outer) in
-      let makes : ℕ → State = λ n. record s { path = found.path.bytes; name = found.path.bytes; shift = no_shift; sources_left = n } in
-      let less : limits.includes - length outer - 1 ≡ limits.includes - suc (length outer) = omega arith in
-      ap makes less
-
-  -- what remains of it, and then of those around it
-  begins : (f : File R) (outer : List (File R)) (found : Found R) (stop : ℕ)
-      → rules.tokens (unread found.reader) ≡ whole_tokens limits.line_bytes limits.source_bytes (unread found.reader)
-      → let s = include_stack_state limits macros v (f ∷ outer) in
-      all_resumed rules (waiting_file rules unread (own_conditions f.conditions_below v) stop f s (unread found.reader) ∷ around limits rules unread macros v f outer)
-      (Live []) true (rules.tokens (unread found.reader)) (at_start_of found.path.bytes s)
-      ≡ include_stack_left limits rules unread macros v (included_file found f ∷ consumed_file stop 0 f ∷ outer)
-  unfolding include_stack_left source_left waiting_around tokens_left held_of rest_of ahead_of unread_of opened_buffer whole_tokens own_conditions
-  begins f outer found stop tokens =
-      let s = include_stack_state limits macros v (f ∷ outer) in
-      let g = consumed_file stop 0 f in
-      let text = unread found.reader in
-      let n = length v.open_now in
-      let ws = around limits rules unread macros v f outer in
-      let w : Waiting = record {
-        open_conditionals = own_conditions f.conditions_below v;
-        first = g.blanks;
-        tokens = tokens_left unread g.buffer;
-        state = file_state limits [] n (length outer) g;
-        ending = ending_after rules unread (included_file found f) g;
-      } in
-      let all : List Waiting → OwnPlace → List SourceToken → State → Passage = λ us here ts u. all_resumed rules us here true ts u in
-      let whole = whole_tokens limits.line_bytes limits.source_bytes text in
-      let after = include_stack_state limits macros v (included_file found f ∷ g ∷ outer) in
-      let place : place_of n v ≡ Live [] = live_place n v live ∙ ap Live (none_own v n refl) in
-      let inner : List Progress → List Waiting = λ os. waiting_around limits rules unread os (included_file found f) (g ∷ outer) in
-      macros_free rules ws _ w (Live []) true (rules.tokens text) (at_start_of found.path.bytes s) macros (waits_as f outer found stop)
-      ∙ (ap (λ (us : List Waiting). all (w ∷ us) (Live []) (rules.tokens text) (at_start_of found.path.bytes s)) (sym (waiting_same limits rules unread (outer_open f.conditions_below v.open_now) f g outer (ends_mid_line_consumed unread f stop 0) refl))
-      ∙ (ap (λ (ts : List SourceToken). all (inner v.open_now) (Live []) ts (at_start_of found.path.bytes s)) tokens
-      ∙ (ap (λ (u : State). all (inner v.open_now) (Live []) whole u) (starts_as f outer found stop)
-      ∙ (ap (λ (here : OwnPlace). all (inner v.open_now) here whole after) (sym place)
-      ∙ ap (λ (os : List Progress). all (inner os) (place_of n v) whole after) (sym (all_own v.open_now n refl))))))
-
-  -- an `include` that finds a source: its origin line, where asked for, and then what remains with that source open inside of the others
-  pub include_stack_included : (f : File R) (outer : List (File R)) (found : Found R) (start stop k : ℕ) → 0 < length (held_of f.buffer) → EndsHeld f.buffer → f.buffer.mode ≡ Plain
-      → HasString (held_of f.buffer) start stop
-      → (length (include_name (held_of f.buffer) start stop) == 0 || not (is_utf8 (include_name (held_of f.buffer) start stop))) ≡ false
-      → limits.includes - length outer ≡ suc k
-      → rules.find f.path.bytes (include_name (held_of f.buffer) start stop) ≡ Source found.path.bytes (unread found.reader)
-      → rules.tokens (unread found.reader) ≡ whole_tokens limits.line_bytes limits.source_bytes (unread found.reader)
-      → include_stack_left limits rules unread macros v (f ∷ outer)
-      ≡ after_bytes (origin_line rules found.path.bytes 1) (include_stack_left limits rules unread macros v (included_file found f ∷ consumed_file stop 0 f ∷ outer))
-  unfolding include_stack_state file_state
-  include_stack_included f outer found start stop k some ends plain has named left finds tokens =
-      let s = include_stack_state limits macros v (f ∷ outer) in
-      at_live limits rules unread macros v live f outer _
-      (include_left rules unread (around limits rules unread macros v f outer) (own_conditions f.conditions_below v) f s
-      (record { some = some; ends = ends }) plain start stop has k found.path.bytes (unread found.reader) named left finds
-      ∙ ap (after_bytes (origin_line rules found.path.bytes 1)) (begins f outer found stop tokens))
-
-  module _ (f : File R) (outer : List (File R)) (some : 0 < length (held_of f.buffer)) (ends : EndsHeld f.buffer) (plain : f.buffer.mode ≡ Plain) where
-    -- an `include` behind which no string stands that closes on its line is a fault
-    pub include_stack_include_nameless : LacksString (held_of f.buffer)
-        → let s = include_stack_state limits macros v (f ∷ outer) in include_stack_left limits rules unread macros v (f ∷ outer) ≡ leaves (fails (fault_at IncludeName f.buffer.line [] s)) s
-    include_stack_include_nameless lacks =
-        let s = include_stack_state limits macros v (f ∷ outer) in
-        at_live limits rules unread macros v live f outer _
-        (include_nameless_left rules unread (around limits rules unread macros v f outer) (own_conditions f.conditions_below v) f s
-        (record { some = some; ends = ends }) plain lacks)
-
-    module _ (start stop : ℕ) (has : HasString (held_of f.buffer) start stop) where
-      -- so is one of an empty name, or of one that isn't UTF-8
-      pub include_stack_include_bad : (length (include_name (held_of f.buffer) start stop) == 0 || not (is_utf8 (include_name (held_of f.buffer) start stop))) ≡ true
-          → let s = include_stack_state limits macros v (f ∷ outer) in include_stack_left limits rules unread macros v (f ∷ outer) ≡ leaves (fails (fault_at IncludeName f.buffer.line [] s)) s
-      include_stack_include_bad name =
-          let s = include_stack_state limits macros v (f ∷ outer) in
-          at_live limits rules unread macros v live f outer _
-          (include_bad_left rules unread (around limits rules unread macros v f outer) (own_conditions f.conditions_below v) f s
-          (record { some = some; ends = ends }) plain start stop has name)
-
-      module _ (name : (length (include_name (held_of f.buffer) start stop) == 0 || not (is_utf8 (include_name (held_of f.buffer) start stop))) ≡ false) where
-        -- where no more sources may be opened, it is a fault, and nothing is searched for
-        pub include_stack_include_deep : limits.includes ≤ length outer
-            → let s = include_stack_state limits macros v (f ∷ outer) in include_stack_left limits rules unread macros v (f ∷ outer) ≡ leaves (fails (fault_at TooManyIncludes f.buffer.line [] s)) s
-        unfolding include_stack_state file_state
-        include_stack_include_deep full =
-            let s = include_stack_state limits macros v (f ∷ outer) in
-            at_live limits rules unread macros v live f outer _
-            (include_deep_left rules unread (around limits rules unread macros v f outer) (own_conditions f.conditions_below v) f s
-            (record { some = some; ends = ends }) plain start stop has name (omega arith))
-
-        -- where the search finds nothing, it is a fault
-        pub include_stack_include_absent : length outer < limits.includes → rules.find f.path.bytes (include_name (held_of f.buffer) start stop) ≡ NoSource
-            → let s = include_stack_state limits macros v (f ∷ outer) in include_stack_left limits rules unread macros v (f ∷ outer) ≡ leaves (fails (fault_at SourceNotFound f.buffer.line [] s)) s
-        unfolding include_stack_state file_state
-        include_stack_include_absent room finds =
-            let s = include_stack_state limits macros v (f ∷ outer) in
-            let left : limits.includes - length outer ≡ suc (limits.includes - length outer - 1) = omega arith in
-            at_live limits rules unread macros v live f outer _
-            (include_absent_left rules unread (around limits rules unread macros v f outer) (own_conditions f.conditions_below v) f s
-            (record { some = some; ends = ends }) plain start stop has (limits.includes - length outer - 1) name left finds)
-
-        -- and so where it comes to a path that is too long
-        pub include_stack_include_overlong : length outer < limits.includes → rules.find f.path.bytes (include_name (held_of f.buffer) start stop) ≡ LongPath
-            → let s = include_stack_state limits macros v (f ∷ outer) in include_stack_left limits rules unread macros v (f ∷ outer) ≡ leaves (fails (fault_at PathTooLong f.buffer.line [] s)) s
-        unfolding include_stack_state file_state
-        include_stack_include_overlong room finds =
-            let s = include_stack_state limits macros v (f ∷ outer) in
-            let left : limits.includes - length outer ≡ suc (limits.includes - length outer - 1) = omega arith in
-            at_live limits rules unread macros v live f outer _
-            (include_overlong_left rules unread (around limits rules unread macros v f outer) (own_conditions f.conditions_below v) f s
-            (record { some = some; ends = ends }) plain start stop has (limits.includes - length outer - 1) name left finds)
-
 -- An `include`, as steps of the engine: the source that it opens, or its fault.
 
 -- an `include` with its string
@@ -274,75 +107,51 @@ string_inside held start stop has =
     let inside : n + has.to ≤ length held = omega (arith, given.inside, given.some, length-drop n held) in
     (omega (arith, given.some), omega arith)
 
--- what remains of the open sources at an `include`
-module _ {R : Type 0} (limits : Limits) (rules : Rules) (unread : R → List ℕ) (macros : List Macro) (v : ConditionsView) (live : v.skipped ≡ None) where
-  -- a fault at the line of the next byte
-  abbrev Refused : FaultKind → List (File R) → Type 0
-  Refused kind include_stack =
-      include_stack_left limits rules unread macros v include_stack ≡ leaves (fails (fault_at kind (inner_buffer include_stack).line [] (include_stack_state limits macros v include_stack))) (include_stack_state limits macros v include_stack)
+-- the state of the innermost source
+room_here : {R : Type 0} (limits : Limits) (macros : List Macro) (v : ConditionsView) (include_stack : List (File R)) → 0 < length include_stack
+    → (include_stack_state limits macros v include_stack).sources_left ≡ limits.includes + 1 - length include_stack
+unfolding include_stack_state file_state
+room_here limits macros v [] some = absurd (omega arith)
+room_here limits macros v (f ∷ outer) some = omega arith
 
-  refused_nameless : (include_stack : List (File R)) → 0 < length (held_of (inner_buffer include_stack)) → EndsHeld (inner_buffer include_stack) → (inner_buffer include_stack).mode ≡ Plain → LacksString (held_of (inner_buffer include_stack)) → Refused IncludeName include_stack
-  refused_nameless [] some ends plain lacks = absurd (none_held R some)
-  refused_nameless (f ∷ outer) some ends plain lacks = include_stack_include_nameless limits rules unread macros v live f outer some ends plain lacks
+path_here : {R : Type 0} (limits : Limits) (macros : List Macro) (v : ConditionsView) (include_stack : List (File R)) → (include_stack_state limits macros v include_stack).path ≡ inner_path include_stack
+unfolding include_stack_state file_state start_state
+path_here limits macros v [] = refl
+path_here limits macros v (f ∷ outer) = refl
 
-  refused_bad : (include_stack : List (File R)) (start stop : ℕ) → 0 < length (held_of (inner_buffer include_stack)) → EndsHeld (inner_buffer include_stack) → (inner_buffer include_stack).mode ≡ Plain → HasString (held_of (inner_buffer include_stack)) start stop
-      → is_bad_name (include_name (held_of (inner_buffer include_stack)) start stop) ≡ true → Refused IncludeName include_stack
-  refused_bad [] start stop some ends plain has bad = absurd (none_held R some)
-  refused_bad (f ∷ outer) start stop some ends plain has bad = include_stack_include_bad limits rules unread macros v live f outer some ends plain start stop has bad
+-- it is the same where bytes are used
+same_used : {R : Type 0} (limits : Limits) (macros : List Macro) (v : ConditionsView) (include_stack : List (File R)) (len : ℕ)
+    → include_stack_state limits macros v include_stack ≡ include_stack_state limits macros v (with_inner (consumed_file len 0) include_stack)
+unfolding include_stack_state file_state
+same_used limits macros v [] len = refl
+same_used limits macros v (f ∷ outer) len = refl
 
-  refused_full : (include_stack : List (File R)) (start stop : ℕ) → 0 < length (held_of (inner_buffer include_stack)) → EndsHeld (inner_buffer include_stack) → (inner_buffer include_stack).mode ≡ Plain → HasString (held_of (inner_buffer include_stack)) start stop
-      → is_bad_name (include_name (held_of (inner_buffer include_stack)) start stop) ≡ false → limits.includes + 1 ≤ length include_stack → Refused TooManyIncludes include_stack
-  refused_full [] start stop some ends plain has good full = absurd (none_held R some)
-  refused_full (f ∷ outer) start stop some ends plain has good full =
-      include_stack_include_deep limits rules unread macros v live f outer some ends plain start stop has good (omega arith)
+-- an `include` in live text, by what it is given
+module _ {S R : Type 0} (g : Ghosts S R) (e : EngineView S R) (ready : IsReady e) (live : e.conditions.skipped ≡ None) (some : 0 < length (held_of (inner_buffer e.files.include_stack)))
+    (plain : (inner_buffer e.files.include_stack).mode ≡ Plain) where
+  abbrev own : List Progress
+  own = own_conditions (inner_below e.files.include_stack) e.conditions
 
-  refused_absent : (include_stack : List (File R)) (start stop : ℕ) → 0 < length (held_of (inner_buffer include_stack)) → EndsHeld (inner_buffer include_stack) → (inner_buffer include_stack).mode ≡ Plain → HasString (held_of (inner_buffer include_stack)) start stop
-      → is_bad_name (include_name (held_of (inner_buffer include_stack)) start stop) ≡ false → length include_stack < limits.includes + 1
-      → rules.find (inner_path include_stack) (include_name (held_of (inner_buffer include_stack)) start stop) ≡ NoSource → Refused SourceNotFound include_stack
-  refused_absent [] start stop some ends plain has good room finds = absurd (none_held R some)
-  refused_absent (f ∷ outer) start stop some ends plain has good room finds =
-      include_stack_include_absent limits rules unread macros v live f outer some ends plain start stop has good (omega arith) finds
+  abbrev here : State
+  here = include_stack_state e.limits e.table.macros e.conditions e.files.include_stack
 
-  refused_overlong : (include_stack : List (File R)) (start stop : ℕ) → 0 < length (held_of (inner_buffer include_stack)) → EndsHeld (inner_buffer include_stack) → (inner_buffer include_stack).mode ≡ Plain → HasString (held_of (inner_buffer include_stack)) start stop
-      → is_bad_name (include_name (held_of (inner_buffer include_stack)) start stop) ≡ false → length include_stack < limits.includes + 1
-      → rules.find (inner_path include_stack) (include_name (held_of (inner_buffer include_stack)) start stop) ≡ LongPath → Refused PathTooLong include_stack
-  refused_overlong [] start stop some ends plain has good room finds = absurd (none_held R some)
-  refused_overlong (f ∷ outer) start stop some ends plain has good room finds =
-      include_stack_include_overlong limits rules unread macros v live f outer some ends plain start stop has good (omega arith) finds
+  abbrev front : HoldsFront (inner_buffer e.files.include_stack)
+  front = record { some = some; ends = (inner_facts e.files ready.include_stack ready.files).ends }
 
-  -- a source that is found is open inside of the others
-  opened_inside : (include_stack : List (File R)) (found : Found R) (start stop line_bytes : ℕ) → 0 < length (held_of (inner_buffer include_stack)) → EndsHeld (inner_buffer include_stack) → (inner_buffer include_stack).mode ≡ Plain
-      → HasString (held_of (inner_buffer include_stack)) start stop → is_bad_name (include_name (held_of (inner_buffer include_stack)) start stop) ≡ false → length include_stack < limits.includes + 1
-      → rules.find (inner_path include_stack) (include_name (held_of (inner_buffer include_stack)) start stop) ≡ Source found.path.bytes (unread found.reader)
-      → rules.tokens (unread found.reader) ≡ whole_tokens limits.line_bytes limits.source_bytes (unread found.reader)
-      → line_bytes ≡ limits.line_bytes
-      → include_stack_left limits rules unread macros v include_stack
-      ≡ after_bytes (origin_line rules found.path.bytes 1)
-      (include_stack_left limits rules unread macros v (entered_file found limits.source_bytes line_bytes (length v.open_now) (inner_buffer include_stack).line ∷ with_inner (consumed_file stop 0) include_stack))
-  opened_inside [] found start stop line_bytes some ends plain has good room finds tokens size = absurd (none_held R some)
-  opened_inside (f ∷ outer) found start stop line_bytes some ends plain has good room finds tokens size =
-      let left : limits.includes - length outer ≡ suc (limits.includes - length outer - 1) = omega arith in
-      let rest : ℕ → List (File R) = λ n. entered_file found limits.source_bytes n (length v.open_now) f.buffer.line ∷ consumed_file stop 0 f ∷ outer in
-      include_stack_included limits rules unread macros v live f outer found start stop (limits.includes - length outer - 1) some ends plain has good left finds tokens
-      ∙ ap (λ (n : ℕ). after_bytes (origin_line rules found.path.bytes 1) (include_stack_left limits rules unread macros v (rest n))) (sym size)
+  include_comes : (given : Option (List ℕ)) (len : ℕ) (m : Move) → GivenInFront Include g.unread (inner_buffer e.files.include_stack) given len → include_move (run_rules g e) given own here ≡ m
+      → Comes e.limits (run_rules g e) g.unread e.table.macros e.conditions e.files.include_stack (with_inner (consumed_file len 0) e.files.include_stack) m
+  unfolding move_of single_move
+  include_comes given len m i is =
+      let rules = run_rules g e in
+      subst (Comes e.limits rules g.unread e.table.macros e.conditions e.files.include_stack (with_inner (consumed_file len 0) e.files.include_stack))
+      (ap (λ (p : OwnPlace). move_of rules (front_command e.limits rules g.unread e.table.macros e.conditions Include given len e.files.include_stack) p here) (live_place (inner_below e.files.include_stack) e.conditions live) ∙ is)
+      (front_moves e.limits rules g.unread e.table.macros e.conditions e.files.include_stack Include given len (record { some = some; ends = front.ends; plain = plain }) include_word i)
 
--- only the sources changed
-pub read_sources : {S R : Type 0} (g : Ghosts S R) (old mid : EngineView S R) → mid ≡ record old { sources = mid.sources } → IsRead g old mid
-read_sources {S} {R} g old mid becomes =
-    let files : mid.files ≡ old.files = ap (λ e. e.files) becomes in
-    let nothing : IsRead g old old = read_nothing old in
-    record {
-      becomes = becomes ∙ ap (λ (fs : FilesView R). record old { files = fs; sources = mid.sources }) (sym files);
-      only = subst (λ (fs : FilesView R). fs ≡ record old.files { include_stack = with_buffer (inner_buffer fs.include_stack) old.files.include_stack }) (sym files) nothing.only;
-      moves = subst (λ (fs : FilesView R). Slides (g.has_known_texts old.sources) ⊥ g.unread (inner_buffer old.files.include_stack) (inner_buffer fs.include_stack)) (sym files) nothing.moves;
-    }
-
--- an `include` behind which no string stands that closes on its line
-pub left_nameless_include : {S R : Type 0} (g : Ghosts S R) (e : EngineView S R) → IsReady e → e.conditions.skipped ≡ None → 0 < length (held_of (inner_buffer e.files.include_stack)) → (inner_buffer e.files.include_stack).mode ≡ Plain
-    → LacksString (held_of (inner_buffer e.files.include_stack)) → Fails g e IncludeName (inner_buffer e.files.include_stack).line []
-unfolding state_of
-left_nameless_include g e ready live some plain lacks =
-    refused_nameless e.limits (run_rules g e) g.unread e.table.macros e.conditions live e.files.include_stack some (inner_facts e.files ready.include_stack ready.files).ends plain lacks
+  -- behind which no string stands that closes on its line
+  pub left_nameless_include : LacksString (held_of (inner_buffer e.files.include_stack)) → Fails g e IncludeName (inner_buffer e.files.include_stack).line []
+  unfolding state_of include_move
+  left_nameless_include lacks =
+      include_comes None (length (word_of Include)) (Stops IncludeName []) (no_string_in_front_of g.unread (inner_buffer e.files.include_stack) front plain lacks) refl
 
 -- an `include` whose string is given, behind the search for what it names
 module _ {S R : Type 0} (g : Ghosts S R) (old mid new : EngineView S R) (start stop : ℕ) (ready : IsReady old) (live : old.conditions.skipped ≡ None) (some : 0 < length (held_of (inner_buffer old.files.include_stack)))
@@ -358,12 +167,45 @@ module _ {S R : Type 0} (g : Ghosts S R) (old mid new : EngineView S R) (start s
   abbrev KeepsKind : FaultKind → Type 0
   KeepsKind kind = new ≡ record mid { kept = Some (fault_at kind (inner_buffer mid.files.include_stack).line [] (state_of mid)) }
 
+  -- what it comes to
+  abbrev comes_to : Move
+  comes_to = include_move (run_rules g old) (Some (argument_name (held_of (inner_buffer old.files.include_stack)) start stop)) (own g old ready live some plain) (here g old ready live some plain)
+
+  bad_comes : is_bad_name name_of ≡ true → comes_to ≡ Stops IncludeName []
+  unfolding include_move
+  bad_comes bad = rw bad refl
+
+  named_comes : (n : ℕ) (found : Lookup) → is_bad_name name_of ≡ false → old.limits.includes + 1 - length old.files.include_stack ≡ n → (run_rules g old).find (inner_path old.files.include_stack) name_of ≡ found
+      → comes_to ≡ found_move (run_rules g old) n found (own g old ready live some plain)
+  unfolding include_move
+  named_comes n found good room finds =
+      let rules = run_rules g old in
+      let os = own g old ready live some plain in
+      let s = here g old ready live some plain in
+      ap (λ (b : Bool). if b then Stops IncludeName [] else found_move rules s.sources_left (rules.find s.path name_of) os) good
+      ∙ ap (λ (k : ℕ). found_move rules k (rules.find s.path name_of) os) (room_here old.limits old.table.macros old.conditions old.files.include_stack ready.include_stack ∙ room)
+      ∙ ap (λ (x : Lookup). found_move rules n x os) (ap (λ (p : List ℕ). rules.find p name_of) (path_here old.limits old.table.macros old.conditions old.files.include_stack) ∙ finds)
+
+  -- where a search is made
+  searched_comes : (answer : Result (Found R) SourceFault) (found : Lookup) → Searches g old name_of mid.sources answer → (run_rules g old).find (inner_path old.files.include_stack) name_of ≡ found
+      → comes_to ≡ found_move (run_rules g old) (suc (old.limits.includes - length old.files.include_stack)) found (own g old ready live some plain)
+  searched_comes answer found s finds =
+      let room = s.room in
+      let slots = ready.sound.slots in
+      named_comes (suc (old.limits.includes - length old.files.include_stack)) found s.name_good (omega arith) finds
+
+  -- an engine that does what it comes to
+  steps : (result : Option PieceLocation) (m : Move) → SourcesCalled g false false old.sources mid.sources → (g.has_known_texts old.sources → comes_to ≡ m) → Does g stop old mid new result m → UncutStep g old new (step_answer new result)
+  steps result m call comes does =
+      let within = string_inside (held_of (inner_buffer old.files.include_stack)) start stop has in
+      does_step g old mid new ready bounded becomes call stop result m (omega (arith, within.0), within.1)
+      (λ t. include_comes g old ready live some plain (Some (argument_name (held_of (inner_buffer old.files.include_stack)) start stop)) stop m
+      (string_in_front_of g.unread (inner_buffer old.files.include_stack) (front g old ready live some plain) plain start stop has) (comes t)) does
+
   -- the text has a fault
   refuse_steps : (place : PieceLocation) → place ≡ Fault → (kind : FaultKind) → IsOwn kind → SourcesCalled g false false old.sources mid.sources → KeepsKind kind
-      → (g.has_known_texts old.sources → Fails g old kind (inner_buffer old.files.include_stack).line []) → UncutStep g old new (lent_answer new place)
-  refuse_steps place is kind own call kept law =
-      let keeps : FilesView R → EngineView S R = λ fs. record mid { kept = Some (fault_at kind (inner_buffer fs.include_stack).line [] (state_of mid)) } in
-      refuses g old mid new place kind (inner_buffer old.files.include_stack).line [] ready (read_sources g old mid becomes) bounded is (kept ∙ ap keeps same_files) own call law
+      → (g.has_known_texts old.sources → comes_to ≡ Stops kind []) → UncutStep g old new (lent_answer new place)
+  refuse_steps place is kind owns call kept comes = steps (Some place) (Stops kind []) call comes (ap Some is, kept, owns)
 
   -- the search failed
   stopped_steps : (place : PieceLocation) → place ≡ Fault → (kind : FaultKind) → is_call_failed kind ≡ true → is_write_failed kind ≡ false → SourcesCalled g (is_read_failed kind) (is_memory_kind kind) old.sources mid.sources
@@ -393,62 +235,46 @@ module _ {S R : Type 0} (g : Ghosts S R) (old mid new : EngineView S R) (start s
 
   -- what is found is what the rules find
   finds_as : (fault : SourceFault) → Searches g old name_of mid.sources (Err fault) → (place : PieceLocation) → place ≡ Fault → KeepsKind (kind_of_source fault) → UncutStep g old new (lent_answer new place)
-  unfolding kind_of_source is_call_failed is_read_failed is_write_failed is_memory_kind source_rules rules_of find_of lookup_of state_of
-  finds_as source.Absent s place is kept =
-      let room = s.room in
-      let slots = ready.sound.slots in
-      refuse_steps place is SourceNotFound (own_kind _ refl) s.call kept
-      (λ t. refused_absent old.limits (run_rules g old) g.unread old.table.macros old.conditions live old.files.include_stack start stop some (inner_facts old.files ready.include_stack ready.files).ends plain has s.name_good (omega arith)
-      (ap lookup_of (s.answers t)))
-  finds_as source.PathTooLong s place is kept =
-      let room = s.room in
-      let slots = ready.sound.slots in
-      refuse_steps place is PathTooLong (own_kind _ refl) s.call kept
-      (λ t. refused_overlong old.limits (run_rules g old) g.unread old.table.macros old.conditions live old.files.include_stack start stop some (inner_facts old.files ready.include_stack ready.files).ends plain has s.name_good (omega arith)
-      (ap lookup_of (s.answers t)))
+  unfolding kind_of_source is_call_failed is_read_failed is_write_failed is_memory_kind source_rules rules_of find_of lookup_of found_move
+  finds_as source.Absent s place is kept = refuse_steps place is SourceNotFound (own_kind _ refl) s.call kept (λ t. searched_comes (Err source.Absent) NoSource s (ap lookup_of (s.answers t)))
+  finds_as source.PathTooLong s place is kept = refuse_steps place is PathTooLong (own_kind _ refl) s.call kept (λ t. searched_comes (Err source.PathTooLong) LongPath s (ap lookup_of (s.answers t)))
   finds_as source.Device s place is kept = stopped_steps place is ReadFailed refl refl s.call kept s.name_good s.room
   finds_as source.NoMemory s place is kept = stopped_steps place is SourceMemory refl refl s.call kept s.name_good s.room
 
   -- nothing is opened
   pub denied_steps : (place : PieceLocation) (kind : FaultKind) → place ≡ Fault → Denies g old name_of mid.sources kind → KeepsKind kind → UncutStep g old new (lent_answer new place)
-  unfolding state_of
+  unfolding found_move
   denied_steps place kind is (BadName bad named same) kept =
       refuse_steps place is IncludeName (own_kind _ refl) (subst (λ (s : S). SourcesCalled g false false old.sources s) (sym same) (not_called g old.sources)) (subst KeepsKind named kept)
-      (λ t. refused_bad old.limits (run_rules g old) g.unread old.table.macros old.conditions live old.files.include_stack start stop some (inner_facts old.files ready.include_stack ready.files).ends plain has bad)
+      (λ t. bad_comes bad)
   denied_steps place kind is (Full good full named same) kept =
       let slots = ready.sound.slots in
       refuse_steps place is TooManyIncludes (own_kind _ refl) (subst (λ (s : S). SourcesCalled g false false old.sources s) (sym same) (not_called g old.sources)) (subst KeepsKind named kept)
-      (λ t. refused_full old.limits (run_rules g old) g.unread old.table.macros old.conditions live old.files.include_stack start stop some (inner_facts old.files ready.include_stack ready.files).ends plain has good (omega arith))
+      (λ t. named_comes 0 _ good (omega arith) refl)
   denied_steps place kind is (SearchFault fault named s) kept = finds_as fault s place is (subst KeepsKind named kept)
 
   -- a source is opened
   pub entered_steps : (found : Found R) → Searches g old name_of mid.sources (Ok found) → new ≡ included_engine found stop mid → UncutStep g old new (step_answer new None)
-  unfolding included_engine after_bytes source_rules rules_of find_of lookup_of unused_of opened_buffer
+  unfolding source_rules rules_of find_of lookup_of found_move
   entered_steps found s enters =
-      let room = s.room in
-      let slots = ready.sound.slots in
-      let inner = inner_facts old.files ready.include_stack ready.files in
-      let within = string_inside (held_of (inner_buffer old.files.include_stack)) start stop has in
-      let range = ready.sound.in_range.source_bytes.1 in
-      let line = (inner_buffer old.files.include_stack).line in
-      let used = with_inner (consumed_file stop 0) old.files.include_stack in
-      let file = entered_file found old.limits.source_bytes old.files.line_bytes (length old.conditions.open_now) line in
-      let pending : PendingView = record { line_ends = 0; origin = origin_pending old.origins 1 } in
-      let after : EngineView S R = record old { pending = pending; files = record old.files { include_stack = file ∷ used }; sources = mid.sources } in
-      let is : new ≡ after = enters ∙ ap (included_engine found stop) becomes in
-      subst (λ (e : EngineView S R). UncutStep g old e (Ok (Some []))) (sym is)
-      (lends_by g old ready [] pending old.marks old.table.macros old.conditions (file ∷ used) mid.sources (subst IsBounded is bounded)
-      (entered_falls old after refl ready.idle ready.idle (record {
-        inner = file;
-        used = used;
-        becomes = refl;
-        some = used_bytes old.files.include_stack stop 0 (omega (arith, within.0)) within.1;
-        small = omega arith;
-      }) (omega arith) (pending_few old.origins 0 1 (omega arith))) s.call
-      (λ t. opened_inside old.limits (run_rules g old) g.unread old.table.macros old.conditions live old.files.include_stack found start stop old.files.line_bytes some inner.ends plain has s.name_good (omega arith)
-      (ap lookup_of (s.answers t)) refl ready.sound.line_bytes
-      ∙ ap (λ (x : List ℕ). after_bytes x (left_by g old old.table.macros old.conditions (file ∷ used))) (sym (pending_origin (g.catalog old.sources) old.limits old.origins found.path.bytes 1)))
-      (λ t. parts_entered g.unread (g.catalog old.sources) found stop old.limits.source_bytes old.files.line_bytes (length old.conditions.open_now) line name_of old.files.include_stack ready.include_stack (s.answers t)) (Nowhere refl (InSources ready.idle refl (Unmarked refl))))
+      steps None (Enters (origin_line (run_rules g old) found.path.bytes 1) (own g old ready live some plain) found.path.bytes (g.unread found.reader)) s.call
+      (λ t. searched_comes (Ok found) (Source found.path.bytes (g.unread found.reader)) s (ap lookup_of (s.answers t)))
+      (record {
+        done = refl;
+        name = name_of;
+        found = found;
+        searches = s;
+        writes = refl;
+        admits = record {
+          live = live;
+          own = refl;
+          path_is = refl;
+          text_is = refl;
+          tokens = refl;
+          same = same_used old.limits old.table.macros old.conditions old.files.include_stack stop;
+        };
+        becomes = enters;
+      })
 
 -- a search that was made
 pub searches_by : {S R : Type 0} (g : Ghosts S R) (e : EngineView S R) (from given name : List ℕ) (new : S) (answer : Result (Found R) SourceFault) → given ≡ name → from ≡ inner_path e.files.include_stack

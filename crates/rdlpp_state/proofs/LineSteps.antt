@@ -24,7 +24,7 @@ use Rattle.rdlpp_read.specs.declared.files.File.{File}
 use Rattle.rdlpp_read.proofs.Growing.{line_ends_le}
 use Rattle.rdlpp_front.specs.SourceItems.{IsDirective}
 use Rattle.rdlpp_front.specs.SourceLeft.{HoldsFront, source_left}
-use Rattle.rdlpp_front.proofs.TextLeft.{given_text, line_moves, line_right_after, line_text}
+use Rattle.rdlpp_front.proofs.TextLeft.{file_moves, given_text, line_moves, line_right_after, line_text}
 use Rattle.rdlpp_state.specs.Engine.{EngineView, IsSoundEngine}
 use Rattle.rdlpp_state.specs.Held.{IsBounded}
 use Rattle.rdlpp_state.specs.Lines.{Renumbers, inner_blanks, renumbered_file}
@@ -60,11 +60,11 @@ line_comes : {R : Type 0} (rules : Rules) (unread : R → List ℕ) (ws : List W
     → (let c : Command = record { word = Line; given = None; text = line_text (held_of f.buffer); line = f.buffer.line; first = f.blanks } in
     line_move rules (renumbered (drop 5 (line_text (held_of f.buffer)))) c (Live os) s ≡ m)
     → source_left rules unread ws (Live os) f s
-    ≡ moves_on m f.buffer.line s (λ p u. source_left rules unread ws p (consumed_file (line_len (held_of f.buffer)) (line_ends (line_text (held_of f.buffer))) f) u)
+    ≡ file_moves rules unread ws m f.buffer.line s (consumed_file (line_len (held_of f.buffer)) (line_ends (line_text (held_of f.buffer))) f)
 unfolding move_of single_move
 line_comes rules unread ws os f s m holds plain is comes =
     line_moves rules unread ws (Live os) f s holds plain is
-    ∙ ap (λ (x : Move). moves_on x f.buffer.line s (λ p u. source_left rules unread ws p (consumed_file (line_len (held_of f.buffer)) (line_ends (line_text (held_of f.buffer))) f) u)) comes
+    ∙ ap (λ (x : Move). file_moves rules unread ws x f.buffer.line s (consumed_file (line_len (held_of f.buffer)) (line_ends (line_text (held_of f.buffer))) f)) comes
 
 module _ {R : Type 0} (limits : Limits) (rules : Rules) (unread : R → List ℕ) (macros : List Macro) (v : ConditionsView) (live : v.skipped ≡ None) where
   -- a `line` that is given a number and a name

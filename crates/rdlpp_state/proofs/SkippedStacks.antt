@@ -469,7 +469,7 @@ module _ {R : Type 0} (limits : Limits) (rules : Rules) (unread : R → List ℕ
   pub passes_line : (include_stack : List (File R)) (len lines : ℕ) → IsHeldFront include_stack → (inner_buffer include_stack).mode ≡ Plain → inner_below include_stack ≤ length os → IsDirective Line (held_of (inner_buffer include_stack))
       → len ≡ line_len (held_of (inner_buffer include_stack)) → lines ≡ line_ends (take len (held_of (inner_buffer include_stack)))
       → IncludeStackPasses include_stack (take len (held_of (inner_buffer include_stack))) (with_inner (consumed_file len lines) include_stack)
-  unfolding include_stack_state file_state move_of single_move skipped_move moves_on
+  unfolding include_stack_state file_state source_left move_of single_move skipped_move moves_on
   passes_line [] len lines h plain below is whole counted = absurd (none_held R h.some)
   passes_line (f ∷ outer) len lines h plain below is whole counted = grind (arith, moved_skipped, line_moves, holds_front, ends_mid_line_consumed)
 
@@ -478,7 +478,7 @@ module _ {R : Type 0} (limits : Limits) (rules : Rules) (unread : R → List ℕ
     pub passes_define : (include_stack : List (File R)) (new : BufferView R) (len lines : ℕ) → IsHeldFront include_stack → (inner_buffer include_stack).mode ≡ Plain → inner_below include_stack ≤ length os
         → IsDirective Define (held_of (inner_buffer include_stack)) → HoldsLine has_known_texts unread (line.Whole len) (inner_buffer include_stack) new → lines ≡ line_ends (take len (held_of new))
         → IncludeStackPasses include_stack (take len (held_of new)) (with_inner (consumed_file len lines) (with_buffer new include_stack))
-    unfolding include_stack_state file_state move_of single_move skipped_move moves_on
+    unfolding include_stack_state file_state source_left move_of single_move skipped_move moves_on
     passes_define [] new len lines h plain below is holds counted = absurd (none_held R h.some)
     passes_define (f ∷ outer) new len lines h plain below is holds counted =
         let held = with_file_buffer new f in
