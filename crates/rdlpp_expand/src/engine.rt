@@ -363,11 +363,8 @@ impl<S: Sources> Engine<S> {
                 self.take_held()
             }
             Fill::End => self.end(),
-            Fill::SourceLong => Some(self.record_fault(
-                FaultKind::SourceTooLong,
-                ArrayString::new(),
-            )),
-            Fill::LineLong => Some(self.record_fault(FaultKind::LineTooLong, ArrayString::new())),
+            Fill::SourceLong => Some(self.record_fault(FaultKind::SourceTooLong)),
+            Fill::LineLong => Some(self.record_fault(FaultKind::LineTooLong)),
             Fill::Failed => Some(self.record_read_fault()),
         }
     }
@@ -394,7 +391,7 @@ impl<S: Sources> Engine<S> {
             SourceItem::Endif => self.take_endif(),
             SourceItem::Include(argument) => self.take_include(argument),
             SourceItem::Line => self.take_line(),
-            SourceItem::Refused(kind) => Some(self.record_fault(kind, ArrayString::new())),
+            SourceItem::Refused(kind) => Some(self.record_fault(kind)),
         }
     }
 
@@ -414,14 +411,8 @@ impl<S: Sources> Engine<S> {
                 self.facts();
                 self.read_define(len)
             }
-            LogicalLine::TooLong => Some(self.record_fault(
-                FaultKind::LineTooLong,
-                ArrayString::new(),
-            )),
-            LogicalLine::SourceLong => Some(self.record_fault(
-                FaultKind::SourceTooLong,
-                ArrayString::new(),
-            )),
+            LogicalLine::TooLong => Some(self.record_fault(FaultKind::LineTooLong)),
+            LogicalLine::SourceLong => Some(self.record_fault(FaultKind::SourceTooLong)),
             LogicalLine::Failed => Some(self.record_read_fault()),
         }
     }
@@ -442,7 +433,7 @@ impl<S: Sources> Engine<S> {
         let line = &file.buffer.held()[..len];
         let lines = line_ends_in(line);
         match self.table.read_define(&line[len.min(DEFINE_BYTES)..]) {
-            Err(fault) => Some(self.record_fault(fault_kind(fault.kind), fault.word)),
+            Err(fault) => Some(self.record_word_fault(fault_kind(fault.kind), fault.word)),
             Ok(()) => {
                 let _count = self.table.len();
                 self.taken = len;
@@ -485,12 +476,12 @@ impl<S: Sources> Engine<S> {
         ensures { LooksAtName argument self.old self.new result }
     {
         match argument {
-            None => Err(self.record_fault(FaultKind::NameExpected, ArrayString::new())),
+            None => Err(self.record_fault(FaultKind::NameExpected)),
             Some(given) => {
                 let name = &self.files.file().buffer.held()[given.start..given.stop];
                 if reserved(name).is_some() {
                     let word = word_of(name);
-                    return Err(self.record_fault(FaultKind::ReservedName, word));
+                    return Err(self.record_word_fault(FaultKind::ReservedName, word));
                 }
                 Ok(given)
             }
@@ -612,8 +603,20 @@ impl<S: Sources> Engine<S> {
         self.files.enter_mode(next);
     }
 
-    // Keeps a fault at the line of the next byte.
-    fn record_fault(&mut self, kind: FaultKind, word: ArrayString<128>) -> PieceLocation
+    // Keeps a fault without a word, at the line of the next byte. It stands apart, so that no step clears room for the word of a fault
+    // that seldom comes.
+    #[cold]
+    #[inline(never)]
+    fn record_fault(&mut self, kind: FaultKind) -> PieceLocation
+        requires { 0 < length self.old.files.include_stack }
+        ensures place { result ≡ PieceLocation.Fault }
+        ensures kept { self.new ≡ record self.old { kept = Some (fault_at kind (inner_buffer self.old.files.include_stack).line [] (state_of self.old)) } }
+    {
+        self.record_word_fault(kind, ArrayString::new())
+    }
+
+    // Keeps a fault with its word, at the line of the next byte.
+    fn record_word_fault(&mut self, kind: FaultKind, word: ArrayString<128>) -> PieceLocation
         requires { 0 < length self.old.files.include_stack }
         ensures place { result ≡ PieceLocation.Fault }
         ensures kept { self.new ≡ record self.old { kept = Some (fault_at kind (inner_buffer self.old.files.include_stack).line word.bytes (state_of self.old)) } }

@@ -15,7 +15,6 @@ ghost use Rattle.rdlpp_state.specs.Steps.{UncutStep};
 
 use super::Engine;
 use super::words::{ELSE_BYTES, ELSIF_BYTES, ENDIF_BYTES};
-use arrayvec::ArrayString;
 use rdlpp_conditions::Branch;
 use rdlpp_front::Argument;
 use rdlpp_meaning::FaultKind;
@@ -60,7 +59,7 @@ impl<S: Sources> Engine<S> {
         let file = self.files.file();
         let line = file.shift.shown_line(file.buffer.line());
         match self.conditions.open(line, holds) {
-            Err(kind) => Some(self.record_fault(kind, ArrayString::new())),
+            Err(kind) => Some(self.record_fault(kind)),
             Ok(()) => {
                 self.consume(len, 0);
                 None
@@ -88,7 +87,7 @@ impl<S: Sources> Engine<S> {
                 self.consume(branch_len(word, None), 0);
                 None
             }
-            Branch::Refused(kind) => Some(self.record_fault(kind, ArrayString::new())),
+            Branch::Refused(kind) => Some(self.record_fault(kind)),
             Branch::Decided(holds) => {
                 self.turn(word, holds, branch_len(word, argument));
                 None
@@ -141,7 +140,7 @@ impl<S: Sources> Engine<S> {
     {
         let below = self.files.file().conditions_below;
         match self.conditions.close(below) {
-            Err(kind) => Some(self.record_fault(kind, ArrayString::new())),
+            Err(kind) => Some(self.record_fault(kind)),
             Ok(()) => {
                 self.consume(ENDIF_BYTES, 0);
                 None

@@ -14,7 +14,6 @@ ghost use Rattle.rdlpp_state.specs.Steps.{UncutStep};
 
 use super::Engine;
 use super::opening::source_kind;
-use arrayvec::ArrayString;
 use rdlpp_front::Argument;
 use rdlpp_meaning::FaultKind;
 use rdlpp_scan::Mode;
@@ -34,7 +33,7 @@ impl<S: Sources> Engine<S> {
         ensures uncut_step { IsBounded self.new → UncutStep S.Sources self.old self.new (step_answer self.new result) }
     {
         match argument {
-            None => Some(self.record_fault(FaultKind::IncludeName, ArrayString::new())),
+            None => Some(self.record_fault(FaultKind::IncludeName)),
             Some(Argument { start, stop }) => self.include(start, stop),
         }
     }
@@ -54,7 +53,7 @@ impl<S: Sources> Engine<S> {
                 self.enter(found, stop);
                 None
             }
-            Err(kind) => Some(self.record_fault(kind, ArrayString::new())),
+            Err(kind) => Some(self.record_fault(kind)),
         }
     }
 

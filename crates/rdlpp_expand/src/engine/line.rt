@@ -35,10 +35,10 @@ impl<S: Sources> Engine<S> {
     {
         let file = self.files.file();
         if !file.blanks {
-            return Some(self.record_fault(FaultKind::BadLine, ArrayString::new()));
+            return Some(self.record_fault(FaultKind::BadLine));
         }
         match line_argument(file.buffer.held()) {
-            None => Some(self.record_fault(FaultKind::BadLine, ArrayString::new())),
+            None => Some(self.record_fault(FaultKind::BadLine)),
             Some(given) => {
                 self.renumber(given);
                 None

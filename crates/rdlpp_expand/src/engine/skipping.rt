@@ -13,7 +13,6 @@ ghost use Rattle.rdlpp_state.specs.Steps.{UncutStep};
 
 use super::Engine;
 use super::words::{IFDEF_BYTES, IFNDEF_BYTES, INCLUDE_BYTES, UNDEF_BYTES};
-use arrayvec::ArrayString;
 use rdlpp_conditions::skip_text;
 use rdlpp_front::{SourceItem, next_item};
 use rdlpp_meaning::FaultKind;
@@ -92,7 +91,7 @@ impl<S: Sources> Engine<S> {
         ensures uncut_step { IsBounded self.new → UncutStep S.Sources self.old self.new (step_answer self.new result) }
     {
         match kind {
-            FaultKind::EmbeddedPerl => Some(self.record_fault(kind, ArrayString::new())),
+            FaultKind::EmbeddedPerl => Some(self.record_fault(kind)),
             _ => self.skip_word(1),
         }
     }
@@ -144,14 +143,8 @@ impl<S: Sources> Engine<S> {
                 self.pass(len, lines);
                 None
             }
-            LogicalLine::TooLong => Some(self.record_fault(
-                FaultKind::LineTooLong,
-                ArrayString::new(),
-            )),
-            LogicalLine::SourceLong => Some(self.record_fault(
-                FaultKind::SourceTooLong,
-                ArrayString::new(),
-            )),
+            LogicalLine::TooLong => Some(self.record_fault(FaultKind::LineTooLong)),
+            LogicalLine::SourceLong => Some(self.record_fault(FaultKind::SourceTooLong)),
             LogicalLine::Failed => Some(self.record_read_fault()),
         }
     }

@@ -54,7 +54,7 @@ impl<S: Sources> Engine<S> {
         ensures { self.new ≡ record self.old { kept = Some (fault_at FaultKind.UndefinedMacro (inner_buffer self.old.files.include_stack).line (usage_name (held_of (inner_buffer self.old.files.include_stack)) len) (state_of self.old)) } }
     {
         let word = word_of(name_of(self.files.file().buffer.held(), len));
-        let _fault = self.record_fault(FaultKind::UndefinedMacro, word);
+        let _fault = self.record_word_fault(FaultKind::UndefinedMacro, word);
     }
 
     // Keeps that a usage of a macro, at a physical line of the innermost source, is refused.

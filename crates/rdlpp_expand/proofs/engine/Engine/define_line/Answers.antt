@@ -38,7 +38,7 @@ returns-in-TooLong-clause-uncut_step g c = λ bounded.
     let e = c.in-TooLong.ensures in
     let r : IsRead g.S.Sources c.args.self.now c.hold_line.new.self = record { becomes = e.becomes; only = e.only; moves = slid _ _ _ _ _ e.holds.slides } in
     refuses g.S.Sources c.args.self.now c.hold_line.new.self c.record_fault.new.self c.record_fault.result fault.LineTooLong _ [] c.requires.ready r bounded c.record_fault.ensures.place
-    (rw c.new.ensures at c.record_fault.ensures.kept) (own_kind _ refl) (called g.S.Sources false _ _ e.call)
+    c.record_fault.ensures.kept (own_kind _ refl) (called g.S.Sources false _ _ e.call)
     (λ t. left_long_define g.S.Sources c.args.self.now c.hold_line.new.self c.requires.ready t c.requires.live c.requires.some c.requires.mode c.requires.define e.holds)
 
 pub returns-in-SourceLong-clause-uncut_step : goal.returns-in-SourceLong-clause-uncut_step
@@ -46,7 +46,7 @@ returns-in-SourceLong-clause-uncut_step g c = λ bounded.
     let e = c.in-SourceLong.ensures in
     let r : IsRead g.S.Sources c.args.self.now c.hold_line.new.self = record { becomes = e.becomes; only = e.only; moves = slid _ _ _ _ _ e.holds.slides } in
     refuses g.S.Sources c.args.self.now c.hold_line.new.self c.record_fault-in-SourceLong.new.self c.record_fault-in-SourceLong.result fault.SourceTooLong _ [] c.requires.ready r bounded c.record_fault-in-SourceLong.ensures.place
-    (rw c.new-in-SourceLong.ensures at c.record_fault-in-SourceLong.ensures.kept) (own_kind _ refl) (called g.S.Sources false _ _ e.call)
+    c.record_fault-in-SourceLong.ensures.kept (own_kind _ refl) (called g.S.Sources false _ _ e.call)
     (λ t. left_cut_define g.S.Sources c.args.self.now c.hold_line.new.self c.requires.ready t c.requires.live c.requires.some c.requires.mode c.requires.define e.holds)
 
 pub returns-in-Failed-clause-uncut_step : goal.returns-in-Failed-clause-uncut_step

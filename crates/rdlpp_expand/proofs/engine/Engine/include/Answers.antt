@@ -9,4 +9,4 @@ returns-in-Ok-clause-uncut_step g c = λ bounded.
 pub returns-in-Err-clause-uncut_step : goal.returns-in-Err-clause-uncut_step
 returns-in-Err-clause-uncut_step g c = λ bounded.
     denied_steps g.S.Sources c.args.self.now c.seek.new.self c.record_fault.new.self c.args.start c.args.stop c.requires.ready c.requires.live c.requires.some c.requires.mode c.requires.include bounded
-    c.in-Err.ensures.becomes c.record_fault.result c.in-Err.kind c.record_fault.ensures.place c.in-Err.ensures.sought (rw c.new.ensures at c.record_fault.ensures.kept)
+    c.in-Err.ensures.becomes c.record_fault.result c.in-Err.kind c.record_fault.ensures.place c.in-Err.ensures.sought c.record_fault.ensures.kept

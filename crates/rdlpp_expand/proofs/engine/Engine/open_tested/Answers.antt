@@ -28,7 +28,7 @@ returns-in-Err g c =
     let e = c.args.self.now in
     let opens : Opens {A = Unit {0}} (Err c.in-Err.kind) c.shown_line-line.result c.args.holds e.conditions c.open.new.self = rw (← c.self.view_is) c.in-Err.ensures in
     let kept : c.record_fault.new.self ≡ record (record e { conditions = c.open.new.self }) { kept = Some (fault_at c.in-Err.kind (inner_buffer e.files.include_stack).line [] (state_of (record e { conditions = c.open.new.self }))) } =
-    rw (← c.self.view_is) (rw c.new.ensures at c.record_fault.ensures.kept) in
+    rw (← c.self.view_is) c.record_fault.ensures.kept in
     unopened_by {A = Unit {0}} c.in-Err.kind c.args.holds c.args.len c.shown_line-line.result e c.record_fault.new.self c.open.new.self c.record_fault.result opens c.record_fault.ensures.place kept
 
 pub returns-in-Ok : goal.returns-in-Ok

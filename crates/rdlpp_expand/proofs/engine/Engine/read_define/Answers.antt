@@ -35,11 +35,11 @@ returns-in-Err-clause-reads g c =
     let rest = after_word (take c.args.len c.held.result.now) c.args.len c.min.result wide c.min.ensures in
     let refused : define_of e.table.most_bytes e.table.most_macros e.table.macros (define_rest e c.args.len) ≡ DefinedFault c.in-Err.fault.kind c.in-Err.fault.word.bytes =
     rw (← c.self.view_is) (defined_same _ _ _ _ _ _ c.in-Err.ensures.outcome (rest ∙ ap (λ h. drop 7 (take c.args.len h)) inside)) in
-    reads_refused c.args.len e c.record_fault.new.self c.record_fault.result c.record_fault.ensures.place (record {
+    reads_refused c.args.len e c.record_word_fault.new.self c.record_word_fault.result c.record_word_fault.ensures.place (record {
       kind = c.in-Err.fault.kind;
       word = c.in-Err.fault.word.bytes;
       refused = refused;
-      becomes = rw (← c.self.view_is, ← c.fault_kind.ensures) (rw c.in-Err.ensures.refused at c.record_fault.ensures.kept);
+      becomes = rw (← c.self.view_is, ← c.fault_kind.ensures) (rw c.in-Err.ensures.refused at c.record_word_fault.ensures.kept);
     })
 
 pub returns-in-Ok-clause-reads : goal.returns-in-Ok-clause-reads

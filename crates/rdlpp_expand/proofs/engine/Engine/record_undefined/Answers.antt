@@ -24,4 +24,4 @@ returns g c =
     let e = c.args.self.now in
     let held : c.held.result.now ≡ held_of (inner_buffer e.files.include_stack) = c.held.ensures.value ∙ ap held_of (c.file.ensures.buffer ∙ ap (λ e. inner_buffer e.files.include_stack) c.self.view_is) in
     let word : c.word_of-word.result.bytes ≡ take 128 (usage_name (held_of (inner_buffer e.files.include_stack)) c.args.len) = c.word_of-word.ensures ∙ ap (take 128) (c.name_of.ensures ∙ ap (λ h. usage_name h c.args.len) held) in
-    kept_cut e c.record_fault-fault.new.self _ _ _ _ _ c.record_fault-fault.ensures.kept word
+    kept_cut e c.record_word_fault-fault.new.self _ _ _ _ _ c.record_word_fault-fault.ensures.kept word

@@ -55,7 +55,7 @@ returns-in-TooLong-clause-uncut_step g c = λ bounded.
     let e = c.in-TooLong.ensures in
     let r : IsRead g.S.Sources o c.hold_line.new.self = record { becomes = e.becomes; only = e.only; moves = slid _ _ _ _ _ e.holds.slides } in
     refuses g.S.Sources o c.hold_line.new.self c.record_fault.new.self c.record_fault.result fault.LineTooLong _ [] c.requires.ready r bounded c.record_fault.ensures.place
-    (rw c.new.ensures at c.record_fault.ensures.kept) (own_kind _ refl) (called g.S.Sources false _ _ e.call)
+    c.record_fault.ensures.kept (own_kind _ refl) (called g.S.Sources false _ _ e.call)
     (λ t. left_long g.S.Sources o c.record_fault.new.self c.requires.ready bounded c.requires.some (skipping o c.requires.ready c.requires.skipped) c.requires.mode c.requires.define c.hold_line.new.self r e.holds t)
 
 pub returns-in-SourceLong-clause-uncut_step : goal.returns-in-SourceLong-clause-uncut_step
@@ -64,7 +64,7 @@ returns-in-SourceLong-clause-uncut_step g c = λ bounded.
     let e = c.in-SourceLong.ensures in
     let r : IsRead g.S.Sources o c.hold_line.new.self = record { becomes = e.becomes; only = e.only; moves = slid _ _ _ _ _ e.holds.slides } in
     refuses g.S.Sources o c.hold_line.new.self c.record_fault-in-SourceLong.new.self c.record_fault-in-SourceLong.result fault.SourceTooLong _ [] c.requires.ready r bounded c.record_fault-in-SourceLong.ensures.place
-    (rw c.new-in-SourceLong.ensures at c.record_fault-in-SourceLong.ensures.kept) (own_kind _ refl) (called g.S.Sources false _ _ e.call)
+    c.record_fault-in-SourceLong.ensures.kept (own_kind _ refl) (called g.S.Sources false _ _ e.call)
     (λ t. left_cut g.S.Sources o c.record_fault-in-SourceLong.new.self c.requires.ready bounded c.requires.some (skipping o c.requires.ready c.requires.skipped) c.requires.mode c.requires.define c.hold_line.new.self r e.holds t)
 
 pub returns-in-Failed-clause-uncut_step : goal.returns-in-Failed-clause-uncut_step

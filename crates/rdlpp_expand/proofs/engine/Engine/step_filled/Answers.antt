@@ -29,14 +29,14 @@ pub returns-in-SourceLong-clause-uncut_step : goal.returns-in-SourceLong-clause-
 returns-in-SourceLong-clause-uncut_step g c = λ bounded.
     let r : IsRead g.S.Sources c.args.self.now c.fill.new.self = record { becomes = c.in-SourceLong.ensures.becomes; only = c.in-SourceLong.ensures.only; moves = slid _ _ _ _ _ c.in-SourceLong.ensures.fills.slides } in
     wider g.S.Sources 0 1 _ _ _ (omega arith) (refuses g.S.Sources c.args.self.now c.fill.new.self c.record_fault.new.self c.record_fault.result fault.SourceTooLong _ [] c.requires r bounded c.record_fault.ensures.place
-    (rw c.new.ensures at c.record_fault.ensures.kept) (own_kind _ refl) (called g.S.Sources false _ _ c.in-SourceLong.ensures.call)
+    c.record_fault.ensures.kept (own_kind _ refl) (called g.S.Sources false _ _ c.in-SourceLong.ensures.call)
     (λ t. left_long_source g.S.Sources c.args.self.now c.fill.new.self c.requires t c.in-SourceLong.ensures.fills))
 
 pub returns-in-LineLong-clause-uncut_step : goal.returns-in-LineLong-clause-uncut_step
 returns-in-LineLong-clause-uncut_step g c = λ bounded.
     let r : IsRead g.S.Sources c.args.self.now c.fill.new.self = record { becomes = c.in-LineLong.ensures.becomes; only = c.in-LineLong.ensures.only; moves = slid _ _ _ _ _ c.in-LineLong.ensures.fills.slides } in
     wider g.S.Sources 0 1 _ _ _ (omega arith) (refuses g.S.Sources c.args.self.now c.fill.new.self c.record_fault-in-LineLong.new.self c.record_fault-in-LineLong.result fault.LineTooLong _ [] c.requires r bounded c.record_fault-in-LineLong.ensures.place
-    (rw c.new-in-LineLong.ensures at c.record_fault-in-LineLong.ensures.kept) (own_kind _ refl) (called g.S.Sources false _ _ c.in-LineLong.ensures.call)
+    c.record_fault-in-LineLong.ensures.kept (own_kind _ refl) (called g.S.Sources false _ _ c.in-LineLong.ensures.call)
     (λ t. left_long_line g.S.Sources c.args.self.now c.fill.new.self c.requires t c.in-LineLong.ensures.fills))
 
 pub returns-in-Failed-clause-uncut_step : goal.returns-in-Failed-clause-uncut_step

@@ -24,7 +24,7 @@ returns-in-Err-clause-uncut_step g c = λ bounded.
     let e = c.args.self.now in
     let below : c.file.result.now.conditions_below ≡ inner_below c.args.self.now.files.include_stack = sym (ap inner_below c.file.ensures.inner) ∙ ap (λ e. inner_below e.files.include_stack) c.self.view_is in
     let kept : c.record_fault.new.self ≡ record (record e { conditions = c.close.new.self }) { kept = Some (fault_at c.in-Err.kind (inner_buffer e.files.include_stack).line [] (state_of (record e { conditions = c.close.new.self }))) } =
-    rw (← c.self.view_is) (rw c.new.ensures at c.record_fault.ensures.kept) in
+    rw (← c.self.view_is) c.record_fault.ensures.kept in
     end_refused g.S.Sources e c.record_fault.new.self c.requires.ready bounded c.requires.some c.requires.mode _ c.record_fault.result c.in-Err.kind c.close.new.self
     (ends_here {A = Unit {0}} (Err c.in-Err.kind) e c.close.new.self c.requires.ready c.file.result.now.conditions_below below
     (let h : Closes {A = Unit {0}} (place_of c.file.result.now.conditions_below e.conditions) (Err c.in-Err.kind) e.conditions c.close.new.self = rw (← c.self.view_is) c.in-Err.ensures in h)) c.requires.closing c.record_fault.ensures.place kept

@@ -10,5 +10,5 @@ pub returns-in-None-clause-uncut_step : goal.returns-in-None-clause-uncut_step
 returns-in-None-clause-uncut_step g c = λ bounded.
     let e = c.args.self.now in
     refuses g.S.Sources e e c.record_fault.new.self c.record_fault.result fault.IncludeName _ [] c.requires.ready (read_nothing e) bounded
-    c.record_fault.ensures.place (rw c.new.ensures at c.record_fault.ensures.kept) (own_kind _ refl) (not_called g.S.Sources e.sources)
+    c.record_fault.ensures.place c.record_fault.ensures.kept (own_kind _ refl) (not_called g.S.Sources e.sources)
     (λ t. left_nameless_include g.S.Sources e c.requires.ready c.requires.live c.requires.some c.requires.mode (rw c.in-None.is at c.requires.include))

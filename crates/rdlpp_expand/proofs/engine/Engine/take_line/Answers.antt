@@ -17,7 +17,7 @@ pub returns-then-not-file-clause-uncut_step : goal.returns-then-not-file-clause-
 returns-then-not-file-clause-uncut_step g c = λ bounded.
     let e = c.args.self.now in
     let late : inner_blanks e.files.include_stack ≡ false = ap inner_blanks (ap (λ e. e.files.include_stack) (sym c.self.view_is) ∙ c.file-file.ensures.inner) ∙ c.if-not-file.true in
-    refuses g.S.Sources e e c.record_fault.new.self c.record_fault.result fault.BadLine _ [] c.requires.ready (read_nothing e) bounded c.record_fault.ensures.place (rw c.new.ensures at c.record_fault.ensures.kept)
+    refuses g.S.Sources e e c.record_fault.new.self c.record_fault.result fault.BadLine _ [] c.requires.ready (read_nothing e) bounded c.record_fault.ensures.place c.record_fault.ensures.kept
     (own_kind _ refl) (not_called g.S.Sources e.sources)
     (λ t. left_late_line g.S.Sources e c.requires.ready c.requires.live c.requires.some c.requires.mode c.requires.line late)
 
@@ -35,7 +35,7 @@ returns-in-None-clause-uncut_step g c = λ bounded.
     let held : c.held.result.now ≡ held_of (inner_buffer e.files.include_stack) = c.held.ensures.value ∙ ap held_of (c.file-file.ensures.buffer ∙ ap (λ e. inner_buffer e.files.include_stack) c.self.view_is) in
     let bad = subst (λ (x : List ℕ). renumbered (take (line_len (drop 5 x)) (drop 5 x)) ≡ None) held c.in-None.ensures in
     refuses g.S.Sources e e c.record_fault-in-None.new.self c.record_fault-in-None.result fault.BadLine _ [] c.requires.ready (read_nothing e) bounded c.record_fault-in-None.ensures.place
-    (rw c.new-in-None.ensures at c.record_fault-in-None.ensures.kept) (own_kind _ refl) (not_called g.S.Sources e.sources)
+    c.record_fault-in-None.ensures.kept (own_kind _ refl) (not_called g.S.Sources e.sources)
     (λ t. left_bad_line g.S.Sources e c.requires.ready c.requires.live c.requires.some c.requires.mode c.requires.line bad)
 
 pub renumber-requires-clause-inside : goal.renumber-requires-clause-inside

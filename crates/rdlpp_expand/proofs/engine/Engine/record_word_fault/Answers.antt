@@ -3,7 +3,7 @@ use Rattle.rdlpp_meaning.specs.State.{fault_at}
 use Rattle.rdlpp_read.specs.Files.{inner_buffer}
 use Rattle.rdlpp_state.specs.Remaining.{state_of}
 use Rattle.rdlpp_state.proofs.Soundness.{inner_facts}
-use Rattle.rdlpp_expand.proofs.engine.Engine.record_fault.Goals as goal
+use Rattle.rdlpp_expand.proofs.engine.Engine.record_word_fault.Goals as goal
 
 pub record_fault_at-requires-clause-line : goal.record_fault_at-requires-clause-line
 record_fault_at-requires-clause-line g c =
