@@ -25,8 +25,6 @@ NUL_IN_NAME = "file name contained an unexpected NUL byte"
 PART = 4_194_304
 # The size from which on a file is read into the room of the output: a bytes object of that size is made of new pages each time.
 LARGE = 131_072
-# How much more is asked of a smaller one than its size, which files of /proc don't tell.
-MORE = 4_096
 
 # How a file is opened.
 HOW = os.O_RDONLY | os.O_CLOEXEC
@@ -119,8 +117,9 @@ class Disk:
         if not self.stays:
             self.file = (told.st_dev, told.st_ino)
             if told.st_size < LARGE:
-                text = os.read(file, told.st_size + MORE)
-                if not os.read(file, 1):
+                text = os.read(file, told.st_size + 1)
+                # as many as were told, and fewer than were asked for: there are no more
+                if len(text) == told.st_size != 0 or not os.read(file, 1):
                     return text
                 os.lseek(file, 0, os.SEEK_SET)
         return self._large_text(file, told.st_size, written)

@@ -406,21 +406,21 @@ class Files(Sources):
             self.assertEqual(rdlpp.preprocess("m"), b"")
 
     def test_a_file_that_fails_in_the_middle(self):
-        def failing(name):
-            """A read that fails at its second call, with what it stands for."""
+        def failing(name, at):
+            """A read that fails at a call of it, with what it stands for."""
             calls, call = [], getattr(os, name)
 
             def read(*given):
                 calls.append(given)
-                if len(calls) == 2:
+                if len(calls) == at:
                     raise OSError(errno.EIO, os.strerror(errno.EIO))
                 return call(*given)
 
             return mock.patch.object(_asked.os, name, read)
 
-        for name, text in (("read", b"x\n"), ("readv", b"x\n" * _asked.PART)):
+        for name, at, text in (("read", 1, b"x\n"), ("readv", 2, b"x\n" * _asked.PART)):
             self.write("m", text)
-            with failing(name):
+            with failing(name, at):
                 fault = self.fault("m")
             self.assertEqual((str(fault), fault.output), ("m:1: error F32: read failed", b""))
             self.assertEqual((fault.notes, fault.__cause__.errno), (("m: Input/output error (os error 5)",), errno.EIO))
