@@ -119,7 +119,7 @@ class Disk:
             if told.st_size < LARGE:
                 text = os.read(file, told.st_size + 1)
                 # as many as were told, and fewer than were asked for: there are no more
-                if len(text) == told.st_size != 0 or not os.read(file, 1):
+                if len(text) == told.st_size or not os.read(file, 1):
                     return text
                 os.lseek(file, 0, os.SEEK_SET)
         return self._large_text(file, told.st_size, written)

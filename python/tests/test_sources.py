@@ -418,9 +418,11 @@ class Files(Sources):
 
             return mock.patch.object(_asked.os, name, read)
 
-        for name, at, text in (("read", 1, b"x\n"), ("readv", 2, b"x\n" * _asked.PART)):
+        large = b"x\n" * _asked.PART
+        for name, at, size, text in (("read", 1, 2, b"x\n"), ("read", 2, 1, b"x\n"), ("readv", 2, len(large), large)):
             self.write("m", text)
-            with failing(name, at):
+            told = mock.Mock(st_size=size, st_mode=os.stat("m").st_mode)
+            with failing(name, at), mock.patch.object(_asked.os, "fstat", lambda file: told):
                 fault = self.fault("m")
             self.assertEqual((str(fault), fault.output), ("m:1: error F32: read failed", b""))
             self.assertEqual((fault.notes, fault.__cause__.errno), (("m: Input/output error (os error 5)",), errno.EIO))
