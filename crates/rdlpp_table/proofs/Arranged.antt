@@ -1,38 +1,566 @@
--- The list of an index: spare items, the places, and the offsets behind them, in one list.
-use Rattle.std.proofs.Common.{◌≡◌, ℕ, suc, ◌+◌, ◌-◌, ◌<◌, ◌≤◌, List, [], ◌∷◌, ◌++◌, length, get_or, set, length-append, map, take, drop, insert, remove, ap, sym, ◌∙◌, arith, append_assoc, append-nil, drop_at, refl, length-drop, length-take-le, take-append-drop, take_at, take-take}
-use Rattle.std.specs.List.{copy_within, remove_range}
-use Rattle.std.proofs.Math.Seq.{drop-cons}
-use Rattle.std.proofs.lemmas.List.{drop-append-le, drop-drop, length-map, nil_from_length, set_at, take-append-le}
-use Rattle.std.proofs.lemmas.List.Edits.{length-insert, length-remove}
+-- The list of an index: the places with slack behind those of each group, and the offsets behind all, in one list.
+use Rattle.std.proofs.Common.{◌≡◌, ℕ, zero, suc, ◌+◌, ◌-◌, ◌*◌, ◌/◌, ◌^◌, ◌<◌, ◌≤◌, List, [], ◌++◌, All, length, get_or, set, length-append, length-set, map, take, drop, insert, remove, ap, sym, subst, ◌∙◌, arith, inl, inr, refl, replicate, ◌≢◌, get_or-drop, get_or-take, length-drop, length-take-le, take-append-drop, take_at}
+use Rattle.std.specs.List.{copy_within, remove_range, slice_range}
+use Rattle.std.proofs.lemmas.Bool.{cases_lt, cond-false, cond-true, le-ltb, lt-ltb}
+use Rattle.std.proofs.lemmas.List.{drop-append-le, drop-drop, ext_get_or, get_or-append_right, get_or-map, get_or-replicate, get_or-set_other, get_or-set_same, get_or_append_left, get_or_past, length-map, length-replicate, nil_from_length}
+use Rattle.std.proofs.lemmas.List.Edits.{get_or-insert_above, get_or-insert_at, get_or-insert_below, get_or-remove_above, get_or-remove_below, length-insert, length-remove}
+use Rattle.std.proofs.lemmas.List.FromFn.{get_or-map-range_with_len, length-map-range_with_len}
+use Rattle.std.proofs.lemmas.Nat.{mul-le}
 use Rattle.std.proofs.lemmas.Slice.{between_is}
-use Rattle.rdlpp_table.specs.Index.{closed}
-use Rattle.rdlpp_table.specs.IndexView.{IndexView}
+use Rattle.rdlpp_table.specs.Index.{closed, IsLater, IsSooner}
+use Rattle.rdlpp_table.specs.IndexView.{AreMoved, Enters, IndexRoom, IndexView, IsArranged, IsInBucket, IsSpaced, Leaves, empty_index, group_of, places_in, places_room}
+use Rattle.rdlpp_table.proofs.Groups.{IsMapped, part_all}
 use borrow.Rule.Slice.PartMut.{mid_of, put_mid}
 
--- A place taken out of a list with something behind it, or put in.
+-- an index of its parts
+abbrev view_of : List ℕ → List ℕ → List ℕ → ℕ → ℕ → IndexView
+view_of items before starts most offsets = record { places = places_in items before starts; bucket_starts = starts; formal_offsets = drop (get_or starts 1024 0 + get_or before 32 0) items; room = record { places = most; formal_offsets = offsets } }
 
-remove_front : (front following : List ℕ) (at : ℕ) → at < length front → remove (front ++ following) at ≡ remove front at ++ following
-remove_front front following at h =
-    ap (λ (l : List ℕ). l ++ drop (suc at) (front ++ following)) (take-append-le at front following (omega arith))
-    ∙ (ap (λ (l : List ℕ). take at front ++ l) (drop-append-le (suc at) front following (omega arith))
-    ∙ sym (append_assoc (take at front) (drop (suc at) front) following))
+-- where a group begins
+abbrev start : List ℕ → ℕ → ℕ
+start starts g = get_or starts (32 * g) 0
 
-insert_front : (front following : List ℕ) (at x : ℕ) → at ≤ length front → insert (front ++ following) at x ≡ insert front at x ++ following
-insert_front front following at x h =
-    ap (λ (l : List ℕ). l ++ x ∷ drop at (front ++ following)) (take-append-le at front following h)
-    ∙ (ap (λ (l : List ℕ). take at front ++ x ∷ l) (drop-append-le at front following h)
-    ∙ sym (append_assoc (take at front) (x ∷ drop at front) following))
+-- The group of a place.
 
--- a place put into an index with so many
-pub entered_front : (items : List ℕ) (count gap x : ℕ) → gap ≤ count → count ≤ length items → (take (count + 1) (insert items gap x) ≡ insert (take count items) gap x) × (drop (count + 1) (insert items gap x) ≡ drop count items)
-entered_front items count gap x h l =
-    let front : List ℕ = take count items in
-    let long : length front ≡ count = length-take-le count items l in
-    let n : length (insert front gap x) ≡ count + 1 = omega (arith, length-insert front gap x (omega arith)) in
-    let whole : insert items gap x ≡ insert front gap x ++ drop count items = ap (λ (y : List ℕ). insert y gap x) (sym (take-append-drop count items)) ∙ insert_front front (drop count items) gap x (omega arith) in
-    (ap (take (count + 1)) whole ∙ take_at (insert front gap x) (drop count items) (count + 1) n, ap (drop (count + 1)) whole ∙ drop_at (insert front gap x) (drop count items) (count + 1) n)
+-- a group is the last one up to another one that begins at a place or before it
+record IsGroup (starts : List ℕ) (at n g : ℕ) : Type 0 where
+  low : start starts g ≤ at
+  most : g ≤ n
+  high : (h : ℕ) → g < h → h ≤ n → at < start starts h
 
--- What stands behind so many items at the front of a list, once the list was changed behind them.
+group_found : (starts : List ℕ) (at n : ℕ) → get_or starts 0 0 ≡ 0 → IsGroup starts at n (group_of starts at n)
+unfolding group_of
+group_found starts at zero f = record { low = omega (arith, f); most = omega arith; high = λ h a b. absurd (omega arith) }
+group_found starts at (suc n) f =
+    let P : ℕ → Type 0 = IsGroup starts at (suc n) in
+    let r = group_found starts at n f in
+    elim (cases_lt at (start starts (suc n))) [
+      | inl l ↦
+          let higher : (h : ℕ) → group_of starts at n < h → h ≤ suc n → at < start starts h = λ h a b.
+          elim (cases_lt n h) [
+            | inl c ↦ let same : suc n ≡ h = omega arith in subst (λ (i : ℕ). at < start starts i) same l
+            | inr c ↦ r.high h a c
+          ] in
+          subst P (sym (cond-true _ _ _ (lt-ltb _ _ l))) (record { low = r.low; most = omega (arith, r.most); high = higher })
+      | inr l ↦ subst P (sym (cond-false _ _ _ (le-ltb _ _ l))) (record { low = l; most = omega arith; high = λ h a b. absurd (omega arith) })
+    ]
+
+-- a place stands in the group of which it is
+record IsIn (starts : List ℕ) (at g : ℕ) : Type 0 where
+  some : g < 32
+  low : start starts g ≤ at
+  high : at < start starts (g + 1)
+
+own_group : (starts : List ℕ) (at : ℕ) → get_or starts 0 0 ≡ 0 → at < get_or starts 1024 0 → IsIn starts at (group_of starts at 31)
+own_group starts at f h =
+    let r = group_found starts at 31 f in
+    let g : ℕ = group_of starts at 31 in
+    record {
+      some = omega (arith, r.most);
+      low = r.low;
+      high = elim (cases_lt g 31) [
+        | inl l ↦ r.high (g + 1) (omega arith) (omega arith)
+        | inr l ↦ let same : 32 ≡ g + 1 = omega (arith, r.most) in subst (λ (i : ℕ). at < start starts i) same h
+      ];
+    }
+
+module _ (before starts : List ℕ) (s : IsSpaced before starts) where
+  one_group : (at g : ℕ) → IsIn starts at g → group_of starts at 31 ≡ g
+  one_group at g i =
+      let r = group_found starts at 31 s.first in
+      let f : ℕ = group_of starts at 31 in
+      elim (cases_lt f g) [
+        | inl l ↦ absurd (omega (arith, r.high g l (omega (arith, i.some)), i.low))
+        | inr l ↦ elim (cases_lt g f) [
+          | inl k ↦ absurd (omega (arith, r.low, i.high, s.in_order (32 * (g + 1)) (32 * f) (omega arith) (omega (arith, r.most))))
+          | inr k ↦ omega arith
+        ]
+      ]
+
+  -- a place of a group lies behind the slack before that group
+  place_is : (items : List ℕ) (at g : ℕ) → IsIn starts at g → get_or (places_in items before starts) at 0 ≡ get_or items (at + get_or before g 0) 0
+  unfolding places_in
+  place_is items at g i =
+      let last : start starts (g + 1) ≤ get_or starts 1024 0 = s.in_order (32 * (g + 1)) 1024 (omega (arith, i.some)) (omega arith) in
+      get_or-map-range_with_len (λ at. get_or items (at + get_or before (group_of starts at 31) 0) 0) 0 (get_or starts 1024 0) at at 0 (omega (arith, i.high)) (omega arith)
+      ∙ ap (λ (f : ℕ). get_or items (at + get_or before f 0) 0) (one_group at g i)
+
+pub places_long : (items before starts : List ℕ) → length (places_in items before starts) ≡ get_or starts 1024 0
+unfolding places_in
+places_long items before starts = length-map-range_with_len (λ at. get_or items (at + get_or before (group_of starts at 31) 0) 0) 0 (get_or starts 1024 0)
+
+-- places are those of a list where they are so in each group
+places_are : (items before starts places : List ℕ) → IsSpaced before starts → length places ≡ get_or starts 1024 0 → ((k g : ℕ) → IsIn starts k g → get_or items (k + get_or before g 0) 0 ≡ get_or places k 0) → places_in items before starts ≡ places
+places_are items before starts places s e h =
+    ext_get_or 0 (places_in items before starts) places (places_long items before starts ∙ sym e) (λ k l.
+    let i = own_group starts k s.first (omega (arith, places_long items before starts)) in
+    place_is before starts s items k (group_of starts k 31) i ∙ h k (group_of starts k 31) i)
+
+-- what is behind one place of a list is what is behind another one of another list
+same_rest : (xs ys : List ℕ) (i j : ℕ) → length xs + j ≡ length ys + i → i ≤ length xs → ((p : ℕ) → get_or xs (i + p) 0 ≡ get_or ys (j + p) 0) → drop i xs ≡ drop j ys
+same_rest xs ys i j e l h =
+    ext_get_or 0 (drop i xs) (drop j ys) (omega (arith, length-drop i xs, length-drop j ys)) (λ k m. get_or-drop i xs k 0 ∙ (h k ∙ sym (get_or-drop j ys k 0)))
+
+-- A list, once a part of it was copied within it.
+
+record IsCopied (xs copied : List ℕ) (i j dest : ℕ) : Type 0 where
+  long : length copied ≡ length xs
+  before : (p : ℕ) → p < dest → get_or copied p 0 ≡ get_or xs p 0
+  inside : (p : ℕ) → dest ≤ p → p < dest + (j - i) → get_or copied p 0 ≡ get_or xs (i + (p - dest)) 0
+  following : (p : ℕ) → dest + (j - i) ≤ p → get_or copied p 0 ≡ get_or xs p 0
+
+copied : (xs : List ℕ) (i j dest : ℕ) → i ≤ j → j ≤ length xs → dest + (j - i) ≤ length xs → IsCopied xs (copy_within xs i j dest) i j dest
+copied xs i j dest o l r =
+    let front : List ℕ = take dest xs in
+    let middle : List ℕ = take (j - i) (drop i xs) in
+    let back : List ℕ = drop (dest + (j - i)) xs in
+    let front_long : length front ≡ dest = length-take-le dest xs (omega arith) in
+    let middle_long : length middle ≡ j - i = length-take-le (j - i) (drop i xs) (omega (arith, length-drop i xs)) in
+    let both : length (front ++ middle) ≡ dest + (j - i) = omega (arith, length-append front middle) in
+    record {
+      long = omega (arith, length-append (front ++ middle) back, length-drop (dest + (j - i)) xs);
+      before = λ p h. get_or_append_left (front ++ middle) back 0 p (omega arith) ∙ (get_or_append_left front middle 0 p (omega arith) ∙ get_or-take dest xs p 0 h);
+      inside = λ p h k.
+          get_or_append_left (front ++ middle) back 0 p (omega arith)
+          ∙ (get_or-append_right front middle dest p 0 front_long h
+          ∙ (get_or-take (j - i) (drop i xs) (p - dest) 0 (omega arith)
+          ∙ get_or-drop i xs (p - dest) 0));
+      following = λ p h.
+          let same : dest + (j - i) + (p - (dest + (j - i))) ≡ p = omega arith in
+          get_or-append_right (front ++ middle) back (dest + (j - i)) p 0 both h
+          ∙ (get_or-drop (dest + (j - i)) xs (p - (dest + (j - i))) 0
+          ∙ ap (λ (q : ℕ). get_or xs q 0) same);
+    }
+
+-- A place that comes: what stands from there on in its group moves one to the back.
+
+record IsPut (items new : List ℕ) (at end place : ℕ) : Type 0 where
+  long : length new ≡ length items
+  before : (p : ℕ) → p < at → get_or new p 0 ≡ get_or items p 0
+  here : get_or new at 0 ≡ place
+  moved : (p : ℕ) → at < p → p ≤ end → get_or new p 0 ≡ get_or items (p - 1) 0
+  following : (p : ℕ) → end < p → get_or new p 0 ≡ get_or items p 0
+
+put : (items new : List ℕ) (at end place : ℕ) → at ≤ end → end < length items → new ≡ set (copy_within items at end (at + 1)) at place → IsPut items new at end place
+put items new at end place o l e =
+    let both : List ℕ = copy_within items at end (at + 1) in
+    let c = copied items at end (at + 1) o (omega arith) (omega arith) in
+    let other : (p : ℕ) → p ≢ at → get_or new p 0 ≡ get_or both p 0 = λ p n. ap (λ (xs : List ℕ). get_or xs p 0) e ∙ get_or-set_other both at p place 0 n in
+    record {
+      long = ap (length {A = ℕ}) e ∙ (length-set both at place ∙ c.long);
+      before = λ p h. other p (λ s. absurd (omega arith)) ∙ c.before p (omega arith);
+      here = ap (λ (xs : List ℕ). get_or xs at 0) e ∙ get_or-set_same both at place 0 (omega (arith, c.long));
+      moved = λ p h k.
+          let same : at + (p - (at + 1)) ≡ p - 1 = omega arith in
+          other p (λ s. absurd (omega arith)) ∙ (c.inside p (omega arith) (omega arith) ∙ ap (λ (q : ℕ). get_or items q 0) same);
+      following = λ p h. other p (λ s. absurd (omega arith)) ∙ c.following p (omega arith);
+    }
+
+-- some slack lies before each group behind one that has slack
+pub some_slack : (before starts : List ℕ) (group : ℕ) → IsSpaced before starts → group < 32 → get_or before group 0 < get_or before (group + 1) 0 → All (λ n. 0 < n) (slice_range before (group + 1) 33)
+some_slack before starts group s h k = part_all (λ n. 0 < n) (group + 1) 33 before (omega (arith, s.groups)) (λ p a b. omega (arith, s.rising (group + 1) p a (omega arith)))
+
+-- the groups behind one begin a place later, and less slack lies before them
+module _ (items new before new_before starts new_starts : List ℕ) (bucket gap place : ℕ) (small : bucket < 1024) (s : IsSpaced before starts)
+    (low : get_or starts bucket 0 ≤ gap) (high : gap ≤ get_or starts (bucket + 1) 0) (inside : get_or starts 1024 0 + get_or before 32 0 ≤ length items)
+    (some : get_or before (bucket / 32) 0 < get_or before (bucket / 32 + 1) 0) (l : IsLater bucket starts new_starts)
+    (m : IsMapped (λ n. n - 1) (bucket / 32 + 1) 33 before new_before)
+    (e : new ≡ set (copy_within items (gap + get_or before (bucket / 32) 0) (start starts (bucket / 32 + 1) + get_or before (bucket / 32) 0) (gap + get_or before (bucket / 32) 0 + 1)) (gap + get_or before (bucket / 32) 0) place) where
+  abbrev own : ℕ
+  own = bucket / 32
+
+  own_low : start starts own ≤ gap
+  own_low = omega (arith, s.in_order (32 * own) bucket (omega arith) (omega arith))
+
+  own_high : gap ≤ start starts (own + 1)
+  own_high = omega (arith, s.in_order (bucket + 1) (32 * (own + 1)) (omega arith) (omega arith))
+
+  -- the list with the place
+  p : IsPut items new (gap + get_or before own 0) (start starts (own + 1) + get_or before own 0) place
+  p = put items new _ _ place (omega (arith, own_high)) (omega (arith, s.in_order (32 * (own + 1)) 1024 (omega arith) (omega arith), s.rising (own + 1) 32 (omega arith) (omega arith))) e
+
+  begins : (g : ℕ) → g ≤ own → start new_starts g ≡ start starts g
+  begins g h = l.before (32 * g) (omega arith)
+
+  begins_later : (g : ℕ) → own < g → g ≤ 32 → start new_starts g ≡ start starts g + 1
+  begins_later g h k = l.following (32 * g) (omega arith) (omega (arith, s.buckets))
+
+  less : (g : ℕ) → own < g → g ≤ 32 → get_or new_before g 0 + 1 ≡ get_or before g 0
+  less g h k = omega (arith, m.inside g (omega arith) (omega arith), s.rising (own + 1) g (omega arith) k)
+
+  entered_spaced : IsSpaced new_before new_starts
+  entered_spaced = record {
+    groups = m.long ∙ s.groups;
+    buckets = l.long ∙ s.buckets;
+    first = l.before 0 (omega arith) ∙ s.first;
+    in_order = λ a b h k.
+        elim (cases_lt bucket a) [
+          | inl c ↦ omega (arith, l.following a c (omega (arith, s.buckets)), l.following b (omega arith) (omega (arith, s.buckets)), s.in_order a b h k)
+          | inr c ↦ elim (cases_lt bucket b) [
+            | inl d ↦ omega (arith, l.before a c, l.following b d (omega (arith, s.buckets)), s.in_order a b h k)
+            | inr d ↦ omega (arith, l.before a c, l.before b d, s.in_order a b h k)
+          ]
+        ];
+    rising = λ g h a b.
+        elim (cases_lt own g) [
+          | inl c ↦ omega (arith, less g c (omega arith), less h (omega arith) b, s.rising g h a b)
+          | inr c ↦ elim (cases_lt own h) [
+            | inl d ↦ omega (arith, m.before g (omega arith), less h d b, s.rising g own c (omega arith), s.rising (own + 1) h (omega arith) b)
+            | inr d ↦ omega (arith, m.before g (omega arith), m.before h (omega arith), s.rising g h a b)
+          ]
+        ];
+  }
+
+  abbrev places : List ℕ
+  places = places_in items before starts
+
+  gap_fits : gap ≤ length places
+  gap_fits = omega (arith, own_high, s.in_order (32 * (own + 1)) 1024 (omega arith) (omega arith), places_long items before starts)
+
+  -- what stands in an earlier group, in the group itself and in a later one
+  earlier : (k g : ℕ) → IsIn new_starts k g → g < own → get_or new (k + get_or new_before g 0) 0 ≡ get_or (insert places gap place) k 0
+  earlier k g i h =
+      let old : IsIn starts k g = record { some = i.some; low = omega (arith, i.low, begins g (omega arith)); high = omega (arith, i.high, begins (g + 1) (omega arith)) } in
+      let same : get_or new_before g 0 ≡ get_or before g 0 = m.before g (omega arith) in
+      let below : k < gap = omega (arith, old.high, own_low, s.in_order (32 * (g + 1)) (32 * own) (omega arith) (omega arith)) in
+      ap (λ (q : ℕ). get_or new (k + q) 0) same
+      ∙ (p.before (k + get_or before g 0) (omega (arith, s.rising g own (omega arith) (omega arith)))
+      ∙ (sym (place_is before starts s items k g old) ∙ sym (get_or-insert_below places gap place 0 k below gap_fits)))
+
+  inside_own : (k : ℕ) → IsIn new_starts k own → get_or new (k + get_or before own 0) 0 ≡ get_or (insert places gap place) k 0
+  inside_own k i =
+      let end : k ≤ start starts (own + 1) = omega (arith, i.high, begins_later (own + 1) (omega arith) (omega arith)) in
+      elim (cases_lt k gap) [
+        | inl h ↦
+            let old : IsIn starts k own = record { some = i.some; low = omega (arith, i.low, begins own (omega arith)); high = omega (arith, own_high) } in
+            p.before (k + get_or before own 0) (omega arith)
+            ∙ (sym (place_is before starts s items k own old) ∙ sym (get_or-insert_below places gap place 0 k h gap_fits))
+        | inr h ↦ elim (cases_lt gap k) [
+          | inl j ↦
+              let old : IsIn starts (k - 1) own = record { some = i.some; low = omega (arith, own_low); high = omega arith } in
+              let next : k - 1 + 1 ≡ k = omega arith in
+              let back : k + get_or before own 0 - 1 ≡ k - 1 + get_or before own 0 = omega arith in
+              p.moved (k + get_or before own 0) (omega arith) (omega arith)
+              ∙ (ap (λ (q : ℕ). get_or items q 0) back
+              ∙ (sym (place_is before starts s items (k - 1) own old)
+              ∙ (sym (get_or-insert_above places gap place 0 (k - 1) (omega arith) gap_fits) ∙ ap (λ (q : ℕ). get_or (insert places gap place) q 0) next)))
+          | inr j ↦
+              let same : gap ≡ k = omega arith in
+              let P : ℕ → Type 0 = λ q. get_or new (q + get_or before own 0) 0 ≡ get_or (insert places gap place) q 0 in
+              subst P same (p.here ∙ sym (get_or-insert_at places gap place 0 gap_fits))
+        ]
+      ]
+
+  later : (k g : ℕ) → IsIn new_starts k g → own < g → get_or new (k + get_or new_before g 0) 0 ≡ get_or (insert places gap place) k 0
+  later k g i h =
+      let from : start new_starts g ≡ start starts g + 1 = begins_later g h (omega (arith, i.some)) in
+      let to : start new_starts (g + 1) ≡ start starts (g + 1) + 1 = begins_later (g + 1) (omega arith) (omega (arith, i.some)) in
+      let old : IsIn starts (k - 1) g = record { some = i.some; low = omega (arith, i.low, from); high = omega (arith, i.high, to, i.low, from) } in
+      let fewer : get_or new_before g 0 + 1 ≡ get_or before g 0 = less g h (omega (arith, i.some)) in
+      let same : k + get_or new_before g 0 ≡ k - 1 + get_or before g 0 = omega (arith, i.low, from) in
+      let next : k - 1 + 1 ≡ k = omega (arith, i.low, from) in
+      let above : gap ≤ k - 1 = omega (arith, own_high, old.low, s.in_order (32 * (own + 1)) (32 * g) (omega arith) (omega (arith, i.some))) in
+      ap (λ (q : ℕ). get_or new q 0) same
+      ∙ (p.following (k - 1 + get_or before g 0) (omega (arith, old.low, s.in_order (32 * (own + 1)) (32 * g) (omega arith) (omega (arith, i.some)), s.rising (own + 1) g (omega arith) (omega (arith, i.some))))
+      ∙ (sym (place_is before starts s items (k - 1) g old)
+      ∙ (sym (get_or-insert_above places gap place 0 (k - 1) above gap_fits) ∙ ap (λ (q : ℕ). get_or (insert places gap place) q 0) next)))
+
+  entered_count : get_or new_starts 1024 0 ≡ get_or starts 1024 0 + 1
+  entered_count = l.following 1024 small (omega (arith, s.buckets))
+
+  entered_end : get_or new_starts 1024 0 + get_or new_before 32 0 ≡ get_or starts 1024 0 + get_or before 32 0
+  entered_end = omega (arith, entered_count, less 32 (omega arith) (omega arith))
+
+  entered_places : places_in new new_before new_starts ≡ insert places gap place
+  entered_places =
+      places_are new new_before new_starts (insert places gap place) entered_spaced
+      (omega (arith, length-insert places gap place gap_fits, places_long items before starts, entered_count))
+      (λ k g i.
+      elim (cases_lt g own) [
+        | inl h ↦ earlier k g i h
+        | inr h ↦ elim (cases_lt own g) [
+          | inl j ↦ later k g i j
+          | inr j ↦
+              let same : own ≡ g = omega arith in
+              let P : ℕ → Type 0 = λ f. IsIn new_starts k f → get_or new (k + get_or new_before f 0) 0 ≡ get_or (insert places gap place) k 0 in
+              subst P same (λ a. ap (λ (q : ℕ). get_or new (k + q) 0) (m.before own (omega arith)) ∙ inside_own k a) i
+        ]
+      ])
+
+  entered_offsets : drop (get_or new_starts 1024 0 + get_or new_before 32 0) new ≡ drop (get_or starts 1024 0 + get_or before 32 0) items
+  entered_offsets =
+      let same : get_or new_starts 1024 0 + get_or new_before 32 0 ≡ get_or starts 1024 0 + get_or before 32 0 = entered_end in
+      let past : start starts (own + 1) + get_or before own 0 < get_or starts 1024 0 + get_or before 32 0 = omega (arith, s.in_order (32 * (own + 1)) 1024 (omega arith) (omega arith), s.rising (own + 1) 32 (omega arith) (omega arith)) in
+      ap (λ (n : ℕ). drop n new) same
+      ∙ same_rest new items _ _ (omega (arith, p.long)) (omega (arith, p.long)) (λ q. p.following (get_or starts 1024 0 + get_or before 32 0 + q) (omega arith))
+
+  pub entered_arranged : (len capacity group_slack most : ℕ) → IsArranged len capacity before starts group_slack most → get_or starts 1024 0 < most → IsArranged len capacity new_before new_starts group_slack most
+  entered_arranged len capacity group_slack most a h = record {
+    spaced = entered_spaced;
+    most = λ g k. elim (cases_lt own g) [
+      | inl c ↦ omega (arith, less g c k, a.most g k)
+      | inr c ↦ omega (arith, m.before g (omega arith), a.most g k)
+    ];
+    little = a.little;
+    narrow = a.narrow;
+    few = omega (arith, entered_count);
+    inside = omega (arith, entered_end, a.inside);
+    room = omega (arith, entered_end, a.room);
+  }
+
+  -- where the places and the offsets were those of an older list
+  pub enters : (old_items old_before : List ℕ) (most offsets new_offsets : ℕ) → places_in items before starts ≡ places_in old_items old_before starts → drop (get_or starts 1024 0 + get_or before 32 0) items ≡ drop (get_or starts 1024 0 + get_or old_before 32 0) old_items → new_offsets ≡ offsets → Enters gap place bucket (view_of old_items old_before starts most offsets) (view_of new new_before new_starts most new_offsets)
+  enters old_items old_before most offsets new_offsets f g h = record {
+    places = entered_places ∙ ap (λ (xs : List ℕ). insert xs gap place) f;
+    bucket_starts = l;
+    formal_offsets = entered_offsets ∙ g;
+    room = ap (λ (n : ℕ). let r : IndexRoom = record { places = most; formal_offsets = n } in r) h;
+  }
+
+-- A place that goes: what stands behind it moves one to the front, and the places that are left lie closer.
+
+record IsTaken (items new : List ℕ) (at end taken : ℕ) : Type 0 where
+  long : length new + 1 ≡ length items
+  before : (p : ℕ) → p < at → get_or new p 0 ≡ closed taken (get_or items p 0)
+  moved : (p : ℕ) → at ≤ p → p + 1 < end → get_or new p 0 ≡ closed taken (get_or items (p + 1) 0)
+  following : (p : ℕ) → end ≤ p + 1 → get_or new p 0 ≡ get_or items (p + 1) 0
+
+taken_out : (items new : List ℕ) (at end taken : ℕ) → at < end → end ≤ length items → new ≡ map (closed taken) (take (end - 1) (remove items at)) ++ drop (end - 1) (remove items at) → IsTaken items new at end taken
+taken_out items new at end taken o l e =
+    let left : List ℕ = remove items at in
+    let kept : List ℕ = take (end - 1) left in
+    let front : List ℕ = map (closed taken) kept in
+    let back : List ℕ = drop (end - 1) left in
+    let left_long : length left + 1 ≡ length items = omega (arith, length-remove items at (omega arith)) in
+    let kept_long : length kept ≡ end - 1 = length-take-le (end - 1) left (omega arith) in
+    let front_long : length front ≡ end - 1 = length-map kept (closed taken) ∙ kept_long in
+    let inside : (p : ℕ) → p + 1 < end → get_or new p 0 ≡ closed taken (get_or left p 0) = λ p h.
+    ap (λ (xs : List ℕ). get_or xs p 0) e
+    ∙ (get_or_append_left front back 0 p (omega arith)
+    ∙ (get_or-map (closed taken) kept p 0 0 (omega arith) ∙ ap (closed taken) (get_or-take (end - 1) left p 0 (omega arith)))) in
+    record {
+      long = omega (arith, ap (length {A = ℕ}) e, length-append front back, length-drop (end - 1) left);
+      before = λ p h. inside p (omega arith) ∙ ap (closed taken) (get_or-remove_below items at 0 p h (omega arith));
+      moved = λ p h k. inside p k ∙ ap (closed taken) (get_or-remove_above items at 0 p h (omega arith));
+      following = λ p h.
+          let same : end - 1 + (p - (end - 1)) ≡ p = omega arith in
+          ap (λ (xs : List ℕ). get_or xs p 0) e
+          ∙ (get_or-append_right front back (end - 1) p 0 front_long (omega arith)
+          ∙ (get_or-drop (end - 1) left (p - (end - 1)) 0
+          ∙ (ap (λ (q : ℕ). get_or left q 0) same ∙ get_or-remove_above items at 0 p (omega arith) (omega arith))));
+    }
+
+-- a place of a bucket stands in the group of that bucket
+in_group : (before starts : List ℕ) (bucket at : ℕ) → IsSpaced before starts → bucket < 1024 → IsInBucket starts bucket at → IsIn starts at (bucket / 32)
+in_group before starts bucket at s h i = record {
+  some = omega arith;
+  low = omega (arith, i.from, s.in_order (32 * (bucket / 32)) bucket (omega arith) (omega arith));
+  high = omega (arith, i.to, s.in_order (bucket + 1) (32 * (bucket / 32 + 1)) (omega arith) (omega arith));
+}
+
+-- where a place of a bucket lies
+pub bucket_place : (items before starts : List ℕ) (bucket at : ℕ) → IsSpaced before starts → bucket < 1024 → IsInBucket starts bucket at → get_or (places_in items before starts) at 0 ≡ get_or items (at + get_or before (bucket / 32) 0) 0
+bucket_place items before starts bucket at s h i = place_is before starts s items at (bucket / 32) (in_group before starts bucket at s h i)
+
+-- it lies among the places
+pub bucket_inside : (before starts : List ℕ) (bucket at : ℕ) → IsSpaced before starts → bucket < 1024 → IsInBucket starts bucket at → (at < get_or starts 1024 0) × (at + get_or before (bucket / 32) 0 < get_or starts 1024 0 + get_or before 32 0)
+bucket_inside before starts bucket at s h i =
+    let last : get_or starts (bucket + 1) 0 ≤ get_or starts 1024 0 = s.in_order (bucket + 1) 1024 (omega arith) (omega arith) in
+    (omega (arith, i.to), omega (arith, i.to, s.rising (bucket / 32) 32 (omega arith) (omega arith)))
+
+-- the groups behind one begin a place sooner
+module _ (items new before starts new_starts : List ℕ) (bucket at taken : ℕ) (small : bucket < 1024) (s : IsSpaced before starts)
+    (i : IsInBucket starts bucket at) (l : IsSooner bucket starts new_starts)
+    (some : (p : ℕ) → bucket < p → p ≤ 1024 → get_or starts bucket 0 < get_or starts p 0)
+    (inside : get_or starts 1024 0 + get_or before 32 0 ≤ length items)
+    (e : new ≡ map (closed taken) (take (get_or starts 1024 0 + get_or before 32 0 - 1) (remove items (at + get_or before (bucket / 32) 0))) ++ drop (get_or starts 1024 0 + get_or before 32 0 - 1) (remove items (at + get_or before (bucket / 32) 0))) where
+  -- the list without the place
+  t : IsTaken items new (at + get_or before (bucket / 32) 0) (get_or starts 1024 0 + get_or before 32 0) taken
+  t = taken_out items new _ _ taken (bucket_inside before starts bucket at s small i).1 inside e
+
+  sooner : (p : ℕ) → bucket < p → p ≤ 1024 → get_or new_starts p 0 + 1 ≡ get_or starts p 0
+  sooner p h k = omega (arith, l.following p h (omega (arith, s.buckets)), some p h k)
+
+  left_spaced : IsSpaced before new_starts
+  left_spaced = record {
+    groups = s.groups;
+    buckets = l.long ∙ s.buckets;
+    first = l.before 0 (omega arith) ∙ s.first;
+    in_order = λ a b h k.
+        elim (cases_lt bucket a) [
+          | inl c ↦ omega (arith, sooner a c (omega arith), sooner b (omega arith) k, s.in_order a b h k)
+          | inr c ↦ elim (cases_lt bucket b) [
+            | inl d ↦ omega (arith, l.before a c, sooner b d k, some b d k, s.in_order a bucket c (omega arith))
+            | inr d ↦ omega (arith, l.before a c, l.before b d, s.in_order a b h k)
+          ]
+        ];
+    rising = s.rising;
+  }
+
+  abbrev old_places : List ℕ
+  old_places = places_in items before starts
+
+  left_end : get_or new_starts 1024 0 + get_or before 32 0 + 1 ≡ get_or starts 1024 0 + get_or before 32 0
+  left_end = omega (arith, sooner 1024 small (omega arith))
+
+  -- what stands before the place, and behind it
+  front_place : (k g : ℕ) → IsIn new_starts k g → k < at → get_or new (k + get_or before g 0) 0 ≡ closed taken (get_or (remove old_places at) k 0)
+  front_place k g j h =
+      let up_to : g ≤ bucket / 32 = elim (cases_lt (bucket / 32) g) [
+        | inl c ↦ absurd (omega (arith, j.low, sooner (32 * g) (omega arith) (omega (arith, j.some)), i.to, s.in_order (bucket + 1) (32 * g) (omega arith) (omega (arith, j.some))))
+        | inr c ↦ c
+      ] in
+      let low : start starts g ≤ k = omega (arith, j.low, l.before (32 * g) (omega arith)) in
+      let high : k < start starts (g + 1) = elim (cases_lt bucket (32 * (g + 1))) [
+        | inl c ↦ omega (arith, j.high, sooner (32 * (g + 1)) c (omega (arith, j.some)))
+        | inr c ↦ omega (arith, j.high, l.before (32 * (g + 1)) c)
+      ] in
+      let old : IsIn starts k g = record { some = j.some; low = low; high = high } in
+      let fits : at < length old_places = omega (arith, (bucket_inside before starts bucket at s small i).0, places_long items before starts) in
+      t.before (k + get_or before g 0) (omega (arith, s.rising g (bucket / 32) up_to (omega arith)))
+      ∙ ap (closed taken) (sym (place_is before starts s items k g old) ∙ sym (get_or-remove_below old_places at 0 k h fits))
+
+  back_place : (k g : ℕ) → IsIn new_starts k g → at ≤ k → get_or new (k + get_or before g 0) 0 ≡ closed taken (get_or (remove old_places at) k 0)
+  back_place k g j h =
+      let above : bucket < 32 * (g + 1) = elim (cases_lt bucket (32 * (g + 1))) [
+        | inl c ↦ c
+        | inr c ↦ absurd (omega (arith, j.high, l.before (32 * (g + 1)) c, i.from, s.in_order (32 * (g + 1)) bucket c (omega arith)))
+      ] in
+      let low : start starts g ≤ k + 1 = elim (cases_lt bucket (32 * g)) [
+        | inl c ↦ omega (arith, j.low, sooner (32 * g) c (omega (arith, j.some)))
+        | inr c ↦ omega (arith, j.low, l.before (32 * g) c)
+      ] in
+      let high : k + 1 < start starts (g + 1) = omega (arith, j.high, sooner (32 * (g + 1)) above (omega (arith, j.some))) in
+      let old : IsIn starts (k + 1) g = record { some = j.some; low = low; high = high } in
+      let fits : at < length old_places = omega (arith, (bucket_inside before starts bucket at s small i).0, places_long items before starts) in
+      let next : k + get_or before g 0 + 1 ≡ k + 1 + get_or before g 0 = omega arith in
+      let last : start starts (g + 1) ≤ get_or starts 1024 0 = s.in_order (32 * (g + 1)) 1024 (omega (arith, j.some)) (omega arith) in
+      t.moved (k + get_or before g 0) (omega (arith, s.rising (bucket / 32) g (omega arith) (omega (arith, j.some)))) (omega (arith, s.rising g 32 (omega (arith, j.some)) (omega arith)))
+      ∙ ap (closed taken) (ap (λ (q : ℕ). get_or items q 0) next ∙ (sym (place_is before starts s items (k + 1) g old) ∙ sym (get_or-remove_above old_places at 0 k h fits)))
+
+  left_places : places_in new before new_starts ≡ map (closed taken) (remove old_places at)
+  left_places =
+      let fits : at < length old_places = omega (arith, (bucket_inside before starts bucket at s small i).0, places_long items before starts) in
+      let count : length (remove old_places at) ≡ get_or new_starts 1024 0 = omega (arith, length-remove old_places at fits, places_long items before starts, sooner 1024 small (omega arith)) in
+      places_are new before new_starts (map (closed taken) (remove old_places at)) left_spaced
+      (length-map (remove old_places at) (closed taken) ∙ count)
+      (λ k g j.
+      let inside : k < length (remove old_places at) = omega (arith, j.high, left_spaced.in_order (32 * (g + 1)) 1024 (omega (arith, j.some)) (omega arith)) in
+      let same : get_or new (k + get_or before g 0) 0 ≡ closed taken (get_or (remove old_places at) k 0) = elim (cases_lt k at) [
+        | inl h ↦ front_place k g j h
+        | inr h ↦ back_place k g j h
+      ] in
+      same ∙ sym (get_or-map (closed taken) (remove old_places at) k 0 0 inside))
+
+  left_offsets : drop (get_or new_starts 1024 0 + get_or before 32 0) new ≡ drop (get_or starts 1024 0 + get_or before 32 0) items
+  left_offsets =
+      same_rest new items _ _ (omega (arith, t.long, left_end)) (omega (arith, t.long, left_end)) (λ q.
+      let next : get_or new_starts 1024 0 + get_or before 32 0 + q + 1 ≡ get_or starts 1024 0 + get_or before 32 0 + q = omega (arith, left_end) in
+      t.following (get_or new_starts 1024 0 + get_or before 32 0 + q) (omega (arith, left_end)) ∙ ap (λ (p : ℕ). get_or items p 0) next)
+
+  pub left_arranged : (len new_len capacity new_capacity group_slack most : ℕ) → IsArranged len capacity before starts group_slack most → new_len + 1 ≡ len → new_capacity ≡ capacity → IsArranged new_len new_capacity before new_starts group_slack most
+  left_arranged len new_len capacity new_capacity group_slack most a h k = record {
+    spaced = left_spaced;
+    most = a.most;
+    little = a.little;
+    narrow = a.narrow;
+    few = omega (arith, left_end, a.few);
+    inside = omega (arith, left_end, a.inside);
+    room = omega (arith, left_end, a.room);
+  }
+
+  pub leaves : (most offsets new_offsets : ℕ) → new_offsets ≡ offsets → Leaves at taken bucket (view_of items before starts most offsets) (view_of new before new_starts most new_offsets)
+  leaves most offsets new_offsets h = record { places = left_places; bucket_starts = l; formal_offsets = left_offsets; room = ap (λ (n : ℕ). let r : IndexRoom = record { places = most; formal_offsets = n } in r) h }
+
+-- Groups that get slack anew.
+
+-- so far none was moved
+pub none_moved : (from to starts items : List ℕ) → AreMoved from to starts 32 items items
+none_moved from to starts items = record { before = λ p h. refl; places = λ g k a b c d. absurd (omega arith); following = λ p h. refl }
+
+-- one group more
+pub one_moved : (from to starts items now next : List ℕ) (n m : ℕ) → IsSpaced from starts → IsSpaced to starts → ((g : ℕ) → g ≤ 32 → get_or from g 0 ≤ get_or to g 0) → n ≡ m + 1 → n ≤ 32 → get_or starts 1024 0 + get_or to 32 0 ≤ length now → AreMoved from to starts n items now → next ≡ copy_within now (get_or starts (32 * m) 0 + get_or from m 0) (get_or starts (32 * n) 0 + get_or from m 0) (get_or starts (32 * m) 0 + get_or to m 0) → AreMoved from to starts m items next
+one_moved from to starts items now next n m s t more e h l a k =
+    let end : start starts n ≡ start starts (m + 1) = ap (start starts) e in
+    let o : start starts m ≤ start starts n = s.in_order (32 * m) (32 * n) (omega arith) (omega arith) in
+    let last : start starts n ≤ get_or starts 1024 0 = s.in_order (32 * n) 1024 (omega arith) (omega arith) in
+    let wider : get_or from m 0 ≤ get_or to m 0 = more m (omega arith) in
+    let up : get_or to m 0 ≤ get_or to 32 0 = t.rising m 32 (omega arith) (omega arith) in
+    let c = copied now (start starts m + get_or from m 0) (start starts n + get_or from m 0) (start starts m + get_or to m 0) (omega arith) (omega arith) (omega arith) in
+    let at : (p : ℕ) → get_or next p 0 ≡ get_or (copy_within now (start starts m + get_or from m 0) (start starts n + get_or from m 0) (start starts m + get_or to m 0)) p 0 = λ p. ap (λ (xs : List ℕ). get_or xs p 0) k in
+    record {
+      before = λ p g. at p ∙ (c.before p (omega arith) ∙ a.before p (omega (arith, s.rising m n (omega arith) h)));
+      places = λ g k f i low high.
+          elim (cases_lt m g) [
+            | inl b ↦
+                at (k + get_or to g 0)
+                ∙ (c.following (k + get_or to g 0) (omega (arith, s.in_order (32 * n) (32 * g) (omega arith) (omega arith), t.rising m g (omega arith) (omega arith)))
+                ∙ a.places g k (omega arith) i low high)
+            | inr b ↦
+                let same : m ≡ g = omega arith in
+                let back : start starts m + get_or from m 0 + (k + get_or to m 0 - (start starts m + get_or to m 0)) ≡ k + get_or from m 0 = omega (arith, ap (start starts) same) in
+                let P : ℕ → Type 0 = λ q. get_or next (k + get_or to q 0) 0 ≡ get_or items (k + get_or from q 0) 0 in
+                subst P same (at (k + get_or to m 0)
+                ∙ (c.inside (k + get_or to m 0) (omega (arith, ap (start starts) same)) (omega (arith, end, ap (λ (q : ℕ). start starts (q + 1)) same))
+                ∙ (ap (λ (q : ℕ). get_or now q 0) back
+                ∙ a.before (k + get_or from m 0) (omega (arith, end, ap (λ (q : ℕ). start starts (q + 1)) same, s.rising m n (omega arith) h)))))
+          ];
+      following = λ p g. at p ∙ (c.following p (omega arith) ∙ a.following p g);
+    }
+
+-- what stands behind a place moved so much to the back
+pub rest_moved : (xs longer moved : List ℕ) (len at by : ℕ) → at ≤ len → length xs ≡ len → take len longer ≡ xs → length longer ≡ len + by → moved ≡ copy_within longer at len (at + by) → (take at moved ≡ take at xs) × (drop (at + by) moved ≡ drop at xs)
+rest_moved xs longer moved len at by h n f l e =
+    let c = copied longer at len (at + by) h (omega arith) (omega arith) in
+    let long : length moved ≡ len + by = ap (length {A = ℕ}) e ∙ (c.long ∙ l) in
+    let same : (p : ℕ) → p < len → get_or longer p 0 ≡ get_or xs p 0 = λ p k. sym (get_or-take len longer p 0 k) ∙ ap (λ (ys : List ℕ). get_or ys p 0) f in
+    let into : (p : ℕ) → get_or moved p 0 ≡ get_or (copy_within longer at len (at + by)) p 0 = λ p. ap (λ (ys : List ℕ). get_or ys p 0) e in (
+      ext_get_or 0 (take at moved) (take at xs) (length-take-le at moved (omega arith) ∙ sym (length-take-le at xs (omega arith))) (λ k g.
+          let less : k < at = omega (arith, length-take-le at moved (omega arith)) in
+          get_or-take at moved k 0 less ∙ (into k ∙ (c.before k (omega arith) ∙ (same k (omega arith) ∙ sym (get_or-take at xs k 0 less))))),
+      same_rest moved xs (at + by) at (omega arith) (omega arith) (λ p.
+          elim (cases_lt (at + p) len) [
+            | inl k ↦
+                let back : at + (at + by + p - (at + by)) ≡ at + p = omega arith in
+                into (at + by + p) ∙ (c.inside (at + by + p) (omega arith) (omega arith) ∙ (ap (λ (q : ℕ). get_or longer q 0) back ∙ same (at + p) k))
+            | inr k ↦ get_or_past moved (at + by + p) 0 (omega arith) ∙ sym (get_or_past xs (at + p) 0 (omega arith))
+          ]),
+    )
+
+-- where each group has as much slack
+pub even_spaced : (before even starts : List ℕ) (slack : ℕ) → IsSpaced before starts → length even ≡ 33 → ((g : ℕ) → g ≤ 32 → get_or even g 0 ≡ slack * g) → IsSpaced even starts
+even_spaced before even starts slack s n e = record {
+  groups = n;
+  buckets = s.buckets;
+  first = s.first;
+  in_order = s.in_order;
+  rising = λ g h a b. omega (arith, e g (omega arith), e h b, mul-le slack g slack h (omega arith) a);
+}
+
+-- the list before what is behind its places and slack is as it was, and so are its places
+pub same_places : (items new before starts : List ℕ) → IsSpaced before starts → ((p : ℕ) → p < get_or starts 1024 0 + get_or before 32 0 → get_or new p 0 ≡ get_or items p 0) → places_in new before starts ≡ places_in items before starts
+same_places items new before starts s h =
+    places_are new before starts (places_in items before starts) s (places_long items before starts) (λ k g i.
+    let last : start starts (g + 1) ≤ get_or starts 1024 0 = s.in_order (32 * (g + 1)) 1024 (omega (arith, i.some)) (omega arith) in
+    h (k + get_or before g 0) (omega (arith, i.high, s.rising g 32 (omega (arith, i.some)) (omega arith))) ∙ sym (place_is before starts s items k g i))
+
+pub spread_places : (items longer moved before even starts : List ℕ) → IsSpaced before starts → IsSpaced even starts → take (get_or starts 1024 0 + get_or before 32 0) longer ≡ take (get_or starts 1024 0 + get_or before 32 0) items → AreMoved before even starts 0 longer moved → places_in moved even starts ≡ places_in items before starts
+spread_places items longer moved before even starts s t f a =
+    places_are moved even starts (places_in items before starts) t (places_long items before starts) (λ k g i.
+    let last : start starts (g + 1) ≤ get_or starts 1024 0 = s.in_order (32 * (g + 1)) 1024 (omega (arith, i.some)) (omega arith) in
+    let inside : k + get_or before g 0 < get_or starts 1024 0 + get_or before 32 0 = omega (arith, i.high, s.rising g 32 (omega (arith, i.some)) (omega arith)) in
+    a.places g k (omega arith) i.some i.low i.high
+    ∙ (sym (get_or-take _ longer (k + get_or before g 0) 0 inside)
+    ∙ (ap (λ (xs : List ℕ). get_or xs (k + get_or before g 0) 0) f
+    ∙ (get_or-take _ items (k + get_or before g 0) 0 inside ∙ sym (place_is before starts s items k g i)))))
+
+pub spread_offsets : (items longer moved before even starts : List ℕ) (by : ℕ) → get_or before 32 0 + by ≡ get_or even 32 0 → length moved ≡ length longer → get_or starts 1024 0 + get_or even 32 0 ≤ length moved → drop (get_or starts 1024 0 + get_or before 32 0 + by) longer ≡ drop (get_or starts 1024 0 + get_or before 32 0) items → AreMoved before even starts 0 longer moved → drop (get_or starts 1024 0 + get_or even 32 0) moved ≡ drop (get_or starts 1024 0 + get_or before 32 0) items
+spread_offsets items longer moved before even starts by e n l r a =
+    let same : get_or starts 1024 0 + get_or even 32 0 ≡ get_or starts 1024 0 + get_or before 32 0 + by = omega arith in
+    same_rest moved longer _ _ (omega arith) l (λ p. a.following (get_or starts 1024 0 + get_or even 32 0 + p) (omega arith))
+    ∙ (ap (λ (q : ℕ). drop q longer) same ∙ r)
+
+-- Offsets that come or go.
 
 behind : (xs ys : List ℕ) (n i : ℕ) → n + i ≤ length xs → drop n (take (n + i) xs ++ ys) ≡ take i (drop n xs) ++ ys
 behind xs ys n i h =
@@ -40,91 +568,71 @@ behind xs ys n i h =
     drop-append-le n (take (n + i) xs) ys (omega (arith, length-take-le (n + i) xs h))
     ∙ ap (λ (l : List ℕ). l ++ ys) (sym (between_is xs n (n + i)) ∙ ap (λ (k : ℕ). take k (drop n xs)) same)
 
-pub removed_behind : (xs : List ℕ) (n at : ℕ) → n + at < length xs → drop n (remove xs (n + at)) ≡ remove (drop n xs) at
-removed_behind xs n at h =
-    let next : suc (n + at) ≡ n + suc at = omega arith in
-    behind xs (drop (suc (n + at)) xs) n at (omega arith)
-    ∙ ap (λ (l : List ℕ). take at (drop n xs) ++ l) (ap (λ (k : ℕ). drop k xs) next ∙ sym (drop-drop (suc at) n xs))
-
-cut_behind : (xs : List ℕ) (n i j : ℕ) → n + i ≤ length xs → drop n (remove_range xs (n + i) (n + j)) ≡ remove_range (drop n xs) i j
+pub cut_behind : (xs : List ℕ) (n i j : ℕ) → n + i ≤ length xs → drop n (remove_range xs (n + i) (n + j)) ≡ remove_range (drop n xs) i j
 cut_behind xs n i j h = behind xs (drop (n + j) xs) n i h ∙ ap (λ (l : List ℕ). take i (drop n xs) ++ l) (sym (drop-drop j n xs))
 
--- the places stay, and offsets go
-pub cut_offsets : (xs : List ℕ) (spare count from to : ℕ) → spare + count + from ≤ length xs → (take count (drop spare (remove_range xs (spare + count + from) (spare + count + to))) ≡ take count (drop spare xs)) × (drop count (drop spare (remove_range xs (spare + count + from) (spare + count + to))) ≡ remove_range (drop count (drop spare xs)) from to)
-cut_offsets xs spare count from to h =
-    let i : spare + count + from ≡ spare + (count + from) = omega arith in
-    let j : spare + count + to ≡ spare + (count + to) = omega arith in
-    let live : List ℕ = drop spare xs in
-    let long : count + from ≤ length live = omega (arith, length-drop spare xs) in
-    let whole : drop spare (remove_range xs (spare + count + from) (spare + count + to)) ≡ remove_range live (count + from) (count + to) =
-    ap (λ (k : ℕ). drop spare (remove_range xs k (spare + count + to))) i ∙ (ap (λ (k : ℕ). drop spare (remove_range xs (spare + (count + from)) k)) j ∙ cut_behind xs spare (count + from) (count + to) (omega arith)) in
-    let first : take count (remove_range live (count + from) (count + to)) ≡ take count live = take-append-le count (take (count + from) live) (drop (count + to) live) (omega (arith, length-take-le (count + from) live long)) ∙ take-take count (count + from) live (omega arith) in
-    (ap (take count) whole ∙ first, ap (drop count) whole ∙ cut_behind live count from to long)
+pub cut_before : (xs : List ℕ) (n i j p : ℕ) → n + i ≤ length xs → p < n → get_or (remove_range xs (n + i) (n + j)) p 0 ≡ get_or xs p 0
+cut_before xs n i j p h l =
+    get_or_append_left (take (n + i) xs) (drop (n + j) xs) 0 p (omega (arith, length-take-le (n + i) xs h)) ∙ get_or-take (n + i) xs p 0 (omega arith)
 
--- A place that comes in front of another one.
-
--- what stands before it moved one to the front
-pub inserted_before : (xs copied : List ℕ) (spare gap x : ℕ) → 0 < spare → spare + gap ≤ length xs → copied ≡ copy_within xs spare (spare + gap) (spare - 1) → drop (spare - 1) (set copied (spare + gap - 1) x) ≡ insert (drop spare xs) gap x
-inserted_before xs copied spare gap x some h e =
-    let front : List ℕ = take (spare - 1) xs in
-    let moved : List ℕ = take gap (drop spare xs) in
-    let back : List ℕ = drop (suc (spare - 1 + gap)) xs in
-    let n : spare + gap - spare ≡ gap = omega arith in
-    let front_long : length front ≡ spare - 1 = length-take-le (spare - 1) xs (omega arith) in
-    let moved_long : length moved ≡ gap = length-take-le gap (drop spare xs) (omega (arith, length-drop spare xs)) in
-    let at : length (front ++ moved) ≡ spare + gap - 1 = omega (arith, length-append front moved) in
-    let next : suc (spare - 1 + gap) ≡ spare + gap = omega arith in
-    let whole : copied ≡ (front ++ moved) ++ get_or xs (spare - 1 + gap) 0 ∷ back =
-    e
-    ∙ (ap (λ (k : ℕ). (front ++ take k (drop spare xs)) ++ drop (spare - 1 + k) xs) n
-    ∙ ap (λ (l : List ℕ). (front ++ moved) ++ l) (drop-cons xs (spare - 1 + gap) 0 (omega arith))) in
-    ap (λ (l : List ℕ). drop (spare - 1) (set l (spare + gap - 1) x)) whole
-    ∙ (ap (drop (spare - 1)) (set_at (front ++ moved) (get_or xs (spare - 1 + gap) 0) back x (spare + gap - 1) at ∙ append_assoc front moved (x ∷ back))
-    ∙ (drop_at front (moved ++ x ∷ back) (spare - 1) front_long
-    ∙ ap (λ (l : List ℕ). moved ++ x ∷ l) (ap (λ (k : ℕ). drop k xs) next ∙ sym (drop-drop gap spare xs))))
-
--- all moved to the back
-pub moved_back : (xs longer copied : List ℕ) (len by : ℕ) → take len longer ≡ xs → length longer ≡ len + by → copied ≡ copy_within longer 0 len by → drop by copied ≡ xs
-moved_back xs longer copied len by k l e =
-    let n : len - 0 ≡ len = omega arith in
-    let nothing : drop (by + len) longer ≡ [] = nil_from_length (drop (by + len) longer) (omega (arith, length-drop (by + len) longer)) in
-    ap (drop by) (e ∙ (ap (λ (i : ℕ). (take by longer ++ take i longer) ++ drop (by + i) longer) n ∙ append_assoc (take by longer) (take len longer) (drop (by + len) longer)))
-    ∙ (drop_at (take by longer) (take len longer ++ drop (by + len) longer) by (length-take-le by longer (omega arith))
-    ∙ (ap (λ (r : List ℕ). take len longer ++ r) nothing ∙ (append-nil (take len longer) ∙ k)))
-
--- A place that goes: the other ones, which lie closer then, and the offsets behind them.
-pub taken_place : (xs removed am changed : List ℕ) (len spare count at taken : ℕ) → at < count → spare + count ≤ length xs → removed ≡ remove xs (spare + at) → length removed ≡ len → am ≡ removed → changed ≡ map (closed taken) (mid_of spare (spare + (count - 1) - spare) am) → (take (count - 1) (drop spare (take len (put_mid spare (spare + (count - 1) - spare) am changed ++ drop (length (put_mid spare (spare + (count - 1) - spare) am changed)) removed))) ≡ map (closed taken) (remove (take count (drop spare xs)) at)) × (drop (count - 1) (drop spare (take len (put_mid spare (spare + (count - 1) - spare) am changed ++ drop (length (put_mid spare (spare + (count - 1) - spare) am changed)) removed))) ≡ drop count (drop spare xs))
-taken_place xs removed am changed len spare count at taken h l r n a g =
-    let live : List ℕ = drop spare xs in
-    let front : List ℕ = take count live in
-    let k : spare + (count - 1) - spare ≡ count - 1 = omega arith in
-    let long : length front ≡ count = length-take-le count live (omega (arith, length-drop spare xs)) in
-    let fewer : length (remove front at) ≡ count - 1 = omega (arith, length-remove front at (omega arith)) in
-    let whole : drop spare am ≡ remove front at ++ drop count live =
-    ap (drop spare) (a ∙ r)
-    ∙ (removed_behind xs spare at (omega arith)
-    ∙ (ap (λ (x : List ℕ). remove x at) (sym (take-append-drop count live)) ∙ remove_front front (drop count live) at (omega arith))) in
-    let moved : changed ≡ map (closed taken) (remove front at) =
-    g ∙ ap (map (closed taken)) (ap (λ (i : ℕ). take i (drop spare am)) k ∙ (ap (take (count - 1)) whole ∙ take_at (remove front at) (drop count live) (count - 1) fewer)) in
-    let rest : drop (spare + (count - 1) - spare) (drop spare am) ≡ drop count live =
-    ap (λ (i : ℕ). drop i (drop spare am)) k ∙ (ap (drop (count - 1)) whole ∙ drop_at (remove front at) (drop count live) (count - 1) fewer) in
-    let together : put_mid spare (spare + (count - 1) - spare) am changed ≡ take spare am ++ (map (closed taken) (remove front at) ++ drop count live) =
-    ap (λ (y : List ℕ). take spare am ++ (y ++ drop (spare + (count - 1) - spare) (drop spare am))) moved ∙ ap (λ (y : List ℕ). take spare am ++ (map (closed taken) (remove front at) ++ y)) rest in
-    let same : length am ≡ len = ap (length {A = ℕ}) a ∙ n in
-    let room : spare ≤ length am = omega (arith, ap (length {A = ℕ}) r, length-remove xs (spare + at) (omega arith)) in
-    let front_long : length (take spare am) ≡ spare = length-take-le spare am room in
-    let size : length (put_mid spare (spare + (count - 1) - spare) am changed) ≡ len =
-    omega (arith, ap (length {A = ℕ}) together, length-append (take spare am) (map (closed taken) (remove front at) ++ drop count live), length-append (map (closed taken) (remove front at)) (drop count live), length-map (remove front at) (closed taken), ap (length {A = ℕ}) whole, length-append (remove front at) (drop count live), length-drop spare am) in
-    let kept : drop spare (take len (put_mid spare (spare + (count - 1) - spare) am changed ++ drop (length (put_mid spare (spare + (count - 1) - spare) am changed)) removed)) ≡ map (closed taken) (remove front at) ++ drop count live =
-    ap (drop spare) (take_at (put_mid spare (spare + (count - 1) - spare) am changed) (drop (length (put_mid spare (spare + (count - 1) - spare) am changed)) removed) len size ∙ together)
-    ∙ drop_at (take spare am) (map (closed taken) (remove front at) ++ drop count live) spare front_long in
-    let closer : length (map (closed taken) (remove front at)) ≡ count - 1 = length-map (remove front at) (closed taken) ∙ fewer in
-    (ap (take (count - 1)) kept ∙ take_at (map (closed taken) (remove front at)) (drop count live) (count - 1) closer, ap (drop (count - 1)) kept ∙ drop_at (map (closed taken) (remove front at)) (drop count live) (count - 1) closer)
-
--- an index of its parts
-abbrev view_of : List ℕ → List ℕ → List ℕ → ℕ → ℕ → IndexView
-view_of places bucket_starts formal_offsets most offsets = record { places = places; bucket_starts = bucket_starts; formal_offsets = formal_offsets; room = record { places = most; formal_offsets = offsets } }
+-- the list that is left, as Rattle writes it
+pub taken_items : (xs removed am changed : List ℕ) (len end at taken : ℕ) → at < end → end ≤ length xs → removed ≡ remove xs at → length removed ≡ len → am ≡ removed → changed ≡ map (closed taken) (mid_of 0 (end - 1 - 0) am) → take len (put_mid 0 (end - 1 - 0) am changed ++ drop (length (put_mid 0 (end - 1 - 0) am changed)) removed) ≡ map (closed taken) (take (end - 1) (remove xs at)) ++ drop (end - 1) (remove xs at)
+taken_items xs removed am changed len end at taken h l r n a g =
+    let k : end - 1 - 0 ≡ end - 1 = omega arith in
+    let left : List ℕ = remove xs at in
+    let same : am ≡ left = a ∙ r in
+    let kept : List ℕ = take (end - 1) left in
+    let moved : changed ≡ map (closed taken) kept = g ∙ (ap (λ (i : ℕ). map (closed taken) (take i am)) k ∙ ap (λ (ys : List ℕ). map (closed taken) (take (end - 1) ys)) same) in
+    let whole : put_mid 0 (end - 1 - 0) am changed ≡ map (closed taken) kept ++ drop (end - 1) left =
+    ap (λ (ys : List ℕ). ys ++ drop (end - 1 - 0) am) moved ∙ (ap (λ (i : ℕ). map (closed taken) kept ++ drop i am) k ∙ ap (λ (ys : List ℕ). map (closed taken) kept ++ drop (end - 1) ys) same) in
+    let fewer : length left + 1 ≡ length xs = omega (arith, length-remove xs at (omega arith)) in
+    let size : length (put_mid 0 (end - 1 - 0) am changed) ≡ len =
+    omega (arith, ap (length {A = ℕ}) whole, length-append (map (closed taken) kept) (drop (end - 1) left), length-map kept (closed taken), length-take-le (end - 1) left (omega arith), length-drop (end - 1) left, n, ap (length {A = ℕ}) r) in
+    take_at (put_mid 0 (end - 1 - 0) am changed) _ len size ∙ whole
 
 -- an index of which only the list was changed
-pub arranged : (places places' bucket_starts formal_offsets formal_offsets' : List ℕ) (most offsets offsets' : ℕ) → places' ≡ places → formal_offsets' ≡ formal_offsets → offsets' ≡ offsets → view_of places' bucket_starts formal_offsets' most offsets' ≡ view_of places bucket_starts formal_offsets most offsets
-arranged places places' bucket_starts formal_offsets formal_offsets' most offsets offsets' p q r = rw (p, q, r) refl
+pub arranged : (items new before starts : List ℕ) (formal_offsets : List ℕ) (most offsets new_offsets : ℕ) → places_in new before starts ≡ places_in items before starts → drop (get_or starts 1024 0 + get_or before 32 0) new ≡ formal_offsets → new_offsets ≡ offsets → view_of new before starts most new_offsets ≡ record (view_of items before starts most offsets) { formal_offsets = formal_offsets }
+arranged items new before starts formal_offsets most offsets new_offsets p q r = rw (p, q, r) refl
+
+-- an index of which nothing was cut
+pub uncut : (v : IndexView) (from to : ℕ) → from ≡ to → v ≡ record v { formal_offsets = remove_range v.formal_offsets from to }
+uncut v from to e = ap (λ (xs : List ℕ). record v { formal_offsets = xs }) (sym (ap (λ (k : ℕ). take from v.formal_offsets ++ drop k v.formal_offsets) (sym e) ∙ take-append-drop from v.formal_offsets))
+
+-- an index without anything
+zero_starts : (starts : List ℕ) (p : ℕ) → starts ≡ replicate 1025 0 → p ≤ 1024 → get_or starts p 0 ≡ 0
+zero_starts starts p e h = ap (λ (xs : List ℕ). get_or xs p 0) e ∙ get_or-replicate 1025 p 0 0 (omega arith)
+
+abbrev no_slack : List ℕ
+no_slack = replicate 33 0
+
+no_slack_is : (g : ℕ) → g ≤ 32 → get_or no_slack g 0 ≡ 0
+no_slack_is g h = get_or-replicate 33 g 0 0 (omega arith)
+
+nothing_spaced : (starts : List ℕ) → starts ≡ replicate 1025 0 → IsSpaced no_slack starts
+nothing_spaced starts e = record {
+  groups = length-replicate {A = ℕ} 33 0;
+  buckets = ap (length {A = ℕ}) e ∙ length-replicate {A = ℕ} 1025 0;
+  first = zero_starts starts 0 e (omega arith);
+  in_order = λ p q h k. omega (arith, zero_starts starts p e (omega arith));
+  rising = λ g h a b. omega (arith, no_slack_is g (omega arith));
+}
+
+pub nothing_arranged : (len capacity : ℕ) (starts : List ℕ) (most : ℕ) → starts ≡ replicate 1025 0 → most < 2 ^ 31 → len + places_room most ≤ capacity → IsArranged len capacity no_slack starts 0 most
+nothing_arranged len capacity starts most e n h =
+    let last : get_or starts 1024 0 ≡ 0 = zero_starts starts 1024 e (omega arith) in
+    let none : get_or no_slack 32 0 ≡ 0 = no_slack_is 32 (omega arith) in
+    record {
+      spaced = nothing_spaced starts e;
+      most = λ g a. omega (arith, no_slack_is g (omega arith));
+      little = omega arith;
+      narrow = n;
+      few = omega arith;
+      inside = omega arith;
+      room = omega arith;
+    }
+
+pub nothing_in : (items starts : List ℕ) (most offsets kept : ℕ) → items ≡ [] → starts ≡ replicate 1025 0 → offsets ≡ kept → view_of items no_slack starts most offsets ≡ empty_index (record { places = most; formal_offsets = kept })
+nothing_in items starts most offsets kept e f r =
+    let none : places_in items no_slack starts ≡ [] = nil_from_length _ (places_long items no_slack starts ∙ zero_starts starts 1024 f (omega arith)) in
+    let rest : drop (get_or starts 1024 0 + get_or no_slack 32 0) items ≡ [] = nil_from_length _ (omega (arith, length-drop (get_or starts 1024 0 + get_or no_slack 32 0) items, ap (length {A = ℕ}) e)) in
+    rw (none, rest, r, f) refl

@@ -39,11 +39,11 @@ pub grouped_nothing : IsGrouped (zeros 33) (zeros 1025)
 grouped_nothing = record { groups = length-replicate {A = ℕ} 33 0; buckets = length-replicate {A = ℕ} 1025 0; first = λ g h. zero_at 1025 (32 * g) }
 
 -- a list of which a function changed each number between two places
-record IsMapped (f : ℕ → ℕ) (from to : ℕ) (old new : List ℕ) : Type 0 where
-  long : length new ≡ length old
-  before : (p : ℕ) → p < from → get_or new p 0 ≡ get_or old p 0
-  inside : (p : ℕ) → from ≤ p → p < to → get_or new p 0 ≡ f (get_or old p 0)
-  following : (p : ℕ) → to ≤ p → get_or new p 0 ≡ get_or old p 0
+pub record IsMapped (f : ℕ → ℕ) (from to : ℕ) (old new : List ℕ) : Type 0 where
+  pub long : length new ≡ length old
+  pub before : (p : ℕ) → p < from → get_or new p 0 ≡ get_or old p 0
+  pub inside : (p : ℕ) → from ≤ p → p < to → get_or new p 0 ≡ f (get_or old p 0)
+  pub following : (p : ℕ) → to ≤ p → get_or new p 0 ≡ get_or old p 0
 
 module _ (f : ℕ → ℕ) (from to : ℕ) (old changed : List ℕ) (o : from ≤ to) (i : to ≤ length old) (g : changed ≡ map f (slice_range old from to)) where
   abbrev back : List ℕ
@@ -58,7 +58,7 @@ module _ (f : ℕ → ℕ) (from to : ℕ) (old changed : List ℕ) (o : from �
   behind : (p : ℕ) → from ≤ p → get_or (put_mid from (to - from) old changed) p 0 ≡ get_or (changed ++ back) (p - from) 0
   behind p h = get_or-append_right (take from old) (changed ++ back) from p 0 front_long h
 
-  mapped : IsMapped f from to old (put_mid from (to - from) old changed)
+  pub mapped : IsMapped f from to old (put_mid from (to - from) old changed)
   mapped = record {
     long = omega (arith, length-append (take from old) (changed ++ back), length-append changed back, front_long, changed_long, length-drop (to - from) (drop from old), length-drop from old);
     before = λ p h. get_or_append_left (take from old) (changed ++ back) 0 p (omega (arith, front_long)) ∙ get_or-take from old p 0 h;
@@ -104,7 +104,7 @@ module _ (f : ℕ → ℕ) (bucket : ℕ) (groups within new_groups new_within :
       omega (arith, start_is new_groups new_within p (omega (arith, w.long, g.buckets)), s.inside (p / 32) (omega arith) (omega arith), w.following p l)
 
 -- what holds of each number between two places of a list holds of that part
-part_all : (P : ℕ → Type 0) (from to : ℕ) (xs : List ℕ) → to ≤ length xs → ((p : ℕ) → from ≤ p → p < to → P (get_or xs p 0)) → All P (slice_range xs from to)
+pub part_all : (P : ℕ → Type 0) (from to : ℕ) (xs : List ℕ) → to ≤ length xs → ((p : ℕ) → from ≤ p → p < to → P (get_or xs p 0)) → All P (slice_range xs from to)
 part_all P from to xs h a = λ i d l.
     let inside : from + i < to = omega (arith, length-between xs from to h) in
     subst P (sym (get_or-between xs from to i d inside ∙ get_or_default xs (from + i) d 0 (omega arith))) (a (from + i) (omega arith) inside)

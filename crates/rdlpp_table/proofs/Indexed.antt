@@ -7,6 +7,7 @@ use Rattle.std.proofs.lemmas.List.{drop-map, get_or-map, get_or-replicate, get_o
 use Rattle.std.proofs.lemmas.List.Edits.{get_or-insert_above, get_or-insert_at, get_or-insert_below, get_or-remove_above, get_or-remove_below, length-insert, length-remove}
 use Rattle.rdlpp_table.specs.Entries.{AreWithin}
 use Rattle.rdlpp_table.specs.Index.{IsDivided, IsFound, IsGap, IsIndex, IsIndexed, IsLater, IsPlace, IsSooner, closed, index_order, key_at, name_at, name_order, names_of, bucket_of}
+use Rattle.rdlpp_table.specs.IndexView.{IsInBucket}
 use Rattle.rdlpp_table.specs.Layout.{IsHeld, view_of}
 use Rattle.rdlpp_table.specs.FormalOffsets.{table_offsets}
 use Rattle.rdlpp_table.specs.Store.{IsStored, entry_end, macro_in, macros_in, name_of}
@@ -264,16 +265,46 @@ entered_index names order name gap n x g e =
 
 -- Where the buckets of an index begin, once a place was taken out of it or put into it.
 
--- the bucket of a name in the index begins up to its place, and those behind it begin behind its place
-pub sooner_more : (names : List (List ℕ)) (order bucket_starts name : List ℕ) (at bucket : ℕ) → IsDivided names order bucket_starts → IsPlace names order name at → bucket ≡ bucket_of name → (p : ℕ) → bucket < p → p ≤ 1024 → get_or bucket_starts bucket 0 < get_or bucket_starts p 0
-sooner_more names order bucket_starts name at bucket v x e p h l =
+-- a place whose name is of a bucket stands in that bucket
+pub in_bucket : (names : List (List ℕ)) (order bucket_starts : List ℕ) (at bucket : ℕ) → IsDivided names order bucket_starts → bucket < 1024 → at < length order → bucket_of (key_at names order at) ≡ bucket → IsInBucket bucket_starts bucket at
+in_bucket names order bucket_starts at bucket v h l here = record {
+  from = elim (cases_lt at (get_or bucket_starts bucket 0)) [
+    | inl b ↦ absurd (omega (arith, here, v.below bucket at (omega arith) b))
+    | inr b ↦ b
+  ];
+  to = elim (cases_lt at (get_or bucket_starts (bucket + 1) 0)) [
+    | inl b ↦ b
+    | inr b ↦ absurd (omega (arith, here, v.above (bucket + 1) at (omega arith) b l))
+  ];
+}
+
+-- and so does the place of a name
+pub place_in_bucket : (names : List (List ℕ)) (order bucket_starts name : List ℕ) (at bucket : ℕ) → IsDivided names order bucket_starts → IsPlace names order name at → bucket ≡ bucket_of name → bucket < 1024 → IsInBucket bucket_starts bucket at
+place_in_bucket names order bucket_starts name at bucket v x e h = in_bucket names order bucket_starts at bucket v h x.inside (ap bucket_of x.same ∙ sym e)
+
+-- a name that isn't there would stand in its bucket, or where that ends
+pub gap_in_bucket : (names : List (List ℕ)) (order bucket_starts name : List ℕ) (gap bucket : ℕ) → IsDivided names order bucket_starts → IsGap names order name gap → bucket ≡ bucket_of name → bucket < 1024 → (get_or bucket_starts bucket 0 ≤ gap) × (gap ≤ get_or bucket_starts (bucket + 1) 0)
+gap_in_bucket names order bucket_starts name gap bucket v g e h = (
+  elim (cases_lt gap (get_or bucket_starts bucket 0)) [
+    | inl b ↦
+        let inside : gap < length order = omega (arith, v.inside bucket (omega arith)) in
+        absurd (omega (arith, v.below bucket gap (omega arith) b, more_part _ name (g.above gap (omega arith) inside)))
+    | inr b ↦ b
+  ],
+  elim (cases_lt (get_or bucket_starts (bucket + 1) 0) gap) [
+    | inl b ↦
+        let last : ℕ = get_or bucket_starts (bucket + 1) 0 in
+        absurd (omega (arith, g.fits, v.above (bucket + 1) last (omega arith) (omega arith) (omega (arith, g.fits)), less_part _ name (g.below last b)))
+    | inr b ↦ b
+  ],
+)
+
+-- the buckets behind that of a name in the index begin behind its place
+pub sooner_more : (names : List (List ℕ)) (order bucket_starts name : List ℕ) (at bucket : ℕ) → IsDivided names order bucket_starts → IsPlace names order name at → IsInBucket bucket_starts bucket at → bucket ≡ bucket_of name → (p : ℕ) → bucket < p → p ≤ 1024 → get_or bucket_starts bucket 0 < get_or bucket_starts p 0
+sooner_more names order bucket_starts name at bucket v x i e p h l =
     let here : bucket_of (key_at names order at) ≡ bucket = ap bucket_of x.same ∙ sym e in
-    let up_to : get_or bucket_starts bucket 0 ≤ at = elim (cases_lt at (get_or bucket_starts bucket 0)) [
-      | inl b ↦ absurd (omega (arith, here, v.below bucket at (omega arith) b))
-      | inr b ↦ b
-    ] in
     elim (cases_lt at (get_or bucket_starts p 0)) [
-      | inl b ↦ omega arith
+      | inl b ↦ omega (arith, i.from)
       | inr b ↦ absurd (omega (arith, here, v.above p at l b x.inside))
     ]
 

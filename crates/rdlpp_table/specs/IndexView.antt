@@ -1,6 +1,7 @@
 -- What a contract sees of the index of a table, and what a place that comes or goes changes of it.
 -- A definition that names no source is this project's own.
-use Rattle.std.specs.Prelude.{◌≡◌, ℕ, ◌+◌, ◌*◌, ◌≤◌, List, [], insert, map, remove, replicate}
+use Rattle.std.specs.Prelude.{◌≡◌, ℕ, zero, suc, ◌+◌, ◌*◌, ◌/◌, ◌^◌, ◌<◌, ◌≤◌, List, [], length, insert, map, nat_lt, remove, replicate, slice_index, if◌then◌else◌}
+use Rattle.std.specs.List.{range_with_len}
 use Rattle.rdlpp_table.specs.Index.{closed, IsLater, IsSooner}
 
 -- how many places and how many offsets an index has room for
@@ -33,10 +34,45 @@ pub record Leaves (at taken bucket : ℕ) (old new : IndexView) : Type 0 where
   pub formal_offsets : new.formal_offsets ≡ old.formal_offsets
   pub room : new.room ≡ old.room
 
--- what holds of the list of an index, with its spare items at the front, its places and its offsets: there is room for as many spare
--- items as places, and for both beside the offsets
-pub record IsArranged (len capacity spare count most_places : ℕ) : Type 0 where
-  pub inside : spare + count ≤ len
-  pub few_spare : spare ≤ most_places
-  pub few : count ≤ most_places
-  pub room : len + 2 * most_places ≤ spare + count + capacity
+-- in which group of 32 buckets a place of the index stands: of those up to a group the last one that begins there or before it
+unfoldable pub group_of : List ℕ → ℕ → ℕ → ℕ
+group_of bucket_starts at zero = 0
+group_of bucket_starts at (suc g) = if nat_lt at (slice_index bucket_starts (32 * suc g)) then group_of bucket_starts at g else suc g
+
+-- the places of an index in the list in which they lie: so much slack lies before those of each group
+unfoldable pub places_in : List ℕ → List ℕ → List ℕ → List ℕ
+places_in items slack_before bucket_starts = map (λ at. slice_index items (at + slice_index slack_before (group_of bucket_starts at 31))) (range_with_len 0 (slice_index bucket_starts 1024))
+
+-- a place of the index stands in a bucket
+pub record IsInBucket (bucket_starts : List ℕ) (bucket at : ℕ) : Type 0 where
+  pub from : slice_index bucket_starts bucket ≤ at
+  pub to : at < slice_index bucket_starts (bucket + 1)
+
+-- what holds of how much slack lies before the places of each group, and of where the buckets begin
+pub record IsSpaced (slack_before bucket_starts : List ℕ) : Type 0 where
+  pub groups : length slack_before ≡ 33
+  pub buckets : length bucket_starts ≡ 1025
+  pub first : slice_index bucket_starts 0 ≡ 0
+  pub in_order : (p q : ℕ) → p ≤ q → q ≤ 1024 → slice_index bucket_starts p ≤ slice_index bucket_starts q
+  pub rising : (g h : ℕ) → g ≤ h → h ≤ 32 → slice_index slack_before g ≤ slice_index slack_before h
+
+-- the places of the groups from one on lie behind more slack than before, and what stands before those and behind all stands there still
+pub record AreMoved (from to bucket_starts : List ℕ) (group : ℕ) (items moved : List ℕ) : Type 0 where
+  pub before : (p : ℕ) → p < slice_index bucket_starts (32 * group) + slice_index from group → slice_index moved p ≡ slice_index items p
+  pub places : (g k : ℕ) → group ≤ g → g < 32 → slice_index bucket_starts (32 * g) ≤ k → k < slice_index bucket_starts (32 * (g + 1)) → slice_index moved (k + slice_index to g) ≡ slice_index items (k + slice_index from g)
+  pub following : (p : ℕ) → slice_index bucket_starts 1024 + slice_index to 32 ≤ p → slice_index moved p ≡ slice_index items p
+
+-- how many items the list of an index has room for beside the offsets: for so many places, and for the most slack
+abbrev pub places_room : ℕ → ℕ
+places_room most_places = most_places + 32 * (most_places / 256 + 4)
+
+-- what holds of the list of an index, with its places, the slack of their groups and the offsets: there is room for all beside the
+-- offsets
+pub record IsArranged (len capacity : ℕ) (slack_before bucket_starts : List ℕ) (group_slack most_places : ℕ) : Type 0 where
+  pub spaced : IsSpaced slack_before bucket_starts
+  pub most : (g : ℕ) → g ≤ 32 → slice_index slack_before g ≤ group_slack * g
+  pub little : group_slack ≤ most_places / 256 + 4
+  pub narrow : most_places < 2 ^ 31
+  pub few : slice_index bucket_starts 1024 ≤ most_places
+  pub inside : slice_index bucket_starts 1024 + slice_index slack_before 32 ≤ len
+  pub room : len + places_room most_places ≤ slice_index bucket_starts 1024 + slice_index slack_before 32 + capacity

@@ -1,5 +1,5 @@
 // The buckets of an index: names whose bytes are mixed to numbers that begin alike stand together.
-ghost use Rattle.std.specs.Prelude.{◌≡◌, ℕ, ◌+◌, ◌-◌, ◌<◌, ◌≤◌, All, map, replicate, slice_index};
+ghost use Rattle.std.specs.Prelude.{◌≡◌, ℕ, ◌+◌, ◌*◌, ◌-◌, ◌<◌, ◌≤◌, ◌^◌, All, map, replicate, slice_index};
 ghost use Rattle.rdlpp_table.specs.Index.{bucket_of, fold_bytes, mix, IsLater, IsSooner};
 
 use crate::lookup::front_number;
@@ -51,7 +51,7 @@ fn move_up(starts: &mut [u32])
 }
 
 // These numbers are each one less.
-fn move_down(starts: &mut [u32])
+pub(crate) fn move_down(starts: &mut [u32])
     requires { All (λ s. 0 < s) starts.old }
     ensures { starts.new ≡ map (λ s. s - 1) starts.old }
 {
@@ -61,7 +61,7 @@ fn move_down(starts: &mut [u32])
 }
 
 // How many buckets a group has.
-const GROUP: usize = 32;
+pub(crate) const GROUP: usize = 32;
 
 // Where each of the 1,024 buckets of an index begins, and behind them where the last one ends. Buckets stand in groups of 32, so
 // that a name that comes or goes moves the starts of 31 buckets and of 32 groups at most.
@@ -111,6 +111,16 @@ impl BucketStarts {
         ensures { result ≡ slice_index self.now bucket }
     {
         self.group_starts[bucket / GROUP] as usize + self.within[bucket] as usize
+    }
+
+    // Where a group begins, or where the last one ends.
+    #[inline(always)]
+    pub(crate) fn group_start(&self, group: usize) -> usize
+        requires { group ≤ 32 }
+        ensures value { result ≡ slice_index self.now (32 * group) }
+        ensures narrow { result < 2 ^ 32 }
+    {
+        self.group_starts[group] as usize
     }
 
     // The buckets behind one begin a place later, once a name was put into it.

@@ -1,18 +1,18 @@
 // The index of a table: the places of its entries, sorted by the buckets in which their names stand, and then by name. A table has
-// at most 65,536 macros, so that two bytes are enough for a place. In the same list lie spare items before them and the offsets of
-// the macros behind them. A definition moves the places before its own to the front, or those behind it and the offsets to the
-// back, whichever are fewer; a removal always moves what is behind.
-ghost use Rattle.std.specs.Prelude.{◌≡◌, ℕ, ◌+◌, ◌<◌, ◌≤◌, ◌^◌, ◌*◌, ◌-◌, ◌++◌, All, IfOk, drop, insert, length, map, remove, slice_index, take, true, vec_capacity, vec_len};
-ghost use Rattle.std.specs.List.{flat_map, list_all, remove_range};
+// at most 65,536 macros, so that two bytes are enough for a place. In one list lie the places, with slack behind those of each group
+// of buckets, and behind all of them the offsets of the macros. A definition moves those places of its own group that stand behind
+// its own; where its group has no slack left, all groups get slack anew. A removal always moves what is behind.
+ghost use Rattle.std.specs.Prelude.{◌≡◌, ℕ, ◌+◌, ◌<◌, ◌≤◌, ◌^◌, ◌*◌, ◌/◌, ◌-◌, ◌++◌, All, IfOk, drop, length, map, remove, set, slice_index, take, true, vec_capacity, vec_len};
+ghost use Rattle.std.specs.List.{copy_within, flat_map, list_all, remove_range};
 ghost use Rattle.rdlpp_table.specs.Entries.{AreWithin};
 ghost use Rattle.rdlpp_table.specs.FormalOffsets.{offsets_of};
-ghost use Rattle.rdlpp_table.specs.Index.{closed, names_of, IsCounted, IsFound, IsIndexed, IsMiddle};
-ghost use Rattle.rdlpp_table.specs.IndexView.{empty_index, Enters, Leaves};
+ghost use Rattle.rdlpp_table.specs.Index.{bucket_of, closed, names_of, IsCounted, IsFound, IsIndexed, IsMiddle};
+ghost use Rattle.rdlpp_table.specs.IndexView.{empty_index, places_in, AreMoved, Enters, IsInBucket, IsSpaced, Leaves};
 ghost use Rattle.rdlpp_table.specs.Store.{formals_read, is_plain_formal, live, macros_in, IsStored};
 ghost use Rattle.rdlpp_table.specs.Table.{formal_bytes};
 ghost use Rattle.rdlpp_table.specs.View.{place_named};
 
-use crate::buckets::BucketStarts;
+use crate::buckets::{BucketStarts, GROUP, bucket_of, move_down};
 use crate::entry::{Entry, name_in};
 use crate::fault::NoMemory;
 use crate::given_up::{GivenUp, live};
@@ -22,34 +22,38 @@ use std::alloc::Global;
 use std::cmp::Ordering;
 use std::marker::Model;
 
+// How many groups of buckets there are.
+const GROUPS: usize = 32;
+
 // The index of a table.
 #[derive(Drop)]
 pub(crate) struct Index {
-    // Spare items; the places in their order; and where the formals of each macro begin among their bytes, where these are long:
-    // two numbers for each formal.
+    // The places in their order, with slack behind those of each group; and where the formals of each macro begin among their bytes,
+    // where these are long: two numbers for each formal.
     order: Vec<u16>,
-    // How many items at the front are spare.
-    spare: usize,
-    // How many places there are, and how many at most.
-    count: usize,
+    // How much slack lies before the places of each group, and before the offsets.
+    slack_before: [u32; 33],
+    // How much slack each group has at most.
+    group_slack: usize,
+    // How many places there are at most.
     most_places: usize,
     bucket_starts: BucketStarts,
 }
 
 impl Model for Index {
-    ghost use Rattle.std.specs.Prelude.{drop, take, vec_capacity, vec_len, ◌*◌, ◌-◌};
-    ghost use Rattle.rdlpp_table.specs.IndexView.{IndexView, IsArranged};
+    ghost use Rattle.std.specs.Prelude.{drop, slice_index, vec_capacity, vec_len, ◌+◌, ◌-◌};
+    ghost use Rattle.rdlpp_table.specs.IndexView.{places_in, places_room, IndexView, IsArranged};
 
     ghost Value = { IndexView };
 
     ghost view = { λ x. record {
-      places = take x.count (drop x.spare x.order.items);
+      places = places_in x.order.items x.slack_before x.bucket_starts;
       bucket_starts = x.bucket_starts;
-      formal_offsets = drop x.count (drop x.spare x.order.items);
-      room = record { places = x.most_places; formal_offsets = vec_capacity x.order - 2 * x.most_places };
+      formal_offsets = drop (slice_index x.bucket_starts 1024 + slice_index x.slack_before 32) x.order.items;
+      room = record { places = x.most_places; formal_offsets = vec_capacity x.order - places_room x.most_places };
     } };
 
-    ghost invariant = { λ x. IsArranged (vec_len x.order) (vec_capacity x.order) x.spare x.count x.most_places };
+    ghost invariant = { λ x. IsArranged (vec_len x.order) (vec_capacity x.order) x.slack_before x.bucket_starts x.group_slack x.most_places };
 }
 
 // A place between two others, with at most half of what is between them on either side.
@@ -67,20 +71,22 @@ pub(crate) fn seek(
     entries: &[Entry],
     index: &Index,
     key: &LookupKey,
+    bucket: usize,
     steps: &mut Steps,
 ) -> Result<usize, usize>
     requires within { AreWithin (length bytes.now) entries.now }
     requires indexed { IsIndexed (names_of (macros_in bytes.now entries.now)) index.now.places index.now.bucket_starts }
     requires few { length entries.now ≤ 65536 }
+    requires bucket { bucket ≡ bucket_of key.now.name.now }
+    requires small_bucket { bucket < 1024 }
     ensures found { IsFound (names_of (macros_in bytes.now entries.now)) index.now.places key.now.name.now result }
     ensures steps { IsCounted steps.old steps.new }
 {
-    let bucket = key.bucket();
     let mut low = index.start(bucket);
     let mut high = index.start(bucket + 1);
     while low < high {
         let middle = middle_of(low, high);
-        let name = name_in(bytes, &entries[index.place(middle)]);
+        let name = name_in(bytes, &entries[index.place(middle, bucket)]);
         match key.compare(name, steps) {
             Ordering::Less => low = middle + 1,
             Ordering::Greater => high = middle,
@@ -97,11 +103,14 @@ pub(crate) fn seek_named(
     front: &GivenUp,
     index: &Index,
     name: &[u8],
+    bucket: usize,
 ) -> Result<usize, usize>
     requires stored { IsStored front.now.bytes front.now.formal_offsets bytes.now.items (live front.now.entries entries.now.items) (macros_in bytes.now.items (live front.now.entries entries.now.items)) }
     requires given_up { front.now.entries ≤ vec_len entries.now }
     requires indexed { IsIndexed (names_of (macros_in bytes.now.items (live front.now.entries entries.now.items))) index.now.places index.now.bucket_starts }
     requires few { length (live front.now.entries entries.now.items) ≤ 65536 }
+    requires bucket { bucket ≡ bucket_of name.now }
+    requires small_bucket { bucket < 1024 }
     ensures { IsFound (names_of (macros_in bytes.now.items (live front.now.entries entries.now.items))) index.now.places name.now result }
 {
     seek(
@@ -109,6 +118,7 @@ pub(crate) fn seek_named(
         live(entries, front),
         index,
         &LookupKey::new(name),
+        bucket,
         &mut Steps::new(),
     )
 }
@@ -127,8 +137,9 @@ pub(crate) fn place_in(
     ensures value { result ≡ place_named (macros_in bytes.now entries.now) name.now }
     ensures steps { IsCounted steps.old steps.new }
 {
-    match seek(bytes, entries, index, &LookupKey::new(name), steps) {
-        Ok(at) => Some(index.place(at)),
+    let bucket = bucket_of(name);
+    match seek(bytes, entries, index, &LookupKey::new(name), bucket, steps) {
+        Ok(at) => Some(index.place(at, bucket)),
         Err(_) => None,
     }
 }
@@ -150,48 +161,67 @@ fn close_up(places: &mut [u16], taken: u16)
     }
 }
 
-// Takes a place out of a list, which has so many behind its spare items, and answers it.
-fn take_place(order: &mut Vec<u16>, spare: usize, count: usize, at: usize) -> u16
-    requires at { at < count }
-    requires count { spare + count ≤ vec_len order.old }
-    ensures value { result ≡ slice_index (take count (drop spare order.old.items)) at }
-    ensures places { take (count - 1) (drop spare order.new.items) ≡ map (closed result) (remove (take count (drop spare order.old.items)) at) }
-    ensures formal_offsets { drop (count - 1) (drop spare order.new.items) ≡ drop count (drop spare order.old.items) }
+// Takes a place out of a list, of which all before an end are places or slack, and answers it.
+fn take_place(order: &mut Vec<u16>, at: usize, end: usize) -> u16
+    requires at { at < end }
+    requires end { end ≤ vec_len order.old }
+    ensures value { result ≡ slice_index order.old.items at }
+    ensures items { order.new.items ≡ map (closed result) (take (end - 1) (remove order.old.items at)) ++ drop (end - 1) (remove order.old.items at) }
     ensures len { vec_len order.new + 1 ≡ vec_len order.old }
     ensures capacity { vec_capacity order.new ≡ vec_capacity order.old }
 {
-    let taken = order.remove(spare + at);
-    close_up(&mut order[spare..spare + (count - 1)], taken);
+    let taken = order.remove(at);
+    close_up(&mut order[0..end - 1], taken);
     taken
 }
 
-// Puts a place into a list; what stands behind it moves one to the back.
-fn insert_behind(order: &mut Vec<u16>, at: usize, place: u16)
-    requires at { at ≤ vec_len order.old }
-    requires room { vec_len order.old < vec_capacity order.old }
-    ensures items { order.new.items ≡ insert order.old.items at place }
-    ensures len { vec_len order.new ≡ vec_len order.old + 1 }
-    ensures capacity { vec_capacity order.new ≡ vec_capacity order.old }
-{
-    let _ = order.insert(at, place);
-}
-
-// Puts a place into a list; what stands before it, behind the spare items, moves one to the front.
-fn insert_before(order: &mut Vec<u16>, spare: usize, gap: usize, place: u16)
-    requires some { 0 < spare }
-    requires gap { spare + gap ≤ vec_len order.old }
-    ensures items { drop (spare - 1) order.new.items ≡ insert (drop spare order.old.items) gap place }
+// Puts a place into a list: what stands from there on, before an end, moves one to the back, over the slack there.
+fn put_place(order: &mut Vec<u16>, at: usize, end: usize, place: u16)
+    requires at { at ≤ end }
+    requires end { end < vec_len order.old }
+    ensures items { order.new.items ≡ set (copy_within order.old.items at end (at + 1)) at place }
     ensures len { vec_len order.new ≡ vec_len order.old }
     ensures capacity { vec_capacity order.new ≡ vec_capacity order.old }
 {
-    order.copy_within(spare..spare + gap, spare - 1);
-    order[spare + gap - 1] = place;
+    order.copy_within(at..end, at + 1);
+    order[at] = place;
 }
 
-// Moves all of a list so many places to the back, so that as many items at the front are spare.
-fn move_back(order: &mut Vec<u16>, by: usize)
-    requires { vec_len order.old + by ≤ vec_capacity order.old }
-    ensures items { drop by order.new.items ≡ order.old.items }
+// How much slack each group gets where there are so many places: in all an eighth as many items as places, and 128.
+fn slack_for(places: usize) -> usize
+    ensures { result ≡ places / 256 + 4 }
+{
+    places / 256 + 4
+}
+
+// How much slack lies before each group where all have as much.
+fn even_slack(slack: usize) -> [u32; 33]
+    requires { slack < 2 ^ 26 }
+    ensures long { length result ≡ 33 }
+    ensures even { (g : ℕ) → g ≤ 32 → slice_index result g ≡ slack * g }
+{
+    let mut before = [0; 33];
+    for group in 0..33 {
+        before[group] = (slack * group) as u32;
+    }
+    before
+}
+
+// Where the offsets begin in the list of an index.
+#[inline(always)]
+fn offsets_start(starts: &BucketStarts, before: &[u32; 33]) -> usize
+    requires { length before.now ≡ 33 }
+    ensures { result ≡ slice_index starts.now 1024 + slice_index before.now 32 }
+{
+    starts.group_start(GROUPS) + before[GROUPS] as usize
+}
+
+// Moves what stands from a place of a list on so much to the back.
+fn move_rest(order: &mut Vec<u16>, at: usize, by: usize)
+    requires at { at ≤ vec_len order.old }
+    requires room { vec_len order.old + by ≤ vec_capacity order.old }
+    ensures front { take at order.new.items ≡ take at order.old.items }
+    ensures rest { drop (at + by) order.new.items ≡ drop at order.old.items }
     ensures len { vec_len order.new ≡ vec_len order.old + by }
     ensures capacity { vec_capacity order.new ≡ vec_capacity order.old }
 {
@@ -199,32 +229,76 @@ fn move_back(order: &mut Vec<u16>, by: usize)
     for _ in 0..by {
         order.push_reserved(0);
     }
-    order.copy_within(0..len, by);
+    order.copy_within(at..len, at + by);
 }
 
-// Puts a place into a list, among so many behind its spare items, and answers how many items are spare then. What stands before it
-// moves, where that is less than what stands behind it. Where nothing is spare then, all moves once, so that one item more is spare
-// than there are places: as many places can come then before the next move of all.
-fn insert_place(order: &mut Vec<u16>, spare: usize, count: usize, gap: usize, place: u16) -> usize
-    requires gap { spare + gap ≤ vec_len order.old }
-    requires room { vec_len order.old < vec_capacity order.old }
-    requires spare_room { vec_len order.old + (count + 1) ≤ vec_capacity order.old + spare }
-    ensures items { drop result order.new.items ≡ insert (drop spare order.old.items) gap place }
-    ensures few { (most : ℕ) → spare ≤ most → count ≤ most → result ≤ most }
-    ensures len { vec_len order.new + spare ≡ vec_len order.old + 1 + result }
+// Moves the places of each group to the back, to where more slack lies before them: the last group first, so that none is overwritten.
+fn move_groups(order: &mut Vec<u16>, starts: &BucketStarts, from: &[u32; 33], to: &[u32; 33])
+    requires from { IsSpaced from.now starts.now }
+    requires to { IsSpaced to.now starts.now }
+    requires more { (g : ℕ) → g ≤ 32 → slice_index from.now g ≤ slice_index to.now g }
+    requires len { slice_index starts.now 1024 + slice_index to.now 32 ≤ vec_len order.old }
+    ensures moved { AreMoved from.now to.now starts.now 0 order.old.items order.new.items }
+    ensures len { vec_len order.new ≡ vec_len order.old }
     ensures capacity { vec_capacity order.new ≡ vec_capacity order.old }
 {
-    if gap >= order.len() - spare - gap {
-        insert_behind(order, spare + gap, place);
-        return spare;
+    let mut group = GROUPS;
+    while group > 0 {
+        let end = starts.group_start(group);
+        group -= 1;
+        let start = starts.group_start(group);
+        let before = from[group] as usize;
+        order.copy_within(start + before..end + before, start + to[group] as usize);
     }
-    if spare == 0 {
-        move_back(order, count + 1);
-        insert_before(order, count + 1, gap, place);
-        return count;
+}
+
+// Gives each group so much slack.
+fn spread(order: &mut Vec<u16>, starts: &BucketStarts, before: &mut [u32; 33], slack: usize)
+    requires spaced { IsSpaced before.old starts.now }
+    requires most { (g : ℕ) → g ≤ 32 → slice_index before.old g ≤ slack * g }
+    requires small { slack < 2 ^ 26 }
+    requires inside { slice_index starts.now 1024 + slice_index before.old 32 ≤ vec_len order.old }
+    requires room { vec_len order.old + 32 * slack ≤ vec_capacity order.old + slice_index before.old 32 }
+    ensures spaced { IsSpaced before.new starts.now }
+    ensures even { (g : ℕ) → g ≤ 32 → slice_index before.new g ≡ slack * g }
+    ensures places { places_in order.new.items before.new starts.now ≡ places_in order.old.items before.old starts.now }
+    ensures offsets { drop (slice_index starts.now 1024 + slice_index before.new 32) order.new.items ≡ drop (slice_index starts.now 1024 + slice_index before.old 32) order.old.items }
+    ensures len { vec_len order.new + slice_index before.old 32 ≡ vec_len order.old + 32 * slack }
+    ensures capacity { vec_capacity order.new ≡ vec_capacity order.old }
+{
+    let even = even_slack(slack);
+    let more = GROUPS * slack - before[GROUPS] as usize;
+    move_rest(order, offsets_start(starts, before), more);
+    move_groups(order, starts, before, &even);
+    *before = even;
+}
+
+// Sees to it that a group has slack: where it has none left, each gets so much.
+fn make_slack(
+    order: &mut Vec<u16>,
+    starts: &BucketStarts,
+    before: &mut [u32; 33],
+    slack: usize,
+    group: usize,
+)
+    requires spaced { IsSpaced before.old starts.now }
+    requires most { (g : ℕ) → g ≤ 32 → slice_index before.old g ≤ slack * g }
+    requires some { 0 < slack }
+    requires small { slack < 2 ^ 26 }
+    requires inside { slice_index starts.now 1024 + slice_index before.old 32 ≤ vec_len order.old }
+    requires room { vec_len order.old + 32 * slack ≤ vec_capacity order.old + slice_index before.old 32 }
+    requires group { group < 32 }
+    ensures spaced { IsSpaced before.new starts.now }
+    ensures most { (g : ℕ) → g ≤ 32 → slice_index before.new g ≤ slack * g }
+    ensures slack { slice_index before.new group < slice_index before.new (group + 1) }
+    ensures places { places_in order.new.items before.new starts.now ≡ places_in order.old.items before.old starts.now }
+    ensures offsets { drop (slice_index starts.now 1024 + slice_index before.new 32) order.new.items ≡ drop (slice_index starts.now 1024 + slice_index before.old 32) order.old.items }
+    ensures len { vec_len order.new + slice_index before.old 32 ≡ vec_len order.old + slice_index before.new 32 }
+    ensures capacity { vec_capacity order.new ≡ vec_capacity order.old }
+{
+    if before[group] == before[group + 1] {
+        spread(order, starts, before, slack);
     }
-    insert_before(order, spare, gap, place);
-    spare - 1
 }
 
 // Takes numbers out of the middle of a list: those behind move to the front as one block.
@@ -249,11 +323,12 @@ impl Index {
         requires { 2 * most_places + most_offsets < 2 ^ 32 }
         ensures { IfOk result (λ index. index ≡ empty_index (record { places = most_places; formal_offsets = most_offsets })) }
     {
-        match Vec::with_capacity(alloc, 2 * most_places + most_offsets) {
+        let places_room = most_places + GROUPS * slack_for(most_places);
+        match Vec::with_capacity(alloc, places_room + most_offsets) {
             Ok(order) => Ok(Index {
                 order,
-                spare: 0,
-                count: 0,
+                slack_before: [0; 33],
+                group_slack: 0,
                 most_places,
                 bucket_starts: BucketStarts::new(),
             }),
@@ -266,18 +341,19 @@ impl Index {
         ensures { self.new ≡ empty_index self.old.room }
     {
         self.order.clear();
-        self.spare = 0;
-        self.count = 0;
+        self.slack_before = [0; 33];
+        self.group_slack = 0;
         self.bucket_starts.clear();
     }
 
-    // The place that stands at a place of the index.
+    // The place that stands at a place of the index, in a bucket.
     #[inline(always)]
-    pub(crate) fn place(&self, at: usize) -> usize
-        requires { at < length self.now.places }
+    pub(crate) fn place(&self, at: usize, bucket: usize) -> usize
+        requires bucket { bucket < 1024 }
+        requires at { IsInBucket self.now.bucket_starts bucket at }
         ensures { result ≡ slice_index self.now.places at }
     {
-        self.order[self.spare + at] as usize
+        self.order[at + self.slack_before[bucket / GROUP] as usize] as usize
     }
 
     // The offsets of the formals of all macros.
@@ -285,7 +361,7 @@ impl Index {
     pub(crate) fn formal_offsets(&self) -> &[u16]
         ensures { result.now ≡ self.now.formal_offsets }
     {
-        &self.order[self.spare + self.count..]
+        &self.order[offsets_start(&self.bucket_starts, &self.slack_before)..]
     }
 
     // Where a bucket begins, or where the last one ends.
@@ -299,28 +375,41 @@ impl Index {
 
     // Puts in a place, that of a name of a bucket.
     pub(crate) fn enter(&mut self, gap: usize, place: usize, bucket: usize)
-        requires gap { gap ≤ length self.old.places }
+        requires gap { (slice_index self.old.bucket_starts bucket ≤ gap) × (gap ≤ slice_index self.old.bucket_starts (bucket + 1)) }
         requires place { place < 2 ^ 16 }
         requires room { length self.old.places < self.old.room.places }
         requires bucket { bucket < 1024 }
         requires few { All (λ s. s ≤ 65536) self.old.bucket_starts }
         ensures { Enters gap place bucket self.old self.new }
     {
-        self.spare = insert_place(&mut self.order, self.spare, self.count, gap, place as u16);
-        self.count += 1;
+        let group = bucket / GROUP;
+        let count = self.bucket_starts.group_start(GROUPS);
+        self.group_slack = self.group_slack.max(slack_for(count));
+        make_slack(
+            &mut self.order,
+            &self.bucket_starts,
+            &mut self.slack_before,
+            self.group_slack,
+            group,
+        );
+        let before = self.slack_before[group] as usize;
+        let end = self.bucket_starts.group_start(group + 1);
+        put_place(&mut self.order, gap + before, end + before, place as u16);
         self.bucket_starts.begin_later(bucket);
+        move_down(&mut self.slack_before[group + 1..]);
     }
 
     // Takes out the place at which a name of a bucket stands, and answers it.
     pub(crate) fn leave(&mut self, at: usize, bucket: usize) -> usize
-        requires at { at < length self.old.places }
         requires bucket { bucket < 1024 }
+        requires at { IsInBucket self.old.bucket_starts bucket at }
         requires some { (p : ℕ) → bucket < p → p ≤ 1024 → slice_index self.old.bucket_starts bucket < slice_index self.old.bucket_starts p }
         ensures value { result ≡ slice_index self.old.places at }
         ensures leaves { Leaves at result bucket self.old self.new }
     {
-        let place = take_place(&mut self.order, self.spare, self.count, at);
-        self.count -= 1;
+        let first = at + self.slack_before[bucket / GROUP] as usize;
+        let end = offsets_start(&self.bucket_starts, &self.slack_before);
+        let place = take_place(&mut self.order, first, end);
         self.bucket_starts.begin_sooner(bucket);
         place as usize
     }
@@ -342,7 +431,7 @@ impl Index {
         ensures { self.new ≡ record self.old { formal_offsets = remove_range self.old.formal_offsets from to } }
     {
         if from < to {
-            let first = self.spare + self.count;
+            let first = offsets_start(&self.bucket_starts, &self.slack_before);
             cut_numbers(&mut self.order, first + from, first + to);
         }
     }

@@ -1,9 +1,8 @@
 // A name that is looked up, and the count of its comparisons.
 ghost use Rattle.std.specs.Prelude.{◌≡◌, ◌+◌, ◌<◌, ◌≤◌, ℕ, ◌∷◌, length, take};
 ghost use Rattle.std.specs.Slice.Scan.{big_endian};
-ghost use Rattle.rdlpp_table.specs.Index.{name_order, bucket_of};
+ghost use Rattle.rdlpp_table.specs.Index.{name_order};
 
-use crate::buckets::bucket_of;
 use boxcar::tag::{Names, Tag};
 use std::cmp::Ordering;
 use std::marker::Model;
@@ -45,7 +44,7 @@ impl Steps {
     }
 }
 
-// A name that is looked up. Only `compare` and `bucket` read it, so that each comparison is a step.
+// A name that is looked up. Only `compare` reads it, so that each comparison is a step.
 #[derive(Clone, Copy, Drop)]
 pub(crate) struct LookupKey<'a> {
     name: &'a [u8],
@@ -56,14 +55,6 @@ impl<'a> LookupKey<'a> {
         ensures { result.name.now ≡ name.now }
     {
         LookupKey { name }
-    }
-
-    // The bucket of the index in which it is looked up.
-    pub(crate) fn bucket(&self) -> usize
-        ensures value { result ≡ bucket_of self.now.name.now }
-        ensures small { result < 1024 }
-    {
-        bucket_of(self.name)
     }
 
     // How another name stands to the one that is looked up, byte by byte.

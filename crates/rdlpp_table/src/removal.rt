@@ -3,11 +3,10 @@ ghost use Rattle.std.specs.Prelude.{◌≡◌, ◌+◌, ◌-◌, ◌*◌, ◌<�
 ghost use Rattle.rdlpp_table.specs.Table.{without};
 ghost use Rattle.std.specs.List.{remove_range, IsDistinct};
 ghost use Rattle.rdlpp_table.specs.Entries.{moved_down, moved_up, AreAfter, AreLow};
-ghost use Rattle.rdlpp_table.specs.Index.{names_of, IsFound, IsGap, IsIndexed};
+ghost use Rattle.rdlpp_table.specs.Index.{bucket_of, names_of, IsFound, IsGap, IsIndexed};
 ghost use Rattle.rdlpp_table.specs.FormalOffsets.{table_offsets};
 ghost use Rattle.rdlpp_table.specs.Store.{live, macros_in, IsStored};
 
-use crate::buckets::bucket_of;
 use crate::entry::{ENTRY_BYTES, Entry, offsets_len};
 use crate::given_up::{GivenUp, NOTHING, live};
 use crate::index::Index;
@@ -216,6 +215,7 @@ pub(crate) fn remove_named(
     front: &mut GivenUp,
     index: &mut Index,
     name: &[u8],
+    bucket: usize,
     found: Result<usize, usize>,
 ) -> usize
     requires stored { IsStored front.old.bytes front.old.formal_offsets bytes.old.items (live front.old.entries entries.old.items) (macros_in bytes.old.items (live front.old.entries entries.old.items)) }
@@ -225,6 +225,8 @@ pub(crate) fn remove_named(
     requires indexed { IsIndexed (names_of (macros_in bytes.old.items (live front.old.entries entries.old.items))) index.old.places index.old.bucket_starts }
     requires marked { index.old.formal_offsets ≡ table_offsets (macros_in bytes.old.items (live front.old.entries entries.old.items)) }
     requires few { length (live front.old.entries entries.old.items) ≤ 65536 }
+    requires bucket { bucket ≡ bucket_of name.now }
+    requires small_bucket { bucket < 1024 }
     requires found { IsFound (names_of (macros_in bytes.old.items (live front.old.entries entries.old.items))) index.old.places name.now found }
     ensures room { index.new.room ≡ index.old.room }
     ensures gap { IsGap (names_of (macros_in bytes.new.items (live front.new.entries entries.new.items))) index.new.places name.now result }
@@ -237,7 +239,7 @@ pub(crate) fn remove_named(
 {
     match found {
         Ok(at) => {
-            let place = index.leave(at, bucket_of(name));
+            let place = index.leave(at, bucket);
             remove_at(bytes, entries, front, index, place);
             at
         }

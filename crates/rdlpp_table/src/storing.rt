@@ -27,13 +27,12 @@ ghost use Rattle.std.specs.Prelude.{
   ◌∷◌,
 };
 ghost use Rattle.std.specs.List.{flat_map, IsDistinct};
-ghost use Rattle.rdlpp_table.specs.Index.{names_of, IsFound, IsIndexed};
+ghost use Rattle.rdlpp_table.specs.Index.{bucket_of, names_of, IsFound, IsIndexed};
 ghost use Rattle.rdlpp_table.specs.FormalOffsets.{table_offsets};
 ghost use Rattle.rdlpp_table.specs.Store.{live, macros_in, AreStoredFormals, IsStored};
 ghost use Rattle.rdlpp_table.specs.Table.{formal_bytes, table_size, without};
 ghost use Rattle.rdlpp_table.specs.NewMacro.{list_formals, new_macro, points_told, IsList, IsNew};
 
-use crate::buckets::bucket_of;
 use crate::entry::Entry;
 use crate::formals::append_list;
 use crate::given_up::{GivenUp, live};
@@ -162,22 +161,25 @@ pub(crate) fn usage_without(
     front: &GivenUp,
     index: &Index,
     name: &[u8],
+    bucket: usize,
 ) -> UsageWithout
     requires stored { IsStored front.now.bytes front.now.formal_offsets bytes.now.items (live front.now.entries entries.now.items) (macros_in bytes.now.items (live front.now.entries entries.now.items)) }
     requires given_up { front.now.entries ≤ vec_len entries.now }
     requires distinct { IsDistinct bytes_eq (map (λ m. m.name) (macros_in bytes.now.items (live front.now.entries entries.now.items))) }
     requires indexed { IsIndexed (names_of (macros_in bytes.now.items (live front.now.entries entries.now.items))) index.now.places index.now.bucket_starts }
     requires few { length (live front.now.entries entries.now.items) ≤ 65536 }
+    requires bucket { bucket ≡ bucket_of name.now }
+    requires small_bucket { bucket < 1024 }
     ensures found { IsFound (names_of (macros_in bytes.now.items (live front.now.entries entries.now.items))) index.now.places name.now result.found }
     ensures size { result.size ≡ table_size (without name.now (macros_in bytes.now.items (live front.now.entries entries.now.items))) }
     ensures count { result.count ≡ length (without name.now (macros_in bytes.now.items (live front.now.entries entries.now.items))) }
 {
     let size = bytes.len() - front.bytes;
     let count = entries.len() - front.entries;
-    let found = seek_named(bytes, entries, front, index, name);
+    let found = seek_named(bytes, entries, front, index, name, bucket);
     match found {
         Ok(at) => {
-            let entry = &live(entries, front)[index.place(at)];
+            let entry = &live(entries, front)[index.place(at, bucket)];
             UsageWithout {
                 found,
                 size: size - size_of_entry(entry),
@@ -226,11 +228,14 @@ pub(crate) fn replace(
     front: &mut GivenUp,
     index: &mut Index,
     new: &NewMacro,
+    bucket: usize,
     found: Result<usize, usize>,
 )
     requires stored { IsStored front.old.bytes front.old.formal_offsets bytes.old.items (live front.old.entries entries.old.items) (macros_in bytes.old.items (live front.old.entries entries.old.items)) }
     requires given_up { front.old.entries ≤ vec_len entries.old }
     requires found { IsFound (names_of (macros_in bytes.old.items (live front.old.entries entries.old.items))) index.old.places new.now.name.now found }
+    requires bucket { bucket ≡ bucket_of new.now.name.now }
+    requires small_bucket { bucket < 1024 }
     requires distinct { IsDistinct bytes_eq (map (λ m. m.name) (macros_in bytes.old.items (live front.old.entries entries.old.items))) }
     requires indexed { IsIndexed (names_of (macros_in bytes.old.items (live front.old.entries entries.old.items))) index.old.places index.old.bucket_starts }
     requires marked { index.old.formal_offsets ≡ table_offsets (macros_in bytes.old.items (live front.old.entries entries.old.items)) }
@@ -253,8 +258,8 @@ pub(crate) fn replace(
     ensures room { index.new.room ≡ index.old.room }
     ensures capacity { (vec_capacity bytes.new ≡ vec_capacity bytes.old) × (vec_capacity entries.new ≡ vec_capacity entries.old) }
 {
-    let gap = remove_named(bytes, entries, front, index, new.name, found);
-    index.enter(gap, entries.len() - front.entries, bucket_of(new.name));
+    let gap = remove_named(bytes, entries, front, index, new.name, bucket, found);
+    index.enter(gap, entries.len() - front.entries, bucket);
     make_room(
         bytes,
         entries,

@@ -12,6 +12,7 @@ ghost use Rattle.rdlpp_table.specs.PointCache.{cached_points};
 ghost use Rattle.rdlpp_table.specs.Store.{entry_end, formals_read, macro_in, AreStoredFormals};
 ghost use Rattle.rdlpp_table.specs.View.{TableView, AreSoundFormals, IsSound, IsSoundMacro, formal_at, formal_named, formals_of, macro_at, place_named};
 
+use crate::buckets::bucket_of;
 use crate::entry::{Entry, arity_in, body_in, listed_in, name_in};
 use crate::fault::{DefineFault, DefineKind, NoMemory, lexical, refusal};
 use crate::formals::read_list;
@@ -328,13 +329,22 @@ impl Table {
         ensures value { result ≡ is_some (macro_named self.old.macros name.now) }
         ensures table { self.new ≡ record self.old { macros = without name.now self.old.macros } }
     {
-        let found = seek_named(&self.bytes, &self.entries, &self.front, &self.index, name);
+        let bucket = bucket_of(name);
+        let found = seek_named(
+            &self.bytes,
+            &self.entries,
+            &self.front,
+            &self.index,
+            name,
+            bucket,
+        );
         remove_named(
             &mut self.bytes,
             &mut self.entries,
             &mut self.front,
             &mut self.index,
             name,
+            bucket,
             found,
         );
         found.is_ok()
@@ -452,12 +462,14 @@ impl Table {
         ensures refused { OnErr result (self.new ≡ self.old) }
         ensures limits { (self.new.most_bytes ≡ self.old.most_bytes) × (self.new.most_macros ≡ self.old.most_macros) }
     {
+        let bucket = bucket_of(new.name);
         let rest = usage_without(
             &self.bytes,
             &self.entries,
             &self.front,
             &self.index,
             new.name,
+            bucket,
         );
         let size = new
             .name
@@ -476,6 +488,7 @@ impl Table {
             &mut self.front,
             &mut self.index,
             new,
+            bucket,
             rest.found,
         );
         Ok(())

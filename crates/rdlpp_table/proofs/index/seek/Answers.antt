@@ -1,11 +1,16 @@
-use Rattle.std.proofs.Common.{◌<◌, length, arith}
-use Rattle.rdlpp_table.proofs.Indexed.{compared_key, end_of_entry, entry_inside, index_length}
+use Rattle.std.proofs.Common.{◌<◌, ◌∙◌, length, arith, sym}
+use Rattle.rdlpp_table.proofs.Indexed.{compared_key, end_of_entry, entry_inside, in_bucket, index_length}
 use Rattle.rdlpp_table.proofs.Orders.{start_seeking, seek_down, seek_found, seek_up}
 use Rattle.rdlpp_table.proofs.Sizes.{no_entry}
 use Rattle.rdlpp_table.proofs.index.seek.Goals as goal
 
 pub loop-low-init : goal.loop-low-init
-loop-low-init c = start_seeking _ _ _ _ _ _ _ _ c.requires.indexed.divided c.bucket-bucket.ensures.value c.bucket-bucket.ensures.small c.start-low.ensures c.start-high.ensures (omega (arith, index_length _ _ _ c.requires.indexed.index, c.requires.few))
+loop-low-init c = start_seeking _ _ _ _ _ _ _ _ c.requires.indexed.divided c.requires.bucket c.requires.small_bucket c.start-low.ensures c.start-high.ensures (omega (arith, index_length _ _ _ c.requires.indexed.index, c.requires.few))
+
+pub place-requires-clause-at : goal.place-requires-clause-at
+place-requires-clause-at c =
+    let m = c.middle_of-middle.ensures in
+    in_bucket _ _ _ _ _ c.requires.indexed.divided c.requires.small_bucket (omega (arith, c.loop-low.invariant.fits, m.to)) (c.loop-low.invariant.alike _ m.from m.to ∙ sym c.requires.bucket)
 
 pub bounds-entries-place : goal.bounds-entries-place
 bounds-entries-place c =

@@ -2,16 +2,17 @@ use Rattle.std.proofs.Common.{◌∙◌, Some, ap, arith, sym}
 use Rattle.rdlpp_table.specs.IndexView.{IndexView}
 use Rattle.rdlpp_table.proofs.Sizes.{count_items}
 use Rattle.rdlpp_table.proofs.RoundTrip.{stored_without, stored_nowhere}
-use Rattle.rdlpp_table.proofs.Indexed.{entry_inside, found_gap, found_place, gap_without, left_nowhere, left_without, offsets_nowhere, offsets_without, sooner_more}
+use Rattle.rdlpp_table.proofs.Indexed.{entry_inside, found_gap, found_place, gap_without, left_nowhere, left_without, offsets_nowhere, offsets_without, place_in_bucket, sooner_more}
 use Rattle.rdlpp_table.proofs.Orders.{indexed_gap, indexed_place}
 use Rattle.rdlpp_table.proofs.removal.remove_named.Goals as goal
 
 pub leave-place-requires-clause-at : goal.leave-place-requires-clause-at
-leave-place-requires-clause-at c = (found_place _ _ _ _ _ c.in-Ok.is c.requires.found).inside
+leave-place-requires-clause-at c = place_in_bucket _ _ _ _ _ _ c.requires.indexed.divided (found_place _ _ _ _ _ c.in-Ok.is c.requires.found) c.requires.bucket c.requires.small_bucket
 
 pub leave-place-requires-clause-some : goal.leave-place-requires-clause-some
 leave-place-requires-clause-some c =
-    sooner_more _ _ _ _ _ _ c.requires.indexed.divided (found_place _ _ _ _ _ c.in-Ok.is c.requires.found) c.bucket_of.ensures.value
+    let p = found_place _ _ _ _ _ c.in-Ok.is c.requires.found in
+    sooner_more _ _ _ _ _ _ c.requires.indexed.divided p (place_in_bucket _ _ _ _ _ _ c.requires.indexed.divided p c.requires.bucket c.requires.small_bucket) c.requires.bucket
 
 pub remove_at-requires-clause-place : goal.remove_at-requires-clause-place
 remove_at-requires-clause-place c =
@@ -32,7 +33,7 @@ returns-in-Ok-clause-stored c =
 pub returns-in-Ok-clause-indexed : goal.returns-in-Ok-clause-indexed
 returns-in-Ok-clause-indexed c =
     let p = found_place _ _ _ _ _ c.in-Ok.is c.requires.found in
-    rw c.remove_at.ensures.index (left_without _ _ _ _ _ _ _ _ _ c.requires.distinct c.requires.indexed p c.leave-place.ensures.value c.leave-place.ensures.leaves.places c.bucket_of.ensures.value c.leave-place.ensures.leaves.bucket_starts)
+    rw c.remove_at.ensures.index (left_without _ _ _ _ _ _ _ _ _ c.requires.distinct c.requires.indexed p c.leave-place.ensures.value c.leave-place.ensures.leaves.places c.requires.bucket c.leave-place.ensures.leaves.bucket_starts)
 
 pub returns-in-Ok-clause-gap : goal.returns-in-Ok-clause-gap
 returns-in-Ok-clause-gap c =

@@ -1,17 +1,21 @@
 use Rattle.std.proofs.Common.{refl, ◌≡◌, ◌-◌, ◌++◌, ◌∷◌, ◌∙◌, [], List, ap, drop, length, subst, sym, arith, ℕ}
 use Rattle.rdlpp_table.specs.FormalOffsets.{table_offsets}
+use Rattle.rdlpp_table.specs.Index.{IsDivided, names_of}
 use Rattle.rdlpp_table.specs.IndexView.{IndexRoom, IndexView}
 use Rattle.rdlpp_table.specs.Table.{Macro, table_size, without}
 use Rattle.rdlpp_table.specs.NewMacro.{new_macro}
 use Rattle.rdlpp_table.specs.Store.{IsStored, macros_in}
-use Rattle.rdlpp_table.proofs.Indexed.{entered_with, few_left, few_starts}
+use Rattle.rdlpp_table.proofs.Indexed.{entered_with, few_left, few_starts, gap_in_bucket}
 use Rattle.rdlpp_table.proofs.Sizes.{few_offsets, live_count}
 use Rattle.rdlpp_table.proofs.RoundTrip.{read_back, stored_again, stored_count}
 use Rattle.rdlpp_table.proofs.Orders.{count_names}
 use Rattle.rdlpp_table.proofs.storing.replace.Goals as goal
 
 pub enter-requires-clause-gap : goal.enter-requires-clause-gap
-enter-requires-clause-gap c = c.remove_named-gap.ensures.gap.fits
+enter-requires-clause-gap c =
+    let ms : List Macro = without c.args.new.now.name.now (macros_in c.args.bytes.now.items (drop c.args.front.now.entries c.args.entries.now.items)) in
+    let P : List Macro → Type 0 = λ l. IsDivided (names_of l) c.remove_named-gap.new.index.places c.remove_named-gap.new.index.bucket_starts in
+    gap_in_bucket _ _ _ _ _ _ (subst P (sym (read_back _ _ _ c.remove_named-gap.ensures.stored)) c.remove_named-gap.ensures.indexed.divided) c.remove_named-gap.ensures.gap c.requires.bucket c.requires.small_bucket
 
 pub enter-requires-clause-room : goal.enter-requires-clause-room
 enter-requires-clause-room c =
@@ -64,7 +68,7 @@ pub returns-clause-indexed : goal.returns-clause-indexed
 returns-clause-indexed c =
     let n : c.len.result - c.remove_named-gap.new.front.entries ≡ length (drop c.remove_named-gap.new.front.entries c.remove_named-gap.new.entries.items) = omega (arith, c.len.ensures, live_count c.remove_named-gap.new.front.entries c.remove_named-gap.new.entries) in
     let m : Macro = new_macro c.args.new.now.name.now c.args.new.now.arity c.args.new.now.list.now c.args.new.now.is_logical c.args.new.now.text.now in
-    rw c.put.ensures.index (entered_with _ _ _ _ _ _ _ _ m _ _ _ _ _ refl refl refl c.remove_named-gap.ensures.stored c.remove_named-gap.ensures.indexed c.remove_named-gap.ensures.gap n c.enter.ensures.places c.bucket_of.ensures.value c.enter.ensures.bucket_starts)
+    rw c.put.ensures.index (entered_with _ _ _ _ _ _ _ _ m _ _ _ _ _ refl refl refl c.remove_named-gap.ensures.stored c.remove_named-gap.ensures.indexed c.remove_named-gap.ensures.gap n c.enter.ensures.places c.requires.bucket c.enter.ensures.bucket_starts)
 
 pub returns-clause-marked : goal.returns-clause-marked
 returns-clause-marked c =

@@ -2,10 +2,14 @@ use Rattle.std.proofs.Common.{◌≡◌, ◌∙◌, ◌+◌, List, Some, ap, ari
 use Rattle.rdlpp_table.specs.declared.entry.Entry.{Entry}
 use Rattle.rdlpp_table.specs.View.{place_named}
 use Rattle.rdlpp_table.specs.Store.{macros_in}
+use Rattle.rdlpp_table.proofs.Indexed.{place_in_bucket}
 use Rattle.rdlpp_table.proofs.Orders.{indexed_gap, indexed_place}
 use Rattle.rdlpp_table.proofs.Sizes.{count_items, inside_by_place, length_macros_in, live_count, no_entry}
 use Rattle.rdlpp_table.proofs.RoundTrip.{usage_without_size, usage_without_count, usage_without_none}
 use Rattle.rdlpp_table.proofs.storing.usage_without.Goals as goal
+
+pub place-requires-clause-at : goal.place-requires-clause-at
+place-requires-clause-at c = place_in_bucket _ _ _ _ _ _ c.requires.indexed.divided c.in-Ok.ensures c.requires.bucket c.requires.small_bucket
 
 pub bounds-live-place : goal.bounds-live-place
 bounds-live-place c =
