@@ -417,7 +417,7 @@ run_drop p (suc n) m (x ∷ xs) h =
 
 -- an expansion point as it is kept by its numbers, where these are small enough
 abbrev pub when : Bool → PackedKind → ℕ → ℕ → ℕ → ℕ → PackedPoint
-when b kind at len place plain_argument = if b then record { end = at + len; len = len; place = place; plain_argument = plain_argument; kind = kind } else endless kept.Unknown 0
+when b kind at len place plain_argument = if b then record { end = at + len; len = len; place = place; plain_argument = plain_argument; kind = kind } else endless 1 0
 
 pub back_when : (b : Bool) (kind : PackedKind) (at len place plain_argument : ℕ) (s : ExpansionPoint) → point_by kind at len place ≡ Some s → IfSome (point_kept (when b kind at len place plain_argument)) (λ x. x ≡ s)
 unfolding point_kept point_by endless
@@ -471,7 +471,7 @@ points_more formals text all i from k h e f n =
 
 -- what is kept where nothing is known
 abbrev unknown : PackedPoint
-unknown = endless kept.Unknown 0
+unknown = endless 1 0
 
 -- from a place that is too far behind on nothing is known
 points_beyond : (formals : List Formal) (text : List ℕ) (n from : ℕ) → 65535 ≤ from → points_after n formals text from ≡ replicate n unknown
@@ -507,7 +507,7 @@ all_points formals text points e = ap (λ (x : PointCache). x.all) e
 
 -- an expansion point without anything
 abbrev pub no_point : PackedPoint
-no_point = record { end = 0; len = 0; place = 0; plain_argument = 0; kind = kept.Unknown }
+no_point = record { end = 0; len = 0; place = 0; plain_argument = 0; kind = kept.None }
 
 -- the expansion point at a place among them is the first one from the end of the one before, and those behind it come from its own end on
 pub point_next : (formals : List Formal) (text : List ℕ) (all : List PackedPoint) (d k : PackedPoint) (i start : ℕ) → length all ≡ 10 → i < 10 → drop i all ≡ points_after (10 - i) formals text start → k ≡ get_or all i d → (k ≡ kept_from formals text start) × (drop (i + 1) all ≡ points_after (10 - (i + 1)) formals text k.end)

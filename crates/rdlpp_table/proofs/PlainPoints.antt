@@ -326,7 +326,7 @@ record IsKeptPoint (s : ExpansionPoint) (start : ℕ) (rest : List ℕ) (k : Pac
   place : is_none s ≡ false → (k.end - k.len ≡ begins s) ⊎ (k.plain_argument ≡ 0)
   some : 0 < k.len → (is_none s ≡ false) × ((begins s ≡ k.end - k.len) × (point_end s ≡ k.end))
 
-none_kept : (s : ExpansionPoint) (start : ℕ) (rest : List ℕ) → (is_none s ≡ false → start ≤ begins s) → IsKeptPoint s start rest (endless kept.Unknown 0)
+none_kept : (s : ExpansionPoint) (start : ℕ) (rest : List ℕ) → (is_none s ≡ false → start ≤ begins s) → IsKeptPoint s start rest (endless 1 0)
 unfolding point_kept point_by endless
 none_kept s start rest low = record { back = tt; few = omega arith; before = λ h. omega (arith, low h); place = λ _. inr refl; some = λ h. absurd (omega (arith, h)) }
 
@@ -346,8 +346,8 @@ of_kept : (s : ExpansionPoint) (plain_argument start : ℕ) (rest : List ℕ) �
 unfolding kept_of placed endless point_kept point_by is_none begins point_end
 of_kept point.None plain_argument start rest few before = record { back = refl; few = few; before = λ h. absurd (cc); place = λ h. absurd (cc); some = λ h. absurd (omega (arith, h)) }
 of_kept (point.Formal at len place) plain_argument start rest few before = when_kept _ kept.Formal at len place plain_argument _ start rest refl refl refl refl few (before refl)
-of_kept (point.Usage at len) plain_argument start rest few before = when_kept _ kept.Usage at len 0 plain_argument _ start rest refl refl refl refl few (before refl)
-of_kept (point.Bare at) plain_argument start rest few before = when_kept _ kept.Bare at 1 0 plain_argument _ start rest refl refl refl refl few (before refl)
+of_kept (point.Usage at len) plain_argument start rest few before = when_kept _ kept.Back at len 0 plain_argument _ start rest refl refl refl refl few (before refl)
+of_kept (point.Bare at) plain_argument start rest few before = when_kept _ kept.Back at 1 1 plain_argument _ start rest refl refl refl refl few (before refl)
 
 -- a cut of a text, counted from the place from which on it is read
 cut_place : (text : List ℕ) (start from : ℕ) → start ≤ from → is_cut text start from ≡ true → IsCut (drop start text) (from - start)
@@ -429,7 +429,7 @@ known_range formals text start from to s k is e low order high =
     (λ _. tt)))
     (λ _. tt)
 
-when_range : (b : Bool) (formals : List Formal) (text : List ℕ) (start from to : ℕ) → start ≤ from → from ≤ to → to ≤ length text → (let s = point_of formals start (drop start text) in IfSome (point_known text start (if b then kept_point s start (drop start text) else endless kept.Unknown 0) from to) (λ x. x ≡ point_of formals from (slice_range text from to)))
+when_range : (b : Bool) (formals : List Formal) (text : List ℕ) (start from to : ℕ) → start ≤ from → from ≤ to → to ≤ length text → (let s = point_of formals start (drop start text) in IfSome (point_known text start (if b then kept_point s start (drop start text) else endless 1 0) from to) (λ x. x ≡ point_of formals from (slice_range text from to)))
 unfolding kept_point point_of IsFrom
 when_range true formals text start from to low order high =
     let rest = drop start text in
@@ -440,7 +440,7 @@ when_range true formals text start from to low order high =
 when_range false formals text start from to low order high =
     let rest = drop start text in
     let s = point_of formals start rest in
-    known_range formals text start from to s (endless kept.Unknown 0) (none_kept s start rest (tokens_within formals start (tokens_from Plain 0 rest) rest)) refl low order high
+    known_range formals text start from to s (endless 1 0) (none_kept s start rest (tokens_within formals start (tokens_from Plain 0 rest) rest)) refl low order high
 
 pub range_told : (formals : List Formal) (text : List ℕ) (start from to : ℕ) (k : PackedPoint) (r : Option ExpansionPoint) → k ≡ kept_from formals text start → (start ≤ from) × (from ≤ to) → to ≤ length text → r ≡ point_known text start k from to → IfSome r (λ x. x ≡ point_of formals from (slice_range text from to))
 unfolding kept_from

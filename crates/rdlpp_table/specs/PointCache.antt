@@ -20,31 +20,29 @@ point_end (point.Formal at len place) = at + len
 point_end (point.Usage at len) = at + len
 point_end (point.Bare at) = at + 1
 
--- what is kept where no expansion point is known to end
-unfoldable pub endless : PackedKind → ℕ → PackedPoint
-endless kind plain_argument = record { end = 65535; len = 0; place = 0; plain_argument = plain_argument; kind = kind }
+-- what is kept where no expansion point is known to end: there is none, or, with another place than 0, it is unknown
+unfoldable pub endless : ℕ → ℕ → PackedPoint
+endless place plain_argument = record { end = 65535; len = 0; place = place; plain_argument = plain_argument; kind = kept.None }
 
 -- an expansion point as it is kept, by its numbers: unknown, where these are too large
 unfoldable pub placed : PackedKind → ℕ → ℕ → ℕ → ℕ → PackedPoint
 placed kind at len place plain_argument =
     if nat_lt at 65535 && (nat_lt len 256 && (nat_lt place 256 && nat_lt (at + len) 65535))
     then record { end = at + len; len = len; place = place; plain_argument = plain_argument; kind = kind }
-    else endless kept.Unknown 0
+    else endless 1 0
 
 -- an expansion point as it is kept, with how many plain argument bytes stand first in its text
 unfoldable pub kept_of : ExpansionPoint → ℕ → PackedPoint
-kept_of point.None plain_argument = endless kept.None plain_argument
+kept_of point.None plain_argument = endless 0 plain_argument
 kept_of (point.Formal at len place) plain_argument = placed kept.Formal at len place plain_argument
-kept_of (point.Usage at len) plain_argument = placed kept.Usage at len 0 plain_argument
-kept_of (point.Bare at) plain_argument = placed kept.Bare at 1 0 plain_argument
+kept_of (point.Usage at len) plain_argument = placed kept.Back at len 0 plain_argument
+kept_of (point.Bare at) plain_argument = placed kept.Back at 1 1 plain_argument
 
--- the expansion point of a kind between two places
+-- the expansion point of a kind between two places: with another place than 0 a lone backquote, and unknown
 unfoldable pub point_by : PackedKind → ℕ → ℕ → ℕ → Option ExpansionPoint
-point_by kept.Unknown at len place = None
-point_by kept.None at len place = Some point.None
+point_by kept.None at len place = if place == 0 then Some point.None else None
 point_by kept.Formal at len place = Some (point.Formal at len place)
-point_by kept.Usage at len place = Some (point.Usage at len)
-point_by kept.Bare at len place = Some (point.Bare at)
+point_by kept.Back at len place = Some (if place == 0 then point.Usage at len else point.Bare at)
 
 -- the expansion point that is kept, where it is known
 unfoldable pub point_kept : PackedPoint → Option ExpansionPoint
@@ -68,7 +66,7 @@ kept_point s from text = kept_of s (plain_argument_kept (before_point s from tex
 -- the first expansion point of a text from a place on, as it is kept: unknown, where the place is too far behind
 unfoldable pub kept_from : List Formal → List ℕ → ℕ → PackedPoint
 kept_from formals text from =
-    if nat_lt from 65535 then kept_point (point_of formals from (drop from text)) from (drop from text) else endless kept.Unknown 0
+    if nat_lt from 65535 then kept_point (point_of formals from (drop from text)) from (drop from text) else endless 1 0
 
 -- so many first expansion points of a text from a place on, each of them the first one behind the one before
 unfoldable pub points_after : ℕ → List Formal → List ℕ → ℕ → List PackedPoint

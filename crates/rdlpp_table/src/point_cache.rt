@@ -26,14 +26,14 @@ use crate::offsets::{StoredFormals, shapes};
 use crate::point::{ExpansionPoint, next_expansion_point};
 use rdlpp_scan::{inert_bytes, plain_argument_bytes, word_bytes};
 
-// What an expansion point is that is kept: unknown, where its numbers are too large.
+// What an expansion point is that is kept. With the place these are all there are; so few are told apart without a table of jumps.
 #[derive(Clone, Copy, Drop)]
 pub(crate) enum PackedKind {
-    Unknown,
+    // None, where the place is 0, or unknown, since its numbers are too large.
     None,
     Formal,
-    Usage,
-    Bare,
+    // A usage, where the place is 0, or a lone backquote.
+    Back,
 }
 
 // An expansion point as it is kept: in small numbers, which all have but those far behind in a long body and names that no macro has.
@@ -42,7 +42,7 @@ pub(crate) struct PackedPoint {
     // Where it ends; 65,535 where there is none, or where it is unknown.
     pub(crate) end: u16,
     pub(crate) len: u8,
-    // Which formal it is.
+    // Which formal it is, or which of two things of its kind.
     pub(crate) place: u8,
     // How many plain argument bytes stand first in the text of which it is the first expansion point, and before it: 255, where
     // there are more.
@@ -61,15 +61,15 @@ pub(crate) struct PointCache {
 
 // What is kept where no expansion point is known to end.
 #[tactic(auto, unfolding(crate::specs::PointCache::endless))]
-fn endless(kind: PackedKind, plain_argument: u8) -> PackedPoint
-    ensures { result ≡ endless kind plain_argument }
+fn endless(place: u8, plain_argument: u8) -> PackedPoint
+    ensures { result ≡ endless place plain_argument }
 {
     PackedPoint {
         end: 65535,
         len: 0,
-        place: 0,
+        place,
         plain_argument,
-        kind,
+        kind: PackedKind::None,
     }
 }
 
@@ -88,7 +88,7 @@ fn placed(kind: PackedKind, at: usize, len: usize, place: usize, plain_argument:
             kind,
         }
     } else {
-        endless(PackedKind::Unknown, 0)
+        endless(1, 0)
     }
 }
 
@@ -99,7 +99,7 @@ fn kept_of(point: ExpansionPoint, plain_argument: u8) -> PackedPoint
     ensures end { result.end < 65535 → result.end ≡ point_end point }
 {
     match point {
-        ExpansionPoint::None => endless(PackedKind::None, plain_argument),
+        ExpansionPoint::None => endless(0, plain_argument),
         ExpansionPoint::Formal { at, len, place } => placed(
             PackedKind::Formal,
             at,
@@ -107,8 +107,8 @@ fn kept_of(point: ExpansionPoint, plain_argument: u8) -> PackedPoint
             place,
             plain_argument,
         ),
-        ExpansionPoint::Usage { at, len } => placed(PackedKind::Usage, at, len, 0, plain_argument),
-        ExpansionPoint::Bare { at } => placed(PackedKind::Bare, at, 1, 0, plain_argument),
+        ExpansionPoint::Usage { at, len } => placed(PackedKind::Back, at, len, 0, plain_argument),
+        ExpansionPoint::Bare { at } => placed(PackedKind::Back, at, 1, 1, plain_argument),
     }
 }
 
@@ -118,11 +118,11 @@ fn point_by(kind: PackedKind, at: usize, len: usize, place: usize) -> Option<Exp
     ensures { result ≡ point_by kind at len place }
 {
     match kind {
-        PackedKind::Unknown => None,
-        PackedKind::None => Some(ExpansionPoint::None),
+        PackedKind::Back if place == 0 => Some(ExpansionPoint::Usage { at, len }),
+        PackedKind::Back => Some(ExpansionPoint::Bare { at }),
         PackedKind::Formal => Some(ExpansionPoint::Formal { at, len, place }),
-        PackedKind::Usage => Some(ExpansionPoint::Usage { at, len }),
-        PackedKind::Bare => Some(ExpansionPoint::Bare { at }),
+        PackedKind::None if place == 0 => Some(ExpansionPoint::None),
+        PackedKind::None => None,
     }
 }
 
@@ -188,7 +188,7 @@ fn kept_from(formals: &StoredFormals, shapes: &[bool], body: &[u8], from: u16) -
             text,
         )
     } else {
-        endless(PackedKind::Unknown, 0)
+        endless(1, 0)
     }
 }
 
@@ -199,7 +199,7 @@ pub(crate) fn cached_points(formals: &StoredFormals, body: &[u8]) -> PointCache
     ensures { result ≡ cached_points (formals_read formals.now.count formals.now.list.now) body.now }
 {
     let shapes = shapes(formals);
-    let mut all = [endless(PackedKind::Unknown, 0); CACHED_POINTS];
+    let mut all = [endless(1, 0); CACHED_POINTS];
     let mut count = 0;
     let mut from = 0;
     while count < CACHED_POINTS && from < 65535 {
