@@ -1,7 +1,7 @@
 -- The first expansion point of a text, and what stands at its front.
-use Rattle.std.proofs.Common.{◌≡◌, ℕ, ◌+◌, ◌-◌, ◌<◌, ◌≤◌, Bool, true, false, true≢false, List, [], ◌∷◌, length, take, drop, refl, sym, ap, subst, ◌∙◌, arith, option_map, unwrap_or, Option, None, Some, not, cond, eqb, get_or, is_some, if◌then◌else◌, slice_range, eqb-true, drop-drop, get_or-drop, length-drop, length-take}
+use Rattle.std.proofs.Common.{◌≡◌, ℕ, ◌+◌, ◌-◌, ◌<◌, ◌≤◌, Bool, true, false, true≢false, List, [], ◌∷◌, length, take, drop, refl, sym, ap, subst, ◌∙◌, arith, Option, None, Some, not, cond, eqb, get_or, is_some, if◌then◌else◌, slice_range, eqb-true, drop-drop, get_or-drop, length-drop, length-take}
 use Rattle.std.proofs.lemmas.Bool.{cond_both}
-use Rattle.std.proofs.lemmas.List.{drop_all, nil_from_length}
+use Rattle.std.proofs.lemmas.List.{drop_all}
 use Rattle.memchr.specs.Find.{IsFirstByte, is_byte}
 use Rattle.rdlpp_scan.specs.Bytes.{begins_perl}
 use Rattle.rdlpp_scan.specs.Ordinary.{is_plain_kind}
@@ -15,7 +15,7 @@ use Rattle.rdlpp_scan.proofs.RangeLaws.{tokens_from-first}
 use Rattle.rdlpp_scan.proofs.StopKinds.{AtBack, AtBare, AtBlockComment, AtLineComment, AtPerl, AtPlain, AtString, Row, block_token-kind, string_token-kind, token_of-row}
 use Rattle.rdlpp_scan.proofs.TokenLens.{token_of-part, tokens_from-step}
 use Rattle.rdlpp_table.specs.ExpansionPoints.{next_expansion_point, is_none, or_point, point_at, point_in, point_name, point_of}
-use Rattle.rdlpp_table.specs.Table.{Formal, Macro}
+use Rattle.rdlpp_table.specs.Table.{Formal}
 use Rattle.rdlpp_table.specs.View.{formal_named, macro_at}
 use Rattle.rdlpp_table.specs.declared.point.ExpansionPoint.{ExpansionPoint}
 use Rattle.rdlpp_table.specs.declared.point.ExpansionPoint.TheVariants as point
@@ -388,78 +388,6 @@ pub body-inside : (texts : Texts) (source : TextSource) (id end : ℕ) → sourc
     → end ≤ length (macro_at texts.macros id).body
 unfolding source_text
 body-inside texts source id end e inside = subst (λ (x : TextSource). end ≤ length (source_text texts x)) e inside
-
--- The first expansion point of a text without formals, by its run and what stands behind that.
-
-place-none : (s : ExpansionPoint) → point_place s ≡ None → point.None ≡ s
-place-none point.None e = refl
-place-none _ e = absurd (cc)
-
--- there is none, where nothing stands behind the run
-pub unlisted-none : (text : List ℕ) (from n : ℕ) → n ≡ run_len [] (tokens_from Plain 0 text) text → drop n text ≡ [] → point.None ≡ point_of [] from text
-unfolding point_of PlaceTells
-unlisted-none text from n e none =
-    by (point_place (point_of [] from text)) refl (subst (λ (k : ℕ). PlaceTells from k (length text) (point_place (point_of [] from text))) (sym e) (points-at [] from (tokens_from Plain 0 text) Plain text refl))
-  where
-    by : (place : Option ℕ) → point_place (point_of [] from text) ≡ place → PlaceTells from n (length text) place → point.None ≡ point_of [] from text
-    by None p h = place-none (point_of [] from text) p
-    by (Some at) p h =
-        let less : n < length text = h.1 in
-        absurd (omega (arith, ap (length {A = ℕ}) none, length-drop n text, less))
-
--- else it is the token behind the run
-unlisted-token : (text : List ℕ) (from n : ℕ) → n ≡ run_len [] (tokens_from Plain 0 text) text → 0 < length (drop n text)
-    → point_at [] (from + n) (token_of Plain (drop n text)) (take (token_of Plain (drop n text)).len (drop n text)) ≡ point_of [] from text
-unfolding point_of PlaceTells
-unlisted-token text from n e some =
-    by (point_place (point_of [] from text)) refl (subst (λ (k : ℕ). PlaceTells from k (length text) (point_place (point_of [] from text))) (sym e) (points-at [] from (tokens_from Plain 0 text) Plain text refl))
-  where
-    by : (place : Option ℕ) → point_place (point_of [] from text) ≡ place → PlaceTells from n (length text) place
-        → point_at [] (from + n) (token_of Plain (drop n text)) (take (token_of Plain (drop n text)).len (drop n text)) ≡ point_of [] from text
-    by None p h =
-        let all : n ≡ length text = h in
-        absurd (omega (arith, length-drop n text, some, all))
-    by (Some at) p h =
-        point-token [] (from + n) Plain (drop n text) some (run-following [] text n e)
-        ∙ (ap (λ (k : ℕ). next_expansion_point [] (from + k) (tokens_from Plain 0 (drop k text)) (drop k text)) e
-        ∙ point-following [] from (tokens_from Plain 0 text) Plain text refl (place-some (point_of [] from text) at p))
-
-usage-at : (at : ℕ) (t : Token) (bytes : List ℕ) → t.kind ≡ Back → point.Usage at t.len ≡ point_at [] at t bytes
-unfolding point_at
-usage-at at t bytes e = sym (ap (λ (k : Kind). let u : Token = record { kind = k; len = t.len; next_mode = t.next_mode } in point_at [] at u bytes) e)
-
-bare-at : (at : ℕ) (t : Token) (bytes : List ℕ) → t.kind ≡ BareBackquote → point.Bare at ≡ point_at [] at t bytes
-unfolding point_at
-bare-at at t bytes e = sym (ap (λ (k : Kind). let u : Token = record { kind = k; len = t.len; next_mode = t.next_mode } in point_at [] at u bytes) e)
-
--- a usage, where one stands behind the run
-pub unlisted-usage : (text : List ℕ) (from n len : ℕ) → n ≡ run_len [] (tokens_from Plain 0 text) text → IsTextItem [] (drop n text) (front.Usage len) → point.Usage (from + n) len ≡ point_of [] from text
-unfolding IsTextItem
-unlisted-usage text from n len e f =
-    let t = token_of Plain (drop n text) in
-    ap (λ (k : ℕ). point.Usage (from + n) k) (sym f.2) ∙ (usage-at (from + n) t (take t.len (drop n text)) f.1 ∙ unlisted-token text from n e f.0)
-
--- or a lone backquote
-pub unlisted-bare : (text : List ℕ) (from n : ℕ) → n ≡ run_len [] (tokens_from Plain 0 text) text → IsTextItem [] (drop n text) front.Bare → point.Bare (from + n) ≡ point_of [] from text
-unfolding IsTextItem
-unlisted-bare text from n e f =
-    let t = token_of Plain (drop n text) in
-    bare-at (from + n) t (take t.len (drop n text)) f.1 ∙ unlisted-token text from n e f.0
-
--- and no formal
-pub unlisted-formal : (text : List ℕ) (len place : ℕ) → IsTextItem [] text (front.Formal len place) → ⊥
-unfolding IsTextItem
-unlisted-formal text len place f = grind arith
-
-no_formals : (o : Option (List Formal)) (n : Option ℕ) → n ≡ option_map (length {A = Formal}) o → unwrap_or n 0 ≡ 0 → [] ≡ unwrap_or o []
-no_formals None n e z = refl
-no_formals (Some fs) n e z = sym (nil_from_length fs (sym (ap (λ (x : Option ℕ). unwrap_or x 0) e) ∙ z))
-
--- a body without formals is such a text
-pub unlisted-body : (m : Macro) (from end : ℕ) (n : Option ℕ) (body : List ℕ) (s : ExpansionPoint) → n ≡ option_map (length {A = Formal}) m.formals → unwrap_or n 0 ≡ 0 → body ≡ m.body
-    → s ≡ point_of [] from (slice_range body from end) → s ≡ point_in m from end
-unfolding point_in
-unlisted-body m from end n body s e z b h = grind (arith, no_formals)
 
 -- A text without a backquote has no expansion point but the names of formals.
 

@@ -142,7 +142,7 @@ fn unkept_point(table: &Table, id: MacroId, from: usize, end: usize) -> Expansio
     sought_point(table, id, from, end)
 }
 
-// The same by reading. In a body without formals only a backquote is an expansion point.
+// The same by reading.
 #[cold]
 #[inline(never)]
 fn sought_point(table: &Table, id: MacroId, from: usize, end: usize) -> ExpansionPoint
@@ -151,26 +151,7 @@ fn sought_point(table: &Table, id: MacroId, from: usize, end: usize) -> Expansio
     requires inside { end ≤ length (macro_at table.now.macros id).body }
     ensures { result ≡ point_in (macro_at table.now.macros id) from end }
 {
-    if table.arity(id).unwrap_or(0) == 0 {
-        return unlisted_point(&table.body(id)[from..end], from);
-    }
     table.seek_point(id, from, end)
-}
-
-// The first expansion point of a text without formals that begins at a place.
-fn unlisted_point(text: &[u8], from: usize) -> ExpansionPoint
-    requires { from + length text.now < 2 ^ 64 }
-    ensures { result ≡ point_of [] from text.now }
-{
-    let len = run_len(text);
-    let at = from + len;
-    match plain_point(&text[len..]) {
-        TextItem::Ended => ExpansionPoint::None,
-        TextItem::Usage(len) => ExpansionPoint::Usage { at, len },
-        TextItem::Bare => ExpansionPoint::Bare { at },
-        // There is none.
-        TextItem::Formal { len, place } => ExpansionPoint::Formal { at, len, place },
-    }
 }
 
 // What stands ahead in a text that ends at a place, by its first expansion point.
