@@ -1,22 +1,19 @@
 -- Laws of directives in front of what remains, and of moves in a nest of open sources.
-use Rattle.std.proofs.Common.{◌≡◌, ℕ, zero, suc, Bool, true, false, ◌||◌, List, [], ◌∷◌, ◌++◌, take, drop, refl, sym, ap, ◌∙◌, Option, None, Some, append-nil, length, not, ◌-◌, arith, append_assoc, if◌then◌else◌, slice_index, ◌==◌}
+use Rattle.std.proofs.Common.{◌≡◌, ℕ, zero, suc, Bool, true, false, List, [], ◌∷◌, ◌++◌, take, drop, refl, sym, ap, ◌∙◌, Option, None, Some, append-nil, length, not, ◌-◌, arith, append_assoc, if◌then◌else◌, slice_index, ◌==◌}
 use Rattle.std.specs.List.{list_any}
-use Rattle.std.specs.Str.{is_utf8}
 use Rattle.rdlpp_scan.specs.Bytes.{is_line_end}
 use Rattle.rdlpp_scan.specs.SourceTokens.{Ordinary, Renumbering, Sort, SourceToken}
 use Rattle.rdlpp_scan.specs.declared.token.Directive.{Directive}
-use Rattle.rdlpp_scan.specs.declared.token.Directive.TheVariants.{Define, Else, Elsif, Ifdef, Ifndef, Include, Line, Undef}
+use Rattle.rdlpp_scan.specs.declared.token.Directive.TheVariants.{Else, Elsif, Ifdef, Ifndef, Include, Undef}
 use Rattle.rdlpp_scan.specs.declared.token.Kind.TheVariants.{Blank, Name, Str}
 use Rattle.rdlpp_meaning.specs.Expansion.{bytes_of}
-use Rattle.rdlpp_meaning.specs.Meaning.{Checked, NameFault, Fine, IncludedMeaning, Passage, Progress, Renumbered, added_end, at_start_of, back_in, after_bytes, defines, goes_on, includes, includes_found, includes_given, includes_named, leaves, mean, included_meaning_of, origin_line, refusal, renumbered, renumbers, single, text_meaning, undefines, unquoted}
+use Rattle.rdlpp_meaning.specs.Meaning.{Passage, added_end, after_bytes, goes_on, leaves, included_meaning_of}
 use Rattle.rdlpp_meaning.specs.Opened.{Waiting, all_resumed, unwound}
-use Rattle.rdlpp_meaning.specs.Outcome.{Outcome, Report, fails, gives}
-use Rattle.rdlpp_meaning.specs.Parts.{Argument, Command, Piece, Single, argument_of, after_blanks, after_directive, command_in_front, command_of, directive_of, line_ends_of, name_in_front, no_argument, one_argument, only_blanks, parts_of, past_blanks, piece_of, pieces, string_in_front}
-use Rattle.rdlpp_meaning.specs.Resumed.{Live, Place, following, resume, resumed}
-use Rattle.rdlpp_meaning.specs.State.{Accepted, Defined, LongPath, Lookup, NoSource, DefinitionFault, Rules, Source, State, shown_line}
-use Rattle.rdlpp_meaning.specs.declared.fault.FaultKind.{FaultKind}
-use Rattle.rdlpp_meaning.specs.declared.fault.FaultKind.TheVariants.{BadLine, IncludeName, PathTooLong, SourceNotFound, TooManyIncludes}
-use Rattle.rdlpp_meaning.proofs.Outcomes.{fails-goes_on, goes_on-assoc, goes_on-gives, goes_on-same, refusal-goes_on, resumed_start}
+use Rattle.rdlpp_meaning.specs.Outcome.{Report, fails, gives}
+use Rattle.rdlpp_meaning.specs.Parts.{Argument, Piece, argument_of, after_blanks, after_directive, command_in_front, command_of, directive_of, name_in_front, no_argument, one_argument, only_blanks, past_blanks, piece_of, pieces, string_in_front}
+use Rattle.rdlpp_meaning.specs.Resumed.{Place, resume, resumed}
+use Rattle.rdlpp_meaning.specs.State.{Rules, State}
+use Rattle.rdlpp_meaning.proofs.Outcomes.{fails-goes_on}
 use Rattle.rdlpp_meaning.proofs.LiveText.{only_blanks-append}
 
 -- Laws of what remains of a file where a directive stands in front: for each kind of piece and each place.

@@ -15,7 +15,6 @@ use Rattle.rdlpp_meaning.specs.LimitLaws.{is_limit, NamesNoLimit, IsLarger}
 use Rattle.rdlpp_meaning.proofs.LargerRuns.{Agrees, IsFault, TornAgrees, run-agrees, run-torn, skip-agrees, skip-torn, sources-torn}
 use Rattle.rdlpp_scan.specs.Front.{Breach}
 use Rattle.rdlpp_table.specs.declared.limits.Limits.{Limits}
-use Rattle.rdlpp_table.specs.declared.fault.DefineKind.TheVariants as kind
 use Rattle.rdlpp_table.specs.Define.{Draft, Drawn, DraftFault, macro_of, stored, stored_draft, define_of}
 use Rattle.rdlpp_meaning.specs.declared.fault.FaultKind.TheVariants as fault
 use Rattle.rdlpp_meaning.specs.Expansion.{walk, run_outcome}

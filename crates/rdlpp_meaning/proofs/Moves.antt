@@ -10,7 +10,7 @@ use Rattle.rdlpp_meaning.specs.Outcome.{fails, gives}
 use Rattle.rdlpp_meaning.specs.Parts.{Argument, Command, Piece, after_directive, argument_of, no_argument, command_in_front, command_of, directive_of, line_ends_of, only_blanks, parts_of, piece_of, pieces}
 use Rattle.rdlpp_meaning.specs.Resumed.{Live, Place, Skipped, resume, resumed}
 use Rattle.rdlpp_meaning.specs.State.{Accepted, Defined, DefinitionFault, LongPath, Lookup, NoSource, Rules, Source, State, fault_at, shown_line}
-use Rattle.rdlpp_meaning.specs.declared.fault.FaultKind.TheVariants.{BadLine, IncludeName, PathTooLong, SourceNotFound, TooManyIncludes}
+use Rattle.rdlpp_meaning.specs.declared.fault.FaultKind.TheVariants.{BadLine, IncludeName, TooManyIncludes}
 use Rattle.rdlpp_meaning.proofs.Directives.{after_bytes-goes_on, all_resumed_after, all_resumed_fails, directive_piece}
 use Rattle.rdlpp_meaning.proofs.Outcomes.{goes_on-assoc, goes_on-gives, goes_on-same, resumed_start}
 use Rattle.rdlpp_meaning.proofs.Skipping.{skips_token}

@@ -18,7 +18,6 @@ use Rattle.rdlpp_meaning.specs.OutputLimit.{limited}
 use Rattle.rdlpp_meaning.specs.Parts.{Alone, Branch, Branching, Closing, Command, Conditional, Last, Level, More, Nothing, Opening, Part, Parts, Piece, Run, Single, Text, appended, after_end, front_parts, further_branches, in_front, level_of, level_parts, opened_before, parts_of, pieces}
 use Rattle.rdlpp_meaning.specs.Resumed.{Live, Place, Skipped, remains, resume, resumed}
 use Rattle.rdlpp_meaning.specs.State.{LongPath, NoSource, Rules, Source, State}
-use Rattle.rdlpp_meaning.specs.declared.fault.FaultKind.{FaultKind}
 use Rattle.rdlpp_meaning.specs.declared.fault.FaultKind.TheVariants.{PathTooLong, SourceNotFound}
 
 -- Laws of outcomes: one and then another.
@@ -120,12 +119,6 @@ passage_assoc_by x None s g h = grind (arith, append_assoc)
 -- a passage, a second and a third are the same however they are grouped
 pub goes_on-assoc : (p : Passage) (g h : State → Passage) → goes_on (goes_on p g) h ≡ goes_on p (λ after. goes_on (g after) h)
 goes_on-assoc p g h = passage_assoc_by p.bytes p.fault p.after g h
-
--- nothing goes on behind a refusal
-pub refusal-goes_on : (kind : FaultKind) (word : List ℕ) (c : Command) (s : State) (next : State → Passage)
-    → refusal kind word c s ≡ goes_on (refusal kind word c s) next
-unfolding refusal goes_on leaves fails
-refusal-goes_on kind word c s next = refl
 
 -- what goes on from bytes
 pub goes_on-gives : (x : List ℕ) (s : State) (next : State → Passage) → goes_on (leaves (gives x) s) next ≡ after_bytes x (next s)
@@ -291,8 +284,8 @@ Resumes rules included_meaning ps = (place : Place) (s : State) → resume rules
 by_test-goes_on : (t : Test) (c : Command) (s : State) (live skipped live' skipped' next : State → Passage)
     → live s ≡ goes_on (live' s) next → skipped s ≡ goes_on (skipped' s) next
     → by_test t c s live skipped ≡ goes_on (by_test t c s live' skipped') next
-unfolding by_test
-by_test-goes_on (TestFault kind word) c s live skipped live' skipped' next e f = refusal-goes_on kind word c s next
+unfolding by_test goes_on refusal leaves fails
+by_test-goes_on (TestFault kind word) c s live skipped live' skipped' next e f = refl
 by_test-goes_on (Holds true) c s live skipped live' skipped' next e f = e
 by_test-goes_on (Holds false) c s live skipped live' skipped' next e f = f
 

@@ -75,14 +75,3 @@ forgets_more old mid new first next name = by (next name) (first name)
     by (inl none) before = inl none
     by (inr same) (inl none) = inl (same ∙ none)
     by (inr same) (inr told) = inr (same ∙ told)
-
--- and so behind a place that was noted
-pub notes_less : (old mid new : DefinitionPlaces) (named : List ℕ) (place : Shown) → NotesPlace old mid named place → Forgets mid new → NotesPlace old new named place
-notes_less old mid new named place first next name = by (next name) (first name)
-  where
-    by : (shown_at new name ≡ None) ⊎ (shown_at new name ≡ shown_at mid name)
-        → (shown_at mid name ≡ None) ⊎ (shown_at mid name ≡ (if bytes_eq named name then Some place else shown_at old name))
-        → (shown_at new name ≡ None) ⊎ (shown_at new name ≡ (if bytes_eq named name then Some place else shown_at old name))
-    by (inl none) before = inl none
-    by (inr same) (inl none) = inl (same ∙ none)
-    by (inr same) (inr told) = inr (same ∙ told)

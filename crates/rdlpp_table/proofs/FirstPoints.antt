@@ -143,7 +143,7 @@ row_passed bs t at bytes (AtBack h e) none = absurd (none (eqb-true (get_or bs 0
 row_passed bs t at bytes (AtBare h g e) none = absurd (none (eqb-true (get_or bs 0 0) 96 h))
 row_passed bs t at bytes (AtPlain h q) none = plain_passed t.kind at t.len t.next_mode bytes h
 
-token_passed : (mode : Mode) (bs : List ℕ) (at : ℕ) (bytes : List ℕ) → (get_or bs 0 0 ≡ 96 → ⊥) → is_none (point_at [] at (token_of mode bs) bytes) ≡ true
+pub token_passed : (mode : Mode) (bs : List ℕ) (at : ℕ) (bytes : List ℕ) → (get_or bs 0 0 ≡ 96 → ⊥) → is_none (point_at [] at (token_of mode bs) bytes) ≡ true
 unfolding token_of is_still whole
 token_passed Plain bs at bytes none = row_passed bs (token_of Plain bs) at bytes (token_of-row bs) none
 token_passed InStr bs at bytes none =

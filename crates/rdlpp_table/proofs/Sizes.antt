@@ -1,5 +1,5 @@
--- Sizes, the ranges of limits, and worked rows of both.
-use Rattle.std.proofs.Common.{◌≡◌, ℕ, zero, suc, ◌+◌, ◌-◌, ◌≤◌, Bool, cond, not, ltb, one-add, List, [], ◌∷◌, length, get_or, Option, Some, None, option_map, refl, ap, sym, ◌∙◌, arith, inl, inr, ◌*◌, ◌/◌, true, false, Vec, Global, vec_len, rules, ◌<◌, ◌++◌, take, unwrap_or, sum_by, length-append, add-zero, is_some, subst, drop, leb, codes, All, find, flat_map, position, le-leb, le-ltb, leb-true, lt-ltb, length-drop}
+-- Sizes, and the ranges of limits.
+use Rattle.std.proofs.Common.{◌≡◌, ℕ, zero, suc, ◌+◌, ◌-◌, ◌≤◌, Bool, cond, not, ltb, one-add, List, [], ◌∷◌, length, get_or, Option, Some, None, option_map, refl, ap, sym, ◌∙◌, arith, inl, inr, ◌*◌, ◌/◌, true, false, Vec, Global, vec_len, rules, ◌<◌, ◌++◌, take, unwrap_or, sum_by, length-append, add-zero, is_some, subst, drop, leb, All, find, flat_map, position, le-leb, le-ltb, leb-true, lt-ltb, length-drop}
 use Rattle.std.specs.List.{IsDistinct, position_or_len, prefix_len}
 use Rattle.std.proofs.lemmas.Bool.{and_from, and_parts, cases_Bool, cases_lt, cond-false, cond-true}
 use Rattle.std.proofs.lemmas.Bool.Decides.{leb_tells}
@@ -9,12 +9,6 @@ use Rattle.std.proofs.lemmas.List.Folds.{find_at}
 use Rattle.std.proofs.lemmas.List.Quantifiers.{position-Some}
 use Rattle.std.proofs.lemmas.List.Sums.{sum_by-append, sum_by-cons}
 use Rattle.std.proofs.lemmas.Option.{slice_get-get_or, slice_get_past}
-use Rattle.rdlpp_scan.specs.Bytes.{begins_block_comment, begins_line_comment, begins_perl, ends_block_comment, is_blank, is_closer, is_digit, is_letter, is_line_end, is_opener, is_word, takes_word}
-use Rattle.rdlpp_scan.specs.LexFaults.{fault_of_tokens, is_perl, lex_fault_from, open_fault}
-use Rattle.rdlpp_scan.specs.Reserved.{is_reserved, reserved_names}
-use Rattle.rdlpp_scan.specs.SourceTokens.{is_continued, logical_len}
-use Rattle.rdlpp_scan.specs.Tokens.{block_token, first_place, plain_token, string_stop, string_token, token_of, tokens_from, whole}
-use Rattle.rdlpp_table.specs.Define.{Drawn, after_space, after_name, continuation_len, default_in, default_of_tokens, ends_default, formal_fault, formal_in, formal_list, formal_name, formals_in, formals_of_list, is_space, leading_name, level_after, logical_text, macro_from, macro_of, name_fault, onto_default, onto_trimmed, trimmed, trimmed_default, trimmed_of, unended, with_body, with_default, with_list, without_continuations, without_end, text_without_line_comments}
 use Rattle.rdlpp_table.specs.Entries.{AreWithin, offsets_len}
 use Rattle.rdlpp_table.specs.PointCache.{cached_points}
 use Rattle.rdlpp_table.specs.Layout.{IsHeld, view_of}
@@ -340,27 +334,3 @@ no_fault l r =
 pub fault_out_of_range : (l : Limits) (f : LimitFault) (r : Option LimitFault) → r ≡ limit_fault l → r ≡ Some f → AreInRange l → ⊥
 fault_out_of_range l f r e g h =
     let same : (let n : Option LimitFault = None in n) ≡ Some f = sym (no_fault l h) ∙ (sym e ∙ g) in cc
-
--- Worked rows of a `define` and of a table's bytes and size, by computation.
-
-list_row : macro_of (codes " F(x,y) x+y // s\n") ≡ Drawn (record { name = codes "F"; formals = Some (record { name = codes "x"; text = [] } ∷ record { name = codes "y"; text = [] } ∷ []); body = codes "x+y" })
-unfolding macro_of unended logical_text without_continuations continuation_len is_space after_space leading_name macro_from name_fault is_reserved reserved_names with_list formal_list with_body tokens_from token_of plain_token whole first_place string_stop string_token block_token text_without_line_comments is_perl open_fault fault_of_tokens lex_fault_from onto_trimmed without_end trimmed_of trimmed is_blank is_line_end is_letter is_digit is_word is_opener is_closer takes_word begins_perl begins_line_comment begins_block_comment ends_block_comment is_continued logical_len ends_default level_after onto_default default_of_tokens trimmed_default default_in formal_name after_name formal_fault with_default formal_in formals_in formals_of_list
-list_row = refl
-
--- a default text
-
-default_row : macro_of (codes " F(x, y = 2) x+y\n") ≡ Drawn (record { name = codes "F"; formals = Some (record { name = codes "x"; text = [] } ∷ record { name = codes "y"; text = codes "2" } ∷ []); body = codes "x+y" })
-unfolding macro_of unended logical_text without_continuations continuation_len is_space after_space leading_name macro_from name_fault is_reserved reserved_names with_list formal_list with_body tokens_from token_of plain_token whole first_place string_stop string_token block_token text_without_line_comments is_perl open_fault fault_of_tokens lex_fault_from onto_trimmed without_end trimmed_of trimmed is_blank is_line_end is_letter is_digit is_word is_opener is_closer takes_word begins_perl begins_line_comment begins_block_comment ends_block_comment is_continued logical_len ends_default level_after onto_default default_of_tokens trimmed_default default_in formal_name after_name formal_fault with_default formal_in formals_in formals_of_list
-default_row = refl
-
--- a table's bytes and size
-with_default_macro : Macro
-with_default_macro = record { name = codes "F"; formals = Some (record { name = codes "x"; text = [] } ∷ record { name = codes "y"; text = codes "2" } ∷ []); body = codes "x+y" }
-
-bytes_row : table_bytes (with_default_macro ∷ []) ≡ codes "Fx,y=2,x+y"
-unfolding table_bytes macro_bytes formal_bytes default_bytes with_default_macro
-bytes_row = refl
-
-size_row : table_size (with_default_macro ∷ []) ≡ 10
-unfolding table_size macro_size formal_size default_size with_default_macro
-size_row = refl

@@ -1,4 +1,4 @@
--- Steps of open texts: runs that are copied, and fronts that are neither a formal nor a usage.
+-- Steps of open texts: what is copied, the end of a text, formals and lone backquotes; and which open texts are sound.
 use Rattle.std.proofs.Common.{◌≡◌, ℕ, suc, ◌+◌, ◌-◌, ◌<◌, ◌≤◌, Bool, true, false, true≢false, List, [], ◌∷◌, length, take, drop, refl, sym, ap, subst, ◌∙◌, arith, Option, None, Some, zero, All, unwrap_or, option_map, if◌then◌else◌, nat_lt, slice_index_or, slice_range, take-add, drop-drop, length-drop, length-take, take-take}
 use Rattle.std.specs.List.{AllByRecursion}
 use Rattle.std.proofs.lemmas.List.Elements.{All-tail}

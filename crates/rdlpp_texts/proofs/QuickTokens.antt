@@ -16,7 +16,7 @@ use Rattle.rdlpp_scan.specs.declared.token.Token.{Token}
 use Rattle.rdlpp_scan.proofs.StopKinds.{block_token-kind, digit_token, letter_token, parts, string_token-kind, token_parts}
 use Rattle.rdlpp_scan.proofs.CleanTexts.{blank-step, line-step}
 use Rattle.rdlpp_table.proofs.Defaults.{comma_token}
-use Rattle.rdlpp_meaning.specs.Actuals.{Down, End, Role, Start, is_space, kind_role, level_after, token_role}
+use Rattle.rdlpp_meaning.specs.Actuals.{Down, End, Role, is_space, kind_role, level_after, token_role}
 use Rattle.rdlpp_meaning.specs.Substitution.{body_tokens, spelled}
 use Rattle.rdlpp_meaning.specs.TextTokens.{text_tokens}
 use Rattle.rdlpp_meaning.proofs.KeptTexts.{body_text, first_size, first_spelled, text_nil, text_step}

@@ -1,25 +1,21 @@
 -- The first expansion point of a text, and what stands at its front.
-use Rattle.std.proofs.Common.{◌≡◌, ℕ, ◌+◌, ◌-◌, ◌<◌, ◌≤◌, Bool, true, false, true≢false, List, [], ◌∷◌, length, take, drop, refl, sym, ap, subst, ◌∙◌, arith, Option, None, Some, not, cond, eqb, get_or, is_some, if◌then◌else◌, slice_range, eqb-true, drop-drop, get_or-drop, length-drop, length-take}
-use Rattle.std.proofs.lemmas.Bool.{cond_both}
+use Rattle.std.proofs.Common.{◌≡◌, ℕ, ◌+◌, ◌-◌, ◌<◌, ◌≤◌, Bool, true, false, true≢false, List, [], ◌∷◌, length, take, drop, refl, sym, ap, subst, ◌∙◌, arith, Option, None, Some, not, cond, eqb, get_or, is_some, if◌then◌else◌, slice_range, drop-drop, get_or-drop, length-drop, length-take}
 use Rattle.std.proofs.lemmas.List.{drop_all}
 use Rattle.memchr.specs.Find.{IsFirstByte, is_byte}
-use Rattle.rdlpp_scan.specs.Bytes.{begins_perl}
-use Rattle.rdlpp_scan.specs.Ordinary.{is_plain_kind}
-use Rattle.rdlpp_scan.specs.Tokens.{string_token, token_of, tokens_from, whole}
+use Rattle.rdlpp_scan.specs.Tokens.{token_of, tokens_from}
 use Rattle.rdlpp_scan.specs.declared.token.Kind.{Kind}
-use Rattle.rdlpp_scan.specs.declared.token.Kind.TheVariants.{Back, BareBackquote, Name, Perl}
+use Rattle.rdlpp_scan.specs.declared.token.Kind.TheVariants.{Back, BareBackquote, Name}
 use Rattle.rdlpp_scan.specs.declared.token.Mode.{Mode}
-use Rattle.rdlpp_scan.specs.declared.token.Mode.TheVariants.{InBlock, InStr, Plain}
+use Rattle.rdlpp_scan.specs.declared.token.Mode.TheVariants.{Plain}
 use Rattle.rdlpp_scan.specs.declared.token.Token.{Token}
 use Rattle.rdlpp_scan.proofs.RangeLaws.{tokens_from-first}
-use Rattle.rdlpp_scan.proofs.StopKinds.{AtBack, AtBare, AtBlockComment, AtLineComment, AtPerl, AtPlain, AtString, Row, block_token-kind, string_token-kind, token_of-row}
 use Rattle.rdlpp_scan.proofs.TokenLens.{token_of-part, tokens_from-step}
 use Rattle.rdlpp_table.specs.ExpansionPoints.{next_expansion_point, is_none, or_point, point_at, point_in, point_name, point_of}
 use Rattle.rdlpp_table.specs.Table.{Formal}
 use Rattle.rdlpp_table.specs.View.{formal_named, macro_at}
 use Rattle.rdlpp_table.specs.declared.point.ExpansionPoint.{ExpansionPoint}
 use Rattle.rdlpp_table.specs.declared.point.ExpansionPoint.TheVariants as point
-use Rattle.rdlpp_table.proofs.FirstPoints.{or_none, or_some}
+use Rattle.rdlpp_table.proofs.FirstPoints.{or_none, or_some, token_passed}
 use Rattle.rdlpp_meaning.specs.Opens.{Texts}
 use Rattle.rdlpp_texts.specs.TextItems.{AreCopied, IsNextItem, IsTextItem, is_back, run_len}
 use Rattle.rdlpp_texts.specs.Places.{source_formals, source_text}
@@ -391,32 +387,6 @@ body-inside texts source id end e inside = subst (λ (x : TextSource). end ≤ l
 
 -- A text without a backquote has no expansion point but the names of formals.
 
--- a token of a kind that ordinary text has is no expansion point
-plain-back : (kind : Kind) → is_plain_kind kind ≡ true → is_back kind ≡ false
-unfolding is_plain_kind is_back
-plain-back Back h = absurd (cc)
-plain-back BareBackquote h = absurd (cc)
-plain-back kind h = refl
-
--- a token that expansion points a run begins with a backquote, by its row of the token table
-row-back : (bs : List ℕ) (t : Token) → Row bs t → (get_or bs 0 0 ≡ 96 → ⊥) → is_back t.kind ≡ false
-unfolding is_back whole
-row-back bs t (AtPerl h e) none = ap (λ (u : Token). is_back u.kind) e
-row-back bs t (AtLineComment h e) none = ap is_back e
-row-back bs t (AtBlockComment h e) none = ap is_back e
-row-back bs t (AtString h e) none = ap is_back e
-row-back bs t (AtBack h e) none = absurd (none (eqb-true (get_or bs 0 0) 96 h))
-row-back bs t (AtBare h g e) none = absurd (none (eqb-true (get_or bs 0 0) 96 h))
-row-back bs t (AtPlain h q) none = plain-back t.kind h
-
--- in each mode
-token-back : (mode : Mode) (bs : List ℕ) → (get_or bs 0 0 ≡ 96 → ⊥) → is_back (token_of mode bs).kind ≡ false
-unfolding token_of is_back whole
-token-back Plain bs none = row-back bs (token_of Plain bs) (token_of-row bs) none
-token-back InStr bs none =
-    cond_both (begins_perl bs) (whole Perl 2) (string_token 0 bs) (λ (t : Token). is_back t.kind ≡ false) (λ _. refl) (λ _. ap is_back (string_token-kind 0 bs))
-token-back InBlock bs none = ap is_back (block_token-kind 0 bs)
-
 -- a token that is no expansion point is passed
 pub passed : (t : Token) (ts : List Token) (text : List ℕ) → is_back t.kind ≡ false → run_len [] (t ∷ ts) text ≡ t.len + run_len [] ts (drop t.len text)
 unfolding run_len
@@ -430,11 +400,11 @@ run-unquoted [] mode text e none = grind (arith, tokens_from-step, token_of-part
 run-unquoted (t ∷ ts) mode text e none =
     let p = tokens_from-first mode text t ts e in
     let inside : t.len ≤ length text = subst (λ (u : Token). u.len ≤ length text) p.1.0 (token_of-part mode text p.0).inside in
-    let here : is_back t.kind ≡ false = ap (λ (u : Token). is_back u.kind) (sym p.1.0) ∙ token-back mode text (λ b. none 0 p.0 b) in
+    let here : is_none (point_at [] 0 t (take t.len text)) ≡ true = subst (λ (u : Token). is_none (point_at [] 0 u (take t.len text)) ≡ true) p.1.0 (token_passed mode text 0 (take t.len text) (none 0 p.0)) in
     let size : length (drop t.len text) ≡ length text - t.len = length-drop t.len text in
     let rest : run_len [] ts (drop t.len text) ≡ length (drop t.len text) =
     run-unquoted ts t.next_mode (drop t.len text) p.1.1 (λ i h b. none (t.len + i) (omega (arith, h, size)) (sym (get_or-drop t.len text i 0) ∙ b)) in
-    omega (arith, passed t ts text here, rest, size, inside)
+    omega (arith, ap (λ (b : Bool). cond b (t.len + run_len [] ts (drop t.len text)) 0) here, rest, size, inside)
 
 -- so it is where a search finds none
 pub run_searched : (text : List ℕ) (found : Option ℕ) → is_some found ≡ false → IsFirstByte (is_byte 96) text found → length text ≡ run_len [] (tokens_from Plain 0 text) text
