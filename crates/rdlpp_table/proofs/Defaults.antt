@@ -4,7 +4,7 @@ use Rattle.std.specs.List.{AllByRecursion, list_all, prefix_len, concat}
 use Rattle.std.proofs.lemmas.Bool.{cases_Bool, cond-true, cond-false, and_parts, and_from, and_right, not-true, or_cases, false≢true, or_left}
 use Rattle.std.proofs.lemmas.List.{drop-append-le, drop-take, take-append-le}
 use Rattle.rdlpp_scan.specs.declared.token.Kind.{Kind}
-use Rattle.rdlpp_scan.specs.declared.token.Kind.TheVariants.{Blank, LineEnd, LineComment, Comma, Closer, Name, Word, Back, Str, BlockComment, Opener, Other, Perl as PerlKind, BareBackquote}
+use Rattle.rdlpp_scan.specs.declared.token.Kind.TheVariants.{Blank, LineEnd, LineComment, Comma, Closer}
 use Rattle.rdlpp_scan.specs.declared.token.LexFault.{LexFault}
 use Rattle.rdlpp_scan.specs.declared.token.Mode.{Mode}
 use Rattle.rdlpp_scan.specs.declared.token.Mode.TheVariants.{Plain, InStr, InBlock}
@@ -128,10 +128,7 @@ unfolding fills tokens_len
 taken_fill [] l n text some le = refl
 taken_fill (t ∷ ts) l n text some le =
     let split : t.len + (n - t.len) ≡ n = omega arith in
-    let following : drop t.len (take n text) ≡ take (n - t.len) (drop t.len text) = ap (λ i. drop t.len (take i text)) (sym split) ∙ drop-take t.len (n - t.len) text in
-    let first : Bool = not (eqb l 0 && ends_default t.kind (get_or text 0 0)) in
-    ap (λ b. not (eqb l 0 && ends_default t.kind b) && fills (level_after t.kind l) ts (drop t.len (take n text))) (first_of n text (omega (arith, some.0)))
-    ∙ ap (λ x. first && x) (ap (fills (level_after t.kind l) ts) following ∙ taken_fill ts (level_after t.kind l) (n - t.len) (drop t.len text) some.1 (omega arith))
+    grind (arith, drop-take, first_of, (taken_fill ts (level_after t.kind l) (n - t.len) (drop t.len text) some.1 (omega arith)))
 
 -- the spaces at the end go
 pub before_spaces_fill : (class : ℕ → Bool) → AreSpaces class → (l : ℕ) (text : List ℕ) (n : ℕ) → IsCleanTo class text n → fills_text l text ≡ true → fills_text l (take n text) ≡ true
@@ -154,10 +151,7 @@ fills_by l (t ∷ ts) (x ∷ texts) = not (eqb l 0 && ends_default t.kind (get_o
 by_texts : (ts : List Token) (l : ℕ) (text : List ℕ) → AllByRecursion (λ t. 0 < t.len) ts → fills l ts text ≡ fills_by l ts (token_texts ts text)
 unfolding fills fills_by token_texts
 by_texts [] l text some = refl
-by_texts (t ∷ ts) l text some =
-    let first : Bool = not (eqb l 0 && ends_default t.kind (get_or (take t.len text) 0 0)) in
-    ap (λ b. not (eqb l 0 && ends_default t.kind b) && fills (level_after t.kind l) ts (drop t.len text)) (sym (first_of t.len text some.0))
-    ∙ ap (λ x. first && x) (by_texts ts (level_after t.kind l) (drop t.len text) some.1)
+by_texts (t ∷ ts) l text some = grind (arith, first_of, (by_texts ts (level_after t.kind l) (drop t.len text) some.1))
 
 -- a `//` comment does neither
 comment_inert : (k : Kind) (l b : ℕ) → is_line_comment k ≡ true → (ends_default k b ≡ false) × (level_after k l ≡ l)
@@ -169,27 +163,12 @@ others_fill : (ts : List Token) (l : ℕ) (text : List ℕ) → fills_by l (othe
 unfolding other_tokens other_texts token_texts fills_by
 others_fill [] l text = refl
 others_fill (t ∷ ts) l text =
-    let kept = other_tokens ts in
-    let own = take t.len text in
-    let texts = other_texts ts (drop t.len text) in
-    let all = token_texts ts (drop t.len text) in
-    let first : Bool = not (eqb l 0 && ends_default t.kind (get_or own 0 0)) in
-    let P : Bool → Type 0 = λ c. is_line_comment t.kind ≡ c → fills_by l (cond (not c) (t ∷ kept) kept) (cond c texts (own ∷ texts)) ≡ (first && fills_by (level_after t.kind l) ts all) in
-    let at_comment : P true = λ h.
-    let q = comment_inert t.kind l (get_or own 0 0) h in
-    others_fill ts l (drop t.len text)
-    ∙ sym (ap (λ b. not b && fills_by (level_after t.kind l) ts all) (and_right (eqb l 0) _ q.0) ∙ ap (λ n. fills_by n ts all) q.1) in
-    let at_other : P false = λ _. ap (λ x. first && x) (others_fill ts (level_after t.kind l) (drop t.len text)) in
-    elim (is_line_comment t.kind) as P [ true ↦ at_comment | false ↦ at_other ] refl
+    grind (arith, comment_inert, and_right, (others_fill ts l (drop t.len text)), (others_fill ts (level_after t.kind l) (drop t.len text)))
 
 -- tokens fill a level up as what is left of them without `//` comments does
 pub left_fill : (ts : List Token) (l : ℕ) (text left : List ℕ) → AllByRecursion (λ t. 0 < t.len) ts → tokens_from Plain 0 left ≡ other_tokens ts
     → token_texts (other_tokens ts) left ≡ other_texts ts text → fills_text l left ≡ fills l ts text
-left_fill ts l text left some tokens texts =
-    by_texts (tokens_from Plain 0 left) l left (tokens-some Plain left)
-    ∙ (ap (λ us. fills_by l us (token_texts us left)) tokens
-    ∙ (ap (fills_by l (other_tokens ts)) texts
-    ∙ (others_fill ts l text ∙ sym (by_texts ts l text some))))
+left_fill ts l text left some tokens texts = grind (arith, by_texts, tokens-some, others_fill)
 
 -- a `,` at level 0
 pub comma_token : (rest : List ℕ) → token_of Plain (44 ∷ rest) ≡ whole Comma 1
@@ -225,21 +204,12 @@ fills_read (suc fuel) l (b ∷ bs) rest le all h =
     let same : token_of Plain (T ++ ys) ≡ t = clean_before_comma T rest some each.0 in
     let own : kept_of t.kind (take t.len (T ++ ys)) ≡ take t.len T = kept_own t.kind _ each.0.kept ∙ take-append-le t.len T ys part.inside in
     let following : drop t.len (T ++ ys) ≡ after ++ ys = drop-append-le t.len T ys part.inside in
-    left_first (Some l) Plain (T ++ ys) (omega arith)
-    ∙ (ap (λ (u : Token). by_first (Some l) u (T ++ ys)) same
-    ∙ (cond-false _ _ _ each.0.sound
-    ∙ (cond-false _ _ _ (not-true _ fill.0)
-    ∙ (ap (λ x. onto x (left_in (Some m) t.next_mode (drop t.len (T ++ ys)))) own
-    ∙ (ap (λ x. onto (take t.len T) (left_in (Some m) t.next_mode x)) following
-    ∙ (ap (λ (v : Mode). onto (take t.len T) (left_in (Some m) v (after ++ ys))) next
-    ∙ (ap (onto (take t.len T)) read ∙ ap (λ x. Sound x ys) (take-append-drop t.len T))))))))
+    grind (arith, left_first, by_first, cond-false, not-true, take-append-drop)
 
 -- a default text is read back up to the `,` behind it
 pub default_read_back : (text rest : List ℕ) → is_default text ≡ true → cleared (Some 0) (text ++ 44 ∷ rest) ≡ Sound text (44 ∷ rest)
 unfolding is_default cleared
-default_read_back text rest h =
-    let p = and_parts (is_clean text) (fills_text 0 text) h in
-    fills_read (length text) 0 text rest (omega arith) (clean_tokens text (clean_text text p.0)) p.1
+default_read_back text rest h = grind (arith, and_parts, fills_read, clean_tokens, clean_text)
 
 -- The body and the default texts of a definition are clean.
 
@@ -273,7 +243,7 @@ trimmed_clean class are text clean =
       clean = end.1.clean;
       filled = λ h. before_spaces_fill class are 0 front end.0 end.1 (after_spaces_fill class are 0 text ∙ h);
     } in
-    subst (IsTrimmed text) (sym (without_end_is class front end.0 end.1.inside end.1.spaces end.1.last)) trimmed
+    grind (arith, without_end_is)
 
 blanks_are : AreSpaces is_blank
 blanks_are = record { blanks = λ b h. h; alone = λ b h. or_left (is_blank b) (is_line_end b) h }
@@ -433,20 +403,8 @@ found (Sound rest (b ∷ bs)) = Some (record { text = rest; following = b ∷ bs
 found (Unsound fault) = None
 
 front_by : (k : Kind) (xs rest following : List ℕ) → (elim k [ LineComment ↦ Some (record { text = rest; following = following }) | _ ↦ Some (record { text = xs ++ rest; following = following }) ]) ≡ Some (let d : DefaultText = record { text = (elim k [ LineComment ↦ [] | _ ↦ xs ]) ++ rest; following = following } in d)
-front_by Name xs rest following = refl
-front_by Word xs rest following = refl
-front_by Back xs rest following = refl
-front_by Blank xs rest following = refl
-front_by LineEnd xs rest following = refl
-front_by Str xs rest following = refl
 front_by LineComment xs rest following = refl
-front_by BlockComment xs rest following = refl
-front_by Opener xs rest following = refl
-front_by Closer xs rest following = refl
-front_by Comma xs rest following = refl
-front_by Other xs rest following = refl
-front_by PerlKind xs rest following = refl
-front_by BareBackquote xs rest following = refl
+front_by k xs rest following = refl
 
 onto_found : (t : Token) (text : List ℕ) (c : Cleared) → onto_default t text (found c) ≡ found (onto (kept_bytes t text) c)
 unfolding onto_default onto
@@ -487,12 +445,8 @@ found_cond false x y = refl
 
 -- a default text by its tokens is what is left of the text
 found_by : (text : List ℕ) (m : Mode) (n level : ℕ) → default_of_tokens level (tokens_from m n text) (drop n text) ≡ found (read_by (Some level) m (tokens_from m n text) (drop n text))
-found_by [] m n level =
-    ap (λ (ts : List Token). default_of_tokens level ts (drop n [])) (no_tokens m n)
-    ∙ (no_default level (drop n []) ∙ (none_found m ∙ sym (ap (λ (ts : List Token). found (read_by (Some level) m ts (drop n []))) (no_tokens m n))))
-found_by (b ∷ bs) m (suc n) level =
-    ap (λ (ts : List Token). default_of_tokens level ts (drop n bs)) (later_step m n b bs)
-    ∙ (found_by bs m n level ∙ sym (ap (λ (ts : List Token). found (read_by (Some level) m ts (drop n bs))) (later_step m n b bs)))
+found_by [] m n level = grind (arith, no_tokens, no_default, none_found)
+found_by (b ∷ bs) m (suc n) level = grind (arith, later_step, (found_by bs m n level))
 found_by (b ∷ bs) m zero level =
     let t : Token = token_of m (b ∷ bs) in
     let ts : List Token = tokens_from t.next_mode (t.len - 1) bs in
@@ -505,12 +459,7 @@ found_by (b ∷ bs) m zero level =
     ∙ (ap (onto_default t (b ∷ bs)) (found_by bs t.next_mode (t.len - 1) next)
     ∙ (onto_found t (b ∷ bs) _
     ∙ ap (λ (x : List ℕ). found (onto (kept_bytes t (b ∷ bs)) (read_by (Some next) t.next_mode ts x))) (sym at))) in
-    ap (λ (us : List Token). default_of_tokens level us (b ∷ bs)) (first_step m b bs)
-    ∙ (one_default level t ts (b ∷ bs)
-    ∙ (ap (λ (o : Option DefaultText). cond (is_perl t.kind) None (cond ends (Some (record { text = []; following = b ∷ bs })) o)) rest
-    ∙ (ap (λ (o : Option DefaultText). cond (is_perl t.kind) None o) (sym (found_cond ends (Sound [] (b ∷ bs)) _))
-    ∙ (sym (found_cond (is_perl t.kind) (Unsound _) _)
-    ∙ ap (λ (us : List Token). found (read_by (Some level) m us (b ∷ bs))) (sym (first_step m b bs))))))
+    grind (arith, first_step, one_default, found_cond)
 
 pub default_is : (text : List ℕ) → default_after text ≡ option_map trimmed_default (found (cleared (Some 0) text))
 unfolding default_after cleared left_in
@@ -560,14 +509,7 @@ default_plain text b bs e =
 
 pub default_found : (text following : List ℕ) (b : ℕ) (bs : List ℕ) (len size : ℕ) → trimmed_len (trims true) (cleared (start_level true) text) ≡ Ok len → text_after (cleared (start_level true) text) ≡ following → following ≡ b ∷ bs → size ≡ size_by len → IsDefault (default_after text) text following size
 unfolding start_level default_left
-default_found text following b bs len size l e f s =
-    let c : Cleared = cleared (Some 0) text in
-    record {
-      is = default_is text ∙ (sound_found c b bs (e ∙ f) ∙ ap (λ (x : List ℕ). Some (let d : DefaultText = record { text = trimmed_left (trims true) c; following = x } in d)) e);
-      size_is = size_is (trimmed_left (trims true) c) ∙ (ap size_by (left_len (trims true) c len l) ∙ sym s);
-      len_is = l ∙ ap (λ (n : ℕ). ok_len n) (sym (left_len (trims true) c len l));
-      plain = default_plain text b bs (e ∙ f);
-    }
+default_found text following b bs len size l e f s = grind (arith, default_is, sound_found, size_is, left_len, ok_len, default_plain)
 
 -- a formal without a default text
 no_default_left : default_left [] ≡ []
@@ -588,12 +530,7 @@ none_plain = refl
 
 no_default_in : (text : List ℕ) → eqb (get_or text 0 0) 61 ≡ false → IsDefault (default_in text) [] text 0
 unfolding default_in
-no_default_in text e = record {
-  is = cond-false _ _ _ e ∙ ap (λ (x : List ℕ). Some (let d : DefaultText = record { text = x; following = text } in d)) (sym no_default_left);
-  size_is = ap default_size no_default_left ∙ none_size;
-  len_is = none_len ∙ ap (λ (x : List ℕ). ok_len (length x)) (sym no_default_left);
-  plain = ap is_default no_default_left ∙ none_plain;
-}
+no_default_in text e = grind (arith, cond-false, no_default_left, size_is, none_size, none_len, ok_len, none_plain)
 
 pub no_default_at : (text joined_from joined_text : List ℕ) (size : ℕ) → joined_from ≡ [] → joined_text ≡ text → size ≡ 0 → eqb (get_or text 0 0) 61 ≡ false → IsDefault (default_in text) joined_from joined_text size
 no_default_at text from following size f t n e = rw (f, t, n) (no_default_in text e)

@@ -1,13 +1,14 @@
 -- The first expansion point of a text and of a range of it, and the first expansion points that an entry keeps.
-use Rattle.std.proofs.Common.{◌≡◌, ℕ, zero, suc, ◌+◌, ◌-◌, ◌<◌, ◌≤◌, Bool, true, false, cond, List, [], ◌∷◌, ⊎_elim, length, take, drop, Option, Some, None, refl, ap, sym, ◌∙◌, arith, ◌++◌, inl, slice_range, subst, if◌then◌else◌, IfSome, get_or, set, append_assoc, replicate, ◌⊎◌, ◌||◌, is_some, eqb, eqb-true, le-ltb, drop-set-lt, length-drop, take_all, drop-drop, length-take, take-append-drop}
+use Rattle.std.proofs.Common.{◌≡◌, ℕ, zero, suc, ◌+◌, ◌-◌, ◌<◌, ◌≤◌, Bool, true, false, cond, List, [], ◌∷◌, ⊎_elim, length, take, drop, Option, Some, None, refl, ap, sym, ◌∙◌, arith, ◌++◌, slice_range, if◌then◌else◌, IfSome, get_or, set, append_assoc, replicate, ◌⊎◌, is_some, eqb, eqb-true, le-ltb, drop-set-lt, length-drop, take_all, drop-drop, length-take, take-append-drop}
 use Rattle.std.specs.List.{prefix_len}
 use Rattle.std.proofs.lemmas.Bool.{cases_Bool, false≢true, cond-false, cond-true, cond_both}
+use Rattle.std.proofs.lemmas.Grind.{common_steps}
 use Rattle.std.proofs.lemmas.List.{drop_more, take_more_set, drop-replicate, nil_from_length}
 use Rattle.memchr.specs.Find.{IsFirstByte, is_byte}
-use Rattle.rdlpp_scan.specs.Bytes.{begins_perl, is_blank, is_digit, is_letter, is_inert, is_word}
+use Rattle.rdlpp_scan.specs.Bytes.{begins_perl, is_blank, is_letter, is_inert, is_word}
 use Rattle.rdlpp_scan.proofs.StopKinds.{AtBack, AtBare, AtBlockComment, AtLineComment, AtPerl, AtPlain, AtString, Row, block_token-kind, letter_token, string_token-kind, token_of-row}
 use Rattle.rdlpp_scan.specs.declared.token.Kind.{Kind}
-use Rattle.rdlpp_scan.specs.declared.token.Kind.TheVariants.{Name, Word, Back, Blank, LineEnd, Str, LineComment, BlockComment, Opener, Closer, Comma, Other, Perl, BareBackquote}
+use Rattle.rdlpp_scan.specs.declared.token.Kind.TheVariants.{Name, Back, Str, LineComment, BlockComment, Perl, BareBackquote}
 use Rattle.rdlpp_scan.specs.declared.token.Mode.{Mode}
 use Rattle.rdlpp_scan.specs.declared.token.Mode.TheVariants.{InBlock, InStr, Plain}
 use Rattle.rdlpp_scan.specs.declared.token.Token.{Token}
@@ -21,8 +22,8 @@ use Rattle.rdlpp_table.specs.ExpansionPoints.{next_expansion_point, is_none, or_
 use Rattle.rdlpp_table.specs.View.{formal_named, TableView, formals_of, macro_at}
 use Rattle.rdlpp_scan.specs.Ordinary.{is_plain_kind}
 use Rattle.rdlpp_scan.proofs.RemainingLaws.{plain_token-run, IsRun}
-use Rattle.rdlpp_scan.proofs.RangeLaws.{token_of-front, EndsIn}
-use Rattle.rdlpp_table.specs.PointCache.{point_end, endless, cached_points, kept_from, kept_point, point_by, point_kept, points_after}
+use Rattle.rdlpp_scan.proofs.RangeLaws.{token_of-front}
+use Rattle.rdlpp_table.specs.PointCache.{point_end, endless, cached_points, kept_from, point_by, point_kept, points_after}
 use Rattle.rdlpp_table.specs.declared.point_cache.PointCache.{PointCache}
 use Rattle.rdlpp_table.specs.declared.point_cache.PackedPoint.{PackedPoint}
 use Rattle.rdlpp_table.specs.declared.point_cache.PackedKind.{PackedKind}
@@ -44,17 +45,13 @@ pub record IsStopping (formals : List Formal) (from : ℕ) (text : List ℕ) (mo
 pub or_none : (s other : ExpansionPoint) → is_none s ≡ true → or_point s other ≡ other
 unfolding is_none or_point
 or_none point.None other h = refl
-or_none (point.Formal at len place) other h = absurd (cc)
-or_none (point.Usage at len) other h = absurd (cc)
-or_none (point.Bare at) other h = absurd (cc)
+or_none s other h = absurd (cc)
 
 -- and an expansion point is itself
 pub or_some : (s other : ExpansionPoint) → is_none s ≡ false → or_point s other ≡ s
 unfolding is_none or_point
 or_some point.None other h = absurd (cc)
-or_some (point.Formal at len place) other h = refl
-or_some (point.Usage at len) other h = refl
-or_some (point.Bare at) other h = refl
+or_some s other h = refl
 
 pub one_token : (formals : List Formal) (at : ℕ) (mode : Mode) (rest : List ℕ) → 0 < length rest → 0 < (token_of mode rest).len → next_expansion_point formals at (tokens_from mode 0 rest) rest ≡ or_point (point_at formals at (token_of mode rest) (take (token_of mode rest).len rest)) (next_expansion_point formals (at + (token_of mode rest).len) (tokens_from (token_of mode rest).next_mode 0 (drop (token_of mode rest).len rest)) (drop (token_of mode rest).len rest))
 unfolding next_expansion_point
@@ -62,28 +59,17 @@ one_token formals at mode rest h l = ap (λ (ts : List Token). next_expansion_po
 
 -- the same by a token that was read
 token_first : (formals : List Formal) (at : ℕ) (mode : Mode) (rest : List ℕ) (t : Token) → 0 < length rest → t ≡ token_of mode rest → 0 < t.len → next_expansion_point formals at (tokens_from mode 0 rest) rest ≡ or_point (point_at formals at t (take t.len rest)) (next_expansion_point formals (at + t.len) (tokens_from t.next_mode 0 (drop t.len rest)) (drop t.len rest))
-token_first formals at mode rest t h e l =
-    one_token formals at mode rest h (omega (arith, ap (λ (u : Token). u.len) e))
-    ∙ ap (λ (u : Token). or_point (point_at formals at u (take u.len rest)) (next_expansion_point formals (at + u.len) (tokens_from u.next_mode 0 (drop u.len rest)) (drop u.len rest))) (sym e)
+token_first formals at mode rest t h e l = grind (arith, one_token)
 
 pub stopping_start : (formals : List Formal) (from : ℕ) (text : List ℕ) → IsStopping formals from text Plain from text
 unfolding point_of
 stopping_start formals from text = record { same = refl; place = refl }
 
 pub stopping_more : (formals : List Formal) (from : ℕ) (text : List ℕ) (mode : Mode) (at : ℕ) (rest : List ℕ) (t : Token) (here after : List ℕ) (s : ExpansionPoint) → IsStopping formals from text mode at rest → 0 < length rest → t ≡ token_of mode rest → 0 < t.len → t.len ≤ length rest → here ≡ take t.len rest → after ≡ drop t.len rest → s ≡ point_at formals at t here → is_none s ≡ true → IsStopping formals from text t.next_mode (at + t.len) after
-stopping_more formals from text mode at rest t here after s i h e l le p q f n =
-    let here_is : point_at formals at t (take t.len rest) ≡ s = ap (point_at formals at t) (sym p) ∙ sym f in
-    let others : ExpansionPoint = next_expansion_point formals (at + t.len) (tokens_from t.next_mode 0 (drop t.len rest)) (drop t.len rest) in
-    record {
-      same = ap (λ (r : List ℕ). next_expansion_point formals (at + t.len) (tokens_from t.next_mode 0 r) r) q ∙ (sym (token_first formals at mode rest t h e l ∙ (ap (λ (x : ExpansionPoint). or_point x others) here_is ∙ or_none s others n)) ∙ i.same);
-      place = omega (arith, ap length q, length-drop t.len rest, i.place);
-    }
+stopping_more formals from text mode at rest t here after s i h e l le p q f n = grind (arith, token_first, or_none, length-drop)
 
 pub stopping_found : (formals : List Formal) (from : ℕ) (text : List ℕ) (mode : Mode) (at : ℕ) (rest : List ℕ) (t : Token) (here : List ℕ) (s : ExpansionPoint) → IsStopping formals from text mode at rest → 0 < length rest → t ≡ token_of mode rest → 0 < t.len → here ≡ take t.len rest → s ≡ point_at formals at t here → is_none s ≡ false → s ≡ point_of formals from text
-stopping_found formals from text mode at rest t here s i h e l p f n =
-    let here_is : point_at formals at t (take t.len rest) ≡ s = ap (point_at formals at t) (sym p) ∙ sym f in
-    let others : ExpansionPoint = next_expansion_point formals (at + t.len) (tokens_from t.next_mode 0 (drop t.len rest)) (drop t.len rest) in
-    sym (token_first formals at mode rest t h e l ∙ (ap (λ (x : ExpansionPoint). or_point x others) here_is ∙ or_some s others n)) ∙ i.same
+stopping_found formals from text mode at rest t here s i h e l p f n = grind (arith, token_first, or_some)
 
 pub stopping_ended : (formals : List Formal) (from : ℕ) (text : List ℕ) (mode : Mode) (at : ℕ) (rest : List ℕ) → IsStopping formals from text mode at rest → length rest ≡ 0 → point.None ≡ point_of formals from text
 unfolding next_expansion_point tokens_from
@@ -92,9 +78,7 @@ stopping_ended formals from text mode at rest i h =
 
 pub name_point : (formals : List Formal) (at : ℕ) (t : Token) (bytes : List ℕ) (o : Option ℕ) → t.kind ≡ Name → o ≡ formal_named formals bytes → point_name at t.len o ≡ point_at formals at t bytes
 unfolding point_at
-name_point formals at t bytes o e f =
-    ap (point_name at t.len) f
-    ∙ sym (ap (λ (k : Kind). let u : Token = record { kind = k; len = t.len; next_mode = t.next_mode } in point_at formals at u bytes) e)
+name_point formals at t bytes o e f = grind arith
 
 pub some_point : (at len place : ℕ) → point_name at len (Some place) ≡ point.Formal at len place
 unfolding point_name
@@ -110,17 +94,7 @@ unfolding is_still point_at is_none
 still_passed formals at len Name mode bytes h = absurd (false≢true h)
 still_passed formals at len Back mode bytes h = absurd (false≢true h)
 still_passed formals at len BareBackquote mode bytes h = absurd (false≢true h)
-still_passed formals at len Word mode bytes h = refl
-still_passed formals at len Blank mode bytes h = refl
-still_passed formals at len LineEnd mode bytes h = refl
-still_passed formals at len Str mode bytes h = refl
-still_passed formals at len LineComment mode bytes h = refl
-still_passed formals at len BlockComment mode bytes h = refl
-still_passed formals at len Opener mode bytes h = refl
-still_passed formals at len Closer mode bytes h = refl
-still_passed formals at len Comma mode bytes h = refl
-still_passed formals at len Other mode bytes h = refl
-still_passed formals at len Perl mode bytes h = refl
+still_passed formals at len k mode bytes h = refl
 
 -- without formals a token is an expansion point only where a backquote is its first byte, and so a text without one has none
 
@@ -182,40 +156,18 @@ blank_token formals at b bs h = ap (λ (ts : List Token). next_expansion_point f
 inert_mark : (formals : List Formal) (at b : ℕ) (bs : List ℕ) → IsInertToken (token_of Plain (b ∷ bs))
     → next_expansion_point formals at (tokens_from Plain 0 (b ∷ bs)) (b ∷ bs) ≡ next_expansion_point formals (at + 1) (tokens_from Plain 0 bs) bs
 unfolding is_still
-inert_mark formals at b bs q =
-    let t = token_of Plain (b ∷ bs) in
-    let some : 0 < length (b ∷ bs) = omega arith in
-    let none : is_none (point_at formals at t (take t.len (b ∷ bs))) ≡ true = still_passed formals at t.len t.kind t.next_mode (take t.len (b ∷ bs)) q.still in
-    let rest : Token → ExpansionPoint = λ u. next_expansion_point formals (at + u.len) (tokens_from u.next_mode 0 (drop u.len (b ∷ bs))) (drop u.len (b ∷ bs)) in
-    one_token formals at Plain (b ∷ bs) some (omega (arith, q.len))
-    ∙ (or_none _ (rest t) none
-    ∙ (ap (λ (n : ℕ). next_expansion_point formals (at + n) (tokens_from t.next_mode 0 (drop n (b ∷ bs))) (drop n (b ∷ bs))) q.len
-    ∙ ap (λ (m : Mode). next_expansion_point formals (at + 1) (tokens_from m 0 bs) bs) q.next))
+inert_mark formals at b bs q = grind (arith, still_passed, one_token, or_none)
 
 -- a run of blanks is passed
 blank_run : (formals : List Formal) (at : ℕ) (bs : List ℕ)
     → next_expansion_point formals at (tokens_from Plain 0 bs) bs ≡ next_expansion_point formals (at + prefix_len is_blank bs) (tokens_from Plain 0 (drop (prefix_len is_blank bs) bs)) (drop (prefix_len is_blank bs) bs)
 blank_run formals at [] = ap (λ (n : ℕ). next_expansion_point formals n (tokens_from Plain 0 []) []) (omega arith)
-blank_run formals at (b ∷ bs) =
-    let F : ℕ → ExpansionPoint = λ n. next_expansion_point formals (at + n) (tokens_from Plain 0 (drop n (b ∷ bs))) (drop n (b ∷ bs)) in
-    let here : next_expansion_point formals at (tokens_from Plain 0 (b ∷ bs)) (b ∷ bs) ≡ F 0 = ap (λ (n : ℕ). next_expansion_point formals n (tokens_from Plain 0 (b ∷ bs)) (b ∷ bs)) (omega arith) in
-    ⊎_elim
-    (λ h. blank_token formals at b bs h)
-    (λ h. here ∙ ap F (sym (prefix_none is_blank b bs h)))
-    (cases_Bool (is_blank b))
+blank_run formals at (b ∷ bs) = grind (arith, blank_token, prefix_none, cases_Bool)
 
 -- an inert byte is passed
 pub inert_one : (formals : List Formal) (at b : ℕ) (bs : List ℕ) → is_inert b ≡ true
     → next_expansion_point formals at (tokens_from Plain 0 (b ∷ bs)) (b ∷ bs) ≡ next_expansion_point formals (at + 1) (tokens_from Plain 0 bs) bs
-inert_one formals at b bs q =
-    let k = prefix_len is_blank bs in
-    ⊎_elim
-    (λ h. blank_token formals at b bs h
-    ∙ (ap (λ (n : ℕ). next_expansion_point formals (at + n) (tokens_from Plain 0 (drop n (b ∷ bs))) (drop n (b ∷ bs))) (prefix_more is_blank b bs h)
-    ∙ (ap (λ (n : ℕ). next_expansion_point formals n (tokens_from Plain 0 (drop k bs)) (drop k bs)) (omega arith)
-    ∙ sym (blank_run formals (at + 1) bs))))
-    (λ h. inert_mark formals at b bs (inert_first b bs q h))
-    (cases_Bool (is_blank b))
+inert_one formals at b bs q = grind (arith, blank_token, prefix_more, blank_run, inert_mark, inert_first, cases_Bool)
 
 -- inert bytes are passed
 inert_some : (formals : List Formal) (at n : ℕ) (bs : List ℕ) → n ≤ prefix_len is_inert bs
@@ -231,14 +183,7 @@ inert_some formals at (suc n) (b ∷ bs) h =
 
 pub stopping_inert : (formals : List Formal) (from : ℕ) (text : List ℕ) (mode : Mode) (at n : ℕ) (rest : List ℕ) → IsStopping formals from text mode at rest → mode ≡ Plain → n ≤ prefix_len is_inert rest → n ≤ length rest
     → IsStopping formals from text mode (at + n) (take (length rest - n) (drop n rest))
-stopping_inert formals from text mode at n rest i plain h le =
-    let e : take (length rest - n) (drop n rest) ≡ drop n rest = take_all (length rest - n) (drop n rest) (omega (arith, length-drop n rest)) in
-    let here : next_expansion_point formals at (tokens_from Plain 0 rest) rest ≡ next_expansion_point formals at (tokens_from mode 0 rest) rest = ap (λ (m : Mode). next_expansion_point formals at (tokens_from m 0 rest) rest) (sym plain) in
-    record {
-      same = ap (λ (m : Mode). next_expansion_point formals (at + n) (tokens_from m 0 (take (length rest - n) (drop n rest))) (take (length rest - n) (drop n rest))) plain
-          ∙ (ap (λ (r : List ℕ). next_expansion_point formals (at + n) (tokens_from Plain 0 r) r) e ∙ (inert_some formals at n rest h ∙ (here ∙ i.same)));
-      place = omega (arith, ap length e, length-drop n rest, i.place, le);
-    }
+stopping_inert formals from text mode at n rest i plain h le = grind (arith, common_steps, length-drop, inert_some)
 
 -- a name is told by its first byte
 pub letter_first : (text : List ℕ) (n : ℕ) → 0 < length text → is_letter (get_or text 0 0) ≡ true → n ≡ prefix_len is_word text
@@ -250,9 +195,7 @@ letter_first (b ∷ bs) n some h e = ap (λ (k : ℕ). let t : Token = record { 
 pub letter_some : (text : List ℕ) → 0 < length text → is_letter (get_or text 0 0) ≡ true → 0 < prefix_len is_word text
 unfolding is_word
 letter_some [] some h = absurd (omega (arith, some))
-letter_some (b ∷ bs) some h =
-    let more : prefix_len is_word (b ∷ bs) ≡ suc (prefix_len is_word bs) = prefix_more is_word b bs (ap (λ (t : Bool). t || is_digit b) h) in
-    omega (arith, more)
+letter_some (b ∷ bs) some h = grind (arith, prefix_more)
 
 -- what stands behind a place, as a range up to the end
 pub after_place : (n : ℕ) (xs : List ℕ) → take (length xs - n) (drop n xs) ≡ drop n xs
@@ -271,9 +214,7 @@ begins (point.Bare at) = at
 pub begins_end : (s : ExpansionPoint) → is_none s ≡ false → begins s ≤ point_end s
 unfolding begins point_end
 begins_end point.None h = omega arith
-begins_end (point.Formal at len place) h = omega arith
-begins_end (point.Usage at len) h = omega arith
-begins_end (point.Bare at) h = omega arith
+begins_end s h = omega arith
 
 -- an expansion point that is none, or begins no nearer than at a place
 unfoldable pub IsFrom : ℕ → ExpansionPoint → Type 0
@@ -289,17 +230,7 @@ unfolding point_at begins is_none IsFrom
 kind_from formals at len Name mode bytes h = name_from at len (formal_named formals bytes) h
 kind_from formals at len Back mode bytes h = omega arith
 kind_from formals at len BareBackquote mode bytes h = omega arith
-kind_from formals at len Word mode bytes h = absurd (cc)
-kind_from formals at len Blank mode bytes h = absurd (cc)
-kind_from formals at len LineEnd mode bytes h = absurd (cc)
-kind_from formals at len Str mode bytes h = absurd (cc)
-kind_from formals at len LineComment mode bytes h = absurd (cc)
-kind_from formals at len BlockComment mode bytes h = absurd (cc)
-kind_from formals at len Opener mode bytes h = absurd (cc)
-kind_from formals at len Closer mode bytes h = absurd (cc)
-kind_from formals at len Comma mode bytes h = absurd (cc)
-kind_from formals at len Other mode bytes h = absurd (cc)
-kind_from formals at len Perl mode bytes h = absurd (cc)
+kind_from formals at len k mode bytes h = absurd (cc)
 
 or_from : (at : ℕ) (s other : ExpansionPoint) → IsFrom at s → IsFrom at other → IsFrom at (or_point s other)
 unfolding or_point
@@ -352,17 +283,7 @@ unfolding point_at is_none point_end
 point_kind formals at len Name mode bs bytes r h = record { closed = (r.1.name refl).1; end = name_token at len (formal_named formals bytes) h }
 point_kind formals at len Back mode bs bytes r h = record { closed = back_row bs _ r.0 refl; end = refl }
 point_kind formals at len BareBackquote mode bs bytes r h = let b = bare_row bs _ r.0 refl in record { closed = b.1; end = omega (arith, b.0) }
-point_kind formals at len Word mode bs bytes r h = absurd (cc)
-point_kind formals at len Blank mode bs bytes r h = absurd (cc)
-point_kind formals at len LineEnd mode bs bytes r h = absurd (cc)
-point_kind formals at len Str mode bs bytes r h = absurd (cc)
-point_kind formals at len LineComment mode bs bytes r h = absurd (cc)
-point_kind formals at len BlockComment mode bs bytes r h = absurd (cc)
-point_kind formals at len Opener mode bs bytes r h = absurd (cc)
-point_kind formals at len Closer mode bs bytes r h = absurd (cc)
-point_kind formals at len Comma mode bs bytes r h = absurd (cc)
-point_kind formals at len Other mode bs bytes r h = absurd (cc)
-point_kind formals at len Perl mode bs bytes r h = absurd (cc)
+point_kind formals at len k mode bs bytes r h = absurd (cc)
 
 -- the first token of a text, where it is an expansion point
 point_token : (formals : List Formal) (at : ℕ) (bs bytes : List ℕ) → (let t = token_of Plain bs in is_none (point_at formals at t bytes) ≡ false → IsPointToken t at (point_at formals at t bytes))
@@ -375,10 +296,7 @@ pub cut_token : (k : ℕ) (bs : List ℕ) → (let t = token_of Plain bs in 0 < 
 cut_token k bs some le inside closed =
     let xs = take k bs in
     let e : xs ++ drop k bs ≡ bs = take-append-drop k bs in
-    let t = token_of Plain bs in
-    let room : t.len ≤ length xs = omega (arith, length-take k bs) in
-    let ends : EndsIn t xs = record { inside = room; last = inl closed } in
-    token_of-front Plain xs (drop k bs) (omega arith) (subst (λ (l : List ℕ). EndsIn (token_of Plain l) xs) (sym e) ends) ∙ ap (token_of Plain) e
+    grind (arith, take-append-drop, length-take, token_of-front)
 
 pub cut_more : (n k : ℕ) (bs : List ℕ) → n ≤ k → take n (take k bs) ≡ take n bs
 cut_more zero k bs h = refl
@@ -389,20 +307,7 @@ cut_more (suc n) (suc k) (b ∷ bs) h = ap (λ (l : List ℕ). b ∷ l) (cut_mor
 -- the expansion point at the front of a text is that of the text which is cut behind it
 pub front_first : (formals : List Formal) (at k : ℕ) (bs : List ℕ) → (let t = token_of Plain bs in 0 < length bs → is_none (point_at formals at t (take t.len bs)) ≡ false → point_end (point_at formals at t (take t.len bs)) ≤ at + k → point_of formals at (take k bs) ≡ point_at formals at t (take t.len bs))
 unfolding point_of
-front_first formals at k bs some h inside =
-    let t = token_of Plain bs in
-    let xs = take k bs in
-    let part = token_of-part Plain bs some in
-    let here : ExpansionPoint = point_at formals at t (take t.len bs) in
-    let is = point_token formals at bs (take t.len bs) h in
-    let le : t.len ≤ k = omega (arith, is.end) in
-    let same : token_of Plain xs ≡ t = cut_token k bs part.not_empty le part.inside is.closed in
-    let long : 0 < length xs = omega (arith, length-take k bs, part.not_empty, part.inside) in
-    let front : point_at formals at (token_of Plain xs) (take (token_of Plain xs).len xs) ≡ here = ap (λ (u : Token). point_at formals at u (take u.len xs)) same ∙ ap (point_at formals at t) (cut_more t.len k bs le) in
-    let u = token_of Plain xs in
-    let later : ExpansionPoint = next_expansion_point formals (at + u.len) (tokens_from u.next_mode 0 (drop u.len xs)) (drop u.len xs) in
-    one_token formals at Plain xs long (omega (arith, ap (λ (u : Token). u.len) same, part.not_empty))
-    ∙ (ap (λ (s : ExpansionPoint). or_point s later) front ∙ or_some here later h)
+front_first formals at k bs some h inside = grind (arith, token_of-part, point_token, cut_token, length-take, cut_more, one_token, or_some)
 
 pub run_drop : (p : ℕ → Bool) (n m : ℕ) (xs : List ℕ) → n + m ≤ prefix_len p xs → m ≤ prefix_len p (drop n xs)
 run_drop p zero m xs h = omega arith
@@ -421,9 +326,7 @@ when b kind at len place plain_argument = if b then record { end = at + len; len
 
 pub back_when : (b : Bool) (kind : PackedKind) (at len place plain_argument : ℕ) (s : ExpansionPoint) → point_by kind at len place ≡ Some s → IfSome (point_kept (when b kind at len place plain_argument)) (λ x. x ≡ s)
 unfolding point_kept point_by endless
-back_when true kind at len place plain_argument s e =
-    let there : at + len - len ≡ at = omega arith in
-    subst (λ (x : Option ExpansionPoint). IfSome x (λ y. y ≡ s)) (sym (ap (λ (n : ℕ). point_by kind n len place) there ∙ e)) refl
+back_when true kind at len place plain_argument s e = grind arith
 back_when false kind at len place plain_argument s e = tt
 
 pub none_end : point_end point.None ≡ 0
@@ -439,19 +342,7 @@ name_end at len None = omega arith
 kind_end : (formals : List Formal) (at len : ℕ) (k : Kind) (mode : Mode) (bytes : List ℕ) → 0 < len → point_end (point_at formals at (record { kind = k; next_mode = mode; len = len }) bytes) ≤ at + len
 unfolding point_at point_end
 kind_end formals at len Name mode bytes h = name_end at len (formal_named formals bytes)
-kind_end formals at len Back mode bytes h = omega arith
-kind_end formals at len BareBackquote mode bytes h = omega arith
-kind_end formals at len Word mode bytes h = omega arith
-kind_end formals at len Blank mode bytes h = omega arith
-kind_end formals at len LineEnd mode bytes h = omega arith
-kind_end formals at len Str mode bytes h = omega arith
-kind_end formals at len LineComment mode bytes h = omega arith
-kind_end formals at len BlockComment mode bytes h = omega arith
-kind_end formals at len Opener mode bytes h = omega arith
-kind_end formals at len Closer mode bytes h = omega arith
-kind_end formals at len Comma mode bytes h = omega arith
-kind_end formals at len Other mode bytes h = omega arith
-kind_end formals at len Perl mode bytes h = omega arith
+kind_end formals at len k mode bytes h = omega arith
 
 pub token_end : (formals : List Formal) (at : ℕ) (t : Token) (bytes : List ℕ) → 0 < t.len → point_end (point_at formals at t bytes) ≤ at + t.len
 token_end formals at t bytes h = kind_end formals at t.len t.kind t.next_mode bytes h
@@ -463,11 +354,7 @@ pub points_more : (formals : List Formal) (text : List ℕ) (all : List PackedPo
 unfolding points_after
 points_more formals text all i from k h e f n =
     let there : i + 1 + n ≡ i + suc n = omega arith in
-    let rest : List PackedPoint = points_after n formals text k.end in
-    ap (λ (m : ℕ). points_after m formals text 0) there
-    ∙ (f (suc n)
-    ∙ (ap (λ (x : PackedPoint). take i all ++ x ∷ points_after n formals text x.end) (sym e)
-    ∙ (sym (append_assoc (take i all) (k ∷ []) rest) ∙ ap (λ (l : List PackedPoint). l ++ rest) (sym (take_more_set all i k h)))))
+    grind (arith, append_assoc, take_more_set)
 
 -- what is kept where nothing is known
 abbrev unknown : PackedPoint
@@ -477,9 +364,7 @@ unknown = endless 1 0
 points_beyond : (formals : List Formal) (text : List ℕ) (n from : ℕ) → 65535 ≤ from → points_after n formals text from ≡ replicate n unknown
 unfolding points_after kept_from endless
 points_beyond formals text zero from h = refl
-points_beyond formals text (suc n) from h =
-    let here : kept_from formals text from ≡ unknown = ap (λ (b : Bool). if b then kept_point (point_of formals from (drop from text)) from (drop from text) else unknown) (le-ltb from 65535 h) in
-    ap (λ (k : PackedPoint). k ∷ points_after n formals text k.end) here ∙ ap (λ (l : List PackedPoint). unknown ∷ l) (points_beyond formals text n 65535 (omega arith))
+points_beyond formals text (suc n) from h = grind (arith, le-ltb, (points_beyond formals text n 65535 (omega arith)))
 
 -- what is not written yet is unknown
 pub rest_unknown : (all : List PackedPoint) (i : ℕ) (k : PackedPoint) → drop i all ≡ replicate (10 - i) unknown → drop (i + 1) (set all i k) ≡ replicate (10 - (i + 1)) unknown
@@ -494,12 +379,9 @@ rest_unknown all i k e =
 pub points_whole : (formals : List Formal) (text : List ℕ) (all : List PackedPoint) (i from : ℕ) → i ≤ 10 → (10 ≤ i) ⊎ (65535 ≤ from) → drop i all ≡ replicate (10 - i) unknown → ((n : ℕ) → points_after (i + n) formals text 0 ≡ take i all ++ points_after n formals text from) → (let s : PointCache = record { all = all } in s) ≡ cached_points formals text
 unfolding cached_points points_after
 points_whole formals text all i from l o e f =
-    let there : 10 ≡ i + (10 - i) = omega arith in
     let none : 10 ≤ i → points_after (10 - i) formals text from ≡ replicate (10 - i) unknown =
     λ h. let z : 10 - i ≡ 0 = omega arith in ap (λ (m : ℕ). points_after m formals text from) z ∙ ap (λ (m : ℕ). replicate m unknown) (sym z) in
-    let rest : points_after (10 - i) formals text from ≡ drop i all = ⊎_elim none (points_beyond formals text (10 - i) from) o ∙ sym e in
-    let whole : points_after 10 formals text 0 ≡ all = ap (λ (m : ℕ). points_after m formals text 0) there ∙ (f (10 - i) ∙ (ap (λ (x : List PackedPoint). take i all ++ x) rest ∙ take-append-drop i all)) in
-    ap (λ (x : List PackedPoint). let s : PointCache = record { all = x } in s) (sym whole)
+    grind (arith, points_beyond, take-append-drop)
 
 pub all_points : (formals : List Formal) (text : List ℕ) (points : PointCache) → points ≡ cached_points formals text → points.all ≡ points_after 10 formals text 0
 unfolding cached_points
@@ -512,13 +394,7 @@ no_point = record { end = 0; len = 0; place = 0; plain_argument = 0; kind = kept
 -- the expansion point at a place among them is the first one from the end of the one before, and those behind it come from its own end on
 pub point_next : (formals : List Formal) (text : List ℕ) (all : List PackedPoint) (d k : PackedPoint) (i start : ℕ) → length all ≡ 10 → i < 10 → drop i all ≡ points_after (10 - i) formals text start → k ≡ get_or all i d → (k ≡ kept_from formals text start) × (drop (i + 1) all ≡ points_after (10 - (i + 1)) formals text k.end)
 unfolding points_after
-point_next formals text all d k i start l h e q =
-    let left : 10 - i ≡ suc (10 - (i + 1)) = omega arith in
-    let first : PackedPoint = kept_from formals text start in
-    let both : get_or all i d ∷ drop (i + 1) all ≡ first ∷ points_after (10 - (i + 1)) formals text first.end =
-    sym (drop_more all i d (omega arith)) ∙ (e ∙ ap (λ (m : ℕ). points_after m formals text start) left) in
-    let here : k ≡ first = q ∙ ap (λ (x : List PackedPoint). get_or x 0 d) both in
-    (here, ap (λ (x : List PackedPoint). drop 1 x) both ∙ ap (λ (x : PackedPoint). points_after (10 - (i + 1)) formals text x.end) (sym here))
+point_next formals text all d k i start l h e q = grind (arith, drop_more)
 
 -- The expansion points of the body of a macro in a table.
 

@@ -30,22 +30,12 @@ name_length bytes = ap length (name_is bytes) ∙ length-take-le _ bytes (prefix
 -- a test that tells whether two texts are the same is their comparison
 pub compared : (b : Bool) (xs ys : List ℕ) → (b ≡ true → xs ≡ ys) → (xs ≡ ys → b ≡ true) → b ≡ bytes_eq xs ys
 compared true xs ys f g = sym ((bytes_eq-Decides xs ys).1 (f refl))
-compared false xs ys f g = elim (cases_Bool (bytes_eq xs ys)) [
-  | inl h ↦ absurd (false≢true (g ((bytes_eq-Decides xs ys).0 h)))
-  | inr h ↦ sym h
-]
+compared false xs ys f g = grind (arith, cases_Bool, bytes_eq-Decides)
 
 -- behind the name no name goes on
 pub name_ended : (bytes name : List ℕ) → (formal_read bytes).formal.name ≡ name → not (is_name_byte (get_or bytes (length name) 44)) ≡ true
 unfolding is_name_byte
-name_ended bytes name e =
-    let p : ℕ = prefix_len is_name_byte bytes in
-    let n : length name ≡ p = ap length (sym e) ∙ name_length bytes in
-    ap (λ (k : ℕ). not (is_name_byte (get_or bytes k 44))) n
-    ∙ elim (leb_tells (length bytes) p) as (λ _. not (is_name_byte (get_or bytes p 44)) ≡ true) [
-      | inl h ↦ ap (λ (b : ℕ). not (is_name_byte b)) (get_or_past bytes p 44 h.1)
-      | inr h ↦ ap not (prefix_len_stops is_name_byte bytes 44 h.1)
-    ]
+name_ended bytes name e = grind (arith, name_length, leb_tells, get_or_past, prefix_len_stops)
 
 -- and the bytes begin with the name
 pub name_starts : (bytes name : List ℕ) (starts : Bool) → starts ≡ starts_with nat_eq bytes name → (formal_read bytes).formal.name ≡ name → starts ≡ true
@@ -141,87 +131,47 @@ pub record IsReached (bytes name rest : List ℕ) (count place : ℕ) : Type 0 w
   pub same : formal_named (formals_read count bytes) name ≡ option_map (λ i. place + i) (formal_named (formals_read (count - place) rest) name)
 
 pub reached_start : (bytes name : List ℕ) (count : ℕ) → IsReached bytes name bytes count 0
-reached_start bytes name count =
-    let n : count - 0 ≡ count = omega arith in
-    record { same = sym (ap (λ (k : ℕ). option_map (λ i. 0 + i) (formal_named (formals_read k bytes) name)) n ∙ no_shift (formal_named (formals_read count bytes) name)) }
+reached_start bytes name count = grind (arith, no_shift)
 
 by_first : (rest name : List ℕ) (n : ℕ) → formal_named (formals_read (suc n) rest) name ≡ cond (bytes_eq (formal_read rest).formal.name name) (Some 0) (option_map suc (formal_named (formals_read n (formal_read rest).following) name))
-by_first rest name n =
-    ap (λ (fs : List Formal). formal_named fs name) (read_first n rest)
-    ∙ position_first (λ (f : Formal). bytes_eq f.name name) (formal_read rest).formal (formals_read n (formal_read rest).following)
+by_first rest name n = grind (arith, read_first, position_first)
 
 pub reached_more : (bytes name rest following found : List ℕ) (count place : ℕ) → place < count → IsReached bytes name rest count place → found ≡ (formal_read rest).formal.name → bytes_eq found name ≡ false → following ≡ (formal_read rest).following → IsReached bytes name following count (place + 1)
 reached_more bytes name rest following found count place h r f other b =
     let n : count - place ≡ suc (count - (place + 1)) = omega arith in
-    record {
-      same =
-          r.same
-          ∙ (ap (λ (k : ℕ). option_map (λ i. place + i) (formal_named (formals_read k rest) name)) n
-          ∙ (ap (option_map (λ i. place + i)) (by_first rest name (count - (place + 1)) ∙ cond-false _ (Some 0) _ (ap (λ (x : List ℕ). bytes_eq x name) (sym f) ∙ other))
-          ∙ (one_shift place (formal_named (formals_read (count - (place + 1)) (formal_read rest).following) name)
-          ∙ ap (λ (x : List ℕ). option_map (λ i. place + 1 + i) (formal_named (formals_read (count - (place + 1)) x) name)) (sym b))));
-    }
+    grind (arith, by_first, cond-false, one_shift)
 
 pub reached_found : (bytes name rest found : List ℕ) (count place : ℕ) → place < count → IsReached bytes name rest count place → found ≡ (formal_read rest).formal.name → bytes_eq found name ≡ true → Some place ≡ formal_named (formals_read count bytes) name
 reached_found bytes name rest found count place h r f same =
     let n : count - place ≡ suc (count - (place + 1)) = omega arith in
-    let z : place + 0 ≡ place = omega arith in
-    sym (r.same
-    ∙ (ap (λ (k : ℕ). option_map (λ i. place + i) (formal_named (formals_read k rest) name)) n
-    ∙ (ap (option_map (λ i. place + i)) (by_first rest name (count - (place + 1)) ∙ cond-true _ (Some 0) _ (ap (λ (x : List ℕ). bytes_eq x name) (sym f) ∙ same))
-    ∙ ap Some z)))
+    grind (arith, by_first, cond-true)
 
 pub reached_none : (bytes name rest : List ℕ) (count place : ℕ) → count ≤ place → IsReached bytes name rest count place → None ≡ formal_named (formals_read count bytes) name
-reached_none bytes name rest count place h r =
-    let n : count - place ≡ 0 = omega arith in
-    sym (r.same
-    ∙ (ap (λ (k : ℕ). option_map (λ i. place + i) (formal_named (formals_read k rest) name)) n
-    ∙ ap (λ (fs : List Formal). option_map (λ i. place + i) (formal_named fs name)) (read_none rest)))
+reached_none bytes name rest count place h r = grind (arith, read_none)
 
 -- the formal at a place is sought among so many, and so many before it were passed
 pub record IsPassed (bytes rest : List ℕ) (count place i : ℕ) : Type 0 where
   pub same : formal_at (formals_read count bytes) place ≡ formal_at (formals_read (count - i) rest) (place - i)
 
 pub passed_start : (bytes : List ℕ) (count place : ℕ) → IsPassed bytes bytes count place 0
-passed_start bytes count place =
-    let n : count - 0 ≡ count = omega arith in
-    let m : place - 0 ≡ place = omega arith in
-    record { same = ap (λ (k : ℕ). formal_at (formals_read count bytes) k) (sym m) ∙ ap (λ (k : ℕ). formal_at (formals_read k bytes) (place - 0)) (sym n) }
+passed_start bytes count place = grind arith
 
 pub passed_more : (bytes rest following : List ℕ) (count place i : ℕ) → place < count → i < place → IsPassed bytes rest count place i → following ≡ (formal_read rest).following → IsPassed bytes following count place (i + 1)
 passed_more bytes rest following count place i h k p b =
     let n : count - i ≡ suc (count - (i + 1)) = omega arith in
-    let m : place - i ≡ suc (place - (i + 1)) = omega arith in
-    record {
-      same =
-          p.same
-          ∙ (ap (λ (x : ℕ). formal_at (formals_read x rest) (place - i)) n
-          ∙ (ap (λ (x : ℕ). formal_at (formals_read (suc (count - (i + 1))) rest) x) m
-          ∙ (ap (λ (fs : List Formal). formal_at fs (suc (place - (i + 1)))) (read_first (count - (i + 1)) rest)
-          ∙ ap (λ (x : List ℕ). formal_at (formals_read (count - (i + 1)) x) (place - (i + 1))) (sym b))));
-    }
+    grind (arith, read_first)
 
 pub passed_last : (bytes rest text : List ℕ) (count place i : ℕ) → place < count → i ≡ place → IsPassed bytes rest count place i → text ≡ (formal_read rest).formal.text → text ≡ (formal_at (formals_read count bytes) place).text
 passed_last bytes rest text count place i h k p t =
     let n : count - i ≡ suc (count - (place + 1)) = omega arith in
-    let m : place - i ≡ 0 = omega arith in
-    t
-    ∙ sym (ap (λ (f : Formal). f.text) (p.same
-    ∙ (ap (λ (x : ℕ). formal_at (formals_read x rest) (place - i)) n
-    ∙ (ap (λ (x : ℕ). formal_at (formals_read (suc (count - (place + 1))) rest) x) m
-    ∙ ap (λ (fs : List Formal). formal_at fs 0) (read_first (count - (place + 1)) rest)))))
+    grind (arith, read_first)
 
 -- Where the formals of a macro begin among their bytes, and what is kept of that.
 
 -- what is kept of formals that were read, by whether anything is
 pub offsets_by : (b : Bool) (count : ℕ) (list : List ℕ) → flat_map formal_bytes (formals_read count list) ≡ list → b ≡ has_offsets count (length list) → offsets_of (formals_read count list) ≡ cond b (halves (starts_of 0 (formals_read count list))) []
 unfolding offsets_of
-offsets_by b count list h e =
-    let fs : List Formal = formals_read count list in
-    let n : sum_by formal_size fs ≡ length list = sym (length_list_bytes fs) ∙ ap length h in
-    ap (λ (k : ℕ). cond (has_offsets k (sum_by formal_size fs)) (halves (starts_of 0 fs)) []) (count_read count list)
-    ∙ (ap (λ (k : ℕ). cond (has_offsets count k) (halves (starts_of 0 fs)) []) n
-    ∙ ap (λ (x : Bool). cond x (halves (starts_of 0 fs)) []) (sym e))
+offsets_by b count list h e = grind (arith, length_list_bytes, count_read)
 
 -- the halves of numbers behind other numbers
 halves-append : (xs ys : List ℕ) → halves (xs ++ ys) ≡ halves xs ++ halves ys
@@ -234,10 +184,7 @@ whole_from : (ns : List ℕ) (i : ℕ) → i < length ns → get_or (halves ns) 
 unfolding halves
 whole_from [] i h = absurd (omega arith)
 whole_from (n ∷ ns) zero h = omega arith
-whole_from (n ∷ ns) (suc i) h =
-    let low : 2 * suc i ≡ suc (suc (2 * i)) = omega arith in
-    let high : 2 * suc i + 1 ≡ suc (suc (2 * i + 1)) = omega arith in
-    omega (arith, ap (λ (k : ℕ). get_or (halves (n ∷ ns)) k 0) low, ap (λ (k : ℕ). get_or (halves (n ∷ ns)) k 0) high, whole_from ns i (omega arith))
+whole_from (n ∷ ns) (suc i) h = grind (arith, (whole_from ns i (omega arith)))
 
 -- a number is read back from the halves that are kept
 offset_is : (formal_offsets ns : List ℕ) (i : ℕ) → formal_offsets ≡ halves ns → i < length ns → offset_in formal_offsets i ≡ get_or ns i 0
@@ -275,9 +222,7 @@ first_after fs i h = ap (flat_map formal_bytes) (drop_more fs i _ h)
 
 -- reading a formal where it begins
 pub read_at : (fs : List Formal) (i : ℕ) → list_all is_plain_formal fs ≡ true → i < length fs → formal_read (flat_map formal_bytes (drop i fs)) ≡ record { formal = formal_at fs i; following = flat_map formal_bytes (drop (i + 1) fs) }
-read_at fs i p h =
-    ap formal_read (first_after fs i h)
-    ∙ read_formal (formal_at fs i) (flat_map formal_bytes (drop (i + 1) fs)) (plain_at fs i _ p h)
+read_at fs i p h = grind (arith, first_after, read_formal, plain_at)
 
 -- the first formals take what those before the last one take, and what it takes
 size_more : (fs : List Formal) (i : ℕ) → i < length fs → sum_by formal_size (take (i + 1) fs) ≡ sum_by formal_size (take i fs) + formal_size (formal_at fs i)
@@ -358,10 +303,7 @@ after_offset fs list formal_offsets i a h =
 -- where the formal at a place ends, by the number of formals and of their bytes
 end_by : (count size : ℕ) (formal_offsets : List ℕ) (i : ℕ) → (i + 1 < count → end_in count size formal_offsets i ≡ offset_in formal_offsets (i + 1)) × (count ≤ i + 1 → end_in count size formal_offsets i ≡ size)
 unfolding end_in
-end_by count size formal_offsets i = (
-  λ h. cond-true _ (offset_in formal_offsets (i + 1)) size (lt-ltb (i + 1) count h),
-  λ h. cond-false _ (offset_in formal_offsets (i + 1)) size (le-ltb (i + 1) count h),
-)
+end_by count size formal_offsets i = grind (arith, cond-true, lt-ltb, cond-false, le-ltb)
 
 -- a formal ends where the next one begins, or where the list ends
 pub end_at : (fs : List Formal) (count : ℕ) (list formal_offsets : List ℕ) (i : ℕ) → length fs ≡ count → AreMarked fs list formal_offsets → i < count → end_in count (length list) formal_offsets i ≡ offset_in formal_offsets i + formal_size (formal_at fs i)
@@ -411,11 +353,7 @@ count_offsets count list formal_offsets l m =
 
 -- a formal that was passed isn't the one that is sought
 pub passed_at : (count : ℕ) (list formal_offsets name : List ℕ) (i : ℕ) → AreStoredFormals count list formal_offsets → i < count → IsReached list name (flat_map formal_bytes (drop i (formals_read count list))) count i → bytes_eq (formal_read (flat_map formal_bytes (drop i (formals_read count list)))).formal.name name ≡ false → IsReached list name (flat_map formal_bytes (drop (i + 1) (formals_read count list))) count (i + 1)
-passed_at count list formal_offsets name i l h r other =
-    let fs : List Formal = formals_read count list in
-    let rest : List ℕ = flat_map formal_bytes (drop i fs) in
-    let following : flat_map formal_bytes (drop (i + 1) fs) ≡ (formal_read rest).following = ap (λ (s : StoredFormal). s.following) (sym (read_at fs i l.plain (omega (arith, count_read count list)))) in
-    reached_more list name rest (flat_map formal_bytes (drop (i + 1) fs)) (formal_read rest).formal.name count i h r refl other following
+passed_at count list formal_offsets name i l h r other = grind (arith, read_at, count_read, reached_more)
 
 -- a formal ends behind where it begins
 pub end_ordered : (count : ℕ) (list formal_offsets : List ℕ) (i : ℕ) → AreStoredFormals count list formal_offsets → has_offsets count (length list) ≡ true → i < count → offset_in formal_offsets i ≤ end_in count (length list) formal_offsets i
@@ -455,19 +393,10 @@ sliced list start end from to p q = rw (p, q) refl
 
 -- what is told stays told
 told_still : (told : List Bool) (j k : ℕ) → get_or told k true ≡ true → get_or (set told j true) k true ≡ true
-told_still told j k h = ⊎_elim
-    (λ e. ⊎_elim
-    (λ l. ap (λ (n : ℕ). get_or (set told j true) n true) e ∙ get_or-set_same told j true true l)
-    (λ p. get_or_past (set told j true) k true (omega (arith, length-set told j true, e, p)))
-    (cases_lt j (length told)))
-    (λ n. get_or-set_other told j k true true n ∙ h)
-    (cases_eq k j)
+told_still told j k h = grind (arith, get_or-set_same, get_or_past, length-set, cases_lt, get_or-set_other, cases_eq)
 
 told_here : (told : List Bool) (k : ℕ) → get_or (set told k true) k true ≡ true
-told_here told k = ⊎_elim
-    (λ l. get_or-set_same told k true true l)
-    (λ p. get_or_past (set told k true) k true (omega (arith, length-set told k true, p)))
-    (cases_lt k (length told))
+told_here told k = grind (arith, get_or-set_same, get_or_past, length-set, cases_lt)
 
 still : (fs : List Formal) (told : List Bool) (k : ℕ) → get_or told k true ≡ true → get_or (shapes_of fs told) k true ≡ true
 unfolding shapes_of
@@ -495,11 +424,7 @@ shapes_told (f ∷ fs) told name h =
 
 -- a name of another shape is copied
 pub no_shape : (formals : List Formal) (told : List Bool) (name : List ℕ) → AreShapes formals told → get_or told (shape name) true ≡ false → None ≡ formal_named formals name
-no_shape formals told name h f = by (formal_named formals name) refl
-  where
-    by : (o : Option ℕ) → formal_named formals name ≡ o → None ≡ formal_named formals name
-    by None e = sym e
-    by (Some n) e = absurd (false≢true (sym f ∙ h name (ap is_some e)))
+no_shape formals told name h f = grind arith
 
 -- so many formals are told as they are read
 pub told_more : (rest : List ℕ) (count place : ℕ) (told : List Bool) (name following : List ℕ) → place < count → name ≡ (formal_read rest).formal.name → following ≡ (formal_read rest).following
@@ -507,10 +432,7 @@ pub told_more : (rest : List ℕ) (count place : ℕ) (told : List Bool) (name f
 unfolding shapes_of
 told_more rest count place told name following h e b =
     let n : count - place ≡ suc (count - (place + 1)) = omega arith in
-    ap (λ (k : ℕ). shapes_of (formals_read k rest) told) n
-    ∙ ap (λ (fs : List Formal). shapes_of fs told) (read_first (count - (place + 1)) rest)
-    ∙ ap (λ (x : List ℕ). shapes_of (formals_read (count - (place + 1)) (formal_read rest).following) (set told (shape x) true)) (sym e)
-    ∙ ap (λ (x : List ℕ). shapes_of (formals_read (count - (place + 1)) x) (set told (shape name) true)) (sym b)
+    grind (arith, read_first)
 
 pub told_none : (rest : List ℕ) (count place : ℕ) (told : List Bool) → count < place + 1 → shapes_of (formals_read (count - place) rest) told ≡ told
 unfolding shapes_of formals_read
@@ -519,14 +441,8 @@ told_none rest count place told h = let n : count - place ≡ 0 = omega arith in
 -- so is each formal where it begins
 pub told_at : (count place : ℕ) (list formal_offsets name : List ℕ) (told : List Bool) → AreStoredFormals count list formal_offsets → place < count → name ≡ (formal_read (flat_map formal_bytes (drop place (formals_read count list)))).formal.name
     → shapes_of (formals_read (count - place) (flat_map formal_bytes (drop place (formals_read count list)))) told ≡ shapes_of (formals_read (count - (place + 1)) (flat_map formal_bytes (drop (place + 1) (formals_read count list)))) (set told (shape name) true)
-told_at count place list formal_offsets name told l h e =
-    let fs : List Formal = formals_read count list in
-    let rest : List ℕ = flat_map formal_bytes (drop place fs) in
-    let following : flat_map formal_bytes (drop (place + 1) fs) ≡ (formal_read rest).following = ap (λ (s : StoredFormal). s.following) (sym (read_at fs place l.plain (omega (arith, count_read count list)))) in
-    told_more rest count place told name (flat_map formal_bytes (drop (place + 1) fs)) h e following
+told_at count place list formal_offsets name told l h e = grind (arith, read_at, count_read, told_more)
 
 -- at first all of them are left
 pub told_start : (count : ℕ) (list formal_offsets : List ℕ) (told : List Bool) → AreStoredFormals count list formal_offsets → shapes_of (formals_read count list) told ≡ shapes_of (formals_read (count - 0) (flat_map formal_bytes (drop 0 (formals_read count list)))) told
-told_start count list formal_offsets told l =
-    let n : count - 0 ≡ count = omega arith in
-    ap (λ (x : List ℕ). shapes_of (formals_read count x) told) (sym l.whole) ∙ ap (λ (k : ℕ). shapes_of (formals_read k (flat_map formal_bytes (drop 0 (formals_read count list)))) told) (sym n)
+told_start count list formal_offsets told l = grind arith

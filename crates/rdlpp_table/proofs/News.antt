@@ -1,13 +1,14 @@
 -- A macro that is to be stored: its body, its formals, and the lists of a table with it.
-use Rattle.std.proofs.Common.{◌≡◌, ℕ, true, false, List, [], ◌∷◌, ◌++◌, take, drop, Option, Some, None, Ok, Err, refl, ap, sym, ◌∙◌, inl, inr, zero, suc, ◌+◌, ◌<◌, ◌≤◌, Bool, cond, ◌||◌, eqb, ltb, length, get_or, map, bytes_eq, unwrap_or, subst, arith, length-append, ◌-◌, ◌*◌, ◌/◌, slice_range, is_some, option_map, sum_by, append_assoc, append-nil, ltb-false, flat_map, drop_at}
+use Rattle.std.proofs.Common.{◌≡◌, ℕ, true, false, List, [], ◌∷◌, ◌++◌, take, drop, Option, Some, None, Ok, Err, refl, ap, sym, ◌∙◌, inl, inr, zero, suc, ◌+◌, ◌<◌, ◌≤◌, Bool, cond, ◌||◌, ltb, length, map, bytes_eq, unwrap_or, subst, arith, length-append, ◌-◌, ◌*◌, ◌/◌, slice_range, is_some, option_map, append_assoc, append-nil, ltb-false, flat_map, drop_at}
 use Rattle.std.proofs.lemmas.Bool.{cases_Bool, cond-true, cond-false, eqb-false}
 use Rattle.std.specs.List.{IsDistinct, list_any, list_all}
+use Rattle.std.proofs.lemmas.Grind.{common_steps}
 use Rattle.std.proofs.lemmas.List.{map-append, nil_from_length}
 use Rattle.std.proofs.lemmas.List.Elements.{All-nil, All-push}
 use Rattle.std.proofs.lemmas.Cmp.{nat_list_eq_equiv}
 use Rattle.std.proofs.lemmas.Map.Keys.{IsDistinct-push}
 use Rattle.rdlpp_scan.specs.declared.token.Kind.{Kind}
-use Rattle.rdlpp_scan.specs.declared.token.Kind.TheVariants.{Name, Word, Back, Blank, LineEnd, Str, LineComment, BlockComment, Opener, Closer, Comma, Other, Perl, BareBackquote}
+use Rattle.rdlpp_scan.specs.declared.token.Kind.TheVariants.{LineComment}
 use Rattle.rdlpp_scan.specs.declared.token.Token.{Token}
 use Rattle.rdlpp_scan.specs.declared.token.Mode.{Mode}
 use Rattle.rdlpp_scan.specs.declared.token.Mode.TheVariants.{Plain}
@@ -17,10 +18,10 @@ use Rattle.rdlpp_scan.specs.LexFaults.{is_perl, open_fault, fault_of_tokens, lex
 use Rattle.rdlpp_scan.specs.Names.{is_name}
 use Rattle.rdlpp_table.specs.declared.fault.DefineKind.{DefineKind}
 use Rattle.rdlpp_table.specs.declared.fault.DefineFault.{DefineFault}
-use Rattle.rdlpp_table.specs.Table.{Formal, Macro, formal_bytes, formal_size, macro_bytes, macro_size}
+use Rattle.rdlpp_table.specs.Table.{Formal, Macro, formal_bytes, macro_bytes, macro_size}
 use Rattle.rdlpp_lines.specs.Continuations.{joined}
 use Rattle.rdlpp_lines.specs.Texts.{Cleared, Sound, Unsound, onto, trimmed_left, trimmed_len, trims, cleared, told, read_by, left_in, kept_bytes, start_level}
-use Rattle.rdlpp_table.specs.Define.{Draft, Drawn, DraftFault, lexical, observed, macro_set, name_fault, refused_word, set_of, stored, stored_draft, trimmed, with_body, without_list, text_without_line_comments, FormalFault, DefaultText, Good, Listed, FormalListFault, after_space, after_name, default_in, formal_fault, formal_in, formal_name, formals_in, formals_of_list, is_nothing, with_default, FormalList}
+use Rattle.rdlpp_table.specs.Define.{Draft, Drawn, DraftFault, lexical, observed, macro_set, name_fault, refused_word, set_of, stored, stored_draft, trimmed, with_body, without_list, text_without_line_comments, FormalFault, DefaultText, Good, Listed, FormalListFault, after_name, default_in, formal_fault, formal_in, formal_name, formals_in, formals_of_list, is_nothing, with_default}
 use Rattle.rdlpp_table.proofs.Taken.{between_parts}
 use Rattle.rdlpp_table.proofs.RoundTrip.{refused_is, read_list}
 use Rattle.rdlpp_table.specs.View.{AreSoundFormals, IsSoundMacro, formals_of}
@@ -56,20 +57,8 @@ unfolding text_without_line_comments
 none_left text = refl
 
 kept_front_of : (k : Kind) (xs ys : List ℕ) → (elim k [ LineComment ↦ ys | _ ↦ xs ++ ys ]) ≡ (elim k [ LineComment ↦ [] | _ ↦ xs ]) ++ ys
-kept_front_of Name xs ys = refl
-kept_front_of Word xs ys = refl
-kept_front_of Back xs ys = refl
-kept_front_of Blank xs ys = refl
-kept_front_of LineEnd xs ys = refl
-kept_front_of Str xs ys = refl
 kept_front_of LineComment xs ys = refl
-kept_front_of BlockComment xs ys = refl
-kept_front_of Opener xs ys = refl
-kept_front_of Closer xs ys = refl
-kept_front_of Comma xs ys = refl
-kept_front_of Other xs ys = refl
-kept_front_of Perl xs ys = refl
-kept_front_of BareBackquote xs ys = refl
+kept_front_of k xs ys = refl
 
 kept_front : (t : Token) (ts : List Token) (text : List ℕ) → text_without_line_comments (t ∷ ts) text ≡ kept_bytes t text ++ text_without_line_comments ts (drop t.len text)
 unfolding text_without_line_comments
@@ -134,18 +123,11 @@ set_nameless a b ms name text fault e k w = refused_is fault kind.NameExpected m
 
 pub set_refuses : (a b : ℕ) (ms : List Macro) (name text : List ℕ) (fault : DefineFault) → is_name name ≡ true → name_fault name ≡ Some fault.kind → fault.word.bytes ≡ refused_word fault.kind name → observed (Err fault) ms ≡ set_of a b ms name text
 unfolding set_of macro_set without_list stored_draft observed
-set_refuses a b ms name text fault e why word =
-    sym (ap (stored_draft a b ms)
-    (cond-true _ _ _ e
-    ∙ (ap (λ (f : Option DefineKind). elim f [ Some k ↦ DraftFault k (refused_word k name) | None ↦ with_body name None text ]) why
-    ∙ ap (DraftFault fault.kind) (sym word))))
+set_refuses a b ms name text fault e why word = grind (arith, cond-true)
 
 pub set_stores : (a b : ℕ) (ms : List Macro) (name text : List ℕ) → is_name name ≡ true → name_fault name ≡ None → stored_draft a b ms (with_body name None (joined false text)) ≡ set_of a b ms name text
 unfolding set_of macro_set without_list joined
-set_stores a b ms name text e ok =
-    sym (ap (stored_draft a b ms)
-    (cond-true _ _ _ e
-    ∙ ap (λ (f : Option DefineKind). elim f [ Some k ↦ DraftFault k (refused_word k name) | None ↦ with_body name None text ]) ok))
+set_stores a b ms name text e ok = grind (arith, cond-true)
 
 -- The formals that a list gives are sound.
 
@@ -157,10 +139,8 @@ record IsNextFormal (before : List Formal) (f : Formal) : Type 0 where
   text : IsCleanText f.text
 
 three_none : (a b c : Bool) → three a b c ≡ None → (b ≡ false) × (c ≡ false)
-three_none true b c e = absurd (cc)
-three_none false true c e = absurd (cc)
-three_none false false true e = absurd (cc)
 three_none false false false e = (refl, refl)
+three_none a b c e = absurd (cc)
 
 named_with : (name from : List ℕ) (d : Option DefaultText) (f : Formal) (following : List ℕ) → default_in from ≡ d → with_default name d ≡ Good f following → (name ≡ f.name) × IsCleanText f.text
 unfolding with_default
@@ -177,12 +157,7 @@ next_formal : (before : List Formal) (text : List ℕ) (f : Formal) (following :
 next_formal before text f following room e =
     let g = good_by (formal_fault before (formal_name text)) (formal_name text) (after_name text) f following (sym (in_by before text) ∙ e) in
     let t = three_none (is_nothing (formal_name text)) (ltb 128 (length (formal_name text))) (list_any (λ (g : Formal). bytes_eq g.name (formal_name text)) before) (sym (fault_three before (formal_name text)) ∙ g.0) in
-    record {
-      short = omega (arith, ap (length {A = ℕ}) g.1.0, ltb-false 128 (length (formal_name text)) t.0);
-      other = ap (λ (n : List ℕ). list_any (λ (g : Formal). bytes_eq g.name n) before) (sym g.1.0) ∙ t.1;
-      room = room;
-      text = g.1.1;
-    }
+    grind (arith, ltb-false)
 
 turned_any : (name : List ℕ) (before : List Formal) → list_any (bytes_eq name) (map (λ g. g.name) before) ≡ list_any (λ g. bytes_eq g.name name) before
 turned_any name [] = refl
@@ -196,27 +171,14 @@ no_formals_sound = record { distinct = tt; few = omega arith; short = All-nil _;
 
 one_more_sound : (before : List Formal) (f : Formal) → AreSoundFormals before → IsNextFormal before f → AreSoundFormals (before ++ f ∷ [])
 one_more_sound before f s n =
-    let P : List (List ℕ) → Type 0 = λ l. IsDistinct bytes_eq l in
-    record {
-      distinct = subst P (sym (map-append (λ (g : Formal). g.name) before (f ∷ []))) (IsDistinct-push nat_list_eq_equiv (map (λ (g : Formal). g.name) before) f.name s.distinct (turned_any f.name before ∙ n.other));
-      few = omega (arith, length-append before (f ∷ []), n.room);
-      short = All-push (λ g. length g.name ≤ 128) before f s.short n.short;
-      texts = All-push (λ g. IsCleanText g.text) before f s.texts n.text;
-    }
+    grind (arith, common_steps, map-append, IsDistinct-push, nat_list_eq_equiv, turned_any, length-append, All-push)
 
 listed_same : (before fs : List Formal) (after' after : List ℕ) → Listed (Some before) after' ≡ Listed (Some fs) after → before ≡ fs
 listed_same before fs after' after e = cc
 
 -- by what stands behind the next formal
 after_sound : (room : ℕ) (before : List Formal) (f : Formal) (following : List ℕ) (fs : List Formal) (after : List ℕ) → AreSoundFormals (before ++ f ∷ []) → (formals_in room (before ++ f ∷ []) (drop 1 following) ≡ Listed (Some fs) after → AreSoundFormals fs) → list_by room before (Good f following) ≡ Listed (Some fs) after → AreSoundFormals fs
-after_sound room before f following fs after s next e =
-    elim (cases_Bool (eqb (get_or following 0 0) 44)) [
-      | inl c ↦ next (sym (cond-true _ _ _ c) ∙ e)
-      | inr c ↦ elim (cases_Bool (eqb (get_or following 0 0) 41)) [
-        | inl k ↦ subst AreSoundFormals (listed_same (before ++ f ∷ []) fs (drop 1 following) after (sym (cond-true _ _ _ k) ∙ (sym (cond-false _ _ _ c) ∙ e))) s
-        | inr k ↦ let h : FormalListFault kind.BadFormals ≡ Listed (Some fs) after = sym (cond-false _ _ _ k) ∙ (sym (cond-false _ _ _ c) ∙ e) in absurd (cc)
-      ]
-    ]
+after_sound room before f following fs after s next e = grind (arith, cases_Bool, cond-true, listed_same, cond-false)
 
 in_sound : (room : ℕ) (before : List Formal) (text : List ℕ) (fs : List Formal) (after : List ℕ) → AreSoundFormals before → length before + room ≤ 255 → formals_in room before text ≡ Listed (Some fs) after → AreSoundFormals fs
 in_sound zero before text fs after s n e = let h : FormalListFault (unwrap_or (formal_fault before (formal_name text)) kind.TooManyFormals) ≡ Listed (Some fs) after = sym (list_full before text) ∙ e in absurd (cc)
@@ -240,12 +202,7 @@ faultless false k y e = (refl, e)
 
 pub good_name : (name : List ℕ) → name_fault name ≡ None → IsGoodName name
 unfolding name_fault
-good_name name e =
-    let t1 = faultless _ _ _ e in
-    let t2 = faultless _ _ _ t1.1 in
-    let t3 = faultless _ _ _ t2.1 in
-    let apart : (length name ≡ 0) → ⊥ = eqb-false _ _ t1.0 in
-    record { named = omega (arith, apart); short = ltb-false _ _ t3.0; unreserved = t2.0 }
+good_name name e = grind (arith, faultless, eqb-false, ltb-false)
 
 pub new_sound : (name : List ℕ) (arity : Option ℕ) (list : List ℕ) (is_logical : Bool) (text : List ℕ) (len : ℕ) → name_fault name ≡ None → AreSoundFormals (unwrap_or (list_formals arity list) [])
     → Ok len ≡ trimmed_len (trims false) (cleared None (joined is_logical text)) → IsSoundMacro (new_macro name arity list is_logical text)
@@ -261,10 +218,7 @@ new_sound name arity list is_logical text len e s read =
 
 by_list : (text : List ℕ) (fs : List Formal) (after : List ℕ) → formals_of_list text ≡ Listed (Some fs) after → AreSoundFormals fs
 unfolding formals_of_list
-by_list text fs after e = elim (cases_Bool (eqb (get_or (after_space text) 0 0) 41)) [
-  | inl c ↦ subst AreSoundFormals (listed_same [] fs (drop 1 (after_space text)) after (sym (cond-true _ _ _ c) ∙ e)) no_formals_sound
-  | inr c ↦ in_sound 255 [] text fs after no_formals_sound (omega arith) (sym (cond-false _ _ _ c) ∙ e)
-]
+by_list text fs after e = grind (arith, cases_Bool, listed_same, cond-true, no_formals_sound, in_sound, cond-false)
 
 -- the formals of a list are sound (this project's profile)
 pub listed_sound : (text : List ℕ) (o : Option (List Formal)) (after : List ℕ) → formals_of_list text ≡ Listed o after → AreSoundFormals (unwrap_or o [])
@@ -284,13 +238,7 @@ new_size name arity list size is_logical text len n =
 
 pub new_bytes : (bytes named listed done name : List ℕ) (arity : Option ℕ) (list : List ℕ) (is_logical : Bool) (text : List ℕ) → named ≡ bytes ++ name → listed ≡ named ++ flat_map formal_bytes (unwrap_or (list_formals arity list) []) → done ≡ listed ++ body_of_text is_logical text → done ≡ bytes ++ macro_bytes (new_macro name arity list is_logical text)
 unfolding macro_bytes
-new_bytes bytes named listed done name arity list is_logical text e f g =
-    let body : List ℕ = body_of_text is_logical text in
-    let formals : List ℕ = flat_map formal_bytes (unwrap_or (list_formals arity list) []) in
-    g
-    ∙ (ap (λ (l : List ℕ). l ++ body) (f ∙ ap (λ (l : List ℕ). l ++ formals) e)
-    ∙ (append_assoc (bytes ++ name) formals body
-    ∙ append_assoc bytes name (formals ++ body)))
+new_bytes bytes named listed done name arity list is_logical text e f g = grind (arith, append_assoc)
 
 -- the formals of a macro that is to be stored are read back from their bytes
 count_of : (o : Option (List Formal)) (arity : Option ℕ) → option_map length o ≡ arity → unwrap_or arity 0 ≡ length (unwrap_or o [])
@@ -310,14 +258,7 @@ pub record IsAppended (arity : Option ℕ) (list : List ℕ) (size count : ℕ) 
   pub long : length slice ≡ size
 
 appended : (arity : Option ℕ) (list : List ℕ) (size count : ℕ) (slice : List ℕ) → IsList arity list size → count ≡ unwrap_or arity 0 → slice ≡ flat_map formal_bytes (unwrap_or (list_formals arity list) []) → IsAppended arity list size count slice
-appended arity list size count slice l n e =
-    let read : formals_read count slice ≡ unwrap_or (list_formals arity list) [] = ap (formals_read count) e ∙ (ap (λ (k : ℕ). formals_read k (flat_map formal_bytes (unwrap_or (list_formals arity list) []))) n ∙ same_formals arity list size l) in
-    record {
-      read = read;
-      whole = ap (flat_map formal_bytes) read ∙ sym e;
-      plain = ap (list_all is_plain_formal) read ∙ l.plain;
-      long = ap length e ∙ (length_list_bytes (unwrap_or (list_formals arity list) []) ∙ l.size_is);
-    }
+appended arity list size count slice l n e = grind (arith, same_formals, length_list_bytes)
 
 -- the last bytes, once the formals were appended
 pub appended_last : (named listed here : List ℕ) (arity : Option ℕ) (list : List ℕ) (size count from : ℕ) → IsList arity list size → listed ≡ named ++ flat_map formal_bytes (unwrap_or (list_formals arity list) []) → from ≡ length named → count ≡ unwrap_or arity 0 → here ≡ listed → IsAppended arity list size count (take (length here - from) (drop from here))
@@ -335,15 +276,7 @@ appended_between named listed all here arity list size count from to body l e f 
 
 -- the offsets that were kept behind a list are those of its formals
 pub appended_listed : (arity : Option ℕ) (list : List ℕ) (size count : ℕ) (last between order here : List ℕ) (from : ℕ) → IsAppended arity list size count last → IsAppended arity list size count between → here ≡ order ++ offsets_of (formals_read count last) → from ≡ length order → AreStoredFormals count between (take (length here - from) (drop from here))
-appended_listed arity list size count last between order here from a b e i = record {
-  whole = b.whole;
-  plain = b.plain;
-  marked =
-      after_place from here
-      ∙ (ap (drop from) e
-      ∙ (drop_at order (offsets_of (formals_read count last)) from (sym i)
-      ∙ ap offsets_of (a.read ∙ sym b.read)));
-}
+appended_listed arity list size count last between order here from a b e i = grind (arith, common_steps, after_place)
 
 -- as are those of the macro
 pub appended_offsets : (name : List ℕ) (arity : Option ℕ) (list : List ℕ) (size : ℕ) (is_logical : Bool) (text : List ℕ) (count : ℕ) (last : List ℕ) → IsAppended arity list size count last → offsets_of (formals_read count last) ≡ macro_offsets (new_macro name arity list is_logical text)
@@ -358,27 +291,11 @@ appended_few arity list size count last l a =
 -- the first stops of its body are told by its formals and its body
 pub new_points : (name : List ℕ) (arity : Option ℕ) (list : List ℕ) (size : ℕ) (is_logical : Bool) (text named listed all : List ℕ) (from to count : ℕ) (points : PointCache) → IsList arity list size → listed ≡ named ++ flat_map formal_bytes (unwrap_or (list_formals arity list) []) → all ≡ listed ++ body_of_text is_logical text → from ≡ length named → to ≡ length listed → count ≡ unwrap_or arity 0 → points ≡ points_told all from to count → (let m : Macro = new_macro name arity list is_logical text in points ≡ cached_points (formals_of m) m.body)
 new_points name arity list size is_logical text named listed all from to count points l e f i j n h =
-    let formals : List Formal = unwrap_or (list_formals arity list) [] in
-    let body : List ℕ = body_of_text is_logical text in
-    let whole : all ≡ named ++ (flat_map formal_bytes formals ++ body) = f ∙ (ap (λ (x : List ℕ). x ++ body) e ∙ append_assoc named (flat_map formal_bytes formals) body) in
-    let slice : slice_range all from to ≡ flat_map formal_bytes formals =
-    ap (λ (x : List ℕ). slice_range x from to) whole ∙ between_parts named (flat_map formal_bytes formals) body from to (sym i) (omega (arith, i, j, ap (length {A = ℕ}) e, length-append named (flat_map formal_bytes formals))) in
-    let rest : drop to all ≡ body = ap (drop to) f ∙ drop_at listed body to (sym j) in
-    h
-    ∙ (ap (λ (x : List ℕ). cached_points (formals_read count (slice_range all from to)) x) rest
-    ∙ (ap (λ (x : List ℕ). cached_points (formals_read count x) body) slice
-    ∙ (ap (λ (k : ℕ). cached_points (formals_read k (flat_map formal_bytes formals)) body) n
-    ∙ ap (λ (fs : List Formal). cached_points fs body) (same_formals arity list size l))))
+    grind (arith, common_steps, append_assoc, between_parts, length-append, same_formals)
 
 pub new_entry : (start formal_offsets : ℕ) (name : List ℕ) (arity : Option ℕ) (list : List ℕ) (size : ℕ) (is_logical : Bool) (text : List ℕ) (len : ℕ) (points : PointCache) → IsNew name arity list size is_logical text len → (let m : Macro = new_macro name arity list is_logical text in points ≡ cached_points (formals_of m) m.body) → (let e : Entry = record { start = start; name_len = length name; list_len = size; body_len = len; arity = arity; formal_offsets = formal_offsets; points = points } in e) ≡ entry_of start formal_offsets (new_macro name arity list is_logical text)
 unfolding entry_of list_size
-new_entry start formal_offsets name arity list size is_logical text len points n h =
-    let body : ℕ = length (body_of_text is_logical text) in
-    let sum : ℕ = sum_by formal_size (unwrap_or (list_formals arity list) []) in
-    ap (λ (k : ℕ). let e : Entry = record { start = start; name_len = length name; list_len = k; body_len = len; arity = arity; formal_offsets = formal_offsets; points = points } in e) (sym n.listed.size_is)
-    ∙ (ap (λ (k : ℕ). let e : Entry = record { start = start; name_len = length name; list_len = sum; body_len = k; arity = arity; formal_offsets = formal_offsets; points = points } in e) (sym (left_len (trims false) (cleared None (joined is_logical text)) len n.body_is))
-    ∙ (ap (λ (a : Option ℕ). let e : Entry = record { start = start; name_len = length name; list_len = sum; body_len = body; arity = a; formal_offsets = formal_offsets; points = points } in e) (sym n.listed.arity_is)
-    ∙ ap (λ (b : PointCache). let e : Entry = record { start = start; name_len = length name; list_len = sum; body_len = body; arity = option_map length (list_formals arity list); formal_offsets = formal_offsets; points = b } in e) h))
+new_entry start formal_offsets name arity list size is_logical text len points n h = grind (arith, left_len)
 
 pub new_plain : (name : List ℕ) (arity : Option ℕ) (list : List ℕ) (size : ℕ) (is_logical : Bool) (text : List ℕ) → IsList arity list size → is_plain_macro (new_macro name arity list is_logical text) ≡ true
 unfolding is_plain_macro
@@ -404,23 +321,14 @@ by_length (Some fs) n e = refl
 
 listed_count : (text : List ℕ) (n : ℕ) → option_map length (listed (formals_of_list text)) ≡ Some n → 0 < n → formals_of_list text ≡ formals_in 255 [] text
 unfolding formals_of_list listed
-listed_count text n e h = elim (cases_Bool (eqb (get_or (after_space text) 0 0) 41)) [
-  | inl c ↦
-      let k : Some 0 ≡ Some n = sym (ap (λ (l : FormalList). option_map length (listed l)) (cond-true _ (Listed (Some []) (drop 1 (after_space text))) (formals_in 255 [] text) c)) ∙ e in
-      let z : 0 ≡ n = cc in
-      absurd (omega arith)
-  | inr c ↦ cond-false _ _ _ c
-]
+listed_count text n e h = grind (arith, cases_Bool, cond-true, cond-false)
 
 pub has_formals : (arity : Option ℕ) (list : List ℕ) (size : ℕ) → IsList arity list size → 0 < unwrap_or arity 0 → HasFormals arity list
 unfolding list_formals
 has_formals None list size l h = absurd (omega arith)
 has_formals (Some n) list size l h =
     let e : formals_of_list (joined true list) ≡ formals_in 255 [] (joined true list) = listed_count (joined true list) n l.arity_is h in
-    record {
-      is_read = ap (λ (x : FormalList). is_some (listed x)) (sym e) ∙ by_length (listed (formals_of_list (joined true list))) n l.arity_is;
-      same = ap (λ (x : FormalList). unwrap_or (listed x) []) e;
-    }
+    grind (arith, by_length)
 
 -- what is appended of a body's text is what is left of it
 pub body_is : (is_logical : Bool) (text : List ℕ) → trimmed_left (trims false) (cleared (start_level false) (joined is_logical text)) ≡ body_of_text is_logical text
@@ -430,15 +338,7 @@ body_is is_logical text = refl
 -- a list that was read
 pub list_is : (list following : List ℕ) (count size : ℕ) → (formals : List Formal) × IsRead (formals_of_list (joined true list)) following count size formals → (IsList (Some count) list size) × (formals_of_list (joined true list) ≡ Listed (list_formals (Some count) list) following)
 unfolding list_formals listed
-list_is list following count size r =
-    let e : listed (formals_of_list (joined true list)) ≡ Some r.0 = ap listed r.1.is in (
-      record {
-        size_is = ap (λ (o : Option (List Formal)). sum_by formal_size (unwrap_or o [])) e ∙ r.1.size_is;
-        arity_is = ap (option_map length) e ∙ ap Some r.1.count_is;
-        plain = ap (λ (o : Option (List Formal)). list_all is_plain_formal (unwrap_or o [])) e ∙ r.1.plain;
-      },
-      r.1.is ∙ ap (λ (o : Option (List Formal)). Listed o following) (sym e),
-    )
+list_is list following count size r = grind arith
 
 pub no_list_is : (list : List ℕ) → IsList None list 0
 unfolding list_formals

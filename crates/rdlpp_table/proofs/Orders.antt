@@ -1,12 +1,13 @@
 -- The order of names, and of places in lists that a change moves.
-use Rattle.std.proofs.Common.{◌≡◌, ℕ, zero, suc, ◌+◌, ◌-◌, ◌*◌, ◌<◌, ◌≤◌, true, false, List, [], ◌∷◌, length, get_or, take, drop, refl, sym, ap, ◌∙◌, subst, arith, ◌%◌, ◌^◌, Bool, cond, bytes_eq, ltb, Some, None, inl, inr, ◌==◌, map, ◌++◌, length-append, remove, append_assoc, position, is_eq, nat_cmp, Ordering, Equal, Greater, Less, set, pow-suc, drop-cons, eq-eqb, le-ltb, lt-ltb, ne_eqb, true≢false, drop-drop, drop_at, get_or-append-add, get_or-drop, get_or-take, length-drop, length-take-le, take-take, take_all, take_at}
-use Rattle.std.specs.Cmp.{nat_cmp_is, ranks}
+use Rattle.std.proofs.Common.{◌≡◌, ℕ, zero, suc, ◌+◌, ◌-◌, ◌*◌, ◌<◌, ◌≤◌, true, false, List, [], ◌∷◌, length, get_or, take, drop, refl, sym, ap, ◌∙◌, subst, arith, ◌%◌, ◌^◌, Bool, cond, bytes_eq, ltb, Some, None, inl, inr, ◌==◌, map, ◌++◌, length-append, remove, append_assoc, position, is_eq, nat_cmp, Ordering, Equal, Greater, Less, set, pow-suc, drop-cons, eq-eqb, le-ltb, lt-ltb, true≢false, drop-drop, drop_at, get_or-append-add, get_or-drop, get_or-take, length-drop, length-take-le, take-take, take_all, take_at}
+use Rattle.std.specs.Cmp.{nat_cmp_is}
 use Rattle.std.specs.List.{AllByRecursion, IsDistinct}
 use Rattle.std.specs.Ordering.{MatchOrdering, is_ne, ordering_reverse, ordering_then}
 use Rattle.std.specs.Slice.Scan.{big_endian}
 use Rattle.std.proofs.Math.ListN.{get_or-map}
 use Rattle.std.proofs.lemmas.Bool.{cases_Bool, cases_lt, cond-false, cond-true, false≢true}
-use Rattle.std.proofs.lemmas.Cmp.{nat_list_cmp_total, nat_list_eq_equiv}
+use Rattle.std.proofs.lemmas.Cmp.{nat_list_cmp_total}
+use Rattle.std.proofs.lemmas.Grind.{common_steps}
 use Rattle.std.proofs.lemmas.List.{drop-append-le, drop-take, drop_all, drop_more, get_or_append_left, get_or_at, length-map, map_more, set_at, take_more}
 use Rattle.std.proofs.lemmas.List.Quantifiers.{position-Some}
 use Rattle.std.proofs.lemmas.List.Sums.{position_or_len_is}
@@ -63,21 +64,14 @@ by_numbers (suc n) a (u ∷ us) (v ∷ vs) p q g h =
     ∙ by_numbers n (a * 256 + u) us vs (omega arith) (omega arith) (λ k. g (suc k)) (λ k. h (suc k))
     ∙ ap (λ b. ordering_then (nat_cmp (x u) (y b)) rest) l in
     let P : Ordering → Type 0 = λ o. MatchOrdering o (u < v) (u ≡ v) (v < u) → G in
-    elim (nat_cmp u v) as P [ Less ↦ less | Equal ↦ same | Greater ↦ more ] (ranks u v)
+    grind arith
 
 -- the first eight bytes, one by one
 pub eight_are : (xs : List ℕ) → 8 ≤ length xs
     → get_or xs 0 0 * 72057594037927936 + get_or xs 1 0 * 281474976710656 + get_or xs 2 0 * 1099511627776 + get_or xs 3 0 * 4294967296
     + get_or xs 4 0 * 16777216 + get_or xs 5 0 * 65536 + get_or xs 6 0 * 256 + get_or xs 7 0 ≡ big_endian 0 (take 8 xs)
-eight_are [] le = absurd (omega arith)
-eight_are (a ∷ []) le = absurd (omega arith)
-eight_are (a ∷ b ∷ []) le = absurd (omega arith)
-eight_are (a ∷ b ∷ c ∷ []) le = absurd (omega arith)
-eight_are (a ∷ b ∷ c ∷ d ∷ []) le = absurd (omega arith)
-eight_are (a ∷ b ∷ c ∷ d ∷ e ∷ []) le = absurd (omega arith)
-eight_are (a ∷ b ∷ c ∷ d ∷ e ∷ f ∷ []) le = absurd (omega arith)
-eight_are (a ∷ b ∷ c ∷ d ∷ e ∷ f ∷ g ∷ []) le = absurd (omega arith)
 eight_are (a ∷ b ∷ c ∷ d ∷ e ∷ f ∷ g ∷ h ∷ xs) le = omega arith
+eight_are xs le = absurd (omega arith)
 
 -- what is behind the first eight bytes, as a slice
 pub following : (xs : List ℕ) → 8 ≤ length xs → take (length xs - 8) (drop 8 xs) ≡ drop 8 xs
@@ -120,43 +114,22 @@ module _ (xs ys : List ℕ) (x y : ℕ) (o : Ordering) (p : 8 ≤ length xs) (q 
 
 pub mix_on : (number : ℕ) (xs : List ℕ) → 8 ≤ length xs → mix_through number xs ≡ mix_through (mix number (big_endian 0 (take 8 xs))) (drop 8 xs)
 unfolding mix_through
-mix_on number [] h = absurd (omega arith)
-mix_on number (a ∷ []) le = absurd (omega arith)
-mix_on number (a ∷ b ∷ []) le = absurd (omega arith)
-mix_on number (a ∷ b ∷ c ∷ []) le = absurd (omega arith)
-mix_on number (a ∷ b ∷ c ∷ d ∷ []) le = absurd (omega arith)
-mix_on number (a ∷ b ∷ c ∷ d ∷ e ∷ []) le = absurd (omega arith)
-mix_on number (a ∷ b ∷ c ∷ d ∷ e ∷ f ∷ []) le = absurd (omega arith)
-mix_on number (a ∷ b ∷ c ∷ d ∷ e ∷ f ∷ g ∷ []) le = absurd (omega arith)
 mix_on number (a ∷ b ∷ c ∷ d ∷ e ∷ f ∷ g ∷ h ∷ xs) le = refl
+mix_on number xs le = absurd (omega arith)
 
 pub mix_last : (number : ℕ) (xs : List ℕ) → length xs < 8 → mix_through number xs ≡ mix number (fold_bytes 0 xs)
 unfolding mix_through
-mix_last number [] h = refl
-mix_last number (a ∷ []) le = refl
-mix_last number (a ∷ b ∷ []) le = refl
-mix_last number (a ∷ b ∷ c ∷ []) le = refl
-mix_last number (a ∷ b ∷ c ∷ d ∷ []) le = refl
-mix_last number (a ∷ b ∷ c ∷ d ∷ e ∷ []) le = refl
-mix_last number (a ∷ b ∷ c ∷ d ∷ e ∷ f ∷ []) le = refl
-mix_last number (a ∷ b ∷ c ∷ d ∷ e ∷ f ∷ g ∷ []) le = refl
 mix_last number (a ∷ b ∷ c ∷ d ∷ e ∷ f ∷ g ∷ h ∷ xs) le = absurd (omega arith)
+mix_last number xs le = refl
 
 -- eight bytes more
 pub mix_next : (number : ℕ) (xs : List ℕ) (front next : ℕ) → 8 ≤ length xs → front ≡ big_endian 0 (take 8 xs) → next ≡ mix number front → mix_through next (take (length xs - 8) (drop 8 xs)) ≡ mix_through number xs
-mix_next number xs front next h e f =
-    ap (mix_through next) (following xs h)
-    ∙ (ap (λ (n : ℕ). mix_through n (drop 8 xs)) (f ∙ ap (mix number) e)
-    ∙ sym (mix_on number xs h))
+mix_next number xs front next h e f = grind (arith, following, mix_on)
 
 -- one byte more
 pub fold_bytes_next : (number : ℕ) (xs : List ℕ) (i b : ℕ) → i < length xs → b ≡ get_or xs i 0 → fold_bytes ((number * 256 % 2 ^ 64 + b) % 2 ^ 64) (drop (i + 1) xs) ≡ fold_bytes number (drop i xs)
 unfolding fold_bytes
-fold_bytes_next number xs i b h e =
-    let one : i + 1 ≡ suc i = omega arith in
-    ap (λ (x : ℕ). fold_bytes ((number * 256 % 2 ^ 64 + x) % 2 ^ 64) (drop (i + 1) xs)) e
-    ∙ (ap (λ (k : ℕ). fold_bytes ((number * 256 % 2 ^ 64 + get_or xs i 0) % 2 ^ 64) (drop k xs)) one
-    ∙ sym (ap (fold_bytes number) (drop-cons xs i 0 h)))
+fold_bytes_next number xs i b h e = grind (arith, drop-cons)
 
 -- no byte more
 pub fold_bytes_whole : (number : ℕ) (xs : List ℕ) (i : ℕ) → length xs ≤ i → fold_bytes number (drop i xs) ≡ number
@@ -182,26 +155,13 @@ bucket_same a b h = ap (λ o. ordering_then o (name_order a b)) (level (bucket_o
 
 -- a name that goes first stands in no later bucket
 pub less_part : (a b : List ℕ) → index_order a b ≡ Less → bucket_of a ≤ bucket_of b
-less_part a b e =
-    elim (cases_lt (bucket_of b) (bucket_of a)) [
-      | inl h ↦ let none : Less ≡ Greater = sym e ∙ bucket_more a b h in absurd (cc)
-      | inr h ↦ h
-    ]
+less_part a b e = grind (arith, cases_lt, bucket_more)
 
 pub more_part : (a b : List ℕ) → index_order a b ≡ Greater → bucket_of b ≤ bucket_of a
-more_part a b e =
-    elim (cases_lt (bucket_of a) (bucket_of b)) [
-      | inl h ↦ let none : Less ≡ Greater = sym (bucket_less a b h) ∙ e in absurd (cc)
-      | inr h ↦ h
-    ]
+more_part a b e = grind (arith, cases_lt, bucket_less)
 
 pub differ : (a b : List ℕ) (o : Ordering) → index_order a b ≡ o → is_eq o ≡ false → bytes_eq a b ≡ false
-differ a b o e h =
-    let apart : bytes_eq (parted a) (parted b) ≡ false = sym (is_eq-slice_cmp (parted a) (parted b)) ∙ (ap is_eq e ∙ h) in
-    elim (cases_Bool (bytes_eq a b)) [
-      | inl t ↦ absurd (false≢true (sym apart ∙ (bytes_eq-Decides (parted a) (parted b)).1 (ap parted ((bytes_eq-Decides a b).0 t))))
-      | inr f ↦ f
-    ]
+differ a b o e h = grind (arith, is_eq-slice_cmp, cases_Bool, bytes_eq-Decides)
 
 pub not_less : (a b : List ℕ) → a ≡ b → index_order a b ≡ Less → ⊥
 not_less a b e h = false≢true (sym (differ a b Less h refl) ∙ (bytes_eq-Decides a b).1 e)
@@ -246,13 +206,7 @@ position_none p xs d none =
 
 -- the place of a macro of which the name is known, where no other has it
 pub place_is : (ms : List Macro) (name : List ℕ) (i : ℕ) → i < length ms → (macro_at ms i).name ≡ name → ((k : ℕ) → k < length ms → (macro_at ms k).name ≡ name → k ≡ i) → place_named ms name ≡ Some i
-place_is ms name i h e one =
-    position_is (λ m. bytes_eq m.name name) ms i no_macro h
-    (λ k g. elim (cases_Bool (bytes_eq (macro_at ms k).name name)) [
-      | inl t ↦ let same : k ≡ i = one k (omega arith) ((bytes_eq-Decides _ _).0 t) in absurd (omega arith)
-      | inr f ↦ f
-    ])
-    ((bytes_eq-Decides _ _).1 e)
+place_is ms name i h e one = grind (arith, position_is, cases_Bool, bytes_eq-Decides)
 
 pub indexed_place : (ms : List Macro) (order name : List ℕ) (at : ℕ) → IsIndex (names_of ms) order → IsPlace (names_of ms) order name at → place_named ms name ≡ Some (get_or order at 0)
 indexed_place ms order name at x p =
@@ -292,10 +246,7 @@ pub record IsSeeking (names : List (List ℕ)) (order name : List ℕ) (low high
 -- half of what is left is found with one step less
 halved : (n m k : ℕ) → 0 < n → n < 2 ^ k → m + m ≤ n → (0 < k) × (m < 2 ^ (k - 1))
 halved n m zero h b d = absurd (omega arith)
-halved n m (suc j) h b d =
-    let e : suc j - 1 ≡ j = omega arith in
-    let P : ℕ → Type 0 = λ i. m < 2 ^ i in
-    (omega arith, subst P (sym e) (omega (arith, pow-suc 2 j)))
+halved n m (suc j) h b d = grind (arith, pow-suc)
 
 -- one step more, where at most half is left
 stepped : (first now next n m : ℕ) → IsCounted first now → 0 < n → n < 2 ^ (first + 17 - now) → m + m ≤ n → next ≡ now + 1 → (m < 2 ^ (first + 17 - next)) × IsCounted first next
@@ -346,36 +297,14 @@ seek_up names order name low high first now middle next x s h m below e =
     let less : index_order (key_at names order middle) name ≡ Less = bucket_same _ name (s.alike middle m.from m.to) ∙ below in
     let inside : middle < high = m.to in
     let r = stepped first now next (high - low) (high - (middle + 1)) s.counted (omega arith) s.budget (omega (arith, m.following)) e in
-    record {
-      ordered = omega (arith, m.to);
-      fits = s.fits;
-      below = λ k g. elim (cases_lt k middle) [
-        | inl b ↦ less_more _ (key_at names order middle) name (x.sorted k middle b (omega (arith, s.fits))) less
-        | inr b ↦ let same : middle ≡ k = omega arith in ap (λ (i : ℕ). index_order (key_at names order i) name) (sym same) ∙ less
-      ];
-      above = s.above;
-      alike = λ k g l. s.alike k (omega (arith, m.from)) l;
-      budget = r.0;
-      counted = r.1;
-    }
+    grind (arith, cases_lt, less_more, above)
 
 pub seek_down : (names : List (List ℕ)) (order name : List ℕ) (low high first now middle next : ℕ) → IsIndex names order → IsSeeking names order name low high first now → low < high → IsMiddle low high middle → name_order (key_at names order middle) name ≡ Greater → next ≡ now + 1 → IsSeeking names order name low middle first next
 seek_down names order name low high first now middle next x s h m above e =
     let greater : index_order (key_at names order middle) name ≡ Greater = bucket_same _ name (s.alike middle m.from m.to) ∙ above in
     let inside : middle < high = m.to in
     let r = stepped first now next (high - low) (middle - low) s.counted (omega arith) s.budget (omega (arith, m.before)) e in
-    record {
-      ordered = m.from;
-      fits = omega (arith, s.fits);
-      below = s.below;
-      above = λ k g l. elim (cases_lt middle k) [
-        | inl b ↦ turned_back name _ (less_more name (key_at names order middle) _ (turned _ name greater) (x.sorted middle k b l))
-        | inr b ↦ let same : middle ≡ k = omega arith in ap (λ (i : ℕ). index_order (key_at names order i) name) (sym same) ∙ greater
-      ];
-      alike = λ k g l. s.alike k g (omega (arith, m.to));
-      budget = r.0;
-      counted = r.1;
-    }
+    grind (arith, below, cases_lt, turned_back, less_more, turned)
 
 pub seek_found : (names : List (List ℕ)) (order name : List ℕ) (low high first now middle : ℕ) → IsSeeking names order name low high first now → low < high → IsMiddle low high middle → name_order (key_at names order middle) name ≡ Equal → IsPlace names order name middle
 seek_found names order name low high first now middle s h m e =
@@ -399,17 +328,7 @@ pub name_of_place : {X : Type 0} (f : X → List ℕ) (xs : List X) (d : X) (nam
 name_of_place f xs d name i j h e l =
     let p = position-Some (λ x. bytes_eq (f x) name) xs i d e in
     let same : f (get_or xs i d) ≡ name = (bytes_eq-Decides (f (get_or xs i d)) name).0 p.1 in
-    elim (cases_lt i j) [
-      | inl b ↦
-          ap (λ (n : List ℕ). bytes_eq n (f (get_or xs j d))) (sym same) ∙ (apart f xs i j d h b l ∙ sym (ne_eqb i j (λ q. absurd (omega arith))))
-      | inr b ↦ elim (cases_lt j i) [
-        | inl c ↦
-            ap (λ (n : List ℕ). bytes_eq n (f (get_or xs j d))) (sym same) ∙ (nat_list_eq_equiv.symm (f (get_or xs i d)) (f (get_or xs j d)) ∙ (apart f xs j i d h c p.0 ∙ sym (ne_eqb i j (λ q. absurd (omega arith)))))
-        | inr c ↦
-            let here : i ≡ j = omega arith in
-            (bytes_eq-Decides name (f (get_or xs j d))).1 (sym same ∙ ap (λ (k : ℕ). f (get_or xs k d)) here) ∙ sym (eq-eqb i j here)
-      ]
-    ]
+    grind (arith, bytes_eq-Decides, cases_lt, apart, eq-eqb)
 
 -- the macro at a place has the name by which that place was found, and no other has
 pub place_of_name : (ms : List Macro) (name : List ℕ) (id j : ℕ) → IsDistinct bytes_eq (map (λ m. m.name) ms) → place_named ms name ≡ Some id → j < length ms → bytes_eq name (macro_at ms j).name ≡ (id == j)
@@ -431,21 +350,7 @@ place_compared ms own name i d h e t = sym (place_of_own ms name i d h (sym e �
 -- the element that comes to a place is the one so many places behind it
 pub drawn : {A : Type 0} (f : A → A) (old now : List A) (by k : ℕ) (d e : A) → k + by < length old → now ≡ map f (take k (drop by old)) ++ drop k old → get_or (set now k (get_or now (k + by) d)) k e ≡ get_or (drop by old) k d
 drawn f old now by k d e h p =
-    let rest : List _ = drop by old in
-    let many : k < length rest = omega (arith, length-drop by old) in
-    let front : List _ = map f (take k rest) in
-    let long : length front ≡ k = length-map (take k rest) f ∙ length-take-le k rest (omega arith) in
-    let following : List _ = drop (k + 1) old in
-    let x : _ = get_or now (k + by) d in
-    let split : now ≡ front ++ get_or old k d ∷ following = p ∙ ap (λ (l : List _). front ++ l) (drop_more old k d (omega arith)) in
-    let once : set now k x ≡ front ++ x ∷ following = ap (λ (l : List _). set l k x) split ∙ set_at front (get_or old k d) following x k long in
-    let from : length front + by ≡ k + by = omega arith in
-    ap (λ (l : List _). get_or l k e) once
-    ∙ (get_or_at front x following e k long
-    ∙ (ap (λ (l : List _). get_or l (k + by) d) p
-    ∙ (ap (λ (i : ℕ). get_or (front ++ drop k old) i d) (sym from)
-    ∙ (get_or-append-add front (drop k old) by d
-    ∙ (get_or-drop k old by d ∙ (ap (λ (i : ℕ). get_or old i d) (let s : k + by ≡ by + k = omega arith in s) ∙ sym (get_or-drop by old k d)))))))
+    grind (arith, common_steps, length-drop, length-map, length-take-le, drop_more, set_at, get_or_at, get_or-append-add, get_or-drop)
 
 -- one more place: the element behind it comes there, and is changed
 pub drawn_more : {A : Type 0} (f : A → A) (old now : List A) (by k : ℕ) (z d e : A) → k + by < length old → now ≡ map f (take k (drop by old)) ++ drop k old → z ≡ f (get_or (set now k (get_or now (k + by) d)) k e) → set (set now k (get_or now (k + by) d)) k z ≡ map f (take (k + 1) (drop by old)) ++ drop (k + 1) old
@@ -468,35 +373,15 @@ drawn_more f old now by k z d e h p q =
 -- the element that comes to a place is the one before it
 pub raised : {A : Type 0} (f : A → A) (old now : List A) (j k n : ℕ) (d e : A) → k ≡ j + 1 → k ≤ n → n < length old → now ≡ take (k + 1) old ++ map f (drop k (take n old)) → get_or (set now k (get_or now j d)) k e ≡ get_or (take n old) j d
 raised f old now j k n d e s h g p =
-    let following : List _ = map f (drop k (take n old)) in
-    let x : _ = get_or now j d in
-    let long : length (take k old) ≡ k = length-take-le k old (omega arith) in
-    let more : length (take (k + 1) old) ≡ k + 1 = length-take-le (k + 1) old (omega arith) in
-    let split : now ≡ take k old ++ get_or old k d ∷ following =
-    p ∙ (ap (λ (l : List _). l ++ following) (take_more old k d (omega arith)) ∙ append_assoc (take k old) (get_or old k d ∷ []) following) in
-    let once : set now k x ≡ take k old ++ x ∷ following = ap (λ (l : List _). set l k x) split ∙ set_at (take k old) (get_or old k d) following x k long in
-    ap (λ (l : List _). get_or l k e) once
-    ∙ (get_or_at (take k old) x following e k long
-    ∙ (ap (λ (l : List _). get_or l j d) p
-    ∙ (get_or_append_left (take (k + 1) old) following d j (omega arith)
-    ∙ (get_or-take (k + 1) old j d (omega arith) ∙ sym (get_or-take n old j d (omega arith))))))
+    grind (arith, common_steps, length-take-le, take_more, append_assoc, set_at, get_or_at, get_or_append_left, get_or-take)
 
 -- one more place: the element before it comes there, and is changed
 pub raised_more : {A : Type 0} (f : A → A) (old now : List A) (j k n : ℕ) (z d e : A) → k ≡ j + 1 → k ≤ n → n < length old → now ≡ take (k + 1) old ++ map f (drop k (take n old)) → z ≡ f (get_or (set now k (get_or now j d)) k e) → set (set now k (get_or now j d)) k z ≡ take (j + 1) old ++ map f (drop j (take n old))
 raised_more f old now j k n z d e s h g p q =
     let following : List _ = map f (drop k (take n old)) in
-    let x : _ = get_or now j d in
-    let long : length (take k old) ≡ k = length-take-le k old (omega arith) in
-    let some : j < length (take n old) = omega (arith, length-take-le n old (omega arith)) in
     let split : now ≡ take k old ++ get_or old k d ∷ following =
     p ∙ (ap (λ (l : List _). l ++ following) (take_more old k d (omega arith)) ∙ append_assoc (take k old) (get_or old k d ∷ []) following) in
-    let once : set now k x ≡ take k old ++ x ∷ following = ap (λ (l : List _). set l k x) split ∙ set_at (take k old) (get_or old k d) following x k long in
-    let twice : set (set now k x) k z ≡ take k old ++ z ∷ following = ap (λ (l : List _). set l k z) once ∙ set_at (take k old) x following z k long in
-    let changed : z ≡ f (get_or (take n old) j d) = q ∙ ap f (raised f old now j k n d e s h g p) in
-    twice
-    ∙ (ap (λ (y : _). take k old ++ y ∷ following) changed
-    ∙ (ap (λ (i : ℕ). take i old ++ f (get_or (take n old) j d) ∷ map f (drop i (take n old))) s
-    ∙ ap (λ (l : List _). take (j + 1) old ++ map f l) (sym (drop_more (take n old) j d some))))
+    grind (arith, length-take-le, take_more, append_assoc, set_at, raised, drop_more)
 
 -- what is behind a place, once the element there was taken out
 pub after_removed : {A : Type 0} (xs : List A) (place : ℕ) → place < length xs → drop place (remove xs place) ≡ drop 1 (drop place xs)
@@ -518,83 +403,28 @@ regrouped front moved last post junk = simp append_assoc
 -- the list without its last place, once what is behind a place came to the front
 pub closed_list : {A : Type 0} (f : A → A) (xs am given left post junk : List A) (place len n : ℕ) → place < length xs → len ≡ length xs → n ≡ len → am ≡ xs → given ≡ map f (drop 1 (take (length am - place) (drop place am))) ++ drop (length (take (length am - place) (drop place am)) - 1) (take (length am - place) (drop place am)) → left ≡ take (n - 1) (take len ((take place am ++ (given ++ post)) ++ junk)) → left ≡ take place (remove xs place) ++ map f (drop place (remove xs place))
 closed_list f xs am given left post junk place len n h e m a g l =
-    let tail : List _ = drop place xs in
-    let moved : List _ = map f (drop 1 tail) in
-    let last : List _ = drop (length tail - 1) tail in
-    let buckets : given ≡ moved ++ last = g ∙ ap (λ (t : List _). map f (drop 1 t) ++ drop (length t - 1) t) (tail_of xs am place a) in
-    let front : length (take place xs) ≡ place = length-take-le place xs (omega arith) in
-    let long : length (take place xs ++ moved) ≡ n - 1 = omega (arith, length-append (take place xs) moved, length-map (drop 1 tail) f, length-drop 1 tail, length-drop place xs) in
-    l
-    ∙ (take-take (n - 1) len _ (omega arith)
-    ∙ (ap (λ (y : List _). take (n - 1) ((take place y ++ (given ++ post)) ++ junk)) a
-    ∙ (ap (λ (y : List _). take (n - 1) ((take place xs ++ (y ++ post)) ++ junk)) buckets
-    ∙ (ap (take (n - 1)) (regrouped (take place xs) moved last post junk)
-    ∙ (take_at (take place xs ++ moved) (last ++ (post ++ junk)) (n - 1) long
-    ∙ (ap (λ (y : List _). y ++ moved) (sym (before_removed xs place h))
-    ∙ ap (λ (y : List _). take place (remove xs place) ++ map f y) (sym (after_removed xs place h))))))))
+    grind (arith, common_steps, tail_of, length-take-le, length-append, length-map, length-drop, take-take, regrouped, before_removed, after_removed)
 
 regrouped_front : {A : Type 0} (front first moved back : List A) → front ++ ((first ++ moved) ++ back) ≡ (front ++ first) ++ (moved ++ back)
 regrouped_front front first moved back = simp append_assoc
 
 -- what is before a place behind so many others
 pub raised_low : {A : Type 0} (xs am : List A) (front place k : ℕ) → k ≡ place + 1 → front + place < length xs → am ≡ xs → take (length (take k (drop front am)) - 1) (take k (drop front am)) ≡ take place (remove (drop front xs) place)
-raised_low xs am front place k s h a =
-    let rest : List _ = drop front xs in
-    let some : place < length rest = omega (arith, length-drop front xs) in
-    let size : length (take (place + 1) rest) ≡ place + 1 = length-take-le (place + 1) rest (omega arith) in
-    let same : take k (drop front am) ≡ take (place + 1) rest = ap (λ (i : ℕ). take i (drop front am)) s ∙ ap (λ (y : List _). take (place + 1) (drop front y)) a in
-    ap (λ (y : List _). take (length y - 1) y) same
-    ∙ (ap (λ (i : ℕ). take i (take (place + 1) rest)) (let i : length (take (place + 1) rest) - 1 ≡ place = omega arith in i)
-    ∙ (take-take place (place + 1) rest (omega arith) ∙ sym (before_removed rest place some)))
+raised_low xs am front place k s h a = grind (arith, length-drop, length-take-le, take-take, before_removed)
 
 -- the list behind so many places, and one more, once what is before a place behind them came a place to the back
 pub raised_list : {A : Type 0} (f : A → A) (xs am given junk left : List A) (front place k len : ℕ) → k ≡ place + 1 → front + place < length xs → len ≡ length xs → am ≡ xs → given ≡ take 1 (take k (drop front am)) ++ map f (take (length (take k (drop front am)) - 1) (take k (drop front am))) → left ≡ take len ((take front am ++ (given ++ drop k (drop front am))) ++ junk) → drop (front + 1) left ≡ map f (take place (remove (drop front xs) place)) ++ drop place (remove (drop front xs) place)
 raised_list f xs am given junk left front place k len s h e a g l =
-    let rest : List _ = drop front xs in
-    let some : place < length rest = omega (arith, length-drop front xs) in
-    let bucket : List _ = take (place + 1) rest in
-    let size : length bucket ≡ place + 1 = length-take-le (place + 1) rest (omega arith) in
-    let moved : List _ = map f (take place rest) in
-    let same : take k (drop front am) ≡ bucket = ap (λ (i : ℕ). take i (drop front am)) s ∙ ap (λ (y : List _). take (place + 1) (drop front y)) a in
-    let shorter : take (length bucket - 1) bucket ≡ take place rest = ap (λ (i : ℕ). take i bucket) (let i : length bucket - 1 ≡ place = omega arith in i) ∙ take-take place (place + 1) rest (omega arith) in
-    let buckets : given ≡ take 1 bucket ++ moved =
-    g ∙ (ap (λ (y : List _). take 1 y ++ map f (take (length y - 1) y)) same ∙ ap (λ (y : List _). take 1 bucket ++ map f y) shorter) in
-    let back : drop k (drop front am) ≡ drop (place + 1) rest = ap (λ (i : ℕ). drop i (drop front am)) s ∙ ap (λ (y : List _). drop (place + 1) (drop front y)) a in
-    let whole : take front am ++ (given ++ drop k (drop front am)) ≡ (take front xs ++ take 1 bucket) ++ (moved ++ drop (place + 1) rest) =
-    ap (λ (y : List _). take front y ++ (given ++ drop k (drop front am))) a
-    ∙ (ap (λ (y : List _). take front xs ++ (y ++ drop k (drop front am))) buckets
-    ∙ (ap (λ (y : List _). take front xs ++ ((take 1 bucket ++ moved) ++ y)) back
-    ∙ regrouped_front (take front xs) (take 1 bucket) moved (drop (place + 1) rest))) in
-    let first : length (take front xs ++ take 1 bucket) ≡ front + 1 = omega (arith, length-append (take front xs) (take 1 bucket), length-take-le front xs (omega arith), length-take-le 1 bucket (omega arith)) in
-    let all : length (take front am ++ (given ++ drop k (drop front am))) ≡ len = omega (arith, ap length whole, length-append (take front xs ++ take 1 bucket) (moved ++ drop (place + 1) rest), first, length-append moved (drop (place + 1) rest), length-map (take place rest) f, length-take-le place rest (omega arith), length-drop (place + 1) rest, length-drop front xs, e) in
-    ap (drop (front + 1)) (l ∙ (take_at (take front am ++ (given ++ drop k (drop front am))) junk len all ∙ whole))
-    ∙ (drop_at (take front xs ++ take 1 bucket) (moved ++ drop (place + 1) rest) (front + 1) first
-    ∙ (ap (λ (y : List _). map f y ++ drop (place + 1) rest) (sym (before_removed rest place some))
-    ∙ ap (λ (y : List _). map f (take place (remove rest place)) ++ y) (sym (after_removed rest place some ∙ drop-drop 1 place rest))))
+    grind (arith, common_steps, length-drop, length-take-le, take-take, regrouped_front, length-append, length-map, before_removed, after_removed, drop-drop)
 
 -- what is behind a place that is counted from the front, once the element there was taken out
 pub live_after : {A : Type 0} (items : List A) (front place : ℕ) → front + place < length items → drop (front + place) (remove items (front + place)) ≡ drop place (remove (drop front items) place)
-live_after items front place h =
-    after_removed items (front + place) h
-    ∙ (ap (drop 1) (sym (drop-drop place front items)) ∙ sym (after_removed (drop front items) place (omega (arith, length-drop front items))))
+live_after items front place h = grind (arith, after_removed, drop-drop, length-drop)
 
 -- the same, of the whole list
 pub live_taken : {A : Type 0} (f : A → A) (items left : List A) (front place : ℕ) → front + place < length items → left ≡ take (front + place) (remove items (front + place)) ++ map f (drop (front + place) (remove items (front + place))) → drop front left ≡ take place (remove (drop front items) place) ++ map f (drop place (remove (drop front items) place))
-live_taken f items left front place h e =
-    let back : List _ = map f (drop (front + place) (remove items (front + place))) in
-    let long : front ≤ length (take (front + place) items) = omega (arith, length-take-le (front + place) items (omega arith)) in
-    ap (drop front) (e ∙ ap (λ (y : List _). y ++ back) (before_removed items (front + place) h))
-    ∙ (drop-append-le front (take (front + place) items) back long
-    ∙ (ap (λ (y : List _). y ++ back) (drop-take front place items ∙ sym (before_removed (drop front items) place (omega (arith, length-drop front items))))
-    ∙ ap (λ (y : List _). take place (remove (drop front items) place) ++ map f y) (live_after items front place h)))
+live_taken f items left front place h e = grind (arith, length-take-le, before_removed, drop-append-le, drop-take, length-drop, live_after)
 
 -- the list of what is behind so many places, once all of that came to the front
 pub settled_list : {A : Type 0} (f : A → A) (xs am given junk left : List A) (front len n : ℕ) → front ≤ length xs → len ≡ length xs → n ≡ len → am ≡ xs → given ≡ map f (drop front am) ++ drop (length am - front) am → left ≡ take (n - front) (take len (given ++ junk)) → left ≡ map f (drop front xs)
-settled_list f xs am given junk left front len n h e m a g l =
-    let buckets : given ≡ map f (drop front xs) ++ drop (length xs - front) xs = g ∙ ap (λ (y : List _). map f (drop front y) ++ drop (length y - front) y) a in
-    let long : length (map f (drop front xs)) ≡ n - front = omega (arith, length-map (drop front xs) f, length-drop front xs) in
-    l
-    ∙ (take-take (n - front) len _ (omega arith)
-    ∙ (ap (λ (y : List _). take (n - front) (y ++ junk)) buckets
-    ∙ (ap (take (n - front)) (append_assoc (map f (drop front xs)) _ junk)
-    ∙ take_at (map f (drop front xs)) _ (n - front) long)))
+settled_list f xs am given junk left front len n h e m a g l = grind (arith, common_steps, length-map, length-drop, take-take, append_assoc)

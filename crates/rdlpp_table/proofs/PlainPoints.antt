@@ -3,10 +3,10 @@ use Rattle.std.proofs.Common.{◌≡◌, ℕ, zero, suc, ◌+◌, ◌-◌, ◌<�
 use Rattle.std.specs.List.{prefix_len}
 use Rattle.std.proofs.lemmas.Bool.{cases_Bool, false≢true, cond_both, cond-true, cond-false, or_cases, and_parts, cases_lt, not-true}
 use Rattle.std.proofs.lemmas.List.{drop-take}
-use Rattle.rdlpp_scan.specs.Bytes.{begins_block_comment, begins_line_comment, begins_perl, is_blank, is_closer, is_digit, is_letter, is_line_end, is_opener, is_inert, is_word, takes_word}
+use Rattle.rdlpp_scan.specs.Bytes.{begins_block_comment, begins_line_comment, begins_perl, is_blank, is_digit, is_letter, is_inert, is_word, takes_word}
 use Rattle.rdlpp_scan.specs.LexFaults.{is_plain_argument}
 use Rattle.rdlpp_scan.specs.declared.token.Kind.{Kind}
-use Rattle.rdlpp_scan.specs.declared.token.Kind.TheVariants.{Name, Word, Back, Blank, LineEnd, Str, LineComment, BlockComment, Opener, Closer, Comma, Other, Perl, BareBackquote}
+use Rattle.rdlpp_scan.specs.declared.token.Kind.TheVariants.{Name}
 use Rattle.rdlpp_scan.specs.declared.token.Mode.{Mode}
 use Rattle.rdlpp_scan.specs.declared.token.Mode.TheVariants.{Plain}
 use Rattle.rdlpp_scan.specs.declared.token.Token.{Token}
@@ -32,11 +32,7 @@ record IsPlainArgumentToken (b : ℕ) (bs : List ℕ) (t : Token) : Type 0 where
   short : is_blank b ≡ false → t.len ≤ 1 + prefix_len is_word bs
 
 word_run : (b : ℕ) (bs : List ℕ) → prefix_len is_word (b ∷ bs) ≤ 1 + prefix_len is_word bs
-word_run b bs =
-    ⊎_elim
-    (λ h. omega (arith, cond-true (is_word b) (1 + prefix_len is_word bs) 0 h))
-    (λ h. omega (arith, cond-false (is_word b) (1 + prefix_len is_word bs) 0 h))
-    (cases_Bool (is_word b))
+word_run b bs = grind (arith, cond-true, cond-false, cases_Bool)
 
 plain_argument_token : (b : ℕ) (bs : List ℕ) → is_plain_argument b ≡ true → IsPlainArgumentToken b bs (token_of Plain (b ∷ bs))
 unfolding token_of plain_token whole begins_perl begins_line_comment begins_block_comment is_plain_argument
@@ -45,28 +41,12 @@ plain_argument_token b bs s =
     let P : Token → Type 0 = λ t. IsPlainArgumentToken b bs t in
     let one : (k : Kind) → P (whole k 1) = λ k. record { next = refl; short = λ _. omega arith } in
     let word : (k : Kind) → P (whole k (prefix_len is_word (b ∷ bs))) = λ k. record { next = refl; short = λ _. word_run b bs } in
-    cond_both (begins_perl (b ∷ bs)) _ _ P (λ h. absurd (no_plain_argument b 60 s refl (both_first _ _ h))) (λ _.
-    cond_both (is_line_end b) _ _ P (λ _. one LineEnd) (λ _.
-    cond_both (is_blank b) _ _ P (λ h. record { next = refl; short = λ f. absurd (false≢true (sym f ∙ h)) }) (λ _.
-    cond_both (begins_line_comment (b ∷ bs)) _ _ P (λ h. absurd (no_plain_argument b 47 s refl (both_first _ _ h))) (λ _.
-    cond_both (begins_block_comment (b ∷ bs)) _ _ P (λ h. absurd (no_plain_argument b 47 s refl (both_first _ _ h))) (λ _.
-    cond_both (eqb b 34) _ _ P (λ h. absurd (no_plain_argument b 34 s refl h)) (λ _.
-    cond_both (is_letter b) _ _ P (λ _. word Name) (λ _.
-    cond_both (is_digit b) _ _ P (λ _. word Word) (λ _.
-    cond_both (takes_word b && is_word c) _ _ P (λ _. record { next = refl; short = λ _. omega arith }) (λ _.
-    cond_both (eqb b 96 && is_letter c) _ _ P (λ _. record { next = refl; short = λ _. omega arith }) (λ _.
-    cond_both (eqb b 96) _ _ P (λ _. one BareBackquote) (λ _.
-    cond_both (is_opener b) _ _ P (λ _. one Opener) (λ _.
-    cond_both (is_closer b) _ _ P (λ _. one Closer) (λ _.
-    cond_both (eqb b 44) _ _ P (λ _. one Comma) (λ _. one Other))))))))))))))
+    grind (arith, cond_both, no_plain_argument, both_first)
 
 -- a blank is inert
 blank_inert : (b : ℕ) → is_blank b ≡ true → is_inert b ≡ true
 unfolding is_blank is_inert is_letter is_digit takes_word
-blank_inert b h =
-    let P : ℕ → Type 0 = λ n. is_inert n ≡ true in
-    let at : (n : ℕ) → is_inert n ≡ true → eqb b n ≡ true → P b = λ n q e. subst P (sym (eqb-true b n e)) q in
-    ⊎_elim (λ h4. ⊎_elim (λ h3. ⊎_elim (λ h2. ⊎_elim (at 32 refl) (at 9 refl) (or_cases _ _ h2)) (at 13 refl) (or_cases _ _ h3)) (at 11 refl) (or_cases _ _ h4)) (at 12 refl) (or_cases _ _ h)
+blank_inert b h = grind (arith, eqb-true, or_cases)
 
 no_blank : (b : ℕ) → is_inert b ≡ false → is_blank b ≡ false
 no_blank b q = ⊎_elim (λ h. absurd (false≢true (sym q ∙ blank_inert b h))) (λ h. h) (cases_Bool (is_blank b))
@@ -74,27 +54,16 @@ no_blank b q = ⊎_elim (λ h. absurd (false≢true (sym q ∙ blank_inert b h))
 -- an inert byte is none of a word
 inert_apart : (b : ℕ) → is_inert b ≡ true → is_word b ≡ false
 unfolding is_inert is_word
-inert_apart b q =
-    let letter = and_parts (not (is_letter b)) _ q in
-    let digit = and_parts (not (is_digit b)) _ letter.1 in
-    ap (λ (t : Bool). t || is_digit b) (not-true (is_letter b) letter.0) ∙ not-true (is_digit b) digit.0
+inert_apart b q = grind (arith, and_parts, not-true)
 
 -- a run ends where a byte isn't of it
 run_points : (p : ℕ → Bool) (k : ℕ) (bs : List ℕ) → p (get_or bs k 0) ≡ false → prefix_len p bs ≤ k
 run_points p k [] h = omega arith
 run_points p zero (b ∷ bs) h = omega (arith, cond-false (p b) (1 + prefix_len p bs) 0 h)
-run_points p (suc k) (b ∷ bs) h =
-    ⊎_elim
-    (λ q. omega (arith, cond-true (p b) (1 + prefix_len p bs) 0 q, run_points p k bs h))
-    (λ q. omega (arith, cond-false (p b) (1 + prefix_len p bs) 0 q))
-    (cases_Bool (p b))
+run_points p (suc k) (b ∷ bs) h = grind (arith, cond-true, cond-false, cases_Bool, (run_points p k bs h))
 
 run_one : (p : ℕ → Bool) (n : ℕ) (b : ℕ) (bs : List ℕ) → suc n ≤ prefix_len p (b ∷ bs) → (p b ≡ true) × (n ≤ prefix_len p bs)
-run_one p n b bs h =
-    ⊎_elim
-    (λ q. (q, omega (arith, cond-true (p b) (1 + prefix_len p bs) 0 q, h)))
-    (λ q. absurd (omega (arith, cond-false (p b) (1 + prefix_len p bs) 0 q, h)))
-    (cases_Bool (p b))
+run_one p n b bs h = grind (arith, cond-true, cond-false, cases_Bool)
 
 -- where an expansion point that a token is begins
 name_begins : (at len : ℕ) (o : Option ℕ) → begins (point_name at len o) ≤ at
@@ -105,19 +74,7 @@ name_begins at len None = omega arith
 kind_begins : (formals : List Formal) (at len : ℕ) (k : Kind) (mode : Mode) (bytes : List ℕ) → begins (point_at formals at (record { kind = k; next_mode = mode; len = len }) bytes) ≤ at
 unfolding point_at begins
 kind_begins formals at len Name mode bytes = name_begins at len (formal_named formals bytes)
-kind_begins formals at len Back mode bytes = omega arith
-kind_begins formals at len BareBackquote mode bytes = omega arith
-kind_begins formals at len Word mode bytes = omega arith
-kind_begins formals at len Blank mode bytes = omega arith
-kind_begins formals at len LineEnd mode bytes = omega arith
-kind_begins formals at len Str mode bytes = omega arith
-kind_begins formals at len LineComment mode bytes = omega arith
-kind_begins formals at len BlockComment mode bytes = omega arith
-kind_begins formals at len Opener mode bytes = omega arith
-kind_begins formals at len Closer mode bytes = omega arith
-kind_begins formals at len Comma mode bytes = omega arith
-kind_begins formals at len Other mode bytes = omega arith
-kind_begins formals at len Perl mode bytes = omega arith
+kind_begins formals at len k mode bytes = omega arith
 
 -- One token.
 
@@ -130,22 +87,11 @@ here formals at u = let t = token_of Plain u in point_at formals at t (take t.le
 
 text_step : (formals : List Formal) (at : ℕ) (u : List ℕ) → 0 < length u → (token_of Plain u).next_mode ≡ Plain → is_none (here formals at u) ≡ true
     → next_expansion_point formals at (tokens_from Plain 0 u) u ≡ following formals at u
-text_step formals at u some next none =
-    let t = token_of Plain u in
-    one_token formals at Plain u some (token_of-part Plain u some).not_empty
-    ∙ (or_none (here formals at u) _ none
-    ∙ ap (λ (m : Mode). next_expansion_point formals (at + t.len) (tokens_from m 0 (drop t.len u)) (drop t.len u)) next)
+text_step formals at u some next none = grind (arith, one_token, token_of-part, or_none)
 
 -- the first token of a text isn't an expansion point, where the first expansion point is none, or begins behind its front
 passed_here : (formals : List Formal) (at : ℕ) (u : List ℕ) (s : ExpansionPoint) → 0 < length u → s ≡ next_expansion_point formals at (tokens_from Plain 0 u) u → (is_none s ≡ false → at < begins s) → is_none (here formals at u) ≡ true
-passed_here formals at u s some e far =
-    let t = token_of Plain u in
-    ⊎_elim
-    (λ h. h)
-    (λ h.
-    let is : s ≡ here formals at u = e ∙ (one_token formals at Plain u some (token_of-part Plain u some).not_empty ∙ or_some (here formals at u) _ h) in
-    absurd (omega (arith, far (ap is_none is ∙ h), ap begins is, kind_begins formals at t.len t.kind t.next_mode (take t.len u))))
-    (cases_Bool (is_none (here formals at u)))
+passed_here formals at u s some e far = grind (arith, one_token, token_of-part, or_some, begins, kind_begins, cases_Bool)
 
 -- the same of the front of a text, which has that token
 cut_step : (formals : List Formal) (at m : ℕ) (u : List ℕ) → 0 < length u → (token_of Plain u).next_mode ≡ Plain → (token_of Plain u).len ≤ m → is_none (here formals at u) ≡ true
@@ -160,9 +106,7 @@ cut_step formals at m u some next le none =
     let front : here formals at xs ≡ here formals at u = ap (λ (w : Token). point_at formals at w (take w.len xs)) same ∙ ap (point_at formals at t) bytes in
     let sum : t.len + (m - t.len) ≡ m = omega (arith, le) in
     let rest : drop t.len xs ≡ take (m - t.len) (drop t.len u) = ap (λ (n : ℕ). drop t.len (take n u)) (sym sum) ∙ drop-take t.len (m - t.len) u in
-    text_step formals at xs long (ap (λ (w : Token). w.next_mode) same ∙ next) (ap is_none front ∙ none)
-    ∙ (ap (λ (w : Token). next_expansion_point formals (at + w.len) (tokens_from Plain 0 (drop w.len xs)) (drop w.len xs)) same
-    ∙ ap (λ (l : List ℕ). next_expansion_point formals (at + t.len) (tokens_from Plain 0 l) l) rest)
+    grind (arith, text_step)
 
 -- From a place on.
 
@@ -173,9 +117,7 @@ IsCut u n = (n ≡ 0) ⊎ (is_inert (get_or u (n - 1) 0) ≡ true)
 -- a cut further on is one of what is left of the text
 cut_left : (k n : ℕ) (u : List ℕ) → k < n → IsCut u n → IsCut (drop k u) (n - k)
 cut_left k n u lt (inl none) = absurd (omega arith)
-cut_left k n u lt (inr q) =
-    let there : k + (n - k - 1) ≡ n - 1 = omega arith in
-    inr (ap is_inert (get_or-drop k u (n - k - 1) 0 ∙ ap (λ (m : ℕ). get_or u m 0) there) ∙ q)
+cut_left k n u lt (inr q) = grind (arith, get_or-drop)
 
 -- the first token of a text isn't white space and ends before an inert byte further on
 token_before : (b n : ℕ) (bs : List ℕ) → is_plain_argument b ≡ true → is_inert b ≡ false → is_inert (get_or (b ∷ bs) n 0) ≡ true → (token_of Plain (b ∷ bs)).len ≤ n
@@ -285,19 +227,11 @@ point_inside (suc fuel) formals at m (b ∷ bs) s room e found run order inside 
 run_front : (p : ℕ → Bool) (k : ℕ) (xs : List ℕ) → prefix_len p (take k xs) ≤ prefix_len p xs
 run_front p zero xs = omega arith
 run_front p (suc k) [] = omega arith
-run_front p (suc k) (x ∷ xs) =
-    ⊎_elim
-    (λ q. omega (arith, cond-true (p x) (1 + prefix_len p (take k xs)) 0 q, cond-true (p x) (1 + prefix_len p xs) 0 q, run_front p k xs))
-    (λ q. omega (arith, cond-false (p x) (1 + prefix_len p (take k xs)) 0 q))
-    (cases_Bool (p x))
+run_front p (suc k) (x ∷ xs) = grind (arith, cond-true, cond-false, cases_Bool, (run_front p k xs))
 
 run_most : (p : ℕ → Bool) (xs : List ℕ) → prefix_len p xs ≤ length xs
 run_most p [] = omega arith
-run_most p (x ∷ xs) =
-    ⊎_elim
-    (λ q. omega (arith, cond-true (p x) (1 + prefix_len p xs) 0 q, run_most p xs))
-    (λ q. omega (arith, cond-false (p x) (1 + prefix_len p xs) 0 q))
-    (cases_Bool (p x))
+run_most p (x ∷ xs) = grind (arith, cond-true, cond-false, cases_Bool, (run_most p xs))
 
 -- the plain argument bytes that are kept with the first expansion point of a text are plain argument bytes of it
 plain_argument_few : (s : ExpansionPoint) (from : ℕ) (text : List ℕ) → plain_argument_kept (before_point s from text) ≤ prefix_len is_plain_argument text
@@ -352,25 +286,12 @@ of_kept (point.Bare at) plain_argument start rest few before = when_kept _ kept.
 -- a cut of a text, counted from the place from which on it is read
 cut_place : (text : List ℕ) (start from : ℕ) → start ≤ from → is_cut text start from ≡ true → IsCut (drop start text) (from - start)
 unfolding is_cut
-cut_place text start from low h =
-    elim (cases_lt start from) [
-      | inl lt ↦ ⊎_elim
-          (λ (e : eqb from start ≡ true). absurd (omega (arith, lt, eqb-true from start e)))
-          (λ q.
-          let there : start + (from - start - 1) ≡ from - 1 = omega (arith, lt) in
-          inr (ap is_inert (get_or-drop start text (from - start - 1) 0 ∙ ap (λ (m : ℕ). get_or text m 0) there) ∙ q))
-          (or_cases _ _ h)
-      | inr past ↦ inl (omega (arith, past))
-    ]
+cut_place text start from low h = grind (arith, cases_lt, eqb-true, get_or-drop, or_cases)
 
 -- a place at which an expansion point is kept is a cut among the plain argument bytes, however many these are
 cut_near : (text : List ℕ) (start from plain_argument : ℕ) → (eqb from start || (leb from (start + plain_argument) && is_cut text start from)) ≡ true → (from ≤ start + plain_argument) × (is_cut text start from ≡ true)
 unfolding is_cut
-cut_near text start from plain_argument h =
-    ⊎_elim
-    (λ (e : eqb from start ≡ true). (omega (arith, eqb-true from start e), ap (λ (t : Bool). t || is_inert (get_or text (from - 1) 0)) e))
-    (λ w. let two = and_parts (leb from (start + plain_argument)) _ w in (leb-true _ _ two.0, two.1))
-    (or_cases _ _ h)
+cut_near text start from plain_argument h = grind (arith, eqb-true, and_parts, leb-true, or_cases)
 
 -- the first expansion point of a text from a place on is that from a cut among the plain argument bytes on
 point_further : (formals : List Formal) (text : List ℕ) (start from : ℕ) (s : ExpansionPoint) (k : PackedPoint) → IsKeptPoint s start (drop start text) k → s ≡ point_of formals start (drop start text) → start ≤ from → from ≤ start + k.plain_argument → is_cut text start from ≡ true → s ≡ next_expansion_point formals from (tokens_from Plain 0 (drop from text)) (drop from text)
@@ -444,9 +365,7 @@ when_range false formals text start from to low order high =
 
 pub range_told : (formals : List Formal) (text : List ℕ) (start from to : ℕ) (k : PackedPoint) (r : Option ExpansionPoint) → k ≡ kept_from formals text start → (start ≤ from) × (from ≤ to) → to ≤ length text → r ≡ point_known text start k from to → IfSome r (λ x. x ≡ point_of formals from (slice_range text from to))
 unfolding kept_from
-range_told formals text start from to k r e order high q =
-    subst (λ (x : Option ExpansionPoint). IfSome x (λ y. y ≡ point_of formals from (slice_range text from to))) (sym (q ∙ ap (λ (x : PackedPoint). point_known text start x from to) e))
-    (when_range (ltb start 65535) formals text start from to order.0 order.1 high)
+range_told formals text start from to k r e order high q = grind (arith, when_range)
 
 -- the first bytes of a text, of which so many are looked at as there are
 pub near_bytes : (n : ℕ) (xs : List ℕ) → n ≤ 255 → (n < 255 → n ≡ length xs) → take n xs ≡ take 255 xs

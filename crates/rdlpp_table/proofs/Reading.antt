@@ -68,11 +68,8 @@ abbrev four : Bool → Bool → Bool → Bool → Option DefineKind
 four a b c d = cond a (Some kind.BadFormals) (cond b (Some kind.NameTooLong) (cond c (Some kind.FormalTwice) (cond d (Some kind.TooManyFormals) None)))
 
 four_none : (a b c d : Bool) → four a b c d ≡ None → (three a b c ≡ None) × (d ≡ false) × (b ≡ false)
-four_none true b c d e = absurd (cc)
-four_none false true c d e = absurd (cc)
-four_none false false true d e = absurd (cc)
-four_none false false false true e = absurd (cc)
 four_none false false false false e = (refl, refl, refl)
+four_none a b c d e = absurd (cc)
 
 four_some : (a b c d : Bool) (k : DefineKind) → four a b c d ≡ Some k → (three a b c ≡ Some k) ⊎ ((three a b c ≡ None) × (d ≡ true) × (k ≡ kind.TooManyFormals))
 four_some true b c d k e = inl e
@@ -83,9 +80,7 @@ four_some false false false false k e = absurd (cc)
 
 fault_four : (before : List Formal) (name : List ℕ) → fault_after (map (λ (f : Formal). f.name) before) name ≡ four (is_nothing name) (ltb 128 (length name)) (list_any (λ (f : Formal). bytes_eq f.name name) before) (leb 255 (length before))
 unfolding fault_after
-fault_four before name =
-    ap (λ (t : Bool). four (is_nothing name) (ltb 128 (length name)) t (leb 255 (length (map (λ (f : Formal). f.name) before)))) (any_mapped (λ (f : Formal). f.name) before name)
-    ∙ ap (λ (n : ℕ). four (is_nothing name) (ltb 128 (length name)) (list_any (λ (f : Formal). bytes_eq f.name name) before) (leb 255 n)) (length-map before (λ (f : Formal). f.name))
+fault_four before name = grind (arith, any_mapped, length-map)
 
 pub fault_three : (before : List Formal) (name : List ℕ) → formal_fault before name ≡ three (is_nothing name) (ltb 128 (length name)) (list_any (λ (f : Formal). bytes_eq f.name name) before)
 unfolding formal_fault
@@ -97,9 +92,7 @@ record IsFaultless (before : List Formal) (name : List ℕ) : Type 0 where
   few : length before < 255
 
 faultless : (before : List Formal) (name : List ℕ) → fault_after (map (λ (f : Formal). f.name) before) name ≡ None → IsFaultless before name
-faultless before name e =
-    let f = four_none (is_nothing name) (ltb 128 (length name)) (list_any (λ (f : Formal). bytes_eq f.name name) before) (leb 255 (length before)) (sym (fault_four before name) ∙ e) in
-    record { fault = fault_three before name ∙ f.0; few = leb-false _ _ f.1 }
+faultless before name e = grind (arith, four_none, fault_four, fault_three, leb-false)
 
 -- a list whose next formal has a fault in its name
 refused_at : (room : ℕ) (before : List Formal) (text name following : List ℕ) (k : DefineKind) → IsPart text name following → formal_fault before name ≡ Some k → formals_in room before text ≡ FormalListFault k
@@ -222,10 +215,7 @@ words_named (b ∷ bs) = elim (cases_Bool (is_word b)) [
 
 leading_named : (text : List ℕ) → list_all is_name_byte (leading_name text) ≡ true
 unfolding leading_name
-leading_named text = elim (cases_Bool (is_letter (get_or text 0 0))) [
-  | inl e ↦ ap (λ (t : Bool). list_all is_name_byte (cond t (take (prefix_len is_word text) text) [])) e ∙ words_named text
-  | inr e ↦ ap (λ (t : Bool). list_all is_name_byte (cond t (take (prefix_len is_word text) text) [])) e
-]
+leading_named text = grind (arith, cases_Bool, words_named)
 
 plain_with : (text name tail from : List ℕ) → IsPart text name tail → is_default (default_left from) ≡ true → is_plain_formal (formal_with name from) ≡ true
 unfolding is_plain_formal
@@ -286,16 +276,7 @@ read_closer text rest names slice size name tail from following counted more sum
 -- a list without formals, and one that has some
 pub read_empty : (text space after : List ℕ) (b : ℕ) → space ≡ after_space text → space ≡ b ∷ after → b ≡ 41 → (formals : List Formal) × IsRead (formals_of_list text) after 0 0 formals
 unfolding formals_of_list
-read_empty text space after b s e is =
-    let at : after_space text ≡ 41 ∷ after = sym s ∙ (e ∙ ap (λ (x : ℕ). x ∷ after) is) in (
-      [],
-      record {
-        is = ap (λ (x : List ℕ). cond (eqb (get_or x 0 0) 41) (Listed (Some []) (drop 1 x)) (formals_in 255 [] text)) at;
-        count_is = refl;
-        size_is = refl;
-        plain = refl;
-      },
-    )
+read_empty text space after b s e is = grind arith
 
 pub read_formals : (text : List ℕ) → eqb (get_or (after_space text) 0 0) 41 ≡ false → formals_in 255 [] text ≡ formals_of_list text
 unfolding formals_of_list
@@ -304,11 +285,7 @@ read_formals text e = sym (cond-false _ _ _ e)
 -- what is wrong with a name, by the tests of it
 pub fault_by : {X : Type 0} (f : X → List ℕ) (xs : List X) (name : List ℕ) (a b c d : Bool) → is_nothing name ≡ a → ltb 128 (length name) ≡ b → list_any (λ x. bytes_eq (f x) name) xs ≡ c → leb 255 (length xs) ≡ d → four a b c d ≡ fault_after (map f xs) name
 unfolding fault_after
-fault_by f xs name a b c d i j k m =
-    sym (ap (λ (t : Bool). four t (ltb 128 (length name)) (list_any (λ n. bytes_eq n name) (map f xs)) (leb 255 (length (map f xs)))) i
-    ∙ (ap (λ (t : Bool). four a t (list_any (λ n. bytes_eq n name) (map f xs)) (leb 255 (length (map f xs)))) j
-    ∙ (ap (λ (t : Bool). four a b t (leb 255 (length (map f xs)))) (any_mapped f xs name ∙ k)
-    ∙ ap (λ (t : Bool). four a b c t) (ap (λ (n : ℕ). leb 255 n) (length-map xs f) ∙ m))))
+fault_by f xs name a b c d i j k m = grind (arith, any_mapped, length-map)
 
 -- one more name
 pub names_more : {X : Type 0} (f : X → List ℕ) (xs ys : List X) (x : X) → ys ≡ xs ++ x ∷ [] → map f ys ≡ map f xs ++ f x ∷ []
@@ -331,11 +308,7 @@ no_names f xs e = ap (map f) e
 -- the formal with which a list's text begins, behind no others
 told_good : (text : List ℕ) (f : Formal) (following : List ℕ) → formal_in [] text ≡ Good f following → (formal_told text ≡ f) × (after_told text ≡ following) × (is_told text ≡ true)
 unfolding formal_told after_told is_told
-told_good text f following e = (
-  ap (λ (o : OneFormal). elim o [ Good g x ↦ g | FormalFault k ↦ (let n : Formal = record { name = []; text = [] } in n) ]) e,
-  ap (λ (o : OneFormal). elim o [ Good g x ↦ x | FormalFault k ↦ [] ]) e,
-  ap (λ (o : OneFormal). elim o [ Good g x ↦ true | FormalFault k ↦ false ]) e,
-)
+told_good text f following e = grind arith
 
 told_bad : (text : List ℕ) (k : DefineKind) → formal_in [] text ≡ FormalFault k → is_told text ≡ false
 unfolding is_told
@@ -402,16 +375,11 @@ fault_alone before name e = fault_three [] name ∙ three_false _ _ _ (sym (faul
 good_name : (before : List Formal) (text : List ℕ) (o : Option DefineKind) (f : Formal) (following : List ℕ) → formal_fault before (formal_name text) ≡ o → formal_in before text ≡ Good f following → o ≡ None
 unfolding formal_in
 good_name before text None f following e g = refl
-good_name before text (Some k) f following e g =
-    let b : FormalFault k ≡ Good f following = sym (ap (λ (x : Option DefineKind). formal_by x (formal_name text) (default_in (after_name text))) e) ∙ g in
-    absurd (cc)
+good_name before text (Some k) f following e g = grind arith
 
 good_alone : (before : List Formal) (text : List ℕ) (f : Formal) (following : List ℕ) → formal_in before text ≡ Good f following → formal_in [] text ≡ Good f following
 unfolding formal_in
-good_alone before text f following g =
-    let e : formal_fault before (formal_name text) ≡ None = good_name before text (formal_fault before (formal_name text)) f following refl g in
-    ap (λ (x : Option DefineKind). formal_by x (formal_name text) (default_in (after_name text))) (fault_alone before (formal_name text) e)
-    ∙ (sym (ap (λ (x : Option DefineKind). formal_by x (formal_name text) (default_in (after_name text))) e) ∙ g)
+good_alone before text f following g = grind (arith, good_name, fault_alone)
 
 -- whether a list was read
 abbrev pub is_listed : FormalList → Bool
@@ -440,22 +408,7 @@ not_listed k = refl
 
 first_by : (left : ℕ) (before : List Formal) (text : List ℕ) (o : OneFormal) → formal_in before text ≡ o → is_listed (list_by left before o) ≡ true → IsFirst (suc left) before text
 first_by left before text (FormalFault k) e h = absurd (false≢true (sym (not_listed k) ∙ h))
-first_by left before text (Good f following) e h =
-    let g = told_good text f following (good_alone before text f following e) in
-    let step : formals_in (suc left) before text ≡ list_by left before (Good (formal_told text) (after_told text)) =
-    list_step left before text ∙ (ap (list_by left before) e ∙ (ap (λ (x : Formal). list_by left before (Good x following)) (sym g.0) ∙ ap (λ (x : List ℕ). list_by left before (Good (formal_told text) x)) (sym g.1))) in
-    let here : is_listed (list_by left before (Good (formal_told text) (after_told text))) ≡ true =
-    ap (λ (x : Formal). is_listed (list_by left before (Good x (after_told text)))) g.0 ∙ (ap (λ (x : List ℕ). is_listed (list_by left before (Good f x))) g.1 ∙ h) in
-    record {
-      left = left;
-      room_is = refl;
-      told = g.2;
-      next = λ c. step ∙ cond-true _ _ _ c;
-      last = λ c.
-          let closed : is_listed (cond (eqb (get_or (after_told text) 0 0) 41) (Listed (Some (before ++ formal_told text ∷ [])) (drop 1 (after_told text))) (FormalListFault kind.BadFormals)) ≡ true =
-          sym (ap is_listed (cond-false _ _ _ c)) ∙ here in
-          step ∙ (cond-false _ _ _ c ∙ closed_by _ _ _ _ closed);
-    }
+first_by left before text (Good f following) e h = grind (arith, told_good, good_alone, list_step, cond-true, cond-false, closed_by)
 
 pub first_of_list : (room : ℕ) (before : List Formal) (text : List ℕ) → is_listed (formals_in room before text) ≡ true → IsFirst room before text
 first_of_list zero before text h = absurd (false≢true (sym (ap is_listed (list_full before text) ∙ not_listed _) ∙ h))
@@ -481,10 +434,7 @@ size_in (suc left) before text h =
 pub first_size : (room : ℕ) (before : List Formal) (text : List ℕ) → is_listed (formals_in room before text) ≡ true → sum_by formal_size before + formal_size (formal_told text) ≤ sum_by formal_size (all_of (formals_in room before text))
 first_size room before text h =
     let f : IsFirst room before text = first_of_list room before text h in
-    elim (cases_Bool (eqb (get_or (after_told text) 0 0) 44)) [
-      | inl c ↦ omega (arith, size_in f.left (before ++ formal_told text ∷ []) (drop 1 (after_told text)) (sym (ap is_listed (f.next c)) ∙ h), ap (λ (l : FormalList). sum_by formal_size (all_of l)) (f.next c), sum_by-append formal_size before (formal_told text ∷ []), one_size (formal_told text))
-      | inr c ↦ omega (arith, ap (λ (l : FormalList). sum_by formal_size (all_of l)) (f.last c), ap (sum_by formal_size) (all_listed (before ++ formal_told text ∷ []) (drop 1 (after_told text))), sum_by-append formal_size before (formal_told text ∷ []), one_size (formal_told text))
-    ]
+    grind (arith, cases_Bool, size_in, sum_by-append, one_size, all_listed)
 
 -- the bytes of the formals before the rest of a list were appended
 pub record IsAppended (text rest old items : List ℕ) : Type 0 where
@@ -503,35 +453,20 @@ pub append_told : (text rest old items : List ℕ) → IsAppended text rest old 
 append_told text rest old items a h = (first_of_list a.room a.before rest (listed_rest text rest old items a h)).told
 
 pub append_room : (text rest old items : List ℕ) → IsAppended text rest old items → is_listed (formals_in 255 [] text) ≡ true → length items + formal_size (formal_told rest) ≤ length old + sum_by formal_size (all_of (formals_in 255 [] text))
-append_room text rest old items a h =
-    let r = first_size a.room a.before rest (listed_rest text rest old items a h) in
-    let e = ap (λ (l : FormalList). sum_by formal_size (all_of l)) a.same in
-    omega (arith, r, e, ap (length {A = ℕ}) a.bytes, length-append old (flat_map formal_bytes a.before), length_list_bytes a.before)
+append_room text rest old items a h = grind (arith, first_size, listed_rest, length-append, length_list_bytes)
 
 more_bytes : (old items more : List ℕ) (before : List Formal) (f : Formal) → items ≡ old ++ flat_map formal_bytes before → more ≡ items ++ formal_bytes f → more ≡ old ++ flat_map formal_bytes (before ++ f ∷ [])
-more_bytes old items more before f e m =
-    m
-    ∙ (ap (λ (l : List ℕ). l ++ formal_bytes f) e
-    ∙ (append_assoc old (flat_map formal_bytes before) (formal_bytes f)
-    ∙ (ap (λ (l : List ℕ). old ++ (flat_map formal_bytes before ++ l)) (sym (append-nil (formal_bytes f)))
-    ∙ ap (λ (l : List ℕ). old ++ l) (sym (flat_map-append formal_bytes before (f ∷ []))))))
+more_bytes old items more before f e m = grind (arith, append_assoc, append-nil, flat_map-append)
 
 pub append_next : (text rest old items more following : List ℕ) → IsAppended text rest old items → is_listed (formals_in 255 [] text) ≡ true → more ≡ items ++ formal_bytes (formal_told rest) → after_told rest ≡ 44 ∷ following → IsAppended text following old more
 append_next text rest old items more following a h m b =
     let f : IsFirst a.room a.before rest = first_of_list a.room a.before rest (listed_rest text rest old items a h) in
-    let c : eqb (get_or (after_told rest) 0 0) 44 ≡ true = ap (λ (x : List ℕ). eqb (get_or x 0 0) 44) b in
-    record {
-      room = f.left;
-      before = a.before ++ formal_told rest ∷ [];
-      same = ap (λ (x : List ℕ). formals_in f.left (a.before ++ formal_told rest ∷ []) (drop 1 x)) (sym b) ∙ (sym (f.next c) ∙ a.same);
-      bytes = more_bytes old items more a.before (formal_told rest) a.bytes m;
-    }
+    grind (arith, first_of_list, listed_rest, more_bytes)
 
 pub append_last : (text rest old items more : List ℕ) → IsAppended text rest old items → is_listed (formals_in 255 [] text) ≡ true → more ≡ items ++ formal_bytes (formal_told rest) → eqb (get_or (after_told rest) 0 0) 44 ≡ false → more ≡ old ++ flat_map formal_bytes (all_of (formals_in 255 [] text))
 append_last text rest old items more a h m c =
     let f : IsFirst a.room a.before rest = first_of_list a.room a.before rest (listed_rest text rest old items a h) in
-    more_bytes old items more a.before (formal_told rest) a.bytes m
-    ∙ ap (λ (fs : List Formal). old ++ flat_map formal_bytes fs) (sym (ap all_of (sym a.same ∙ f.last c) ∙ all_listed (a.before ++ formal_told rest ∷ []) (drop 1 (after_told rest))))
+    grind (arith, more_bytes, all_listed)
 
 -- a formal but for its comma was appended
 pub record IsMid (text old items : List ℕ) : Type 0 where
@@ -542,19 +477,10 @@ unfolding start_level default_left
 left_is from = refl
 
 pub mid_long : (text name from following old named signed items : List ℕ) (size : ℕ) → IsTold text name from following size → 0 < size → named ≡ old ++ name → signed ≡ named ++ 61 ∷ [] → items ≡ signed ++ trimmed_left (trims true) (cleared (start_level true) from) → IsMid text old items
-mid_long text name from following old named signed items size t h e f g = record {
-  whole =
-      ap (λ (l : List ℕ). l ++ 44 ∷ []) (g ∙ (ap (λ (l : List ℕ). signed ++ l) (left_is from) ∙ ap (λ (l : List ℕ). l ++ default_left from) (f ∙ ap (λ (l : List ℕ). l ++ 61 ∷ []) e)))
-      ∙ (append_assoc ((old ++ name) ++ 61 ∷ []) (default_left from) (44 ∷ [])
-      ∙ (append_assoc (old ++ name) (61 ∷ []) (default_left from ++ 44 ∷ [])
-      ∙ (append_assoc old name (61 ∷ default_left from ++ 44 ∷ [])
-      ∙ ap (λ (l : List ℕ). old ++ l) (sym (t.long h)))));
-}
+mid_long text name from following old named signed items size t h e f g = grind (arith, left_is, append_assoc)
 
 pub mid_short : (text name from following old items : List ℕ) (size : ℕ) → IsTold text name from following size → size ≡ 0 → items ≡ old ++ name → IsMid text old items
-mid_short text name from following old items size t z e = record {
-  whole = ap (λ (l : List ℕ). l ++ 44 ∷ []) e ∙ (append_assoc old name (44 ∷ []) ∙ ap (λ (l : List ℕ). old ++ l) (sym (t.short z)));
-}
+mid_short text name from following old items size t z e = grind (arith, append_assoc)
 
 pub mid_length : (text old items : List ℕ) → IsMid text old items → length items + 1 ≡ length old + formal_size (formal_told text)
 mid_length text old items m =

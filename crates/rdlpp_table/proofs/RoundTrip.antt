@@ -1,7 +1,8 @@
 -- The macros of a table, read back from its lists, and a `define` by its name and what stands after it.
-use Rattle.std.proofs.Common.{◌≡◌, ℕ, ◌+◌, ◌-◌, true, false, List, [], ◌∷◌, ◌++◌, length, take, drop, map, get_or, Option, Some, None, option_map, unwrap_or, refl, ap, sym, ◌∙◌, arith, length-append, append_assoc, slice_range, sum_by, zero, suc, ◌<◌, ◌≤◌, remove, bytes_eq, subst, append-nil, add-one, Ok, Err, le_trans, Bool, cond, eqb, one-add, inl, inr, All, flat_map, is_some, le-ltb, lt-ltb, drop_at, length-drop, length-take-le, take_at}
+use Rattle.std.proofs.Common.{◌≡◌, ℕ, ◌+◌, ◌-◌, true, false, List, [], ◌∷◌, ◌++◌, length, take, drop, map, get_or, Option, Some, None, option_map, unwrap_or, refl, ap, sym, ◌∙◌, arith, length-append, append_assoc, slice_range, sum_by, zero, suc, ◌<◌, ◌≤◌, remove, bytes_eq, append-nil, add-one, Ok, Err, le_trans, Bool, cond, eqb, one-add, inl, inr, All, flat_map, is_some, le-ltb, lt-ltb, length-drop, length-take-le}
 use Rattle.std.specs.List.{IsDistinct, list_all, prefix_len}
 use Rattle.std.proofs.lemmas.Bool.{and_from, and_parts, cases_Bool, cond-false, cond-true}
+use Rattle.std.proofs.lemmas.Grind.{common_steps}
 use Rattle.std.proofs.lemmas.List.{drop-append-le, take_rest}
 use Rattle.std.proofs.lemmas.List.Elements.{All-filter, All-push}
 use Rattle.std.proofs.lemmas.List.Folds.{length-prefix_len, list_all-append}
@@ -20,7 +21,7 @@ use Rattle.rdlpp_table.specs.Entries.{offsets_len}
 use Rattle.rdlpp_table.specs.Formals.{IsPart}
 use Rattle.rdlpp_table.specs.Layout.{IsHeld, view_of}
 use Rattle.rdlpp_table.specs.FormalOffsets.{macro_offsets, offsets_of, table_offsets}
-use Rattle.rdlpp_table.specs.Store.{AreStoredFormals, IsStored, StoredFormal, after_stored, body_of, body_start, entries_of, entry_end, entry_of, formal_after, formal_read, formals_read, is_default, is_name_byte, is_plain_formal, is_plain_macro, list_of, list_size, list_start, macro_in, macros_in, name_of}
+use Rattle.rdlpp_table.specs.Store.{AreStoredFormals, IsStored, after_stored, body_of, body_start, entries_of, entry_end, entry_of, formal_after, formal_read, formals_read, is_default, is_name_byte, is_plain_formal, is_plain_macro, list_of, list_size, list_start, macro_in, macros_in, name_of}
 use Rattle.rdlpp_table.specs.Table.{Formal, Macro, default_bytes, formal_bytes, formal_size, macro_bytes, macro_size, table_bytes, table_size, without}
 use Rattle.rdlpp_table.specs.View.{IsSound, IsSoundMacro, TableView, formals_of, macro_at, place_named}
 use Rattle.rdlpp_table.specs.Words.{spelled}
@@ -44,11 +45,7 @@ name_read (b ∷ name) rest h e =
 
 named_read : (name rest : List ℕ) → list_all is_name_byte name ≡ true → is_name_byte (get_or rest 0 0) ≡ false → formal_read (name ++ rest) ≡ formal_after name rest
 unfolding formal_read
-named_read name rest h e =
-    let n : prefix_len is_name_byte (name ++ rest) ≡ length name = name_read name rest h e in
-    ap (λ (k : ℕ). formal_after (take k (name ++ rest)) (drop k (name ++ rest))) n
-    ∙ (ap (λ (x : List ℕ). formal_after x (drop (length name) (name ++ rest))) (take_at name rest (length name) refl)
-    ∙ ap (formal_after name) (drop_at name rest (length name) refl))
+named_read name rest h e = grind (arith, common_steps, name_read)
 
 stored_after : (text rest : List ℕ) → is_default text ≡ true → after_stored (text ++ 44 ∷ rest) ≡ 44 ∷ rest
 unfolding after_stored text_after
@@ -56,12 +53,7 @@ stored_after text rest h = ap text_after (default_read_back text rest h)
 
 default_read : (name text rest : List ℕ) → is_default text ≡ true → formal_after name (61 ∷ text ++ 44 ∷ rest) ≡ record { formal = record { name = name; text = text }; following = rest }
 unfolding formal_after
-default_read name text rest h =
-    let e : after_stored (text ++ 44 ∷ rest) ≡ 44 ∷ rest = stored_after text rest h in
-    let n : length (text ++ 44 ∷ rest) - length (44 ∷ rest) ≡ length text = omega (arith, length-append text (44 ∷ rest)) in
-    ap (λ (x : List ℕ). let s : StoredFormal = record { formal = record { name = name; text = take (length (text ++ 44 ∷ rest) - length x) (text ++ 44 ∷ rest) }; following = drop 1 x } in s) e
-    ∙ (ap (λ (k : ℕ). let s : StoredFormal = record { formal = record { name = name; text = take k (text ++ 44 ∷ rest) }; following = rest } in s) n
-    ∙ ap (λ (x : List ℕ). let s : StoredFormal = record { formal = record { name = name; text = x }; following = rest } in s) (take_at text (44 ∷ rest) (length text) refl))
+default_read name text rest h = grind (arith, common_steps, stored_after, length-append)
 
 by_default : (name text rest : List ℕ) → is_default text ≡ true → (is_name_byte (get_or (default_bytes text ++ 44 ∷ rest) 0 0) ≡ false) × (formal_after name (default_bytes text ++ 44 ∷ rest) ≡ record { formal = record { name = name; text = text }; following = rest })
 unfolding default_bytes is_name_byte formal_after
@@ -70,11 +62,7 @@ by_default name (b ∷ bs) rest h = (refl, default_read name (b ∷ bs) rest h)
 
 pub read_formal : (f : Formal) (rest : List ℕ) → is_plain_formal f ≡ true → formal_read (formal_bytes f ++ rest) ≡ record { formal = f; following = rest }
 unfolding formal_bytes is_plain_formal
-read_formal f rest h =
-    let p = and_parts (list_all is_name_byte f.name) (is_default f.text) h in
-    let d = by_default f.name f.text rest p.1 in
-    ap formal_read (append_assoc f.name (default_bytes f.text ++ 44 ∷ []) rest ∙ ap (λ (l : List ℕ). f.name ++ l) (append_assoc (default_bytes f.text) (44 ∷ []) rest))
-    ∙ (named_read f.name (default_bytes f.text ++ 44 ∷ rest) p.0 d.0 ∙ d.1)
+read_formal f rest h = grind (arith, and_parts, by_default, append_assoc, named_read)
 
 pub read_list : (fs : List Formal) → list_all is_plain_formal fs ≡ true → formals_read (length fs) (flat_map formal_bytes fs) ≡ fs
 unfolding formals_read
@@ -83,19 +71,14 @@ read_list (f ∷ fs) h =
     let parts = and_parts (is_plain_formal f) (list_all is_plain_formal fs) h in
     let bytes : List ℕ = formal_bytes f ++ flat_map formal_bytes fs in
     let r : formal_read bytes ≡ record { formal = f; following = flat_map formal_bytes fs } = read_formal f (flat_map formal_bytes fs) parts.0 in
-    ap (λ (s : StoredFormal). s.formal ∷ formals_read (length fs) s.following) r
-    ∙ ap (λ (l : List Formal). f ∷ l) (read_list fs parts.1)
+    grind (arith, (read_list fs parts.1))
 
 same_formals : (o : Option (List Formal)) (list : List ℕ) → list ≡ flat_map formal_bytes (unwrap_or o []) → list_all is_plain_formal (unwrap_or o []) ≡ true → option_map (λ (n : ℕ). formals_read n list) (option_map length o) ≡ o
 same_formals None list e h = refl
 same_formals (Some fs) list e h = ap Some (ap (formals_read (length fs)) e ∙ read_list fs h)
 
 same_macro : (m : Macro) (name list body : List ℕ) → name ≡ m.name → list ≡ flat_map formal_bytes (unwrap_or m.formals []) → body ≡ m.body → list_all is_plain_formal (unwrap_or m.formals []) ≡ true → (let y : Macro = record { name = name; formals = option_map (λ (n : ℕ). formals_read n list) (option_map length m.formals); body = body } in y) ≡ m
-same_macro m name list body n l b h =
-    let formals : Option (List Formal) = option_map (λ (k : ℕ). formals_read k list) (option_map length m.formals) in
-    ap (λ (x : List ℕ). let y : Macro = record { name = x; formals = formals; body = body } in y) n
-    ∙ (ap (λ (x : Option (List Formal)). let y : Macro = record { name = m.name; formals = x; body = body } in y) (same_formals m.formals list l h)
-    ∙ ap (λ (x : List ℕ). let y : Macro = record { name = m.name; formals = m.formals; body = x } in y) b)
+same_macro m name list body n l b h = grind (arith, same_formals)
 
 -- the parts of a macro in bytes in which it lies behind others
 -- the bytes of a macro's formals between others
@@ -107,7 +90,7 @@ list_back before after k m =
     let n : ℕ = length before + length m.name in
     let regroup : before ++ ((m.name ++ (list ++ m.body)) ++ after) ≡ (before ++ m.name) ++ (list ++ (m.body ++ after)) =
     ap (λ (l : List ℕ). before ++ l) (append_assoc m.name (list ++ m.body) after ∙ ap (λ (l : List ℕ). m.name ++ l) (append_assoc list m.body after)) ∙ sym (append_assoc before m.name _) in
-    ap (λ (l : List ℕ). slice_range l n (n + sum_by formal_size formals)) regroup ∙ between_parts (before ++ m.name) list _ _ _ (length-append before m.name) (omega (arith, length_list_bytes formals))
+    grind (arith, between_parts, length-append, length_list_bytes)
 
 read_parts : (before after : List ℕ) (k : ℕ) (m : Macro) → is_plain_macro m ≡ true → macro_in (before ++ (macro_bytes m ++ after)) (entry_of (length before) k m) ≡ m
 unfolding macro_in name_of list_of body_of entry_of entry_end body_start list_start list_size macro_bytes is_plain_macro
@@ -135,12 +118,7 @@ read_macros before k (m ∷ ms) h =
     let whole : before ++ table_bytes (m ∷ ms) ≡ before ++ (macro_bytes m ++ table_bytes ms) = ap (λ (l : List ℕ). before ++ l) (table_bytes-cons m ms) in
     let moved : before ++ (macro_bytes m ++ table_bytes ms) ≡ (before ++ macro_bytes m) ++ table_bytes ms = sym (append_assoc before (macro_bytes m) (table_bytes ms)) in
     let n : length before + macro_size m ≡ length (before ++ macro_bytes m) = omega (arith, length-append before (macro_bytes m), length_macro_bytes m) in
-    ap (λ (l : List ℕ). macro_in l (entry_of (length before) k m) ∷ map (macro_in l) (entries_of (length before + macro_size m) j ms)) whole
-    ∙ (ap (λ (x : Macro). x ∷ map (macro_in (before ++ (macro_bytes m ++ table_bytes ms))) (entries_of (length before + macro_size m) j ms)) (read_parts before (table_bytes ms) k m parts.0)
-    ∙ ap (λ (l : List Macro). m ∷ l)
-    (ap (λ (l : List ℕ). map (macro_in l) (entries_of (length before + macro_size m) j ms)) moved
-    ∙ (ap (λ (i : ℕ). map (macro_in ((before ++ macro_bytes m) ++ table_bytes ms)) (entries_of i j ms)) n
-    ∙ read_macros (before ++ macro_bytes m) j ms parts.1)))
+    grind (arith, read_parts, (read_macros (before ++ macro_bytes m) j ms parts.1))
 
 pub read_back : {from ahead : ℕ} (bytes : List ℕ) (entries : List Entry) (ms : List Macro) → IsStored from ahead bytes entries ms → macros_in bytes entries ≡ ms
 read_back {from = from} {ahead = ahead} bytes entries ms s =
@@ -164,11 +142,7 @@ read_here bytes entry = sym (read_any entry.arity (list_of bytes entry))
 
 plain_at : (ms : List Macro) (place : ℕ) → place < length ms → list_all is_plain_macro ms ≡ true → list_all is_plain_formal (formals_of (macro_at ms place)) ≡ true
 unfolding is_plain_macro
-plain_at ms place h e =
-    let front : List Macro = take place ms in
-    let following : List Macro = macro_at ms place ∷ drop (place + 1) ms in
-    let parts = and_parts (list_all is_plain_macro front) (list_all is_plain_macro following) (sym (list_all-append is_plain_macro front following) ∙ (ap (list_all is_plain_macro) (sym (split_at ms place h)) ∙ e)) in
-    (and_parts (is_plain_macro (macro_at ms place)) (list_all is_plain_macro (drop (place + 1) ms)) parts.1).0
+plain_at ms place h e = grind (arith, common_steps, and_parts, list_all-append, split_at)
 
 -- an entry's list and its offsets among those of all, where the entry counts so many that are given up
 pub record IsEntryListed (ahead : ℕ) (bytes formal_offsets : List ℕ) (entry : Entry) : Type 0 where
@@ -265,48 +239,24 @@ one_offsets m = append-nil (macro_offsets m)
 
 pub put_stored : {from ahead : ℕ} (bytes : List ℕ) (entries : List Entry) (ms : List Macro) (m : Macro) (start formal_offsets : ℕ) (bytes' : List ℕ) (entries' : List Entry) → IsStored from ahead bytes entries ms → is_plain_macro m ≡ true → start ≡ length bytes → formal_offsets ≡ ahead + length (table_offsets ms) → bytes' ≡ bytes ++ macro_bytes m → entries' ≡ entries ++ entry_of start formal_offsets m ∷ [] → IsStored from ahead bytes' entries' (ms ++ m ∷ [])
 put_stored {from = from} {ahead = ahead} bytes entries ms m start formal_offsets bytes' entries' s p n k b e =
-    let at : start ≡ from + table_size ms = omega (arith, n, stored_length bytes entries ms s) in
-    record {
-      inside = omega (arith, s.inside, ap (length {A = ℕ}) b, length-append bytes (macro_bytes m));
-      few = s.few;
-      bytes_are = ap (drop from) b ∙ (drop-append-le from bytes (macro_bytes m) s.inside ∙ (ap (λ (l : List ℕ). l ++ macro_bytes m) s.bytes_are ∙ (ap (λ (l : List ℕ). table_bytes ms ++ l) (sym (one_bytes m)) ∙ sym (table_bytes-append ms (m ∷ [])))));
-      entries_are =
-          e
-          ∙ (ap (λ (l : List Entry). l ++ entry_of start formal_offsets m ∷ []) s.entries_are
-          ∙ (ap (λ (i : ℕ). entries_of from ahead ms ++ entry_of i formal_offsets m ∷ []) at
-          ∙ (ap (λ (i : ℕ). entries_of from ahead ms ++ entry_of (from + table_size ms) i m ∷ []) k
-          ∙ (ap (λ (l : List Entry). entries_of from ahead ms ++ l) (sym (one_entry (from + table_size ms) (ahead + length (table_offsets ms)) m))
-          ∙ sym (entries_of-append from ahead ms (m ∷ []))))));
-      plain = list_all-append is_plain_macro ms (m ∷ []) ∙ and_from _ _ s.plain (and_from _ _ p refl);
-    }
+    grind (arith, stored_length, length-append, drop-append-le, one_bytes, table_bytes-append, one_entry, entries_of-append, list_all-append, and_from)
 
 -- the offsets of a macro that was put behind the others
 pub put_offsets : (formal_offsets more : List ℕ) (ms : List Macro) (m : Macro) → formal_offsets ≡ table_offsets ms → more ≡ macro_offsets m → formal_offsets ++ more ≡ table_offsets (ms ++ m ∷ [])
-put_offsets formal_offsets more ms m d e =
-    ap (λ (x : List ℕ). x ++ more) d
-    ∙ (ap (λ (x : List ℕ). table_offsets ms ++ x) (e ∙ sym (one_offsets m))
-    ∙ sym (table_offsets-append ms (m ∷ [])))
+put_offsets formal_offsets more ms m d e = grind (arith, one_offsets, table_offsets-append)
 
 size_of_remove : (ms : List Macro) (place : ℕ) → place < length ms → macro_size (macro_at ms place) + table_size (remove ms place) ≡ table_size ms
 size_of_remove ms place h =
     let whole : table_size ms ≡ table_size (take place ms) + table_size (macro_at ms place ∷ drop (place + 1) ms) = ap table_size (split_at ms place h) ∙ table_size-append (take place ms) _ in
-    let rest : table_size (remove ms place) ≡ table_size (take place ms) + table_size (drop (place + 1) ms) =
-    ap (λ (k : ℕ). table_size (take place ms ++ drop k ms)) (sym (add-one place)) ∙ table_size-append (take place ms) _ in
-    omega (arith, table_size-cons (macro_at ms place) (drop (place + 1) ms))
+    grind (arith, split_at, table_size-append, add-one, table_size-cons)
 
 pub length_of_remove : (ms : List Macro) (place : ℕ) → place < length ms → length (remove ms place) + 1 ≡ length ms
-length_of_remove ms place h =
-    let whole : length ms ≡ length (take place ms) + length (macro_at ms place ∷ drop (place + 1) ms) = ap length (split_at ms place h) ∙ length-append (take place ms) _ in
-    let rest : length (remove ms place) ≡ length (take place ms) + length (drop (place + 1) ms) =
-    ap (λ (k : ℕ). length (take place ms ++ drop k ms)) (sym (add-one place)) ∙ length-append (take place ms) _ in
-    omega arith
+length_of_remove ms place h = grind (arith, common_steps, split_at, length-append, add-one)
 
 pub usage_without_size : {from ahead : ℕ} (bytes : List ℕ) (entries : List Entry) (ms : List Macro) (name : List ℕ) (place : ℕ) (d : Entry) → IsStored from ahead bytes entries ms → IsDistinct bytes_eq (map (λ m. m.name) ms) → place_named ms name ≡ Some place → from + ((get_or entries place d).name_len + (get_or entries place d).list_len + (get_or entries place d).body_len + table_size (without name ms)) ≡ length bytes
 usage_without_size {from = from} {ahead = ahead} bytes entries ms name place d s distinct at =
     let h : place < length ms = inside_by_place ms name place at in
-    let is : get_or entries place d ≡ entry_of (from + table_size (take place ms)) (ahead + length (table_offsets (take place ms))) (macro_at ms place) = ap (λ (es : List Entry). get_or es place d) s.entries_are ∙ entry_of_macro from ahead ms place d h in
-    let size : (get_or entries place d).name_len + (get_or entries place d).list_len + (get_or entries place d).body_len ≡ macro_size (macro_at ms place) = ap (λ (x : Entry). x.name_len + x.list_len + x.body_len) is ∙ size_of_entry _ _ (macro_at ms place) in
-    omega (arith, ap table_size (without_at name ms place distinct at), size_of_remove ms place h, stored_length bytes entries ms s)
+    grind (arith, inside_by_place, entry_of_macro, size_of_entry, without_at, size_of_remove, stored_length)
 
 pub usage_without_count : {from ahead : ℕ} (bytes : List ℕ) (entries : List Entry) (ms : List Macro) (name : List ℕ) (place : ℕ) → IsStored from ahead bytes entries ms → IsDistinct bytes_eq (map (λ m. m.name) ms) → place_named ms name ≡ Some place → length (without name ms) + 1 ≡ length entries
 usage_without_count bytes entries ms name place s distinct at =
@@ -314,15 +264,10 @@ usage_without_count bytes entries ms name place s distinct at =
     omega (arith, ap length (without_at name ms place distinct at), length_of_remove ms place h, stored_count bytes entries ms s)
 
 pub usage_without_none : {from ahead : ℕ} (bytes : List ℕ) (entries : List Entry) (ms : List Macro) (name : List ℕ) → IsStored from ahead bytes entries ms → place_named ms name ≡ None → (length bytes ≡ from + table_size (without name ms)) × (length entries ≡ length (without name ms))
-usage_without_none bytes entries ms name s at = (
-  omega (arith, stored_length bytes entries ms s, ap table_size (without_nowhere name ms at)),
-  stored_count bytes entries ms s ∙ sym (ap length (without_nowhere name ms at)),
-)
+usage_without_none bytes entries ms name s at = grind (arith, stored_length, without_nowhere, stored_count)
 
 pub stored_again : {from ahead : ℕ} (bytes : List ℕ) (entries : List Entry) (ms : List Macro) → IsStored from ahead bytes entries ms → IsStored from ahead bytes entries (macros_in bytes entries)
-stored_again {from = from} {ahead = ahead} bytes entries ms s =
-    let P : List Macro → Type 0 = λ l. IsStored from ahead bytes entries l in
-    subst P (sym (read_back bytes entries ms s)) s
+stored_again {from = from} {ahead = ahead} bytes entries ms s = grind (arith, read_back)
 
 -- A table after a change of its lists.
 
@@ -331,11 +276,7 @@ abbrev pub table_of : List Macro → ℕ → ℕ → TableView
 table_of ms a b = record { macros = ms; most_bytes = a; most_macros = b }
 
 pub held_of : {from ahead : ℕ} (bytes : List ℕ) (entries : List Entry) (ms : List Macro) (a b : ℕ) → IsStored from ahead bytes entries ms → IsSound (table_of ms a b) → IsHeld from ahead bytes entries a b
-held_of {from = from} {ahead = ahead} bytes entries ms a b s sound =
-    let P : List Macro → Type 0 = λ l. IsStored from ahead bytes entries l in
-    let Q : List Macro → Type 0 = λ l. IsSound (table_of l a b) in
-    let back : ms ≡ macros_in bytes entries = sym (read_back bytes entries ms s) in
-    record { stored = subst P back s; sound = subst Q back sound }
+held_of {from = from} {ahead = ahead} bytes entries ms a b s sound = grind (arith, read_back)
 
 pub view_after : {from ahead : ℕ} (bytes : List ℕ) (entries : List Entry) (ms : List Macro) (a b : ℕ) → IsStored from ahead bytes entries ms → view_of bytes entries a b ≡ table_of ms a b
 view_after bytes entries ms a b s = ap (λ (l : List Macro). table_of l a b) (read_back bytes entries ms s)
@@ -353,14 +294,10 @@ sound_without name view s = record {
 }
 
 pub stored_without : {from ahead : ℕ} (ms : List Macro) (name : List ℕ) (place : ℕ) (bytes' : List ℕ) (entries' : List Entry) → IsDistinct bytes_eq (map (λ m. m.name) ms) → place_named ms name ≡ Some place → IsStored from ahead bytes' entries' (remove ms place) → IsStored from ahead bytes' entries' (without name ms)
-stored_without {from = from} {ahead = ahead} ms name place bytes' entries' distinct at s =
-    let P : List Macro → Type 0 = λ l. IsStored from ahead bytes' entries' l in
-    subst P (sym (without_at name ms place distinct at)) s
+stored_without {from = from} {ahead = ahead} ms name place bytes' entries' distinct at s = grind (arith, without_at)
 
 pub stored_nowhere : {from ahead : ℕ} (ms : List Macro) (name : List ℕ) (bytes : List ℕ) (entries : List Entry) → place_named ms name ≡ None → IsStored from ahead bytes entries ms → IsStored from ahead bytes entries (without name ms)
-stored_nowhere {from = from} {ahead = ahead} ms name bytes entries at s =
-    let P : List Macro → Type 0 = λ l. IsStored from ahead bytes entries l in
-    subst P (sym (without_nowhere name ms at)) s
+stored_nowhere {from = from} {ahead = ahead} ms name bytes entries at s = grind (arith, without_nowhere)
 
 -- what a definition gives a table, by the three cases
 pub too_large : (a b : ℕ) (ms : List Macro) (m : Macro) → a < table_size (without m.name ms) + macro_size m → stored a b ms m ≡ DefinedFault kind.DefinitionBytes []
@@ -405,10 +342,7 @@ skip_space text b following t e = sym (ap (λ (l : List ℕ). drop (prefix_len i
 
 pub point_space : (text : List ℕ) (b : ℕ) (following : List ℕ) → text ≡ b ∷ following → is_space b ≡ false → after_space text ≡ text
 unfolding after_space
-point_space text b following t e =
-    ap (λ (l : List ℕ). drop (prefix_len is_space l) l) t
-    ∙ (ap (λ (n : ℕ). drop n (b ∷ following)) (ap (λ (t : Bool). cond t (1 + prefix_len is_space following) 0) e)
-    ∙ sym t)
+point_space text b following t e = grind arith
 
 pub none_space : (text : List ℕ) → text ≡ [] → after_space text ≡ text
 unfolding after_space
@@ -436,9 +370,7 @@ same_word text = same_run is_word word_ten word_back text
 -- the name of a text is the same where continuations are joined
 pub name_joined : (text : List ℕ) → leading_name (joined true text) ≡ leading_name text
 unfolding leading_name
-name_joined text =
-    ap (λ (t : Bool). cond t (take (prefix_len is_word (joined true text)) (joined true text)) []) (first_same is_letter letter_line letter_back text)
-    ∙ ap (λ (l : List ℕ). cond (is_letter (get_or text 0 0)) l []) (ap (λ (n : ℕ). take n (joined true text)) (same_word text).len ∙ (same_word text).front)
+name_joined text = grind (arith, first_same, letter_line, letter_back, same_word)
 
 -- what stands behind the name
 pub name_after : (text : List ℕ) → joined true (drop (length (leading_name text)) text) ≡ drop (length (leading_name text)) (joined true text)
@@ -457,23 +389,12 @@ name_after text =
 
 -- what was read of a part
 pub part_read : (text rest name tail following : List ℕ) → joined true rest ≡ after_space (joined true text) → name ≡ leading_name rest → tail ≡ take (length rest - length name) (drop (length name) rest) → joined true following ≡ after_space (joined true tail) → IsPart (joined true text) name (joined true following)
-part_read text rest name tail following r n t b = record {
-  name_is = n ∙ (sym (name_joined rest) ∙ ap leading_name r);
-  after_is =
-      b
-      ∙ (ap (λ (l : List ℕ). after_space (joined true l)) (t ∙ take_rest rest (length name))
-      ∙ (ap (λ (l : List ℕ). after_space (joined true (drop (length l) rest))) n
-      ∙ (ap after_space (name_after rest)
-      ∙ (ap (λ (l : List ℕ). after_space (drop (length l) (joined true rest))) (sym n)
-      ∙ ap (λ (l : List ℕ). after_space (drop (length name) l)) r))));
-}
+part_read text rest name tail following r n t b = grind (arith, name_joined, take_rest, name_after)
 
 -- whether a formal list follows
 pub list_follows : (text : List ℕ) (b : ℕ) (list : List ℕ) → text ≡ b ∷ list → eqb b 40 ≡ true → formal_list text ≡ formals_of_list list
 unfolding formal_list
-list_follows text b list e at =
-    ap (λ (t : List ℕ). cond (eqb (get_or t 0 0) 40) (formals_of_list (drop 1 t)) (Listed None t)) e
-    ∙ cond-true (eqb b 40) _ _ at
+list_follows text b list e at = grind (arith, cond-true)
 
 pub no_list : (text : List ℕ) (b : ℕ) (list : List ℕ) → text ≡ b ∷ list → eqb b 40 ≡ false → formal_list text ≡ Listed None text
 unfolding formal_list
@@ -489,14 +410,7 @@ same_bytes : (a b : List ℕ) → bytes_eq a b ≡ true → a ≡ b
 same_bytes a b e = (bytes_eq-Decides a b).0 e
 
 one_name : (name : List ℕ) (x d : Directive) (rest : Option Directive) → (rest ≡ Some d → name ≡ spelled d) → cond (bytes_eq name (spelled x)) (Some x) rest ≡ Some d → name ≡ spelled d
-one_name name x d rest others e =
-    elim (cases_Bool (bytes_eq name (spelled x))) [
-      | inl t ↦
-          let at : Some x ≡ Some d = sym (cond-true _ (Some x) rest t) ∙ e in
-          let same : x ≡ d = cc in
-          same_bytes name (spelled x) t ∙ ap spelled same
-      | inr f ↦ others (sym (cond-false _ (Some x) rest f) ∙ e)
-    ]
+one_name name x d rest others e = grind (arith, cases_Bool, cond-true, same_bytes, cond-false)
 
 no_name : (name : List ℕ) (d : Directive) → (let n : Option Directive = None in n) ≡ Some d → name ≡ spelled d
 no_name name d e = cc
@@ -513,24 +427,15 @@ pub record IsRefused (name : List ℕ) (k : DefineKind) (word : List ℕ) : Type
 
 pub empty_name : (name : List ℕ) (k : DefineKind) (word : List ℕ) → eqb (length name) 0 ≡ true → k ≡ kind.NameExpected → word ≡ [] → IsRefused name k word
 unfolding name_fault refused_word
-empty_name name k word e p q = record {
-  why = cond-true _ _ _ e ∙ ap Some (sym p);
-  word_is = q ∙ sym (ap (λ (x : DefineKind). refused_word x name) p);
-}
+empty_name name k word e p q = grind (arith, cond-true)
 
 pub reserved_name : (name : List ℕ) (k : DefineKind) (word : List ℕ) (d : Directive) (found : Option Directive) → eqb (length name) 0 ≡ false → found ≡ Some d → found ≡ directive_named name → is_some found ≡ is_reserved name → k ≡ kind.ReservedName → word ≡ spelled d → IsRefused name k word
 unfolding name_fault refused_word
-reserved_name name k word d found e at named is p q = record {
-  why = cond-false _ _ _ e ∙ (cond-true _ _ _ (sym is ∙ ap is_some at) ∙ ap Some (sym p));
-  word_is = q ∙ (sym (spelled_named name d (sym named ∙ at)) ∙ sym (ap (λ (x : DefineKind). refused_word x name) p));
-}
+reserved_name name k word d found e at named is p q = grind (arith, cond-false, cond-true, spelled_named)
 
 pub long_name : (name : List ℕ) (k : DefineKind) (word : List ℕ) (found : Option Directive) → eqb (length name) 0 ≡ false → found ≡ None → is_some found ≡ is_reserved name → 128 < length name → k ≡ kind.NameTooLong → word ≡ [] → IsRefused name k word
 unfolding name_fault refused_word
-long_name name k word found e at is h p q = record {
-  why = cond-false _ _ _ e ∙ (cond-false _ _ _ (sym is ∙ ap is_some at) ∙ (cond-true _ _ _ (lt-ltb _ _ h) ∙ ap Some (sym p)));
-  word_is = q ∙ sym (ap (λ (x : DefineKind). refused_word x name) p);
-}
+long_name name k word found e at is h p q = grind (arith, cond-false, cond-true, lt-ltb)
 
 pub good_name : (name : List ℕ) (found : Option Directive) → eqb (length name) 0 ≡ false → found ≡ None → is_some found ≡ is_reserved name → length name ≤ 128 → name_fault name ≡ None
 unfolding name_fault
@@ -544,15 +449,7 @@ named_draft name after fault = elim fault [ Some k ↦ DraftFault k (refused_wor
 
 macro_by_name : (rest line text name after : List ℕ) → line ≡ unended rest → joined true text ≡ after_space (joined true line) → name ≡ leading_name text → after ≡ drop (length name) text → macro_of rest ≡ named_draft name (joined true after) (name_fault name)
 unfolding macro_of logical_text macro_from joined
-macro_by_name rest line text name after e f g h =
-    let following : drop (length name) (joined true text) ≡ joined true after =
-    ap (λ (n : List ℕ). drop (length n) (joined true text)) g
-    ∙ (sym (name_after text)
-    ∙ (ap (λ (n : List ℕ). joined true (drop (length n) text)) (sym g)
-    ∙ ap (joined true) (sym h))) in
-    ap macro_from (ap (λ (l : List ℕ). after_space (joined true l)) (sym e) ∙ sym f)
-    ∙ (ap (λ (n : List ℕ). named_draft n (drop (length n) (joined true text)) (name_fault n)) (name_joined text ∙ sym g)
-    ∙ ap (λ (l : List ℕ). named_draft name l (name_fault name)) following)
+macro_by_name rest line text name after e f g h = grind (arith, name_after, name_joined)
 
 pub define_stores : (a b : ℕ) (ms : List Macro) (rest line text name after : List ℕ) → line ≡ unended rest → joined true text ≡ after_space (joined true line) → name ≡ leading_name text → after ≡ drop (length name) text → name_fault name ≡ None → stored_draft a b ms (with_list name (joined true after)) ≡ define_of a b ms rest
 unfolding define_of
@@ -566,7 +463,7 @@ define_refuses a b ms rest line text name fault e f g why word =
     macro_by_name rest line text name (drop (length name) text) e f g refl
     ∙ (ap (named_draft name (joined true (drop (length name) text))) why
     ∙ ap (DraftFault fault.kind) (sym word)) in
-    sym (ap (stored_draft a b ms) draft)
+    grind (arith, macro_by_name)
 
 -- the draft of a list that was read
 abbrev listed_draft : List ℕ → FormalList → Draft

@@ -1,6 +1,6 @@
 -- Sizes, and the ranges of limits.
-use Rattle.std.proofs.Common.{◌≡◌, ℕ, zero, suc, ◌+◌, ◌-◌, ◌≤◌, Bool, cond, not, ltb, one-add, List, [], ◌∷◌, length, get_or, Option, Some, None, option_map, refl, ap, sym, ◌∙◌, arith, inl, inr, ◌*◌, ◌/◌, true, false, Vec, Global, vec_len, rules, ◌<◌, ◌++◌, take, unwrap_or, sum_by, length-append, add-zero, is_some, subst, drop, leb, All, find, flat_map, position, le-leb, le-ltb, leb-true, lt-ltb, length-drop}
-use Rattle.std.specs.List.{IsDistinct, position_or_len, prefix_len}
+use Rattle.std.proofs.Common.{◌≡◌, ℕ, zero, suc, ◌+◌, ◌-◌, ◌≤◌, Bool, cond, ltb, one-add, List, [], ◌∷◌, length, get_or, Option, Some, None, option_map, refl, ap, sym, ◌∙◌, arith, ◌*◌, ◌/◌, true, false, Vec, Global, vec_len, rules, ◌<◌, ◌++◌, take, unwrap_or, sum_by, length-append, add-zero, is_some, drop, leb, All, find, flat_map, position, le-leb, le-ltb, leb-true, lt-ltb, length-drop}
+use Rattle.std.specs.List.{IsDistinct}
 use Rattle.std.proofs.lemmas.Bool.{and_from, and_parts, cases_Bool, cases_lt, cond-false, cond-true}
 use Rattle.std.proofs.lemmas.Bool.Decides.{leb_tells}
 use Rattle.std.proofs.lemmas.List.{get_or-map, get_or_default, length-map}
@@ -24,38 +24,17 @@ use Rattle.rdlpp_table.specs.declared.limits.Limits.{Limits}
 -- Places in a list.
 
 pub find_by_position : {X : Type 0} (p : X → Bool) (xs : List X) (d : X) → find p xs ≡ option_map (λ i. get_or xs i d) (position p xs)
-find_by_position p xs d =
-    elim (cases_lt (position_or_len p xs) (length xs)) [
-      | inl h ↦ find_at p xs ∙ (slice_get-get_or xs _ d h ∙ sym (ap (option_map (λ i. get_or xs i d)) (cond-true _ (Some (position_or_len p xs)) None (lt-ltb _ _ h))))
-      | inr h ↦ find_at p xs ∙ (slice_get_past xs _ h ∙ sym (ap (option_map (λ i. get_or xs i d)) (cond-false _ (Some (position_or_len p xs)) None (le-ltb _ _ h))))
-    ]
+find_by_position p xs d = grind (arith, cases_lt, find_at, slice_get-get_or, cond-true, lt-ltb, slice_get_past, cond-false, le-ltb)
 
 -- the first place, by the first element
 abbrev placed : ℕ → ℕ → Option ℕ
 placed n len = cond (ltb n len) (Some n) None
 
 placed_more : (n len : ℕ) → placed (suc n) (suc len) ≡ option_map suc (placed n len)
-placed_more n len =
-    elim (cases_lt n len) [
-      | inl h ↦ cond-true (ltb (suc n) (suc len)) (Some (suc n)) None (lt-ltb (suc n) (suc len) (omega arith)) ∙ sym (ap (option_map suc) (cond-true (ltb n len) (Some n) None (lt-ltb n len h)))
-      | inr h ↦ cond-false (ltb (suc n) (suc len)) (Some (suc n)) None (le-ltb (suc n) (suc len) (omega arith)) ∙ sym (ap (option_map suc) (cond-false (ltb n len) (Some n) None (le-ltb n len h)))
-    ]
+placed_more n len = grind (arith, cases_lt, cond-true, lt-ltb, cond-false, le-ltb)
 
 pub position_first : {X : Type 0} (p : X → Bool) (x : X) (xs : List X) → position p (x ∷ xs) ≡ cond (p x) (Some 0) (option_map suc (position p xs))
-position_first p x xs =
-    let m : ℕ = prefix_len (λ y. not (p y)) xs in
-    elim (cases_Bool (p x)) [
-      | inl e ↦
-          let n : cond (not (p x)) (1 + m) 0 ≡ 0 = ap (λ (t : Bool). cond (not t) (1 + m) 0) e in
-          ap (λ (k : ℕ). placed k (length (x ∷ xs))) n
-          ∙ (cond-true (ltb 0 (length (x ∷ xs))) (Some 0) None (lt-ltb 0 (length (x ∷ xs)) (omega arith))
-          ∙ sym (cond-true (p x) (Some 0) _ e))
-      | inr e ↦
-          let n : cond (not (p x)) (1 + m) 0 ≡ suc m = ap (λ (t : Bool). cond (not t) (1 + m) 0) e ∙ one-add m in
-          ap (λ (k : ℕ). placed k (length (x ∷ xs))) n
-          ∙ (placed_more m (length xs)
-          ∙ sym (cond-false (p x) (Some 0) _ e))
-    ]
+position_first p x xs = grind (arith, cases_Bool, cond-true, lt-ltb, one-add, placed_more, cond-false)
 
 -- Sizes are lengths, and entries lie among the bytes.
 
@@ -96,9 +75,7 @@ one_size f = omega (arith, sum_by-cons formal_size f [])
 
 pub length_list_bytes : (fs : List Formal) → length (flat_map formal_bytes fs) ≡ sum_by formal_size fs
 length_list_bytes [] = refl
-length_list_bytes (f ∷ fs) =
-    let e : length (flat_map formal_bytes (f ∷ fs)) ≡ length (formal_bytes f) + length (flat_map formal_bytes fs) = length-append (formal_bytes f) (flat_map formal_bytes fs) in
-    omega (arith, e, length_formal_bytes f, length_list_bytes fs, sum_by-cons formal_size f fs)
+length_list_bytes (f ∷ fs) = grind (arith, length-append, length_formal_bytes, sum_by-cons, (length_list_bytes fs))
 
 pub length_macro_bytes : (m : Macro) → length (macro_bytes m) ≡ macro_size m
 unfolding macro_bytes macro_size
@@ -119,15 +96,12 @@ ends_within : (start formal_offsets : ℕ) (ms : List Macro) → All (λ e. entr
 unfolding entries_of
 ends_within start formal_offsets [] = All-nil _
 ends_within start formal_offsets (m ∷ ms) =
-    All-cons (λ e. entry_end e ≤ start + table_size (m ∷ ms)) _ _
-    (omega (arith, entry_end_of start formal_offsets m, table_size-cons m ms))
-    (λ k d h. omega (arith, ends_within (start + macro_size m) (formal_offsets + length (macro_offsets m)) ms k d h, table_size-cons m ms))
+    grind (arith, All-cons, entry_end_of, table_size-cons, (ends_within (start + macro_size m) (formal_offsets + length (macro_offsets m)) ms))
 
 pub stored_within : {from ahead : ℕ} (bytes : List ℕ) (entries : List Entry) (ms : List Macro) → IsStored from ahead bytes entries ms → AreWithin (length bytes) entries
 stored_within {from = from} {ahead = ahead} bytes entries ms s =
     let long : length bytes ≡ from + table_size ms = omega (arith, s.inside, length-drop from bytes, ap (length {A = ℕ}) s.bytes_are, length_table_bytes ms) in
-    let P : List Entry → Type 0 = λ l. AreWithin (length bytes) l in
-    subst P (sym s.entries_are) (λ k d h. omega (arith, ends_within from ahead ms k d h, long))
+    grind (arith, length-drop, length_table_bytes, ends_within)
 
 pub length_offsets-cons : (m : Macro) (ms : List Macro) → length (table_offsets (m ∷ ms)) ≡ length (macro_offsets m) + length (table_offsets ms)
 unfolding table_offsets
@@ -144,9 +118,7 @@ entry_of_macro start formal_offsets [] i d h = absurd (omega arith)
 entry_of_macro start formal_offsets (m ∷ ms) zero d h =
     ap (λ (n : ℕ). entry_of n formal_offsets m) (sym (add-zero start)) ∙ ap (λ (n : ℕ). entry_of (start + 0) n m) (let e : formal_offsets ≡ formal_offsets + length (table_offsets []) = omega (arith, no_offsets) in e)
 entry_of_macro start formal_offsets (m ∷ ms) (suc i) d h =
-    entry_of_macro (start + macro_size m) (formal_offsets + length (macro_offsets m)) ms i d (omega arith)
-    ∙ (ap (λ (n : ℕ). entry_of n (formal_offsets + length (macro_offsets m) + length (table_offsets (take i ms))) (macro_at ms i)) (omega (arith, sum_by-cons macro_size m (take i ms)))
-    ∙ ap (λ (n : ℕ). entry_of (start + sum_by macro_size (m ∷ take i ms)) n (macro_at ms i)) (omega (arith, length_offsets-cons m (take i ms))))
+    grind (arith, sum_by-cons, length_offsets-cons, (entry_of_macro (start + macro_size m) (formal_offsets + length (macro_offsets m)) ms i d (omega arith)))
 
 count_of : (o : Option (List Formal)) → unwrap_or (option_map length o) 0 ≡ length (unwrap_or o [])
 count_of None = refl
@@ -170,25 +142,17 @@ length_start_halves fs = omega (arith, length_halves (starts_of 0 fs), length_st
 -- how many offsets formals have
 pub length_offsets_of : (fs : List Formal) → length (offsets_of fs) ≡ cond (has_offsets (length fs) (sum_by formal_size fs)) (2 * length fs) 0
 unfolding offsets_of
-length_offsets_of fs = elim (has_offsets (length fs) (sum_by formal_size fs)) as (λ b. length (cond b (halves (starts_of 0 fs)) []) ≡ cond b (2 * length fs) 0) [
-  | true ↦ length_start_halves fs
-  | false ↦ refl
-]
+length_offsets_of fs = grind (arith, length_start_halves)
 
 -- how many offsets an entry has
 pub offsets_len_of : (start formal_offsets : ℕ) (m : Macro) → offsets_len (entry_of start formal_offsets m) ≡ length (macro_offsets m)
 unfolding offsets_len entry_of list_size macro_offsets
-offsets_len_of start formal_offsets m =
-    ap (λ (n : ℕ). cond (has_offsets n (sum_by formal_size (unwrap_or m.formals []))) (2 * n) 0) (count_of m.formals)
-    ∙ sym (length_offsets_of (unwrap_or m.formals []))
+offsets_len_of start formal_offsets m = grind (arith, count_of, length_offsets_of)
 
 -- formals have at most two offsets for eight bytes
 pub few_offsets_of : (fs : List Formal) → length (offsets_of fs) ≤ 2 * (sum_by formal_size fs / 8)
 unfolding has_offsets
-few_offsets_of fs = elim (leb_tells (8 * length fs) (sum_by formal_size fs)) [
-  | inl e ↦ omega (arith, length_offsets_of fs ∙ cond-true _ (2 * length fs) 0 e.0, e.1)
-  | inr e ↦ omega (arith, length_offsets_of fs ∙ cond-false _ (2 * length fs) 0 e.0)
-]
+few_offsets_of fs = grind (arith, leb_tells, length_offsets_of, cond-true, cond-false)
 
 pub few_offsets_in : (m : Macro) → length (macro_offsets m) ≤ 2 * (macro_size m / 8)
 unfolding macro_offsets macro_size
@@ -218,10 +182,7 @@ macros_of_none bytes entries e = rw e refl
 
 held_nothing : (a b : ℕ) → IsHeld 0 0 [] [] a b
 unfolding macros_in entries_of table_bytes table_size IsDistinct
-held_nothing a b = record {
-  stored = record { inside = omega arith; few = omega arith; bytes_are = refl; entries_are = refl; plain = refl };
-  sound = record { distinct = tt; each = All-nil _; bytes_fit = omega arith; macros_fit = omega arith };
-}
+held_nothing a b = grind (arith, All-nil)
 
 pub held_when_empty : (bytes : List ℕ) (entries : List Entry) (a b : ℕ) → bytes ≡ [] → entries ≡ [] → IsHeld 0 0 bytes entries a b
 held_when_empty bytes entries a b e f = rw (e, f) (held_nothing a b)
@@ -257,17 +218,11 @@ entry_within bs bytes entries a b i entry p held h q = rw (p, q) (stored_within 
 
 pub arity_at : {from ahead : ℕ} (bytes : List ℕ) (entries : List Entry) (a b : ℕ) (view : TableView) (i j : ℕ) (entry : Entry) → view_of bytes entries a b ≡ view → IsHeld from ahead bytes entries a b → i ≡ j → i < length entries → entry ≡ get_or entries i entry → entry.arity ≡ option_map length (macro_at view.macros j).formals
 unfolding entry_of
-arity_at bytes entries a b view i j entry e held s h q =
-    let at : i < length (macros_in bytes entries) = omega (arith, length_macros_in bytes entries) in
-    ap (λ (x : Entry). x.arity) (q ∙ (ap (λ (es : List Entry). get_or es i entry) held.stored.entries_are ∙ entry_of_macro _ _ (macros_in bytes entries) i entry at))
-    ∙ (ap (λ (v : TableView). option_map length (macro_at v.macros i).formals) e ∙ ap (λ (k : ℕ). option_map length (macro_at view.macros k).formals) s)
+arity_at bytes entries a b view i j entry e held s h q = grind (arith, length_macros_in, entry_of_macro)
 
 pub points_at : {from ahead : ℕ} (bytes : List ℕ) (entries : List Entry) (a b : ℕ) (view : TableView) (i j : ℕ) (entry : Entry) → view_of bytes entries a b ≡ view → IsHeld from ahead bytes entries a b → i ≡ j → i < length entries → entry ≡ get_or entries i entry → entry.points ≡ cached_points (formals_of (macro_at view.macros j)) (macro_at view.macros j).body
 unfolding entry_of
-points_at bytes entries a b view i j entry e held s h q =
-    let at : i < length (macros_in bytes entries) = omega (arith, length_macros_in bytes entries) in
-    ap (λ (x : Entry). x.points) (q ∙ (ap (λ (es : List Entry). get_or es i entry) held.stored.entries_are ∙ entry_of_macro _ _ (macros_in bytes entries) i entry at))
-    ∙ (ap (λ (v : TableView). cached_points (formals_of (macro_at v.macros i)) (macro_at v.macros i).body) e ∙ ap (λ (k : ℕ). cached_points (formals_of (macro_at view.macros k)) (macro_at view.macros k).body) s)
+points_at bytes entries a b view i j entry e held s h q = grind (arith, length_macros_in, entry_of_macro)
 
 pub stored_slices_within : {from ahead : ℕ} (bs : List ℕ) (es : List Entry) (bytes : List ℕ) (entries : List Entry) (ms : List Macro) → bs ≡ bytes → es ≡ entries → IsStored from ahead bytes entries ms → AreWithin (length bs) es
 stored_slices_within bs es bytes entries ms p q s = rw (p, q) (stored_within bytes entries ms s)
@@ -296,40 +251,11 @@ one_test false x f e = absurd (cc)
 
 pub in_range : (l : Limits) → limit_fault l ≡ None → AreInRange l
 unfolding limit_fault
-in_range l e =
-    let t1 = one_test _ _ _ e in
-    let t2 = one_test _ _ _ t1.1 in
-    let t3 = one_test _ _ _ t2.1 in
-    let t4 = one_test _ _ _ t3.1 in
-    let t5 = one_test _ _ _ t4.1 in
-    let t6 = one_test _ _ _ t5.1 in
-    let t7 = one_test _ _ _ t6.1 in
-    let t8 = one_test _ _ _ t7.1 in
-    let t9 = one_test _ _ _ t8.1 in
-    record {
-      depth = within_true _ _ _ t1.0;
-      includes = within_true _ _ _ t2.0;
-      line_bytes = within_true _ _ _ t3.0;
-      source_bytes = within_true _ _ _ t4.0;
-      argument_bytes = within_true _ _ _ t5.0;
-      definition_bytes = within_true _ _ _ t6.0;
-      definitions = within_true _ _ _ t7.0;
-      conditions = within_true _ _ _ t8.0;
-      output_bytes = within_true _ _ _ t9.0;
-    }
+in_range l e = grind (arith, one_test, within_true)
 
 pub no_fault : (l : Limits) → AreInRange l → limit_fault l ≡ None
 unfolding limit_fault
-no_fault l r =
-    cond-true _ _ _ (true_within _ _ _ r.depth)
-    ∙ (cond-true _ _ _ (true_within _ _ _ r.includes)
-    ∙ (cond-true _ _ _ (true_within _ _ _ r.line_bytes)
-    ∙ (cond-true _ _ _ (true_within _ _ _ r.source_bytes)
-    ∙ (cond-true _ _ _ (true_within _ _ _ r.argument_bytes)
-    ∙ (cond-true _ _ _ (true_within _ _ _ r.definition_bytes)
-    ∙ (cond-true _ _ _ (true_within _ _ _ r.definitions)
-    ∙ (cond-true _ _ _ (true_within _ _ _ r.conditions)
-    ∙ cond-true _ _ _ (true_within _ _ _ r.output_bytes))))))))
+no_fault l r = grind (arith, cond-true, true_within)
 
 pub fault_out_of_range : (l : Limits) (f : LimitFault) (r : Option LimitFault) → r ≡ limit_fault l → r ≡ Some f → AreInRange l → ⊥
 fault_out_of_range l f r e g h =

@@ -1,5 +1,5 @@
 -- The macros but the one of a name, and that macro taken out of the lists in which a table lies.
-use Rattle.std.proofs.Common.{◌≡◌, ℕ, ◌+◌, ◌<◌, ◌≤◌, Bool, true, false, cond, not, ◌||◌, List, [], ◌∷◌, ◌++◌, length, map, remove, bytes_eq, Option, Some, None, refl, ap, sym, ◌∙◌, subst, arith, one-add, inl, inr, suc, ◌-◌, take, drop, get_or, length-append, append_assoc, add-zero, add-one, zero-add, ◌^◌, Vec, Global, vec_capacity, slice_range, filter, All, get_or-drop, take_at, drop_at, take-append-drop, length-take-le, lt-ltb, le-ltb}
+use Rattle.std.proofs.Common.{◌≡◌, ℕ, ◌+◌, ◌<◌, ◌≤◌, Bool, true, false, cond, not, ◌||◌, List, [], ◌∷◌, ◌++◌, length, map, remove, bytes_eq, Some, None, refl, ap, sym, ◌∙◌, arith, one-add, inl, inr, suc, ◌-◌, take, drop, get_or, length-append, append_assoc, add-zero, add-one, zero-add, ◌^◌, Vec, Global, vec_capacity, slice_range, filter, All, get_or-drop, take_at, drop_at, take-append-drop, length-take-le, lt-ltb, le-ltb}
 use Rattle.std.specs.List.{IsDistinct, AllByRecursion, position_or_len, list_any, list_all, remove_range}
 use Rattle.std.proofs.lemmas.List.{map-append, drop_more}
 use Rattle.std.proofs.lemmas.Cmp.{nat_list_eq_equiv}
@@ -21,11 +21,7 @@ use Rattle.rdlpp_table.specs.Entries.{offsets_len, moved_down, moved_up, AreAfte
 
 kept_all : (P : List ℕ → Type 0) (keep : Macro → Bool) (ms : List Macro) → AllByRecursion P (names_of ms) → AllByRecursion P (names_of (filter keep ms))
 kept_all P keep [] h = h
-kept_all P keep (m ∷ ms) h =
-    elim (keep m) as (λ b. AllByRecursion P (names_of (cond b (m ∷ filter keep ms) (filter keep ms)))) [
-      | true ↦ (h.0, kept_all P keep ms h.1)
-      | false ↦ kept_all P keep ms h.1
-    ]
+kept_all P keep (m ∷ ms) h = grind (arith, (kept_all P keep ms h.1))
 
 kept_distinct : (keep : Macro → Bool) (ms : List Macro) → IsDistinct bytes_eq (names_of ms) → IsDistinct bytes_eq (names_of (filter keep ms))
 kept_distinct keep [] h = h
@@ -37,19 +33,11 @@ kept_distinct keep (m ∷ ms) h =
 
 kept_size : (keep : Macro → Bool) (ms : List Macro) → table_size (filter keep ms) ≤ table_size ms
 kept_size keep [] = omega arith
-kept_size keep (m ∷ ms) =
-    elim (keep m) as (λ b. table_size (cond b (m ∷ filter keep ms) (filter keep ms)) ≤ table_size (m ∷ ms)) [
-      | true ↦ omega (arith, table_size-cons m (filter keep ms), table_size-cons m ms, kept_size keep ms)
-      | false ↦ omega (arith, table_size-cons m ms, kept_size keep ms)
-    ]
+kept_size keep (m ∷ ms) = grind (arith, table_size-cons, (kept_size keep ms))
 
 kept_length : (keep : Macro → Bool) (ms : List Macro) → length (filter keep ms) ≤ length ms
 kept_length keep [] = omega arith
-kept_length keep (m ∷ ms) =
-    elim (keep m) as (λ b. length (cond b (m ∷ filter keep ms) (filter keep ms)) ≤ length (m ∷ ms)) [
-      | true ↦ omega (arith, kept_length keep ms)
-      | false ↦ omega (arith, kept_length keep ms)
-    ]
+kept_length keep (m ∷ ms) = grind (arith, (kept_length keep ms))
 
 pub without_distinct : (name : List ℕ) (ms : List Macro) → IsDistinct bytes_eq (map (λ m. m.name) ms) → IsDistinct bytes_eq (map (λ m. m.name) (without name ms))
 unfolding without
@@ -111,30 +99,13 @@ all_differ name (m ∷ ms) h =
 
 -- the place found is the first one
 first_from_place : (name : List ℕ) (ms : List Macro) (place : ℕ) → place_named ms name ≡ Some place → (first_named name ms ≡ place) × (first_named name ms < length ms)
-first_from_place name ms place e =
-    elim (cases_lt (first_named name ms) (length ms)) [
-      | inl h ↦
-          let at : Some (first_named name ms) ≡ Some place = sym (cond-true _ (Some (first_named name ms)) None (lt-ltb _ _ h)) ∙ e in
-          (cc, h)
-      | inr h ↦
-          let none : Option ℕ = None in
-          let at : none ≡ Some place = sym (cond-false _ (Some (first_named name ms)) None (le-ltb _ _ h)) ∙ e in
-          absurd (cc)
-    ]
+first_from_place name ms place e = grind (arith, cases_lt, cond-true, lt-ltb, cond-false, le-ltb)
 
 pub without_at : (name : List ℕ) (ms : List Macro) (place : ℕ) → IsDistinct bytes_eq (map (λ m. m.name) ms) → place_named ms name ≡ Some place → without name ms ≡ remove ms place
-without_at name ms place d e =
-    let f = first_from_place name ms place e in
-    removed_first name ms d f.1 ∙ ap (remove ms) f.0
+without_at name ms place d e = grind (arith, first_from_place, removed_first)
 
 pub differ_nowhere : (name : List ℕ) (ms : List Macro) → place_named ms name ≡ None → AllByRecursion (λ y. bytes_eq y name ≡ false) (map (λ m. m.name) ms)
-differ_nowhere name ms e =
-    elim (cases_lt (first_named name ms) (length ms)) [
-      | inl h ↦
-          let at : Some (first_named name ms) ≡ None = sym (cond-true _ (Some (first_named name ms)) None (lt-ltb _ _ h)) ∙ e in
-          absurd (cc)
-      | inr h ↦ all_differ name ms h
-    ]
+differ_nowhere name ms e = grind (arith, cases_lt, cond-true, lt-ltb, all_differ)
 
 pub without_nowhere : (name : List ℕ) (ms : List Macro) → place_named ms name ≡ None → without name ms ≡ ms
 without_nowhere name ms e = without_none name ms (differ_nowhere name ms e)
@@ -152,9 +123,7 @@ none_named name (m ∷ ms) =
     ]
 
 pub pushed_distinct : (m : Macro) (ms : List Macro) → IsDistinct bytes_eq (map (λ m. m.name) ms) → IsDistinct bytes_eq (map (λ m. m.name) (without m.name ms ++ m ∷ []))
-pushed_distinct m ms d =
-    let P : List (List ℕ) → Type 0 = λ l. IsDistinct bytes_eq l in
-    subst P (sym (map-append (λ (x : Macro). x.name) (without m.name ms) (m ∷ []))) (IsDistinct-push nat_list_eq_equiv (names_of (without m.name ms)) m.name (without_distinct m.name ms d) (none_named m.name ms))
+pushed_distinct m ms d = grind (arith, map-append, IsDistinct-push, nat_list_eq_equiv, without_distinct, none_named)
 
 -- A macro taken out of the lists in which a table lies.
 
@@ -169,10 +138,7 @@ entries_of-append start formal_offsets [] ys =
     ap (λ (n : ℕ). entries_of n formal_offsets ys) (sym (add-zero start)) ∙ ap (λ (n : ℕ). entries_of (start + 0) n ys) (let e : formal_offsets ≡ formal_offsets + length (table_offsets []) = omega (arith, no_offsets) in e)
 entries_of-append start formal_offsets (x ∷ xs) ys =
     let k : ℕ = formal_offsets + length (macro_offsets x) in
-    ap (λ (es : List Entry). entry_of start formal_offsets x ∷ es)
-    (entries_of-append (start + macro_size x) k xs ys
-    ∙ (ap (λ (n : ℕ). entries_of (start + macro_size x) k xs ++ entries_of n (k + length (table_offsets xs)) ys) (omega (arith, table_size-cons x xs))
-    ∙ ap (λ (n : ℕ). entries_of (start + macro_size x) k xs ++ entries_of (start + table_size (x ∷ xs)) n ys) (omega (arith, length_offsets-cons x xs))))
+    grind (arith, table_size-cons, length_offsets-cons, (entries_of-append (start + macro_size x) k xs ys))
 
 pub table_offsets-append : (xs ys : List Macro) → table_offsets (xs ++ ys) ≡ table_offsets xs ++ table_offsets ys
 unfolding table_offsets
@@ -192,21 +158,14 @@ table_bytes-cons m ys = refl
 
 moved_entry : (n size k formal_offsets : ℕ) (m : Macro) → moved_down size formal_offsets (entry_of (n + size) (k + formal_offsets) m) ≡ entry_of n k m
 unfolding moved_down entry_of
-moved_entry n size k formal_offsets m =
-    ap (λ (i : ℕ). let e : Entry = record { start = i; name_len = _; list_len = _; body_len = _; arity = _; formal_offsets = k + formal_offsets - formal_offsets; points = _ } in e) (let e : n + size - size ≡ n = omega arith in e)
-    ∙ ap (λ (i : ℕ). let e : Entry = record { start = n; name_len = _; list_len = _; body_len = _; arity = _; formal_offsets = i; points = _ } in e) (let e : k + formal_offsets - formal_offsets ≡ k = omega arith in e)
+moved_entry n size k formal_offsets m = grind arith
 
 moved_entries : (n size k formal_offsets : ℕ) (ys : List Macro) → map (moved_down size formal_offsets) (entries_of (n + size) (k + formal_offsets) ys) ≡ entries_of n k ys
 unfolding entries_of
 moved_entries n size k formal_offsets [] = refl
 moved_entries n size k formal_offsets (y ∷ ys) =
     let j : ℕ = length (macro_offsets y) in
-    let e : n + size + macro_size y ≡ n + macro_size y + size = omega arith in
-    let f : k + formal_offsets + j ≡ k + j + formal_offsets = omega arith in
-    ap (λ (i : ℕ). moved_down size formal_offsets (entry_of (n + size) (k + formal_offsets) y) ∷ map (moved_down size formal_offsets) (entries_of i (k + formal_offsets + j) ys)) e
-    ∙ (ap (λ (i : ℕ). moved_down size formal_offsets (entry_of (n + size) (k + formal_offsets) y) ∷ map (moved_down size formal_offsets) (entries_of (n + macro_size y + size) i ys)) f
-    ∙ (ap (λ (x : Entry). x ∷ map (moved_down size formal_offsets) (entries_of (n + macro_size y + size) (k + j + formal_offsets) ys)) (moved_entry n size k formal_offsets y)
-    ∙ ap (λ (es : List Entry). entry_of n k y ∷ es) (moved_entries (n + macro_size y) size (k + j) formal_offsets ys)))
+    grind (arith, moved_entry, (moved_entries (n + macro_size y) size (k + j) formal_offsets ys))
 
 start_of : (n k : ℕ) (m : Macro) → (entry_of n k m).start ≡ n
 unfolding entry_of
@@ -220,9 +179,7 @@ starts_after : (low few n k : ℕ) (ms : List Macro) → low ≤ n → few ≤ k
 unfolding entries_of
 starts_after low few n k [] h g = All-nil _
 starts_after low few n k (m ∷ ms) h g =
-    All-cons (λ e. (low ≤ e.start) × (few ≤ e.formal_offsets)) _ _
-    (omega (arith, start_of n k m), omega (arith, offsets_at n k m))
-    (starts_after low few (n + macro_size m) (k + length (macro_offsets m)) ms (omega arith) (omega arith))
+    grind (arith, All-cons, start_of, offsets_at, (starts_after low few (n + macro_size m) (k + length (macro_offsets m)) ms (omega arith) (omega arith)))
 
 -- a part of a text between two others
 pub between_parts : (a b c : List ℕ) (i j : ℕ) → length a ≡ i → i + length b ≡ j → slice_range (a ++ (b ++ c)) i j ≡ b
@@ -349,12 +306,7 @@ unfolding entries_of
 raised_entries n size k formal_offsets [] = refl
 raised_entries n size k formal_offsets (x ∷ xs) =
     let j : ℕ = length (macro_offsets x) in
-    let e : n + macro_size x + size ≡ n + size + macro_size x = omega arith in
-    let f : k + j + formal_offsets ≡ k + formal_offsets + j = omega arith in
-    ap (λ (y : Entry). y ∷ map (moved_up size formal_offsets) (entries_of (n + macro_size x) (k + j) xs)) (raised_entry n size k formal_offsets x)
-    ∙ ap (λ (es : List Entry). entry_of (n + size) (k + formal_offsets) x ∷ es)
-    (raised_entries (n + macro_size x) size (k + j) formal_offsets xs
-    ∙ (ap (λ (i : ℕ). entries_of i (k + j + formal_offsets) xs) e ∙ ap (λ (i : ℕ). entries_of (n + size + macro_size x) i xs) f))
+    grind (arith, raised_entry, (raised_entries (n + macro_size x) size (k + j) formal_offsets xs))
 
 -- what is left of the lists once those before a macro came to the back, over it
 pub covered_stored : {from ahead : ℕ} (bytes : List ℕ) (entries rest : List Entry) (entry : Entry) (ms : List Macro) (place size formal_offsets : ℕ) (bytes' : List ℕ) (entries' : List Entry) → IsStored from ahead bytes entries ms → Taken from ahead entries rest entry ms place size formal_offsets → place < length ms → drop (from + size) bytes' ≡ slice_range bytes from entry.start ++ drop (entry.start + size) bytes → length bytes' ≡ length bytes → entries' ≡ map (moved_up size formal_offsets) (take place rest) ++ drop place rest → IsStored (from + size) (ahead + formal_offsets) bytes' entries' (remove ms place)
@@ -381,21 +333,7 @@ covered_stored {from = from} {ahead = ahead} bytes entries rest entry ms place s
     t.back
     ∙ (ap (λ (i : ℕ). entries_of i (ahead + length (table_offsets xs) + length (macro_offsets m)) ys) (omega (arith, t.size_is))
     ∙ ap (λ (i : ℕ). entries_of (from + size + table_size xs) i ys) (omega (arith, t.offsets_are))) in
-    record {
-      inside = omega (arith, l, all, t.start);
-      few = omega (arith, s.few, few_offsets_in m, t.size_is, t.offsets_are);
-      bytes_are =
-          b
-          ∙ (ap (λ (bs : List ℕ). bs ++ drop (entry.start + size) bytes) moved
-          ∙ (ap (λ (bs : List ℕ). table_bytes xs ++ bs) following
-          ∙ (sym (table_bytes-append xs ys) ∙ ap table_bytes (sym (removed_parts ms place)))));
-      entries_are =
-          e
-          ∙ (ap (λ (es : List Entry). es ++ drop place rest) raised
-          ∙ (ap (λ (es : List Entry). entries_of (from + size) (ahead + formal_offsets) xs ++ es) stay
-          ∙ (sym (entries_of-append (from + size) (ahead + formal_offsets) xs ys) ∙ ap (entries_of (from + size) (ahead + formal_offsets)) (sym (removed_parts ms place)))));
-      plain = ap (list_all is_plain_macro) (removed_parts ms place) ∙ plain_left ms place h s.plain;
-    }
+    grind (arith, few_offsets_in, table_bytes-append, removed_parts, entries_of-append, plain_left)
 
 -- what is left of the lists once all came to the front
 pub settled_stored : {from ahead : ℕ} (bytes : List ℕ) (entries : List Entry) (ms : List Macro) (bytes' : List ℕ) (entries' : List Entry) → IsStored from ahead bytes entries ms → bytes' ≡ remove_range bytes 0 from → entries' ≡ map (moved_down from ahead) entries → IsStored 0 0 bytes' entries' ms
@@ -415,9 +353,7 @@ settled_stored {from = from} {ahead = ahead} bytes entries ms bytes' entries' s 
 
 -- each entry lies behind what is given up
 pub stored_after : {from ahead : ℕ} (bytes : List ℕ) (entries : List Entry) (ms : List Macro) → IsStored from ahead bytes entries ms → AreAfter from ahead entries
-stored_after {from = from} {ahead = ahead} bytes entries ms s =
-    let P : List Entry → Type 0 = λ l. AreAfter from ahead l in
-    subst P (sym s.entries_are) (starts_after from ahead from ahead ms (omega arith) (omega arith))
+stored_after {from = from} {ahead = ahead} bytes entries ms s = grind (arith, starts_after)
 
 pub taken_after : {from ahead : ℕ} (entries rest : List Entry) (entry : Entry) (ms : List Macro) (place size formal_offsets : ℕ) → Taken from ahead entries rest entry ms place size formal_offsets → AreAfter size formal_offsets (drop place rest)
 taken_after entries rest entry ms place size formal_offsets t =
@@ -427,16 +363,11 @@ low_entries : (n k last most : ℕ) (ms : List Macro) → n + table_size ms ≤ 
 unfolding entries_of
 low_entries n k last most [] h g = All-nil _
 low_entries n k last most (m ∷ ms) h g =
-    All-cons (λ e. (e.start ≤ last) × (e.formal_offsets ≤ most)) _ _
-    (omega (arith, start_of n k m, h), omega (arith, offsets_at n k m, g))
-    (low_entries (n + macro_size m) (k + length (macro_offsets m)) last most ms (omega (arith, h, table_size-cons m ms)) (omega (arith, g, length_offsets-cons m ms)))
+    grind (arith, All-cons, start_of, offsets_at, table_size-cons, length_offsets-cons, (low_entries (n + macro_size m) (k + length (macro_offsets m)) last most ms (omega (arith, h, table_size-cons m ms)) (omega (arith, g, length_offsets-cons m ms))))
 
 pub end_within : {from ahead : ℕ} (bytes : List ℕ) (entries : List Entry) (ms : List Macro) (place : ℕ) (entry : Entry) → IsStored from ahead bytes entries ms → place < length entries → entry ≡ get_or entries place entry → entry.start + (entry.name_len + entry.list_len + entry.body_len) ≤ length bytes
 unfolding entry_end body_start list_start
-end_within bytes entries ms place entry s h q =
-    let P : Entry → Type 0 = λ e. entry_end e ≤ length bytes in
-    let end : entry_end entry ≤ length bytes = subst P (sym q) (stored_within bytes entries ms s place entry h) in
-    omega (arith, end)
+end_within bytes entries ms place entry s h q = grind (arith, stored_within)
 
 -- the macro at a place behind what is given up
 pub taken_live : {from ahead : ℕ} (bytes : List ℕ) (items : List Entry) (front place : ℕ) (entry : Entry) (size formal_offsets : ℕ) → IsStored from ahead bytes (drop front items) (macros_in bytes (drop front items)) → place < length (drop front items) → entry ≡ get_or items (front + place) entry → size ≡ entry.name_len + entry.list_len + entry.body_len → formal_offsets ≡ offsets_len entry → Taken from ahead (drop front items) (remove (drop front items) place) entry (macros_in bytes (drop front items)) place size formal_offsets
@@ -455,12 +386,7 @@ taken_range {from = from} bytes items front place entry size formal_offsets s h 
     let ms : List Macro = macros_in bytes (drop front items) in
     let t = taken_live bytes items front place entry size formal_offsets s h q z f in
     let inside : place < length ms = omega (arith, h, length_macros_in bytes (drop front items)) in
-    record {
-      start = omega (arith, t.start);
-      end = omega (arith, z, end_within bytes (drop front items) ms place entry s h (q ∙ sym (get_or-drop front items place entry)));
-      following = omega (arith, t.offsets_from);
-      few = omega (arith, t.start, t.offsets_from, s.few, few_offsets (take place ms), few_offsets_in (macro_at ms place), t.size_is, t.offsets_are);
-    }
+    grind (arith, end_within, get_or-drop, few_offsets, few_offsets_in)
 
 -- the entries before it can be moved up
 pub taken_low : {from ahead : ℕ} (bytes : List ℕ) (items : List Entry) (front place : ℕ) (entry : Entry) (size formal_offsets : ℕ) → IsStored from ahead bytes (drop front items) (macros_in bytes (drop front items)) → place < length (drop front items) → entry ≡ get_or items (front + place) entry → size ≡ entry.name_len + entry.list_len + entry.body_len → formal_offsets ≡ offsets_len entry → length bytes < 2 ^ 32 → AreLow size formal_offsets (take place (remove (drop front items) place))
@@ -471,7 +397,7 @@ taken_low {from = from} {ahead = ahead} bytes items front place entry size forma
     let P : List Entry → Type 0 = λ l. AreLow size formal_offsets l in
     let low : All (λ e. (e.start ≤ entry.start) × (e.formal_offsets ≤ entry.formal_offsets)) (entries_of from ahead (take place ms)) =
     low_entries from ahead entry.start entry.formal_offsets (take place ms) (omega (arith, t.start)) (omega (arith, t.offsets_from)) in
-    subst P (sym t.front) (λ k d g. (omega (arith, low k d g, r.end, n), omega (arith, low k d g, r.few, r.end, n)))
+    grind arith
 
 -- the offsets of the macros that stay
 pub taken_offsets : {from ahead : ℕ} (formal_offsets : List ℕ) (entries rest : List Entry) (entry : Entry) (ms : List Macro) (place size count : ℕ) → formal_offsets ≡ table_offsets ms → Taken from ahead entries rest entry ms place size count → place < length ms → remove_range formal_offsets (entry.formal_offsets - ahead) (entry.formal_offsets - ahead + count) ≡ table_offsets (remove ms place)
@@ -481,9 +407,7 @@ taken_offsets {ahead = ahead} formal_offsets entries rest entry ms place size co
     let ys : List Macro = drop (place + 1) ms in
     let whole : formal_offsets ≡ table_offsets xs ++ (macro_offsets m ++ table_offsets ys) =
     d ∙ (ap table_offsets (split_at ms place h) ∙ (table_offsets-append xs (m ∷ ys) ∙ ap (λ (x : List ℕ). table_offsets xs ++ x) (table_offsets-cons m ys))) in
-    ap (λ (x : List ℕ). remove_range x (entry.formal_offsets - ahead) (entry.formal_offsets - ahead + count)) whole
-    ∙ (cut_middle (table_offsets xs) (macro_offsets m) (table_offsets ys) _ _ (omega (arith, t.offsets_from)) (omega (arith, t.offsets_are))
-    ∙ (sym (table_offsets-append xs ys) ∙ ap (λ (k : ℕ). table_offsets (xs ++ drop k ms)) (add-one place)))
+    grind (arith, table_offsets-append, cut_middle, add-one)
 
 -- the offsets of an entry lie among those of all
 pub offsets_within : {from ahead : ℕ} (entries rest : List Entry) (entry : Entry) (ms : List Macro) (place size formal_offsets : ℕ) → Taken from ahead entries rest entry ms place size formal_offsets → place < length ms → entry.formal_offsets - ahead + formal_offsets ≤ length (table_offsets ms)

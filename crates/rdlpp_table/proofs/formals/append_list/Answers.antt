@@ -14,10 +14,7 @@ append_formal-requires-clause-room c =
     omega (arith, append_room _ _ _ _ c.loop-following.invariant.appended c.requires.listed, c.requires.room, c.loop-following.invariant.room, count_items c.loop-following.to, count_items c.args.to.now)
 
 pub loop-following-preserved : goal.loop-following-preserved
-loop-following-preserved c = record {
-  appended = append_next _ _ _ _ _ _ c.loop-following.invariant.appended c.requires.listed c.in-Some.ensures.items c.in-Some.ensures.following;
-  room = omega (arith, c.loop-following.invariant.room, c.in-Some.ensures.capacity);
-}
+loop-following-preserved c = grind (arith, append_next)
 
 pub returns-clause-items : goal.returns-clause-items
 returns-clause-items c = append_end _ _ _ _ _ c.loop-following.invariant.appended c.requires.listed c.in_default.ensures.items c.in_default.ensures.following

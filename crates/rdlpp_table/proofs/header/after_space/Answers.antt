@@ -7,10 +7,7 @@ returns-then-not-is_space-clause-value c =
     sym (point_space _ _ _ c.in-Some.ensures.0 (sym c.is_space.ensures ∙ c.if-not-is_space.true)) ∙ c.loop-b.invariant.same
 
 pub loop-b-preserved : goal.loop-b-preserved
-loop-b-preserved c = record {
-  same = skip_space _ _ _ c.in-Some.ensures.0 (sym c.is_space.ensures ∙ c.if-not-is_space.false) ∙ c.loop-b.invariant.same;
-  inside = omega (arith, c.in-Some.ensures.1, c.loop-b.invariant.inside);
-}
+loop-b-preserved c = grind (arith, skip_space)
 
 pub returns-clause-value : goal.returns-clause-value
 returns-clause-value c = sym (none_space _ c.in_default.ensures) ∙ c.loop-b.invariant.same

@@ -1,5 +1,4 @@
-use Rattle.std.proofs.Common.{◌≤◌, ◌∙◌, length, ap, arith, rules}
-use Rattle.rdlpp_table.specs.Table.{Formal}
+use Rattle.std.proofs.Common.{arith}
 use Rattle.rdlpp_table.proofs.FormalOffsets.{alone_is, alone_whole, count_offsets, end_inside, end_ordered, sliced}
 use Rattle.rdlpp_table.proofs.offsets.default_by_offsets.Goals as goal
 
@@ -13,19 +12,13 @@ pub slice_bounds-default_in-count : goal.slice_bounds-default_in-count
 slice_bounds-default_in-count c = omega (arith, end_ordered _ _ _ c.args.place c.requires.listed c.requires.marked c.requires.place, c.end_by_offsets.ensures, c.offset_at-start.ensures)
 
 pub slice_bounds-default_in-start : goal.slice_bounds-default_in-start
-slice_bounds-default_in-start c =
-    let h : c.offset_at-start.result ≤ c.end_by_offsets.result = omega (arith, end_ordered _ _ _ c.args.place c.requires.listed c.requires.marked c.requires.place, c.end_by_offsets.ensures, c.offset_at-start.ensures) in
-    search rules
+slice_bounds-default_in-start c = grind (arith, end_ordered)
 
 pub slice_bounds-default_in-end : goal.slice_bounds-default_in-end
-slice_bounds-default_in-end c =
-    let h : c.end_by_offsets.result ≤ length c.args.list.now = omega (arith, end_inside _ _ _ c.args.place c.requires.listed c.requires.marked c.requires.place, c.end_by_offsets.ensures) in
-    search rules
+slice_bounds-default_in-end c = grind (arith, end_inside)
 
 pub default_in-requires : goal.default_in-requires
-default_in-requires c =
-    alone_whole _ _ _ _ c.args.place c.requires.listed c.requires.marked c.requires.place (sliced c.args.list.now _ _ _ _ c.offset_at-start.ensures c.end_by_offsets.ensures)
+default_in-requires c = grind (arith, alone_whole, sliced)
 
 pub returns : goal.returns
-returns c =
-    c.default_in.ensures ∙ ap (λ (f : Formal). f.text) (alone_is _ _ _ _ c.args.place c.requires.listed c.requires.marked c.requires.place (sliced c.args.list.now _ _ _ _ c.offset_at-start.ensures c.end_by_offsets.ensures))
+returns c = grind (arith, alone_is, sliced)

@@ -1,4 +1,4 @@
-use Rattle.std.proofs.Common.{◌≤◌, ◌∙◌, List, ℕ, bytes_eq, length, drop, ap, sym, arith, rules, refl, flat_map}
+use Rattle.std.proofs.Common.{◌∙◌, List, ℕ, bytes_eq, drop, ap, sym, arith, refl, flat_map}
 use Rattle.std.proofs.lemmas.List.{take_rest}
 use Rattle.rdlpp_table.specs.Table.{formal_bytes}
 use Rattle.rdlpp_table.specs.Store.{formal_read, formals_read}
@@ -15,9 +15,7 @@ pub slice_bounds-is_named-count : goal.slice_bounds-is_named-count
 slice_bounds-is_named-count c = omega (arith, c.offset_at.ensures, offset_inside _ _ _ c.loop-place.place c.requires.listed c.requires.marked (omega arith))
 
 pub slice_bounds-is_named-start : goal.slice_bounds-is_named-start
-slice_bounds-is_named-start c =
-    let h : c.offset_at.result ≤ length c.args.list.now = omega (arith, c.offset_at.ensures, offset_inside _ _ _ c.loop-place.place c.requires.listed c.requires.marked (omega arith)) in
-    search rules
+slice_bounds-is_named-start c = grind (arith, offset_inside)
 
 pub returns-then-is_named : goal.returns-then-is_named
 returns-then-is_named c =

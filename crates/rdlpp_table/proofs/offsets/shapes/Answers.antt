@@ -1,4 +1,4 @@
-use Rattle.std.proofs.Common.{◌≤◌, ◌-◌, ◌+◌, ◌∙◌, List, ℕ, false, length, drop, replicate, set, true, ap, sym, arith, rules, refl, flat_map, length-set}
+use Rattle.std.proofs.Common.{◌-◌, ◌+◌, ◌∙◌, List, ℕ, false, drop, replicate, set, true, ap, sym, arith, refl, flat_map, length-set}
 use Rattle.std.proofs.lemmas.List.{take_rest}
 use Rattle.rdlpp_table.specs.Shapes.{shapes_of}
 use Rattle.rdlpp_table.specs.Table.{formal_bytes}
@@ -16,9 +16,7 @@ pub slice_bounds-formal_name-count : goal.slice_bounds-formal_name-count
 slice_bounds-formal_name-count c = omega (arith, c.offset_at.ensures, offset_inside _ _ _ c.loop-place.place c.requires (sym c.has_offsets.ensures ∙ c.if-has_offsets.true) (omega arith))
 
 pub slice_bounds-formal_name-start : goal.slice_bounds-formal_name-start
-slice_bounds-formal_name-start c =
-    let h : c.offset_at.result ≤ length c.args.formals.now.list.now = omega (arith, c.offset_at.ensures, offset_inside _ _ _ c.loop-place.place c.requires (sym c.has_offsets.ensures ∙ c.if-has_offsets.true) (omega arith)) in
-    search rules
+slice_bounds-formal_name-start c = grind (arith, offset_inside)
 
 pub loop-place-preserved : goal.loop-place-preserved
 loop-place-preserved c =
@@ -35,15 +33,7 @@ loop-place-preserved c =
     )
 
 pub loop-preserved : goal.loop-preserved
-loop-preserved c =
-    let count = c.args.formals.now.count in
-    let i = c.loop.counter in
-    let following = c.after_formal-rest.result.now in (
-      length-set c.loop.told c.shape-in-loop.result true ∙ c.loop.invariant.0,
-      c.loop.invariant.1
-          ∙ told_more c.loop.rest.now count i c.loop.told c.formal_name-name-in-loop.result.now following (omega arith) c.formal_name-name-in-loop.ensures.name c.after_formal-rest.ensures
-          ∙ ap (λ (k : ℕ). shapes_of (formals_read (count - (i + 1)) following) (set c.loop.told k true)) (sym c.shape-in-loop.ensures.value),
-    )
+loop-preserved c = grind (arith, length-set, told_more)
 
 pub returns-after-loop-place : goal.returns-after-loop-place
 returns-after-loop-place c = sym (c.loop-place.invariant.1 ∙ told_none _ c.args.formals.now.count c.loop-place.place c.loop-place.told (omega arith))

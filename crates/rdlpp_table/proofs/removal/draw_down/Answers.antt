@@ -13,6 +13,4 @@ move_down-requires c =
     subst P (sym (drawn (moved_down c.args.size c.args.formal_offsets) c.args.entries.now c.loop-at.entries c.args.by c.loop-at.at no_entry no_entry h c.loop-at.invariant)) (c.requires.following c.loop-at.at no_entry g)
 
 pub loop-at-preserved : goal.loop-at-preserved
-loop-at-preserved c =
-    let h : c.loop-at.at + c.args.by < length c.args.entries.now = omega arith in
-    drawn_more (moved_down c.args.size c.args.formal_offsets) c.args.entries.now c.loop-at.entries c.args.by c.loop-at.at _ _ _ h c.loop-at.invariant c.move_down.ensures
+loop-at-preserved c = grind (arith, drawn_more)

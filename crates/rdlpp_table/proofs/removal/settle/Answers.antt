@@ -1,15 +1,12 @@
-use Rattle.std.proofs.Common.{◌≤◌, length, drop, sym, ap, subst, List, arith}
-use Rattle.rdlpp_table.specs.declared.entry.Entry.{Entry}
-use Rattle.rdlpp_table.specs.Entries.{moved_down, AreAfter}
+use Rattle.std.proofs.Common.{◌≤◌, length, arith}
+use Rattle.rdlpp_table.specs.Entries.{moved_down}
 use Rattle.rdlpp_table.proofs.Orders.{settled_list}
 use Rattle.rdlpp_table.proofs.Sizes.{count_items}
 use Rattle.rdlpp_table.proofs.Taken.{settled_stored, stored_after}
 use Rattle.rdlpp_table.proofs.removal.settle.Goals as goal
 
 pub draw_down-requires-clause-following : goal.draw_down-requires-clause-following
-draw_down-requires-clause-following c =
-    let P : List Entry → Type 0 = λ l. AreAfter c.args.front.now.bytes c.args.front.now.formal_offsets l in
-    subst P (ap (drop c.args.front.now.entries) (sym c.as_mut_slice.ensures.value)) (stored_after _ _ _ c.requires.stored)
+draw_down-requires-clause-following c = grind (arith, stored_after)
 
 pub returns-clause-stored : goal.returns-clause-stored
 returns-clause-stored c =

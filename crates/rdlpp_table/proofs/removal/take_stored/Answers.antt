@@ -1,4 +1,4 @@
-use Rattle.std.proofs.Common.{◌<◌, ◌+◌, ◌∙◌, ◌^◌, length, drop, sym, subst, List, arith}
+use Rattle.std.proofs.Common.{◌<◌, ◌+◌, ◌∙◌, length, drop, sym, subst, List, arith}
 use Rattle.rdlpp_table.specs.declared.entry.Entry.{Entry}
 use Rattle.rdlpp_table.specs.Entries.{moved_down, AreAfter}
 use Rattle.rdlpp_table.specs.Store.{macros_in}
@@ -8,64 +8,40 @@ use Rattle.rdlpp_table.proofs.Taken.{bytes_fit, covered_stored, taken_after, tak
 use Rattle.rdlpp_table.proofs.removal.take_stored.Goals as goal
 
 pub overflow_cast-start : goal.overflow_cast-start
-overflow_cast-start c =
-    let r = taken_range c.args.bytes.now.items c.args.entries.now.items _ _ _ _ _ c.requires.stored c.requires.place c.index.ensures c.size_of_entry-size.ensures c.offsets_len-formal_offsets.ensures in
-    omega (arith, r.end, bytes_fit c.args.bytes.now)
+overflow_cast-start c = grind (arith, taken_range, bytes_fit)
 
 pub overflow_sub-before : goal.overflow_sub-before
-overflow_sub-before c =
-    let r = taken_range c.args.bytes.now.items c.args.entries.now.items _ _ _ _ _ c.requires.stored c.requires.place c.index.ensures c.size_of_entry-size.ensures c.offsets_len-formal_offsets.ensures in
-    r.start
+overflow_sub-before c = grind (arith, taken_range)
 
 pub overflow_add-before : goal.overflow_add-before
-overflow_add-before c =
-    let r = taken_range c.args.bytes.now.items c.args.entries.now.items _ _ _ _ _ c.requires.stored c.requires.place c.index.ensures c.size_of_entry-size.ensures c.offsets_len-formal_offsets.ensures in
-    omega (arith, r.end, bytes_fit c.args.bytes.now, c.requires.few, c.requires.place, c.requires.narrow, count_items c.args.bytes.now, c.args.bytes.now.ok.0)
+overflow_add-before c = grind (arith, taken_range, bytes_fit, count_items)
 
 pub overflow_add-following : goal.overflow_add-following
-overflow_add-following c =
-    let r = taken_range c.args.bytes.now.items c.args.entries.now.items _ _ _ _ _ c.requires.stored c.requires.place c.index.ensures c.size_of_entry-size.ensures c.offsets_len-formal_offsets.ensures in
-    omega (arith, r.end, bytes_fit c.args.bytes.now)
+overflow_add-following c = grind (arith, taken_range, bytes_fit)
 
 pub overflow_sub-following : goal.overflow_sub-following
-overflow_sub-following c =
-    let r = taken_range c.args.bytes.now.items c.args.entries.now.items _ _ _ _ _ c.requires.stored c.requires.place c.index.ensures c.size_of_entry-size.ensures c.offsets_len-formal_offsets.ensures in
-    omega (arith, r.end, c.len.ensures, count_items c.args.bytes.now)
+overflow_sub-following c = grind (arith, taken_range, count_items)
 
 pub cover-requires : goal.cover-requires
-cover-requires c =
-    let r = taken_range c.args.bytes.now.items c.args.entries.now.items _ _ _ _ _ c.requires.stored c.requires.place c.index.ensures c.size_of_entry-size.ensures c.offsets_len-formal_offsets.ensures in
-    (r.start, omega (arith, r.end, count_items c.args.bytes.now))
+cover-requires c = grind (arith, taken_range, count_items)
 
 pub cover_entry-requires-clause-place : goal.cover_entry-requires-clause-place
-cover_entry-requires-clause-place c =
-    let h : c.args.front.now.entries + c.args.place < length c.args.entries.now.items = omega (arith, c.requires.place, live_count c.args.front.now.entries c.args.entries.now, count_items c.args.entries.now) in
-    omega (arith, h, count_items c.args.entries.now)
+cover_entry-requires-clause-place c = grind (arith, live_count, count_items)
 
 pub cover_entry-requires-clause-low : goal.cover_entry-requires-clause-low
-cover_entry-requires-clause-low c =
-    let n : length c.args.bytes.now.items < 2 ^ 32 = omega (arith, c.requires.narrow, c.args.bytes.now.ok.0, count_items c.args.bytes.now) in
-    taken_low c.args.bytes.now.items c.args.entries.now.items _ _ _ _ _ c.requires.stored c.requires.place c.index.ensures c.size_of_entry-size.ensures c.offsets_len-formal_offsets.ensures n
+cover_entry-requires-clause-low c = grind (arith, count_items, taken_low)
 
 pub overflow_add-front : goal.overflow_add-front
-overflow_add-front c =
-    let r = taken_range c.args.bytes.now.items c.args.entries.now.items _ _ _ _ _ c.requires.stored c.requires.place c.index.ensures c.size_of_entry-size.ensures c.offsets_len-formal_offsets.ensures in
-    omega (arith, r.start, r.end, bytes_fit c.args.bytes.now)
+overflow_add-front c = grind (arith, taken_range, bytes_fit)
 
 pub overflow_add-front-then-has_room-2 : goal.overflow_add-front-then-has_room-2
-overflow_add-front-then-has_room-2 c =
-    let r = taken_range c.args.bytes.now.items c.args.entries.now.items _ _ _ _ _ c.requires.stored c.requires.place c.index.ensures c.size_of_entry-size.ensures c.offsets_len-formal_offsets.ensures in
-    omega (arith, r.few, r.following, r.end, bytes_fit c.args.bytes.now)
+overflow_add-front-then-has_room-2 c = grind (arith, taken_range, bytes_fit)
 
 pub overflow_add-start : goal.overflow_add-start
-overflow_add-start c =
-    let r = taken_range c.args.bytes.now.items c.args.entries.now.items _ _ _ _ _ c.requires.stored c.requires.place c.index.ensures c.size_of_entry-size.ensures c.offsets_len-formal_offsets.ensures in
-    omega (arith, r.end, bytes_fit c.args.bytes.now)
+overflow_add-start c = grind (arith, taken_range, bytes_fit)
 
 pub cut-requires : goal.cut-requires
-cut-requires c =
-    let r = taken_range c.args.bytes.now.items c.args.entries.now.items _ _ _ _ _ c.requires.stored c.requires.place c.index.ensures c.size_of_entry-size.ensures c.offsets_len-formal_offsets.ensures in
-    (omega arith, omega (arith, r.end, count_items c.args.bytes.now))
+cut-requires c = grind (arith, taken_range, count_items)
 
 pub take_entry-requires-clause-following : goal.take_entry-requires-clause-following
 take_entry-requires-clause-following c =

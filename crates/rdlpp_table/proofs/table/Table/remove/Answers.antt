@@ -1,5 +1,6 @@
-use Rattle.std.proofs.Common.{◌∙◌, ap, arith, drop, is_some}
-use Rattle.rdlpp_table.specs.Table.{macro_named, without}
+use Rattle.std.proofs.Common.{◌∙◌, ap, arith, drop}
+use Rattle.std.proofs.lemmas.Grind.{common_steps}
+use Rattle.rdlpp_table.specs.Table.{without}
 use Rattle.rdlpp_table.specs.View.{TableView}
 use Rattle.rdlpp_table.specs.Layout.{view_of}
 use Rattle.rdlpp_table.proofs.Sizes.{count_items}
@@ -8,8 +9,7 @@ use Rattle.rdlpp_table.proofs.Indexed.{few_entries, found_named, indexed_after, 
 use Rattle.rdlpp_table.proofs.table.Table.remove.Goals as goal
 
 pub seek_named-found-requires-clause-few : goal.seek_named-found-requires-clause-few
-seek_named-found-requires-clause-few c =
-    omega (arith, few_entries _ _ _ _ c.self.invariant.held, c.self.invariant.few, count_items c.self.inside.entries)
+seek_named-found-requires-clause-few c = grind (arith, common_steps, few_entries, count_items)
 
 pub remove_named-requires-clause-stored : goal.remove_named-requires-clause-stored
 remove_named-requires-clause-stored c = c.self.invariant.held.stored
@@ -18,8 +18,7 @@ pub remove_named-requires-clause-distinct : goal.remove_named-requires-clause-di
 remove_named-requires-clause-distinct c = c.self.invariant.held.sound.distinct
 
 pub remove_named-requires-clause-few : goal.remove_named-requires-clause-few
-remove_named-requires-clause-few c =
-    omega (arith, few_entries _ _ _ _ c.self.invariant.held, c.self.invariant.few, count_items c.self.inside.entries)
+remove_named-requires-clause-few c = grind (arith, common_steps, few_entries, count_items)
 
 pub invariant_of-self : goal.invariant_of-self
 invariant_of-self c = record {
@@ -35,9 +34,7 @@ invariant_of-self c = record {
 }
 
 pub returns-clause-value : goal.returns-clause-value
-returns-clause-value c =
-    c.is_ok.ensures.value ∙ found_named _ _ _ _ c.self.invariant.indexed.index c.seek_named-found.ensures
-    ∙ ap (λ (v : TableView). is_some (macro_named v.macros c.args.name.now)) c.self.view_is
+returns-clause-value c = grind (arith, found_named)
 
 pub returns-clause-table : goal.returns-clause-table
 returns-clause-table c =

@@ -1,4 +1,5 @@
 use Rattle.std.proofs.Common.{◌≡◌, ◌≤◌, ◌+◌, ◌∷◌, ◌++◌, [], ap, sym, ◌∙◌, arith, drop, length}
+use Rattle.std.proofs.lemmas.Grind.{common_steps}
 use Rattle.rdlpp_table.specs.Table.{Macro, without, table_size, macro_size}
 use Rattle.rdlpp_table.specs.IndexView.{IndexRoom}
 use Rattle.rdlpp_table.specs.View.{TableView}
@@ -14,40 +15,22 @@ use Rattle.rdlpp_table.proofs.Indexed.{few_entries, indexed_after, marked_after}
 use Rattle.rdlpp_table.proofs.table.Table.store.Goals as goal
 
 pub usage_without-rest-requires-clause-few : goal.usage_without-rest-requires-clause-few
-usage_without-rest-requires-clause-few c =
-    omega (arith, few_entries _ _ _ _ c.self.invariant.held, c.self.invariant.few, count_items c.self.inside.entries)
+usage_without-rest-requires-clause-few c = grind (arith, common_steps, few_entries, count_items)
 
 pub overflow_sub-self-inside : goal.overflow_sub-self-inside
 overflow_sub-self-inside c = omega (arith, c.usage_without-rest.ensures.size, without_size c.args.new.now.name.now (macros_in c.self.inside.bytes.items (drop c.self.inside.front.entries c.self.inside.entries.items)), c.self.invariant.held.sound.bytes_fit)
 
 pub returns-then-self-rest-clause-outcome : goal.returns-then-self-rest-clause-outcome
-returns-then-self-rest-clause-outcome c =
-    let m : Macro = new_macro c.args.new.now.name.now c.args.new.now.arity c.args.new.now.list.now c.args.new.now.is_logical c.args.new.now.text.now in
-    let size : macro_size m ≡ length c.args.new.now.name.now + (c.args.new.now.list_len + c.args.new.now.body_len) = new_size _ _ _ _ _ _ _ c.requires.counted in
-    let same : table_size (without c.args.new.now.name.now (macros_in c.self.inside.bytes.items (drop c.self.inside.front.entries c.self.inside.entries.items))) ≡ table_size (without c.args.new.now.name.now c.args.self.now.macros) = ap (λ (v : TableView). table_size (without c.args.new.now.name.now v.macros)) c.self.view_is in
-    refused_is _ _ _ c.refusal.ensures.kind c.refusal.ensures.word
-    ∙ sym (too_large _ _ _ m (omega (arith, c.usage_without-rest.ensures.size, c.saturating_add.ensures, c.saturating_add-size.ensures, ap (λ (v : TableView). v.most_bytes) c.self.view_is)))
+returns-then-self-rest-clause-outcome c = grind (arith, new_size, refused_is, too_large)
 
 pub returns-then-self-rest-2-clause-outcome : goal.returns-then-self-rest-2-clause-outcome
-returns-then-self-rest-2-clause-outcome c =
-    let m : Macro = new_macro c.args.new.now.name.now c.args.new.now.arity c.args.new.now.list.now c.args.new.now.is_logical c.args.new.now.text.now in
-    let size : macro_size m ≡ length c.args.new.now.name.now + (c.args.new.now.list_len + c.args.new.now.body_len) = new_size _ _ _ _ _ _ _ c.requires.counted in
-    let same : table_size (without c.args.new.now.name.now (macros_in c.self.inside.bytes.items (drop c.self.inside.front.entries c.self.inside.entries.items))) ≡ table_size (without c.args.new.now.name.now c.args.self.now.macros) = ap (λ (v : TableView). table_size (without c.args.new.now.name.now v.macros)) c.self.view_is in
-    let count : length (without c.args.new.now.name.now (macros_in c.self.inside.bytes.items (drop c.self.inside.front.entries c.self.inside.entries.items))) ≡ length (without c.args.new.now.name.now c.args.self.now.macros) = ap (λ (v : TableView). length (without c.args.new.now.name.now v.macros)) c.self.view_is in
-    let small : table_size (without c.args.new.now.name.now (macros_in c.self.inside.bytes.items (drop c.self.inside.front.entries c.self.inside.entries.items))) ≤ c.self.inside.most_bytes = omega (arith, without_size c.args.new.now.name.now (macros_in c.self.inside.bytes.items (drop c.self.inside.front.entries c.self.inside.entries.items)), c.self.invariant.held.sound.bytes_fit) in
-    refused_is _ _ _ c.refusal-then-self-rest-2.ensures.kind c.refusal-then-self-rest-2.ensures.word
-    ∙ sym (too_many _ _ _ m
-    (omega (arith, c.usage_without-rest.ensures.size, c.saturating_add.ensures, c.saturating_add-size.ensures, c.self.invariant.room, capacity_small c.self.inside.bytes, ap (λ (v : TableView). v.most_bytes) c.self.view_is))
-    (omega (arith, c.usage_without-rest.ensures.count, ap (λ (v : TableView). v.most_macros) c.self.view_is)))
+returns-then-self-rest-2-clause-outcome c = grind (arith, new_size, without_size, refused_is, too_many, capacity_small)
 
 pub replace-requires-clause-few : goal.replace-requires-clause-few
-replace-requires-clause-few c =
-    omega (arith, few_entries _ _ _ _ c.self.invariant.held, c.self.invariant.few, count_items c.self.inside.entries)
+replace-requires-clause-few c = grind (arith, common_steps, few_entries, count_items)
 
 pub replace-requires-clause-room : goal.replace-requires-clause-room
-replace-requires-clause-room c =
-    let small : table_size (without c.args.new.now.name.now (macros_in c.self.inside.bytes.items (drop c.self.inside.front.entries c.self.inside.entries.items))) ≤ c.self.inside.most_bytes = omega (arith, without_size c.args.new.now.name.now (macros_in c.self.inside.bytes.items (drop c.self.inside.front.entries c.self.inside.entries.items)), c.self.invariant.held.sound.bytes_fit) in
-    omega (arith, c.usage_without-rest.ensures.size, c.saturating_add.ensures, c.saturating_add-size.ensures, c.self.invariant.room, capacity_small c.self.inside.bytes)
+replace-requires-clause-room c = grind (arith, without_size, capacity_small)
 
 pub replace-requires-clause-small : goal.replace-requires-clause-small
 replace-requires-clause-small c = omega (arith, c.usage_without-rest.ensures.size, c.saturating_add.ensures, c.saturating_add-size.ensures, c.self.invariant.small)
@@ -59,9 +42,7 @@ pub replace-requires-clause-index_room : goal.replace-requires-clause-index_room
 replace-requires-clause-index_room c = omega (arith, c.usage_without-rest.ensures.count, ap (λ (r : IndexRoom). r.places) c.self.invariant.index_room)
 
 pub replace-requires-clause-offset_room : goal.replace-requires-clause-offset_room
-replace-requires-clause-offset_room c =
-    let small : table_size (without c.args.new.now.name.now (macros_in c.self.inside.bytes.items (drop c.self.inside.front.entries c.self.inside.entries.items))) ≤ c.self.inside.most_bytes = omega (arith, without_size c.args.new.now.name.now (macros_in c.self.inside.bytes.items (drop c.self.inside.front.entries c.self.inside.entries.items)), c.self.invariant.held.sound.bytes_fit) in
-    omega (arith, c.usage_without-rest.ensures.size, c.saturating_add.ensures, c.saturating_add-size.ensures, c.self.invariant.small, ap (λ (r : IndexRoom). r.formal_offsets) c.self.invariant.index_room)
+replace-requires-clause-offset_room c = grind (arith, without_size)
 
 pub invariant_of-self : goal.invariant_of-self
 invariant_of-self c =
