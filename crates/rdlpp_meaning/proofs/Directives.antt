@@ -24,9 +24,7 @@ pub pieces_skip : (first : Bool) (k : ℕ) (ts : List SourceToken)
 unfolding pieces only_blanks
 pieces_skip first zero ts = refl
 pieces_skip first (suc k) [] = refl
-pieces_skip first (suc k) (t ∷ ts) =
-    pieces_skip (only_blanks first t.bytes) k ts
-    ∙ ap (λ (f : Bool). pieces f 0 (drop k ts)) (sym (only_blanks-append first t.bytes (bytes_of (take k ts))))
+pieces_skip first (suc k) (t ∷ ts) = grind (arith, only_blanks-append, (pieces_skip (only_blanks first t.bytes) k ts))
 
 -- what holds of nothing, of a name and of a string in front, and of what blanks stand before, holds of what a directive is given
 module _ (P : List SourceToken → Argument → Type 0) (none : (ts : List SourceToken) → P ts no_argument)
@@ -108,15 +106,7 @@ pub pieces_directive : (d : Directive) (first : Bool) (t : SourceToken) (ts : Li
     ≡ piece_of (command_in_front d first t ts)
     ∷ pieces (only_blanks first (command_in_front d first t ts).text) 0 (after_directive d ts)
 unfolding pieces command_of
-pieces_directive d first t ts e =
-    let a = argument_of d ts in
-    let c = command_in_front d first t ts in
-    rw (e, pieces)
-    (ap (λ (ps : List Piece). piece_of c ∷ ps)
-    (pieces_skip (only_blanks first t.bytes) a.used ts
-    ∙ ap (λ (f : Bool). pieces f 0 (drop a.used ts))
-    (sym (only_blanks-append first t.bytes (bytes_of (take a.used ts)))
-    ∙ ap (λ (x : List ℕ). only_blanks first (t.bytes ++ x)) (argument_takes d ts))))
+pieces_directive d first t ts e = grind (arith, pieces_skip, only_blanks-append, argument_takes)
 
 -- what remains where a directive stands in front that is a piece
 pub directive_piece : (rules : Rules) (place : Place) (d : Directive) (first : Bool) (t : SourceToken) (ts : List SourceToken) (s : State) (p : Piece)
@@ -124,9 +114,7 @@ pub directive_piece : (rules : Rules) (place : Place) (d : Directive) (first : B
     → resumed rules place first (t ∷ ts) s
     ≡ resume rules (included_meaning_of rules s.sources_left) place (p ∷ pieces (only_blanks first (command_in_front d first t ts).text) 0 (after_directive d ts)) s
 unfolding resumed
-directive_piece rules place d first t ts s p e is =
-    let rest = pieces (only_blanks first (command_in_front d first t ts).text) 0 (after_directive d ts) in
-    ap (λ (ps : List Piece). resume rules (included_meaning_of rules s.sources_left) place ps s) (pieces_directive d first t ts e ∙ ap (λ (x : Piece). x ∷ rest) is)
+directive_piece rules place d first t ts s p e is = grind (arith, pieces_directive)
 
 -- What a directive takes where blanks and a name stand behind its word.
 
@@ -233,18 +221,14 @@ pub all_resumed_after : (rules : Rules) (ws : List Waiting) (place new : Place) 
     → resumed rules place first ts s ≡ after_bytes x (resumed rules new then_first us t)
     → all_resumed rules ws place first ts s ≡ after_bytes x (all_resumed rules ws new then_first us t)
 unfolding all_resumed
-all_resumed_after rules ws place new first then_first ts us s t x e =
-    ap (λ (p : Passage). goes_on p (λ after. unwound rules ws after)) e
-    ∙ after_bytes-goes_on x (resumed rules new then_first us t) (λ after. unwound rules ws after)
+all_resumed_after rules ws place new first then_first ts us s t x e = grind (arith, after_bytes-goes_on)
 
 -- a fault of the innermost source ends the nest
 pub all_resumed_fails : (rules : Rules) (ws : List Waiting) (place : Place) (first : Bool) (ts : List SourceToken) (s t : State) (f : Report)
     → resumed rules place first ts s ≡ leaves (fails f) t
     → all_resumed rules ws place first ts s ≡ leaves (fails f) t
 unfolding all_resumed
-all_resumed_fails rules ws place first ts s t f e =
-    ap (λ (p : Passage). goes_on p (λ after. unwound rules ws after)) e
-    ∙ fails-goes_on f t (λ after. unwound rules ws after)
+all_resumed_fails rules ws place first ts s t f e = grind (arith, fails-goes_on)
 
 -- Conditionals in a nest of open sources: what the words `ifdef`, `ifndef`, `elsif`, `else` and `endif` do in live text and in
 -- skipped text that they end, and the end of a source in an open conditional, where any sources wait.

@@ -2,6 +2,7 @@
 use Rattle.std.proofs.Common.{◌≡◌, ◌≤◌, ◌<◌, ℕ, ◌+◌, Bool, true, false, List, [], ◌∷◌, ◌++◌, length, take, drop, refl, sym, ap, ◌∙◌, subst, arith, ◌-◌, map, All, Option, None, Some, not, cond, filter, append_assoc, take-add, drop-drop, length-append, length-drop, length-take, take-take}
 use Rattle.std.specs.List.{AllByRecursion, concat}
 use Rattle.std.proofs.lemmas.Bool.{false≢true}
+use Rattle.std.proofs.lemmas.Grind.{common_steps}
 use Rattle.std.proofs.lemmas.List.{drop-take}
 use Rattle.std.proofs.lemmas.List.Elements.{All-append, All-cons, All-head, All-map, All-nil, All-tail, All-weaker, filter_passes, recursion_from_All}
 use Rattle.rdlpp_scan.specs.CleanTexts.{IsCleanText, IsCleanToken}
@@ -12,7 +13,7 @@ use Rattle.rdlpp_scan.specs.SourceTokens.{Broken, Course, Definition, Last, Next
 use Rattle.rdlpp_scan.specs.TokenKinds.{is_one_byte, is_ordinary, opens_mode}
 use Rattle.rdlpp_scan.specs.Tokens.{token_of, tokens_from}
 use Rattle.rdlpp_scan.specs.declared.token.Kind.{Kind}
-use Rattle.rdlpp_scan.specs.declared.token.Kind.TheVariants.{Blank, BlockComment, Closer, Comma, LineComment, LineEnd, Opener, Str}
+use Rattle.rdlpp_scan.specs.declared.token.Kind.TheVariants.{BlockComment, Closer, Comma, LineComment, Opener, Str}
 use Rattle.rdlpp_scan.specs.declared.token.Mode.{Mode}
 use Rattle.rdlpp_scan.specs.declared.token.Mode.TheVariants.{InBlock, InStr, Plain}
 use Rattle.rdlpp_scan.specs.declared.token.Token.{Token}
@@ -150,12 +151,6 @@ closed_role : (k : Kind) (bytes : List ℕ) → closes_text (kind_role k bytes) 
 unfolding closes_text kind_role opens_mode
 closed_role Str bytes e = absurd (false≢true e)
 closed_role BlockComment bytes e = absurd (false≢true e)
-closed_role Opener bytes e = refl
-closed_role Closer bytes e = refl
-closed_role Blank bytes e = refl
-closed_role LineEnd bytes e = refl
-closed_role LineComment bytes e = refl
-closed_role Comma bytes e = refl
 closed_role k bytes e = refl
 
 -- what is behind such a first token begins in plain text
@@ -300,23 +295,7 @@ row_first : (c : Course) (m : Mode) (bs : List ℕ) (u : SourceToken) (us rest :
     → IsSourceRow c Plain (drop (length u.bytes) bs) us rest → IsSourceRow c m bs (u ∷ us) rest
 unfolding mode_after_row
 row_first c m bs u us rest some f r =
-    let size : length u.bytes ≡ (token_of m bs).len = own_size m bs u some f in
-    record {
-      others = r.others;
-      row =
-          text_step m bs some
-          ∙ ap (λ (mode : Mode). first_spelled m bs ∷ text_tokens mode (drop (token_of m bs).len bs)) f.mode
-          ∙ ap (λ (n : ℕ). first_spelled m bs ∷ text_tokens Plain (drop n bs)) (sym size)
-          ∙ ap (λ (ts : List SourceToken). first_spelled m bs ∷ ts) r.row
-          ∙ ap (λ (t : SourceToken). t ∷ map unlined us ++ r.others) (unlined_is m bs u f);
-      opened = r.opened;
-      line = r.line;
-      following =
-          ap (λ (n : ℕ). source_tokens c Plain r.opened r.line 0 (drop n bs)) (length-append u.bytes (bytes_of us))
-          ∙ ap (λ (x : List ℕ). source_tokens c Plain r.opened r.line 0 x) (sym (drop-drop (length (bytes_of us)) (length u.bytes) bs))
-          ∙ ap (λ (mode : Mode). source_tokens c mode r.opened r.line 0 (drop (length (bytes_of us)) (drop (length u.bytes) bs))) (sym (mode_after_plain us))
-          ∙ r.following;
-    }
+    grind (arith, common_steps, own_size, text_step, unlined_is, length-append, drop-drop, mode_after_plain)
 
 -- a row by its first step
 row_by : (c : Course) (m : Mode) (opened line b : ℕ) (bs : List ℕ) (u : SourceToken) (us rest : List SourceToken) (s : Step)

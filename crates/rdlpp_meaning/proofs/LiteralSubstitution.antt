@@ -1,8 +1,8 @@
 -- The tokens of a body have its bytes, and substitution without its marks is literal.
-use Rattle.std.proofs.Common.{◌≡◌, ℕ, zero, suc, ◌+◌, ◌-◌, ◌<◌, Bool, true, false, List, [], ◌∷◌, ◌++◌, length, take, drop, refl, sym, ap, ◌∙◌, arith, map, Option, None, Some, flat_map, option_map, if◌then◌else◌, nat_lt, not, slice_index, unwrap_or, ◌==◌, ltb-false, take-append-drop}
+use Rattle.std.proofs.Common.{◌≡◌, ℕ, zero, suc, ◌+◌, ◌-◌, ◌<◌, Bool, true, false, List, [], ◌∷◌, ◌++◌, length, drop, refl, ap, ◌∙◌, arith, map, Option, None, Some, flat_map, option_map, if◌then◌else◌, nat_lt, not, slice_index, unwrap_or, ◌==◌, ltb-false, take-append-drop}
 use Rattle.std.specs.List.{prefix_len}
 use Rattle.rdlpp_scan.specs.Bytes.{begins_perl, ends_block_comment, is_line_end}
-use Rattle.rdlpp_scan.specs.SourceTokens.{Broken, Definition, Ordinary, Renumbering, Sort, SourceToken}
+use Rattle.rdlpp_scan.specs.SourceTokens.{Ordinary, Sort, SourceToken}
 use Rattle.rdlpp_scan.specs.Tokens.{block_token, first_place, plain_token, string_stop, string_token, token_of, tokens_from, whole}
 use Rattle.rdlpp_scan.specs.declared.token.Kind.{Kind}
 use Rattle.rdlpp_scan.specs.declared.token.Kind.TheVariants.{BlockComment, Name, Perl, Str}
@@ -113,9 +113,7 @@ covered mode zero (b ∷ bs) =
     let t = token_of mode (b ∷ bs) in
     let e = drop_after t.len b bs (token_has mode b bs) in
     let rest = tokens_from t.next_mode (t.len - 1) bs in
-    ap (λ (r : List ℕ). take t.len (b ∷ bs) ++ bytes_of (spelled rest r)) e
-    ∙ ap (λ (r : List ℕ). take t.len (b ∷ bs) ++ r) (covered t.next_mode (t.len - 1) bs ∙ sym e)
-    ∙ take-append-drop t.len (b ∷ bs)
+    grind (arith, take-append-drop, (covered t.next_mode (t.len - 1) bs))
 covered mode _ _ = refl
 
 -- the tokens of a body have its bytes
@@ -171,10 +169,7 @@ token_erased_by : (macro : List ℕ) (formals : List Formal) (actuals : List (Li
     ≡ in_place formals (formals_bytes formals actuals) (record { sort = sort; bytes = bytes; line = line })
 unfolding marked in_place erased
 token_erased_by macro formals actuals o (Ordinary Name) bytes line = grind (arith, name-bytes, bytes-bound)
-token_erased_by macro formals actuals o (Ordinary k) bytes line = refl
-token_erased_by macro formals actuals o Definition bytes line = refl
-token_erased_by macro formals actuals o Renumbering bytes line = refl
-token_erased_by macro formals actuals o (Broken b) bytes line = refl
+token_erased_by macro formals actuals o sort bytes line = refl
 
 -- the bytes of the tokens of a body
 tokens_erased : (macro : List ℕ) (formals : List Formal) (actuals : List (List Item)) (o : List (List ℕ)) (ts : List SourceToken)

@@ -51,14 +51,7 @@ includes_entered : (rules : Rules) (path text : List ℕ) (c : Command) (s : Sta
     (λ after. after_bytes (added_end text ++ origin_line rules s.name (shown_line s.shift c.line)) (next (back_in s after))))
 unfolding includes
 includes_entered rules path text c s n next left =
-    let own = resumed rules (Live []) true (rules.tokens text) (at_start_of path s) in
-    let ending = added_end text ++ origin_line rules s.name (shown_line s.shift c.line) in
-    let back : State → Passage = λ after. leaves (gives ending) (back_in s after) in
-    ap (λ (p : Passage). goes_on (after_bytes (origin_line rules path 1) (goes_on p back)) next) (included_resumed rules path text s n left)
-    ∙ after_bytes-goes_on (origin_line rules path 1) (goes_on own back) next
-    ∙ ap (after_bytes (origin_line rules path 1))
-    (goes_on-assoc own back next
-    ∙ goes_on-same own (λ after. goes_on (back after) next) (λ after. after_bytes ending (next (back_in s after))) (λ after. goes_on-gives ending (back_in s after) next))
+    grind (arith, included_resumed, after_bytes-goes_on, goes_on-assoc, goes_on-same, goes_on-gives)
 
 -- the directives that stand by themselves, in live text
 module _ (rules : Rules) (c : Command) (os : List Progress) (rest : List Piece) (s : State) where
@@ -122,19 +115,13 @@ piece_moves rules Line given text line first (Live os) rest s = renumbers_moves 
 piece_moves rules Include given text line first (Live os) rest s = includes_moves rules _ os rest s given
 piece_moves rules Ifdef given text line first (Live os) rest s = by_tests rules (opening _ s) _ s _ _ _ (after_pieces rules rest) refl refl
 piece_moves rules Ifndef given text line first (Live os) rest s = by_tests rules (opening _ s) _ s _ _ _ (after_pieces rules rest) refl refl
-piece_moves rules Elsif given text line first (Live []) rest s = refl
 piece_moves rules Elsif given text line first (Live (o ∷ os)) rest s = by_tests rules (turn o _ s) _ s _ _ _ (after_pieces rules rest) refl refl
-piece_moves rules Else given text line first (Live []) rest s = refl
 piece_moves rules Else given text line first (Live (o ∷ os)) rest s = by_tests rules (turn o _ s) _ s _ _ _ (after_pieces rules rest) refl refl
-piece_moves rules Endif given text line first (Live []) rest s = refl
-piece_moves rules Endif given text line first (Live (o ∷ os)) rest s = refl
 piece_moves rules Elsif given text line first (Skipped zero o os) rest s = by_tests rules (turn o _ s) _ s _ _ _ (after_pieces rules rest) refl refl
 piece_moves rules Else given text line first (Skipped zero o os) rest s = by_tests rules (turn o _ s) _ s _ _ _ (after_pieces rules rest) refl refl
+piece_moves rules Endif given text line first (Live []) rest s = refl
 piece_moves rules Endif given text line first (Skipped zero o os) rest s = refl
-piece_moves rules Elsif given text line first (Skipped (suc n) o os) rest s = refl
-piece_moves rules Else given text line first (Skipped (suc n) o os) rest s = refl
-piece_moves rules Endif given text line first (Skipped (suc n) o os) rest s = refl
-piece_moves rules d given text line first (Skipped n o os) rest s = refl
+piece_moves rules d given text line first place rest s = refl
 
 -- what a source comes to, it comes to where others wait for it
 pub source_moves : (rules : Rules) (ws : List Waiting) (place : Place) (first : Bool) (ts : List SourceToken) (then_first : Bool) (us : List SourceToken) (s : State) (line : ℕ) (m : Move)
@@ -144,16 +131,7 @@ unfolding moves_on all_resumed unwound waiting
 source_moves rules ws place first ts then_first us s line (Stops kind word) e = all_resumed_fails rules ws place first ts s s (fault_at kind line word s) e
 source_moves rules ws place first ts then_first us s line (Moves bytes new t) e = all_resumed_after rules ws place new first then_first ts us s t bytes e
 source_moves rules ws place first ts then_first us s line (Enters bytes os path text) e =
-    let own = resumed rules (Live []) true (rules.tokens text) (at_start_of path s) in
-    let w = waiting rules os then_first us line s text in
-    let inner : State → Passage = λ after. resumed rules (Live os) then_first us (back_in s after) in
-    let next : State → Passage = λ after. after_bytes w.ending (inner after) in
-    let further : State → Passage = λ after. unwound rules ws after in
-    ap (λ (p : Passage). goes_on p further) e
-    ∙ after_bytes-goes_on bytes (goes_on own next) further
-    ∙ ap (after_bytes bytes)
-    (goes_on-assoc own next further
-    ∙ goes_on-same own (λ after. goes_on (next after) further) (λ after. unwound rules (w ∷ ws) after) (λ after. after_bytes-goes_on w.ending (inner after) further))
+    grind (arith, after_bytes-goes_on, goes_on-assoc, goes_on-same)
 
 -- what remains of a source, and then of those that wait, at a directive in front of its tokens is what it comes to, and then what remains behind it
 pub directive_moves : (rules : Rules) (ws : List Waiting) (place : Place) (d : Directive) (first : Bool) (t : SourceToken) (ts : List SourceToken) (s : State) → directive_of t ≡ Some d

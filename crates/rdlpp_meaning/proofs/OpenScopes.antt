@@ -2,6 +2,7 @@
 use Rattle.std.proofs.Common.{◌≡◌, ℕ, suc, ◌≤◌, Bool, true, false, List, ◌∷◌, length, refl, ap, arith, eq-eqb, zero, ◌+◌, ◌-◌, ◌<◌, cond, not, ◌&&◌, [], take, drop, sym, ◌∙◌, Option, None, Some, true≢false, map, subst, option_map, bytes_eq, if◌then◌else◌, nat_lt, slice_index_or, slice_range, ◌==◌, eqb-true, le-ltb, lt-ltb, ltb-false, ltb-true, drop-drop, length-drop, length-take}
 use Rattle.std.specs.List.{AllByRecursion, prefix_len}
 use Rattle.std.proofs.Math.Seq.{take-length}
+use Rattle.std.proofs.lemmas.Grind.{common_steps}
 use Rattle.std.proofs.lemmas.List.{drop-take, get_or-map, length-map}
 use Rattle.rdlpp_scan.specs.SourceTokens.{Ordinary, SourceToken}
 use Rattle.rdlpp_scan.specs.Tokens.{token_of}
@@ -138,12 +139,7 @@ part-empty text part e = ap (λ (n : ℕ). text_tokens part.mode (take n (drop p
 -- a part of all of a text has its tokens
 pub part-whole : (text : List ℕ) → part_tokens text (record { from = 0; end = length text; mode = Plain }) ≡ body_tokens text
 unfolding part_tokens
-part-whole text =
-    ap (λ (bytes : List ℕ). text_tokens Plain bytes) (ap (λ (n : ℕ). take n text) (same (length text)) ∙ take-length text)
-    ∙ sym (body_text text)
-  where
-    same : (n : ℕ) → n - 0 ≡ n
-    same n = omega arith
+part-whole text = grind (arith, common_steps, take-length, body_text)
 
 -- the open text that a formal stands for, by whether its part has no bytes and whether it has no default
 unfoldable pub standing_by : Bool → Bool → List Formal → ℕ → ℕ → ℕ → List Part → ℕ → Open

@@ -1,7 +1,7 @@
 -- The steps of open texts, and those at a usage.
 use Rattle.std.proofs.Common.{◌≡◌, ℕ, suc, ◌-◌, ◌<◌, ◌≤◌, Bool, true, false, List, [], ◌∷◌, map, length, drop, refl, sym, ap, subst, ◌∙◌, arith, Option, Some, None, if◌then◌else◌, slice_range, length-take}
 use Rattle.std.proofs.lemmas.List.{drop-map}
-use Rattle.rdlpp_scan.specs.SourceTokens.{Broken, Definition, Ordinary, Renumbering, Sort, SourceToken}
+use Rattle.rdlpp_scan.specs.SourceTokens.{Ordinary, Sort, SourceToken}
 use Rattle.rdlpp_scan.specs.Tokens.{token_of}
 use Rattle.rdlpp_scan.specs.declared.token.Kind.{Kind}
 use Rattle.rdlpp_scan.specs.declared.token.Kind.TheVariants.{Back, BareBackquote, Name}
@@ -331,10 +331,7 @@ marked-role : (macro : List ℕ) (formals : List Formal) (actuals : List (List I
     → item_role (marked macro formals actuals o (record { sort = sort; bytes = bytes; line = line })) ≡ token_role (record { sort = sort; bytes = bytes; line = line })
 unfolding item_role marked
 marked-role macro formals actuals o (Ordinary Name) bytes line = name-role macro o bytes line (bound_to formals actuals bytes)
-marked-role macro formals actuals o (Ordinary k) bytes line = refl
-marked-role macro formals actuals o Definition bytes line = refl
-marked-role macro formals actuals o Renumbering bytes line = refl
-marked-role macro formals actuals o (Broken b) bytes line = refl
+marked-role macro formals actuals o sort bytes line = refl
 
 -- a token of a scope of its own has its role as an item
 own-role : (texts : Texts) (kind : OpenKind) (text : List ℕ) (item : SourceToken → Item) (o : List (List ℕ)) (t : SourceToken)
@@ -368,10 +365,7 @@ marked-unlined : (macro : List ℕ) (formals : List Formal) (actuals : List (Lis
 unfolding unlined_item unlined marked
 marked-unlined macro formals actuals o (Ordinary Name) bytes line =
     name-unlined macro o (record { sort = Ordinary Name; bytes = bytes; line = line }) (bound_to formals actuals bytes)
-marked-unlined macro formals actuals o (Ordinary k) bytes line = refl
-marked-unlined macro formals actuals o Definition bytes line = refl
-marked-unlined macro formals actuals o Renumbering bytes line = refl
-marked-unlined macro formals actuals o (Broken b) bytes line = refl
+marked-unlined macro formals actuals o sort bytes line = refl
 
 -- a token of a scope of its own without its line
 own-unlined : (texts : Texts) (kind : OpenKind) (text : List ℕ) (item : SourceToken → Item) (o : List (List ℕ)) (t : SourceToken)

@@ -253,14 +253,8 @@ reading_front : (t : SourceToken) (ts : List SourceToken) (at : Turn) (s : Scann
     → read_by at t ts (reading_of ts s) ≡ reading_of (t ∷ ts) (scanned at t s)
 unfolding read_by reading_of scanned scan_onto onto_kept
 reading_front t ts Passes (ScanFault f) = refl
-reading_front t ts Passes (ScanBreakFault f line) = refl
-reading_front t ts Passes (Closed kept used) = refl
 reading_front t ts Keeps (ScanFault f) = refl
-reading_front t ts Keeps (ScanBreakFault f line) = refl
-reading_front t ts Keeps (Closed kept used) = refl
-reading_front t ts Closes s = refl
-reading_front t ts (TurnFault f) s = refl
-reading_front t ts (Breaks f line) s = refl
+reading_front t ts at s = refl
 
 -- reading whole tokens is their scan
 pub read_is_scan : (ts : List SourceToken) (at : CallState) (room : ℕ) → read at false room ts ≡ reading_of ts (scan source_role kept at room ts)
@@ -269,8 +263,7 @@ read_is_scan [] at room = refl
 read_is_scan (t ∷ ts) at room =
     let r = source_role t in
     let fits = nat_le (length t.bytes) room in
-    ap (read_by (turn at r fits) t ts) (read_is_scan ts (call_state_after at r) (room_after at room r (length t.bytes)))
-    ∙ reading_front t ts (turn at r fits) (scan source_role kept (call_state_after at r) (room_after at room r (length t.bytes)) ts)
+    grind (arith, reading_front, (read_is_scan ts (call_state_after at r) (room_after at room r (length t.bytes))))
 
 -- two parts fit together where the first does, and the second what is left
 fits_in_parts : (x y room : ℕ) → nat_le (x + y) room ≡ (nat_le x room && nat_le y (room - x))

@@ -1,9 +1,10 @@
 -- Laws of a usage in a source: with its call, by things, by tokens, and without lines.
-use Rattle.std.proofs.Common.{◌≡◌, ℕ, zero, suc, ◌≤◌, Bool, false, List, [], ◌∷◌, length, map, take, drop, refl, sym, ap, ◌∙◌, arith, Option, None, ◌++◌, reverse, true, Some, cond, filter, if◌then◌else◌, nat_le, ◌==◌}
+use Rattle.std.proofs.Common.{◌≡◌, ℕ, zero, suc, ◌≤◌, Bool, false, List, [], ◌∷◌, length, map, take, drop, refl, sym, ap, ◌∙◌, arith, Option, None, ◌++◌, reverse, true, Some, filter, if◌then◌else◌, ◌==◌}
 use Rattle.std.specs.List.{list_any, prefix_len}
+use Rattle.std.proofs.lemmas.Grind.{common_steps}
 use Rattle.std.proofs.lemmas.List.{drop-map, length-map, map-append, reverse-append}
 use Rattle.rdlpp_scan.specs.Reserved.{is_reserved}
-use Rattle.rdlpp_scan.specs.SourceTokens.{Broken, Definition, Ordinary, Renumbering, Sort, SourceToken}
+use Rattle.rdlpp_scan.specs.SourceTokens.{Ordinary, Sort, SourceToken}
 use Rattle.rdlpp_scan.specs.Tokens.{tokens_from}
 use Rattle.rdlpp_scan.specs.declared.token.Directive.{Directive}
 use Rattle.rdlpp_scan.specs.declared.token.Kind.TheVariants.{Back}
@@ -11,7 +12,7 @@ use Rattle.rdlpp_scan.specs.declared.token.Mode.TheVariants.{Plain}
 use Rattle.rdlpp_scan.specs.declared.token.Token.{Token}
 use Rattle.rdlpp_table.specs.Table.{Formal, Macro, macro_named}
 use Rattle.rdlpp_meaning.specs.Actuals.{Bound, Call, Cut, Halt, Reads, Role, Text, actual_of, after_leading_space, is_space, item_reads, item_role, item_size, kept, kind_role, level_after, map_call, source_reads, text_reads, token_role, trimmed}
-use Rattle.rdlpp_meaning.specs.CallScan.{Before, Breaks, Closed, Closes, Keeps as KeepsThing, Passes, ScanFault, TurnFault as RefusesThing, Scanned, Split, CallState, ScanBreakFault, Turn, all_parts, call_of, call_of_scan, is_kept, room_after, scan, scan_onto, scanned, source_role, split, split_by, call_state_after, turn}
+use Rattle.rdlpp_meaning.specs.CallScan.{Before, Closed, Keeps as KeepsThing, Passes, ScanFault, Scanned, Split, CallState, ScanBreakFault, Turn, all_parts, call_of, call_of_scan, is_kept, room_after, scan, scan_onto, scanned, source_role, split, split_by, call_state_after}
 use Rattle.rdlpp_meaning.specs.Expansion.{Opens, UsageFault, Usage, bound_parts, bytes_of, expand, is_count, run_outcome, usage_of, usage_of_call, usage_of_formals, usage_of_macro, usage_token, walk}
 use Rattle.rdlpp_meaning.specs.Items.{Arg, Item, Written, broken_line, unlined, unlined_item}
 use Rattle.rdlpp_meaning.specs.Meaning.{Passage, Progress, goes_on, leaves}
@@ -80,14 +81,8 @@ map_scan f (Closed kept used) = Closed (map f kept) used
 scanned-map : {A B : Type 0} (f : A → B) (t : Turn) (x : A) (s : Scanned A) → scanned t (f x) (map_scan f s) ≡ map_scan f (scanned t x s)
 unfolding scanned scan_onto map_scan
 scanned-map f Passes x (ScanFault k) = refl
-scanned-map f Passes x (ScanBreakFault k line) = refl
-scanned-map f Passes x (Closed kept used) = refl
 scanned-map f KeepsThing x (ScanFault k) = refl
-scanned-map f KeepsThing x (ScanBreakFault k line) = refl
-scanned-map f KeepsThing x (Closed kept used) = refl
-scanned-map f Closes x s = refl
-scanned-map f (RefusesThing k) x s = refl
-scanned-map f (Breaks k line) x s = refl
+scanned-map f t x s = refl
 
 -- what keeps the role and the size of each thing
 pub record Keeps {A B : Type 0} (role : A → Role) (size : A → ℕ) (role' : B → Role) (size' : B → ℕ) (f : A → B) : Type 0 where
@@ -100,13 +95,7 @@ scan-map : {A B : Type 0} (role : A → Role) (size : A → ℕ) (role' : B → 
 unfolding scan map_scan
 scan-map role size role' size' f keeps at room [] = refl
 scan-map {B = B} role size role' size' f keeps at room (x ∷ xs) =
-    let by : Role → ℕ → Scanned B =
-    λ r n. scanned (turn at r (nat_le n room)) (f x) (scan role' size' (call_state_after at r) (room_after at room r n) (map f xs)) in
-    ap (λ (r : Role). by r (size' (f x))) (keeps.role_of x)
-    ∙ ap (by (role x)) (keeps.size_of x)
-    ∙ ap (scanned (turn at (role x) (nat_le (size x) room)) (f x))
-    (scan-map role size role' size' f keeps (call_state_after at (role x)) (room_after at room (role x) (size x)) xs)
-    ∙ scanned-map f (turn at (role x) (nat_le (size x) room)) x (scan role size (call_state_after at (role x)) (room_after at room (role x) (size x)) xs)
+    grind (arith, scanned-map, (scan-map role size role' size' f keeps (call_state_after at (role x)) (room_after at room (role x) (size x)) xs))
 
 -- a thing in front of parts, of things and of what they become
 split_by-map : {A B : Type 0} (f : A → B) (r : Role) (k : ℕ) (x : A) (s : Split A)
@@ -121,10 +110,7 @@ pub split-map : {A B : Type 0} (role : A → Role) (role' : B → Role) (f : A �
     → split role' k (map f xs) ≡ record { first = map f (split role k xs).first; further = map (map f) (split role k xs).further }
 unfolding split
 split-map role role' f keeps k [] = refl
-split-map {B = B} role role' f keeps k (x ∷ xs) =
-    ap (λ (r : Role). split_by r k (f x) (split role' (level_after r k) (map f xs))) (keeps x)
-    ∙ ap (λ (s : Split B). split_by (role x) k (f x) s) (split-map role role' f keeps (level_after (role x) k) xs)
-    ∙ split_by-map f (role x) k x (split role (level_after (role x) k) xs)
+split-map {B = B} role role' f keeps k (x ∷ xs) = grind (arith, split_by-map, (split-map role role' f keeps (level_after (role x) k) xs))
 
 -- a call of a scan commutes with what keeps roles
 scan_call-map : {A B : Type 0} (role : A → Role) (role' : B → Role) (f : A → B) → ((x : A) → role' (f x) ≡ role x) → (k : ℕ) (s : Scanned A)
@@ -150,11 +136,7 @@ call-map role size role' size' f keeps room xs =
 -- a map of a reversed list is the reverse of the map
 map-reverse : {A B : Type 0} (f : A → B) (xs : List A) → map f (reverse xs) ≡ reverse (map f xs)
 map-reverse f [] = refl
-map-reverse f (x ∷ xs) =
-    ap (map f) (reverse-append (x ∷ []) xs)
-    ∙ map-append f (reverse xs) (x ∷ [])
-    ∙ ap (λ l. l ++ f x ∷ []) (map-reverse f xs)
-    ∙ sym (reverse-append (f x ∷ []) (map f xs))
+map-reverse f (x ∷ xs) = grind (arith, common_steps, reverse-append, map-append, (map-reverse f xs))
 
 -- how many blank things are in front
 spaces-map : {A B : Type 0} (role : A → Role) (role' : B → Role) (f : A → B) → ((x : A) → role' (f x) ≡ role x) → (xs : List A)
@@ -353,16 +335,7 @@ actuals-body text =
 pub kept-map : {A B : Type 0} (role : A → Role) (role' : B → Role) (f : A → B) → ((x : A) → role' (f x) ≡ role x) → (xs : List A)
     → filter (λ y. is_kept (role' y)) (map f xs) ≡ map f (filter (λ x. is_kept (role x)) xs)
 kept-map role role' f keeps [] = refl
-kept-map {A = A} {B = B} role role' f keeps (x ∷ xs) =
-    let kept = filter (λ y. is_kept (role' y)) (map f xs) in
-    let same : kept ≡ map f (filter (λ y. is_kept (role y)) xs) = kept-map role role' f keeps xs in
-    ap (λ (r : Role). cond (is_kept r) (f x ∷ kept) kept) (keeps x)
-    ∙ ap (λ (ys : List B). cond (is_kept (role x)) (f x ∷ ys) ys) same
-    ∙ pushed (is_kept (role x)) x (filter (λ y. is_kept (role y)) xs)
-  where
-    pushed : (b : Bool) (y : A) (ys : List A) → cond b (f y ∷ map f ys) (map f ys) ≡ map f (cond b (y ∷ ys) ys)
-    pushed true y ys = refl
-    pushed false y ys = refl
+kept-map {A = A} {B = B} role role' f keeps (x ∷ xs) = grind (arith, (kept-map role role' f keeps xs))
 
 -- a backquote with a name is kept, whether it is a directive or not
 named_kept : (d : Option Directive) (r : Role) → is_kept r ≡ true → (let q : Role = elim d [ None ↦ r | Some x ↦ Halt ] in is_kept q) ≡ is_kept r
@@ -375,10 +348,7 @@ source_kept_by : (sort : Sort) (bytes : List ℕ) (line : ℕ)
     → is_kept (source_role (record { sort = sort; bytes = bytes; line = line })) ≡ is_kept (token_role (record { sort = sort; bytes = bytes; line = line }))
 unfolding source_role directive_of token_role kind_role is_kept
 source_kept_by (Ordinary Back) bytes line = named_kept (directive_named bytes) Text refl
-source_kept_by (Ordinary k) bytes line = refl
-source_kept_by Definition bytes line = refl
-source_kept_by Renumbering bytes line = refl
-source_kept_by (Broken b) bytes line = refl
+source_kept_by sort bytes line = refl
 
 -- which tokens a source keeps doesn't hang on directives
 pub source_kept : (t : SourceToken) → is_kept (source_role t) ≡ is_kept (token_role t)

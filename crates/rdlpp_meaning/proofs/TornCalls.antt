@@ -329,12 +329,8 @@ PiecesTorn (p ∷ ps) qs = EndsTorn p ps qs ⊎ ((rest : List Piece) × (qs ≡ 
 -- a token in front of pieces is in front of their run
 front-joined : (t : SourceToken) (qs : List Piece) → run_front (joined t qs) ≡ t ∷ run_front qs
 unfolding joined run_front
-front-joined t [] = refl
 front-joined t (Run us ∷ qs) = refl
-front-joined t (Single c ∷ qs) = refl
-front-joined t (Opening c ∷ qs) = refl
-front-joined t (Branching c ∷ qs) = refl
-front-joined t (Closing c ∷ qs) = refl
+front-joined t qs = refl
 
 -- a directive is no run
 front-directive : (c : Command) (qs : List Piece) → run_front (piece_of c ∷ qs) ≡ []
