@@ -1,7 +1,8 @@
 -- A call in a text is that of the definition.
-use Rattle.std.proofs.Common.{◌≡◌, ℕ, zero, suc, ◌+◌, ◌-◌, Bool, true, false, cond, List, [], ◌∷◌, ◌++◌, length, drop, filter, ◌==◌, slice_index, All, refl, sym, ap, ◌∙◌, arith, Option, Some, None, ◌⊎◌, ⊎_elim, inl, inr, ◌≤◌, ◌<◌, subst, get_or, nat_le, drop-drop, length-append}
+use Rattle.std.proofs.Common.{◌≡◌, ℕ, zero, suc, ◌+◌, ◌-◌, Bool, true, false, cond, List, [], ◌∷◌, ◌++◌, length, drop, filter, ◌==◌, slice_index, All, refl, sym, ap, ◌∙◌, arith, Option, Some, None, ◌⊎◌, inl, inr, ◌≤◌, ◌<◌, subst, get_or, nat_le, drop-drop, length-append}
 use Rattle.std.proofs.lemmas.Bool.{false≢true}
 use Rattle.std.proofs.lemmas.Bool.Decides.{nat_tests}
+use Rattle.std.proofs.lemmas.Grind.{common_steps}
 use Rattle.std.proofs.lemmas.List.Elements.{All-cons, All-head, All-nil, All-tail, filter_passes}
 use Rattle.rdlpp_scan.specs.Bytes.{begins_block_comment, begins_line_comment, begins_perl, is_blank, is_digit, is_letter, is_line_end, is_opener, takes_word}
 use Rattle.rdlpp_scan.specs.SourceTokens.{SourceToken}
@@ -348,9 +349,7 @@ closed_at text from o c =
 
 -- each call behind a `(` is one of the two
 pub call_at : (text : List ℕ) (from : ℕ) → opener_from 0 (body_tokens text) ≡ Some from → IsUnclosedAt text from ⊎ IsClosedAt text from
-call_at text from e =
-    let o = opened text from e in
-    ⊎_elim (λ u. inl (unclosed_at text from o u)) (λ c. inr (closed_at text from o c)) (ended (body_tokens (drop from text)) 0 (body_is_text (drop from text)))
+call_at text from e = grind (arith, common_steps, opened, unclosed_at, closed_at, ended, body_is_text)
 
 -- A text that begins with the `(` of a call.
 

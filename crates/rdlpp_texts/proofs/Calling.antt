@@ -147,8 +147,7 @@ pub source_counted : (rules : Rules) (line : ℕ) (name : List ℕ) (ts : List S
 unfolding usage_of_formals
 source_counted rules line name ts m fs bytes following c count =
     let h = has_actuals rules.argument_bytes ts bytes following c in
-    ap (usage_of_call source_reads m fs line name) h.call
-    ∙ usage_counted m fs line name h.first h.further c.used false (actuals_of bytes) h.same count
+    grind (arith, usage_counted)
 
 -- one that lacks something is refused for it
 pub source_lacks : (rules : Rules) (line : ℕ) (name : List ℕ) (ts : List SourceToken) (m : Macro) (fs : List Formal) (f : FaultKind)

@@ -1,5 +1,5 @@
 -- What a step over open texts leaves: fewer digits, the outermost text, and what it opens or closes.
-use Rattle.std.proofs.Common.{◌≡◌, ℕ, ◌+◌, ◌-◌, ◌<◌, ◌≤◌, inl, inr, List, [], ◌∷◌, ◌++◌, map, length, drop, refl, sym, ap, subst, ◌∙◌, append_assoc, arith, suc, Bool, true, false, rules, length-append, Option, None, Some, if◌then◌else◌, unwrap_or, ◌==◌, drop-drop, length-take}
+use Rattle.std.proofs.Common.{◌≡◌, ℕ, ◌+◌, ◌-◌, ◌<◌, ◌≤◌, inl, inr, List, [], ◌∷◌, ◌++◌, map, length, drop, refl, sym, ap, subst, ◌∙◌, append_assoc, arith, rules, length-append, Option, None, Some, unwrap_or, drop-drop, length-take}
 use Rattle.std.specs.List.{AllByRecursion}
 use Rattle.std.proofs.lemmas.List.{length-map, reverse-append}
 use Rattle.std.proofs.lemmas.List.Sums.{get_or-le-sum_by}
@@ -156,13 +156,7 @@ own-short most texts (OpenDefault id place) h known = grind (arith, text-fits)
 scope-short : (most : ℕ) (texts : Texts) (opens : List Open) (k : ℕ) → AreShort most texts → AreInside texts opens → length (scope_text texts opens k) ≤ most
 unfolding scope_text
 scope-short most texts [] k h inside = h.arguments
-scope-short most texts (x ∷ below) k h inside =
-    by (k == suc (length below)) (own-short most texts x.kind h inside.0) (scope-short most texts below k h ((inside.1).1).1)
-  where
-    by : (here : Bool) → length (own_text texts x.kind) ≤ most → length (scope_text texts below k) ≤ most
-        → length (if here then own_text texts x.kind else scope_text texts below k) ≤ most
-    by true own rest = own
-    by false own rest = rest
+scope-short most texts (x ∷ below) k h inside = grind (arith, own-short, (scope-short most texts below k h ((inside.1).1).1))
 
 -- nor that in which an open text lies
 around-short : (most : ℕ) (texts : Texts) (kind : OpenKind) (parent : ℕ) (below : List Open) → AreShort most texts → IsKnown texts.macros kind → AreInside texts below
@@ -191,8 +185,7 @@ digits-short most places texts [] h inside room = tt
 digits-short most places texts (x ∷ below) h inside room =
     let around = around-short most texts x.kind x.parent below h inside.0 ((inside.1).1).1 in
     let ends = (inside.1).0 in
-    subst (λ (ds : List ℕ). AllByRecursion (λ d. d < places) ds) (sym (digits-inner x below))
-    (all-more (λ d. d < places) (cursor_digits below) (open_digit x) (digits-short most places texts below h ((inside.1).1).1 room) (omega (arith, around, ends, room)))
+    grind (arith, digits-inner, all-more, (digits-short most places texts below h ((inside.1).1).1 room))
 
 -- The outermost of open texts stays.
 

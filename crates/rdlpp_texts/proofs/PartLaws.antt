@@ -81,10 +81,7 @@ space_last_by role false y ys x e = last_more (is_space (role x)) y ys x
 -- what is behind white space, with one more thing at the end
 space_last : {A : Type 0} (role : A → Role) (ys : List A) (x : A) → after_leading_space role (ys ++ x ∷ []) ≡ last_after (is_space (role x)) (after_leading_space role ys) x
 space_last {A = A} role [] x = grind (arith, space_front, space_nil, one_by)
-space_last {A = A} role (y ∷ ys) x =
-    space_front role y (ys ++ x ∷ [])
-    ∙ space_last_by role (is_space (role y)) y ys x (space_last role ys x)
-    ∙ ap (λ (zs : List A). last_after (is_space (role x)) zs x) (sym (space_front role y ys))
+space_last {A = A} role (y ∷ ys) x = grind (arith, space_front, space_last_by, (space_last role ys x))
 
 -- the reverse of what ends with a thing that may be white space
 last_reverse : {A : Type 0} (b : Bool) (zs : List A) (x : A) (s : List A) → reverse zs ≡ s → reverse (last_after b zs x) ≡ solid_front b x s

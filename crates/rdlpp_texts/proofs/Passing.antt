@@ -393,8 +393,7 @@ step-formal_deep line depth texts x below len place new fault h f deep k w rules
     let mode : x.part.mode ≡ Plain = (h.are_inside).1.1.0 in
     let named : formal_named (scope_formals texts.macros (x ∷ below) (open_scope x below)) (first_bytes texts x below) ≡ Some place = first-formal texts x below len place mode (h.are_open).0 f.2 f.3 in
     let y = standing-found texts.macros (scope_open (x ∷ below) (open_scope x below)) (open_scope x below) place (first_bytes texts x below) named in
-    left-formal_deep rules s line depth texts x below place y.0 h.are_open f.0 (kind-first texts x below Name mode f.1) named y.1 deep
-    ∙ sym (fault-same s line texts fault DepthPassed [] k w)
+    grind (arith, left-formal_deep, kind-first, fault-same)
 
 -- the texts around the innermost are sound
 pub sound-tail : (texts : Texts) (x : Open) (below : List Open) → AreSound texts (x ∷ below) → AreSound texts below
@@ -439,8 +438,7 @@ peek-passed texts (x ∷ below) peek h l =
     let from = l.1 in
     let order = l.2 in
     let at : peek.at ≡ x.part.from + (peek.at - peek.from) = omega (arith, from, order) in
-    subst (λ (m : ℕ). AreSound texts (moved_to m (x ∷ below))) (sym at)
-    (run-sound texts (source_formals texts (front_source (x ∷ below))) x below (peek.at - peek.from) h l.3.0 l.3.1)
+    grind (arith, run-sound)
 
 -- a lone backquote is a fault
 pub peek-bare : (line depth : ℕ) (texts : Texts) (opens new : List Open) (peek : Peek) (fault : CursorFault) → AreSound texts opens → IsPeek texts opens peek → peek.front ≡ front.Bare

@@ -1,5 +1,5 @@
 -- The scopes of open texts: what a scope is by its frame, and what follows from it.
-use Rattle.std.proofs.Common.{◌≡◌, ℕ, suc, ◌+◌, ◌-◌, ◌<◌, ◌≤◌, Bool, true, false, List, [], ◌∷◌, map, length, take, drop, get_or, refl, sym, ap, subst, ◌∙◌, arith, eq-eqb, Option, None, Some, ◌⊎◌, if◌then◌else◌, ◌==◌, min, nat_le, ◌||◌, eqb-true, ne_eqb, leb-true, leb-false, take-take, take_all, length-take, length-drop, get_or-drop, get_or-take}
+use Rattle.std.proofs.Common.{◌≡◌, ℕ, suc, ◌+◌, ◌-◌, ◌<◌, ◌≤◌, Bool, true, false, List, [], ◌∷◌, map, length, take, drop, get_or, refl, sym, ap, subst, ◌∙◌, arith, eq-eqb, Option, None, Some, ◌⊎◌, if◌then◌else◌, ◌==◌, min, nat_le, ◌||◌, eqb-true, leb-true, leb-false, take-take, take_all, length-take, length-drop, get_or-drop, get_or-take}
 use Rattle.std.specs.List.{list_any}
 use Rattle.std.proofs.lemmas.Bool.{eqb-false}
 use Rattle.std.proofs.lemmas.List.{length-map, get_or-map}
@@ -152,10 +152,7 @@ at-scope (y ∷ ys) bindings k own positive inside e =
 pub no-scope : (opens : List Open) (k : ℕ) → length opens < k → scope_open opens k ≡ None
 unfolding scope_open
 no-scope [] k h = refl
-no-scope (x ∷ below) k h = rw (other k (length below) (omega (arith, h))) (no-scope below k (omega (arith, h)))
-  where
-    other : (a b : ℕ) → suc b < a → (a == suc b) ≡ false
-    other a b h = ne_eqb a (suc b) (λ e. omega (arith, e, h))
+no-scope (x ∷ below) k h = grind (arith, (no-scope below k (omega (arith, h))))
 
 -- the source is none
 pub source-scope_none : (opens : List Open) → scope_open opens 0 ≡ None

@@ -3,6 +3,7 @@ use Rattle.std.proofs.Common.{◌≡◌, ℕ, suc, ◌+◌, ◌-◌, ◌<◌, �
 use Rattle.std.specs.List.{AllByRecursion, list_any}
 use Rattle.std.proofs.Math.Seq.{drop-append_seam, take-append_seam}
 use Rattle.std.proofs.lemmas.Bool.{eqb-false, lt-leb}
+use Rattle.std.proofs.lemmas.Grind.{common_steps}
 use Rattle.std.proofs.lemmas.List.{drop-set, drop_all, drop_more, length-map, take_rest}
 use Rattle.std.proofs.lemmas.List.Elements.{recursion_from_All}
 use Rattle.rdlpp_scan.specs.declared.token.Mode.TheVariants.{Plain}
@@ -159,10 +160,7 @@ moved-on new frames first at own inside e h = grind (arith, frames-at, drop-set)
 
 -- the open frames as they are lent
 pub lent-bounded : (frames lent : List Frame) (first : ℕ) → lent ≡ frames → AreBounded (drop first frames) → AreBounded (take (length lent - first) (drop first lent))
-lent-bounded frames lent first e h =
-    let size = length-drop first lent in
-    subst (λ (s : List Frame). AreBounded s) (sym (take_all (length lent - first) (drop first lent) (omega (arith, size))))
-    (subst (λ (s : List Frame). AreBounded (drop first s)) (sym e) h)
+lent-bounded frames lent first e h = grind (arith, common_steps, length-drop)
 
 -- the bounds of the body of a macro that are told of the frames as they are lent
 pub lent-body : (frames lent : List Frame) (first id parent : ℕ) (bounds : Bounds) → lent ≡ frames
@@ -177,11 +175,7 @@ lent-body frames lent first id parent bounds e h =
 pub lent-text : (frames lent : List Frame) (first parent : ℕ) (kind : FrameKind) (bounds : Bounds) → lent ≡ frames → IsNoBody kind
     → ((bindings : List Range) → AllByRecursion (IsWithin bounds) (hidden_ids (opens_of (take (length lent - first) (drop first lent)) bindings) parent))
     → AllByRecursion (IsWithin bounds) (own_ids (kind_of kind []) (hidden_ids (opens_of (drop first frames) []) parent))
-lent-text frames lent first parent kind bounds e nobody h =
-    let size = length-drop first lent in
-    text-bounded kind bounds (hidden_ids (opens_of (drop first frames) []) parent) nobody
-    (subst (λ (s : List Frame). AllByRecursion (IsWithin bounds) (hidden_ids (opens_of s []) parent))
-    (take_all (length lent - first) (drop first lent) (omega (arith, size)) ∙ ap (λ (s : List Frame). drop first s) e) (h []))
+lent-text frames lent first parent kind bounds e nobody h = grind (arith, common_steps, length-drop, text-bounded)
 
 -- no macro is within no bounds, and none is asked for
 pub none-within : (ids : List ℕ) (bounds : Bounds) → ids ≡ [] → AllByRecursion (IsWithin bounds) ids
@@ -257,25 +251,14 @@ entered frames wide depth first place new free = drop-set wide place new free.in
 pub pushed-opens : (frames wide : List Frame) (depth first place : ℕ) (bindings : List Range) (new : Frame) → IsFree frames wide depth first place → IsNoBody new.kind
     → opens_of (drop place (set wide place new)) bindings ≡ open_of new [] ∷ opens_of (drop first frames) bindings
 unfolding opens_of
-pushed-opens frames wide depth first place bindings new free nobody =
-    ap (λ (s : List Frame). opens_of s bindings) (entered frames wide depth first place new free) ∙ by new.kind nobody
-  where
-    by : (kind : FrameKind) → IsNoBody kind
-        → open_of (record new { kind = kind }) bindings ∷ opens_of (drop first frames) (bindings_below kind bindings)
-        ≡ open_of (record new { kind = kind }) [] ∷ opens_of (drop first frames) bindings
-    by (frame.Body id from) nobody = absurd nobody
-    by frame.Actual nobody = refl
-    by (frame.Default id place) nobody = refl
+pushed-opens frames wide depth first place bindings new free nobody = grind (arith, common_steps, entered)
 
 -- a text that is opened and binds nothing
 pub pushed-laid : (frames wide : List Frame) (depth first place : ℕ) (bindings : List Range) (new : Frame) → IsFree frames wide depth first place
     → bindings_below new.kind bindings ≡ bindings → AreLaid (drop first frames) bindings
     → AreLaid (drop place (set wide place new)) bindings
 unfolding AreLaid
-pushed-laid frames wide depth first place bindings new free same laid =
-    let few = laid-few (drop first frames) bindings laid in
-    subst (λ (s : List Frame). AreLaid s bindings) (sym (entered frames wide depth first place new free))
-    (omega (arith, few), subst (λ (bs : List Range). AreLaid (drop first frames) bs) (sym same) laid)
+pushed-laid frames wide depth first place bindings new free same laid = grind (arith, common_steps, laid-few, entered)
 
 -- what is no body binds nothing
 pub no-body_below : (kind : FrameKind) (bindings : List Range) → IsNoBody kind → bindings_below kind bindings ≡ bindings
@@ -287,12 +270,7 @@ pub body-opens : (frames wide : List Frame) (depth first place : ℕ) (bindings 
     → opens_of (drop place (set wide place (record { from = 0; end = end; parent = parent; kind = frame.Body id n; bounds = bounds }))) bindings
     ≡ record { part = record { from = 0; end = end; mode = Plain }; parent = parent; kind = OpenBody id [] } ∷ opens_of (drop first frames) bindings
 unfolding opens_of
-body-opens frames wide depth first place bindings id end parent n bounds free e =
-    ap (λ (s : List Frame). opens_of s bindings) (entered frames wide depth first place (record { from = 0; end = end; parent = parent; kind = frame.Body id n; bounds = bounds }) free)
-    ∙ ap (λ (bs : List Range). record { part = record { from = 0; end = end; mode = Plain }; parent = parent; kind = OpenBody id (map range_part bs) } ∷ opens_of (drop first frames) (take n bindings))
-    (drop_all n bindings (omega (arith, e)))
-    ∙ ap (λ (bs : List Range). record { part = record { from = 0; end = end; mode = Plain }; parent = parent; kind = OpenBody id [] } ∷ opens_of (drop first frames) bs)
-    (take_all n bindings (omega (arith, e)))
+body-opens frames wide depth first place bindings id end parent n bounds free e = grind (arith, common_steps, entered, drop_all)
 
 -- what a contract sees
 abbrev pub made_view : List Open → ℕ → ℕ → CursorsView
@@ -398,12 +376,7 @@ drop-few frames first size h inside = let n = length-drop first frames in omega 
 -- there is room for the ranges of one call more
 pub call-room : (frames : List Frame) (memory depth first n : ℕ) (bindings : Vec Range Global) → IsStack frames memory depth first bindings → n ≤ 255
     → vec_len bindings + n ≤ vec_capacity bindings
-call-room frames memory depth first n bindings h few =
-    let room = h.room in
-    let most = h.few in
-    let size = count_items bindings in
-    let all = drop-few frames first (length bindings.items) (laid-few (drop first frames) bindings.items h.laid) h.inside in
-    omega (arith, room, most, size, all, few)
+call-room frames memory depth first n bindings h few = grind (arith, common_steps, count_items, drop-few, laid-few)
 
 -- a frame for the body of a macro whose ranges stand behind so many
 abbrev pub body-frame : ℕ → ℕ → ℕ → ℕ → Bounds → Frame
@@ -416,12 +389,7 @@ pub entered-opens : (frames wide : List Frame) (depth first place : ℕ) (bindin
     ≡ record { part = record { from = 0; end = end; mode = Plain }; parent = parent; kind = OpenBody id (map range_part more) } ∷ opens_of (drop first frames) bindings
 unfolding opens_of
 entered-opens frames wide depth first place bindings more new id end parent n bounds free is whole =
-    let body : List Range → List Open → List Open = λ bs os. record { part = record { from = 0; end = end; mode = Plain }; parent = parent; kind = OpenBody id (map range_part bs) } ∷ os in
-    ap (λ (bs : List Range). opens_of (drop place (set wide place (body-frame id end parent n bounds))) bs) whole
-    ∙ ap (λ (s : List Frame). opens_of s (bindings ++ more)) (entered frames wide depth first place (body-frame id end parent n bounds) free)
-    ∙ ap (λ (k : ℕ). body (drop k (bindings ++ more)) (opens_of (drop first frames) (take k (bindings ++ more)))) is
-    ∙ ap (λ (bs : List Range). body bs (opens_of (drop first frames) (take (length bindings) (bindings ++ more)))) (drop-append_seam bindings more)
-    ∙ ap (λ (bs : List Range). body more (opens_of (drop first frames) bs)) (take-append_seam bindings more)
+    grind (arith, common_steps, entered, drop-append_seam, take-append_seam)
 
 -- they lie as frames do
 entered-laid : (frames wide : List Frame) (depth first place : ℕ) (bindings more : List Range) (id end parent n : ℕ) (bounds : Bounds) → IsFree frames wide depth first place
@@ -429,11 +397,7 @@ entered-laid : (frames wide : List Frame) (depth first place : ℕ) (bindings mo
     → AreLaid (drop first frames) bindings → AreLaid (drop place (set wide place (body-frame id end parent n bounds))) (bindings ++ more)
 unfolding AreLaid
 entered-laid frames wide depth first place bindings more id end parent n bounds free is few laid =
-    let less = laid-few (drop first frames) bindings laid in
-    let both = length-append bindings more in
-    let front : take n (bindings ++ more) ≡ bindings = ap (λ (k : ℕ). take k (bindings ++ more)) is ∙ take-append_seam bindings more in
-    subst (λ (s : List Frame). AreLaid s (bindings ++ more)) (sym (entered frames wide depth first place (body-frame id end parent n bounds) free))
-    (omega (arith, less, both, few), subst (λ (bs : List Range). AreLaid (drop first frames) bs) (sym front) laid)
+    grind (arith, common_steps, laid-few, length-append, take-append_seam, entered)
 
 -- and are so with their room
 pub stack-entered : (frames wide : List Frame) (memory same_memory depth first place : ℕ) (bindings new : Vec Range Global) (more : List Range) (id end parent n m : ℕ) (bounds : Bounds)

@@ -99,8 +99,6 @@ formal-by : (formals : List Formal) (at len : ℕ) (next : Mode) (kind : Kind) (
     → (kind ≡ Name) × (len ≡ n) × (formal_named formals bytes ≡ Some place)
 unfolding point_at point_name
 formal-by formals at len next Name bytes p n place e = grind arith
-formal-by formals at len next Back bytes p n place e = absurd (cc)
-formal-by formals at len next BareBackquote bytes p n place e = absurd (cc)
 formal-by formals at len next kind bytes p n place e = absurd (cc)
 
 -- a usage
@@ -109,7 +107,6 @@ usage-by : (formals : List Formal) (at len : ℕ) (next : Mode) (kind : Kind) (b
 unfolding point_at point_name
 usage-by formals at len next Name bytes p n e = grind arith
 usage-by formals at len next Back bytes p n e = (refl, cc)
-usage-by formals at len next BareBackquote bytes p n e = absurd (cc)
 usage-by formals at len next kind bytes p n e = absurd (cc)
 
 -- a lone backquote
@@ -117,7 +114,6 @@ bare-by : (formals : List Formal) (at len : ℕ) (next : Mode) (kind : Kind) (by
     → point_at formals at (record { kind = kind; len = len; next_mode = next }) bytes ≡ point.Bare p → kind ≡ BareBackquote
 unfolding point_at point_name
 bare-by formals at len next Name bytes p e = grind arith
-bare-by formals at len next Back bytes p e = absurd (cc)
 bare-by formals at len next BareBackquote bytes p e = refl
 bare-by formals at len next kind bytes p e = absurd (cc)
 
@@ -260,7 +256,7 @@ ahead-whole formals from end text e s =
     let tells : run_len formals (tokens_from Plain 0 text) text ≡ length text =
     subst (λ (o : ExpansionPoint). PlaceTells from (run_len formals (tokens_from Plain 0 text) text) (length text) (point_place o)) (sym s)
     (points-at formals from (tokens_from Plain 0 text) Plain text refl) in
-    (omega (arith, e), (omega (arith, e), omega (arith, tells, e)), drop_all (end - from) text (omega (arith, e)))
+    grind (arith, drop_all)
 
 -- the run of a text without formals, and what stands behind it
 pub ahead-plain : (text : List ℕ) (n from : ℕ) (own : TextItem) → n ≡ run_len [] (tokens_from Plain 0 text) text → n ≤ length text
@@ -404,7 +400,7 @@ run-unquoted (t ∷ ts) mode text e none =
     let size : length (drop t.len text) ≡ length text - t.len = length-drop t.len text in
     let rest : run_len [] ts (drop t.len text) ≡ length (drop t.len text) =
     run-unquoted ts t.next_mode (drop t.len text) p.1.1 (λ i h b. none (t.len + i) (omega (arith, h, size)) (sym (get_or-drop t.len text i 0) ∙ b)) in
-    omega (arith, ap (λ (b : Bool). cond b (t.len + run_len [] ts (drop t.len text)) 0) here, rest, size, inside)
+    grind arith
 
 -- so it is where a search finds none
 pub run_searched : (text : List ℕ) (found : Option ℕ) → is_some found ≡ false → IsFirstByte (is_byte 96) text found → length text ≡ run_len [] (tokens_from Plain 0 text) text

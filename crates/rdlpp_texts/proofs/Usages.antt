@@ -1,6 +1,7 @@
 -- A usage at the front of the innermost open text.
 use Rattle.std.proofs.Common.{◌≡◌, ℕ, suc, ◌+◌, ◌-◌, ◌<◌, ◌≤◌, Bool, true, false, List, [], ◌∷◌, length, take, drop, get_or, refl, sym, ap, subst, ◌∙◌, arith, Some, true≢false, Option, None, option_map, IfSome, bytes_eq, if◌then◌else◌, is_some, nat_le, slice_range, ◌==◌, ◌||◌, eq-eqb, length-drop, length-take}
 use Rattle.std.specs.List.{list_any}
+use Rattle.std.proofs.lemmas.Grind.{common_steps}
 use Rattle.std.proofs.lemmas.List.Elements.{All-get_or}
 use Rattle.std.proofs.lemmas.Slice.Eq.{bytes_eq-Decides}
 use Rattle.rdlpp_scan.specs.Reserved.{is_reserved}
@@ -57,11 +58,7 @@ kind-known texts _ h = h
 scope-known : (texts : Texts) (opens : List Open) (k : ℕ) → AreInside texts opens → IsSource texts (found_source (scope_open opens k))
 unfolding scope_open
 scope-known texts [] k h = tt
-scope-known texts (x ∷ below) k h = by (k == suc (length below)) (scope-known texts below k (((h.1).1).1))
-  where
-    by : (here : Bool) → IsSource texts (found_source (scope_open below k)) → IsSource texts (found_source (if here then Some x else scope_open below k))
-    by true rest = kind-known texts x.kind h.0
-    by false rest = rest
+scope-known texts (x ∷ below) k h = grind (arith, kind-known, (scope-known texts below k (((h.1).1).1)))
 
 -- the innermost open text lies in a text that there is
 pub source-known : (texts : Texts) (x : Open) (below : List Open) → AreInside texts (x ∷ below) → IsSource texts (front_source (x ∷ below))
@@ -99,20 +96,8 @@ unfolding IsNextItem AreCopied IsPeekAhead IsPeek moved_to front_source open_aft
 peek-ahead texts x below peek source from end f =
     let formals = source_formals texts (front_source (x ∷ below)) in
     let order = f.0 in
-    let back : x.part.from + (peek.at - x.part.from) ≡ peek.at = omega (arith, order) in (
-      source,
-      from,
-      omega (arith, from, order),
-      subst (λ (k : ℕ). AreCopied formals (open_bytes texts x below) (peek.at - k)) (sym from) f.1,
-      (
-        source,
-        refl,
-        end,
-        subst (λ (bytes : List ℕ). IsTextItem formals bytes peek.front)
-            (sym (bytes-following texts x below (peek.at - x.part.from) Plain f.1.0) ∙ ap (λ (k : ℕ). open_bytes texts (record { part = record { from = k; end = x.part.end; mode = Plain }; parent = x.parent; kind = x.kind }) below) back)
-            f.2,
-      ),
-    )
+    let back : x.part.from + (peek.at - x.part.from) ≡ peek.at = omega (arith, order) in
+    grind (arith, bytes-following)
 
 -- frames from a place on, of which one is read
 pub record IsInner (frames : List Frame) (bindings : List Range) (own : Frame) : Type 0 where
@@ -189,11 +174,7 @@ pub usage-word : (texts : Texts) (opens : List Open) (peek : Peek) (len from end
 unfolding IsPeek front_name place_bytes open_bytes
 usage-word texts [] peek len from end h l e f g = absurd l
 usage-word texts (x ∷ below) peek len from end h l e f g =
-    let s = usage-some texts x below len (front-is texts x below peek len e l.3) in
-    let within = usage-place texts (x ∷ below) peek len h l e in
-    let inside = within.inside in
-    let ends = within.within in
-    grind (arith, following-first, same-front, source-around)
+    grind (arith, common_steps, usage-some, front-is, usage-place, following-first, same-front, source-around)
 
 -- what the usage at the front comes to, by its name and the macros in whose text it is written
 first-is : (rules : Rules) (s : State) (line : ℕ) (texts : Texts) (x : Open) (below : List Open) (len : ℕ) → x.part.mode ≡ Plain
