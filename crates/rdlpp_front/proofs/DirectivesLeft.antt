@@ -1,7 +1,6 @@
 -- What an `include`, the directives of conditionals, and skipped text in front do to what remains.
-use Rattle.std.proofs.Common.{◌≡◌, ℕ, Bool, true, false, ◌||◌, List, [], ◌∷◌, length, Option, None, refl, ap, ◌∙◌, ◌+◌, ◌++◌, take, drop, Some, append-nil, sym, arith, suc, ◌-◌, ◌<◌, cond, subst, ◌⊎◌, inl, inr, ⊎_elim, option_map, not, ◌==◌}
+use Rattle.std.proofs.Common.{◌≡◌, ℕ, Bool, true, false, List, [], ◌∷◌, length, Option, None, refl, ap, ◌∙◌, ◌+◌, ◌++◌, take, drop, Some, append-nil, sym, arith, suc, ◌-◌, ◌<◌, cond, subst, ◌⊎◌, inl, inr, ⊎_elim, option_map}
 use Rattle.std.specs.List.{list_any}
-use Rattle.std.specs.Str.{is_utf8}
 use Rattle.rdlpp_scan.specs.Bytes.{is_line_end}
 use Rattle.rdlpp_scan.specs.Front.{Breach, Front, StringOpen}
 use Rattle.rdlpp_scan.specs.Lines.{EndsLine, ended_line_len}
@@ -23,13 +22,13 @@ use Rattle.rdlpp_scan.proofs.TokenLens.{token_of-part}
 use Rattle.rdlpp_scan.proofs.TokenSteps.{is_kept_kind}
 use Rattle.rdlpp_meaning.specs.Expansion.{usage_token}
 use Rattle.rdlpp_meaning.specs.Moves.{Passes}
-use Rattle.rdlpp_meaning.specs.Meaning.{Passage, Progress, added_end, at_start_of, after_bytes, leaves, origin_line, unclosed}
-use Rattle.rdlpp_meaning.specs.Opened.{Waiting, all_resumed, waiting}
+use Rattle.rdlpp_meaning.specs.Meaning.{Passage, Progress, after_bytes, leaves, unclosed}
+use Rattle.rdlpp_meaning.specs.Opened.{Waiting, all_resumed}
 use Rattle.rdlpp_meaning.specs.Outcome.{fails}
-use Rattle.rdlpp_meaning.specs.Parts.{argument_of, after_blanks, after_directive, command_of, line_ends_of, no_argument, only_blanks, past_blanks, string_in_front}
-use Rattle.rdlpp_meaning.specs.Resumed.{Live, Skipped}
-use Rattle.rdlpp_meaning.specs.State.{LongPath, NoSource, Rules, Source, State, breach_kind, fault_at, shown_line}
-use Rattle.rdlpp_meaning.specs.declared.fault.FaultKind.TheVariants.{IncludeName, OpenConditional, PathTooLong, SourceNotFound, TooManyIncludes}
+use Rattle.rdlpp_meaning.specs.Parts.{argument_of, after_blanks, line_ends_of, no_argument, only_blanks, past_blanks, string_in_front}
+use Rattle.rdlpp_meaning.specs.Resumed.{Skipped}
+use Rattle.rdlpp_meaning.specs.State.{Rules, State, breach_kind, fault_at}
+use Rattle.rdlpp_meaning.specs.declared.fault.FaultKind.TheVariants.{OpenConditional}
 use Rattle.rdlpp_meaning.proofs.Directives.{all_resumed_after, all_resumed_fails, blank_token, opens_conditional, string_token, takes_string_at_once, takes_string_after_blanks, wants_name}
 use Rattle.rdlpp_meaning.proofs.Skipping.{bare_skipped, directive_word, has_own_token, is_skipped, resumed_skipped, resumed_skipped_broken, skipped_unclosed, stands_by_itself, usage_skipped}
 use Rattle.rdlpp_meaning.proofs.Moves.{word_moves}
@@ -41,7 +40,7 @@ use Rattle.rdlpp_read.specs.Filling.{Fills, ended_tokens, only_broken}
 use Rattle.rdlpp_read.specs.declared.buffer.filling.Fill.TheVariants as fill
 use Rattle.rdlpp_read.specs.declared.files.File.{File}
 use Rattle.rdlpp_read.proofs.BufferTokens.{ends_line}
-use Rattle.rdlpp_front.specs.SourceItems.{HasString, IsDirective, IsUsage, LacksString, argument_name, include_name, usage_name, word_of}
+use Rattle.rdlpp_front.specs.SourceItems.{HasString, IsDirective, IsUsage, LacksString, argument_name, usage_name, word_of}
 use Rattle.rdlpp_front.specs.SourceLeft.{HoldsFront, source_left}
 use Rattle.rdlpp_front.proofs.TextLeft.{counted, not_counted, usage_text, usage_tokens}
 use Rattle.rdlpp_front.proofs.NamedDirectives.{GivenInFront, IsGiven, blank_lead, given_in_front_of, given_of, gone_blanks, gone_word, nothing_in_front_of, nothing_tokens, stands_bare, word_at, word_directive, word_token, word_tokens}
@@ -313,9 +312,7 @@ resumed_string part l ts o (inl some) (Copies k bytes line more (inl str) is) =
     ap (λ (us : List SourceToken). string_in_front (onto_tokens part l us)) is
     ∙ ap (λ (m : Kind). string_in_front (record { sort = Ordinary m; bytes = part ++ bytes; line = l } ∷ more)) str
     ∙ long_string (part ++ bytes) l more (omega (arith, line_ends-append part bytes))
-resumed_string part l ts o (inl some) (Copies k bytes line more (inr block) is) =
-    ap (λ (us : List SourceToken). string_in_front (onto_tokens part l us)) is
-    ∙ ap (λ (m : Kind). string_in_front (record { sort = Ordinary m; bytes = part ++ bytes; line = l } ∷ more)) block
+resumed_string part l ts o (inl some) (Copies k bytes line more (inr block) is) = grind arith
 resumed_string part l ts o (inr ended) (Copies k bytes line more open_ is) =
     ap (λ (us : List SourceToken). string_in_front (onto_tokens part l us)) ended
 resumed_string part l ts o h (Breaks k bytes line is) =

@@ -23,13 +23,12 @@ use Rattle.rdlpp_scan.proofs.SourceLaws.{line_ends-cons}
 use Rattle.rdlpp_scan.proofs.StopKinds.{AtBack, AtBare, AtBlockComment, AtLineComment, AtPerl, AtPlain, AtString, Row, block_token-kind, string_token-kind, token_of-row}
 use Rattle.rdlpp_table.specs.Table.{macro_named}
 use Rattle.rdlpp_meaning.specs.Expansion.{bytes_of, is_copied, usage_token}
-use Rattle.rdlpp_meaning.specs.Meaning.{Progress, after_bytes, goes_on, leaves, refusal}
+use Rattle.rdlpp_meaning.specs.Meaning.{Progress, after_bytes, goes_on, leaves}
 use Rattle.rdlpp_meaning.specs.Opened.{Waiting, all_resumed}
 use Rattle.rdlpp_meaning.specs.Outcome.{Report, fails}
-use Rattle.rdlpp_meaning.specs.Parts.{Command, directive_of, line_ends_of, only_blanks}
+use Rattle.rdlpp_meaning.specs.Parts.{directive_of, line_ends_of, only_blanks}
 use Rattle.rdlpp_meaning.specs.Resumed.{Live, Place, Skipped, resumed}
 use Rattle.rdlpp_meaning.specs.State.{Rules, State, breach_kind, fault_at}
-use Rattle.rdlpp_meaning.specs.declared.fault.FaultKind.{FaultKind}
 use Rattle.rdlpp_meaning.specs.declared.fault.FaultKind.TheVariants.{BareBackquote as LoneBackquote, UndefinedMacro}
 use Rattle.rdlpp_meaning.proofs.Directives.{all_resumed_after, all_resumed_fails, after_bytes-goes_on}
 use Rattle.rdlpp_meaning.proofs.LiveText.{resumed_bare, resumed_broken, resumed_broken_parts, resumed_copied, resumed_copied_parts, resumed_undefined}

@@ -3,7 +3,7 @@ use Rattle.std.proofs.Common.{◌≡◌, ◌⊎◌, ℕ, ◌+◌, ◌-◌, ◌�
 use Rattle.rdlpp_scan.specs.declared.token.Kind.{Kind}
 use Rattle.rdlpp_scan.specs.declared.token.Kind.TheVariants.{Name, Blank, Back}
 use Rattle.rdlpp_scan.specs.declared.token.Directive.{Directive}
-use Rattle.rdlpp_scan.specs.declared.token.Directive.TheVariants.{Define, Undef, Ifdef, Ifndef, Elsif, Else, Endif, Include, Line}
+use Rattle.rdlpp_scan.specs.declared.token.Directive.TheVariants.{Define, Undef, Ifdef, Ifndef, Elsif, Else, Endif, Line}
 use Rattle.rdlpp_scan.specs.declared.token.Mode.TheVariants.{Plain}
 use Rattle.rdlpp_scan.specs.Bytes.{is_line_end}
 use Rattle.rdlpp_scan.specs.Lines.{EndsLine}
