@@ -109,11 +109,7 @@ moves-on has_known_texts one two exact then_exact unread x y old mid new t u exa
 pub text-past : {R : Type 0} (unread : R → List ℕ) (old new : BufferView R) (len : ℕ) → held_of new ≡ drop len (held_of old) → rest_of unread new ≡ rest_of unread old →
     text_left unread old ≡ take len (held_of old) ++ text_left unread new
 unfolding text_left
-text-past unread old new len held rest =
-    ap (λ v. v ++ rest_of unread old) (sym (take-append-drop len (held_of old)))
-    ∙ (append_assoc (take len (held_of old)) (drop len (held_of old)) (rest_of unread old)
-    ∙ (ap (λ v. take len (held_of old) ++ (v ++ rest_of unread old)) (sym held)
-    ∙ ap (λ v. take len (held_of old) ++ (held_of new ++ v)) (sym rest)))
+text-past unread old new len held rest = grind (arith, take-append-drop len (held_of old), append_assoc (take len (held_of old)) (drop len (held_of old)) (rest_of unread old))
 
 -- and where more were used behind
 pub text-on : (x y : List ℕ) (old mid new : List ℕ) → old ≡ x ++ mid → mid ≡ y ++ new → old ≡ (x ++ y) ++ new
@@ -205,21 +201,7 @@ pub compacts : {R : Type 0} (old new : BufferView R) → old.at ≤ old.accepted
 unfolding unused_of held_of ahead_of
 compacts old new order inside becomes =
     let n = old.accepted - old.at in
-    let whole : old.at + n ≡ old.accepted = omega arith in
-    record {
-      line = ap (λ f. f.line) becomes;
-      line_bytes = ap (λ f. f.line_bytes) becomes;
-      mode = ap (λ f. f.mode) becomes;
-      open_token_line = ap (λ f. f.open_token_line) becomes;
-      bytes_left = ap (λ f. f.bytes_left) becomes;
-      unused = ap unused_of becomes ∙ omega arith;
-      reader = ap (λ f. f.reader) becomes;
-      held = ap held_of becomes ∙ (sym (drop-take old.at n old.window) ∙ ap (λ k. drop old.at (take k old.window)) whole);
-      ahead = ap ahead_of becomes ∙ (drop-drop n old.at old.window ∙ ap (λ k. drop k old.window) whole);
-      dropped = take old.at old.window;
-      window = sym (take-append-drop old.at old.window) ∙ ap (λ w. take old.at old.window ++ w) (sym (ap (λ f. f.window) becomes));
-      used = (let at = ap (λ f. f.at) becomes in omega (arith, length-take-le old.at old.window (omega arith)));
-    }
+    grind (arith, drop-take old.at n old.window, drop-drop n old.at old.window, take-append-drop old.at old.window, length-take-le old.at old.window (omega arith))
 
 -- the text behind what is held stays
 pub compacts-rest : {R : Type 0} (unread : R → List ℕ) (old new : BufferView R) → Compacts old new → rest_of unread new ≡ rest_of unread old
@@ -280,20 +262,7 @@ grows-short has_known_texts unread _ old new by is = cc is
 
 -- what a source has before its next byte, by what stood there
 pub grows-fills : {R : Type 0} (has_known_texts : Type 0) (unread : R → List ℕ) (fill : Fill) (old new : BufferView R) → held_of old ≡ [] → Grows has_known_texts unread fill old new → Fills has_known_texts unread fill old new
-grows-fills has_known_texts unread fill old new none g = record {
-  line = g.line;
-  line_bytes = g.line_bytes;
-  mode = g.mode;
-  open_token_line = g.open_token_line;
-  bytes = grows-bytes has_known_texts unread fill old new none g.by;
-  unused = g.unused;
-  slides = g.slides;
-  waits = g.waits;
-  short = grows-short has_known_texts unread fill old new g.by;
-  text = grows-text has_known_texts unread fill old new g.by;
-  ended = grows-ended has_known_texts unread fill old new none g.by;
-  tokens = grows-tokens has_known_texts unread fill old new none g;
-}
+grows-fills has_known_texts unread fill old new none g = search (arith, grows-bytes, grows-short, grows-text, grows-ended, grows-tokens)
 
 -- bytes of accepted lines are held
 pub held-fills : {R : Type 0} (has_known_texts : Type 0) (unread : R → List ℕ) (f : BufferView R) → f.at < f.accepted → f.accepted ≤ length f.window → Fills has_known_texts unread Held f f
@@ -408,10 +377,7 @@ held-within {R} size (f ∷ fs) each =
 
 -- and so of the open ones
 pub held-bound : {R : Type 0} (files : FilesView R) → AreOpen files → held_bytes files.include_stack ≤ files.slots * files.line_bytes
-held-bound files open_ =
-    let few : length files.include_stack * files.line_bytes ≤ files.slots * files.line_bytes = mul-le-mul_right files.line_bytes open_.few in
-    let within = held-within files.line_bytes files.include_stack open_.each in
-    omega arith
+held-bound files open_ = grind (arith, held-within files.line_bytes files.include_stack open_.each, mul-le-mul_right)
 
 -- a part of what is held
 pub held-part : {R : Type 0} (files : FilesView R) (items : List (File R)) (i : ℕ) (f : File R) → items ≡ files.include_stack → AreOpen files → i < length items → f ≡ get_or items i f → held_bytes (take i items) + length f.buffer.window ≤ files.slots * files.line_bytes

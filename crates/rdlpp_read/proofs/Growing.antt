@@ -231,9 +231,7 @@ reads-held told unread mid new inside reads = ap held_of reads.becomes ∙ ap (d
 -- what a turn adds was unread
 reads-text : {R : Type 0} (told : Type 0) (unread : R → List ℕ) (mid new : BufferView R) → mid.accepted ≤ length mid.window → ReadsOn told unread mid new → told → rest_of unread mid ≡ rest_of unread new
 unfolding rest_of
-reads-text told unread mid new inside reads t =
-    let more = unread_of unread new.reader in
-    ap (λ u. ahead_of mid ++ u) (reads.text t) ∙ (sym (append_assoc (ahead_of mid) reads.gained more) ∙ ap (λ w. w ++ more) (sym (reads-ahead told unread mid new inside reads)))
+reads-text told unread mid new inside reads t = grind (arith, reads-ahead told unread mid new inside reads, append_assoc)
 
 -- what a turn adds came behind the window
 reads-slides : {R : Type 0} (told : Type 0) (unread : R → List ℕ) (mid new : BufferView R) → ReadsOn told unread mid new → Slides told Unit unread mid new
@@ -283,10 +281,7 @@ calls-on g false first before after one two = grind arith
 
 -- what a text that is read on ends with
 reads-ends : {R : Type 0} (told : Type 0) (unread : R → List ℕ) (mid new : BufferView R) → mid.accepted ≤ length mid.window → IsSome mid.reader → EndsHeld mid → ReadsOn told unread mid new → EndsHeld new
-reads-ends told unread mid new inside some ends reads = elim ends [
-  | inl whole ↦ inl (subst IsWholeLines (sym (reads-held told unread mid new inside reads)) whole)
-  | inr none ↦ absurd (let no = none.0 in cc)
-]
+reads-ends told unread mid new inside some ends reads = grind (arith, reads-held told unread mid new inside reads)
 
 -- a turn that reads on goes on with the search
 pub search-goes-on : {S R : Type 0} (g : Ghosts S R) (first before after : S) (old mid new : BufferView R) (seen len : ℕ) →
@@ -297,13 +292,7 @@ search-goes-on g first before after old mid new seen len searches none some read
     let ahead = reads-ahead (g.has_known_texts before) g.unread mid new inside reads in
     let size : length (ahead_of new) ≡ length (ahead_of mid) + length reads.gained = ap length ahead ∙ length-append (ahead_of mid) reads.gained in
     let front_part : take len (ahead_of new) ≡ ahead_of mid = rw (whole, ahead) (take-append_seam (ahead_of mid) reads.gained) in
-    record {
-      seeks = seeks-on (g.has_known_texts first) (g.has_known_texts before) g.unread old mid new searches.seeks none searches.call.has_known_texts reads;
-      place = omega arith;
-      none = ap whole_lines_len front_part ∙ none;
-      ends = reads-ends (g.has_known_texts before) g.unread mid new inside some searches.ends reads;
-      call = calls-on g false first before after searches.call call;
-    }
+    search (arith, seeks-on, reads-ends, calls-on)
 
 -- fewer turns remain, over the parts
 fewer : {R : Type 0} (most len gained : ℕ) (r s : Option R) → IsSome r → len + gained ≤ most → (s ≡ None) ⊎ (0 < gained) →
@@ -347,22 +336,12 @@ accepts-ahead mid new a = ap ahead_of a.becomes ∙ sym (drop-drop a.len mid.acc
 -- the text behind what was accepted
 accepts-rest : {R : Type 0} (unread : R → List ℕ) (mid new : BufferView R) → (a : Accepts mid new) → rest_of unread mid ≡ take a.len (ahead_of mid) ++ rest_of unread new
 unfolding rest_of
-accepts-rest unread mid new a =
-    let u = unread_of unread mid.reader in
-    let same : drop a.len (ahead_of mid) ++ u ≡ rest_of unread new =
-    ap (λ w. w ++ u) (sym (accepts-ahead mid new a)) ∙ ap (λ r. ahead_of new ++ unread_of unread r) (sym (ap (λ f. f.reader) a.becomes)) in
-    ap (λ w. w ++ u) (sym (take-append-drop a.len (ahead_of mid)))
-    ∙ (append_assoc (take a.len (ahead_of mid)) (drop a.len (ahead_of mid)) u ∙ ap (λ r. take a.len (ahead_of mid) ++ r) same)
+accepts-rest unread mid new a = grind (arith, accepts-ahead mid new a, take-append-drop a.len (ahead_of mid), append_assoc)
 
 -- what was accepted ends at a line end, or nothing follows
 accepts-line : {R : Type 0} (unread : R → List ℕ) (mid new : BufferView R) → (a : Accepts mid new) → EndsLine (take a.len (ahead_of mid)) (rest_of unread new)
 unfolding rest_of
-accepts-line unread mid new a = elim a.lines.ends [
-  | inl whole ↦ inl whole
-  | inr last ↦ inr (let none : ahead_of new ≡ [] = accepts-ahead mid new a ∙ drop_all a.len (ahead_of mid) (omega (arith, last.1)) in
-      let ended : unread_of unread new.reader ≡ [] = ap (unread_of unread) (ap (λ f. f.reader) a.becomes) ∙ unread-ended unread mid.reader last.0 in
-      rw (none, ended) refl)
-]
+accepts-line unread mid new a = grind (arith, accepts-ahead mid new a, drop_all, unread-ended)
 
 -- where lines were accepted, what was held before them are whole lines
 accepts-before : {R : Type 0} (mid new : BufferView R) → EndsHeld mid → Accepts mid new → IsWholeLines (held_of mid)
@@ -376,27 +355,7 @@ held-le f = omega (arith, length-drop f.at (take f.accepted f.window), length-ta
 -- lines were accepted
 accepts-grows : {R : Type 0} (has_known_texts : Type 0) (unread : R → List ℕ) (old mid new : BufferView R) → old.at ≡ 0 → Seeks has_known_texts unread old mid → EndsHeld mid → length mid.window ≤ mid.line_bytes →
     Accepts mid new → Lengthens has_known_texts unread old new
-accepts-grows has_known_texts unread old mid new at seeks ends within a =
-    let lines = take a.len (ahead_of mid) in
-    let wide : length lines ≡ a.len = length-take-le a.len (ahead_of mid) a.lines.inside in
-    let some = a.lines.some in
-    let fits = a.lines.fits in
-    let window : new.window ≡ mid.window = ap (λ f. f.window) a.becomes in
-    let size : length new.window ≡ length mid.window = ap length window in
-    let most = seeks.line_bytes in
-    let left = seeks.bytes_left in
-    let left_now : new.bytes_left ≡ mid.bytes_left - a.len = ap (λ f. f.bytes_left) a.becomes in
-    record {
-      lines = lines;
-      some = omega arith;
-      before = subst IsWholeLines seeks.held (accepts-before mid new ends a);
-      held = accepts-held mid new (seeks.at ∙ at) a ∙ ap (λ h. h ++ lines) seeks.held;
-      short = omega (arith, held-le new);
-      fits = omega arith;
-      bytes_left = omega arith;
-      ends = accepts-line unread mid new a;
-      rest = λ t. seeks.text t ∙ accepts-rest unread mid new a;
-    }
+accepts-grows has_known_texts unread old mid new at seeks ends within a = grind (arith, accepts-before mid new ends a, accepts-held mid new (seeks.at ∙ at) a, held-le new, accepts-line unread mid new a, accepts-rest unread mid new a, length-take-le)
 
 -- what stays where nothing was accepted
 seeks-stays : {R : Type 0} (has_known_texts : Type 0) (unread : R → List ℕ) (old mid new : BufferView R) → Seeks has_known_texts unread old mid → held_of new ≡ held_of mid → new.bytes_left ≡ mid.bytes_left → Stays old new
@@ -498,28 +457,13 @@ stops-held told unread fill mid new stops = ap held_of stops.becomes
 line-grows : {R : Type 0} (has_known_texts told : Type 0) (unread : R → List ℕ) (old mid new : BufferView R) → old.at ≡ 0 → Seeks has_known_texts unread old mid → (has_known_texts → told) →
     whole_lines_len (ahead_of mid) ≡ 0 → Stops told unread LineLong mid new → GrowsBy has_known_texts unread LineLong old new
 unfolding rest_of
-line-grows has_known_texts told unread old mid new at seeks tell none stops =
-    let more = unread_of unread mid.reader in
-    let most = seeks.line_bytes in
-    let full = stops.full refl in
-    let parts = window-parts mid (seeks.at ∙ at) seeks.inside in
-    let held : length (held_of mid) ≡ length (held_of old) = ap length seeks.held in (
-      seeks-stays has_known_texts unread old mid new seeks (stops-held told unread LineLong mid new stops) (ap (λ f. f.bytes_left) stops.becomes),
-      λ t. (let text : line_len (rest_of unread old) ≡ line_len (ahead_of mid ++ more) = ap line_len (seeks.text t) in
-          let longer = line-longer (ahead_of mid) more none (stops.goes_on refl (tell t)) in omega arith),
-      λ t. (let text : length (rest_of unread old) ≡ length (ahead_of mid ++ more) = ap length (seeks.text t) in
-          let some = stops.goes_on refl (tell t) in omega (arith, length-append (ahead_of mid) more)),
-    )
+line-grows has_known_texts told unread old mid new at seeks tell none stops = grind (arith, window-parts mid (seeks.at ∙ at) seeks.inside, stops-held told unread LineLong mid new stops, seeks-stays, line-longer, length-append)
 
 -- a read failed
 failed-grows : {R : Type 0} (has_known_texts told : Type 0) (unread : R → List ℕ) (old mid new : BufferView R) → Seeks has_known_texts unread old mid → (has_known_texts → told) →
     whole_lines_len (ahead_of mid) ≡ 0 → Stops told unread Failed mid new → GrowsBy has_known_texts unread Failed old new
 unfolding rest_of ahead_of
-failed-grows has_known_texts told unread old mid new seeks tell none stops = (
-  seeks-stays has_known_texts unread old mid new seeks (stops-held told unread Failed mid new stops) (ap (λ f. f.bytes_left) stops.becomes),
-  λ t. ap (λ f. drop f.accepted f.window ++ unread_of unread new.reader) stops.becomes ∙ (ap (λ u. drop mid.accepted mid.window ++ u) (stops.failed refl (tell t)) ∙ sym (seeks.text t)),
-  ap (λ f. whole_lines_len (drop f.accepted f.window)) stops.becomes ∙ none,
-)
+failed-grows has_known_texts told unread old mid new seeks tell none stops = grind (arith, stops-held told unread Failed mid new stops, seeks-stays)
 
 -- what stopped a reading
 stops-by : {R : Type 0} (has_known_texts told : Type 0) (unread : R → List ℕ) (fill : Fill) (old mid new : BufferView R) → old.at ≡ 0 → Seeks has_known_texts unread old mid → (has_known_texts → told) →
@@ -532,16 +476,7 @@ stops-by has_known_texts told unread _ old mid new at seeks tell none stops = ab
 pub stops-grows : {R : Type 0} (has_known_texts told : Type 0) (unread : R → List ℕ) (fill : Fill) (old mid new : BufferView R) → old.at ≡ 0 → Seeks has_known_texts unread old mid → (has_known_texts → told) →
     whole_lines_len (ahead_of mid) ≡ 0 → Stops told unread fill mid new → Grows has_known_texts unread fill old new
 unfolding unused_of
-stops-grows has_known_texts told unread fill old mid new at seeks tell none stops = record {
-  line = ap (λ f. f.line) stops.becomes ∙ seeks.line;
-  line_bytes = ap (λ f. f.line_bytes) stops.becomes ∙ seeks.line_bytes;
-  mode = ap (λ f. f.mode) stops.becomes ∙ seeks.mode;
-  open_token_line = ap (λ f. f.open_token_line) stops.becomes ∙ seeks.open_token_line;
-  unused = ap unused_of stops.becomes ∙ seeks-unused has_known_texts unread old mid seeks;
-  slides = slides-on has_known_texts has_known_texts told (IsExact fill) (IsExact fill) unread old mid new (λ t. t) tell (λ e. e) seeks.slides (stops-slides told unread fill mid new stops);
-  waits = waits-on has_known_texts unread old mid new seeks (ap (λ f. f.window) stops.becomes) (ap (λ f. f.at) stops.becomes);
-  by = stops-by has_known_texts told unread fill old mid new at seeks tell none stops;
-}
+stops-grows has_known_texts told unread fill old mid new at seeks tell none stops = grind (arith, seeks-unused has_known_texts unread old mid seeks, stops-slides told unread fill mid new stops, stops-by has_known_texts told unread fill old mid new at seeks tell none stops, slides-on, waits-on)
 
 -- where the search came to an end in the window, what is held ends at a line end or where the text ends
 pub finds-ends : {R : Type 0} (fill : Fill) (mid new : BufferView R) → mid.at ≡ 0 → EndsHeld mid → Finds fill mid new → EndsHeld new
@@ -555,7 +490,4 @@ finds-ends _ mid new at ends f = subst EndsHeld (sym f.0) ends
 
 -- the same where reading came to an end
 pub stops-ends : {R : Type 0} (told : Type 0) (unread : R → List ℕ) (fill : Fill) (mid new : BufferView R) → IsSome mid.reader → EndsHeld mid → Stops told unread fill mid new → EndsHeld new
-stops-ends told unread fill mid new some ends stops = elim ends [
-  | inl whole ↦ inl (subst IsWholeLines (sym (stops-held told unread fill mid new stops)) whole)
-  | inr none ↦ absurd (let no = none.0 in cc)
-]
+stops-ends told unread fill mid new some ends stops = grind (arith, stops-held told unread fill mid new stops)

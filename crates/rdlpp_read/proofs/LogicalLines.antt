@@ -44,11 +44,7 @@ continues-starts g sources f ends = grind (arith, append-nil, slides-same)
 -- the search goes on behind the first bytes, which are whole lines
 logical-from : (h : List ℕ) (seen : ℕ) → seen ≤ length h → IsWholeLines (take seen h) → logical_len 0 0 (take seen h) ≡ None →
     logical_len 0 0 h ≡ option_map (λ n. seen + n) (logical_len 0 0 (take (length h - seen) (drop seen h)))
-logical-from h seen inside whole none =
-    let law = logical_len-after_lines (take seen h) (drop seen h) whole none in
-    let tail : take (length h - seen) (drop seen h) ≡ drop seen h = rw (← length-drop seen h) (take-length (drop seen h)) in
-    let size : length (take seen h) ≡ seen = length-take-le seen h inside in
-    ap (logical_len 0 0) (sym (take-append-drop seen h)) ∙ (law ∙ rw (size, tail) refl)
+logical-from h seen inside whole none = grind (arith, logical_len-after_lines (take seen h) (drop seen h) whole none, length-drop seen h, take-length (drop seen h), length-take-le seen h inside, take-append-drop seen h)
 
 -- the end of the logical line was found behind the first bytes
 found-at : (h : List ℕ) (seen len : ℕ) → seen ≤ length h → IsWholeLines (take seen h) → logical_len 0 0 (take seen h) ≡ None →
@@ -322,12 +318,7 @@ quote_over taken place bytes over = ap (λ (x : List ℕ). moved place (quote_pl
 -- at a byte that is taken along
 pub quote_at_taken : (taken : Bool) (place : ℕ) (bytes : List ℕ) → place < length bytes → taken ≡ true
     → moved place (quote_place taken (drop place bytes)) ≡ moved (place + 1) (quote_place false (drop (place + 1) bytes))
-quote_at_taken taken place bytes more is =
-    let one : suc place ≡ place + 1 = omega arith in
-    ap (λ (t : Bool). moved place (quote_place t (drop place bytes))) is
-    ∙ ap (λ (x : List ℕ). moved place (quote_place true x)) (drop-cons bytes place 0 more)
-    ∙ quote_taken place (get_or bytes place 0) (drop (suc place) bytes)
-    ∙ ap (λ (n : ℕ). moved n (quote_place false (drop n bytes))) one
+quote_at_taken taken place bytes more is = grind (arith, drop-cons bytes place 0 more, quote_taken place (get_or bytes place 0) (drop (suc place) bytes))
 
 -- at the closing quote
 pub quote_at : (taken : Bool) (place : ℕ) (bytes : List ℕ) → place < length bytes → taken ≡ false → get_or bytes place 0 ≡ 34

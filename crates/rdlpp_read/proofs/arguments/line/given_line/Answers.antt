@@ -15,9 +15,7 @@ numbered : (rest word : List ℕ) (n number : ℕ) → word ≡ past_blank_bytes
 numbered rest word n number text len j = grind (arith, line_numbered)
 
 pub slice_bounds-past_blanks-end : goal.slice_bounds-past_blanks-end
-slice_bounds-past_blanks-end c =
-    let stop = line_rest c.args.bytes.now c.unwrap_or-stop.result c.rest_of_line.result c.rest_of_line.ensures c.unwrap_or-stop.ensures in
-    sym (length-take-le c.unwrap_or-stop.result c.args.bytes.now (omega (arith, stop, line_len-le c.args.bytes.now)))
+slice_bounds-past_blanks-end c = grind (arith, line_rest c.args.bytes.now c.unwrap_or-stop.result c.rest_of_line.result c.rest_of_line.ensures c.unwrap_or-stop.ensures, line_len-le c.args.bytes.now, length-take-le)
 
 -- what stands behind the blanks of the rest of the line
 after_blanks : (bytes text : List ℕ) (stop : ℕ) → stop ≡ line_len bytes → text ≡ past_blank_bytes (take stop bytes) → text ≡ past_blank_bytes (take (line_len bytes) bytes)
@@ -28,15 +26,7 @@ digits_there : (rest text : List ℕ) (len : ℕ) → text ≡ past_blank_bytes 
 digits_there rest text len is size = size ∙ ap (prefix_len is_digit) is
 
 pub returns-in_err-number : goal.returns-in_err-number
-returns-in_err-number c =
-    let bytes = c.args.bytes.now in
-    let rest = take (line_len bytes) bytes in
-    let stop = line_rest bytes c.unwrap_or-stop.result c.rest_of_line.result c.rest_of_line.ensures c.unwrap_or-stop.ensures in
-    let text = after_blanks bytes c.past_blanks-after_word.result.now c.unwrap_or-stop.result stop c.past_blanks-after_word.ensures in
-    let len = digits_there rest c.past_blanks-after_word.result.now c.digits-len.result text c.digits-len.ensures.value in
-    let digits : take c.digits-len.result c.past_blanks-after_word.result.now ≡ take (prefix_len is_digit (past_blank_bytes rest)) (past_blank_bytes rest) =
-    ap (λ (n : ℕ). take n c.past_blanks-after_word.result.now) len ∙ ap (take (prefix_len is_digit (past_blank_bytes rest))) text in
-    rw c.from_residual.ensures (line_unnumbered rest (rw digits at c.in_err-number.ensures))
+returns-in_err-number c = grind (arith, line_rest, after_blanks, digits_there, line_unnumbered)
 
 pub returns-in_err-name : goal.returns-in_err-name
 returns-in_err-name c =
@@ -61,10 +51,4 @@ returns c =
     let text = after_blanks bytes word c.unwrap_or-stop.result stop c.past_blanks-after_word.ensures in
     let len = digits_there rest word n text c.digits-len.ensures.value in
     let j = c.in_ok-number.ensures in
-    let name = c.past_blanks.ensures ∙ ap past_blank_bytes (take_rest word n) in
-    record {
-      value = numbered rest word n c.in_ok-number.number text len j ∙ ap (renumbered_name c.in_ok-number.number) (sym name) ∙ c.in_ok-name.ensures c.in_ok-number.number;
-      number = j.2;
-      stop = stop;
-      inside = omega (arith, stop, line_len-le bytes);
-    }
+    grind (arith, numbered rest word n c.in_ok-number.number text len j, line_len-le bytes, take_rest)

@@ -7,10 +7,7 @@ use Rattle.rdlpp_read.proofs.arguments.line.shown_name.Goals as goal
 use Rattle.rdlpp_read.proofs.arguments.line.shown_name.Goals.{then-is_empty-via-then-is_empty, then-is_empty-via-else-is_empty+then-bytes-ne34}
 
 pub returns-then-is_empty : goal.returns-then-is_empty
-returns-then-is_empty c = elim c.then-is_empty.branch [
-  | then-is_empty-via-then-is_empty w ↦ λ number. unnamed_none number c.args.bytes.now (sym c.is_empty.ensures ∙ w.if-is_empty.true)
-  | then-is_empty-via-else-is_empty+then-bytes-ne34 w ↦ λ number. unnamed number c.args.bytes.now (ne_eqb (get_or c.args.bytes.now 0 0) 34 w.if-bytes-ne34.true)
-]
+returns-then-is_empty c = grind (arith, then-is_empty-via-then-is_empty, unnamed_none, then-is_empty-via-else-is_empty+then-bytes-ne34, unnamed, ne_eqb)
 
 pub returns-in_err-len : goal.returns-in_err-len
 returns-in_err-len c =
@@ -40,13 +37,7 @@ returns-then-not-is_level c =
 -- a string that is closed, and a level behind it
 quoted : (bytes following : List ℕ) (n : ℕ) (level : Bool) → get_or bytes 0 0 ≡ 34 → Some n ≡ quote_place false (take (length bytes - 1) (drop 1 bytes)) → n < length (take (length bytes - 1) (drop 1 bytes))
     → n ≢ 0 → following ≡ past_blank_bytes (take (length bytes - (n + 2)) (drop (n + 2) bytes)) → level ≡ is_level following → level ≡ true → IsQuoted bytes n
-quoted bytes following n level quote place inside some rest is holds = record {
-  quote = quote;
-  place = ap (quote_place false) (sym (take_rest bytes 1)) ∙ sym place;
-  some = some;
-  inside = omega (arith, ap length (take_rest bytes 1));
-  level = ap is_level (sym (rest ∙ ap past_blank_bytes (take_rest bytes (n + 2)))) ∙ sym is ∙ holds;
-}
+quoted bytes following n level quote place inside some rest is holds = grind (arith, take_rest bytes 1, take_rest bytes (n + 2))
 
 -- as many bytes as stand between the quotes
 back_one : (n : ℕ) → n + 1 - 1 ≡ n
@@ -66,6 +57,4 @@ returns c =
     let n = c.in_ok-len.len in
     let q = quoted bytes c.past_blanks.result.now n c.is_level.result c.if-bytes-ne34.false c.in_ok-len.ensures.place c.in_ok-len.ensures.inside c.if-len-eq0.false
     c.past_blanks.ensures c.is_level.ensures c.if-not-is_level.false in
-    let cases = c.in-Ok.ensures.cases in
-    rw c.ok.ensures.value (name_text n bytes c.in-Ok.name.now c.from.result q (cases.0 ∙ ap (λ (k : ℕ). take k (drop 1 bytes)) (back_one n))
-    (subst (λ (k : ℕ). IsUtf8 (take k (drop 1 bytes))) (back_one n) cases.1) c.from.ensures.variant c.from.ensures.ok)
+    grind (arith, name_text, back_one)

@@ -1,4 +1,4 @@
-use Rattle.std.proofs.Common.{◌≤◌, ◌+◌, length, refl, ap, ◌∙◌, arith}
+use Rattle.std.proofs.Common.{◌+◌, refl, ap, ◌∙◌, arith}
 use Rattle.rdlpp_scan.specs.SourceTokens.{line_ends}
 use Rattle.rdlpp_read.specs.Buffer.{held_of, reading_line_of}
 use Rattle.rdlpp_read.proofs.Growing.{held_le, line_ends_le}
@@ -6,11 +6,7 @@ use Rattle.rdlpp_read.proofs.buffer.SourceBuffer.reading_line.Goals as goal
 
 pub overflow_add-result : goal.overflow_add-result
 unfolding held_of
-overflow_add-result g c =
-    let held = rw (← c.self.view_is) at c.held.ensures.value in
-    let few : c.line_ends_in.result ≤ length c.held.result.now = omega (arith, line_ends_le c.held.result.now, c.line_ends_in.ensures) in
-    let size = ap length held in
-    omega (arith, held_le c.self.inside.at c.self.inside.accepted c.self.inside.filled c.self.inside.bytes.items)
+overflow_add-result g c = grind (arith, line_ends_le, held_le)
 
 pub returns : goal.returns
 unfolding reading_line_of

@@ -1,4 +1,4 @@
-use Rattle.std.proofs.Common.{◌-◌, length, take, drop, sym, ap, ◌∙◌, arith, length-drop, length-take}
+use Rattle.std.proofs.Common.{length, sym, ap, ◌∙◌, arith, length-drop, length-take}
 use Rattle.rdlpp_scan.proofs.TokenSteps.{logical_len-within}
 use Rattle.rdlpp_read.specs.Buffer.{held_of}
 use Rattle.rdlpp_read.proofs.BufferTokens.{compacts, compacts-ends, compacts-grows}
@@ -9,11 +9,7 @@ pub lines-init : goal.lines-init
 lines-init g c = continues-starts g.S.Sources c.args.sources.now c.args.buffer.now c.requires
 
 pub overflow_add-result : goal.overflow_add-result
-overflow_add-result g c =
-    let held = c.held-held.result.now in
-    let within = logical_len-within 0 0 (take (length held - c.lines.seen) (drop c.lines.seen held)) c.in-Some.len (sym c.logical_line.ensures ∙ c.in-Some.is) in
-    let place = rw (← c.held-held.ensures.value) at c.lines.invariant.place in
-    omega (arith, place, length-take (length held - c.lines.seen) (drop c.lines.seen held), length-drop c.lines.seen held)
+overflow_add-result g c = grind (arith, logical_len-within, length-take, length-drop)
 
 pub returns-in-Some-clause-holds : goal.returns-in-Some-clause-holds
 returns-in-Some-clause-holds g c =
@@ -25,9 +21,7 @@ take_lines-requires-clause-ends g c =
     compacts-ends c.lines.buffer c.compact.new.self (compacts _ _ c.held-held.ensures.buffer.used c.held-held.ensures.buffer.lines c.compact.ensures.becomes) c.lines.invariant.ends
 
 pub lines-smaller : goal.lines-smaller
-lines-smaller g c =
-    let moved = compacts c.lines.buffer c.compact.new.self c.held-held.ensures.buffer.used c.held-held.ensures.buffer.lines c.compact.ensures.becomes in
-    fewer-lines _ _ c.lines.buffer c.take_lines.new.buffer (compacts-grows _ _ _ c.lines.buffer c.compact.new.self c.take_lines.new.buffer moved c.in-Held.ensures.grows)
+lines-smaller g c = grind (arith, compacts c.lines.buffer c.compact.new.self c.held-held.ensures.buffer.used c.held-held.ensures.buffer.lines c.compact.ensures.becomes, fewer-lines, compacts-grows)
 
 pub lines-preserved : goal.lines-preserved
 lines-preserved g c =

@@ -1,4 +1,4 @@
-use Rattle.std.proofs.Common.{◌≡◌, ◌*◌, ◌∙◌, length, ap, arith}
+use Rattle.std.proofs.Common.{length, ap, arith}
 use Rattle.std.proofs.lemmas.List.Elements.{All-same}
 use Rattle.rdlpp_read.specs.Files.{IsSlot}
 use Rattle.rdlpp_read.proofs.files.Files.capacity.Goals as goal
@@ -13,7 +13,4 @@ loop-file-init g c =
     })
 
 pub returns : goal.returns
-returns g c =
-    let v = c.loop-file.invariant in
-    let all : c.loop-file.file-index ≡ c.args.self.now.slots = omega (arith, c.loop-file-test.false, v.count, c.loop-file.auto.file-index-end) in
-    v.sum ∙ ap (λ k. k * c.args.self.now.line_bytes) all
+returns g c = grind arith

@@ -16,12 +16,4 @@ invariant_of-self g c =
 
 pub returns : goal.returns
 unfolding opened_buffer
-returns g c =
-    let room = rw (← c.self.view_is) at c.requires.room in
-    let some : 0 < c.self.inside.first = omega (arith, length-drop c.self.inside.first c.self.inside.slots.items) in
-    let inside = c.self.invariant.inside in
-    let slot : IsSlot c.self.inside.line_bytes c.index_mut-file.result.now =
-    slot-at c.self.inside.line_bytes (c.self.inside.first - 1) c.self.inside.slots.items c.index_mut-file.result.now c.self.invariant.each (omega arith) c.index_mut-file.ensures.value in
-    let size = slot.size in
-    let opened = c.open.ensures.opened in
-    rw (← c.self.view_is, entered-include_stack) (cc)
+returns g c = grind (arith, length-drop, slot-at, entered-include_stack)

@@ -1,19 +1,13 @@
-use Rattle.std.proofs.Common.{◌≡◌, ◌+◌, [], ◌∷◌, length, refl, ap, ◌∙◌, arith, vec_len, length-append}
+use Rattle.std.proofs.Common.{◌≡◌, ◌+◌, [], ◌∷◌, length, ap, ◌∙◌, arith, vec_len, length-append}
 use Rattle.std.proofs.lemmas.List.{drop_all}
-use Rattle.std.proofs.lemmas.List.Elements.{All-nil, All-push, All-same}
+use Rattle.std.proofs.lemmas.List.Elements.{All-push, All-same}
 use Rattle.rdlpp_read.specs.Buffer.{closed_buffer}
 use Rattle.rdlpp_read.specs.Files.{IsClosed, IsSlot}
 use Rattle.rdlpp_read.proofs.BufferTokens.{closed-reader, closed-slot, slots-made}
 use Rattle.rdlpp_read.proofs.files.Files.new.Goals as goal
 
 pub loop-slot-init : goal.loop-slot-init
-loop-slot-init g c =
-    let none = c.in_ok-list.ensures.items in (
-      ap length none,
-      omega (arith, c.in_ok-list.ensures.capacity),
-      All-same (IsSlot c.args.line_bytes) c.in_ok-list.list.items [] none (All-nil (IsSlot c.args.line_bytes)),
-      All-same IsClosed c.in_ok-list.list.items [] none (All-nil IsClosed),
-    )
+loop-slot-init g c = grind arith
 
 pub loop-slot-preserved : goal.loop-slot-preserved
 loop-slot-preserved g c =
@@ -39,9 +33,4 @@ invariant_of-result g c =
     slots-made c.args.line_bytes c.args.slots c.loop-slot.list.items (omega (arith, v.0)) v.2 v.3
 
 pub returns : goal.returns
-returns g c =
-    let v = c.loop-slot.invariant in
-    let all : length c.loop-slot.list.items ≡ c.args.slots = omega (arith, v.0) in
-    let none = drop_all c.args.slots c.loop-slot.list.items (omega arith) in
-    let size : vec_len c.loop-slot.list ≡ c.args.slots = omega (arith, c.loop-slot.list.ok.0) in
-    rw (none, size) refl
+returns g c = grind (arith, drop_all, vec_len)
