@@ -142,52 +142,18 @@ least_all n a len room e inside more = grind arith
 pub given_more : {S R : Type 0} (g : Ghosts S R) (old mid new : ReadingView S R) (before after out : List ℕ) (len n : ℕ) → IsGiven g old mid before after len
     → new ≡ record mid { rest = drop n mid.rest } → n ≡ min (length mid.rest) (length after - len) → out ≡ take len after ++ take n mid.rest ++ drop (len + n) after
     → IsGiven g old new before out (len + n)
-given_more {S} {R} g old mid new before after out len n w becomes is over =
-    let xs = take len after in
-    let ys = take n mid.rest in
-    let zs = drop (len + n) after in
-    let p : length xs ≡ len = length-take-le len after w.inside in
-    let q : length ys ≡ n = length-take-le n mid.rest (least_left n _ _ is) in
-    let room : n ≤ length after - len = least_right n _ _ is in
-    let inside : len + n ≤ length after = (let within = w.inside in omega arith) in
-    let size : length out ≡ length after =
-    (let a : length out ≡ length (xs ++ ys) + length zs = ap length over ∙ length-append (xs ++ ys) zs in
-    let b : length (xs ++ ys) ≡ len + n = joined_length xs ys len n p q in
-    let d : length zs ≡ length after - (len + n) = length-drop (len + n) after in omega arith) in
-    let front : take (len + n) out ≡ xs ++ ys = ap (take (len + n)) over ∙ joined_front xs ys zs len n p q in
-    let back : drop (len + n) out ≡ zs = ap (drop (len + n)) over ∙ joined_back xs ys zs len n p q in
-    let rest : new.rest ≡ drop n mid.rest = ap (λ (r : ReadingView S R). r.rest) becomes in
-    let engine : new.engine ≡ mid.engine = ap (λ (r : ReadingView S R). r.engine) becomes in
-    record {
-      lent = w.lent;
-      inside = (let s = size in let i = inside in omega arith);
-      size = size ∙ w.size;
-      given = ap (λ (t : List ℕ). t ++ new.rest) front ∙ ap (λ (r : List ℕ). (xs ++ ys) ++ r) rest ∙ append_assoc xs ys (drop n mid.rest) ∙ ap (λ (t : List ℕ). xs ++ t) (take-append-drop n mid.rest) ∙ w.given;
-      following = back ∙ sym (drop-drop n len after) ∙ ap (drop n) w.following ∙ drop-drop n len before;
-      so = subst (λ (e : EngineView S R). Lent g old.engine e w.lent None) (sym engine) w.so;
-      work = subst (λ (e : EngineView S R). work_left e ≤ work_left old.engine) (sym engine) w.work;
-    }
+given_more {S} {R} g old mid new before after out len n w becomes is over = grind (arith, length-drop (len + n) after, drop-drop n len after, drop-drop n len before, length-take-le, least_left, least_right, length-append, joined_length, joined_front, joined_back, append_assoc, take-append-drop)
 
 -- where there is room behind it, nothing is left of the piece
 pub rest_used : {S R : Type 0} (g : Ghosts S R) (old mid new : ReadingView S R) (before after out : List ℕ) (len n : ℕ) → IsGiven g old mid before after len
     → new ≡ record mid { rest = drop n mid.rest } → n ≡ min (length mid.rest) (length after - len) → out ≡ take len after ++ take n mid.rest ++ drop (len + n) after
     → (len + n ≡ length out → ⊥) → new.rest ≡ []
-rest_used {S} {R} g old mid new before after out len n w becomes is over more =
-    let size : length out ≡ length after = (given_more g old mid new before after out len n w becomes is over).size ∙ sym w.size in
-    ap (λ (r : ReadingView S R). r.rest) becomes ∙ drop_of_length-le mid.rest (least_all n (length mid.rest) len (length after) is w.inside (λ e. more (e ∙ sym size)))
+rest_used {S} {R} g old mid new before after out len n w becomes is over more = grind (arith, given_more g old mid new before after out len n w becomes is over, drop_of_length-le, least_all)
 
 -- where there is room behind it, nothing is left of the piece, and the engine goes on
 pub given_turned : {S R : Type 0} (g : Ghosts S R) (old mid new : ReadingView S R) (before after : List ℕ) (len : ℕ) → IsGiven g old mid before after len
     → mid.rest ≡ [] → Turns g mid.engine new.engine new.rest None → IsGiven g old new before after len
-given_turned g old mid new before after len w none t = record {
-  lent = w.lent ++ new.rest;
-  inside = w.inside;
-  size = w.size;
-  given = ap (λ (xs : List ℕ). xs ++ new.rest) (sym (append-nil (take len after)) ∙ ap (λ (r : List ℕ). take len after ++ r) (sym none) ∙ w.given) ∙ append_assoc old.rest w.lent new.rest;
-  following = w.following;
-  so = lent_more g old.engine mid.engine new.engine w.lent new.rest None w.so t;
-  work = (let steps : Step g mid.engine new.engine (Ok (Some new.rest)) = t in work_after _ _ _ w.work (steps.falls new.rest refl));
-}
+given_turned g old mid new before after len w none t = grind (arith, append-nil (take len after), append_assoc old.rest w.lent new.rest, lent_more g old.engine mid.engine new.engine w.lent new.rest None w.so t, work_after)
 
 -- the work left fell, where it does again
 pub work_fell : (a b c : ℕ) → b ≤ a → c < b → c < a
@@ -196,20 +162,7 @@ work_fell a b c most less = omega (arith, most, less)
 -- a read that filled its buffer
 pub fills_full : {S R : Type 0} (g : Ghosts S R) (old new : ReadingView S R) (before after : List ℕ) (len : ℕ) → IsGiven g old new before after len
     → len ≡ length after → Fills g old new before after len None
-fills_full g old new before after len w is = record {
-  lent = w.lent;
-  inside = (let i = w.inside in let s = w.size in omega arith);
-  size = w.size;
-  given = w.given;
-  following = w.following;
-  full = λ e. is ∙ w.size;
-  used = λ e bad. (let no : ⊥ = cc bad in absurd no);
-  ends = w.so.ends;
-  reads = w.so.reads;
-  limits = w.so.limits;
-  origins = w.so.origins;
-  main = w.so.main;
-}
+fills_full g old new before after len w is = grind arith
 
 -- behind the end and behind a fault nothing is left of a piece
 turned_rest : {S R : Type 0} (g : Ghosts S R) (old new : EngineView S R) (rest : List ℕ) (e : ReadEnd) → Turns g old new rest (Some e) → rest ≡ []
@@ -239,20 +192,7 @@ fills_ended g old mid new before after len e w none t =
 -- a read that fills its buffer is one that may come back before
 pub fills_part : {S R : Type 0} (g : Ghosts S R) (old new : ReadingView S R) (before after : List ℕ) (len : ℕ) (ending : Option ReadEnd) → Fills g old new before after len ending
     → FillsPart g old new before after len ending
-fills_part g old new before after len ending f = record {
-  lent = f.lent;
-  inside = f.inside;
-  size = f.size;
-  given = f.given;
-  following = f.following;
-  full = λ e. inl (f.full e);
-  used = f.used;
-  ends = f.ends;
-  reads = f.reads;
-  limits = f.limits;
-  origins = f.origins;
-  main = f.main;
-}
+fills_part g old new before after len ending f = grind arith
 
 -- a read that came back behind a piece without bytes
 pub fills_paused : {S R : Type 0} (g : Ghosts S R) (old mid new : ReadingView S R) (before after : List ℕ) (len : ℕ) → IsGiven g old mid before after len
@@ -289,9 +229,7 @@ given_all g old new before after len e f = sym (append-nil (take len after)) ∙
 pub leaves : {S R : Type 0} (g : Ghosts S R) (old new : ReadingView S R) (before after : List ℕ) (len : ℕ) (ending : Option ReadEnd) → FillsPart g old new before after len ending
     → g.has_known_texts old.engine.sources → Leaves g old new (take len after) ending
 unfolding reading_left
-leaves g old new before after len None f t =
-    let left = left_of g new.engine in
-    ap (and_then (gives old.rest)) (f.ends.answers t) ∙ and_then-gives_gives old.rest f.lent left ∙ ap (λ (xs : List ℕ). and_then (gives xs) left) (sym f.given) ∙ sym (and_then-gives_gives (take len after) new.rest left)
+leaves g old new before after len None f t = grind (arith, and_then-gives_gives)
 leaves g old new before after len (Some Finished) f t =
     ap (and_then (gives old.rest)) (f.ends.answers t) ∙ and_then-gives old.rest f.lent ∙ ap gives (sym (given_all g old new before after len Finished f))
 leaves g old new before after len (Some Stopped) f t =
@@ -367,12 +305,7 @@ forgets_lets_go : {S R : Type 0} (old : EngineView S R) → MayGoOn old → Lets
 forgets_lets_go old on h = record { idle = λ _. h.idle on }
 
 forgets_stores : {S R : Type 0} (g : Ghosts S R) (old : EngineView S R) → MayGoOn old → HoldsStores g old → HoldsStores g (record old { kept = None })
-forgets_stores g old on h = record {
-  lets_go = forgets_lets_go old on h.lets_go;
-  parts = parts_told g.unread (g.catalog old.sources) (MayGoOn old) _ old.files.include_stack (λ _. on) h.parts;
-  call = h.call;
-  begun = h.begun;
-}
+forgets_stores g old on h = search (arith, forgets_lets_go, parts_told)
 
 -- a retry, by what it does
 pub retries : {S R : Type 0} (g : Ghosts S R) (old new : EngineView S R) → (is_failed_search old ≡ true → new ≡ record old { kept = None })
@@ -425,27 +358,7 @@ unfolding is_over is_open
 fresh_whole limits Fresh table files conditions expansion over w = absurd (false≢true over)
 fresh_whole limits Open table files conditions expansion over w = absurd (false≢true over)
 fresh_whole limits OverLimit table files conditions expansion over w = absurd (false≢true over)
-fresh_whole limits Closed table files conditions expansion over w = record {
-  sources = record {
-    in_range = w.sources.in_range;
-    definition_bytes = w.sources.definition_bytes;
-    definitions = w.sources.definitions;
-    size = w.sources.size;
-    slots = w.sources.slots;
-    line_bytes = w.sources.line_bytes;
-    lines = w.sources.lines;
-    conditions_of = w.sources.conditions_of;
-    open_ = λ bad. absurd (false≢true bad);
-    closed = λ _. w.sources.closed refl;
-  };
-  texts = record {
-    depth_is = w.texts.depth_is;
-    most_is = w.texts.most_is;
-    sound = w.texts.sound;
-    line = w.texts.line;
-    closed = λ _. w.texts.closed refl;
-  };
-}
+fresh_whole limits Closed table files conditions expansion over w = grind (arith, false≢true)
 
 -- no text is open where the opening of the main text failed
 pub failed_over : {S R : Type 0} (e : EngineView S R) → is_failed_start e ≡ true → is_over e.phase ≡ true
@@ -463,22 +376,8 @@ over_shut Closed over = refl
 -- a start that is made again, by what it does
 pub starts_again : {S R : Type 0} (g : Ghosts S R) (old new : EngineView S R) (path : List ℕ) (answer : Option Report) → is_failed_start old ≡ true
     → AreOpenTexts old.limits old.phase old.table.macros old.expansion → Starts g (record old { phase = Fresh; kept = None }) new path answer → StartsAgain g old new path answer
-starts_again g old new path answer failed texts starts =
-    let idle = texts.closed (over_shut old.phase (failed_over old failed)) in
-    let nothing : LetsGo old → old.expansion.arguments ≡ [] =
-    λ h. h.idle (inr (or_right (is_failed_search old) (is_failed_start old) failed)) (none_called old.table.macros old.expansion.opens idle) in
-    record {
-      again = λ _. starts;
-      same = λ no. absurd (false≢true (sym no ∙ failed));
-      lets_go = λ h. starts.lets_go (nothing h);
-      stores = λ t h. starts.stores (nothing h.lets_go) t;
-    }
+starts_again g old new path answer failed texts starts = search (arith, over_shut, failed_over, or_right, none_called, false≢true)
 
 -- and one that isn't
 pub starts_never : {S R : Type 0} (g : Ghosts S R) (e : EngineView S R) (path : List ℕ) (answer : Option Report) → is_failed_start e ≡ false → answer ≡ e.kept → StartsAgain g e e path answer
-starts_never g e path answer isnt kept = record {
-  again = λ yes. absurd (false≢true (sym isnt ∙ yes));
-  same = λ _. (refl, kept);
-  lets_go = λ h. h;
-  stores = λ t h. h;
-}
+starts_never g e path answer isnt kept = grind (arith, false≢true)

@@ -1,5 +1,5 @@
 -- Pulls in a row, the run that they are, and what its watcher is shown.
-use Rattle.std.proofs.Common.{◌≡◌, ◌≢◌, ℕ, ◌+◌, ◌-◌, ◌^◌, ◌≤◌, ◌==◌, min, Bool, true, false, ◌&&◌, ◌||◌, not, List, [], ◌++◌, length, take, drop, Option, None, Some, Result, Ok, Err, IfSome, refl, sym, ap, subst, ◌∙◌, append_assoc, append-nil, length-append, ne_eqb, arith, inl, inr, if◌then◌else◌, length-take-le, take-append-drop, take_all}
+use Rattle.std.proofs.Common.{◌≡◌, ◌≢◌, ℕ, ◌+◌, ◌-◌, ◌^◌, ◌≤◌, ◌==◌, min, Bool, true, false, ◌&&◌, ◌||◌, not, List, [], ◌++◌, length, take, Option, None, Some, Result, Ok, Err, IfSome, refl, sym, ap, subst, ◌∙◌, append_assoc, append-nil, length-append, ne_eqb, arith, inl, inr, if◌then◌else◌, length-take-le, take-append-drop, take_all}
 use Rattle.std.specs.Io.KnownBytes.{Appends, Keeps}
 use Rattle.rdlpp_meaning.specs.Meaning.{outcome}
 use Rattle.rdlpp_meaning.specs.Outcome.{Outcome, Report, and_then, fails, gives}
@@ -20,7 +20,7 @@ use Rattle.rdlpp_state.specs.declared.phase.Phase.TheVariants.{Closed, Fresh, Op
 use Rattle.rdlpp_state.proofs.EngineSteps.{called_after, free_before, left_open, not_called, ok_not_met}
 use Rattle.rdlpp_state.proofs.FrontSteps.{opened_phase}
 use Rattle.rdlpp_state.proofs.Stores.{KeepsStores, keeps_refused}
-use Rattle.rdlpp_expand.specs.Run.{Begins, Breaks, Finishes, Flushes, Going, Pulls, Runs, Stops, StopsAt, Unflushed, Wrote, WroteEnds, answered, is_fresh, is_kept, is_unwritten, write_fault}
+use Rattle.rdlpp_expand.specs.Run.{Begins, Breaks, Finishes, Flushes, Going, Pulls, Runs, Stops, StopsAt, Unflushed, Wrote, WroteEnds, answered, is_fresh, is_kept, write_fault}
 use Rattle.rdlpp_expand.specs.Watching.{Shows}
 use Rattle.rdlpp_expand.specs.declared.watching.Watcher.{Ghosts as WatcherGhosts}
 use Rattle.rdlpp_expand.specs.declared.writing.Ending.{Ending}
@@ -115,21 +115,7 @@ going_reads g kept old new r = rw (none_fresh is_read_failed kept, none_fresh is
 
 -- nothing was written yet
 pub wrote_none : {S R W : Type 0} (g : Ghosts S R) (h : SinkGhosts W) (e : EngineView S R) (w : W) → IsStarted e → Wrote g h e e w w 0 None
-wrote_none g h e w started = record {
-  bytes = [];
-  taken = appends_none (h.taken w);
-  counted = refl;
-  writes = refl;
-  quiet = record { failed_flushes = refl; flushes = refl };
-  reads = none_reads g e.kept e.sources e.sources (not_called g e.sources);
-  limits = refl;
-  origins = refl;
-  main = refl;
-  most_bytes = refl;
-  most_macros = refl;
-  started = started;
-  ends = record { kept = refl; open_ = inl refl; answers = λ t. sym (and_then-gives_nil (left_of g e)); again = λ f k. (refl, refl); lets_go = λ h. h; stores = λ t h. h };
-}
+wrote_none g h e w started = grind (arith, none_reads g e.kept e.sources e.sources (not_called g e.sources), not_called g e.sources, and_then-gives_nil (left_of g e), appends_none)
 
 -- one pull more, where what it did to the engine is known
 pub wrote_with : {S R W : Type 0} (g : Ghosts S R) (h : SinkGhosts W) (old mid new : EngineView S R) (before between after : W) (n len : ℕ) (ending : Option Ending)
@@ -137,21 +123,7 @@ pub wrote_with : {S R W : Type 0} (g : Ghosts S R) (h : SinkGhosts W) (old mid n
     → SourcesCalled g (is_fresh is_read_failed old.kept (answered ending new.kept)) (is_fresh is_memory_kind old.kept (answered ending new.kept)) old.sources new.sources
     → new.limits ≡ mid.limits → new.origins ≡ mid.origins → new.main ≡ mid.main → new.table.most_bytes ≡ mid.table.most_bytes → new.table.most_macros ≡ mid.table.most_macros → IsStarted new → WroteEnds g old new (w.bytes ++ p.bytes) ending
     → Wrote g h old new before after (min (n + len) (2 ^ 64 - 1)) ending
-wrote_with g h old mid new before between after n len ending w p reads limits origins main bytes count started ends = record {
-  bytes = w.bytes ++ p.bytes;
-  taken = appends_more _ _ _ w.bytes p.bytes _ w.taken p.taken refl;
-  counted = counted_more n (length w.bytes) len (length p.bytes) _ w.counted p.count (length-append w.bytes p.bytes);
-  writes = counts_after (is_unwritten ending) _ _ _ w.writes p.writes;
-  quiet = unflushed_more h _ _ _ w.quiet p.quiet;
-  reads = reads;
-  limits = limits ∙ w.limits;
-  origins = origins ∙ w.origins;
-  main = main ∙ w.main;
-  most_bytes = bytes ∙ w.most_bytes;
-  most_macros = count ∙ w.most_macros;
-  started = started;
-  ends = ends;
-}
+wrote_with g h old mid new before between after n len ending w p reads limits origins main bytes count started ends = search (arith, appends_more, counted_more, length-append, counts_after, unflushed_more)
 
 -- what is left of an engine, but for the fault that it keeps, where its text is open
 left_but : {S R : Type 0} (g : Ghosts S R) (e : EngineView S R) → e.phase ≡ Open → left_of g (record e { kept = None }) ≡ limited (output_fault e.main) e.quota (outcome (text_of g e))
@@ -178,13 +150,7 @@ alike g at new (BeforeCall c unheld) = record { main = ap (λ e. e.main) c.becom
 pub failed_rest : {S R : Type 0} (g : Ghosts S R) (mid new : EngineView S R) (f : Report) → Step g mid new (Err f) → has_met is_call_failed mid.kept (Err f) ≡ true → (reads : StopsReading g mid new) → g.has_known_texts mid.sources
     → left_of g mid ≡ left_of g (record reads.at { kept = None })
 unfolding left_of lent_len
-failed_rest g mid new f s met reads t =
-    let same = alike g reads.at new reads.stood in
-    let quota : mid.quota ≡ reads.at.quota = (let q = s.quota in let p = same.quota in omega arith) in
-    ap (limited (output_fault mid.main) mid.quota) (left_open g mid (met_free is_call_failed mid.kept f met) reads.open_ ∙ ap outcome (reads.text t))
-    ∙ (ap (λ (n : List ℕ). limited (output_fault n) mid.quota (outcome (text_of g reads.at))) (sym s.main ∙ same.main)
-    ∙ (ap (λ (q : ℕ). limited (output_fault reads.at.main) q (outcome (text_of g reads.at))) quota
-    ∙ sym (left_but g reads.at (sym same.phase ∙ reads.still))))
+failed_rest g mid new f s met reads t = search (arith, alike, left_open, met_free, left_but)
 
 -- where an output ended that was open, nothing is pending
 end_drained : {S R : Type 0} (g : Ghosts S R) (mid new : EngineView S R) (p : Phase) → mid.phase ≡ p → is_open p ≡ true → mid.kept ≡ None → Step g mid new (Ok None) → new.pending ≡ nothing_pending
@@ -209,19 +175,7 @@ goes_on g old mid new xs ys told w s =
 
 -- nothing was left
 pub finishes : {S R : Type 0} (g : Ghosts S R) (old mid new : EngineView S R) (xs ys : List ℕ) → (g.has_known_texts old.sources → g.has_known_texts mid.sources) → Going g old mid xs → Step g mid new (Ok None) → ys ≡ [] → Finishes g old new (xs ++ ys)
-finishes g old mid new xs ys told w s none =
-    let free : old.kept ≡ None = sym w.kept ∙ free_before g (left_of g) lent_len take is_open mid new mid.kept None refl s in
-    record {
-      free = free;
-      kept = (s.ends refl).0;
-      closed = (s.ends refl).1;
-      answers = λ t. w.answers t ∙ ap (and_then (gives xs)) ((ok_tells g mid new None s (told t)).0) ∙ and_then-gives xs [] ∙ ap (λ (zs : List ℕ). gives (xs ++ zs)) (sym none);
-      drained = λ open_. (let was : is_open mid.phase ≡ true = elim w.open_ [ inl same ↦ opened_phase mid.phase (ap (λ e. e.phase) same ∙ open_) | inr still ↦ still ] in
-          end_drained g mid new mid.phase refl was (w.kept ∙ free) s);
-      bounded = s.bounded;
-      lets_go = λ h. s.lets_go (w.lets_go h);
-      stores = λ t h. s.stores (told t) (w.stores t h);
-    }
+finishes g old mid new xs ys told w s none = search (arith, free_before, ok_tells, and_then-gives, opened_phase, end_drained)
 
 -- a fault was answered
 pub stops : {S R : Type 0} (g : Ghosts S R) (old mid new : EngineView S R) (xs ys : List ℕ) → (g.has_known_texts old.sources → g.has_known_texts mid.sources) → Going g old mid xs → StopsAt g mid new ys → Stops g old new (xs ++ ys)
@@ -311,27 +265,13 @@ flushes_as h b c before after e f = subst (λ (x : Bool). Flushes h x before aft
 pub pulled_whole : {S R W : Type 0} (g : Ghosts S R) (h : SinkGhosts W) (old new : EngineView S R) (before after : W) (piece : List ℕ) (len : ℕ)
     → Step g old new (Ok (Some piece)) → len ≡ length piece → Appends (h.taken before) (h.taken after) (take len piece) → Counts false (h.failed_writes before) (h.failed_writes after)
     → Unflushed h before after → Pulls g h old new before after len None
-pulled_whole g h old new before after piece len s whole taken writes quiet = record {
-  bytes = piece;
-  taken = (let P : List ℕ → Type 0 = λ xs. Appends (h.taken before) (h.taken after) xs in subst P (take_all len piece (omega arith)) taken);
-  count = whole;
-  writes = writes;
-  quiet = quiet;
-  ends = s;
-}
+pulled_whole g h old new before after piece len s whole taken writes quiet = search (arith, take_all)
 
 -- a pull of a piece that was written in part
 pub pulled_part : {S R W : Type 0} (g : Ghosts S R) (h : SinkGhosts W) (old new : EngineView S R) (before after : W) (piece : List ℕ) (len : ℕ)
     → Step g old new (Ok (Some piece)) → len ≤ length piece → Appends (h.taken before) (h.taken after) (take len piece) → Counts true (h.failed_writes before) (h.failed_writes after)
     → Unflushed h before after → Pulls g h old new before after len (Some Unwritten)
-pulled_part g h old new before after piece len s inside taken writes quiet = record {
-  bytes = take len piece;
-  taken = taken;
-  count = sym (length-take-le len piece inside);
-  writes = writes;
-  quiet = quiet;
-  ends = (drop len piece, let P : List ℕ → Type 0 = λ xs. Step g old new (Ok (Some xs)) in subst P (sym (take-append-drop len piece)) s);
-}
+pulled_part g h old new before after piece len s inside taken writes quiet = grind (arith, length-take-le len piece inside, take-append-drop len piece)
 
 -- a pull of a piece, by what was written of it
 pub pulled_written : {S R W : Type 0} (g : Ghosts S R) (h : SinkGhosts W) (old new : EngineView S R) (before after : W) (piece : List ℕ) (len : ℕ) (failed : Bool) (ending : Option Ending)
@@ -357,22 +297,12 @@ pulled_silent g h old new w s = record { bytes = []; taken = appends_none (h.tak
 
 -- a pull that came to a fault
 pub pulled_fault : {S R W : Type 0} (g : Ghosts S R) (h : SinkGhosts W) (old new : EngineView S R) (w : W) (f : Report) → Step g old new (Err f) → Pulls g h old new w w 0 (Some Stopped)
-pulled_fault g h old new w f s = record {
-  bytes = [];
-  taken = appends_none (h.taken w);
-  count = refl;
-  writes = refl;
-  quiet = quiet_same h w;
-  ends = record { fault = f; steps = s; none = refl };
-}
+pulled_fault g h old new w f s = search (arith, appends_none, quiet_same)
 
 -- the same of an equal count and an equal ending
 pub wrote_at : {S R W : Type 0} (g : Ghosts S R) (h : SinkGhosts W) (old new : EngineView S R) (before after : W) (n m : ℕ) (e f : Option Ending)
     → Wrote g h old new before after n e → m ≡ n → f ≡ e → Wrote g h old new before after m f
-wrote_at g h old new before after n m e f w p q =
-    let P : ℕ → Type 0 = λ k. Wrote g h old new before after k e in
-    let Q : Option Ending → Type 0 = λ k. Wrote g h old new before after m k in
-    subst Q (sym q) (subst P (sym p) w)
+wrote_at g h old new before after n m e f w p q = grind arith
 
 -- a step, by an answer that is the same
 pub answer_step : {S R : Type 0} (g : Ghosts S R) (old new : EngineView S R) (a b : Result (Option (List ℕ)) Report) → Step g old new a → b ≡ a → Step g old new b
@@ -645,13 +575,7 @@ shows_none h v w x = record { bytes = []; taken = appends_none (h.taken w); look
 -- nothing was taken, and nothing shown, but a watcher that looks was told something else
 pub shows_told : {W V : Type 0} (h : SinkGhosts W) (v : WatcherGhosts V) (w : W) (was now : V) → v.looks now ≡ v.looks was → v.seen now ≡ v.seen was
     → (v.looks was ≡ false → now ≡ was) → Shows h v w w was now
-shows_told h v w was now looks seen blind = record {
-  bytes = [];
-  taken = appends_none (h.taken w);
-  looks = looks;
-  seen = λ _. subst (λ s. Appends (v.seen was) s []) (sym seen) (appends_none (v.seen was));
-  blind = blind;
-}
+shows_told h v w was now looks seen blind = search (arith, appends_none)
 
 -- more was taken, and shown
 pub shows_more : {W V : Type 0} (h : SinkGhosts W) (v : WatcherGhosts V) (before between after : W) (was then_ now : V) → Shows h v before between was then_

@@ -44,13 +44,7 @@ open-lent g n old new place lent w e = follows new.phase (w.lends lent e).1
 
 -- nothing that is lent needs no room
 silent-spent : {S R : Type 0} (e : EngineView S R) → IsSpent e e 0 0
-silent-spent {S} {R} e = record {
-  fits = λ h. (refl, ap (λ (q : ℕ). record e { quota = q }) same);
-  passes = λ h. absurd (omega (arith, h));
-}
-  where
-    same : e.quota ≡ e.quota - 0
-    same = omega arith
+silent-spent {S} {R} e = grind arith
 
 -- a step that lends nothing is one within the limit on the output
 pub silent-steps : {S R : Type 0} (g : Ghosts S R) (old new : EngineView S R) → UncutStepWithin g most_silent old new (Ok (Some [])) → Step g old new (Ok (Some []))
@@ -73,9 +67,7 @@ drained-texts old new x marks drained becomes = rw becomes (record { open_ = dra
 pub lent-texts : {S R : Type 0} (old new : EngineView S R) (x : ExpansionView) (marks : MarksView) (result : CursorStep) (place : TextPlace) → IsDrained old → result ≡ Lends place
     → StaysLent old.expansion result x → new ≡ record old { expansion = x; marks = marks } → IsInTexts new
 unfolding StaysLent
-lent-texts old new x marks result place drained is lent becomes =
-    let open_now : (0 < length x.opens) × (x.arguments ≡ old.expansion.arguments) = subst (λ r. StaysLent old.expansion r x) is lent in
-    (drained-texts old new x marks drained becomes, rw becomes open_now.0)
+lent-texts old new x marks result place drained is lent becomes = search (arith, drained-texts)
 
 -- the fault of an engine that keeps one is what it answers
 pub answer-kept : {S R : Type 0} (g : Ghosts S R) (old new : EngineView S R) (f : Report) → new.kept ≡ Some f → Step g old new (kept_answer new.kept) → Step g old new (Err f)
@@ -121,9 +113,7 @@ told-some (Some f) = refl
 -- what the innermost source shows is the place of the engine
 pub position-by : {S R : Type 0} (inside e : EngineView S R) (f : File R) (outer : List (File R)) (name : List ℕ) (place : Option PlaceView) → inside ≡ e → inside.files.include_stack ≡ f ∷ outer
     → is_some e.kept ≡ false → is_open e.phase ≡ true → place ≡ marked_place inside.marks name (shift_of f.shift) → name ≡ f.name.bytes → place ≡ position_of e
-position-by {S} {R} inside e f outer name place is include_stack none opens shown named =
-    shown ∙ (ap (λ (n : List ℕ). marked_place inside.marks n (shift_of f.shift)) named ∙ (ap (λ (x : EngineView S R). marked_place x.marks f.name.bytes (shift_of f.shift)) is
-    ∙ sym (position_first e f outer (ap (λ (x : EngineView S R). x.files.include_stack) (sym is) ∙ include_stack) none opens)))
+position-by {S} {R} inside e f outer name place is include_stack none opens shown named = grind (arith, position_first)
 
 -- The name of the macro that a usage names is that of the usage.
 

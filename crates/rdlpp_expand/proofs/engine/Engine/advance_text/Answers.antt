@@ -13,9 +13,7 @@ pub charge_quota-len-requires : goal.charge_quota-len-requires
 charge_quota-len-requires g c = open-lent g.S.Sources 255 _ _ (Text c.in-Lent.place) _ (c.in-Lent.ensures.uncut_step c.facts.ensures.bounded) refl
 
 pub returns-in-Lent-clause-place : goal.returns-in-Lent-clause-place
-returns-in-Lent-clause-place g c =
-    text_cut_placed c.walk_texts-step.new.self c.charge_quota-len.new.self c.in-Lent.place c.charge_quota-len.result c.in-Lent.ensures.place
-    (record { fits = c.charge_quota-len.ensures.fits; passes = c.charge_quota-len.ensures.passes })
+returns-in-Lent-clause-place g c = grind (arith, text_cut_placed)
 
 pub returns-in-Lent-clause-steps : goal.returns-in-Lent-clause-steps
 returns-in-Lent-clause-steps g c =

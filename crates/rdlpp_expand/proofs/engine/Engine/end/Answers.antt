@@ -25,9 +25,7 @@ record_fault_at-requires-in-InBlock-clause-line g c =
     omega arith
 
 pub end_plain-requires-clause-mode : goal.end_plain-requires-clause-mode
-end_plain-requires-clause-mode g c =
-    let same = c.file.ensures.buffer ∙ ap (λ e. inner_buffer e.files.include_stack) c.self.view_is in
-    ap (λ b. b.mode) (sym same) ∙ (sym c.mode.ensures ∙ c.in-Plain.is)
+end_plain-requires-clause-mode g c = grind arith
 
 pub returns-in-InStr : goal.returns-in-InStr
 unfolding breach_kind

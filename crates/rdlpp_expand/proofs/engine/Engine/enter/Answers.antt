@@ -7,13 +7,7 @@ use Rattle.rdlpp_expand.proofs.engine.Engine.enter.Goals as goal
 
 pub invariant_of-self : goal.invariant_of-self
 unfolding unused_of opened_buffer
-invariant_of-self g c =
-    let buffer = (inner_facts c.self.inside.files (rw (← c.self.view_is) at c.requires.include_stack) c.facts.ensures).buffer in
-    let counts = buffer.counts in
-    let line = c.line-line.ensures ∙ ap (λ b. b.line) c.file.ensures.buffer in
-    let range = c.self-2.invariant.sources.in_range.source_bytes.1 in
-    whole_entered _ _ _ c.self-2.inside.files _ _ c.self-2.invariant _ _ (ap (λ e. e.phase) c.self-2.view_is ∙ (ap (λ e. e.phase) c.consume.ensures.used ∙ c.requires.open))
-    (ap (λ e. e.conditions.skipped) c.self-2.view_is ∙ (ap (λ e. e.conditions.skipped) c.consume.ensures.used ∙ c.requires.live)) c.enter.ensures c.len-below.ensures.value (omega arith) (omega arith)
+invariant_of-self g c = grind (arith, inner_facts, whole_entered)
 
 pub returns : goal.returns
 returns g c =

@@ -7,20 +7,11 @@ use Rattle.rdlpp_expand.proofs.engine.Engine.leave.Goals as goal
 use Rattle.rdlpp_expand.proofs.engine.Engine.leave.Goals.{then-file, else-file}
 
 pub shown_line-shown-requires : goal.shown_line-shown-requires
-shown_line-shown-requires g c =
-    let number = around_few c.self.inside.files _ c.file-file.result.now c.file-around.result.now c.file-file.ensures.inner (sym (ap (λ f. f.include_stack) c.leave.ensures) ∙ c.file-around.ensures.inner) c.facts.ensures in
-    let line = line_few c.self.inside.files.include_stack c.file-file.result.now c.file-file.ensures.inner c.self.invariant.sources.lines in
-    omega arith
+shown_line-shown-requires g c = grind (arith, around_few, line_few)
 
 pub queue_line_ends-requires : goal.queue_line_ends-requires
 unfolding nothing_pending
-queue_line_ends-requires g c =
-    let none : c.self.inside.pending.line_ends ≡ 0 = ap (λ e. e.pending.line_ends) c.self.view_is ∙ ap (λ o. o.line_ends) c.requires.nothing in
-    let ends : c.if-file.line_ends ≡ (if c.file-file.result.now.ends_mid_line then 1 else 0) = elim c.if-file.branch [
-      | then-file w ↦ w.line_ends-is ∙ rw w.if-file.true refl
-      | else-file w ↦ w.line_ends-is ∙ rw w.if-file.false refl
-    ] in
-    ends_few _ _ c.file-file.result.now.ends_mid_line ends none
+queue_line_ends-requires g c = grind (arith, then-file, else-file, ends_few)
 
 pub invariant_of-self : goal.invariant_of-self
 invariant_of-self g c =

@@ -46,7 +46,4 @@ returns-clause-uncut_step g c = λ bounded.
     (marked ∙ ap (λ n. record c.enter_mode.new.self { files = record c.enter_mode.new.self.files { include_stack = with_inner (consumed_file c.args.copied.len c.args.copied.lines) c.enter_mode.new.self.files.include_stack }; marks = lends_line n c.enter_mode.new.self.marks }) here) begins refl
 
 pub lend_line-requires : goal.lend_line-requires
-lend_line-requires g c =
-    let counts = (inner_facts c.args.self.now.files c.requires.ready.include_stack c.requires.ready.files).buffer.counts in
-    let line : c.line-line.result ≡ (inner_buffer c.args.self.now.files.include_stack).line = c.line-line.ensures ∙ (ap (λ b. b.line) c.file.ensures.buffer ∙ ap (λ e. (inner_buffer e.files.include_stack).line) c.self.view_is) in
-    omega arith
+lend_line-requires g c = grind (arith, inner_facts)

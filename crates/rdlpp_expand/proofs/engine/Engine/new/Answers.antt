@@ -26,7 +26,4 @@ invariant_of-result g c =
 
 pub returns : goal.returns
 unfolding fresh_engine
-returns g c = (
-  c.in_default.ensures.value,
-  rw (c.in-Ok.ensures, c.in-Ok-new.ensures, c.in-Ok-new-2.ensures, c.in-Ok-new-3.ensures, c.new-5.ensures, c.nothing.ensures, c.new-6.ensures) refl,
-)
+returns g c = grind arith

@@ -1,6 +1,6 @@
 use Rattle.std.proofs.Common.{◌≡◌, ◌+◌, length, take, drop, ap, ◌∙◌, arith, length-take-le}
 use Rattle.rdlpp_scan.specs.SourceTokens.{line_ends}
-use Rattle.rdlpp_table.specs.Define.{Accepted, DefinedFault, define_of, observed}
+use Rattle.rdlpp_table.specs.Define.{Accepted, define_of, observed}
 use Rattle.rdlpp_read.specs.Buffer.{held_of}
 use Rattle.rdlpp_read.specs.Files.{inner_buffer}
 use Rattle.rdlpp_read.proofs.Growing.{line_ends_le}
@@ -10,37 +10,15 @@ use Rattle.rdlpp_state.proofs.FrontSteps.{after_word, defined_same, defines_by, 
 use Rattle.rdlpp_expand.proofs.engine.Engine.read_define.Goals as goal
 
 pub consume-requires-clause-lines : goal.consume-requires-clause-lines
-consume-requires-clause-lines g c =
-    let held : c.held.result.now ≡ held_of (inner_buffer c.args.self.now.files.include_stack) = c.held.ensures.value ∙ ap held_of (c.file-file.ensures.buffer ∙ ap (λ e. inner_buffer e.files.include_stack) c.self.view_is) in
-    let few : length (take c.args.len c.held.result.now) ≡ c.args.len = length-take-le c.args.len c.held.result.now (rw held c.requires.inside) in
-    let most = line_ends_le (take c.args.len c.held.result.now) in
-    let count = c.line_ends_in-lines.ensures in
-    omega arith
+consume-requires-clause-lines g c = grind (arith, length-take-le, line_ends_le)
 
 pub queue_line_ends-requires : goal.queue_line_ends-requires
 unfolding nothing_pending
-queue_line_ends-requires g c =
-    let none : c.self-in-Ok.inside.pending.line_ends ≡ 0 =
-    ap (λ e. e.pending.line_ends) c.self-in-Ok.view_is ∙ (ap (λ e. e.pending.line_ends) c.consume.ensures.used ∙ (ap (λ e. e.pending.line_ends) c.self.view_is ∙ ap (λ o. o.line_ends) c.requires.nothing)) in
-    let few = c.line_ends_in-lines.type_inv in
-    omega arith
+queue_line_ends-requires g c = grind arith
 
 pub returns-in-Err-clause-reads : goal.returns-in-Err-clause-reads
 unfolding observed
-returns-in-Err-clause-reads g c =
-    let e = c.args.self.now in
-    let held : c.held.result.now ≡ held_of (inner_buffer e.files.include_stack) = c.held.ensures.value ∙ ap held_of (c.file-file.ensures.buffer ∙ ap (λ e. inner_buffer e.files.include_stack) c.self.view_is) in
-    let inside : c.held.result.now ≡ held_of (inner_buffer c.self.inside.files.include_stack) = c.held.ensures.value ∙ ap held_of c.file-file.ensures.buffer in
-    let wide : length (take c.args.len c.held.result.now) ≡ c.args.len = length-take-le c.args.len c.held.result.now (rw held c.requires.inside) in
-    let rest = after_word (take c.args.len c.held.result.now) c.args.len c.min.result wide c.min.ensures in
-    let refused : define_of e.table.most_bytes e.table.most_macros e.table.macros (define_rest e c.args.len) ≡ DefinedFault c.in-Err.fault.kind c.in-Err.fault.word.bytes =
-    rw (← c.self.view_is) (defined_same _ _ _ _ _ _ c.in-Err.ensures.outcome (rest ∙ ap (λ h. drop 7 (take c.args.len h)) inside)) in
-    reads_refused c.args.len e c.record_word_fault.new.self c.record_word_fault.result c.record_word_fault.ensures.place (record {
-      kind = c.in-Err.fault.kind;
-      word = c.in-Err.fault.word.bytes;
-      refused = refused;
-      becomes = rw (← c.self.view_is, ← c.fault_kind.ensures) (rw c.in-Err.ensures.refused at c.record_word_fault.ensures.kept);
-    })
+returns-in-Err-clause-reads g c = grind (arith, length-take-le, after_word, defined_same, reads_refused)
 
 pub returns-in-Ok-clause-reads : goal.returns-in-Ok-clause-reads
 unfolding observed

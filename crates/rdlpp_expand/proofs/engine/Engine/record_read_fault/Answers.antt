@@ -1,4 +1,4 @@
-use Rattle.std.proofs.Common.{◌≡◌, ap, ◌∙◌, refl, arith}
+use Rattle.std.proofs.Common.{◌≡◌, ap, ◌∙◌, arith}
 use Rattle.rdlpp_read.specs.Buffer.{held_of, reading_line_of}
 use Rattle.rdlpp_read.specs.Files.{inner_buffer}
 use Rattle.rdlpp_read.proofs.Growing.{line_ends_le}
@@ -17,7 +17,4 @@ record_fault_at-requires-clause-line g c =
     omega arith
 
 pub returns-clause-kept : goal.returns-clause-kept
-returns-clause-kept g c =
-    let line : c.reading_line-line.result ≡ reading_line_of (inner_buffer c.args.self.now.files.include_stack) = c.reading_line-line.ensures ∙ (ap reading_line_of c.file.ensures.buffer ∙ ap (λ e. reading_line_of (inner_buffer e.files.include_stack)) c.self.view_is) in
-    let word = c.new.ensures in
-    c.record_fault_at.ensures.kept ∙ rw (line, word) refl
+returns-clause-kept g c = grind arith

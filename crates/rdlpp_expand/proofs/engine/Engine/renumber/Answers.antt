@@ -1,4 +1,4 @@
-use Rattle.std.proofs.Common.{◌≡◌, ◌+◌, length, take, ap, ◌∙◌, arith, length-take-le}
+use Rattle.std.proofs.Common.{◌≡◌, ◌+◌, take, ap, ◌∙◌, arith, length-take-le}
 use Rattle.rdlpp_scan.specs.SourceTokens.{line_ends}
 use Rattle.rdlpp_read.specs.Buffer.{held_of}
 use Rattle.rdlpp_read.specs.Files.{inner_buffer}
@@ -10,22 +10,11 @@ use Rattle.rdlpp_state.proofs.LineSteps.{renumbers_by}
 use Rattle.rdlpp_expand.proofs.engine.Engine.renumber.Goals as goal
 
 pub consume-requires-clause-lines : goal.consume-requires-clause-lines
-consume-requires-clause-lines g c =
-    let len = 5 + c.args.given.stop in
-    let held : c.held.result.now ≡ held_of (inner_buffer c.args.self.now.files.include_stack) = c.held.ensures.value ∙ ap held_of (c.file.ensures.buffer ∙ ap (λ e. inner_buffer e.files.include_stack) c.self.view_is) in
-    let few : length (take len c.held.result.now) ≡ len = length-take-le len c.held.result.now (rw held c.requires.inside) in
-    let most = line_ends_le (take len c.held.result.now) in
-    let count = c.line_ends_in-lines.ensures in
-    omega arith
+consume-requires-clause-lines g c = grind (arith, length-take-le, line_ends_le)
 
 pub queue_line_ends-requires : goal.queue_line_ends-requires
 unfolding nothing_pending
-queue_line_ends-requires g c =
-    let none : c.self-2.inside.pending.line_ends ≡ 0 =
-    ap (λ e. e.pending.line_ends) c.self-2.view_is ∙ (ap (λ e. e.pending.line_ends) c.show.ensures ∙ (ap (λ e. e.pending.line_ends) c.consume.ensures.used
-    ∙ ap (λ o. o.line_ends) c.requires.nothing)) in
-    let few = c.line_ends_in-lines.type_inv in
-    omega arith
+queue_line_ends-requires g c = grind arith
 
 pub returns : goal.returns
 returns g c =

@@ -1,4 +1,4 @@
-use Rattle.std.proofs.Common.{◌≡◌, true, false, length, take, [], sym, ap, ◌∙◌, arith, refl, length-take-le}
+use Rattle.std.proofs.Common.{◌≡◌, true, false, take, [], ap, ◌∙◌, arith, refl, length-take-le}
 use Rattle.rdlpp_scan.specs.SourceTokens.{line_ends}
 use Rattle.rdlpp_meaning.specs.declared.fault.FaultKind.TheVariants as fault
 use Rattle.rdlpp_read.specs.Buffer.{held_of}
@@ -12,10 +12,7 @@ use Rattle.rdlpp_expand.proofs.engine.Engine.skip_define.Goals as goal
 use Rattle.rdlpp_state.proofs.Stores.{own_kind}
 
 pub slice_bounds-line_ends_in-end : goal.slice_bounds-line_ends_in-end
-slice_bounds-line_ends_in-end g c =
-    let same = c.file.ensures.buffer ∙ ap (λ e. inner_buffer e.files.include_stack) c.self.view_is in
-    let held : c.held.result.now ≡ held_of (inner_buffer c.hold_line.new.self.files.include_stack) = c.held.ensures.value ∙ ap held_of same in
-    sym (length-take-le c.in-Whole.len c.held.result.now (rw held (c.in-Whole.ensures.holds.has.0)))
+slice_bounds-line_ends_in-end g c = grind (arith, length-take-le)
 
 pub pass-requires-clause-include_stack : goal.pass-requires-clause-include_stack
 pass-requires-clause-include_stack g c = c.facts.ensures.sound.open_ (opened_phase _ (ap (λ e. e.phase) c.in-Whole.ensures.becomes ∙ c.requires.ready.open_))
@@ -24,13 +21,7 @@ pub pass-requires-clause-inside : goal.pass-requires-clause-inside
 pass-requires-clause-inside g c = c.in-Whole.ensures.holds.has.0
 
 pub pass-requires-clause-lines : goal.pass-requires-clause-lines
-pass-requires-clause-lines g c =
-    let same = c.file.ensures.buffer ∙ ap (λ e. inner_buffer e.files.include_stack) c.self.view_is in
-    let held : c.held.result.now ≡ held_of (inner_buffer c.hold_line.new.self.files.include_stack) = c.held.ensures.value ∙ ap held_of same in
-    let few : length (take c.in-Whole.len c.held.result.now) ≡ c.in-Whole.len = length-take-le c.in-Whole.len c.held.result.now (rw held (c.in-Whole.ensures.holds.has.0)) in
-    let most = line_ends_le (take c.in-Whole.len c.held.result.now) in
-    let count = c.line_ends_in-lines.ensures in
-    omega arith
+pass-requires-clause-lines g c = grind (arith, length-take-le, line_ends_le)
 
 pub pass-requires-clause-nothing : goal.pass-requires-clause-nothing
 pass-requires-clause-nothing g c = ap (λ e. e.pending) c.in-Whole.ensures.becomes ∙ c.requires.ready.pending

@@ -9,21 +9,10 @@ use Rattle.rdlpp_state.proofs.DirectiveSteps.{skipping, stretch_steps}
 use Rattle.rdlpp_expand.proofs.engine.Engine.skip_front.Goals as goal
 
 pub pass-requires-clause-inside : goal.pass-requires-clause-inside
-pass-requires-clause-inside g c =
-    let e = c.args.self.now in
-    let same = c.file.ensures.buffer ∙ ap (λ e. inner_buffer e.files.include_stack) c.self.view_is in
-    let held : c.held.result.now ≡ held_of (inner_buffer c.args.self.now.files.include_stack) = c.held.ensures.value ∙ ap held_of same in
-    let mode : c.mode.result ≡ (inner_buffer c.args.self.now.files.include_stack).mode = c.mode.ensures ∙ ap (λ b. b.mode) same in
-    let inside : c.skip_text-stretch.result.len ≤ length (held_of (inner_buffer e.files.include_stack)) = rw (← held) c.skip_text-stretch.ensures.inside in
-    let same_held : held_of (inner_buffer c.enter_mode.new.self.files.include_stack) ≡ held_of (inner_buffer e.files.include_stack) = ap (λ e. held_of (inner_buffer e.files.include_stack)) c.enter_mode.ensures ∙ entered_holds _ _ in
-    rw same_held inside
+pass-requires-clause-inside g c = grind (arith, entered_holds)
 
 pub pass-requires-clause-lines : goal.pass-requires-clause-lines
-pass-requires-clause-lines g c =
-    let few = length-take-le c.skip_text-stretch.result.len c.held.result.now c.skip_text-stretch.ensures.inside in
-    let most = line_ends_le (take c.skip_text-stretch.result.len c.held.result.now) in
-    let count = c.skip_text-stretch.ensures.line_ends in
-    omega arith
+pass-requires-clause-lines g c = grind (arith, length-take-le, line_ends_le)
 
 pub returns-clause-uncut_step : goal.returns-clause-uncut_step
 returns-clause-uncut_step g c = λ bounded.

@@ -7,16 +7,10 @@ use Rattle.rdlpp_state.proofs.DirectiveSteps.{line_steps, skipping}
 use Rattle.rdlpp_expand.proofs.engine.Engine.skip_line.Goals as goal
 
 pub pass-requires-clause-inside : goal.pass-requires-clause-inside
-pass-requires-clause-inside g c =
-    let held : c.held-held.result.now ≡ held_of (inner_buffer c.args.self.now.files.include_stack) = c.held-held.ensures.value ∙ ap held_of (c.file.ensures.buffer ∙ ap (λ e. inner_buffer e.files.include_stack) c.self.view_is) in
-    rw (← held) c.line_len-len.ensures.inside
+pass-requires-clause-inside g c = grind arith
 
 pub pass-requires-clause-lines : goal.pass-requires-clause-lines
-pass-requires-clause-lines g c =
-    let few = length-take-le c.line_len-len.result c.held-held.result.now c.line_len-len.ensures.inside in
-    let most = line_ends_le (take c.line_len-len.result c.held-held.result.now) in
-    let count = c.line_ends_in-lines.ensures in
-    omega arith
+pass-requires-clause-lines g c = grind (arith, length-take-le, line_ends_le)
 
 pub returns-clause-uncut_step : goal.returns-clause-uncut_step
 returns-clause-uncut_step g c = λ bounded.

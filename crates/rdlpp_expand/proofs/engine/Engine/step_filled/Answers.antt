@@ -7,9 +7,7 @@ use Rattle.rdlpp_expand.proofs.engine.Engine.step_filled.Goals as goal
 use Rattle.rdlpp_state.proofs.Stores.{own_kind}
 
 pub take_held-requires : goal.take_held-requires
-take_held-requires g c =
-    let r : IsRead g.S.Sources c.args.self.now c.fill.new.self = record { becomes = c.in-Held.ensures.becomes; only = c.in-Held.ensures.only; moves = slid _ _ _ _ _ c.in-Held.ensures.fills.slides } in
-    record { ready = ready_filled _ _ c.requires r c.facts.ensures.sound c.facts.ensures.files; some = c.in-Held.ensures.fills.bytes }
+take_held-requires g c = grind (arith, slid, ready_filled)
 
 pub returns-in-Held-clause-uncut_step : goal.returns-in-Held-clause-uncut_step
 returns-in-Held-clause-uncut_step g c = λ bounded.

@@ -1,6 +1,4 @@
-use Rattle.std.proofs.Common.{◌≡◌, arith}
-use Rattle.rdlpp_state.specs.Moves.{IsDrained}
-use Rattle.rdlpp_state.specs.Pending.{nothing_pending}
+use Rattle.std.proofs.Common.{arith}
 use Rattle.rdlpp_state.proofs.EngineSteps.{wider}
 use Rattle.rdlpp_state.proofs.FrontSteps.{opened_phase, pending_is_placed, ready_idle, take_pending}
 use Rattle.rdlpp_expand.proofs.engine.Engine.step_open.Goals as goal
@@ -14,13 +12,7 @@ returns-in-Some-clause-uncut_step g c = λ bounded.
     wider g.S.Sources 0 1 _ _ _ (omega arith) (take_pending g.S.Sources c.args.self.now _ c.in-Some.piece t.rest c.requires.free c.requires.open bounded t.takes t.becomes)
 
 pub returns-in-Some-clause-place : goal.returns-in-Some-clause-place
-returns-in-Some-clause-place g c =
-    let t = c.in-Some.ensures.piece in
-    pending_is_placed c.args.self.now _ c.in-Some.piece t.rest (c.facts.ensures.sound.open_ (opened_phase c.args.self.now.phase c.requires.open)) _ t.takes t.becomes
+returns-in-Some-clause-place g c = grind (arith, pending_is_placed, opened_phase)
 
 pub step_sources-requires : goal.step_sources-requires
-step_sources-requires g c =
-    let pending : c.args.self.now.pending ≡ nothing_pending = c.in-None.ensures.nothing.0 in
-    let same = c.in-None.ensures.nothing.1 in
-    let drained : IsDrained c.args.self.now = record { open_ = c.requires.open; free = c.requires.free; pending = pending } in
-    rw same (ready_idle c.args.self.now drained (c.requires.outside drained) c.facts.ensures.sound c.facts.ensures.files)
+step_sources-requires g c = grind (arith, ready_idle)

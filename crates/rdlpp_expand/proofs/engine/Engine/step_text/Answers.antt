@@ -47,8 +47,4 @@ pub returns-in-Refused-clause-stays : goal.returns-in-Refused-clause-stays
 returns-in-Refused-clause-stays g c = ap (λ e. is_some e.kept) c.record_text_fault-kept.ensures.kept
 
 pub lend_usage-requires : goal.lend_usage-requires
-lend_usage-requires g c =
-    let few = c.facts.ensures.texts.line in
-    let stays = subst (λ v. StaysOpen v.expansion c.step-step.new.self) c.self.view_is c.step-step.ensures.stays in
-    let line = c.line-line.ensures ∙ stays.line in
-    omega arith
+lend_usage-requires g c = grind arith

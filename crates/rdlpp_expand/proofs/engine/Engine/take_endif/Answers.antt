@@ -14,10 +14,7 @@ use Rattle.rdlpp_state.proofs.Soundness.{conditions_end, inner_most, whole_with}
 use Rattle.rdlpp_expand.proofs.engine.Engine.take_endif.Goals as goal
 
 pub close-requires : goal.close-requires
-close-requires g c =
-    let below = sym (ap inner_below c.file.ensures.inner) in
-    let most = inner_most c.self.inside.limits c.self.inside.conditions c.self.inside.files.include_stack c.self.invariant.sources.conditions_of in
-    omega arith
+close-requires g c = grind (arith, inner_most)
 
 pub returns-in-Err-clause-uncut_step : goal.returns-in-Err-clause-uncut_step
 returns-in-Err-clause-uncut_step g c = λ bounded.

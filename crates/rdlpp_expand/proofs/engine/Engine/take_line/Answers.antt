@@ -1,4 +1,4 @@
-use Rattle.std.proofs.Common.{◌≡◌, ℕ, List, [], None, true, false, length, take, drop, sym, ap, ◌∙◌, subst, arith, refl}
+use Rattle.std.proofs.Common.{◌≡◌, ℕ, List, [], None, true, false, take, drop, sym, ap, ◌∙◌, subst, arith, refl}
 use Rattle.rdlpp_scan.specs.SourceTokens.{line_len}
 use Rattle.rdlpp_meaning.specs.Meaning.{renumbered}
 use Rattle.rdlpp_meaning.specs.declared.fault.FaultKind.TheVariants as fault
@@ -22,12 +22,7 @@ returns-then-not-file-clause-uncut_step g c = λ bounded.
     (λ t. left_late_line g.S.Sources e c.requires.ready c.requires.live c.requires.some c.requires.mode c.requires.line late)
 
 pub line_argument-requires : goal.line_argument-requires
-line_argument-requires g c =
-    let h = held_of (inner_buffer c.args.self.now.files.include_stack) in
-    let held : c.held.result.now ≡ h = c.held.ensures.value ∙ ap held_of (c.file-file.ensures.buffer ∙ ap (λ e. inner_buffer e.files.include_stack) c.self.view_is) in
-    let size : length c.held.result.now ≡ length h = ap length held in
-    let whole = word_held h c.requires.some c.requires.line in
-    omega arith
+line_argument-requires g c = grind (arith, word_held)
 
 pub returns-in-None-clause-uncut_step : goal.returns-in-None-clause-uncut_step
 returns-in-None-clause-uncut_step g c = λ bounded.
@@ -39,24 +34,10 @@ returns-in-None-clause-uncut_step g c = λ bounded.
     (λ t. left_bad_line g.S.Sources e c.requires.ready c.requires.live c.requires.some c.requires.mode c.requires.line bad)
 
 pub renumber-requires-clause-inside : goal.renumber-requires-clause-inside
-renumber-requires-clause-inside g c =
-    let h = held_of (inner_buffer c.args.self.now.files.include_stack) in
-    let held : c.held.result.now ≡ h = c.held.ensures.value ∙ ap held_of (c.file-file.ensures.buffer ∙ ap (λ e. inner_buffer e.files.include_stack) c.self.view_is) in
-    let size : length (drop 5 c.held.result.now) ≡ length (drop 5 h) = ap (λ (x : List ℕ). length (drop 5 x)) held in
-    let inside = c.in-Some.ensures.inside in
-    let whole = word_held h c.requires.some c.requires.line in
-    omega arith
+renumber-requires-clause-inside g c = grind (arith, word_held)
 
 pub renumber-requires-clause-few : goal.renumber-requires-clause-few
-renumber-requires-clause-few g c =
-    let e = c.args.self.now in
-    let h = held_of (inner_buffer e.files.include_stack) in
-    let held : c.held.result.now ≡ h = c.held.ensures.value ∙ ap held_of (c.file-file.ensures.buffer ∙ ap (λ e. inner_buffer e.files.include_stack) c.self.view_is) in
-    let size : length (drop 5 c.held.result.now) ≡ length (drop 5 h) = ap (λ (x : List ℕ). length (drop 5 x)) held in
-    let inside = c.in-Some.ensures.inside in
-    let whole = word_held h c.requires.some c.requires.line in
-    let short = held_short e c.requires.ready.sound c.requires.ready.files c.requires.ready.include_stack in
-    omega arith
+renumber-requires-clause-few g c = grind (arith, word_held, held_short)
 
 pub returns-in-Some-clause-uncut_step : goal.returns-in-Some-clause-uncut_step
 returns-in-Some-clause-uncut_step g c = λ bounded.
