@@ -4,7 +4,7 @@ use Rattle.std.specs.declared.alloc.Global.{Global}
 use Rattle.std.specs.HashMap.{HashMap, UpdatesBy, get_by_text}
 use Rattle.std.specs.Map.{lookup}
 use Rattle.std.proofs.lemmas.Map.Text.{hash_map_updates_text}
-use Rattle.rdlpp_reports.specs.Places.{Forgets, NotesPlace, Shown, shown_at, shown_of}
+use Rattle.rdlpp_reports.specs.Places.{Forgets, Shown, shown_at, shown_of}
 use Rattle.rdlpp_reports.specs.declared.places.DefinitionPlaces.{DefinitionPlaces}
 use Rattle.rdlpp_reports.specs.declared.places.ShownPlace.{ShownPlace}
 

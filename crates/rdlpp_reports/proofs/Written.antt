@@ -13,7 +13,7 @@ use Rattle.std.proofs.lemmas.List.Quantifiers.{position-Some}
 use Rattle.std.proofs.lemmas.Map.Keys.{apart_from_distinct}
 use Rattle.std.proofs.lemmas.Slice.Eq.{bytes_eq-Decides}
 use Rattle.rdlpp_table.specs.Table.{Formal, Macro, default_bytes, formal_bytes, macro_bytes}
-use Rattle.rdlpp_table.specs.View.{formals_of, macro_at, no_macro}
+use Rattle.rdlpp_table.specs.View.{formals_of, macro_at}
 use Rattle.rdlpp_table.proofs.Orders.{position_is}
 use Rattle.rdlpp_reports.specs.Definitions.{BeginsWith, continued, definition_line, ends_in_slash, ends_name, formal_part, formal_text, formals_text, list_text, marked_text}
 use Rattle.rdlpp_reports.specs.Dependencies.{empty_rule, included, prerequisite, quote, rule_name}
@@ -49,37 +49,21 @@ writes_by old new a b r e w = subst (λ bytes. Writes old new bytes r) e w
 
 -- a part failed, and nothing of what follows was written
 pub writes_part : {T U E F : Type 0} (old new : Option (List ℕ)) (a b : List ℕ) (e : E) (f : F) → Writes {T = T} old new a (Err e) → Writes {T = U} old new (a ++ b) (Err f)
-writes_part old new a b e f w = record {
-  written = w.written;
-  rest = w.rest ++ b;
-  split = ap (λ l. l ++ b) w.split ∙ append_assoc w.written w.rest b;
-  taken = w.taken;
-  whole = tt;
-}
+writes_part old new a b e f w = search (arith, append_assoc)
 
 -- where all was written, that is what was taken
 pub writes_whole : {T E : Type 0} (old new : Option (List ℕ)) (bytes : List ℕ) (x : T) → Writes {E = E} old new bytes (Ok x) → Appends old new bytes
-writes_whole old new bytes x w =
-    let all : bytes ≡ w.written = w.split ∙ ap (λ l. w.written ++ l) w.whole ∙ append-nil w.written in
-    subst (Appends old new) (sym all) w.taken
+writes_whole old new bytes x w = search (arith, append-nil)
 
 -- one part more
 pub flat-take-suc : {A : Type 0} (f : A → List ℕ) (xs : List A) (i : ℕ) (d : A) → i < length xs
     → flat_map f (take (i + 1) xs) ≡ flat_map f (take i xs) ++ f (slice_index_or xs i d)
-flat-take-suc f xs i d h =
-    let x = slice_index_or xs i d in
-    ap (flat_map f) (ap (λ k. take k xs) (add-one i) ∙ take-suc xs i d h)
-    ∙ flat_map-append f (take i xs) (x ∷ [])
-    ∙ ap (λ bs. flat_map f (take i xs) ++ bs) (append-nil (f x))
+flat-take-suc f xs i d h = grind (arith, add-one i, take-suc xs i d h, flat_map-append, append-nil)
 
 -- the parts are those so far, one, and the others
 pub flat-split : {A : Type 0} (f : A → List ℕ) (xs : List A) (i : ℕ) (d : A) → i < length xs
     → flat_map f xs ≡ flat_map f (take i xs) ++ (f (slice_index_or xs i d) ++ flat_map f (drop (suc i) xs))
-flat-split f xs i d h =
-    let x = slice_index_or xs i d in
-    let rest = drop (suc i) xs in
-    ap (flat_map f) (sym (take-append-drop i xs) ∙ ap (λ ps. take i xs ++ ps) (drop-cons xs i d h))
-    ∙ flat_map-append f (take i xs) (x ∷ rest)
+flat-split f xs i d h = grind (arith, take-append-drop i xs, drop-cons xs i d h, flat_map-append)
 
 -- a part more was written behind those so far
 pub flat-grows : {A T E : Type 0} (f : A → List ℕ) (xs : List A) (i : ℕ) (d : A) (old between new : Option (List ℕ)) (x : T) → i < length xs
@@ -92,9 +76,7 @@ flat-grows f xs i d old between new x h done w =
 pub flat-fails : {A T U E F : Type 0} (f : A → List ℕ) (xs : List A) (i : ℕ) (d : A) (old between new : Option (List ℕ)) (e : E) (r : F) → i < length xs
     → Appends old between (flat_map f (take i xs)) → Writes {T = T} between new (f (slice_index_or xs i d)) (Err e)
     → Writes {T = U} old new (flat_map f xs) (Err r)
-flat-fails f xs i d old between new e r h done w =
-    writes_by old new _ _ _ (sym (flat-split f xs i d h))
-    (writes_then old between new _ _ _ done (writes_part between new _ (flat_map f (drop (suc i) xs)) e r w))
+flat-fails f xs i d old between new e r h done w = grind (arith, flat-split f xs i d h, writes_by, writes_then, writes_part)
 
 -- A name was written as make reads it, byte by byte.
 
@@ -131,10 +113,7 @@ name-fails name rest following end b old between new e f is w h =
 pub name-ends : {T E : Type 0} (name rest end : List ℕ) (old between new : Option (List ℕ)) (r : Result T E) → rest ≡ []
     → NameWritten name rest old between → Writes between new end r → Writes old new (rule_name name ++ end) r
 unfolding rule_name
-name-ends name rest end old between new r is w h =
-    writes_by old new _ _ _
-    (sym (ap (λ l. l ++ end) (w.split ∙ ap (λ r. w.done ++ rule_name r) is) ∙ append_assoc w.done [] end))
-    (writes_then old between new _ _ _ w.appended h)
+name-ends name rest end old between new r is w h = search (arith, writes_by, append_assoc, writes_then)
 
 -- the included sources by their paths
 pub included-map : {A B : Type 0} (f : A → B) (xs : List A) → map f (included xs) ≡ included (map f xs)
@@ -144,10 +123,7 @@ included-map f (x ∷ xs) = refl
 -- the rules of the included sources
 pub rules-following : {A : Type 0} (f : A → List ℕ) (xs rest : List A) (paths : List (List ℕ)) → rest ≡ included xs → map f xs ≡ paths
     → flat_map (λ x. empty_rule (f x)) rest ≡ flat_map empty_rule (included paths)
-rules-following f xs rest paths e p =
-    sym (flat_map-map empty_rule f rest)
-    ∙ ap (λ r. flat_map empty_rule (map f r)) e
-    ∙ ap (flat_map empty_rule) (included-map f xs ∙ ap included p)
+rules-following f xs rest paths e p = search (arith, flat_map-map, included-map)
 
 -- the sources behind the target
 pub sources-following : {A : Type 0} (f : A → List ℕ) (xs : List A) (paths : List (List ℕ)) → map f xs ≡ paths
@@ -156,9 +132,7 @@ sources-following f xs paths p = sym (flat_map-map prerequisite f xs) ∙ ap (fl
 
 -- a source that isn't standard input
 pub prerequisite-named : (path : List ℕ) → bytes_eq path (codes "-") ≡ false → prerequisite path ≡ codes " \\\n " ++ (rule_name path ++ [])
-prerequisite-named path h =
-    ap (λ b. if b then [] else codes " \\\n " ++ rule_name path) h
-    ∙ ap (λ l. codes " \\\n " ++ l) (sym (append-nil (rule_name path)))
+prerequisite-named path h = search (arith, append-nil)
 
 -- standard input
 pub prerequisite-input : (path : List ℕ) → bytes_eq path (codes "-") ≡ true → [] ≡ prerequisite path
@@ -168,10 +142,7 @@ prerequisite-input path h = sym (ap (λ b. if b then [] else codes " \\\n " ++ r
 
 -- distinct names differ
 apart : {X : Type 0} (f : X → List ℕ) (xs : List X) (d : X) (i j : ℕ) → IsDistinct bytes_eq (map f xs) → i < j → j < length xs → bytes_eq (f (get_or xs i d)) (f (get_or xs j d)) ≡ false
-apart f xs d i j h b l =
-    ap (λ n. bytes_eq n (f (get_or xs j d))) (sym (get_or-map f xs i d))
-    ∙ ap (bytes_eq (get_or (map f xs) i (f d))) (sym (get_or-map f xs j d))
-    ∙ apart_from_distinct bytes_eq (map f xs) i j (f d) h b (omega (arith, l, length-map xs f))
+apart f xs d i j h b l = grind (arith, get_or-map f xs i d, get_or-map f xs j d, apart_from_distinct bytes_eq (map f xs) i j (f d) h b (omega (arith, l, length-map xs f)), length-map xs f)
 
 -- the place of the name at a place
 pub place_of_name : {X : Type 0} (f : X → List ℕ) (xs : List X) (d : X) (i : ℕ) → IsDistinct bytes_eq (map f xs) → i < length xs → position (λ x. bytes_eq (f x) (f (get_or xs i d))) xs ≡ Some i
@@ -225,10 +196,7 @@ first_ends f rest (b ∷ bs) e = refl
 -- behind a formal's name stands a byte that ends it
 pub name_ends : (bytes rest : List ℕ) (f : Formal) (len : ℕ) → bytes ≡ f.name ++ after_name f rest → len ≡ length f.name → ends_name (slice_index bytes len) ≡ true
 unfolding after_name
-name_ends bytes rest f len e l =
-    ap (λ n. ends_name (slice_index bytes n)) l
-    ∙ (ap (λ bs. ends_name (slice_index bs (length f.name))) e
-    ∙ (ap ends_name (index-length f.name ((default_bytes f.text ++ 44 ∷ []) ++ rest)) ∙ first_ends f rest f.text refl))
+name_ends bytes rest f len e l = grind (arith, index-length f.name ((default_bytes f.text ++ 44 ∷ []) ++ rest), first_ends f rest f.text refl)
 
 -- where the first of two tests holds and not both do
 second_fails : (a b : Bool) → (a && b) ≡ false → a ≡ true → b ≡ false
@@ -276,10 +244,7 @@ tail_plain (b ∷ bs) after h = absurd (omega arith)
 tail_default : (text after : List ℕ) → (length text ≡ 0 → ⊥) → drop (length text + 2) ((default_bytes text ++ 44 ∷ []) ++ after) ≡ after
 unfolding default_bytes
 tail_default [] after h = absurd (h refl)
-tail_default (b ∷ bs) after h =
-    let front : List ℕ = 61 ∷ ((b ∷ bs) ++ 44 ∷ []) in
-    let count : length (b ∷ bs) + 2 ≡ length front = omega (arith, length-append (b ∷ bs) (44 ∷ [])) in
-    ap (λ n. drop n (front ++ after)) count ∙ drop_front front after
+tail_default (b ∷ bs) after h = grind (arith, length-append (b ∷ bs) (44 ∷ []), drop_front)
 
 -- what stands behind a formal without a default text
 pub after_plain : (bytes after name rest text : List ℕ) (f : Formal) → bytes ≡ formal_bytes f ++ after → name ≡ f.name → rest ≡ drop (length name) bytes → text ≡ f.text → length text ≡ 0 → drop 1 rest ≡ after
@@ -296,22 +261,12 @@ after_default bytes after name rest text f e n r t h =
 -- what stands behind a macro's name
 pub formals_after : (bytes after name rest : List ℕ) (m : Macro) → bytes ≡ macro_bytes m ++ after → name ≡ m.name → rest ≡ drop (length name) bytes → rest ≡ flat_map formal_bytes (drop 0 (formals_of m)) ++ (m.body ++ after)
 unfolding macro_bytes
-formals_after bytes after name rest m e n r =
-    let formals = flat_map formal_bytes (formals_of m) in
-    r
-    ∙ (ap (λ l. drop (length l) bytes) n
-    ∙ (ap (drop (length m.name)) (e ∙ append_assoc m.name (formals ++ m.body) after)
-    ∙ (drop_front m.name ((formals ++ m.body) ++ after) ∙ append_assoc formals m.body after)))
+formals_after bytes after name rest m e n r = grind (arith, append_assoc, drop_front)
 
 -- the formals from a place on are the one at the place, and those behind it
 pub formals_from : (fs : List Formal) (d : Formal) (place : ℕ) (rest tail : List ℕ) → place < length fs → rest ≡ flat_map formal_bytes (drop place fs) ++ tail
     → rest ≡ formal_bytes (get_or fs place d) ++ (flat_map formal_bytes (drop (place + 1) fs) ++ tail)
-formals_from fs d place rest tail h e =
-    let f = get_or fs place d in
-    e
-    ∙ (ap (λ l. flat_map formal_bytes l ++ tail) (drop-cons fs place d h)
-    ∙ (append_assoc (formal_bytes f) (flat_map formal_bytes (drop (suc place) fs)) tail
-    ∙ ap (λ n. formal_bytes f ++ (flat_map formal_bytes (drop n fs) ++ tail)) (sym (add-one place))))
+formals_from fs d place rest tail h e = search (arith, drop-cons, append_assoc, add-one)
 
 -- behind the last formal
 pub formals_end : (fs : List Formal) (place : ℕ) (rest tail : List ℕ) → length fs ≤ place → rest ≡ flat_map formal_bytes (drop place fs) ++ tail → rest ≡ tail
@@ -329,17 +284,12 @@ count_formals (Some fs) arity e = ap (λ a. unwrap_or a 0) e
 -- the macros from a place on are the one at the place, and those behind it
 pub macros_from : (ms : List Macro) (place : ℕ) (rest : List ℕ) → place < length ms → rest ≡ flat_map macro_bytes (drop place ms)
     → rest ≡ macro_bytes (macro_at ms place) ++ flat_map macro_bytes (drop (place + 1) ms)
-macros_from ms place rest h e =
-    e
-    ∙ (ap (flat_map macro_bytes) (drop-cons ms place no_macro h)
-    ∙ ap (λ n. macro_bytes (macro_at ms place) ++ flat_map macro_bytes (drop n ms)) (sym (add-one place)))
+macros_from ms place rest h e = search (arith, drop-cons, add-one)
 
 -- a macro's bytes begin with its name
 pub macro_name : (rest after : List ℕ) (m : Macro) → rest ≡ macro_bytes m ++ after → BeginsWith rest m.name
 unfolding macro_bytes
-macro_name rest after m e =
-    let following = flat_map formal_bytes (formals_of m) ++ m.body in
-    (following ++ after, e ∙ append_assoc m.name following after)
+macro_name rest after m e = grind (arith, append_assoc)
 
 -- Formals were written one after another, and the lines of macros.
 
@@ -360,10 +310,7 @@ pub record FormalsWritten (fs : List Formal) (place : ℕ) (old new : Option (Li
 -- the formal at a place, and those behind it
 part_split : (fs : List Formal) (d : Formal) (place : ℕ) (done : List ℕ) → place < length fs → formals_text 0 fs ≡ done ++ formals_text place (drop place fs)
     → formals_text 0 fs ≡ done ++ (formal_part place (get_or fs place d) ++ formals_text (place + 1) (drop (place + 1) fs))
-part_split fs d place done h e =
-    e
-    ∙ (ap (λ l. done ++ formals_text place l) (drop-cons fs place d h)
-    ∙ ap (λ n. done ++ (formal_part place (get_or fs place d) ++ formals_text (place + 1) (drop n fs))) (sym (add-one place)))
+part_split fs d place done h e = search (arith, drop-cons, add-one)
 
 -- one formal more was written
 pub formal-grows : {T E : Type 0} (fs : List Formal) (d : Formal) (place : ℕ) (old between new : Option (List ℕ)) (x : T) → place < length fs
@@ -404,17 +351,12 @@ part_by place name text f e h =
 
 -- the comment in place of a macro's line
 pub comment_line : (m : Macro) (name body : List ℕ) → name ≡ m.name → body ≡ m.body → ends_in_slash body ≡ true → concat (codes "// not as a define: " ∷ name ∷ codes "\n" ∷ []) ≡ definition_line m
-comment_line m name body n b e =
-    ap (λ t. concat (codes "// not as a define: " ∷ t ∷ codes "\n" ∷ [])) n
-    ∙ sym (ap (λ t. if t then concat (codes "// not as a define: " ∷ m.name ∷ codes "\n" ∷ []) else concat (codes "`define " ∷ m.name ∷ []) ++ (list_text m.formals m.body ++ (continued m.body ++ codes "\n"))) (sym (ap ends_in_slash b) ∙ e))
+comment_line m name body n b e = grind arith
 
 -- a macro's line
 pub whole_line : (m : Macro) (name body : List ℕ) → name ≡ m.name → body ≡ m.body → ends_in_slash body ≡ false
     → concat (codes "`define " ∷ name ∷ []) ++ (list_text m.formals m.body ++ (continued body ++ codes "\n")) ≡ definition_line m
-whole_line m name body n b e =
-    ap (λ t. concat (codes "`define " ∷ t ∷ []) ++ (list_text m.formals m.body ++ (continued body ++ codes "\n"))) n
-    ∙ (ap (λ t. concat (codes "`define " ∷ m.name ∷ []) ++ (list_text m.formals m.body ++ (continued t ++ codes "\n"))) b
-    ∙ sym (ap (λ t. if t then concat (codes "// not as a define: " ∷ m.name ∷ codes "\n" ∷ []) else concat (codes "`define " ∷ m.name ∷ []) ++ (list_text m.formals m.body ++ (continued m.body ++ codes "\n"))) (sym (ap ends_in_slash b) ∙ e)))
+whole_line m name body n b e = grind arith
 
 -- a macro's bytes begin with its name, and then the formals
 pub formals_in_front : (bytes name rest : List ℕ) (m : Macro) → BeginsWith bytes (macro_bytes m) → name ≡ m.name → rest ≡ drop (length name) bytes → BeginsWith rest (flat_map formal_bytes (formals_of m))

@@ -1,7 +1,6 @@
 -- The name is found where it is looked up.
-use Rattle.std.proofs.Common.{arith, sym, ◌∙◌, length, ◌≤◌, ap, length-append}
-use Rattle.std.proofs.lemmas.List.Elements.{All-get_or}
-use Rattle.rdlpp_table.specs.View.{IsSoundMacro, macro_at, no_macro}
+use Rattle.std.proofs.Common.{arith, sym, ◌∙◌, length-append}
+use Rattle.rdlpp_table.specs.View.{no_macro}
 use Rattle.rdlpp_reports.proofs.Written.{found_at, is_longer}
 use Rattle.rdlpp_reports.proofs.definitions.macro_in_front.Goals as goal
 
@@ -16,8 +15,4 @@ pub returns-then-is_at-clause-value : goal.returns-then-is_at-clause-value
 returns-then-is_at-clause-value c s h b = found_at c.args.place c.find-found.result (sym c.is_at.ensures ∙ c.if-is_at.true)
 
 pub returns-clause-value : goal.returns-clause-value
-returns-clause-value c s h b =
-    let name = (macro_at c.args.table.now.macros c.args.place).name in
-    let short : length name ≤ 128 = (All-get_or IsSoundMacro c.args.table.now.macros c.args.place no_macro h s.each).short in
-    let inside : length name ≤ length c.args.bytes.now = omega (arith, ap length b.1, length-append name b.0) in
-    absurd (omega (arith, short, inside, c.loop-len.invariant s h b, c.loop-len-test.false, c.min-len-end.ensures))
+returns-clause-value c s h b = grind (arith, length-append)

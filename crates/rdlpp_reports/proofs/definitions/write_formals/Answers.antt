@@ -39,7 +39,4 @@ loop-place-preserved g c s b =
     ((inv.0.0, c.after_formal-rest.ensures s tail front), formal-grows fs no_formal place _ _ _ _ h inv.1 (writes_by _ _ _ _ _ part c.in_ok-write_formal_at.ensures))
 
 pub returns : goal.returns
-returns g c s b =
-    let fs = formals_of (macro_at c.args.table.now.macros c.args.id) in
-    let inv = c.loop-place.invariant s b in
-    formals-end fs c.loop-place.place _ _ _ _ (omega (arith, c.requires.arity, c.loop-place-test.false)) inv.1 c.write_whole-2.ensures
+returns g c s b = grind (arith, formals-end)

@@ -9,10 +9,7 @@ pub returns-then-is_empty : goal.returns-then-is_empty
 returns-then-is_empty g c = writes_by _ _ _ _ _ (marked-none c.args.mark.now c.args.text.now (grind (arith, nat_tests, c.is_empty.ensures, c.if-is_empty.true))) c.write_whole.ensures
 
 pub returns-in_err-write_whole : goal.returns-in_err-write_whole
-returns-in_err-write_whole g c =
-    let p = err_from_is_err_and c.from_residual.result c.from_residual.ensures.1 in
-    rw p.1
-    (writes_by _ _ _ _ _ (marked-some c.args.mark.now c.args.text.now (λ h. grind (arith, nat_tests, h, c.is_empty.ensures, c.if-is_empty.false))) (writes_part _ _ _ _ _ _ c.in_err-write_whole.ensures))
+returns-in_err-write_whole g c = search (arith, err_from_is_err_and, writes_by, marked-some, nat_tests, writes_part)
 
 pub returns : goal.returns
 returns g c =
