@@ -1,86 +1,21 @@
-// Sources whose answers a test chooses, and which count what they are asked for.
+// Texts in memory whose answers a test chooses, and which count what they are asked for.
 use arrayvec::ArrayString;
 use rdlpp::{Found, SourceFault, Sources, Texts};
 use rdlpp_source::TextReader;
 use std::cell::Cell;
 
-/// What a reader does after the bytes of its text.
+/// What a reader answers after the bytes of its text.
 #[derive(Clone, Copy)]
 pub enum After {
+    /// The end.
+    End,
     /// Each read fails.
     Failure,
     /// The byte comes for ever.
     Endless(u8),
 }
 
-/// One main text, whose path is the one asked for.
-#[derive(Drop)]
-pub struct DealtText<'a> {
-    /// The bytes of the text, which come in one read.
-    pub text: &'a [u8],
-    /// What comes after them.
-    pub after: After,
-    /// How often a read failed.
-    pub failures: u64,
-}
-
-/// What reads such a text: the bytes that are left.
-#[derive(Drop)]
-pub struct DealtReader<'a> {
-    left: &'a [u8],
-}
-
-impl<'a> Sources for DealtText<'a> {
-    type Reader = DealtReader<'a>;
-
-    ghost use Rattle.std.specs.Prelude.{[]};
-    ghost use Rattle.rdlpp_source.specs.Sources.{Missing};
-
-    ghost has_known_texts = { λ _. ⊥ };
-
-    ghost catalog = { λ _. record { top = λ _. Missing; find = λ _ _. Missing } };
-
-    ghost unread = { λ _. [] };
-
-    ghost failures = { λ source. source.failures };
-
-    ghost refusals = { λ _. 0 };
-
-    fn top(&mut self, path: &str) -> Result<Found<DealtReader<'a>>, SourceFault> {
-        match ArrayString::from(path) {
-            Ok(path) => Ok(Found {
-                path,
-                reader: DealtReader { left: self.text },
-            }),
-            Err(_) => Err(SourceFault::PathTooLong),
-        }
-    }
-
-    fn find(&mut self, _from: &str, _name: &str) -> Result<Found<DealtReader<'a>>, SourceFault> {
-        Err(SourceFault::Absent)
-    }
-
-    fn read(&mut self, reader: &mut DealtReader<'a>, to: &mut [u8]) -> Result<usize, SourceFault> {
-        let len = to.len().min(reader.left.len());
-        if 0 < len {
-            to[..len].copy_from_slice(&reader.left[..len]);
-            reader.left = &reader.left[len..];
-            return Ok(len);
-        }
-        match self.after {
-            After::Failure => {
-                self.failures = self.failures.saturating_add(1);
-                Err(SourceFault::Device)
-            }
-            After::Endless(byte) => {
-                to.fill(byte);
-                Ok(to.len())
-            }
-        }
-    }
-}
-
-/// How often sources were asked, how often a reader was asked after it had told its end, and what readers gave.
+/// How often sources were asked, how often a reader was asked after it had told its end, and what readers gave of their texts.
 #[derive(Clone, Copy, Debug, PartialEq, Eq)]
 pub struct Asked {
     /// How often a main text was asked for.
@@ -111,9 +46,11 @@ pub struct AskedTexts<'a> {
     pub main: Option<ArrayString<1024>>,
     /// How many searches go well; each later one fails.
     pub searches: u64,
+    /// What comes after each text.
+    pub after: After,
     /// What was asked.
     pub asked: &'a Cell<Asked>,
-    /// How often a search failed.
+    /// How often a search or a read failed.
     pub failures: u64,
 }
 
@@ -195,7 +132,22 @@ impl<'a> Sources for AskedTexts<'a> {
             given: before.given.saturating_add(len as u64),
             ..before
         });
-        reader.ended = len == 0 && !to.is_empty();
-        Ok(len)
+        if len > 0 || to.is_empty() {
+            return Ok(len);
+        }
+        match self.after {
+            After::End => {
+                reader.ended = true;
+                Ok(0)
+            }
+            After::Failure => {
+                self.failures = self.failures.saturating_add(1);
+                Err(SourceFault::Device)
+            }
+            After::Endless(byte) => {
+                to.fill(byte);
+                Ok(to.len())
+            }
+        }
     }
 }
