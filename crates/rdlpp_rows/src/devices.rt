@@ -94,6 +94,8 @@ impl<'a> Sources for DealtTexts<'a> {
 pub struct DealtWriter {
     /// What was taken.
     pub taken: Vec<u8>,
+    /// How many bytes each write took.
+    pub lens: Vec<usize>,
     /// What is left of the devices.
     pub devices: Devices,
 }
@@ -109,6 +111,7 @@ impl Write for DealtWriter {
         self.devices.writes -= 1;
         let len = part.len().min(self.devices.step);
         self.taken.extend_from_slice(&part[..len])?;
+        self.lens.push(len)?;
         Ok(len)
     }
 

@@ -1,9 +1,10 @@
 //! Runs the rows of `data`: texts with the output and the fault that must come of them.
 //!
 //! `rdlpp_rows FILE ..` runs the rows of each file over texts in memory: whole; by one byte a read and one byte a write; piece
-//! by piece; in an engine that ran the row before it, whole or up to a fault or a piece, and was renewed; and where its texts are
-//! short, cut short after each byte, and with each search, read, write and flush failing in turn. It prints a line for each row
-//! that isn't as it has to be, and then how many are and aren't. The same rows are run by the scripts of `checks`.
+//! by piece, each of them one write of a run; in an engine that ran the row before it, whole or up to a fault or a piece, and was
+//! renewed; and where its texts are short, cut short after each byte, and with each search, read, write and flush failing in turn.
+//! It prints a line for each row that isn't as it has to be, and then how many are and aren't. The same rows are run by the scripts
+//! of `checks`.
 #![tactic(auto)]
 
 ghost use Rattle.std.specs.Prelude.{◌≡◌, ◌↔◌, ◌<◌};

@@ -1,6 +1,6 @@
 // A row, pulled piece by piece.
 use crate::devices::{DealtTexts, WHOLE};
-use crate::runs::{Job, engine_of, keeps_end, line_of};
+use crate::runs::{Job, engine_of, keeps_end, line_of, run_row};
 use rdlpp::Limits;
 use rdlpp_expand::{Engine, Held, Piece};
 use std::alloc::{AllocError, Global};
@@ -8,27 +8,61 @@ use std::alloc::{AllocError, Global};
 // The most pieces of a row that is pulled.
 const MOST_PIECES: u32 = 4_000_000;
 
-/// Whether the pieces of a row are its output, and then its end, which stays; and whether what is held is within the limits
-/// behind each piece, and at the end what the row wants.
+// What is left of an output, and of the writes that a run makes for it.
+#[derive(Drop)]
+struct Left<'a> {
+    output: &'a [u8],
+    lens: &'a [usize],
+}
+
+impl<'a> Left<'a> {
+    // Takes a piece, which has to begin the output, and unless it has no bytes to be one write.
+    fn take(&mut self, piece: &[u8]) -> bool {
+        if piece.is_empty() {
+            return true;
+        }
+        let (Some(output), Some((len, lens))) = (
+            self.output.strip_prefix(piece),
+            self.lens.split_first(),
+        ) else {
+            return false;
+        };
+        let is_one_write = *len == piece.len();
+        self.output = output;
+        self.lens = lens;
+        is_one_write
+    }
+
+    // Whether nothing is left.
+    fn is_empty(&self) -> bool {
+        self.output.is_empty() && self.lens.is_empty()
+    }
+}
+
+/// Whether the pieces of a row are its output, each of them one write of a run, and then its end, which stays; and whether what is
+/// held is within the limits behind each piece, and at the end what the row wants.
 pub fn has_its_pieces(alloc: Global, job: &Job<'_>) -> Result<bool, AllocError> {
-    let Some(mut engine) = engine_of(alloc, job, WHOLE)? else {
+    let (Some(mut engine), Some(ran)) = (engine_of(alloc, job, WHOLE)?, run_row(alloc, job, WHOLE)?)
+    else {
         return Ok(true);
     };
     if !engine.is_fresh() {
         return Ok(false);
     }
     let _opened = engine.start(job.invocation.source.as_str());
-    let mut left = job.row.output.as_slice();
+    let mut left = Left {
+        output: job.row.output.as_slice(),
+        lens: ran.lens.as_slice(),
+    };
     for _ in 0..MOST_PIECES {
         if engine.is_fresh() {
             return Ok(false);
         }
         let end = match engine.next() {
             Ok(Piece::Bytes(bytes)) => {
-                let Some(rest) = left.strip_prefix(bytes) else {
+                if !left.take(bytes) {
                     return Ok(false);
-                };
-                left = rest;
+                }
                 None
             }
             Ok(Piece::Done) => Some(Vec::new(alloc)),

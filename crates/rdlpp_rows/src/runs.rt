@@ -25,6 +25,8 @@ pub struct Job<'a> {
 pub struct Ended {
     /// What the writer took.
     pub output: Vec<u8>,
+    /// How many bytes each of its writes took.
+    pub lens: Vec<usize>,
     /// The line that reports the fault that ended the run; nothing where none did.
     pub fault: Vec<u8>,
     /// The kind of that fault.
@@ -56,7 +58,11 @@ pub fn preprocess_row(alloc: Global, job: &Job<'_>, devices: Devices) -> Result<
     let source = job.invocation.source.as_str();
     let sources = sources_of(job, devices);
     let outcome = preprocess(alloc, &job.invocation.options, sources, source, &mut sink);
-    let output = sink.into_writer().taken;
+    let DealtWriter {
+        taken: output,
+        lens,
+        devices: _,
+    } = sink.into_writer();
     let (fault, kind, written) = match &outcome {
         Ok(written) => (Vec::new(alloc), None, *written),
         Err(PrepFault::Run(run)) => (
@@ -69,6 +75,7 @@ pub fn preprocess_row(alloc: Global, job: &Job<'_>, devices: Devices) -> Result<
     Ok(Ended {
         is_sound: written == output.len() as u64,
         output,
+        lens,
         fault,
         kind,
     })
@@ -147,7 +154,11 @@ pub fn run_engine(
         Ok(written) => (None, written),
         Err(run) => (Some(run.fault), run.written),
     };
-    let output = sink.into_writer().taken;
+    let DealtWriter {
+        taken: output,
+        lens,
+        devices: _,
+    } = sink.into_writer();
     let line = match &fault {
         Some(fault) => line_of(alloc, fault)?,
         None => Vec::new(alloc),
@@ -156,6 +167,7 @@ pub fn run_engine(
     Ok(Some(Ended {
         is_sound: is_kept && written == output.len() as u64,
         output,
+        lens,
         fault: line,
         kind: fault.map(|fault| fault.kind),
     }))
@@ -209,6 +221,7 @@ pub fn sources_of<'a>(job: &Job<'a>, devices: Devices) -> DealtTexts<'a> {
 fn writer_of(alloc: Global, devices: Devices) -> DealtWriter {
     DealtWriter {
         taken: Vec::new(alloc),
+        lens: Vec::new(alloc),
         devices,
     }
 }
