@@ -602,37 +602,43 @@ uncut v from to e = ap (λ (xs : List ℕ). record v { formal_offsets = xs }) (s
 zero_starts : (starts : List ℕ) (p : ℕ) → starts ≡ replicate 1025 0 → p ≤ 1024 → get_or starts p 0 ≡ 0
 zero_starts starts p e h = ap (λ (xs : List ℕ). get_or xs p 0) e ∙ get_or-replicate 1025 p 0 0 (omega arith)
 
-abbrev no_slack : List ℕ
-no_slack = replicate 33 0
+-- An index without a place, in which each group has as much slack.
+module _ (even starts : List ℕ) (slack : ℕ) (n : length even ≡ 33) (e : (g : ℕ) → g ≤ 32 → get_or even g 0 ≡ slack * g) (z : starts ≡ replicate 1025 0) where
+  nothing_spaced : IsSpaced even starts
+  nothing_spaced = record {
+    groups = n;
+    buckets = ap (length {A = ℕ}) z ∙ length-replicate {A = ℕ} 1025 0;
+    first = zero_starts starts 0 z (omega arith);
+    in_order = λ p q h k. omega (arith, zero_starts starts p z (omega arith));
+    rising = λ g h a b. omega (arith, e g (omega arith), e h b, mul-le slack g slack h (omega arith) a);
+  }
 
-no_slack_is : (g : ℕ) → g ≤ 32 → get_or no_slack g 0 ≡ 0
-no_slack_is g h = get_or-replicate 33 g 0 0 (omega arith)
+  pub nothing_arranged : (len capacity most : ℕ) → slack ≤ most / 256 + 4 → most < 2 ^ 31 → len ≡ 32 * slack → places_room most ≤ capacity → IsArranged len capacity even starts slack most
+  nothing_arranged len capacity most few m l h =
+      let last : get_or starts 1024 0 ≡ 0 = zero_starts starts 1024 z (omega arith) in
+      let all : get_or even 32 0 ≡ slack * 32 = e 32 (omega arith) in
+      record {
+        spaced = nothing_spaced;
+        most = λ g a. omega (arith, e g a);
+        little = few;
+        narrow = m;
+        few = omega arith;
+        inside = omega arith;
+        room = omega arith;
+      }
 
-nothing_spaced : (starts : List ℕ) → starts ≡ replicate 1025 0 → IsSpaced no_slack starts
-nothing_spaced starts e = record {
-  groups = length-replicate {A = ℕ} 33 0;
-  buckets = ap (length {A = ℕ}) e ∙ length-replicate {A = ℕ} 1025 0;
-  first = zero_starts starts 0 e (omega arith);
-  in_order = λ p q h k. omega (arith, zero_starts starts p e (omega arith));
-  rising = λ g h a b. omega (arith, no_slack_is g (omega arith));
-}
+  pub nothing_in : (items : List ℕ) (most offsets kept : ℕ) → length items ≡ 32 * slack → offsets ≡ kept → view_of items even starts most offsets ≡ empty_index (record { places = most; formal_offsets = kept })
+  nothing_in items most offsets kept l r =
+      let last : get_or starts 1024 0 ≡ 0 = zero_starts starts 1024 z (omega arith) in
+      let all : get_or even 32 0 ≡ slack * 32 = e 32 (omega arith) in
+      let none : places_in items even starts ≡ [] = nil_from_length _ (places_long items even starts ∙ last) in
+      let rest : drop (get_or starts 1024 0 + get_or even 32 0) items ≡ [] = nil_from_length _ (omega (arith, length-drop (get_or starts 1024 0 + get_or even 32 0) items)) in
+      rw (none, rest, r, z) refl
 
-pub nothing_arranged : (len capacity : ℕ) (starts : List ℕ) (most : ℕ) → starts ≡ replicate 1025 0 → most < 2 ^ 31 → len + places_room most ≤ capacity → IsArranged len capacity no_slack starts 0 most
-nothing_arranged len capacity starts most e n h =
-    let last : get_or starts 1024 0 ≡ 0 = zero_starts starts 1024 e (omega arith) in
-    let none : get_or no_slack 32 0 ≡ 0 = no_slack_is 32 (omega arith) in
-    record {
-      spaced = nothing_spaced starts e;
-      most = λ g a. omega (arith, no_slack_is g (omega arith));
-      little = omega arith;
-      narrow = n;
-      few = omega arith;
-      inside = omega arith;
-      room = omega arith;
-    }
+pub no_slack_long : length {A = ℕ} (replicate 33 0) ≡ 33
+no_slack_long = length-replicate {A = ℕ} 33 0
 
-pub nothing_in : (items starts : List ℕ) (most offsets kept : ℕ) → items ≡ [] → starts ≡ replicate 1025 0 → offsets ≡ kept → view_of items no_slack starts most offsets ≡ empty_index (record { places = most; formal_offsets = kept })
-nothing_in items starts most offsets kept e f r =
-    let none : places_in items no_slack starts ≡ [] = nil_from_length _ (places_long items no_slack starts ∙ zero_starts starts 1024 f (omega arith)) in
-    let rest : drop (get_or starts 1024 0 + get_or no_slack 32 0) items ≡ [] = nil_from_length _ (omega (arith, length-drop (get_or starts 1024 0 + get_or no_slack 32 0) items, ap (length {A = ℕ}) e)) in
-    rw (none, rest, r, f) refl
+pub no_slack_even : (g : ℕ) → g ≤ 32 → get_or (replicate 33 0) g 0 ≡ 0 * g
+no_slack_even g h =
+    let none : get_or {A = ℕ} (replicate 33 0) g 0 ≡ 0 = get_or-replicate 33 g 0 0 (omega arith) in
+    omega arith

@@ -194,6 +194,18 @@ fn slack_for(places: usize) -> usize
     places / 256 + 4
 }
 
+// How much slack each group keeps where no place is left in a list of so many items: what it gets first, or none in a shorter list.
+fn first_slack(len: usize) -> usize
+    ensures few { result ≤ 4 }
+    ensures inside { 32 * result ≤ len }
+{
+    if len < GROUPS * slack_for(0) {
+        0
+    } else {
+        slack_for(0)
+    }
+}
+
 // How much slack lies before each group where all have as much.
 fn even_slack(slack: usize) -> [u32; 33]
     requires { slack < 2 ^ 26 }
@@ -336,13 +348,14 @@ impl Index {
         }
     }
 
-    // Takes out all places and all offsets.
+    // Takes out all places and all offsets. The slack that each group gets first stays, where the list is as long as that.
     pub(crate) fn clear(&mut self)
         ensures { self.new ≡ empty_index self.old.room }
     {
-        self.order.clear();
-        self.slack_before = [0; 33];
-        self.group_slack = 0;
+        let slack = first_slack(self.order.len());
+        self.order.truncate(GROUPS * slack);
+        self.slack_before = even_slack(slack);
+        self.group_slack = slack;
         self.bucket_starts.clear();
     }
 

@@ -1,7 +1,6 @@
 use Rattle.std.proofs.Common.{ℕ, ◌+◌, ◌-◌, ◌++◌, ◌<◌, ◌≡◌, ◌≤◌, drop, length, replicate, take}
 use Rattle.rdlpp_table.specs.PointCache.{endless, points_after}
 use Rattle.rdlpp_table.specs.Store.{formals_read}
-use Rattle.rdlpp_table.specs.declared.point_cache.PackedKind.TheVariants as kept
 use Rattle.rdlpp_table.proofs.point_cache.cached_points.Given as goal
 
 abbrev pub invariant-loop-count : goal.invariant-loop-count
