@@ -203,6 +203,7 @@ impl<S: Sources> Engine<S> {
 
     // The step of `run` that is none over the open texts of a usage, cut to what the limit on the output leaves; it may lend
     // nothing.
+    #[inline(always)]
     pub(crate) fn advance_outside(&mut self) -> Option<PieceLocation>
         requires started { IsStarted self.old }
         requires outside { IsDrained self.old → self.old.expansion.opens ≡ [] }

@@ -306,7 +306,7 @@ fn ending_of(written: &PartWritten) -> Option<Ending>
 }
 
 // Writes the next piece of the output, where the next step is none over open texts.
-#[inline(never)]
+#[inline(always)]
 fn pull<S: Sources, W: Sink, V: Watcher>(
     engine: &mut Engine<S>,
     writer: &mut W,
