@@ -123,11 +123,11 @@ impl Marks {
     /// So many LF bytes are pending behind a `line` or behind an included source, at most one, which show a
     /// name and a line.
     #[tactic(auto, unfolding(crate::specs::Marks::ends_line))]
-    pub fn end_line(&mut self, line_ends: usize, name: ArrayString<1024>, line: u64)
-        ensures { self.new ≡ ends_line line_ends name.bytes line self.old }
+    pub fn end_line(&mut self, line_ends: usize, name: &ArrayString<1024>, line: u64)
+        ensures { self.new ≡ ends_line line_ends name.now.bytes line self.old }
     {
         self.ending = line_ends != 0;
-        self.name = name;
+        self.name = *name;
         self.line = line;
     }
 

@@ -114,8 +114,7 @@ impl<S: Sources> Engine<S> {
         self.files.leave();
         let around = self.files.file();
         let shown = around.shift.shown_line(line);
-        let name = around.name;
-        self.marks.end_line(line_ends, name, shown);
+        self.marks.end_line(line_ends, &around.name, shown);
         self.pending.queue_line_ends(line_ends);
         self.pending.queue_origin(self.origins, shown);
     }

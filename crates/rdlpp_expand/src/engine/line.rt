@@ -64,7 +64,7 @@ impl<S: Sources> Engine<S> {
         self.show(from, given.number, given.name);
         self.pending.queue_line_ends(lines);
         self.pending.queue_origin(self.origins, given.number);
-        self.marks.end_line(lines, place.name, place.line);
+        self.marks.end_line(lines, &place.name, place.line);
     }
 
     // Gives the innermost source another name to show, and from a physical line on other numbers.

@@ -7,7 +7,12 @@ use Rattle.rdlpp_expand.proofs.engine.Engine.leave.Goals as goal
 use Rattle.rdlpp_expand.proofs.engine.Engine.leave.Goals.{then-file, else-file}
 
 pub shown_line-shown-requires : goal.shown_line-shown-requires
-shown_line-shown-requires g c = grind (arith, around_few, line_few)
+shown_line-shown-requires g c =
+    let first = c.file-file.ensures.inner in
+    let second = sym (ap (λ f. f.include_stack) c.leave.ensures) ∙ c.file-around.ensures.inner in
+    let number = around_few c.self.inside.files _ c.file-file.result.now c.file-around.result.now first second c.facts.ensures in
+    let line = line_few c.self.inside.files.include_stack c.file-file.result.now first c.self.invariant.sources.lines in
+    omega (arith, number, line)
 
 pub queue_line_ends-requires : goal.queue_line_ends-requires
 unfolding nothing_pending
