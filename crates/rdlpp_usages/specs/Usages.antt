@@ -2,7 +2,7 @@
 -- A definition that names no source is this project's own.
 use Rattle.std.specs.Prelude.{◌≡◌, ℕ, ◌+◌, ◌*◌, ◌<◌, ◌≤◌, Bool, true, false, List, [], ◌∷◌, ◌++◌, ◌⊎◌, length, map, Option, None, Some, if◌then◌else◌, ◌^◌}
 use Rattle.rdlpp_scan.specs.declared.token.Mode.TheVariants.{Plain}
-use Rattle.rdlpp_table.specs.Table.{Formal, Macro}
+use Rattle.rdlpp_table.specs.Table.{Formal, Macro, macro_named}
 use Rattle.rdlpp_table.specs.View.{formals_of, macro_at}
 use Rattle.rdlpp_texts.specs.BoundCalls.{KeepsAll, actuals_of, range_part, ranges_tokens}
 use Rattle.rdlpp_texts.specs.SourceBound.{OpensBound}
@@ -21,8 +21,10 @@ use Rattle.rdlpp_meaning.specs.State.{Rules, State, fault_at}
 use Rattle.rdlpp_meaning.specs.Substitution.{body_tokens}
 use Rattle.rdlpp_meaning.specs.declared.fault.FaultKind.{FaultKind}
 use Rattle.rdlpp_meaning.specs.declared.fault.FaultKind.TheVariants.{ArgumentsMissing, ArgumentsOpen, ArgumentBytes, ArgumentCount, EmbeddedPerl, OpenString, OpenComment, LineTooLong, SourceTooLong}
-use Rattle.rdlpp_read.specs.Buffer.{BufferView, MovesOver, text_left, tokens_left, unused_of}
-use Rattle.rdlpp_read.specs.Files.{inner_buffer}
+use Rattle.rdlpp_source.specs.declared.sources.Sources.{Ghosts}
+use Rattle.rdlpp_read.specs.Buffer.{BufferView, MovesOver, held_of, text_left, tokens_left, unused_of}
+use Rattle.rdlpp_read.specs.Calls.{SourcesRead}
+use Rattle.rdlpp_read.specs.Files.{FilesView, consumed_file, inner_buffer, with_inner}
 use Rattle.rdlpp_read.specs.declared.files.File.{File}
 use Rattle.rdlpp_usages.specs.CallReads.{with_used, ReadsUpTo}
 use Rattle.rdlpp_usages.specs.Reads.{reading}
@@ -35,6 +37,7 @@ use Rattle.rdlpp_texts.specs.Turns.{TurnsOver}
 use Rattle.rdlpp_texts.specs.Usages.{IsTextFault}
 use Rattle.rdlpp_texts.specs.declared.step.CursorStep.{CursorStep}
 use Rattle.rdlpp_texts.specs.declared.step.CursorStep.TheVariants.{Lends, Silent, Refused as Fault}
+use Rattle.rdlpp_front.specs.SourceItems.{IsUsage, usage_name}
 use Rattle.rdlpp_front.specs.SourceLeft.{source_left}
 use Rattle.rdlpp_usages.specs.declared.expansion.Opening.{Opening}
 use Rattle.rdlpp_usages.specs.declared.expansion.Opening.TheVariants.{Opened, Refused, Broken, Failed}
@@ -259,3 +262,28 @@ pub record LeavesOpen (macros : List Macro) (id line before : ℕ) (opening : Op
   pub alone : is_opened opening ≡ true → IsOpenAlone macros id opens
   pub fault : IsUsageFault opening
   pub own : IsOwnLine opening
+
+-- a usage of a macro, of so many bytes, stands at the front of what is held of the innermost source, and no text is open
+pub record StandsInFront {R : Type 0} (macros : List Macro) (id len : ℕ) (files : FilesView R) (e : ExpansionView) : Type 0 where
+  pub some : 0 < length files.include_stack
+  pub held : 0 < length (held_of (inner_buffer files.include_stack))
+  pub plain : (inner_buffer files.include_stack).mode ≡ Plain
+  pub usage : IsUsage (held_of (inner_buffer files.include_stack)) len
+  pub inside : id < length macros
+  pub named : macro_named macros (usage_name (held_of (inner_buffer files.include_stack)) len) ≡ Some (macro_at macros id)
+  pub closed : e.opens ≡ []
+  pub room : 0 < e.depth
+
+-- what opening such a usage comes to, in each run, and what it leaves of the open texts, of the open sources and of the sources (IEEE
+-- 1364-2001, `define`)
+pub record OpensInFront {S R : Type 0} (g : Ghosts S R) (macros : List Macro) (id len : ℕ) (result : Opening) (old new : ExpansionView) (before after : FilesView R) (sources now : S) : Type 0 where
+  pub limits : (new.depth ≡ old.depth) × (new.most ≡ old.most)
+  pub only : after ≡ record before { include_stack = after.include_stack }
+  pub call : SourcesRead g (is_failed_opening result) sources now
+  pub uses : UsesSource (g.has_known_texts sources) g.unread result before.include_stack after.include_stack
+  pub sound : AreSound (texts_of macros new.arguments) new.opens
+  pub opens : LeavesOpen macros id (inner_buffer before.include_stack).line old.line result new.line new.opens
+  pub keeps : KeepsUsage (macro_at macros id).formals (g.has_known_texts sources) g.unread old.most result new.arguments (inner_buffer (with_inner (consumed_file len 0) before.include_stack)) (inner_buffer after.include_stack)
+  pub unheld : is_failed_opening result ≡ true → held_of (inner_buffer after.include_stack) ≡ []
+  pub means : (rules : Rules) (s : State) (ws : List Waiting) (os : List Progress) → IsRun rules s macros old.depth old.most → g.has_known_texts sources
+      → TellsUsage rules s g.unread ws os macros (inner_buffer before.include_stack).line (usage_name (held_of (inner_buffer before.include_stack)) len) result new before.include_stack after.include_stack

@@ -1,20 +1,15 @@
 // The expansion of a usage in a source.
-ghost use Rattle.std.specs.Prelude.{◌≡◌, ◌↔◌, ◌*◌, ◌<◌, ◌≤◌, ◌==◌, List, [], length, IfOk, IsTrue, Some, is_some, true};
+ghost use Rattle.std.specs.Prelude.{◌≡◌, ◌↔◌, ◌*◌, ◌<◌, ◌≤◌, ◌==◌, [], length, IfOk, IsTrue, is_some, true};
 ghost use Rattle.rdlpp_scan.specs.declared.token.Mode.TheVariants.{Plain};
-ghost use Rattle.rdlpp_table.specs.Table.{macro_named};
 ghost use Rattle.rdlpp_table.specs.View.{macro_at};
-ghost use Rattle.rdlpp_meaning.specs.Meaning.{Progress};
-ghost use Rattle.rdlpp_meaning.specs.Opened.{Waiting};
-ghost use Rattle.rdlpp_meaning.specs.State.{Rules, State};
 ghost use Rattle.rdlpp_read.specs.Buffer.{held_of};
 ghost use Rattle.rdlpp_read.specs.Calls.{SourcesRead};
-ghost use Rattle.rdlpp_read.specs.Files.{consumed_file, inner_buffer, with_inner};
+ghost use Rattle.rdlpp_read.specs.Files.{inner_buffer};
 ghost use Rattle.rdlpp_texts.specs.Opened.{bound_by};
 ghost use Rattle.rdlpp_texts.specs.Places.{texts_of};
 ghost use Rattle.rdlpp_texts.specs.Scopes.{innermost_place};
 ghost use Rattle.rdlpp_texts.specs.Steps.{AreSound};
-ghost use Rattle.rdlpp_front.specs.SourceItems.{IsUsage, usage_name};
-ghost use Rattle.rdlpp_usages.specs.Usages.{BindsKept, IsRun, KeepsOpening, KeepsUsage, TakesUsageStep, TellsCallUsage, TellsUsage, UsesCall, UsesSource, IsRoomy, LeavesOpen, is_failed_opening};
+ghost use Rattle.rdlpp_usages.specs.Usages.{BindsKept, KeepsOpening, TakesUsageStep, TellsCallUsage, UsesCall, IsRoomy, LeavesOpen, OpensInFront, StandsInFront, is_failed_opening};
 
 use crate::{ArgumentStore, CallRead, read_call};
 use rdlpp_meaning::FaultKind;
@@ -195,23 +190,8 @@ impl Expansion {
         len: usize,
         id: MacroId,
     ) -> Opening
-        requires some { 0 < length files.old.include_stack }
-        requires held { 0 < length (held_of (inner_buffer files.old.include_stack)) }
-        requires plain { (inner_buffer files.old.include_stack).mode ≡ Plain }
-        requires usage { IsUsage (held_of (inner_buffer files.old.include_stack)) len }
-        requires inside { id < length table.now.macros }
-        requires named { macro_named table.now.macros (usage_name (held_of (inner_buffer files.old.include_stack)) len) ≡ Some (macro_at table.now.macros id) }
-        requires closed { self.old.opens ≡ [] }
-        requires room { 0 < self.old.depth }
-        ensures limits { (self.new.depth ≡ self.old.depth) × (self.new.most ≡ self.old.most) }
-        ensures only { files.new ≡ record files.old { include_stack = files.new.include_stack } }
-        ensures call { SourcesRead S.Sources (is_failed_opening result) sources.old sources.new }
-        ensures uses { UsesSource (S.has_known_texts sources.old) S.unread result files.old.include_stack files.new.include_stack }
-        ensures sound { AreSound (texts_of table.now.macros self.new.arguments) self.new.opens }
-        ensures opens { LeavesOpen table.now.macros id (inner_buffer files.old.include_stack).line self.old.line result self.new.line self.new.opens }
-        ensures keeps { KeepsUsage (macro_at table.now.macros id).formals (S.has_known_texts sources.old) S.unread self.old.most result self.new.arguments (inner_buffer (with_inner (consumed_file len 0) files.old.include_stack)) (inner_buffer files.new.include_stack) }
-        ensures unheld { is_failed_opening result ≡ true → held_of (inner_buffer files.new.include_stack) ≡ [] }
-        ensures means { (rules : Rules) (s : State) (ws : List Waiting) (os : List Progress) → IsRun rules s table.now.macros self.old.depth self.old.most → S.has_known_texts sources.old → TellsUsage rules s S.unread ws os table.now.macros (inner_buffer files.old.include_stack).line (usage_name (held_of (inner_buffer files.old.include_stack)) len) result self.new files.old.include_stack files.new.include_stack }
+        requires { StandsInFront table.now.macros id len files.old self.old }
+        ensures { OpensInFront S.Sources table.now.macros id len result self.old self.new files.old files.new sources.old sources.new }
     {
         let line = files.file().buffer.line();
         files.consume(len, 0);

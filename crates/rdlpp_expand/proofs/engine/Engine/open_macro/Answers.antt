@@ -7,11 +7,20 @@ use Rattle.rdlpp_state.proofs.Stores.{called_by}
 use Rattle.rdlpp_state.proofs.UsageSteps.{used_file}
 use Rattle.rdlpp_expand.proofs.engine.Engine.open_macro.Goals as goal
 
-pub open_usage-opening-requires-clause-room : goal.open_usage-opening-requires-clause-room
-open_usage-opening-requires-clause-room g c =
-    let depth = c.facts.ensures.texts.depth_is in
-    let range = c.facts.ensures.sound.in_range.depth.0 in
-    omega arith
+pub open_usage-opening-requires : goal.open_usage-opening-requires
+open_usage-opening-requires g c = record {
+  some = grind arith;
+  held = grind arith;
+  plain = grind arith;
+  usage = grind arith;
+  inside = grind arith;
+  named = grind arith;
+  closed = grind arith;
+  room =
+      let depth = c.facts.ensures.texts.depth_is in
+      let range = c.facts.ensures.sound.in_range.depth.0 in
+      omega arith;
+}
 
 -- a line that is one of two is below what both are
 line_few : (opening : Opening) (line a b n : ℕ) → line ≡ (if is_opened opening then a else b) → a < n → b < n → line < n

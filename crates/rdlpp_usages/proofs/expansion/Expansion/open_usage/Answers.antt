@@ -1,4 +1,4 @@
-use Rattle.std.proofs.Common.{Bool, not, sym, ap, ◌∙◌, subst, is_some}
+use Rattle.std.proofs.Common.{Bool, not, sym, ap, ◌∙◌, subst, is_some, arith}
 use Rattle.rdlpp_read.specs.Buffer.{EndsHeld}
 use Rattle.rdlpp_table.specs.View.{macro_at}
 use Rattle.rdlpp_front.proofs.Insides.{usage_inside}
@@ -9,57 +9,56 @@ use Rattle.rdlpp_usages.proofs.expansion.Expansion.open_usage.Goals as goal
 pub consume-requires-clause-inside : goal.consume-requires-clause-inside
 consume-requires-clause-inside g c = (usage_inside _ _ c.requires.held c.requires.usage).1
 
-pub returns-then-is_none-clause-uses : goal.returns-then-is_none-clause-uses
-returns-then-is_none-clause-uses g c =
-    let inside = usage_inside _ _ c.requires.held c.requires.usage in
-    rw c.consume.ensures.used (uses_name (g.S.Sources.has_known_texts c.args.sources.now) g.S.Sources.unread Opened c.args.files.now.include_stack c.args.len c.requires.some inside.0 inside.1)
+pub returns-then-is_none : goal.returns-then-is_none
+returns-then-is_none g c = record {
+  limits = grind arith;
+  only = grind arith;
+  call = grind arith;
+  uses =
+      let inside = usage_inside _ _ c.requires.held c.requires.usage in
+      rw c.consume.ensures.used (uses_name (g.S.Sources.has_known_texts c.args.sources.now) g.S.Sources.unread Opened c.args.files.now.include_stack c.args.len c.requires.some inside.0 inside.1);
+  sound = c.open_body.ensures.sound _;
+  opens =
+      leaves_plain _ _ _ _ _ _ (no_list _ (ap is_some (sym c.arity.ensures) ∙ c.is_none.ensures ∙ ap (λ (b : Bool). not b) c.if-is_none.true)) (ap (λ v. v.opens) c.open_body.ensures.opens)
+      (ap (λ v. v.line) c.open_body.ensures.opens ∙ c.line-line.ensures ∙ ap (λ b. b.line) c.file.ensures.buffer);
+  keeps =
+      keeps_plain (macro_at c.args.table.now.macros c.args.id).formals (g.S.Sources.has_known_texts c.args.sources.now) g.S.Sources.unread c.args.self.now.most Opened c.clear.new.self.bytes _ _
+      (no_list _ (ap is_some (sym c.arity.ensures) ∙ c.is_none.ensures ∙ ap (λ (b : Bool). not b) c.if-is_none.true)) (ap (λ s. s.bytes) c.clear.ensures);
+  unheld = grind arith;
+  means =
+      λ rules s ws os run t.
+      rw c.consume.ensures.used
+      (body_means rules g.S.Sources.unread ws os s c.args.table.now.macros c.args.self.now.depth c.args.self.now.most c.args.id c.args.len c.args.files.now.include_stack _ c.requires.some
+      (subst EndsHeld c.file.ensures.buffer c.file.ensures.ends) c.requires.held c.requires.plain c.requires.usage run c.requires.room c.requires.named
+      (no_list _ (ap is_some (sym c.arity.ensures) ∙ c.is_none.ensures ∙ ap (λ (b : Bool). not b) c.if-is_none.true))
+      (ap (λ v. v.opens) c.open_body.ensures.opens) (ap (λ v. v.line) c.open_body.ensures.opens ∙ c.line-line.ensures ∙ ap (λ b. b.line) c.file.ensures.buffer)
+      (ap (λ v. v.depth) c.open_body.ensures.opens ∙ ap (λ e. e.depth) c.self.view_is));
+}
 
-pub returns-then-is_none-clause-sound : goal.returns-then-is_none-clause-sound
-returns-then-is_none-clause-sound g c = c.open_body.ensures.sound _
-
-pub returns-then-is_none-clause-means : goal.returns-then-is_none-clause-means
-returns-then-is_none-clause-means g c =
-    λ rules s ws os run t.
-    rw c.consume.ensures.used
-    (body_means rules g.S.Sources.unread ws os s c.args.table.now.macros c.args.self.now.depth c.args.self.now.most c.args.id c.args.len c.args.files.now.include_stack _ c.requires.some
-    (subst EndsHeld c.file.ensures.buffer c.file.ensures.ends) c.requires.held c.requires.plain c.requires.usage run c.requires.room c.requires.named
-    (no_list _ (ap is_some (sym c.arity.ensures) ∙ c.is_none.ensures ∙ ap (λ (b : Bool). not b) c.if-is_none.true))
-    (ap (λ v. v.opens) c.open_body.ensures.opens) (ap (λ v. v.line) c.open_body.ensures.opens ∙ c.line-line.ensures ∙ ap (λ b. b.line) c.file.ensures.buffer)
-    (ap (λ v. v.depth) c.open_body.ensures.opens ∙ ap (λ e. e.depth) c.self.view_is))
-
-pub returns-clause-uses : goal.returns-clause-uses
-returns-clause-uses g c =
-    let inside = usage_inside _ _ c.requires.held c.requires.usage in
-    uses_more _ _ c.open_call.result c.args.files.now.include_stack c.consume.new.self.include_stack c.open_call.new.files.include_stack
-    (rw c.consume.ensures.used (uses_name (g.S.Sources.has_known_texts c.args.sources.now) g.S.Sources.unread Opened c.args.files.now.include_stack c.args.len c.requires.some inside.0 inside.1)) c.open_call.ensures.uses
-
-pub returns-clause-means : goal.returns-clause-means
-returns-clause-means g c =
-    λ rules s ws os run t.
-    call_means_by rules g.S.Sources.unread ws os s c.args.table.now.macros c.args.self.now.depth c.args.self.now.most c.args.id c.args.len _ c.open_call.result
-    c.args.files.now.include_stack c.consume.new.self.include_stack c.open_call.new.files.include_stack _ c.self.inside.arguments.most (ap (λ e. e.most) c.self.view_is) (ap (λ fs. fs.include_stack) c.consume.ensures.used) c.requires.some
-    (subst EndsHeld c.file.ensures.buffer c.file.ensures.ends) c.requires.held c.requires.plain c.requires.usage run c.requires.room c.requires.named
-    (is_list _ (ap is_some (sym c.arity.ensures) ∙ c.is_none.ensures ∙ ap (λ (b : Bool). not b) c.if-is_none.false))
-    c.open_call.ensures.comes_to c.open_call.ensures.uses t
-    (λ o. opened_line c.open_call.result _ c.line-line.result _ c.open_call.ensures.opens.line_is o ∙ c.line-line.ensures ∙ ap (λ b. b.line) c.file.ensures.buffer)
-    (c.open_call.ensures.limits.0 ∙ ap (λ e. e.depth) c.self.view_is)
-
-pub returns-then-is_none-clause-keeps : goal.returns-then-is_none-clause-keeps
-returns-then-is_none-clause-keeps g c =
-    keeps_plain (macro_at c.args.table.now.macros c.args.id).formals (g.S.Sources.has_known_texts c.args.sources.now) g.S.Sources.unread c.args.self.now.most Opened c.clear.new.self.bytes _ _
-    (no_list _ (ap is_some (sym c.arity.ensures) ∙ c.is_none.ensures ∙ ap (λ (b : Bool). not b) c.if-is_none.true)) (ap (λ s. s.bytes) c.clear.ensures)
-
-pub returns-clause-keeps : goal.returns-clause-keeps
-returns-clause-keeps g c =
-    keeps_listed_by c.args.table.now.macros c.args.id (g.S.Sources.has_known_texts c.args.sources.now) g.S.Sources.unread c.self.inside.arguments.most c.args.self.now.most c.open_call.result c.open_call.new.arguments.bytes
-    c.consume.new.self.include_stack _ c.open_call.new.files.include_stack (ap (λ e. e.most) c.self.view_is) (ap (λ fs. fs.include_stack) c.consume.ensures.used)
-    (is_list _ (ap is_some (sym c.arity.ensures) ∙ c.is_none.ensures ∙ ap (λ (b : Bool). not b) c.if-is_none.false)) c.open_call.ensures.keeps
-
-pub returns-then-is_none-clause-opens : goal.returns-then-is_none-clause-opens
-returns-then-is_none-clause-opens g c =
-    leaves_plain _ _ _ _ _ _ (no_list _ (ap is_some (sym c.arity.ensures) ∙ c.is_none.ensures ∙ ap (λ (b : Bool). not b) c.if-is_none.true)) (ap (λ v. v.opens) c.open_body.ensures.opens)
-    (ap (λ v. v.line) c.open_body.ensures.opens ∙ c.line-line.ensures ∙ ap (λ b. b.line) c.file.ensures.buffer)
-
-pub returns-clause-opens : goal.returns-clause-opens
-returns-clause-opens g c =
-    rw (← c.self.view_is, ← c.file.ensures.buffer, ← c.line-line.ensures) c.open_call.ensures.opens
+pub returns : goal.returns
+returns g c = record {
+  limits = grind arith;
+  only = grind arith;
+  call = grind arith;
+  uses =
+      let inside = usage_inside _ _ c.requires.held c.requires.usage in
+      uses_more _ _ c.open_call.result c.args.files.now.include_stack c.consume.new.self.include_stack c.open_call.new.files.include_stack
+      (rw c.consume.ensures.used (uses_name (g.S.Sources.has_known_texts c.args.sources.now) g.S.Sources.unread Opened c.args.files.now.include_stack c.args.len c.requires.some inside.0 inside.1)) c.open_call.ensures.uses;
+  sound = grind arith;
+  opens =
+      rw (← c.self.view_is, ← c.file.ensures.buffer, ← c.line-line.ensures) c.open_call.ensures.opens;
+  keeps =
+      keeps_listed_by c.args.table.now.macros c.args.id (g.S.Sources.has_known_texts c.args.sources.now) g.S.Sources.unread c.self.inside.arguments.most c.args.self.now.most c.open_call.result c.open_call.new.arguments.bytes
+      c.consume.new.self.include_stack _ c.open_call.new.files.include_stack (ap (λ e. e.most) c.self.view_is) (ap (λ fs. fs.include_stack) c.consume.ensures.used)
+      (is_list _ (ap is_some (sym c.arity.ensures) ∙ c.is_none.ensures ∙ ap (λ (b : Bool). not b) c.if-is_none.false)) c.open_call.ensures.keeps;
+  unheld = grind arith;
+  means =
+      λ rules s ws os run t.
+      call_means_by rules g.S.Sources.unread ws os s c.args.table.now.macros c.args.self.now.depth c.args.self.now.most c.args.id c.args.len _ c.open_call.result
+      c.args.files.now.include_stack c.consume.new.self.include_stack c.open_call.new.files.include_stack _ c.self.inside.arguments.most (ap (λ e. e.most) c.self.view_is) (ap (λ fs. fs.include_stack) c.consume.ensures.used) c.requires.some
+      (subst EndsHeld c.file.ensures.buffer c.file.ensures.ends) c.requires.held c.requires.plain c.requires.usage run c.requires.room c.requires.named
+      (is_list _ (ap is_some (sym c.arity.ensures) ∙ c.is_none.ensures ∙ ap (λ (b : Bool). not b) c.if-is_none.false))
+      c.open_call.ensures.comes_to c.open_call.ensures.uses t
+      (λ o. opened_line c.open_call.result _ c.line-line.result _ c.open_call.ensures.opens.line_is o ∙ c.line-line.ensures ∙ ap (λ b. b.line) c.file.ensures.buffer)
+      (c.open_call.ensures.limits.0 ∙ ap (λ e. e.depth) c.self.view_is);
+}
