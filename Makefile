@@ -29,7 +29,9 @@ out/rdlpp: $(call sources,rdlpp_cli)
 run: ## show the worked examples with their output, in two minutes: by out/rdlpp, or by a program without a proof where that isn't built
 	@if $(MAKE) --silent --question out/rdlpp; then examples/show; else examples/show --unproved; fi
 
+# The gate takes no links, of which the library for C has two; `checks/from_gate` makes them anew.
 test: ## the gate (every proof, the must-fail edits, the tests, the stored runs), and then the checks over what it built
+	@rm -f out/$(shared) out/$(shared).*
 	@rt ci
 	@checks/from_gate
 	@checks/all
