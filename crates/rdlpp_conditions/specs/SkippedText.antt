@@ -1,7 +1,9 @@
 -- What is passed of skipped text at once: up to a word that counts there, or `<%`, or what stays open.
 -- A definition that names no source is this project's own.
-use Rattle.std.specs.Prelude.{◌≡◌, ℕ, ◌+◌, ◌<◌, Bool, true, false, List, length, take, drop, bytes_eq, codes, ◌∷◌, []}
-use Rattle.std.specs.List.{list_any}
+use Rattle.std.specs.Prelude.{◌≡◌, ℕ, ◌+◌, ◌<◌, Bool, true, false, List, length, take, drop, None, Some}
+use Rattle.rdlpp_scan.specs.Reserved.{directive_named}
+use Rattle.rdlpp_scan.specs.declared.token.Directive.{Directive}
+use Rattle.rdlpp_scan.specs.declared.token.Directive.TheVariants.{Include, Undef}
 use Rattle.rdlpp_scan.specs.declared.token.Kind.{Kind}
 use Rattle.rdlpp_scan.specs.declared.token.Kind.TheVariants.{Back, Perl}
 use Rattle.rdlpp_scan.specs.declared.token.Mode.{Mode}
@@ -9,14 +11,15 @@ use Rattle.rdlpp_scan.specs.declared.token.Mode.TheVariants.{Plain}
 use Rattle.rdlpp_scan.specs.declared.token.Token.{Token}
 use Rattle.rdlpp_scan.specs.Tokens.{plain_len, token_of}
 
--- the words that count in skipped text: those of conditionals, and the two that take their lines (this project's profile)
-unfoldable pub counting_words : List (List ℕ)
-counting_words =
-    codes "`ifdef" ∷ codes "`ifndef" ∷ codes "`elsif" ∷ codes "`else" ∷ codes "`endif" ∷ codes "`define" ∷ codes "`line" ∷ []
+-- whether a directive counts in skipped text: those of conditionals, and the two that take their lines (this project's profile)
+unfoldable pub counts : Directive → Bool
+counts Undef = false
+counts Include = false
+counts _ = true
 
 -- whether a word counts in skipped text
 unfoldable pub counts_skipped : List ℕ → Bool
-counts_skipped word = list_any (bytes_eq word) counting_words
+counts_skipped word = elim (directive_named (drop 1 word)) [ None ↦ false | Some d ↦ counts d ]
 
 -- whether a token that is closed ends a stretch of skipped text, by its kind and its bytes: `<%`, or a word that counts (this project's profile)
 unfoldable pub stops_closed : Kind → List ℕ → Bool

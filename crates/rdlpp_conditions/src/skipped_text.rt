@@ -5,13 +5,16 @@ ghost use Rattle.rdlpp_scan.specs.Tokens.{plain_len};
 ghost use Rattle.rdlpp_conditions.specs.SkippedText.{
   IsPassed,
   IsPassedOnce,
+  counts,
   counts_skipped,
   stops_at,
   stops_closed,
   stops_skipping,
 };
 
-use rdlpp_scan::{Kind, Mode, PlainText, Token, first_token, line_ends_in, plain_text};
+use rdlpp_scan::{
+    Directive, Kind, Mode, PlainText, Token, first_token, line_ends_in, plain_text, reserved,
+};
 
 /// How much of skipped text was passed.
 #[derive(Clone, Copy, Debug, PartialEq, Eq)]
@@ -124,15 +127,20 @@ fn stops_closed(kind: Kind, word: &[u8]) -> bool
 }
 
 // Whether a word counts in skipped text.
-#[tactic(auto, unfolding(crate::specs::SkippedText::counts_skipped, crate::specs::SkippedText::counting_words))]
+#[tactic(auto, unfolding(crate::specs::SkippedText::counts_skipped, rdlpp_scan::specs::Reserved::directive_named))]
 fn counts_skipped(word: &[u8]) -> bool
     ensures { result ≡ counts_skipped word.now }
 {
-    word == b"`ifdef".as_slice()
-        || word == b"`ifndef".as_slice()
-        || word == b"`elsif".as_slice()
-        || word == b"`else".as_slice()
-        || word == b"`endif".as_slice()
-        || word == b"`define".as_slice()
-        || word == b"`line".as_slice()
+    match word.split_first() {
+        Some((_backquote, name)) => reserved(name).is_some_and(counts),
+        None => false,
+    }
+}
+
+// Whether a directive counts in skipped text.
+#[tactic(auto, unfolding(crate::specs::SkippedText::counts))]
+fn counts(directive: Directive) -> bool
+    ensures { result ≡ counts directive }
+{
+    !matches!(directive, Directive::Undef | Directive::Include)
 }

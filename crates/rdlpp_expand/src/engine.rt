@@ -3,6 +3,7 @@ ghost use Rattle.std.specs.Prelude.{◌≡◌, ◌↔◌, ℕ, ◌+◌, ◌-◌,
 ghost use Rattle.std.specs.Borrow.{sem};
 ghost use Rattle.std.specs.Option.{option_map};
 ghost use Rattle.std.specs.Io.BufRead.{Rests};
+ghost use Rattle.rdlpp_scan.specs.Names.{IsWordBytes};
 ghost use Rattle.rdlpp_scan.specs.SourceTokens.{logical_len};
 ghost use Rattle.rdlpp_scan.specs.declared.token.Directive.TheVariants.{Define, Undef};
 ghost use Rattle.rdlpp_table.specs.Table.{macro_named};
@@ -14,7 +15,6 @@ ghost use Rattle.rdlpp_read.specs.Files.{AreOpen, consumed_file, inner_buffer, w
 ghost use Rattle.rdlpp_read.specs.Filling.{Fills, is_failed};
 ghost use Rattle.rdlpp_read.specs.LogicalLines.{HoldsLine, is_failed_line};
 ghost use Rattle.rdlpp_texts.specs.Places.{IsPlaced as IsTextPlaced, place_bytes};
-ghost use Rattle.rdlpp_front.specs.Names.{IsWordBytes};
 ghost use Rattle.rdlpp_front.specs.SourceItems.{IsDirective, IsNamed, IsText, IsUsage, usage_name};
 ghost use Rattle.rdlpp_usages.specs.Usages.{IsRoomy};
 ghost use Rattle.rdlpp_state.specs.Conditionals.{unclosed_fault};
@@ -57,9 +57,9 @@ use rdlpp_scan::{Directive, Mode, line_ends_in, reserved};
 use rdlpp_source::Sources;
 use rdlpp_state::{
     Held, Marks, Pending, PendingPart, PendingPiece, Phase, Piece, PieceLocation, copied,
-    copied_fault, fault_kind, word_of,
+    copied_fault, fault_kind,
 };
-use rdlpp_table::{Limits, Table};
+use rdlpp_table::{Limits, Table, word_of};
 use rdlpp_texts::{CursorFault, TextPlace};
 use rdlpp_usages::Expansion;
 use std::alloc::Global;

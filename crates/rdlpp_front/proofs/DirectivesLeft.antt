@@ -4,6 +4,7 @@ use Rattle.std.specs.List.{list_any}
 use Rattle.rdlpp_scan.specs.Bytes.{is_line_end}
 use Rattle.rdlpp_scan.specs.Front.{Breach, Front, StringOpen}
 use Rattle.rdlpp_scan.specs.Lines.{EndsLine, ended_line_len}
+use Rattle.rdlpp_scan.specs.Reserved.{directive_word}
 use Rattle.rdlpp_scan.specs.Resumed.{line_with, onto_tokens, opening as opening_token, with_part}
 use Rattle.rdlpp_scan.specs.SourceTokens.{Broken, Definition, Ordinary, Renumbering, Sort, SourceToken, broken, line_ends, open_end, remaining_tokens, source_end, source_tokens}
 use Rattle.rdlpp_scan.specs.TokenKinds.{is_ordinary}
@@ -30,7 +31,7 @@ use Rattle.rdlpp_meaning.specs.Resumed.{Skipped}
 use Rattle.rdlpp_meaning.specs.State.{Rules, State, breach_kind, fault_at}
 use Rattle.rdlpp_meaning.specs.declared.fault.FaultKind.TheVariants.{OpenConditional}
 use Rattle.rdlpp_meaning.proofs.Directives.{all_resumed_after, all_resumed_fails, blank_token, opens_conditional, string_token, takes_string_at_once, takes_string_after_blanks, wants_name}
-use Rattle.rdlpp_meaning.proofs.Skipping.{bare_skipped, directive_word, has_own_token, is_skipped, resumed_skipped, resumed_skipped_broken, skipped_unclosed, stands_by_itself, usage_skipped}
+use Rattle.rdlpp_meaning.proofs.Skipping.{bare_skipped, begins_word, has_own_token, is_skipped, resumed_skipped, resumed_skipped_broken, skipped_unclosed, stands_by_itself, usage_skipped}
 use Rattle.rdlpp_meaning.proofs.Moves.{word_moves}
 use Rattle.rdlpp_meaning.proofs.Outcomes.{after_bytes-nil}
 use Rattle.rdlpp_read.specs.Arguments.{Closes, ClosesString, IsClosedString, IsLead, Lacks, Leads, Opens as OpensString}
@@ -40,7 +41,7 @@ use Rattle.rdlpp_read.specs.Filling.{Fills, ended_tokens, only_broken}
 use Rattle.rdlpp_read.specs.declared.buffer.filling.Fill.TheVariants as fill
 use Rattle.rdlpp_read.specs.declared.files.File.{File}
 use Rattle.rdlpp_read.proofs.BufferTokens.{ends_line}
-use Rattle.rdlpp_front.specs.SourceItems.{HasString, IsDirective, IsUsage, LacksString, argument_name, usage_name, word_of}
+use Rattle.rdlpp_front.specs.SourceItems.{HasString, IsDirective, IsUsage, LacksString, argument_name, usage_name}
 use Rattle.rdlpp_front.specs.SourceLeft.{HoldsFront, source_left}
 use Rattle.rdlpp_front.proofs.TextLeft.{counted, not_counted, usage_text, usage_tokens}
 use Rattle.rdlpp_front.proofs.NamedDirectives.{GivenInFront, IsGiven, blank_lead, given_in_front_of, given_of, gone_blanks, gone_word, nothing_in_front_of, nothing_tokens, stands_bare, word_at, word_directive, word_token, word_tokens}
@@ -114,11 +115,11 @@ module _ {R : Type 0} (rules : Rules) (unread : R → List ℕ) (ws : List Waiti
   -- the word of an `undef` or of an `include` is skipped, and what it would take is text
   pub skipped_word_left : (d : Directive) → has_own_token d ≡ false → stands_by_itself d ≡ true
       → HoldsFront f.buffer → f.buffer.mode ≡ Plain → IsDirective d (held_of f.buffer) → source_left rules unread ws (Skipped n p os) f s
-      ≡ after_bytes (line_ends_of (take (length (word_of d)) (held_of f.buffer)))
-      (source_left rules unread ws (Skipped n p os) (consumed_file (length (word_of d)) 0 f) s)
+      ≡ after_bytes (line_ends_of (take (length (directive_word d)) (held_of f.buffer)))
+      (source_left rules unread ws (Skipped n p os) (consumed_file (length (directive_word d)) 0 f) s)
   unfolding source_left
   skipped_word_left d word alone holds mode is =
-      let b = used_buffer f.buffer (length (word_of d)) 0 in
+      let b = used_buffer f.buffer (length (directive_word d)) 0 in
       one_skipped (word_token d f.buffer.line) b (word_tokens d unread f.buffer word holds mode is) (word_skipped d f.buffer.line word alone)
       ∙ ap (λ (x : List ℕ). after_bytes (line_ends_of x) (left_of (only_blanks f.blanks x) b))
       (sym (word_at d (held_of f.buffer) (rest_of unread f.buffer) holds.some (ends_line unread f.buffer holds.ends) is))
@@ -130,18 +131,18 @@ module _ {R : Type 0} (rules : Rules) (unread : R → List ℕ) (ws : List Waiti
   -- the word of a directive that leaves the text skipped writes nothing, and changes at most how many conditionals opened there
   pub word_left : (d : Directive) (n m : ℕ) → has_own_token d ≡ false → Passes rules d n m p os
       → HoldsFront f.buffer → f.buffer.mode ≡ Plain → IsDirective d (held_of f.buffer) → source_left rules unread ws (Skipped n p os) f s
-      ≡ source_left rules unread ws (Skipped m p os) (consumed_file (length (word_of d)) 0 f) s
+      ≡ source_left rules unread ws (Skipped m p os) (consumed_file (length (directive_word d)) 0 f) s
   unfolding source_left
   word_left d n m word passes holds mode is =
       let b = f.buffer in
       let tok = word_token d b.line in
-      let ts = tokens_left unread (consumed_file (length (word_of d)) 0 f).buffer in
-      let text : word_of d ≡ take (length (word_of d)) (held_of b) =
+      let ts = tokens_left unread (consumed_file (length (directive_word d)) 0 f).buffer in
+      let text : directive_word d ≡ take (length (directive_word d)) (held_of b) =
       sym (word_at d (held_of b) (rest_of unread b) holds.some (ends_line unread b holds.ends) is) in
-      let left = all_resumed rules ws (Skipped m p os) (only_blanks f.blanks (word_of d)) ts s in
+      let left = all_resumed rules ws (Skipped m p os) (only_blanks f.blanks (directive_word d)) ts s in
       ap (λ (us : List SourceToken). all_resumed rules ws (Skipped n p os) f.blanks us s) (word_tokens d unread b word holds mode is)
       ∙ word_moves rules ws n m p os d f.blanks tok ts s (word_directive d b.line word) passes
-      ∙ ap (λ (x : List ℕ). after_bytes x left) (directive_word tok d (word_directive d b.line word) word).no_line_end
+      ∙ ap (λ (x : List ℕ). after_bytes x left) (begins_word tok d (word_directive d b.line word) word).no_line_end
       ∙ after_bytes-nil left
       ∙ ap (λ (x : List ℕ). all_resumed rules ws (Skipped m p os) (only_blanks f.blanks x) ts s) text
 
@@ -231,11 +232,11 @@ module _ (most l room : ℕ) (rest : List ℕ) where
 pub string_in_front_of : {R : Type 0} (unread : R → List ℕ) (b : BufferView R) → HoldsFront b → b.mode ≡ Plain → (start stop : ℕ) → HasString (held_of b) start stop → GivenInFront Include unread b (Some (argument_name (held_of b) start stop)) stop
 string_in_front_of unread b holds mode start stop has =
     let held = held_of b in
-    let r = drop (length (word_of Include)) held in
+    let r = drop (length (directive_word Include)) held in
     let k = has.to - has.from in
     let g = has.given in
     given_in_front_of Include unread b holds mode include_word has.word has.from has.to start stop g.some has.starts has.stops
-    (string_given b.line_bytes b.line b.bytes_left (rest_of unread b) r has.from k (EndsLine-drop (length (word_of Include)) held (rest_of unread b) (ends_line unread b holds.ends)) g.space
+    (string_given b.line_bytes b.line b.bytes_left (rest_of unread b) r has.from k (EndsLine-drop (length (directive_word Include)) held (rest_of unread b) (ends_line unread b holds.ends)) g.space
     (closed_string (drop has.from r) k g.string (omega (arith, g.some))))
 
 -- An `include` in front behind which no string stands that closes on its line.
@@ -392,11 +393,11 @@ module _ (most l room : ℕ) (rest : List ℕ) where
       lacks_blank r ends none lacks ∙ lacks_string r ends none at_zero
 
 -- an `include` without a string on its line in front
-pub no_string_in_front_of : {R : Type 0} (unread : R → List ℕ) (b : BufferView R) → HoldsFront b → b.mode ≡ Plain → LacksString (held_of b) → GivenInFront Include unread b None (length (word_of Include))
+pub no_string_in_front_of : {R : Type 0} (unread : R → List ℕ) (b : BufferView R) → HoldsFront b → b.mode ≡ Plain → LacksString (held_of b) → GivenInFront Include unread b None (length (directive_word Include))
 no_string_in_front_of unread b holds mode lacks =
     let held = held_of b in
     let rest = rest_of unread b in
-    let n = length (word_of Include) in
+    let n = length (directive_word Include) in
     let r = drop n held in
     let ends = ends_line unread b holds.ends in
     let bl = lacks.none.start in

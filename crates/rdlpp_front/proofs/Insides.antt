@@ -5,8 +5,8 @@ use Rattle.std.proofs.lemmas.Bool.{and_parts, cond_both, false≢true}
 use Rattle.std.proofs.lemmas.Slice.Eq.{bytes_eq-Decides}
 use Rattle.rdlpp_scan.specs.Bytes.{begins_block_comment, begins_line_comment, begins_perl, is_blank, is_digit, is_letter, is_line_end, is_word, takes_word}
 use Rattle.rdlpp_scan.specs.Front.{Breach}
-use Rattle.rdlpp_scan.specs.Names.{directive_named}
-use Rattle.rdlpp_scan.specs.Reserved.{is_reserved}
+use Rattle.rdlpp_scan.specs.Names.{IsWordBytes}
+use Rattle.rdlpp_scan.specs.Reserved.{directive_named, directive_word, is_reserved}
 use Rattle.rdlpp_scan.specs.Resumed.{opening}
 use Rattle.rdlpp_scan.specs.SourceTokens.{Broken, Ordinary, SourceToken, line_ends, remaining_tokens}
 use Rattle.rdlpp_scan.specs.Tokens.{first_place, plain_len, plain_token, stops_plain_text, token_of, whole}
@@ -18,6 +18,7 @@ use Rattle.rdlpp_scan.specs.declared.token.Mode.{Mode}
 use Rattle.rdlpp_scan.specs.declared.token.Mode.TheVariants.{InBlock, InStr, Plain}
 use Rattle.rdlpp_scan.specs.declared.token.Token.{Token}
 use Rattle.rdlpp_scan.proofs.RemainingLaws.{IsOpenKind, plain_token-run, remaining-opened}
+use Rattle.rdlpp_scan.proofs.DirectiveNames.{named_is}
 use Rattle.rdlpp_scan.proofs.TokenLens.{first_place-le, list_all-prefix, plain_len-found, token_of-part}
 use Rattle.rdlpp_scan.proofs.SourceLaws.{line_ends-cons}
 use Rattle.rdlpp_scan.proofs.StopKinds.{AtBack, AtBare, AtBlockComment, AtLineComment, AtPerl, AtPlain, AtString, Row, block_token-kind, string_token-kind, token_of-row}
@@ -36,8 +37,7 @@ use Rattle.rdlpp_meaning.proofs.Outcomes.{after_bytes-nil, fails-goes_on}
 use Rattle.rdlpp_meaning.proofs.Skipping.{all_copied_skipped, resumed_skipped, resumed_skipped_broken, resumed_skipped_broken_parts, resumed_skipped_parts}
 use Rattle.rdlpp_read.specs.Arguments.{IsLead, Lacks, Leads, NoString}
 use Rattle.rdlpp_read.specs.Buffer.{BufferView, ahead_of, entered_mode, held_of, rest_of, tokens_left}
-use Rattle.rdlpp_front.specs.SourceItems.{AtOrdinary, AtToken, HasName, IsDirective, IsGivenString, IsNameAfter, IsNamed, IsStringAfter, IsText, IsUsage, StringAfter, argument_name, is_text_kind, usage_name, word_of}
-use Rattle.rdlpp_front.specs.Names.{IsWordBytes}
+use Rattle.rdlpp_front.specs.SourceItems.{AtOrdinary, AtToken, HasName, IsDirective, IsGivenString, IsNameAfter, IsNamed, IsStringAfter, IsText, IsUsage, StringAfter, argument_name, is_text_kind, usage_name}
 use Rattle.rdlpp_front.specs.declared.item.Argument.{Argument}
 
 -- What the bytes at the front of a text tell of its first token.
@@ -137,29 +137,12 @@ back_front bs h = grind (arith, block_token-kind, string_token-kind, eqb-true, a
 
 -- What the word of a directive at the front of held bytes tells: which directive it is.
 
--- where a text is a name, it is that of its directive, or else of one of the others
-named_or : (b : Bool) (name word : List ℕ) (own d : Directive) (others : Option Directive) → bytes_eq name word ≡ b → 96 ∷ word ≡ word_of own
-    → (others ≡ Some d → 96 ∷ name ≡ word_of d) → cond b (Some own) others ≡ Some d → 96 ∷ name ≡ word_of d
-named_or true name word own d others e w rest h = grind (arith, bytes_eq-Decides)
-named_or false name word own d others e w rest h = rest h
-
 -- the name of a directive, behind a backquote, is its word
-pub named_word : (name : List ℕ) (d : Directive) → directive_named name ≡ Some d → 96 ∷ name ≡ word_of d
-unfolding directive_named
-named_word name d h =
-    named_or (bytes_eq name (codes "define")) name (codes "define") Define d _ refl refl
-    (named_or (bytes_eq name (codes "undef")) name (codes "undef") Undef d _ refl refl
-    (named_or (bytes_eq name (codes "ifdef")) name (codes "ifdef") Ifdef d _ refl refl
-    (named_or (bytes_eq name (codes "ifndef")) name (codes "ifndef") Ifndef d _ refl refl
-    (named_or (bytes_eq name (codes "elsif")) name (codes "elsif") Elsif d _ refl refl
-    (named_or (bytes_eq name (codes "else")) name (codes "else") Else d _ refl refl
-    (named_or (bytes_eq name (codes "endif")) name (codes "endif") Endif d _ refl refl
-    (named_or (bytes_eq name (codes "include")) name (codes "include") Include d _ refl refl
-    (named_or (bytes_eq name (codes "line")) name (codes "line") Line d None refl refl (λ e. cc)))))))))
-    h
+pub named_word : (name : List ℕ) (d : Directive) → directive_named name ≡ Some d → 96 ∷ name ≡ directive_word d
+named_word name d e = ap (λ (x : List ℕ). 96 ∷ x) (named_is name d e)
 
 -- the first token of a directive is its word
-pub word_len : (d : Directive) (held : List ℕ) → 0 < length held → IsDirective d held → (token_of Plain held).len ≡ length (word_of d)
+pub word_len : (d : Directive) (held : List ℕ) → 0 < length held → IsDirective d held → (token_of Plain held).len ≡ length (directive_word d)
 word_len d held some is =
     sym (length-take-le (token_of Plain held).len held (token_of-part Plain held some).inside) ∙ ap length is.word
 
@@ -177,7 +160,7 @@ string_here own held len None same some is whole h =
     record { word = word; none = subst (λ (n : ℕ). NoString (drop n held)) (whole ∙ word_len Include held some word) h }
 string_here own held len (Some a) same some is whole h =
     let word : IsDirective Include held = subst (λ (x : Directive). IsDirective x held) same is in
-    let following : StringAfter (length (word_of Include)) held a.start a.stop = subst (λ (n : ℕ). StringAfter n held a.start a.stop) (whole ∙ word_len Include held some word) h in
+    let following : StringAfter (length (directive_word Include)) held a.start a.stop = subst (λ (n : ℕ). StringAfter n held a.start a.stop) (whole ∙ word_len Include held some word) h in
     record { word = word; from = following.from; to = following.to; given = following.given; starts = following.starts; stops = following.stops }
 
 -- Where fronts lie in what is held: their bounds, their line ends, and the bytes of their names.
@@ -193,7 +176,7 @@ pub usage_inside : (held : List ℕ) (len : ℕ) → 0 < length held → IsUsage
 usage_inside held len some usage = grind (arith, token_of-part)
 
 -- a word has bytes
-word_some : (d : Directive) → 0 < length (word_of d)
+word_some : (d : Directive) → 0 < length (directive_word d)
 word_some Define = omega arith
 word_some _ = omega arith
 

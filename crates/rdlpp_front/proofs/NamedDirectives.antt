@@ -8,6 +8,7 @@ use Rattle.rdlpp_scan.specs.declared.token.Mode.TheVariants.{Plain}
 use Rattle.rdlpp_scan.specs.Bytes.{is_line_end}
 use Rattle.rdlpp_scan.specs.Lines.{EndsLine}
 use Rattle.rdlpp_scan.specs.Ordinary.{is_plain_kind}
+use Rattle.rdlpp_scan.specs.Reserved.{directive_word}
 use Rattle.rdlpp_scan.specs.SourceTokens.{Sort, SourceToken, Ordinary, Definition, Renumbering, Broken, line_ends, remaining_tokens}
 use Rattle.rdlpp_scan.specs.Tokens.{token_of}
 use Rattle.rdlpp_scan.specs.TokenKinds.{is_ordinary}
@@ -16,7 +17,7 @@ use Rattle.rdlpp_scan.proofs.SourceLaws.{EndsLine-drop, line_ends-append}
 use Rattle.rdlpp_scan.proofs.TokenLens.{token_of-part}
 use Rattle.rdlpp_scan.proofs.TokenSteps.{is_kept_kind}
 use Rattle.rdlpp_meaning.specs.State.{Rules, State}
-use Rattle.rdlpp_meaning.specs.Parts.{Argument, Command, argument_of, after_blanks, after_directive, command_of, directive_named, directive_of, name_in_front, no_argument, only_blanks, past_blanks}
+use Rattle.rdlpp_meaning.specs.Parts.{Argument, Command, argument_of, after_blanks, after_directive, command_of, tokenless_worded, directive_of, name_in_front, no_argument, only_blanks, past_blanks}
 use Rattle.rdlpp_meaning.specs.Resumed.{Place}
 use Rattle.rdlpp_meaning.specs.Opened.{Waiting, all_resumed}
 use Rattle.rdlpp_meaning.proofs.Skipping.{has_own_token}
@@ -24,7 +25,7 @@ use Rattle.rdlpp_meaning.proofs.Moves.{directive_moves}
 use Rattle.rdlpp_meaning.proofs.Directives.{blank_token, name_token, takes_name, takes_name_at_once, takes_name_after_blanks, wants_name}
 use Rattle.rdlpp_read.specs.Arguments.{IsLead, Leads, Lacks}
 use Rattle.rdlpp_read.specs.Buffer.{BufferView, held_of, rest_of, tokens_left}
-use Rattle.rdlpp_front.specs.SourceItems.{HasName, IsDirective, IsNamed, LacksName, argument_name, given_by, given_len, word_of}
+use Rattle.rdlpp_front.specs.SourceItems.{HasName, IsDirective, IsNamed, LacksName, argument_name, given_by, given_len}
 use Rattle.rdlpp_front.specs.declared.item.Argument.{Argument as Given}
 use Rattle.rdlpp_front.specs.SourceLeft.{HoldsFront, source_left}
 use Rattle.rdlpp_front.proofs.Insides.{name_inside, tokens_used, used_buffer, word_len}
@@ -39,17 +40,17 @@ use Rattle.rdlpp_read.specs.Files.{consumed_file}
 
 -- the word of a directive as a token
 abbrev pub word_token : Directive → ℕ → SourceToken
-word_token d line = record { sort = Ordinary Back; bytes = word_of d; line = line }
+word_token d line = record { sort = Ordinary Back; bytes = directive_word d; line = line }
 
 -- a directive of which the word is a token
 record IsWordToken (d : Directive) : Type 0 where
-  pub other : bytes_eq (word_of d) (codes "`define") ≡ false
-  pub also : bytes_eq (word_of d) (codes "`line") ≡ false
+  pub other : bytes_eq (directive_word d) (codes "`define") ≡ false
+  pub also : bytes_eq (directive_word d) (codes "`line") ≡ false
   pub directive : (line : ℕ) → directive_of (word_token d line) ≡ Some d
 
 -- all are but `define` and `line`
 word_alone : (d : Directive) → has_own_token d ≡ false → IsWordToken d
-unfolding has_own_token directive_of directive_named
+unfolding has_own_token directive_of tokenless_worded
 word_alone Define e = absurd (cc)
 word_alone Line e = absurd (cc)
 word_alone _ e = record { other = refl; also = refl; directive = λ line. refl }
@@ -68,14 +69,14 @@ wants_word Elsif e = refl
 wants_word d e = cc
 
 -- a word has no LF
-pub word_line_ends : (d : Directive) → line_ends (word_of d) ≡ 0
+pub word_line_ends : (d : Directive) → line_ends (directive_word d) ≡ 0
 unfolding line_ends is_line_end
 word_line_ends Define = refl
 word_line_ends _ = refl
 
 -- the tokens at a directive whose word is a token
 pub word_tokens : {R : Type 0} (d : Directive) (unread : R → List ℕ) (b : BufferView R) → has_own_token d ≡ false
-    → HoldsFront b → b.mode ≡ Plain → IsDirective d (held_of b) → tokens_left unread b ≡ word_token d b.line ∷ tokens_left unread (used_buffer b (length (word_of d)) 0)
+    → HoldsFront b → b.mode ≡ Plain → IsDirective d (held_of b) → tokens_left unread b ≡ word_token d b.line ∷ tokens_left unread (used_buffer b (length (directive_word d)) 0)
 word_tokens d unread b word holds mode is = grind (arith, word_alone, back_tokens, word_len)
 
 -- a token of such a kind isn't a name
@@ -210,21 +211,21 @@ ended_after held rest m some ends none gone =
 -- what is held of a directive, behind its word and behind blanks
 module _ (d : Directive) (held rest : List ℕ) (some : 0 < length held) (ends : EndsLine held rest) (is : IsDirective d held) where
   -- the first bytes are the word
-  pub word_at : take (length (word_of d)) held ≡ word_of d
+  pub word_at : take (length (directive_word d)) held ≡ directive_word d
   word_at = ap (λ (n : ℕ). take n held) (sym (word_len d held some is)) ∙ is.word
 
   -- they have no LF
-  pub word_at_line_ends : line_ends (take (length (word_of d)) held) ≡ 0
+  pub word_at_line_ends : line_ends (take (length (directive_word d)) held) ≡ 0
   word_at_line_ends = ap line_ends word_at ∙ word_line_ends d
 
   -- where nothing is held behind them
-  pub gone_word : drop (length (word_of d)) held ≡ [] → rest ≡ []
-  gone_word gone = ended_after held rest (length (word_of d)) some ends word_at_line_ends gone
+  pub gone_word : drop (length (directive_word d)) held ≡ [] → rest ≡ []
+  gone_word gone = ended_after held rest (length (directive_word d)) some ends word_at_line_ends gone
 
   -- nor behind blanks there
-  pub gone_blanks : (bl : ℕ) → IsLead Blank (drop (length (word_of d)) held) bl → drop bl (drop (length (word_of d)) held) ≡ [] → rest ≡ []
+  pub gone_blanks : (bl : ℕ) → IsLead Blank (drop (length (directive_word d)) held) bl → drop bl (drop (length (directive_word d)) held) ≡ [] → rest ≡ []
   gone_blanks bl space gone =
-      let n = length (word_of d) in
+      let n = length (directive_word d) in
       let none : line_ends (take (n + bl) held) ≡ 0 =
       omega (arith, ap line_ends (take-add n bl held), line_ends-append (take n held) (take bl (drop n held)), word_at_line_ends, lead_line_ends (drop n held) bl space) in
       ended_after held rest (n + bl) some ends none (sym (drop-drop bl n held) ∙ gone)
@@ -252,8 +253,8 @@ bare_word d e = cc
 -- the held bytes begin with a directive: what it is given, and how many bytes it has with that
 pub data Begins (d : Directive) (held : List ℕ) : Option (List ℕ) → ℕ → Type 0 where
   Named : (start stop : ℕ) → wants_name d ≡ true → HasName d held start stop → Begins d held (Some (argument_name held start stop)) stop
-  Nameless : wants_name d ≡ true → LacksName d held → Begins d held None (length (word_of d))
-  Bare : stands_bare d ≡ true → IsDirective d held → Begins d held None (length (word_of d))
+  Nameless : wants_name d ≡ true → LacksName d held → Begins d held None (length (directive_word d))
+  Bare : stands_bare d ≡ true → IsDirective d held → Begins d held None (length (directive_word d))
 
 -- where it wants a name
 pub named_begins : (d : Directive) (held : List ℕ) (a : Option Given) → wants_name d ≡ true → IsNamed d held a → Begins d held (given_by held a) (given_len d a)
@@ -267,7 +268,7 @@ begins_word d held _ _ (Nameless wants lacks) = lacks.word
 begins_word d held _ _ (Bare bare is) = is
 
 -- the word of a directive lies in what is held
-pub word_within : (d : Directive) (held : List ℕ) → IsDirective d held → 0 < length held → (0 < length (word_of d)) × (length (word_of d) ≤ length held)
+pub word_within : (d : Directive) (held : List ℕ) → IsDirective d held → 0 < length held → (0 < length (directive_word d)) × (length (directive_word d) ≤ length held)
 word_within d held is some = grind (arith, word_len, token_of-part)
 
 -- and so does what it is given
@@ -281,7 +282,7 @@ pub record GivenInFront {R : Type 0} (d : Directive) (unread : R → List ℕ) (
   pub tokens : List SourceToken
   pub all : tokens_left unread b ≡ word_token d b.line ∷ tokens
   pub given : (argument_of d tokens).given ≡ name
-  pub text : word_of d ++ (argument_of d tokens).text ≡ take len (held_of b)
+  pub text : directive_word d ++ (argument_of d tokens).text ≡ take len (held_of b)
   pub following : after_directive d tokens ≡ tokens_left unread (used_buffer b len 0)
 
 module _ {R : Type 0} (d : Directive) (unread : R → List ℕ) (b : BufferView R) (holds : HoldsFront b) (mode : b.mode ≡ Plain) where
@@ -297,26 +298,26 @@ module _ {R : Type 0} (d : Directive) (unread : R → List ℕ) (b : BufferView 
       ∙ tokens_used unread b n 0 b.line mode
 
   -- the word in front
-  at_word : has_own_token d ≡ false → IsDirective d (held_of b) → tokens_left unread b ≡ word_token d b.line ∷ tokens_at (length (word_of d))
-  at_word word is = grind (arith, word_tokens, at_used)
+  at_word : has_own_token d ≡ false → IsDirective d (held_of b) → tokens_left unread b ≡ word_token d b.line ∷ tokens_at (length (directive_word d))
+  at_word word is = word_tokens d unread b word holds mode is ∙ ap (λ (ts : List SourceToken). word_token d b.line ∷ ts) (sym (at_used (length (directive_word d))))
 
   -- a directive with what it takes, from a place behind its word up to another
-  pub given_in_front_of : has_own_token d ≡ false → IsDirective d (held_of b) → (from to start stop : ℕ) → from < to → start ≡ length (word_of d) + from → stop ≡ length (word_of d) + to
-      → (let z = drop from (drop (length (word_of d)) (held_of b)) in
-      IsGiven d (tokens_at (length (word_of d))) (take (to - from) z) (take from (drop (length (word_of d)) (held_of b)) ++ take (to - from) z)
+  pub given_in_front_of : has_own_token d ≡ false → IsDirective d (held_of b) → (from to start stop : ℕ) → from < to → start ≡ length (directive_word d) + from → stop ≡ length (directive_word d) + to
+      → (let z = drop from (drop (length (directive_word d)) (held_of b)) in
+      IsGiven d (tokens_at (length (directive_word d))) (take (to - from) z) (take from (drop (length (directive_word d)) (held_of b)) ++ take (to - from) z)
       (remaining_tokens b.line_bytes Plain b.line b.line (drop (to - from) z) b.bytes_left (rest_of unread b)))
       → GivenInFront d unread b (Some (argument_name (held_of b) start stop)) stop
   given_in_front_of word is from to start stop some starts stops a =
       let held = held_of b in
       let rest = rest_of unread b in
-      let n = length (word_of d) in
+      let n = length (directive_word d) in
       let r = drop n held in
       let k = to - from in
       let at : drop from r ≡ drop start held = drop-drop from n held ∙ ap (λ (i : ℕ). drop i held) (sym starts) in
       let size : k ≡ stop - start = omega arith in
       let more : from + k ≡ to = omega arith in
       let taken : take from r ++ take k (drop from r) ≡ take to r = sym (take-add from k r) ∙ ap (λ (i : ℕ). take i r) more in
-      let whole : word_of d ++ take to r ≡ take stop held =
+      let whole : directive_word d ++ take to r ≡ take stop held =
       ap (λ (z : List ℕ). z ++ take to r) (sym (word_at d held rest holds.some (ends_line unread b holds.ends) is))
       ∙ sym (take-add n to held) ∙ ap (λ (i : ℕ). take i held) (sym stops) in
       let end : start + k ≡ stop = omega arith in
@@ -324,7 +325,7 @@ module _ {R : Type 0} (d : Directive) (unread : R → List ℕ) (b : BufferView 
         tokens = tokens_at n;
         all = at_word word is;
         given = a.given ∙ ap Some (ap (take k) at ∙ ap (λ (i : ℕ). take i (drop start held)) size);
-        text = ap (λ (z : List ℕ). word_of d ++ z) (a.taken ∙ taken) ∙ whole;
+        text = ap (λ (z : List ℕ). directive_word d ++ z) (a.taken ∙ taken) ∙ whole;
         following =
             a.rest
             ∙ ap (λ (z : List ℕ). remaining_tokens b.line_bytes Plain b.line b.line z b.bytes_left rest)
@@ -333,18 +334,18 @@ module _ {R : Type 0} (d : Directive) (unread : R → List ℕ) (b : BufferView 
       }
 
   -- a directive that takes nothing but its word
-  pub nothing_in_front_of : has_own_token d ≡ false → IsDirective d (held_of b) → argument_of d (tokens_at (length (word_of d))) ≡ no_argument → GivenInFront d unread b None (length (word_of d))
+  pub nothing_in_front_of : has_own_token d ≡ false → IsDirective d (held_of b) → argument_of d (tokens_at (length (directive_word d))) ≡ no_argument → GivenInFront d unread b None (length (directive_word d))
   unfolding no_argument
   nothing_in_front_of word is none =
-      let ts = tokens_at (length (word_of d)) in
+      let ts = tokens_at (length (directive_word d)) in
       record {
         tokens = ts;
         all = at_word word is;
         given = ap (λ (a : Argument). a.given) none;
         text =
-            ap (λ (a : Argument). word_of d ++ a.text) none ∙ append-nil (word_of d)
+            ap (λ (a : Argument). directive_word d ++ a.text) none ∙ append-nil (directive_word d)
             ∙ sym (word_at d (held_of b) (rest_of unread b) holds.some (ends_line unread b holds.ends) is);
-        following = ap (λ (a : Argument). drop a.used ts) none ∙ at_used (length (word_of d));
+        following = ap (λ (a : Argument). drop a.used ts) none ∙ at_used (length (directive_word d));
       }
 
   -- a directive with what it is given
@@ -352,25 +353,25 @@ module _ {R : Type 0} (d : Directive) (unread : R → List ℕ) (b : BufferView 
   in_front_of _ _ (Named start stop wants has) =
       let held = held_of b in
       let rest = rest_of unread b in
-      let r = drop (length (word_of d)) held in
+      let r = drop (length (directive_word d)) held in
       let from = has.name.from in
       let g = has.name.given in
       let ends = ends_line unread b holds.ends in
       let lead = lead_name (drop from r) (has.name.to - from) g.name (omega (arith, g.some)) in
       given_in_front_of (wants_word d wants) has.word from has.name.to start stop g.some has.name.starts has.name.stops
-      (after_given b.line_bytes b.line b.bytes_left rest d wants r from (has.name.to - from) (EndsLine-drop (length (word_of d)) held rest ends)
+      (after_given b.line_bytes b.line b.bytes_left rest d wants r from (has.name.to - from) (EndsLine-drop (length (directive_word d)) held rest ends)
       (gone_word d held rest holds.some ends has.word) g.space lead.0 lead.1 lead.2)
   in_front_of _ _ (Nameless wants lacks) =
       let held = held_of b in
       let rest = rest_of unread b in
-      let n = length (word_of d) in
+      let n = length (directive_word d) in
       let r = drop n held in
       let ends = ends_line unread b holds.ends in
       nothing_in_front_of (wants_word d wants) lacks.word
       (after_missing b.line_bytes b.line b.bytes_left rest d wants r lacks.none.start (EndsLine-drop n held rest ends)
       (gone_word d held rest holds.some ends lacks.word) (gone_blanks d held rest holds.some ends lacks.word lacks.none.start lacks.none.space)
       lacks.none.space (lead_none (drop lacks.none.start r) 0 lacks.none.none refl))
-  in_front_of _ _ (Bare bare is) = nothing_in_front_of (bare_word d bare) is (bare_takes d (tokens_at (length (word_of d))) bare)
+  in_front_of _ _ (Bare bare is) = nothing_in_front_of (bare_word d bare) is (bare_takes d (tokens_at (length (directive_word d))) bare)
 
 -- an `undef` wants a name
 pub undef_wants : wants_name Undef ≡ true
@@ -401,6 +402,6 @@ held_moves rules unread ws f s d given len word i place =
     let at : Command → List SourceToken → Passage = λ c ts. nest_moves rules ws (move_of rules c place s) f.buffer.line s (only_blanks f.blanks c.text) ts in
     ap (λ (ts : List SourceToken). all_resumed rules ws place f.blanks ts s) i.all
     ∙ directive_moves rules ws place d f.blanks tok i.tokens s (word_directive d f.buffer.line word)
-    ∙ ap (λ (name : Option (List ℕ)). at (by name (word_of d ++ a.text)) (after_directive d i.tokens)) i.given
+    ∙ ap (λ (name : Option (List ℕ)). at (by name (directive_word d ++ a.text)) (after_directive d i.tokens)) i.given
     ∙ ap (λ (text : List ℕ). at (by given text) (after_directive d i.tokens)) i.text
     ∙ ap (at (by given (take len (held_of f.buffer)))) i.following

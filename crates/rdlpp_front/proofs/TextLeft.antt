@@ -7,7 +7,7 @@ use Rattle.rdlpp_scan.specs.Bytes.{begins_perl, is_line_end}
 use Rattle.rdlpp_scan.specs.Defines.{HoldsDefine}
 use Rattle.rdlpp_scan.specs.Front.{Breach, PerlFound}
 use Rattle.rdlpp_scan.specs.Lines.{EndsLine, ended_line_len}
-use Rattle.rdlpp_scan.specs.Reserved.{is_reserved, reserved_names}
+use Rattle.rdlpp_scan.specs.Reserved.{directive_word, is_reserved, reserved_names}
 use Rattle.rdlpp_scan.specs.Resumed.{line_with, onto_tokens, opening, with_part}
 use Rattle.rdlpp_scan.specs.SourceTokens.{Broken, Ordinary, SourceToken, is_continued, line_ends, line_len, logical_len, remaining_tokens, Definition, Renumbering}
 use Rattle.rdlpp_scan.specs.Tokens.{plain_len, token_of}
@@ -49,7 +49,7 @@ use Rattle.rdlpp_read.specs.declared.buffer.filling.Fill.{Fill}
 use Rattle.rdlpp_read.specs.declared.buffer.filling.Fill.TheVariants as fill
 use Rattle.rdlpp_read.specs.declared.files.File.{File}
 use Rattle.rdlpp_read.proofs.BufferTokens.{ends_line}
-use Rattle.rdlpp_front.specs.SourceItems.{AtBare, AtOrdinary, AtPerl, AtToken, IsDirective, IsRefused, IsText, IsUsage, is_text_kind, usage_name, word_of}
+use Rattle.rdlpp_front.specs.SourceItems.{AtBare, AtOrdinary, AtPerl, AtToken, IsDirective, IsRefused, IsText, IsUsage, is_text_kind, usage_name}
 use Rattle.rdlpp_front.specs.SourceLeft.{HoldsFront, source_left, with_file_buffer}
 use Rattle.rdlpp_front.proofs.Insides.{Writes, all_resumed_bare, all_resumed_only_broken, all_resumed_undefined, back_front, back_text, live_writes, open_copied, skipped_writes, tokens_entered, tokens_plain, tokens_used, used_buffer, word_len, writes_one}
 
@@ -472,19 +472,19 @@ line_moves rules unread ws place f s holds mode is =
 
 module _ (held : List ℕ) (some : 0 < length held) (is : IsDirective Line held) where
   -- a `line` is its word and what stands behind it
-  word_apart : held ≡ word_of Line ++ drop 5 held
+  word_apart : held ≡ directive_word Line ++ drop 5 held
   word_apart =
       let len : (token_of Plain held).len ≡ 5 = word_len Line held some is in
       sym (take-append-drop 5 held) ∙ ap (λ (x : List ℕ). x ++ drop 5 held) (ap (λ (n : ℕ). take n held) (sym len) ∙ is.word)
 
   -- its word is held
   pub word_held : length held ≡ 5 + length (drop 5 held)
-  word_held = ap length word_apart ∙ length-append (word_of Line) (drop 5 held)
+  word_held = ap length word_apart ∙ length-append (directive_word Line) (drop 5 held)
 
   -- its physical line has its word and what stands behind that on the line
   pub line_right_after : line_len held ≡ 5 + line_len (drop 5 held)
   unfolding ended_line_len is_line_end
-  line_right_after = ap line_len word_apart ∙ line_len-open (word_of Line) (drop 5 held) refl
+  line_right_after = ap line_len word_apart ∙ line_len-open (directive_word Line) (drop 5 held) refl
 
   -- what it is given
   pub given_text : drop 5 (line_text held) ≡ take (line_len (drop 5 held)) (drop 5 held)

@@ -1,6 +1,7 @@
 -- What the held bytes of a source begin with.
 -- A definition that names no source is this project's own.
-use Rattle.std.specs.Prelude.{◌≡◌, ℕ, ◌+◌, ◌-◌, ◌<◌, Bool, true, false, List, [], length, take, drop, codes, Option, None, Some, if◌then◌else◌}
+use Rattle.std.specs.Prelude.{◌≡◌, ℕ, ◌+◌, ◌-◌, ◌<◌, Bool, true, false, List, [], length, take, drop, Option, None, Some, if◌then◌else◌}
+use Rattle.rdlpp_scan.specs.Reserved.{directive_word, is_reserved}
 use Rattle.rdlpp_scan.specs.declared.token.Mode.{Mode}
 use Rattle.rdlpp_scan.specs.declared.token.Mode.TheVariants.{Plain}
 use Rattle.rdlpp_scan.specs.declared.token.Kind.{Kind}
@@ -8,7 +9,6 @@ use Rattle.rdlpp_scan.specs.declared.token.Kind.TheVariants.{Back, BareBackquote
 use Rattle.rdlpp_scan.specs.declared.token.Directive.{Directive}
 use Rattle.rdlpp_scan.specs.declared.token.Directive.TheVariants as directive
 use Rattle.rdlpp_scan.specs.Tokens.{token_of, plain_len}
-use Rattle.rdlpp_scan.specs.Reserved.{is_reserved}
 use Rattle.rdlpp_meaning.specs.declared.fault.FaultKind.{FaultKind}
 use Rattle.rdlpp_meaning.specs.declared.fault.FaultKind.TheVariants as fault
 use Rattle.rdlpp_meaning.specs.Meaning.{Checked, NameFault, Fine, unquoted}
@@ -39,22 +39,10 @@ pub record IsUsage (held : List ℕ) (len : ℕ) : Type 0 where
 abbrev pub usage_name : List ℕ → ℕ → List ℕ
 usage_name held len = take (len - 1) (drop 1 held)
 
--- the word of a directive, with its backquote (IEEE 1364-2001, clause on compiler directives)
-abbrev pub word_of : Directive → List ℕ
-word_of directive.Define = codes "`define"
-word_of directive.Undef = codes "`undef"
-word_of directive.Ifdef = codes "`ifdef"
-word_of directive.Ifndef = codes "`ifndef"
-word_of directive.Elsif = codes "`elsif"
-word_of directive.Else = codes "`else"
-word_of directive.Endif = codes "`endif"
-word_of directive.Include = codes "`include"
-word_of directive.Line = codes "`line"
-
 -- the word of a directive
 pub record IsDirective (d : Directive) (held : List ℕ) : Type 0 where
   pub kind : (token_of Plain held).kind ≡ Back
-  pub word : take (token_of Plain held).len held ≡ word_of d
+  pub word : take (token_of Plain held).len held ≡ directive_word d
 
 -- behind the word of a directive, which has so many bytes, a name stands from a place up to another
 pub record NameAfter (word_len : ℕ) (held : List ℕ) (start stop : ℕ) : Type 0 where
@@ -72,12 +60,12 @@ IsNameAfter word_len held (Some a) = NameAfter word_len held a.start a.stop
 -- a directive with its name, which stands from a place up to another (IEEE 1364-2001, compiler directives)
 pub record HasName (d : Directive) (held : List ℕ) (start stop : ℕ) : Type 0 where
   pub word : IsDirective d held
-  pub name : NameAfter (length (word_of d)) held start stop
+  pub name : NameAfter (length (directive_word d)) held start stop
 
 -- a directive behind which no name stands
 pub record LacksName (d : Directive) (held : List ℕ) : Type 0 where
   pub word : IsDirective d held
-  pub none : NoName (drop (length (word_of d)) held)
+  pub none : NoName (drop (length (directive_word d)) held)
 
 -- a directive that wants a name, and the name that it is given (IEEE 1364-2001, compiler directives)
 abbrev pub IsNamed : Directive → List ℕ → Option Argument → Type 0
@@ -102,14 +90,14 @@ pub record HasString (held : List ℕ) (start stop : ℕ) : Type 0 where
   pub word : IsDirective directive.Include held
   pub from : ℕ
   pub to : ℕ
-  pub given : StringGiven (drop (length (word_of directive.Include)) held) from to
-  pub starts : start ≡ length (word_of directive.Include) + from
-  pub stops : stop ≡ length (word_of directive.Include) + to
+  pub given : StringGiven (drop (length (directive_word directive.Include)) held) from to
+  pub starts : start ≡ length (directive_word directive.Include) + from
+  pub stops : stop ≡ length (directive_word directive.Include) + to
 
 -- an `include` behind which no string stands that closes on its line
 pub record LacksString (held : List ℕ) : Type 0 where
   pub word : IsDirective directive.Include held
-  pub none : NoString (drop (length (word_of directive.Include)) held)
+  pub none : NoString (drop (length (directive_word directive.Include)) held)
 
 -- an `include`, and the string that it is given (IEEE 1364-2001, `include`)
 abbrev pub IsGivenString : List ℕ → Option Argument → Type 0
@@ -127,7 +115,7 @@ given_by held (Some a) = Some (argument_name held a.start a.stop)
 
 -- how many bytes it has with that
 abbrev pub given_len : Directive → Option Argument → ℕ
-given_len d None = length (word_of d)
+given_len d None = length (directive_word d)
 given_len d (Some a) = a.stop
 
 -- the name of a macro that it is given, or its fault (IEEE 1364-2001, compiler directives)

@@ -19,7 +19,7 @@ use Rattle.rdlpp_meaning.specs.Expansion.{Opens, UsageFault, Usage, bytes_of, ex
 use Rattle.rdlpp_meaning.specs.Items.{Item, Written}
 use Rattle.rdlpp_meaning.specs.Meaning.{IncludedMeaning, Passage, Progress, after_bytes, goes_on, leaves, included_meaning_of}
 use Rattle.rdlpp_meaning.specs.Outcome.{Outcome, Report, and_then, fails, gives}
-use Rattle.rdlpp_meaning.specs.Parts.{Branching, Closing, Command, Opening, Piece, Run, Single, directive_named, directive_of, joined, line_ends_of, only_blanks, piece_of, pieces}
+use Rattle.rdlpp_meaning.specs.Parts.{Branching, Closing, Command, Opening, Piece, Run, Single, tokenless_worded, directive_of, joined, line_ends_of, only_blanks, piece_of, pieces}
 use Rattle.rdlpp_meaning.specs.Resumed.{Live, leading, resume, resumed, trailing}
 use Rattle.rdlpp_meaning.specs.State.{Rules, State, breach_kind, fault_at}
 use Rattle.rdlpp_meaning.specs.Substitution.{substituted}
@@ -177,8 +177,8 @@ none_of_words name (w ∷ ws) e =
     (parts.0, none_of_words name ws parts.1)
 
 -- a name that isn't reserved is none of the directives
-not_directive : (name : List ℕ) → is_reserved name ≡ false → directive_named (96 ∷ name) ≡ None
-unfolding is_reserved reserved_names directive_named
+not_directive : (name : List ℕ) → is_reserved name ≡ false → tokenless_worded (96 ∷ name) ≡ None
+unfolding is_reserved reserved_names tokenless_worded
 not_directive name e = grind (arith, none_of_words)
 
 -- a usage of a name that isn't reserved begins no directive

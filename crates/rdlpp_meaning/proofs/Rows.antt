@@ -21,7 +21,7 @@ use Rattle.rdlpp_meaning.specs.Meaning.{added_end, at_start_of, back_in, begun, 
 use Rattle.rdlpp_meaning.specs.Outcome.{Outcome, and_then, fails, gives}
 use Rattle.rdlpp_meaning.specs.Output.{character_place, name_cut, opening_fault, output, start_state}
 use Rattle.rdlpp_meaning.specs.OutputLimit.{limited, limited_output, search_rules, unlimited_output}
-use Rattle.rdlpp_meaning.specs.Parts.{appended, argument_of, after_blanks, after_end, command_of, directive_named, directive_of, front_parts, further_branches, in_front, joined, level_of, level_parts, line_ends_of, name_in_front, no_argument, one_argument, only_blanks, opened_before, parts_of, past_blanks, piece_of, pieces, string_in_front}
+use Rattle.rdlpp_meaning.specs.Parts.{appended, argument_of, after_blanks, after_end, command_of, tokenless_worded, directive_of, front_parts, further_branches, in_front, joined, level_of, level_parts, line_ends_of, name_in_front, no_argument, one_argument, only_blanks, opened_before, parts_of, past_blanks, piece_of, pieces, string_in_front}
 use Rattle.rdlpp_meaning.specs.Profile.{define_fault, rules_of, with_fault}
 use Rattle.rdlpp_meaning.specs.State.{LongPath, Lookup, NoSource, Rules, Source, breach_kind, fault_at, no_shift, shown_line}
 use Rattle.rdlpp_meaning.specs.Substitution.{body_tokens, bound_to, mark_of, mark_or, marked, spelled, standing_of, substituted}
@@ -45,7 +45,7 @@ standard = record { depth = 256; includes = 16; line_bytes = 65536; source_bytes
 
 -- the output of a row from macros, where names of sources are paths
 unfoldable pub row_from : List Macro → Limits → Bool → List File → Outcome
-unfolding found_in is_utf8 chars encode_utf8 digits is_blank is_line_end is_letter is_digit is_word is_opener is_closer takes_word begins_perl begins_line_comment begins_block_comment ends_block_comment first_place string_stop whole string_token block_token plain_token token_of tokens_from stops_plain_text plain_len line_ends line_after broken is_continued logical_len line_len open_end string_step comment_step define_step line_step back_step step_by source_step source_end source_tokens remaining_tokens whole_tokens onto_first lines_of onto_front front_of_lines front reserved_names is_reserved macro_named without formal_size macro_size table_size continuation_len without_continuations logical_text is_space after_space leading_name name_fault text_without_line_comments unended onto_trimmed is_perl open_fault fault_of_tokens lex_fault_from without_end trimmed_of ends_default default_level onto_default default_of_tokens trimmed_default default_in formal_name after_name formal_fault with_default default_size trimmed lexical formal_in formals_in formals_of_list formal_list with_body refused_word with_list macro_from macro_of stored stored_draft define_of gives fails and_then no_shift shown_line fault_at breach_kind listed packed level_after kept_size turn_before turn_fitting turn_inside call_turn call_state_after_lead call_state_after room_after fault_at_end scan_onto scanned scan split_by split call_of_scan actuals_is_space after_leading_space actuals_trimmed kind_role broken_role token_role item_role item_size spelled body_tokens standing_of bound_to mark_of mark_or marked substituted name_of bound_parts is_count actual_of unlined_item unlined broken_line usage_of_call usage_of_formals usage_of_macro usage_of walk expand is_copied run_outcome only_blanks line_ends_of directive_named directive_of no_argument one_argument after_blanks name_in_front string_in_front past_blanks argument_of command_of piece_of joined pieces in_front front_parts further_branches after_end opened_before level_of appended level_parts parts_of leaves outcome after_bytes goes_on refusal skipped_run skipped_command macro_name defines undefines origin_line at_start_of back_in added_end includes includes_found unquoted includes_named includes_given quote_place past_blank_bytes digits_value is_level renumbered_name renumbered renumbers single by_test is_defined name_test wants_defined opening_within opening in_conditional past_conditional begun is_else turn turned unclosed included_meaning_of text_meaning skip mean character_place name_cut opening_fault start_state output define_fault with_fault rules_of limited search_rules unlimited_output limited_output
+unfolding found_in is_utf8 chars encode_utf8 digits is_blank is_line_end is_letter is_digit is_word is_opener is_closer takes_word begins_perl begins_line_comment begins_block_comment ends_block_comment first_place string_stop whole string_token block_token plain_token token_of tokens_from stops_plain_text plain_len line_ends line_after broken is_continued logical_len line_len open_end string_step comment_step define_step line_step back_step step_by source_step source_end source_tokens remaining_tokens whole_tokens onto_first lines_of onto_front front_of_lines front reserved_names is_reserved macro_named without formal_size macro_size table_size continuation_len without_continuations logical_text is_space after_space leading_name name_fault text_without_line_comments unended onto_trimmed is_perl open_fault fault_of_tokens lex_fault_from without_end trimmed_of ends_default default_level onto_default default_of_tokens trimmed_default default_in formal_name after_name formal_fault with_default default_size trimmed lexical formal_in formals_in formals_of_list formal_list with_body refused_word with_list macro_from macro_of stored stored_draft define_of gives fails and_then no_shift shown_line fault_at breach_kind listed packed level_after kept_size turn_before turn_fitting turn_inside call_turn call_state_after_lead call_state_after room_after fault_at_end scan_onto scanned scan split_by split call_of_scan actuals_is_space after_leading_space actuals_trimmed kind_role broken_role token_role item_role item_size spelled body_tokens standing_of bound_to mark_of mark_or marked substituted name_of bound_parts is_count actual_of unlined_item unlined broken_line usage_of_call usage_of_formals usage_of_macro usage_of walk expand is_copied run_outcome only_blanks line_ends_of tokenless_worded directive_of no_argument one_argument after_blanks name_in_front string_in_front past_blanks argument_of command_of piece_of joined pieces in_front front_parts further_branches after_end opened_before level_of appended level_parts parts_of leaves outcome after_bytes goes_on refusal skipped_run skipped_command macro_name defines undefines origin_line at_start_of back_in added_end includes includes_found unquoted includes_named includes_given quote_place past_blank_bytes digits_value is_level renumbered_name renumbered renumbers single by_test is_defined name_test wants_defined opening_within opening in_conditional past_conditional begun is_else turn turned unclosed included_meaning_of text_meaning skip mean character_place name_cut opening_fault start_state output define_fault with_fault rules_of limited search_rules unlimited_output limited_output
 row_from macros limits origins files =
     limited_output limits (record { main = λ path. found_in files path; included = λ from name. found_in files name }) origins macros
     (codes "m")

@@ -1,22 +1,22 @@
 -- Laws of skipped text, of the words of directives and of the LF bytes that are owed.
-use Rattle.std.proofs.Common.{◌≡◌, ℕ, Bool, List, [], ◌∷◌, refl, sym, ap, ◌∙◌, None, true, false, Option, Some, length, replicate, ◌++◌, take, drop, bytes_eq, codes, if◌then◌else◌, take-append-drop, arith}
+use Rattle.std.proofs.Common.{◌≡◌, ℕ, Bool, List, [], ◌∷◌, refl, sym, ap, subst, ◌∙◌, None, true, false, Option, Some, length, replicate, ◌++◌, take, drop, take-append-drop, arith}
 use Rattle.std.specs.List.{list_all}
 use Rattle.std.proofs.lemmas.Bool.{and_from, and_parts}
 use Rattle.std.proofs.lemmas.List.Sums.{length-filter}
-use Rattle.std.proofs.lemmas.Slice.Eq.{bytes_eq-Decides}
 use Rattle.rdlpp_scan.specs.Bytes.{is_blank, is_line_end}
 use Rattle.rdlpp_scan.specs.Front.{Breach}
-use Rattle.rdlpp_scan.specs.Reserved.{is_reserved}
+use Rattle.rdlpp_scan.specs.Reserved.{directive_word, is_reserved}
 use Rattle.rdlpp_scan.specs.SourceTokens.{Broken, Definition, Ordinary, Renumbering, Sort, SourceToken, line_ends}
 use Rattle.rdlpp_scan.specs.declared.token.Directive.{Directive}
 use Rattle.rdlpp_scan.specs.declared.token.Directive.TheVariants.{Define, Else, Elsif, Endif, Ifdef, Ifndef, Include, Line, Undef}
 use Rattle.rdlpp_scan.specs.declared.token.Kind.{Kind}
 use Rattle.rdlpp_scan.specs.declared.token.Kind.TheVariants.{Back, BareBackquote}
+use Rattle.rdlpp_scan.proofs.DirectiveNames.{among_is}
 use Rattle.rdlpp_scan.proofs.Seams.{line_end-ten}
 use Rattle.rdlpp_meaning.specs.Expansion.{bytes_of, is_copied, usage_token}
 use Rattle.rdlpp_meaning.specs.Meaning.{IncludedMeaning, Passage, Progress, SkipsAs, after_bytes, goes_on, leaves, included_meaning_of, skipped_command, skipped_run, unclosed}
 use Rattle.rdlpp_meaning.specs.Outcome.{Outcome, and_then, fails, gives}
-use Rattle.rdlpp_meaning.specs.Parts.{Branching, Closing, Opening, Piece, Run, Single, argument_of, after_directive, command_in_front, command_of, directive_named, directive_of, joined, line_ends_of, no_argument, one_argument, only_blanks, piece_of, pieces}
+use Rattle.rdlpp_meaning.specs.Parts.{Branching, Closing, Opening, Piece, Run, Single, argument_of, after_directive, command_in_front, command_of, directive_of, joined, line_ends_of, no_argument, one_argument, only_blanks, piece_of, pieces, tokenless, tokenless_worded}
 use Rattle.rdlpp_meaning.specs.Resumed.{Live, Skipped, following, resume, resumed, skips}
 use Rattle.rdlpp_meaning.specs.State.{Rules, State, breach_kind, fault_at}
 use Rattle.rdlpp_meaning.proofs.Directives.{argument_by, argument_takes, directive_piece}
@@ -91,53 +91,16 @@ pub record IsWord (bytes : List ℕ) : Type 0 where
   pub no_line_end : line_ends_of bytes ≡ []
   pub no_blanks : (first : Bool) → only_blanks first bytes ≡ false
 
--- where a text is a word, it is that of its directive, or else of one of the others
-word_or : (b : Bool) (bytes word : List ℕ) (own d : Directive) (others : Option Directive) → bytes_eq bytes word ≡ b
-    → IsWord word → (others ≡ Some d → IsWord bytes) → (if b then Some own else others) ≡ Some d → IsWord bytes
-word_or true bytes word own d others e w rest h = grind (arith, bytes_eq-Decides)
-word_or false bytes word own d others e w rest h = rest h
-
--- the words
-ifdef_word : IsWord (codes "`ifdef")
+-- the word of a directive is one
+word_is : (d : Directive) → IsWord (directive_word d)
 unfolding only_blanks line_ends_of is_blank is_line_end
-ifdef_word = record { no_line_end = refl; no_blanks = λ first. refl }
+word_is Define = record { no_line_end = refl; no_blanks = λ first. refl }
+word_is _ = record { no_line_end = refl; no_blanks = λ first. refl }
 
-ifndef_word : IsWord (codes "`ifndef")
-unfolding only_blanks line_ends_of is_blank is_line_end
-ifndef_word = record { no_line_end = refl; no_blanks = λ first. refl }
-
-undef_word : IsWord (codes "`undef")
-unfolding only_blanks line_ends_of is_blank is_line_end
-undef_word = record { no_line_end = refl; no_blanks = λ first. refl }
-
-elsif_word : IsWord (codes "`elsif")
-unfolding only_blanks line_ends_of is_blank is_line_end
-elsif_word = record { no_line_end = refl; no_blanks = λ first. refl }
-
-else_word : IsWord (codes "`else")
-unfolding only_blanks line_ends_of is_blank is_line_end
-else_word = record { no_line_end = refl; no_blanks = λ first. refl }
-
-endif_word : IsWord (codes "`endif")
-unfolding only_blanks line_ends_of is_blank is_line_end
-endif_word = record { no_line_end = refl; no_blanks = λ first. refl }
-
-include_word : IsWord (codes "`include")
-unfolding only_blanks line_ends_of is_blank is_line_end
-include_word = record { no_line_end = refl; no_blanks = λ first. refl }
-
--- a backquoted name that is such a directive is its word
-pub named_word : (bytes : List ℕ) (d : Directive) → directive_named bytes ≡ Some d → IsWord bytes
-unfolding directive_named
-named_word bytes d h =
-    word_or (bytes_eq bytes (codes "`undef")) bytes (codes "`undef") Undef d _ refl undef_word
-    (word_or (bytes_eq bytes (codes "`ifdef")) bytes (codes "`ifdef") Ifdef d _ refl ifdef_word
-    (word_or (bytes_eq bytes (codes "`ifndef")) bytes (codes "`ifndef") Ifndef d _ refl ifndef_word
-    (word_or (bytes_eq bytes (codes "`elsif")) bytes (codes "`elsif") Elsif d _ refl elsif_word
-    (word_or (bytes_eq bytes (codes "`else")) bytes (codes "`else") Else d _ refl else_word
-    (word_or (bytes_eq bytes (codes "`endif")) bytes (codes "`endif") Endif d _ refl endif_word
-    (word_or (bytes_eq bytes (codes "`include")) bytes (codes "`include") Include d None refl include_word (λ e. cc)))))))
-    h
+-- so the bytes of a directive that has no token of its own are one
+pub tokenless_word : (bytes : List ℕ) (d : Directive) → tokenless_worded bytes ≡ Some d → IsWord bytes
+unfolding tokenless_worded
+tokenless_word bytes d e = subst IsWord (sym (among_is directive_word tokenless bytes d e)) (word_is d)
 
 -- whether a directive has a token of its own, with what it takes
 unfoldable pub has_own_token : Directive → Bool
@@ -161,15 +124,15 @@ not_renumbering d e h = cc
 word_by : (sort : Sort) (bytes : List ℕ) (line : ℕ) (d : Directive) → directive_of (record { sort = sort; bytes = bytes; line = line }) ≡ Some d
     → has_own_token d ≡ false → IsWord bytes
 unfolding directive_of
-word_by (Ordinary Back) bytes line d e h = named_word bytes d e
+word_by (Ordinary Back) bytes line d e h = tokenless_word bytes d e
 word_by (Ordinary k) bytes line d e h = cc
 word_by Definition bytes line d e h = absurd (not_definition d e h)
 word_by Renumbering bytes line d e h = absurd (not_renumbering d e h)
 word_by (Broken b) bytes line d e h = cc
 
 -- a token that begins such a directive is its word
-pub directive_word : (t : SourceToken) (d : Directive) → directive_of t ≡ Some d → has_own_token d ≡ false → IsWord t.bytes
-directive_word t d e h = word_by t.sort t.bytes t.line d e h
+pub begins_word : (t : SourceToken) (d : Directive) → directive_of t ≡ Some d → has_own_token d ≡ false → IsWord t.bytes
+begins_word t d e h = word_by t.sort t.bytes t.line d e h
 
 -- The LF bytes of a text, as so many that are owed.
 

@@ -17,7 +17,7 @@ use Rattle.rdlpp_meaning.specs.Expansion.{Opens, UsageFault, Usage, bound_parts,
 use Rattle.rdlpp_meaning.specs.Items.{Arg, Item, Written, broken_line, unlined, unlined_item}
 use Rattle.rdlpp_meaning.specs.Meaning.{Passage, Progress, goes_on, leaves}
 use Rattle.rdlpp_meaning.specs.Outcome.{Outcome, and_then, fails}
-use Rattle.rdlpp_meaning.specs.Parts.{directive_named, directive_of, only_blanks}
+use Rattle.rdlpp_meaning.specs.Parts.{tokenless_worded, directive_of, only_blanks}
 use Rattle.rdlpp_meaning.specs.Resumed.{Live, leading, resumed}
 use Rattle.rdlpp_meaning.specs.State.{Rules, State, fault_at}
 use Rattle.rdlpp_meaning.specs.Substitution.{body_tokens, spelled, substituted}
@@ -347,7 +347,7 @@ named_kept (Some d) r h = sym h
 source_kept_by : (sort : Sort) (bytes : List ℕ) (line : ℕ)
     → is_kept (source_role (record { sort = sort; bytes = bytes; line = line })) ≡ is_kept (token_role (record { sort = sort; bytes = bytes; line = line }))
 unfolding source_role directive_of token_role kind_role is_kept
-source_kept_by (Ordinary Back) bytes line = named_kept (directive_named bytes) Text refl
+source_kept_by (Ordinary Back) bytes line = named_kept (tokenless_worded bytes) Text refl
 source_kept_by sort bytes line = refl
 
 -- which tokens a source keeps doesn't hang on directives

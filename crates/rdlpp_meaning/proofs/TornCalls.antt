@@ -13,7 +13,7 @@ use Rattle.rdlpp_meaning.specs.CallScan.{Before, Closed, Closes, Inside, Keeps, 
 use Rattle.rdlpp_meaning.specs.Expansion.{Opens, UsageFault, Usage, usage_of, usage_of_call, usage_of_formals, usage_of_macro}
 use Rattle.rdlpp_meaning.specs.Items.{Written}
 use Rattle.rdlpp_meaning.specs.LimitLaws.{is_limit}
-use Rattle.rdlpp_meaning.specs.Parts.{Argument, Branching, Closing, Command, Opening, Piece, Run, Single, argument_of, after_blanks, command_of, directive_named, directive_of, joined, name_in_front, no_argument, one_argument, only_blanks, past_blanks, piece_of, pieces, string_in_front}
+use Rattle.rdlpp_meaning.specs.Parts.{Argument, Branching, Closing, Command, Opening, Piece, Run, Single, argument_of, after_blanks, command_of, tokenless_worded, directive_of, joined, name_in_front, no_argument, one_argument, only_blanks, past_blanks, piece_of, pieces, string_in_front}
 use Rattle.rdlpp_meaning.specs.Resumed.{leading}
 use Rattle.rdlpp_meaning.specs.State.{Rules, State, breach_kind}
 use Rattle.rdlpp_meaning.specs.declared.fault.FaultKind.{FaultKind}
@@ -537,7 +537,7 @@ sort-torn : (first : Bool) (sort : Sort) (bytes : List ℕ) (line : ℕ) (ts us 
     → PiecesTorn (pieces first 0 (record { sort = sort; bytes = bytes; line = line } ∷ ts)) (pieces first 0 (record { sort = sort; bytes = bytes; line = line } ∷ us))
 unfolding pieces directive_of ends_line FirstUnbroken argument_of
 sort-torn first (Ordinary Back) bytes line ts us h r =
-    back-torn first (record { sort = Ordinary Back; bytes = bytes; line = line }) ts us (directive_named bytes) h r
+    back-torn first (record { sort = Ordinary Back; bytes = bytes; line = line }) ts us (tokenless_worded bytes) h r
 sort-torn first (Ordinary k) bytes line ts us h r = grind (arith, joined-torn)
 sort-torn first Definition bytes line ts us h r = directive-torn first Define (record { sort = Definition; bytes = bytes; line = line }) ts us refl r
 sort-torn first Renumbering bytes line ts us h r = directive-torn first Line (record { sort = Renumbering; bytes = bytes; line = line }) ts us refl r

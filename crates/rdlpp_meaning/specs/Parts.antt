@@ -1,11 +1,12 @@
 -- The parts of a file: runs of text, directives, and conditionals matched by balance alone.
 -- A definition that names no source is this project's own.
-use Rattle.std.specs.Prelude.{ℕ, zero, suc, Bool, true, ◌&&◌, ◌||◌, List, [], ◌∷◌, ◌++◌, filter, bytes_eq, drop, Option, None, Some, codes, if◌then◌else◌}
+use Rattle.std.specs.Prelude.{ℕ, zero, suc, Bool, true, ◌&&◌, ◌||◌, List, [], ◌∷◌, ◌++◌, filter, drop, Option, None, Some, if◌then◌else◌}
 use Rattle.std.specs.List.{list_any}
 use Rattle.rdlpp_scan.specs.declared.token.Kind.TheVariants.{Name, Back, Blank, Str}
 use Rattle.rdlpp_scan.specs.declared.token.Directive.{Directive}
 use Rattle.rdlpp_scan.specs.declared.token.Directive.TheVariants.{Define, Undef, Ifdef, Ifndef, Elsif, Else, Endif, Include, Line}
 use Rattle.rdlpp_scan.specs.Bytes.{is_blank, is_line_end}
+use Rattle.rdlpp_scan.specs.Reserved.{directive_among, directive_word}
 use Rattle.rdlpp_scan.specs.SourceTokens.{Ordinary, Definition, Renumbering, Broken, SourceToken}
 
 -- a directive of a source: which it is, the name or string that it is given, if that stands there, its whole text, its
@@ -34,22 +35,18 @@ only_blanks first (b ∷ bs) = only_blanks (is_line_end b || is_blank b && first
 unfoldable pub line_ends_of : List ℕ → List ℕ
 line_ends_of bytes = filter is_line_end bytes
 
--- the directive that a backquoted name is, if it is one with no token of its own (source: IEEE 1364-2001, compiler directives)
-unfoldable pub directive_named : List ℕ → Option Directive
-directive_named bytes =
-    if bytes_eq bytes (codes "`undef") then Some Undef
-    else (if bytes_eq bytes (codes "`ifdef") then Some Ifdef
-    else (if bytes_eq bytes (codes "`ifndef") then Some Ifndef
-    else (if bytes_eq bytes (codes "`elsif") then Some Elsif
-    else (if bytes_eq bytes (codes "`else") then Some Else
-    else (if bytes_eq bytes (codes "`endif") then Some Endif
-    else (if bytes_eq bytes (codes "`include") then Some Include
-    else None))))))
+-- the directives that have no token of their own
+abbrev pub tokenless : List Directive
+tokenless = Undef ∷ Ifdef ∷ Ifndef ∷ Elsif ∷ Else ∷ Endif ∷ Include ∷ []
+
+-- the one of them whose word these bytes are, if they are one's (source: IEEE 1364-2001, compiler directives)
+unfoldable pub tokenless_worded : List ℕ → Option Directive
+tokenless_worded bytes = directive_among directive_word tokenless bytes
 
 -- the directive that a token of a source begins, if it begins one (source: IEEE 1364-2001, compiler directives)
 unfoldable pub directive_of : SourceToken → Option Directive
 directive_of t = elim t.sort [
-  | Ordinary k ↦ elim k [ Back ↦ directive_named t.bytes | _ ↦ None ]
+  | Ordinary k ↦ elim k [ Back ↦ tokenless_worded t.bytes | _ ↦ None ]
   | Definition ↦ Some Define
   | Renumbering ↦ Some Line
   | Broken b ↦ None

@@ -7,3 +7,4 @@ pub mod TokenSteps
 pub mod RemainingLaws
 pub mod RangeLaws
 pub mod CleanTexts
+pub mod DirectiveNames

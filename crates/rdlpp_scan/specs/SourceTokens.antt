@@ -1,7 +1,8 @@
 -- The tokens of a source: those of its front, with lines, `define` and `line` whole, and at most one broken token at the end.
 -- A definition that names no source is this project's own.
-use Rattle.std.specs.Prelude.{ℕ, zero, suc, ◌+◌, ◌-◌, Bool, not, ◌&&◌, ◌||◌, ◌==◌, nat_lt, List, [], ◌∷◌, ◌++◌, length, take, bytes_eq, count_by, Option, None, Some, codes, if◌then◌else◌}
+use Rattle.std.specs.Prelude.{ℕ, zero, suc, ◌+◌, ◌-◌, Bool, not, ◌&&◌, ◌||◌, ◌==◌, nat_lt, List, [], ◌∷◌, ◌++◌, length, take, bytes_eq, count_by, Option, None, Some, if◌then◌else◌}
 use Rattle.std.specs.Option.{option_map}
+use Rattle.rdlpp_scan.specs.declared.token.Directive.TheVariants.{Define, Line}
 use Rattle.rdlpp_scan.specs.declared.token.Kind.{Kind}
 use Rattle.rdlpp_scan.specs.declared.token.Kind.TheVariants.{Str, Back, BlockComment, Perl}
 use Rattle.rdlpp_scan.specs.declared.token.Mode.{Mode}
@@ -9,6 +10,7 @@ use Rattle.rdlpp_scan.specs.declared.token.Mode.TheVariants.{Plain, InStr, InBlo
 use Rattle.rdlpp_scan.specs.declared.token.Token.{Token}
 use Rattle.rdlpp_scan.specs.Bytes.{is_line_end}
 use Rattle.rdlpp_scan.specs.Front.{Breach, PerlFound, StringOpen, CommentOpen, DefineLong, DefineCut, Break, front}
+use Rattle.rdlpp_scan.specs.Reserved.{directive_word}
 use Rattle.rdlpp_scan.specs.Tokens.{token_of}
 
 -- what a token of a source is: one of the token table, a `define` with its logical line, a `line` with its line,
@@ -108,8 +110,8 @@ line_step line bytes =
 unfoldable pub back_step : Course → ℕ → Token → List ℕ → Step
 back_step c line t bytes =
     let own = take t.len bytes in
-    if bytes_eq own (codes "`define") then define_step c line bytes
-    else (if bytes_eq own (codes "`line") then line_step line bytes
+    if bytes_eq own (directive_word Define) then define_step c line bytes
+    else (if bytes_eq own (directive_word Line) then line_step line bytes
     else Next (record { sort = Ordinary t.kind; bytes = own; line = line }))
 
 -- a token by its kind

@@ -2,8 +2,8 @@
 ghost use Rattle.std.specs.Prelude.{◌≡◌, is_some};
 ghost use Rattle.std.specs.List.{list_all};
 ghost use Rattle.rdlpp_scan.specs.Bytes.{is_word};
-ghost use Rattle.rdlpp_scan.specs.Names.{directive_named, is_name};
-ghost use Rattle.rdlpp_scan.specs.Reserved.{is_reserved};
+ghost use Rattle.rdlpp_scan.specs.Names.{is_name};
+ghost use Rattle.rdlpp_scan.specs.Reserved.{directive_named, is_reserved};
 
 use crate::bytes::{byte_at, is_letter, is_word};
 use crate::token::Directive;
@@ -23,7 +23,7 @@ pub fn is_name(bytes: &[u8]) -> bool
 /// compiler directives).
 ///
 /// Costs time bounded by the lengths of the nine names.
-#[tactic(auto, unfolding(crate::specs::Names::directive_named, crate::specs::Reserved::is_reserved, crate::specs::Reserved::reserved_names))]
+#[tactic(auto, unfolding(crate::specs::Reserved::directive_named, crate::specs::Reserved::is_reserved, crate::specs::Reserved::reserved_names))]
 pub fn reserved(name: &[u8]) -> Option<Directive>
     ensures value { result ≡ directive_named name.now }
     ensures reserved { is_some result ≡ is_reserved name.now }

@@ -1,5 +1,6 @@
 -- `undef`, the directives of conditionals and skipped text, as steps of the engine.
 use Rattle.std.proofs.Common.{◌≡◌, ℕ, zero, suc, ◌-◌, ◌≤◌, ◌<◌, Bool, true, false, List, [], length, Option, None, Some, Ok, Result, Err, refl, sym, ap, subst, ◌∙◌, arith, ◌+◌, ◌^◌, ◌∷◌, take, replicate, is_some, option_map, unwrap_or, IfSome, length-take-le}
+use Rattle.rdlpp_scan.specs.Reserved.{directive_word}
 use Rattle.rdlpp_scan.specs.SourceTokens.{line_ends, line_len}
 use Rattle.rdlpp_scan.specs.Tokens.{token_of}
 use Rattle.rdlpp_scan.specs.declared.token.Directive.{Directive}
@@ -32,7 +33,7 @@ use Rattle.rdlpp_read.specs.declared.buffer.extending.LogicalLine.TheVariants as
 use Rattle.rdlpp_read.specs.declared.files.File.{File}
 use Rattle.rdlpp_read.proofs.Growing.{line_ends_le}
 use Rattle.rdlpp_read.proofs.BufferTokens.{slides-told}
-use Rattle.rdlpp_front.specs.SourceItems.{AtBare, AtPerl, IsDirective, IsNamed, IsRefused, IsText, given_by, given_len, given_name, word_of}
+use Rattle.rdlpp_front.specs.SourceItems.{AtBare, AtPerl, IsDirective, IsNamed, IsRefused, IsText, given_by, given_len, given_name}
 use Rattle.rdlpp_front.specs.declared.item.Argument.{Argument}
 use Rattle.rdlpp_front.proofs.DirectivesLeft.{end_bare, opening_wants}
 use Rattle.rdlpp_front.proofs.TextLeft.{line_inside}
@@ -257,10 +258,10 @@ module _ {S R : Type 0} (g : Ghosts S R) (old new : EngineView S R) (ready : IsR
   -- the word of one that leaves skipped text skipped is used
   pub directive_word_steps : (d : Directive) (n m : ℕ) (o : Progress) (os : List Progress) → old.conditions.open_now ≡ o ∷ os → inner_below old.files.include_stack ≤ length os → old.conditions.skipped ≡ Some n
       → has_own_token d ≡ false → Passes (run_rules g old) d n m o (take (length os - inner_below old.files.include_stack) os) → IsDirective d held
-      → new ≡ goes_past (with_count m old.conditions) (length (word_of d)) old → UncutStep g old new (step_answer new None)
+      → new ≡ goes_past (with_count m old.conditions) (length (directive_word d)) old → UncutStep g old new (step_answer new None)
   unfolding goes_past
   directive_word_steps d n m o os is_open below skips word passes is becomes =
-      does_step g old old new ready bounded refl (not_called g old.sources) (length (word_of d)) None (Moves [] (Skipped m o (take (length os - inner_below old.files.include_stack) os)) here) (word_within d held is some)
+      does_step g old old new ready bounded refl (not_called g old.sources) (length (directive_word d)) None (Moves [] (Skipped m o (take (length os - inner_below old.files.include_stack) os)) here) (word_within d held is some)
       (λ t. passing_moves old.limits (run_rules g old) g.unread old.table.macros old.conditions old.files.include_stack d n m o _ (plain_front old ready some plain) word passes
       (place_skipped (inner_below old.files.include_stack) old.conditions n o os is_open below skips) is)
       (record {
@@ -268,7 +269,7 @@ module _ {S R : Type 0} (g : Ghosts S R) (old new : EngineView S R) (ready : IsR
         done = refl;
         macros = old.table.macros;
         conditions = with_count m old.conditions;
-        lands = lands_counted old.limits old.table.macros old.conditions (length (word_of d)) o os is_open old.files.include_stack m below;
+        lands = lands_counted old.limits old.table.macros old.conditions (length (directive_word d)) o os is_open old.files.include_stack m below;
         becomes = becomes;
       })
 
@@ -351,12 +352,12 @@ module _ {S R : Type 0} (g : Ghosts S R) (old new : EngineView S R) (ready : IsR
     branch_word = begins_word d held _ _ branch_begins
 
     -- of a conditional that opened in skipped text, it is used
-    pub inner_steps : Meets d Inner (inner_below old.files.include_stack) old.conditions → new ≡ goes_past old.conditions (length (word_of d)) old → UncutStep g old new (step_answer new None)
+    pub inner_steps : Meets d Inner (inner_below old.files.include_stack) old.conditions → new ≡ goes_past old.conditions (length (directive_word d)) old → UncutStep g old new (step_answer new None)
     inner_steps (MeetsNone alone wrong) becomes = absurd (cc)
     inner_steps (MeetsOwn own) becomes = absurd own.turns
     inner_steps (MeetsInner n o os is_open below skips same) becomes =
         directive_word_steps d (suc n) (suc n) o os is_open below skips (begins_token d held _ _ branch_begins) (branching_passes (run_rules g old) d n o _ (given_branches d held a given)) branch_word
-        (becomes ∙ ap (λ (k : Option ℕ). goes_past (record old.conditions { skipped = k }) (length (word_of d)) old) skips)
+        (becomes ∙ ap (λ (k : Option ℕ). goes_past (record old.conditions { skipped = k }) (length (directive_word d)) old) skips)
 
     -- of the innermost conditional, it goes by its test
     turn_steps : (branch : Branch) (own : OwnTurn d branch (inner_below old.files.include_stack) old.conditions) (test : Command → State → Test) → HasTest own.conditional d test
@@ -414,7 +415,7 @@ module _ {S R : Type 0} (g : Ghosts S R) (old new : EngineView S R) (ready : IsR
 
   -- one that closes a conditional
   pub end_closes : (A : Type 0) (x : A) (v : ConditionsView) → EndsOne {A = A} (Ok x) old.conditions v (inner_below old.files.include_stack) → IsDirective Endif held
-      → new ≡ goes_past v (length (word_of Endif)) old → UncutStep g old new (step_answer new None)
+      → new ≡ goes_past v (length (directive_word Endif)) old → UncutStep g old new (step_answer new None)
   unfolding goes_past
   end_closes A x v (EndsNone alone wrong stays) is becomes = absurd (cc)
   end_closes A x v (EndsOwn live o os is_open below skips done moves) is becomes =
@@ -427,11 +428,11 @@ module _ {S R : Type 0} (g : Ghosts S R) (old new : EngineView S R) (ready : IsR
         done = refl;
         macros = old.table.macros;
         conditions = closed_one old.conditions;
-        lands = lands_closed old.limits old.table.macros old.conditions (length (word_of Endif)) o os is_open old.files.include_stack ready.include_stack below (omega arith);
-        becomes = becomes ∙ ap (λ (w : ConditionsView). goes_past w (length (word_of Endif)) old) moves;
+        lands = lands_closed old.limits old.table.macros old.conditions (length (directive_word Endif)) o os is_open old.files.include_stack ready.include_stack below (omega arith);
+        becomes = becomes ∙ ap (λ (w : ConditionsView). goes_past w (length (directive_word Endif)) old) moves;
       })
   end_closes A x v (EndsInner n o os is_open below skips done moves) is becomes =
-      let len = length (word_of Endif) in
+      let len = length (directive_word Endif) in
       steps Endif None _ None _ _ (Bare end_bare is) (place_skipped (inner_below old.files.include_stack) old.conditions (suc n) o os is_open below skips) (closing_inner (run_rules g old) _ _ _ _ n o _ here)
       (record {
         none = line_ends_of-owed (take len held) ∙ ap (λ (k : ℕ). replicate k 10) (directive_ends Endif held some is);
@@ -634,13 +635,13 @@ module _ {S R : Type 0} (g : Ghosts S R) (old new : EngineView S R) (ready : IsR
 
     -- a conditional that opens in skipped text
     pub opening_steps : (defined : Bool) (v : ConditionsView) → IsDirective (opening_word defined) (held_of (inner_buffer old.files.include_stack)) → v ≡ with_count (s.count + 1) old.conditions
-        → new ≡ goes_past v (length (word_of (opening_word defined))) old → UncutStep g old new (step_answer new None)
+        → new ≡ goes_past v (length (directive_word (opening_word defined))) old → UncutStep g old new (step_answer new None)
     opening_steps defined v is counts becomes =
         let one : s.count + 1 ≡ suc s.count = omega arith in
         let word = wants_word (opening_word defined) (opening_wants (opening_word defined) (opening_opens defined)) in
         directive_word_steps g old new ready bounded some plain (opening_word defined) s.count (suc s.count) s.conditional s.around s.is_open s.below s.skips word
         (opening_passes (run_rules g old) defined s.count s.conditional _) is
-        (becomes ∙ ap (λ (x : ConditionsView). goes_past x (length (word_of (opening_word defined))) old) (counts ∙ ap (λ (n : ℕ). with_count n old.conditions) one))
+        (becomes ∙ ap (λ (x : ConditionsView). goes_past x (length (directive_word (opening_word defined))) old) (counts ∙ ap (λ (n : ℕ). with_count n old.conditions) one))
 
     -- a `define`
     module _ (is : IsDirective Define (held_of (inner_buffer old.files.include_stack))) (mid : EngineView S R) (r : IsRead g old mid) where

@@ -5,6 +5,7 @@ use Rattle.std.proofs.lemmas.Bool.{or_right}
 use Rattle.std.proofs.lemmas.List.Elements.{All-head, All-same, All-tail}
 use Rattle.std.proofs.lemmas.Str.{IsUtf8-from_is_utf8}
 use Rattle.rdlpp_scan.specs.Front.{Breach}
+use Rattle.rdlpp_scan.specs.Reserved.{directive_word}
 use Rattle.rdlpp_scan.specs.declared.token.Directive.TheVariants.{Include}
 use Rattle.rdlpp_scan.specs.declared.token.Mode.{Mode}
 use Rattle.rdlpp_scan.specs.declared.token.Mode.TheVariants.{Plain}
@@ -33,7 +34,7 @@ use Rattle.rdlpp_read.specs.Filling.{Fills, ended_tokens, only_broken}
 use Rattle.rdlpp_read.specs.declared.buffer.filling.Fill.TheVariants as fill
 use Rattle.rdlpp_read.specs.declared.files.File.{File}
 use Rattle.rdlpp_read.proofs.BufferTokens.{ended-text}
-use Rattle.rdlpp_front.specs.SourceItems.{HasString, LacksString, include_name, word_of, argument_name}
+use Rattle.rdlpp_front.specs.SourceItems.{HasString, LacksString, include_name, argument_name}
 use Rattle.rdlpp_front.specs.SourceLeft.{source_left, HoldsFront}
 use Rattle.rdlpp_front.proofs.TextLeft.{ended_left}
 use Rattle.rdlpp_front.proofs.DirectivesLeft.{include_word, no_string_in_front_of, string_in_front_of}
@@ -100,7 +101,7 @@ module _ {R : Type 0} (limits : Limits) (rules : Rules) (unread : R → List ℕ
 -- an `include` with its string
 pub string_inside : (held : List ℕ) (start stop : ℕ) → HasString held start stop → (start < stop) × (stop ≤ length held)
 string_inside held start stop has =
-    let n = length (word_of Include) in
+    let n = length (directive_word Include) in
     let given = has.given in
     let starts = has.starts in
     let stops = has.stops in
@@ -151,7 +152,7 @@ module _ {S R : Type 0} (g : Ghosts S R) (e : EngineView S R) (ready : IsReady e
   pub left_nameless_include : LacksString (held_of (inner_buffer e.files.include_stack)) → Fails g e IncludeName (inner_buffer e.files.include_stack).line []
   unfolding state_of include_move
   left_nameless_include lacks =
-      include_comes None (length (word_of Include)) (Stops IncludeName []) (no_string_in_front_of g.unread (inner_buffer e.files.include_stack) front plain lacks) refl
+      include_comes None (length (directive_word Include)) (Stops IncludeName []) (no_string_in_front_of g.unread (inner_buffer e.files.include_stack) front plain lacks) refl
 
 -- an `include` whose string is given, behind the search for what it names
 module _ {S R : Type 0} (g : Ghosts S R) (old mid new : EngineView S R) (start stop : ℕ) (ready : IsReady old) (live : old.conditions.skipped ≡ None) (some : 0 < length (held_of (inner_buffer old.files.include_stack)))

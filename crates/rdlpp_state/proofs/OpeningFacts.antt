@@ -34,7 +34,6 @@ use Rattle.rdlpp_read.specs.Buffer.{ahead_of, held_of, opened_buffer, rest_of, t
 use Rattle.rdlpp_read.specs.Files.{AreOpen, IsSlot, entered_file, held_windows}
 use Rattle.rdlpp_read.specs.declared.files.File.{File}
 use Rattle.rdlpp_read.proofs.BufferTokens.{held-bound, held_windows-len}
-use Rattle.rdlpp_front.specs.Names.{IsWordBytes}
 use Rattle.rdlpp_front.specs.SourceLeft.{source_left}
 use Rattle.rdlpp_usages.specs.Usages.{IsRoomy}
 use Rattle.rdlpp_state.specs.Engine.{AreOpenTexts, EngineView, IsSoundEngine, is_open}
@@ -103,29 +102,6 @@ none_lets_go e h = record { idle = λ _ _. h.arguments }
 -- and its stores are those of the texts that are open, which are none
 pub none_stores : {S R : Type 0} (g : Ghosts S R) (e : EngineView S R) → HoldsNoText e → HoldsStores g e
 none_stores {S} {R} g e h = grind (arith, none_lets_go, none_called)
-
--- Words are text.
-
--- a word byte is ASCII
-pub word-ascii : (b : ℕ) → is_word b ≡ true → b < 128
-unfolding is_word is_letter is_digit
-word-ascii b h = grind (arith, nat_tests)
-
--- both parts of what holds together
-both : (a b : Bool) → a && b ≡ true → (a ≡ true) × (b ≡ true)
-both true b h = (refl, h)
-both false b h = absurd (cc)
-
--- the first bytes of a word are ASCII
-pub words-take : (n : ℕ) (bs : List ℕ) → IsWordBytes bs → IsAscii (take n bs)
-words-take (suc n) (b ∷ bs) h =
-    let parts = both (is_word b) (list_all is_word bs) h in
-    λ i. elim i as (λ j. slice_index (b ∷ take n bs) j < 128) [ zero ↦ word-ascii b parts.0 | suc j ↦ words-take n bs parts.1 j ]
-words-take _ bs h = λ i. lit< tt
-
--- the first bytes of a word are text
-pub words-utf8 : (n : ℕ) (bs : List ℕ) → IsWordBytes bs → IsUtf8 (take n bs)
-words-utf8 n bs h = IsUtf8-from_ascii (take n bs) (words-take n bs h)
 
 -- The opening of a main text: the name that its fault tells, and what a start comes to.
 

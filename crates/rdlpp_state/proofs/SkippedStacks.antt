@@ -5,9 +5,8 @@ use Rattle.std.proofs.lemmas.Bool.{and_parts}
 use Rattle.rdlpp_scan.specs.Bytes.{is_line_end, is_word}
 use Rattle.rdlpp_scan.specs.Front as breach
 use Rattle.rdlpp_scan.specs.Front.{PerlFound}
-use Rattle.rdlpp_scan.specs.Names.{directive_named}
 use Rattle.rdlpp_scan.specs.Ordinary.{is_plain_kind}
-use Rattle.rdlpp_scan.specs.Reserved.{is_reserved, reserved_names}
+use Rattle.rdlpp_scan.specs.Reserved.{directive_named, directive_word, is_reserved}
 use Rattle.rdlpp_scan.specs.Resumed.{opening}
 use Rattle.rdlpp_scan.specs.SourceTokens.{SourceToken, line_ends, line_len}
 use Rattle.rdlpp_scan.specs.Tokens.{plain_len, token_of, whole}
@@ -18,6 +17,7 @@ use Rattle.rdlpp_scan.specs.declared.token.Kind.TheVariants.{Back, BareBackquote
 use Rattle.rdlpp_scan.specs.declared.token.Mode.{Mode}
 use Rattle.rdlpp_scan.specs.declared.token.Mode.TheVariants.{InBlock, InStr, Plain}
 use Rattle.rdlpp_scan.specs.declared.token.Token.{Token}
+use Rattle.rdlpp_scan.proofs.DirectiveNames.{unreserved}
 use Rattle.rdlpp_scan.proofs.SourceLaws.{line_ends-append, line_ends-cons}
 use Rattle.rdlpp_scan.proofs.StopKinds.{AtBack, AtBare, AtBlockComment, AtLineComment, AtPerl, AtPlain, AtString, Row, token_of-row}
 use Rattle.rdlpp_scan.proofs.TokenSteps.{word-line_end}
@@ -37,7 +37,7 @@ use Rattle.rdlpp_meaning.proofs.Outcomes.{after_bytes-twice}
 use Rattle.rdlpp_meaning.proofs.LiveText.{line_ends_of-append, only_blanks-append}
 use Rattle.rdlpp_conditions.specs.Conditions.{ConditionsView, place_of}
 use Rattle.rdlpp_conditions.specs.Moves.{skipped_by}
-use Rattle.rdlpp_conditions.specs.SkippedText.{Begins, IsPassed, IsPassedOnce, OneToken, Onward, Stretch, counting_words, counts_skipped, stops_at, stops_closed, stops_skipping}
+use Rattle.rdlpp_conditions.specs.SkippedText.{Begins, IsPassed, IsPassedOnce, OneToken, Onward, Stretch, counts, counts_skipped, stops_at, stops_closed, stops_skipping}
 use Rattle.rdlpp_read.specs.Buffer.{BufferView, EndsHeld, ahead_of, entered_mode, held_of, rest_of, text_left, tokens_left}
 use Rattle.rdlpp_read.specs.Files.{consumed_file, inner_buffer, ends_mid_line_after, with_buffer, with_inner}
 use Rattle.rdlpp_read.specs.Filling.{Fills}
@@ -46,7 +46,7 @@ use Rattle.rdlpp_read.specs.declared.buffer.extending.LogicalLine.TheVariants as
 use Rattle.rdlpp_read.specs.declared.buffer.filling.Fill.TheVariants as fill
 use Rattle.rdlpp_read.specs.declared.files.File.{File}
 use Rattle.rdlpp_read.proofs.BufferTokens.{consumed_ends}
-use Rattle.rdlpp_front.specs.SourceItems.{AtOrdinary, IsDirective, IsText, IsUsage, is_text_kind, word_of}
+use Rattle.rdlpp_front.specs.SourceItems.{AtOrdinary, IsDirective, IsText, IsUsage, is_text_kind}
 use Rattle.rdlpp_front.specs.SourceLeft.{HoldsFront, source_left, with_file_buffer}
 use Rattle.rdlpp_front.proofs.TextLeft.{holds_define, perl_tokens, skipped_text_left, unclosed_left, define_moves, line_moves}
 use Rattle.rdlpp_front.proofs.Insides.{back_front, back_text, bare_at_front, held_used, named_word, stops_at_front, text_at_front, tokens_entered, tokens_plain, tokens_used, usage_word, used_buffer, word_len}
@@ -59,18 +59,9 @@ use Rattle.rdlpp_state.proofs.IncludeStackLeft.{fails_include_stack, moved, incl
 
 -- What remains behind a stretch of skipped text that is passed: its LF bytes come before.
 
--- no name of a directive is reserved where none has it
-none_or : (b : Bool) (own : Directive) (others : Option Directive) (more : Bool) → (others ≡ None → more ≡ false) → cond b (Some own) others ≡ None → (b || more) ≡ false
-none_or true own others more rest e = cc
-none_or false own others more rest e = rest e
-
-unreserved : (name : List ℕ) → directive_named name ≡ None → is_reserved name ≡ false
-unfolding directive_named is_reserved reserved_names
-unreserved name h = grind (arith, none_or)
-
 -- a directive whose word doesn't count stands by itself, and is a word
-uncounted : (d : Directive) → counts_skipped (word_of d) ≡ false → (stands_by_itself d ≡ true) × (has_own_token d ≡ false)
-unfolding counts_skipped counting_words stands_by_itself has_own_token
+uncounted : (d : Directive) → counts_skipped (directive_word d) ≡ false → (stands_by_itself d ≡ true) × (has_own_token d ≡ false)
+unfolding counts_skipped counts directive_named stands_by_itself has_own_token
 uncounted Undef e = (refl, refl)
 uncounted Include e = (refl, refl)
 uncounted _ e = cc
@@ -128,7 +119,7 @@ pub usage_ends : (held : List ℕ) (len : ℕ) → IsUsage held len → line_end
 usage_ends held len usage = grind (arith, front_ends)
 
 -- the word of a directive
-pub directive_ends : (d : Directive) (held : List ℕ) → 0 < length held → IsDirective d held → line_ends (take (length (word_of d)) held) ≡ 0
+pub directive_ends : (d : Directive) (held : List ℕ) → 0 < length held → IsDirective d held → line_ends (take (length (directive_word d)) held) ≡ 0
 directive_ends d held some is =
     ap (λ (k : ℕ). line_ends (take k held)) (sym (word_len d held some is)) ∙ ap line_ends is.word ∙ word_line_ends d
 
@@ -186,11 +177,11 @@ module _ {R : Type 0} (rules : Rules) (unread : R → List ℕ) (ws : List Waiti
         let held = held_of f.buffer in
         let len = (token_of Plain held).len in
         let name = take (len - 1) (drop 1 held) in
-        let text : take len held ≡ word_of d = back_text held (back_front held kind) kind ∙ named_word name d named in
+        let text : take len held ≡ directive_word d = back_text held (back_front held kind) kind ∙ named_word name d named in
         let is : IsDirective d held = record { kind = kind; word = text } in
         let own = uncounted d (ap counts_skipped (sym text) ∙ counts) in
         subst (λ (k : ℕ). Passes f k) (sym (word_len d held holds.some is))
-        (word_passes f (length (word_of d)) mode
+        (word_passes f (length (directive_word d)) mode
         (ap (λ (k : ℕ). line_ends (take k held)) (sym (word_len d held holds.some is)) ∙ ap line_ends text ∙ word_line_ends d)
         (skipped_word_left rules unread ws n p os f s d own.1 own.0 holds mode is))
 
@@ -458,11 +449,11 @@ module _ {R : Type 0} (limits : Limits) (rules : Rules) (unread : R → List ℕ
       include_stack_word_passes f outer len below (skipped_usage_left rules unread (around f outer) n o (own f) f (include_stack_state limits macros v (f ∷ outer)) len (holds_front f outer h) plain usage)
   passes_word (f ∷ outer) len h plain below (UndefWord is whole) =
       subst (λ (k : ℕ). IncludeStackPasses (f ∷ outer) (take k (held_of f.buffer)) (consumed_file k 0 f ∷ outer)) (sym whole)
-      (include_stack_word_passes f outer (length (word_of Undef)) below
+      (include_stack_word_passes f outer (length (directive_word Undef)) below
       (skipped_word_left rules unread (around f outer) n o (own f) f (include_stack_state limits macros v (f ∷ outer)) Undef undef_alone.1 undef_alone.0 (holds_front f outer h) plain is))
   passes_word (f ∷ outer) len h plain below (IncludeWord is whole) =
       subst (λ (k : ℕ). IncludeStackPasses (f ∷ outer) (take k (held_of f.buffer)) (consumed_file k 0 f ∷ outer)) (sym whole)
-      (include_stack_word_passes f outer (length (word_of Include)) below
+      (include_stack_word_passes f outer (length (directive_word Include)) below
       (skipped_word_left rules unread (around f outer) n o (own f) f (include_stack_state limits macros v (f ∷ outer)) Include include_alone.1 include_alone.0 (holds_front f outer h) plain is))
 
   -- a `line`

@@ -1,6 +1,7 @@
 -- What remains of the open sources at a directive in front of the innermost: what the directive comes to there, and then what remains where it ends.
 use Rattle.std.proofs.Common.{◌≡◌, ℕ, suc, ◌-◌, ◌≤◌, ◌<◌, Bool, true, false, not, ◌||◌, List, [], ◌∷◌, ◌++◌, length, take, drop, Option, None, if◌then◌else◌, refl, sym, ap, ◌∙◌, arith}
 use Rattle.rdlpp_scan.specs.Bytes.{is_line_end}
+use Rattle.rdlpp_scan.specs.Reserved.{directive_word}
 use Rattle.rdlpp_scan.specs.SourceTokens.{SourceToken, whole_tokens}
 use Rattle.rdlpp_scan.specs.declared.token.Directive.{Directive}
 use Rattle.rdlpp_table.specs.Table.{Macro}
@@ -20,7 +21,7 @@ use Rattle.rdlpp_conditions.specs.Moves.{closed_one, opened_with, turned_open, t
 use Rattle.rdlpp_read.specs.Buffer.{ahead_of, held_of, opened_buffer, rest_of, text_left, tokens_left, unread_of}
 use Rattle.rdlpp_read.specs.Files.{consumed_file, ends_mid_line_after, entered_file, inner_buffer, shift_of, with_inner}
 use Rattle.rdlpp_read.specs.declared.files.File.{File}
-use Rattle.rdlpp_front.specs.SourceItems.{IsDirective, word_of}
+use Rattle.rdlpp_front.specs.SourceItems.{IsDirective}
 use Rattle.rdlpp_front.specs.SourceLeft.{source_left}
 use Rattle.rdlpp_front.proofs.DirectivesLeft.{word_left}
 use Rattle.rdlpp_front.proofs.NamedDirectives.{GivenInFront, held_moves}
@@ -201,16 +202,16 @@ module _ {R : Type 0} (limits : Limits) (rules : Rules) (unread : R → List ℕ
   -- of one that leaves skipped text skipped the word alone is looked at
   pub passing_moves : (include_stack : List (File R)) (d : Directive) (n m : ℕ) (o : Progress) (os : List Progress) → IsPlainFront include_stack → has_own_token d ≡ false → Passes rules d n m o os
       → place_of (inner_below include_stack) v ≡ Skipped n o os → IsDirective d (held_of (inner_buffer include_stack))
-      → Comes include_stack (with_inner (consumed_file (length (word_of d)) 0) include_stack) (Moves [] (Skipped m o os) (include_stack_state limits macros v include_stack))
+      → Comes include_stack (with_inner (consumed_file (length (directive_word d)) 0) include_stack) (Moves [] (Skipped m o os) (include_stack_state limits macros v include_stack))
   unfolding source_left moves_on after_bytes
   passing_moves [] d n m o os h word passes stands is = absurd (none_held R h.some)
   passing_moves (f ∷ outer) d n m o os h word passes stands is =
       let s = include_stack_state limits macros v (f ∷ outer) in
       let ws = around limits rules unread macros v f outer in
-      stack_moves f (consumed_file (length (word_of d)) 0 f) outer (Moves [] (Skipped m o os) s)
+      stack_moves f (consumed_file (length (directive_word d)) 0 f) outer (Moves [] (Skipped m o os) s)
       (ap (λ (p : Place). source_left rules unread ws p f s) stands
       ∙ word_left rules unread ws o os f s d n m word passes (record { some = h.some; ends = h.ends }) h.plain is)
-      (ends_mid_line_consumed unread f (length (word_of d)) 0) refl refl
+      (ends_mid_line_consumed unread f (length (directive_word d)) 0) refl refl
 
 -- bytes are used, and the macros are others
 pub used_state : {R : Type 0} (limits : Limits) (macros now : List Macro) (v : ConditionsView) (include_stack : List (File R)) (len : ℕ)

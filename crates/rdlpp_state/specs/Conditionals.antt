@@ -1,6 +1,7 @@
 -- What the directives of conditionals do to an engine.
 -- A definition that names no source is this project's own.
 use Rattle.std.specs.Prelude.{◌≡◌, ℕ, Bool, true, false, not, List, [], length, Option, None, Some, if◌then◌else◌}
+use Rattle.rdlpp_scan.specs.Reserved.{directive_word}
 use Rattle.rdlpp_scan.specs.declared.token.Directive.{Directive}
 use Rattle.rdlpp_scan.specs.declared.token.Directive.TheVariants.{Else, Elsif, Ifdef, Ifndef, Include, Undef}
 use Rattle.rdlpp_scan.specs.declared.token.Kind.TheVariants.{BareBackquote}
@@ -13,7 +14,7 @@ use Rattle.rdlpp_meaning.specs.State.{State, fault_at}
 use Rattle.rdlpp_conditions.specs.Conditions.{ConditionsView, conditions_left}
 use Rattle.rdlpp_conditions.specs.Moves.{opened_with}
 use Rattle.rdlpp_read.specs.Files.{consumed_file, inner_buffer, with_inner}
-use Rattle.rdlpp_front.specs.SourceItems.{IsDirective, IsNamed, IsUsage, word_of}
+use Rattle.rdlpp_front.specs.SourceItems.{IsDirective, IsNamed, IsUsage}
 use Rattle.rdlpp_front.specs.declared.item.Argument.{Argument}
 use Rattle.rdlpp_state.specs.Engine.{EngineView}
 use Rattle.rdlpp_state.specs.OpenConditionals.{inner_shown}
@@ -36,8 +37,8 @@ test_of defined found = if defined then found else not found
 pub data IsSkippedWord (held : List ℕ) (len : ℕ) : Type 0 where
   LoneBackquote : (token_of Plain held).kind ≡ BareBackquote → len ≡ 1 → IsSkippedWord held len
   AnyUsage : IsUsage held len → IsSkippedWord held len
-  UndefWord : IsDirective Undef held → len ≡ length (word_of Undef) → IsSkippedWord held len
-  IncludeWord : IsDirective Include held → len ≡ length (word_of Include) → IsSkippedWord held len
+  UndefWord : IsDirective Undef held → len ≡ length (directive_word Undef) → IsSkippedWord held len
+  IncludeWord : IsDirective Include held → len ≡ length (directive_word Include) → IsSkippedWord held len
 
 -- a branch of a conditional, with the name that it is given if it wants one (IEEE 1364-2001, `elsif`, `else`)
 abbrev pub IsGivenBranch : Directive → List ℕ → Option Argument → Type 0

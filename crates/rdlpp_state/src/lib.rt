@@ -17,4 +17,4 @@ pub use pending::{Pending, PendingPart, PendingPiece};
 pub use phase::Phase;
 pub use place::{Piece, PieceLocation};
 pub use positions::{LineStep, Marks, Position};
-pub use texts::{copied, copied_fault, word_of};
+pub use texts::{copied, copied_fault};

@@ -1,7 +1,6 @@
 // Short texts of bounded length.
-ghost use Rattle.std.specs.Prelude.{◌≡◌, length, take};
+ghost use Rattle.std.specs.Prelude.{◌≡◌};
 ghost use Rattle.rdlpp_meaning.specs.Outcome.{report_of};
-ghost use Rattle.rdlpp_front.specs.Names.{IsWordBytes};
 
 use arrayvec::ArrayString;
 use rdlpp_meaning::Fault;
@@ -27,16 +26,4 @@ pub fn copied_fault(fault: &Fault) -> Fault
         line: fault.line,
         word: copied(&fault.word),
     }
-}
-
-/// The first 128 bytes of a name, which are letters, digits or `_`.
-pub fn word_of(name: &[u8]) -> ArrayString<128>
-    requires { IsWordBytes name.now }
-    ensures { result.bytes ≡ take 128 name.now }
-{
-    let mut word = ArrayString::new();
-    if let Ok(text) = str::from_utf8(&name[..name.len().min(128)]) {
-        word.push_str(text);
-    }
-    word
 }

@@ -8,10 +8,7 @@ use Rattle.std.proofs.lemmas.List.Elements.{All-filter, All-push}
 use Rattle.std.proofs.lemmas.List.Folds.{length-prefix_len, list_all-append}
 use Rattle.std.proofs.lemmas.Slice.Eq.{bytes_eq-Decides}
 use Rattle.rdlpp_scan.specs.Bytes.{is_letter, is_word}
-use Rattle.rdlpp_scan.specs.Names.{directive_named}
 use Rattle.rdlpp_scan.specs.Reserved.{is_reserved}
-use Rattle.rdlpp_scan.specs.declared.token.Directive.{Directive}
-use Rattle.rdlpp_scan.specs.declared.token.Directive.TheVariants.{Define, Else, Elsif, Endif, Ifdef, Ifndef, Include, Line, Undef}
 use Rattle.rdlpp_scan.proofs.Seams.{word_ten}
 use Rattle.rdlpp_lines.specs.Continuations.{joined}
 use Rattle.rdlpp_lines.specs.Texts.{text_after}
@@ -24,7 +21,6 @@ use Rattle.rdlpp_table.specs.FormalOffsets.{macro_offsets, offsets_of, table_off
 use Rattle.rdlpp_table.specs.Store.{AreStoredFormals, IsStored, after_stored, body_of, body_start, entries_of, entry_end, entry_of, formal_after, formal_read, formals_read, is_default, is_name_byte, is_plain_formal, is_plain_macro, list_of, list_size, list_start, macro_in, macros_in, name_of}
 use Rattle.rdlpp_table.specs.Table.{Formal, Macro, default_bytes, formal_bytes, formal_size, macro_bytes, macro_size, table_bytes, table_size, without}
 use Rattle.rdlpp_table.specs.View.{IsSound, IsSoundMacro, TableView, formals_of, macro_at, place_named}
-use Rattle.rdlpp_table.specs.Words.{spelled}
 use Rattle.rdlpp_table.specs.declared.entry.Entry.{Entry}
 use Rattle.rdlpp_table.specs.declared.fault.DefineFault.{DefineFault}
 use Rattle.rdlpp_table.specs.declared.fault.DefineKind.{DefineKind}
@@ -409,17 +405,6 @@ nothing_follows text e = cond-false (eqb (get_or text 0 0) 40) _ _ (ap (λ (t : 
 same_bytes : (a b : List ℕ) → bytes_eq a b ≡ true → a ≡ b
 same_bytes a b e = (bytes_eq-Decides a b).0 e
 
-one_name : (name : List ℕ) (x d : Directive) (rest : Option Directive) → (rest ≡ Some d → name ≡ spelled d) → cond (bytes_eq name (spelled x)) (Some x) rest ≡ Some d → name ≡ spelled d
-one_name name x d rest others e = grind (arith, cases_Bool, cond-true, same_bytes, cond-false)
-
-no_name : (name : List ℕ) (d : Directive) → (let n : Option Directive = None in n) ≡ Some d → name ≡ spelled d
-no_name name d e = cc
-
-spelled_named : (name : List ℕ) (d : Directive) → directive_named name ≡ Some d → name ≡ spelled d
-unfolding directive_named
-spelled_named name d e =
-    one_name name Define d _ (one_name name Undef d _ (one_name name Ifdef d _ (one_name name Ifndef d _ (one_name name Elsif d _ (one_name name Else d _ (one_name name Endif d _ (one_name name Include d _ (one_name name Line d _ (no_name name d))))))))) e
-
 -- why a name is refused, and the word of the refusal
 pub record IsRefused (name : List ℕ) (k : DefineKind) (word : List ℕ) : Type 0 where
   pub why : name_fault name ≡ Some k
@@ -429,17 +414,17 @@ pub empty_name : (name : List ℕ) (k : DefineKind) (word : List ℕ) → eqb (l
 unfolding name_fault refused_word
 empty_name name k word e p q = grind (arith, cond-true)
 
-pub reserved_name : (name : List ℕ) (k : DefineKind) (word : List ℕ) (d : Directive) (found : Option Directive) → eqb (length name) 0 ≡ false → found ≡ Some d → found ≡ directive_named name → is_some found ≡ is_reserved name → k ≡ kind.ReservedName → word ≡ spelled d → IsRefused name k word
+pub reserved_name : (name : List ℕ) (k : DefineKind) (word : List ℕ) → eqb (length name) 0 ≡ false → is_reserved name ≡ true → k ≡ kind.ReservedName → word ≡ name → IsRefused name k word
 unfolding name_fault refused_word
-reserved_name name k word d found e at named is p q = grind (arith, cond-false, cond-true, spelled_named)
+reserved_name name k word e is p q = grind (arith, cond-false, cond-true)
 
-pub long_name : (name : List ℕ) (k : DefineKind) (word : List ℕ) (found : Option Directive) → eqb (length name) 0 ≡ false → found ≡ None → is_some found ≡ is_reserved name → 128 < length name → k ≡ kind.NameTooLong → word ≡ [] → IsRefused name k word
+pub long_name : (name : List ℕ) (k : DefineKind) (word : List ℕ) → eqb (length name) 0 ≡ false → is_reserved name ≡ false → 128 < length name → k ≡ kind.NameTooLong → word ≡ [] → IsRefused name k word
 unfolding name_fault refused_word
-long_name name k word found e at is h p q = grind (arith, cond-false, cond-true, lt-ltb)
+long_name name k word e is h p q = grind (arith, cond-false, cond-true, lt-ltb)
 
-pub good_name : (name : List ℕ) (found : Option Directive) → eqb (length name) 0 ≡ false → found ≡ None → is_some found ≡ is_reserved name → length name ≤ 128 → name_fault name ≡ None
+pub good_name : (name : List ℕ) → eqb (length name) 0 ≡ false → is_reserved name ≡ false → length name ≤ 128 → name_fault name ≡ None
 unfolding name_fault
-good_name name found e at is h = cond-false _ _ _ e ∙ (cond-false _ _ _ (sym is ∙ ap is_some at) ∙ cond-false _ _ _ (le-ltb _ _ h))
+good_name name e is h = cond-false _ _ _ e ∙ (cond-false _ _ _ is ∙ cond-false _ _ _ (le-ltb _ _ h))
 
 -- A `define` by its name and what stands behind it.
 

@@ -5,7 +5,6 @@ pub mod Shapes
 pub mod PointCache
 pub mod Limits
 pub mod FormalOffsets
-pub mod Words
 pub mod Define
 pub mod Store
 pub mod Entries

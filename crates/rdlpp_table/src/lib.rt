@@ -22,5 +22,6 @@ mod table;
 pub use fault::{DefineFault, DefineKind, NoMemory};
 pub use limits::{LimitFault, Limits};
 pub use lookup::Steps;
+pub use name::word_of;
 pub use point::ExpansionPoint;
 pub use table::{MacroId, Table};

@@ -1,42 +1,37 @@
-// Whether a name may be that of a macro.
-ghost use Rattle.std.specs.Prelude.{length, MatchResult, None, OnOk, Some, ◌≡◌, ◌≤◌};
+// The names of macros.
+ghost use Rattle.std.specs.Prelude.{length, MatchResult, None, OnOk, Some, take, true, ◌≡◌, ◌≤◌};
+ghost use Rattle.rdlpp_scan.specs.Names.{IsWordBytes};
+ghost use Rattle.rdlpp_scan.specs.Reserved.{is_reserved};
 ghost use Rattle.rdlpp_table.specs.Define.{name_fault, refused_word};
-ghost use Rattle.rdlpp_table.specs.Words.{spelled};
 
 use crate::fault::{DefineFault, DefineKind, refusal};
 use arrayvec::ArrayString;
-use rdlpp_scan::{Directive, reserved};
+use rdlpp_scan::reserved;
 
 // The most bytes of a name (this project's profile).
 pub(crate) const MOST_NAME_BYTES: usize = 128;
 
-// How a directive is spelled.
-fn spelled(directive: Directive) -> &'static str
-    ensures { result.now ≡ spelled directive }
+/// The first 128 bytes of a name, which are letters, digits or `_`.
+pub fn word_of(name: &[u8]) -> ArrayString<128>
+    requires { IsWordBytes name.now }
+    ensures { result.bytes ≡ take 128 name.now }
 {
-    match directive {
-        Directive::Define => "define",
-        Directive::Undef => "undef",
-        Directive::Ifdef => "ifdef",
-        Directive::Ifndef => "ifndef",
-        Directive::Elsif => "elsif",
-        Directive::Else => "else",
-        Directive::Endif => "endif",
-        Directive::Include => "include",
-        Directive::Line => "line",
+    let mut word = ArrayString::new();
+    if let Ok(text) = str::from_utf8(&name[..name.len().min(MOST_NAME_BYTES)]) {
+        word.push_str(text);
     }
+    word
 }
 
 // The refusal of the name of a directive.
-fn reserved_refusal(directive: Directive) -> DefineFault
+fn reserved_refusal(name: &[u8]) -> DefineFault
+    requires { is_reserved name.now ≡ true }
     ensures kind { result.kind ≡ DefineKind.ReservedName }
-    ensures word { result.word.bytes ≡ spelled directive }
+    ensures word { result.word.bytes ≡ name.now }
 {
-    let mut word = ArrayString::new();
-    let _ = word.try_push_str(spelled(directive));
     DefineFault {
         kind: DefineKind::ReservedName,
-        word,
+        word: word_of(name),
     }
 }
 
@@ -48,8 +43,8 @@ pub(crate) fn check_name(name: &[u8]) -> Result<(), DefineFault>
     if name.is_empty() {
         return Err(refusal(DefineKind::NameExpected));
     }
-    if let Some(directive) = reserved(name) {
-        return Err(reserved_refusal(directive));
+    if reserved(name).is_some() {
+        return Err(reserved_refusal(name));
     }
     if name.len() > MOST_NAME_BYTES {
         return Err(refusal(DefineKind::NameTooLong));

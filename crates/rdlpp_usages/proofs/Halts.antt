@@ -15,6 +15,7 @@ use Rattle.rdlpp_scan.specs.Tokens.{token_of, whole}
 use Rattle.rdlpp_scan.proofs.RemainingLaws.{remaining-opened, following, course, remaining-perl, remaining-closed, remaining-open_string, remaining-open_comment, remaining-cut_string, remaining-perl_in_string, after_step, tokens_step, perl_in_string}
 use Rattle.rdlpp_scan.specs.Ordinary.{is_plain_kind}
 use Rattle.rdlpp_scan.specs.Pieces.{is_open}
+use Rattle.rdlpp_scan.specs.Reserved.{is_reserved, reserved_names}
 use Rattle.rdlpp_scan.proofs.Seams.{Seam, Closed, BeforePerl, OpenString, OpenComment}
 use Rattle.rdlpp_texts.proofs.QuickTokens.{front_byte}
 use Rattle.rdlpp_scan.proofs.StopKinds.{block_token-kind, Row, AtPerl, AtLineComment, AtBlockComment, AtString, AtBack, AtBare, AtPlain, token_of-row}
@@ -25,12 +26,11 @@ use Rattle.rdlpp_meaning.specs.Actuals.{Role, KeptComment, Text, kind_role, kept
 use Rattle.rdlpp_meaning.specs.CallReading.{Reading, ReadRefused, is_part_sort, part_kept, read, read_by, rest_role, role_in, ReadStopped, is_part_breach}
 use Rattle.rdlpp_meaning.specs.CallScan.{CallState, Before, Inside, Keeps, turn, turn_before, turn_inside, turn_fitting, call_state_after, call_state_after_lead, room_after, source_role, fault_at_end}
 use Rattle.rdlpp_meaning.specs.Expansion.{bytes_of, usage_token}
-use Rattle.rdlpp_meaning.specs.Parts.{directive_of, directive_named}
+use Rattle.rdlpp_meaning.specs.Parts.{directive_of, tokenless_worded}
 use Rattle.rdlpp_meaning.proofs.ReadCalls.{BrokenRest, IsRest, WholeRest, comment_part_before, comment_remains, open_comment_before, open_string_before, part_inside, string_before, string_remains}
 use Rattle.rdlpp_meaning.proofs.LargerRuns.{row-string}
 use Rattle.rdlpp_usages.specs.CallActions.{Around, IsAround, tokens_at, tokens_after}
 use Rattle.rdlpp_scan.specs.declared.token.Directive.{Directive}
-use Rattle.rdlpp_scan.specs.Reserved.{is_reserved, reserved_names}
 use Rattle.rdlpp_meaning.specs.State.{breach_kind}
 use Rattle.rdlpp_meaning.proofs.LiveText.{source_role_directive, source_role_text, usage_text}
 
@@ -417,8 +417,8 @@ after_test b rest h e = sym (ap (λ t. t || rest) h) ∙ e
 
 -- a reserved name but `define` and `line` is one of the other directives
 named_directive : (name : List ℕ) → is_reserved name ≡ true → bytes_eq (96 ∷ name) (codes "`define") ≡ false → bytes_eq (96 ∷ name) (codes "`line") ≡ false
-    → is_some (directive_named (96 ∷ name)) ≡ true
-unfolding is_reserved reserved_names directive_named
+    → is_some (tokenless_worded (96 ∷ name)) ≡ true
+unfolding is_reserved reserved_names tokenless_worded
 named_directive name reserved other also = grind (arith, test_or, false≢true, after_test)
 
 -- an option that is there
@@ -431,7 +431,7 @@ name_halts : (name : List ℕ) (line : ℕ) → is_reserved name ≡ true → by
     → source_role (usage_token name line) ≡ Halt
 unfolding directive_of
 name_halts name line reserved other also =
-    let d = there (directive_named (96 ∷ name)) (named_directive name reserved other also) in
+    let d = there (tokenless_worded (96 ∷ name)) (named_directive name reserved other also) in
     source_role_directive (usage_token name line) d.0 d.1
 
 -- the bytes at the front of a text

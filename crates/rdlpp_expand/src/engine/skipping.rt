@@ -1,9 +1,10 @@
 // Skipped text in the open sources.
 ghost use Rattle.std.specs.Prelude.{◌≡◌, ◌≢◌, ◌+◌, ◌<◌, ◌≤◌, None, IfSome, length};
+ghost use Rattle.rdlpp_scan.specs.Reserved.{directive_word};
 ghost use Rattle.rdlpp_scan.specs.declared.token.Directive.TheVariants.{Define, Line};
 ghost use Rattle.rdlpp_read.specs.Buffer.{held_of};
 ghost use Rattle.rdlpp_read.specs.Files.{inner_buffer};
-ghost use Rattle.rdlpp_front.specs.SourceItems.{IsDirective, IsRefused, IsText, word_of};
+ghost use Rattle.rdlpp_front.specs.SourceItems.{IsDirective, IsRefused, IsText};
 ghost use Rattle.rdlpp_state.specs.Conditionals.{IsSkippedWord, opening_word, passes_over};
 ghost use Rattle.rdlpp_state.specs.Held.{IsBounded};
 ghost use Rattle.rdlpp_state.specs.Moves.{IsReady};
@@ -183,7 +184,7 @@ impl<S: Sources> Engine<S> {
 
 // How many bytes the word has that opens a conditional.
 fn opening_len(defined: bool) -> usize
-    ensures { result ≡ length (word_of (opening_word defined)) }
+    ensures { result ≡ length (directive_word (opening_word defined)) }
 {
     if defined { IFDEF_BYTES } else { IFNDEF_BYTES }
 }

@@ -1,11 +1,11 @@
 // Usages of macros in the open sources.
 ghost use Rattle.std.specs.Prelude.{[], ◌≡◌, ◌<◌, ◌≤◌, ◌^◌, true, length, None, Some, IfSome};
+ghost use Rattle.rdlpp_scan.specs.Names.{IsWordBytes};
 ghost use Rattle.rdlpp_table.specs.Table.{macro_named};
 ghost use Rattle.rdlpp_table.specs.View.{macro_at};
 ghost use Rattle.rdlpp_meaning.specs.State.{fault_at};
 ghost use Rattle.rdlpp_read.specs.Buffer.{held_of};
 ghost use Rattle.rdlpp_read.specs.Files.{inner_buffer};
-ghost use Rattle.rdlpp_front.specs.Names.{IsWordBytes};
 ghost use Rattle.rdlpp_front.specs.SourceItems.{IsUsage, usage_name};
 ghost use Rattle.rdlpp_state.specs.Held.{IsBounded};
 ghost use Rattle.rdlpp_state.specs.Moves.{IsReady};
@@ -19,8 +19,8 @@ use arrayvec::ArrayString;
 use rdlpp_meaning::FaultKind;
 use rdlpp_scan::Mode;
 use rdlpp_source::Sources;
-use rdlpp_state::{PieceLocation, word_of};
-use rdlpp_table::MacroId;
+use rdlpp_state::PieceLocation;
+use rdlpp_table::{MacroId, word_of};
 use rdlpp_usages::Opening;
 
 impl<S: Sources> Engine<S> {

@@ -2,17 +2,24 @@ use Rattle.std.proofs.Common.{sym, ◌∙◌}
 use Rattle.rdlpp_table.proofs.RoundTrip.{empty_name, reserved_name, long_name, good_name}
 use Rattle.rdlpp_table.proofs.name.check_name.Goals as goal
 
+pub reserved_refusal-requires : goal.reserved_refusal-requires
+reserved_refusal-requires c = sym c.reserved.ensures.reserved ∙ (sym c.is_some.ensures ∙ c.if-is_some.true)
+
 pub returns-then-is_empty-clause-value : goal.returns-then-is_empty-clause-value
 returns-then-is_empty-clause-value c =
     let r = empty_name c.args.name.now _ _ (sym c.is_empty.ensures ∙ c.if-is_empty.true) c.refusal.ensures.kind c.refusal.ensures.word in (r.why, r.word_is)
 
-pub returns-in-Some-clause-value : goal.returns-in-Some-clause-value
-returns-in-Some-clause-value c =
-    let r = reserved_name c.args.name.now _ _ _ _ (sym c.is_empty.ensures ∙ c.if-is_empty.false) c.in-Some.is c.reserved.ensures.value c.reserved.ensures.reserved c.reserved_refusal.ensures.kind c.reserved_refusal.ensures.word in (r.why, r.word_is)
+pub returns-then-is_some-clause-value : goal.returns-then-is_some-clause-value
+returns-then-is_some-clause-value c =
+    let reserved = sym c.reserved.ensures.reserved ∙ (sym c.is_some.ensures ∙ c.if-is_some.true) in
+    let r = reserved_name c.args.name.now _ _ (sym c.is_empty.ensures ∙ c.if-is_empty.false) reserved c.reserved_refusal.ensures.kind c.reserved_refusal.ensures.word in (r.why, r.word_is)
 
 pub returns-then-name-gt-MOST_NAME_BYTES-clause-value : goal.returns-then-name-gt-MOST_NAME_BYTES-clause-value
 returns-then-name-gt-MOST_NAME_BYTES-clause-value c =
-    let r = long_name c.args.name.now _ _ _ (sym c.is_empty.ensures ∙ c.if-is_empty.false) c.in_default.is c.reserved.ensures.reserved c.if-name-gt-MOST_NAME_BYTES.true c.refusal-then-name-gt-MOST_NAME_BYTES.ensures.kind c.refusal-then-name-gt-MOST_NAME_BYTES.ensures.word in (r.why, r.word_is)
+    let free = sym c.reserved.ensures.reserved ∙ (sym c.is_some.ensures ∙ c.if-is_some.false) in
+    let r = long_name c.args.name.now _ _ (sym c.is_empty.ensures ∙ c.if-is_empty.false) free c.if-name-gt-MOST_NAME_BYTES.true c.refusal-then-name-gt-MOST_NAME_BYTES.ensures.kind c.refusal-then-name-gt-MOST_NAME_BYTES.ensures.word in (r.why, r.word_is)
 
 pub returns-clause-value : goal.returns-clause-value
-returns-clause-value c = good_name c.args.name.now _ (sym c.is_empty.ensures ∙ c.if-is_empty.false) c.in_default.is c.reserved.ensures.reserved c.if-name-gt-MOST_NAME_BYTES.false
+returns-clause-value c =
+    let free = sym c.reserved.ensures.reserved ∙ (sym c.is_some.ensures ∙ c.if-is_some.false) in
+    good_name c.args.name.now (sym c.is_empty.ensures ∙ c.if-is_empty.false) free c.if-name-gt-MOST_NAME_BYTES.false

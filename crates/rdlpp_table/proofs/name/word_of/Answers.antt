@@ -1,7 +1,7 @@
 use Rattle.std.proofs.Common.{◌≡◌, ◌∙◌, ap, take, length, min, arith}
 use Rattle.std.proofs.lemmas.List.{take_min}
-use Rattle.rdlpp_state.proofs.OpeningFacts.{words-utf8}
-use Rattle.rdlpp_state.proofs.texts.word_of.Goals as goal
+use Rattle.rdlpp_table.proofs.Words.{words-utf8}
+use Rattle.rdlpp_table.proofs.name.word_of.Goals as goal
 
 pub returns-in-Ok : goal.returns-in-Ok
 returns-in-Ok c =
