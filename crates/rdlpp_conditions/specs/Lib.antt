@@ -1,3 +1,2 @@
 pub mod Conditions
 pub mod Moves
-pub mod SkippedText

@@ -34,10 +34,10 @@ use Rattle.rdlpp_meaning.proofs.Directives.{all_resumed_after, all_resumed_fails
 use Rattle.rdlpp_meaning.proofs.Skipping.{bare_skipped, begins_word, has_own_token, is_skipped, resumed_skipped, resumed_skipped_broken, skipped_unclosed, stands_by_itself, usage_skipped}
 use Rattle.rdlpp_meaning.proofs.Moves.{word_moves}
 use Rattle.rdlpp_meaning.proofs.Outcomes.{after_bytes-nil}
-use Rattle.rdlpp_read.specs.Arguments.{Closes, ClosesString, IsClosedString, IsLead, Lacks, Leads, Opens as OpensString}
 use Rattle.rdlpp_read.specs.Buffer.{BufferView, held_of, rest_of, tokens_left}
 use Rattle.rdlpp_read.specs.Files.{consumed_file}
 use Rattle.rdlpp_read.specs.Filling.{Fills, ended_tokens, only_broken}
+use Rattle.rdlpp_front.specs.Arguments.{Closes, ClosesString, IsClosedString, IsLead, Lacks, Leads, Opens as OpensString}
 use Rattle.rdlpp_read.specs.declared.buffer.filling.Fill.TheVariants as fill
 use Rattle.rdlpp_read.specs.declared.files.File.{File}
 use Rattle.rdlpp_read.proofs.BufferTokens.{ends_line}

@@ -35,8 +35,8 @@ use Rattle.rdlpp_meaning.proofs.Directives.{all_resumed_after, all_resumed_fails
 use Rattle.rdlpp_meaning.proofs.LiveText.{resumed_bare, resumed_broken, resumed_broken_parts, resumed_copied, resumed_copied_parts, resumed_undefined}
 use Rattle.rdlpp_meaning.proofs.Outcomes.{after_bytes-nil, fails-goes_on}
 use Rattle.rdlpp_meaning.proofs.Skipping.{all_copied_skipped, resumed_skipped, resumed_skipped_broken, resumed_skipped_broken_parts, resumed_skipped_parts}
-use Rattle.rdlpp_read.specs.Arguments.{IsLead, Lacks, Leads, NoString}
 use Rattle.rdlpp_read.specs.Buffer.{BufferView, ahead_of, entered_mode, held_of, rest_of, tokens_left}
+use Rattle.rdlpp_front.specs.Arguments.{IsLead, Lacks, Leads, NoString}
 use Rattle.rdlpp_front.specs.SourceItems.{AtOrdinary, AtToken, HasName, IsDirective, IsGivenString, IsNameAfter, IsNamed, IsStringAfter, IsText, IsUsage, StringAfter, argument_name, is_text_kind, usage_name}
 use Rattle.rdlpp_front.specs.declared.item.Argument.{Argument}
 

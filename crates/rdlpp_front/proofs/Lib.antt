@@ -1,3 +1,5 @@
+pub mod LineArguments
+pub mod Stretches
 pub mod Insides
 pub mod TextLeft
 pub mod NamedDirectives

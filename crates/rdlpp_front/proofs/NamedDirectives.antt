@@ -1,10 +1,5 @@
 -- A directive that wants a name in front of what remains: its token, its name, what it does to what remains; and so an `undef`.
 use Rattle.std.proofs.Common.{◌≡◌, ◌⊎◌, ℕ, ◌+◌, ◌-◌, ◌≤◌, ◌<◌, Bool, true, false, List, [], ◌∷◌, ◌++◌, Option, None, Some, length, take, drop, refl, sym, ap, ◌∙◌, subst, inl, inr, ⊎_elim, arith, bytes_eq, codes, take-add, append-nil, drop-drop, take-append-drop}
-use Rattle.rdlpp_scan.specs.declared.token.Kind.{Kind}
-use Rattle.rdlpp_scan.specs.declared.token.Kind.TheVariants.{Name, Blank, Back}
-use Rattle.rdlpp_scan.specs.declared.token.Directive.{Directive}
-use Rattle.rdlpp_scan.specs.declared.token.Directive.TheVariants.{Define, Undef, Ifdef, Ifndef, Elsif, Else, Endif, Line}
-use Rattle.rdlpp_scan.specs.declared.token.Mode.TheVariants.{Plain}
 use Rattle.rdlpp_scan.specs.Bytes.{is_line_end}
 use Rattle.rdlpp_scan.specs.Lines.{EndsLine}
 use Rattle.rdlpp_scan.specs.Ordinary.{is_plain_kind}
@@ -12,6 +7,11 @@ use Rattle.rdlpp_scan.specs.Reserved.{directive_word}
 use Rattle.rdlpp_scan.specs.SourceTokens.{Sort, SourceToken, Ordinary, Definition, Renumbering, Broken, line_ends, remaining_tokens}
 use Rattle.rdlpp_scan.specs.Tokens.{token_of}
 use Rattle.rdlpp_scan.specs.TokenKinds.{is_ordinary}
+use Rattle.rdlpp_scan.specs.declared.token.Kind.{Kind}
+use Rattle.rdlpp_scan.specs.declared.token.Kind.TheVariants.{Name, Blank, Back}
+use Rattle.rdlpp_scan.specs.declared.token.Directive.{Directive}
+use Rattle.rdlpp_scan.specs.declared.token.Directive.TheVariants.{Define, Undef, Ifdef, Ifndef, Elsif, Else, Endif, Line}
+use Rattle.rdlpp_scan.specs.declared.token.Mode.TheVariants.{Plain}
 use Rattle.rdlpp_scan.proofs.RemainingLaws.{FirstToken, blanks-line_ends, name-line_ends, plain_token-run, remaining-closed, remaining-end, remaining-first, whole-line_ends}
 use Rattle.rdlpp_scan.proofs.SourceLaws.{EndsLine-drop, line_ends-append}
 use Rattle.rdlpp_scan.proofs.TokenLens.{token_of-part}
@@ -20,21 +20,21 @@ use Rattle.rdlpp_meaning.specs.State.{Rules, State}
 use Rattle.rdlpp_meaning.specs.Parts.{Argument, Command, argument_of, after_blanks, after_directive, command_of, tokenless_worded, directive_of, name_in_front, no_argument, only_blanks, past_blanks}
 use Rattle.rdlpp_meaning.specs.Resumed.{Place}
 use Rattle.rdlpp_meaning.specs.Opened.{Waiting, all_resumed}
+use Rattle.rdlpp_meaning.specs.Moves.{move_of, nest_moves}
+use Rattle.rdlpp_meaning.specs.Meaning.{Passage}
 use Rattle.rdlpp_meaning.proofs.Skipping.{has_own_token}
 use Rattle.rdlpp_meaning.proofs.Moves.{directive_moves}
 use Rattle.rdlpp_meaning.proofs.Directives.{blank_token, name_token, takes_name, takes_name_at_once, takes_name_after_blanks, wants_name}
-use Rattle.rdlpp_read.specs.Arguments.{IsLead, Leads, Lacks}
 use Rattle.rdlpp_read.specs.Buffer.{BufferView, held_of, rest_of, tokens_left}
-use Rattle.rdlpp_front.specs.SourceItems.{HasName, IsDirective, IsNamed, LacksName, argument_name, given_by, given_len}
-use Rattle.rdlpp_front.specs.declared.item.Argument.{Argument as Given}
-use Rattle.rdlpp_front.specs.SourceLeft.{HoldsFront, source_left}
-use Rattle.rdlpp_front.proofs.Insides.{name_inside, tokens_used, used_buffer, word_len}
-use Rattle.rdlpp_read.proofs.BufferTokens.{ends_line}
-use Rattle.rdlpp_front.proofs.TextLeft.{back_tokens, file_moves}
-use Rattle.rdlpp_meaning.specs.Moves.{move_of, nest_moves}
-use Rattle.rdlpp_meaning.specs.Meaning.{Passage}
-use Rattle.rdlpp_read.specs.declared.files.File.{File}
 use Rattle.rdlpp_read.specs.Files.{consumed_file}
+use Rattle.rdlpp_read.specs.declared.files.File.{File}
+use Rattle.rdlpp_read.proofs.BufferTokens.{ends_line}
+use Rattle.rdlpp_front.specs.Arguments.{IsLead, Leads, Lacks}
+use Rattle.rdlpp_front.specs.SourceItems.{HasName, IsDirective, IsNamed, LacksName, argument_name, given_by, given_len}
+use Rattle.rdlpp_front.specs.SourceLeft.{HoldsFront, source_left}
+use Rattle.rdlpp_front.specs.declared.item.Argument.{Argument as Given}
+use Rattle.rdlpp_front.proofs.Insides.{name_inside, tokens_used, used_buffer, word_len}
+use Rattle.rdlpp_front.proofs.TextLeft.{back_tokens, file_moves}
 
 -- A directive that wants a name in front of what remains: its token, the name that it is given, and what remains behind that.
 

@@ -1,2 +1,4 @@
+pub mod Arguments
+pub mod SkippedText
 pub mod SourceItems
 pub mod SourceLeft

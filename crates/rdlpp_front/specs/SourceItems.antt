@@ -12,7 +12,7 @@ use Rattle.rdlpp_scan.specs.Tokens.{token_of, plain_len}
 use Rattle.rdlpp_meaning.specs.declared.fault.FaultKind.{FaultKind}
 use Rattle.rdlpp_meaning.specs.declared.fault.FaultKind.TheVariants as fault
 use Rattle.rdlpp_meaning.specs.Meaning.{Checked, NameFault, Fine, unquoted}
-use Rattle.rdlpp_read.specs.Arguments.{NameGiven, NoName, NoString, StringGiven}
+use Rattle.rdlpp_front.specs.Arguments.{NameGiven, NoName, NoString, StringGiven}
 use Rattle.rdlpp_front.specs.declared.item.Argument.{Argument}
 use Rattle.rdlpp_front.specs.declared.item.SourceItem.{SourceItem}
 use Rattle.rdlpp_front.specs.declared.item.SourceItem.TheVariants.{Text, Usage, Define, Undef, Ifdef, Ifndef, Elsif, Else, Endif, Include, Line, Refused}

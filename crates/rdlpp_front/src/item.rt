@@ -5,8 +5,8 @@ ghost use Rattle.rdlpp_scan.specs.declared.token.Kind.TheVariants.{Back};
 ghost use Rattle.rdlpp_scan.specs.declared.token.Mode.TheVariants.{Plain};
 ghost use Rattle.rdlpp_front.specs.SourceItems.{IsDirective, IsSourceItem, IsNameAfter, IsStringAfter};
 
+use crate::arguments::{given_name, given_string};
 use rdlpp_meaning::FaultKind;
-use rdlpp_read::{given_name, given_string};
 use rdlpp_scan::{
     Directive, Kind, Mode, byte_at, first_token, is_letter, plain_text_len, reserved, word_bytes,
 };

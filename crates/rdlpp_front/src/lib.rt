@@ -1,8 +1,13 @@
-//! What the held bytes of the innermost open source begin with, and what each front does to what remains.
+//! What stands in front of the bytes that are held of a source: text, a directive with what it is given, a usage, and how far skipped
+//! text is passed; and what each front does to what remains.
 #![tactic(auto)]
 
+mod arguments;
 mod copied;
 mod item;
+mod skipped_text;
 
+pub use arguments::{GivenLine, given_line};
 pub use copied::{Copied, copied_text};
 pub use item::{Argument, SourceItem, next_item};
+pub use skipped_text::{SkippedText, skip_text};

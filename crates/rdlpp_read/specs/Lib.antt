@@ -4,4 +4,3 @@ pub mod Ahead
 pub mod Filling
 pub mod LogicalLines
 pub mod Files
-pub mod Arguments

@@ -1,11 +1,9 @@
 //! The open sources of a run: each with the part of its text that is held, read by lines within the limits.
 #![tactic(auto)]
 
-mod arguments;
 mod blanks;
 mod buffer;
 mod files;
 
-pub use arguments::{Given, GivenLine, given_line, given_name, given_string};
 pub use buffer::{Fill, LogicalLine, SourceBuffer, fill_buffer, fill_room, hold_logical_line};
 pub use files::{File, Files, Shift};

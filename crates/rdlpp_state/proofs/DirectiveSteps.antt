@@ -23,12 +23,12 @@ use Rattle.rdlpp_meaning.proofs.Skipping.{has_own_token, line_ends_of-owed}
 use Rattle.rdlpp_source.specs.declared.sources.Sources.{Ghosts}
 use Rattle.rdlpp_conditions.specs.Conditions.{ConditionsView, conditions_left, own_conditions, place_of}
 use Rattle.rdlpp_conditions.specs.Moves.{Closes, HasTest, IsBranch, Opens, closed_one, opened_with, turned_with, with_inner as with_count}
-use Rattle.rdlpp_conditions.specs.SkippedText.{IsPassed}
 use Rattle.rdlpp_conditions.specs.declared.conditions.Branch.{Branch}
 use Rattle.rdlpp_conditions.specs.declared.conditions.Branch.TheVariants.{Decided, Inner, Named, Refused}
 use Rattle.rdlpp_read.specs.Buffer.{entered_mode, held_of, unused_of}
 use Rattle.rdlpp_read.specs.Files.{FilesView, consumed_file, inner_buffer, with_buffer, with_inner}
 use Rattle.rdlpp_read.specs.LogicalLines.{HoldsLine, IsExactLine}
+use Rattle.rdlpp_front.specs.SkippedText.{IsPassed}
 use Rattle.rdlpp_read.specs.declared.buffer.extending.LogicalLine.TheVariants as line
 use Rattle.rdlpp_read.specs.declared.files.File.{File}
 use Rattle.rdlpp_read.proofs.Growing.{line_ends_le}
@@ -37,7 +37,7 @@ use Rattle.rdlpp_front.specs.SourceItems.{AtBare, AtPerl, IsDirective, IsNamed, 
 use Rattle.rdlpp_front.specs.declared.item.Argument.{Argument}
 use Rattle.rdlpp_front.proofs.DirectivesLeft.{end_bare, opening_wants}
 use Rattle.rdlpp_front.proofs.TextLeft.{line_inside}
-use Rattle.rdlpp_front.proofs.Insides.{held_entered, text_inside, usage_inside}
+use Rattle.rdlpp_front.proofs.Insides.{held_entered, name_inside, text_inside, usage_inside}
 use Rattle.rdlpp_front.proofs.NamedDirectives.{Bare, Begins, begins_token, begins_word, wants_word, named_begins, stands_bare, undef_wants, word_within}
 use Rattle.rdlpp_state.specs.Calls.{SourcesCalled}
 use Rattle.rdlpp_state.specs.Conditionals.{AnyUsage, DoesByTest, IncludeWord, IsGivenBranch, IsSkippedWord, LoneBackquote, OpensOne, UndefWord, goes_past, opening_word, passes_over, test_of}
@@ -100,6 +100,14 @@ given_begins Elsif held a given = named_begins Elsif held a refl given
 given_begins Else held None given = Bare refl given.1
 given_begins Else held (Some a) given = absurd (cc (given.0))
 given_begins d held a given = absurd given
+
+-- a branch has no more bytes than are held, with what it is given and without
+pub branch_within : (d : Directive) (held : List ℕ) (a : Option Argument) → IsGivenBranch d held a → 0 < length held → (given_len d None ≤ length held) × (given_len d a ≤ length held)
+branch_within Elsif held None given some = let own = (word_within Elsif held given.word some).1 in (own, own)
+branch_within Elsif held (Some a) given some = ((word_within Elsif held given.word some).1, (name_inside Elsif held a.start a.stop given).2)
+branch_within Else held None given some = let own = (word_within Else held given.1 some).1 in (own, own)
+branch_within Else held (Some a) given some = absurd (let none : Some a ≡ None = given.0 in cc)
+branch_within d held a given some = absurd given
 
 -- only an `elsif` is decided by its name
 pub given_named : (d : Directive) (held : List ℕ) (a : Option Argument) → IsGivenBranch d held a → is_else d ≡ false → IsNamed d held a

@@ -16,14 +16,14 @@ use Rattle.rdlpp_meaning.specs.State.{Rules, State, fault_at, shown_line}
 use Rattle.rdlpp_meaning.specs.declared.fault.FaultKind.TheVariants.{BadLine}
 use Rattle.rdlpp_source.specs.declared.sources.Sources.{Ghosts}
 use Rattle.rdlpp_conditions.specs.Conditions.{ConditionsView, own_conditions}
-use Rattle.rdlpp_read.specs.Arguments.{LineGiven}
 use Rattle.rdlpp_read.specs.Buffer.{EndsHeld, held_of}
 use Rattle.rdlpp_read.specs.Files.{AreOpen, consumed_file, inner_buffer, with_inner}
-use Rattle.rdlpp_read.specs.declared.arguments.line.GivenLine.{GivenLine}
 use Rattle.rdlpp_read.specs.declared.files.File.{File}
 use Rattle.rdlpp_read.proofs.Growing.{line_ends_le}
+use Rattle.rdlpp_front.specs.Arguments.{LineGiven}
 use Rattle.rdlpp_front.specs.SourceItems.{IsDirective}
 use Rattle.rdlpp_front.specs.SourceLeft.{HoldsFront, source_left}
+use Rattle.rdlpp_front.specs.declared.arguments.line.GivenLine.{GivenLine}
 use Rattle.rdlpp_front.proofs.TextLeft.{file_moves, given_text, line_moves, line_right_after, line_text}
 use Rattle.rdlpp_state.specs.Engine.{EngineView, IsSoundEngine}
 use Rattle.rdlpp_state.specs.Held.{IsBounded}

@@ -37,11 +37,11 @@ use Rattle.rdlpp_meaning.proofs.Outcomes.{after_bytes-twice}
 use Rattle.rdlpp_meaning.proofs.LiveText.{line_ends_of-append, only_blanks-append}
 use Rattle.rdlpp_conditions.specs.Conditions.{ConditionsView, place_of}
 use Rattle.rdlpp_conditions.specs.Moves.{skipped_by}
-use Rattle.rdlpp_conditions.specs.SkippedText.{Begins, IsPassed, IsPassedOnce, OneToken, Onward, Stretch, counts, counts_skipped, stops_at, stops_closed, stops_skipping}
 use Rattle.rdlpp_read.specs.Buffer.{BufferView, EndsHeld, ahead_of, entered_mode, held_of, rest_of, text_left, tokens_left}
 use Rattle.rdlpp_read.specs.Files.{consumed_file, inner_buffer, ends_mid_line_after, with_buffer, with_inner}
 use Rattle.rdlpp_read.specs.Filling.{Fills}
 use Rattle.rdlpp_read.specs.LogicalLines.{HoldsLine}
+use Rattle.rdlpp_front.specs.SkippedText.{Begins, IsPassed, IsPassedOnce, OneToken, Onward, Stretch, counts, counts_skipped, stops_at, stops_closed, stops_skipping}
 use Rattle.rdlpp_read.specs.declared.buffer.extending.LogicalLine.TheVariants as line
 use Rattle.rdlpp_read.specs.declared.buffer.filling.Fill.TheVariants as fill
 use Rattle.rdlpp_read.specs.declared.files.File.{File}

@@ -6,8 +6,8 @@ use Rattle.rdlpp_scan.specs.SourceTokens.{line_ends}
 use Rattle.rdlpp_meaning.specs.State.{shown_line}
 use Rattle.rdlpp_read.specs.Buffer.{held_of}
 use Rattle.rdlpp_read.specs.Files.{consumed_file, inner_buffer, with_inner}
-use Rattle.rdlpp_read.specs.declared.arguments.line.GivenLine.{GivenLine}
 use Rattle.rdlpp_read.specs.declared.files.File.{File}
+use Rattle.rdlpp_front.specs.declared.arguments.line.GivenLine.{GivenLine}
 use Rattle.rdlpp_state.specs.Engine.{EngineView}
 use Rattle.rdlpp_state.specs.Marks.{ends_line}
 use Rattle.rdlpp_state.specs.Pending.{origin_pending}

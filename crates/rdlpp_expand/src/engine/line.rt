@@ -2,8 +2,8 @@
 ghost use Rattle.std.specs.Prelude.{◌≡◌, ◌+◌, ◌<◌, ◌≤◌, ◌^◌, None, IfSome, drop, length};
 ghost use Rattle.rdlpp_scan.specs.declared.token.Directive.TheVariants.{Line};
 ghost use Rattle.rdlpp_read.specs.Buffer.{held_of};
-ghost use Rattle.rdlpp_read.specs.Arguments.{IsLineGiven};
 ghost use Rattle.rdlpp_read.specs.Files.{inner_buffer, with_inner};
+ghost use Rattle.rdlpp_front.specs.Arguments.{IsLineGiven};
 ghost use Rattle.rdlpp_front.specs.SourceItems.{IsDirective};
 ghost use Rattle.rdlpp_state.specs.Held.{IsBounded};
 ghost use Rattle.rdlpp_state.specs.Lines.{Renumbers, renumbered_file};
@@ -16,7 +16,7 @@ use super::Engine;
 use super::words::LINE_BYTES;
 use arrayvec::ArrayString;
 use rdlpp_meaning::FaultKind;
-use rdlpp_read::{GivenLine, given_line};
+use rdlpp_front::{GivenLine, given_line};
 use rdlpp_scan::{Mode, line_ends_in};
 use rdlpp_source::Sources;
 use rdlpp_state::PieceLocation;

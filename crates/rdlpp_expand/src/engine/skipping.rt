@@ -14,8 +14,7 @@ ghost use Rattle.rdlpp_state.specs.Steps.{UncutStep};
 
 use super::Engine;
 use super::words::{IFDEF_BYTES, IFNDEF_BYTES, INCLUDE_BYTES, UNDEF_BYTES};
-use rdlpp_conditions::skip_text;
-use rdlpp_front::{SourceItem, next_item};
+use rdlpp_front::{SourceItem, next_item, skip_text};
 use rdlpp_meaning::FaultKind;
 use rdlpp_read::LogicalLine;
 use rdlpp_scan::{Directive, Mode, line_ends_in, line_len};

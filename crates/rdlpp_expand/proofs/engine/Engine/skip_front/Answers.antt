@@ -1,9 +1,9 @@
 use Rattle.std.proofs.Common.{◌≡◌, ◌≤◌, length, take, ap, ◌∙◌, arith, length-take-le}
 use Rattle.rdlpp_scan.specs.SourceTokens.{line_ends}
-use Rattle.rdlpp_conditions.specs.SkippedText.{IsPassed}
 use Rattle.rdlpp_read.specs.Buffer.{held_of}
 use Rattle.rdlpp_read.specs.Files.{inner_buffer}
 use Rattle.rdlpp_read.proofs.Growing.{line_ends_le}
+use Rattle.rdlpp_front.specs.SkippedText.{IsPassed}
 use Rattle.rdlpp_state.proofs.FrontSteps.{entered_holds}
 use Rattle.rdlpp_state.proofs.DirectiveSteps.{skipping, stretch_steps}
 use Rattle.rdlpp_expand.proofs.engine.Engine.skip_front.Goals as goal

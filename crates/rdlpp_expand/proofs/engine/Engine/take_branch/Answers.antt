@@ -1,12 +1,18 @@
-use Rattle.std.proofs.Common.{◌≡◌, sym, ap, ◌∙◌}
+use Rattle.std.proofs.Common.{◌≡◌, sym, ap, ◌∙◌, arith}
 use Rattle.rdlpp_conditions.specs.Conditions.{place_of}
 use Rattle.rdlpp_conditions.specs.Moves.{IsBranch}
 use Rattle.rdlpp_conditions.specs.declared.conditions.Branch.TheVariants.{Decided, Inner, Refused}
 use Rattle.rdlpp_state.specs.Conditionals.{goes_past}
 use Rattle.rdlpp_state.specs.OpenConditionals.{inner_below}
-use Rattle.rdlpp_state.proofs.DirectiveSteps.{decided_steps, inner_steps, meets_here, own_here, refused_steps}
+use Rattle.rdlpp_state.proofs.DirectiveSteps.{branch_within, decided_steps, inner_steps, meets_here, own_here, refused_steps}
 use Rattle.rdlpp_state.proofs.Soundness.{own_open}
 use Rattle.rdlpp_expand.proofs.engine.Engine.take_branch.Goals as goal
+
+pub consume-requires-clause-inside : goal.consume-requires-clause-inside
+consume-requires-clause-inside g c = omega (arith, c.branch_len.ensures, (branch_within c.args.word _ c.args.argument c.requires.branch c.requires.some).0)
+
+pub turn-requires-clause-inside : goal.turn-requires-clause-inside
+turn-requires-clause-inside g c = omega (arith, c.branch_len-in_Decided-self.ensures, (branch_within c.args.word _ c.args.argument c.requires.branch c.requires.some).1)
 
 pub returns-in_Inner-self-clause-uncut_step : goal.returns-in_Inner-self-clause-uncut_step
 unfolding goes_past

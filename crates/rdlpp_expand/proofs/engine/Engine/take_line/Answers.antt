@@ -2,9 +2,9 @@ use Rattle.std.proofs.Common.{◌≡◌, ℕ, List, [], None, true, false, take,
 use Rattle.rdlpp_scan.specs.SourceTokens.{line_len}
 use Rattle.rdlpp_meaning.specs.Meaning.{renumbered}
 use Rattle.rdlpp_meaning.specs.declared.fault.FaultKind.TheVariants as fault
-use Rattle.rdlpp_read.specs.Arguments.{LineGiven}
 use Rattle.rdlpp_read.specs.Buffer.{held_of}
 use Rattle.rdlpp_read.specs.Files.{inner_buffer}
+use Rattle.rdlpp_front.specs.Arguments.{LineGiven}
 use Rattle.rdlpp_front.proofs.TextLeft.{word_held}
 use Rattle.rdlpp_state.specs.Lines.{inner_blanks}
 use Rattle.rdlpp_state.proofs.EngineSteps.{not_called}

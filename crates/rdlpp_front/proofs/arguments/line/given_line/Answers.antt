@@ -5,8 +5,8 @@ use Rattle.rdlpp_scan.specs.Bytes.{is_digit}
 use Rattle.rdlpp_scan.specs.SourceTokens.{line_len}
 use Rattle.rdlpp_scan.proofs.SourceLaws.{line_len-le}
 use Rattle.rdlpp_meaning.specs.Meaning.{digits_value, past_blank_bytes, renumbered, renumbered_name}
-use Rattle.rdlpp_read.proofs.LogicalLines.{line_numbered, line_rest, line_unnumbered}
-use Rattle.rdlpp_read.proofs.arguments.line.given_line.Goals as goal
+use Rattle.rdlpp_front.proofs.LineArguments.{line_numbered, line_rest, line_unnumbered}
+use Rattle.rdlpp_front.proofs.arguments.line.given_line.Goals as goal
 
 -- the name behind the number
 numbered : (rest word : List ℕ) (n number : ℕ) → word ≡ past_blank_bytes rest → n ≡ prefix_len is_digit (past_blank_bytes rest)

@@ -1,8 +1,8 @@
 use Rattle.std.proofs.Common.{◌∙◌, sym, ap, ◌+◌, drop, Bool}
 use Rattle.rdlpp_meaning.specs.Meaning.{quote_place}
-use Rattle.rdlpp_read.proofs.LogicalLines.{moved, quote_at, quote_at_other, quote_at_taken, quote_over}
-use Rattle.rdlpp_read.proofs.arguments.line.quote_place.Goals as goal
-use Rattle.rdlpp_read.proofs.arguments.line.quote_place.Goals.{then-taken, else-taken+else-byte-eq34}
+use Rattle.rdlpp_front.proofs.LineArguments.{moved, quote_at, quote_at_other, quote_at_taken, quote_over}
+use Rattle.rdlpp_front.proofs.arguments.line.quote_place.Goals as goal
+use Rattle.rdlpp_front.proofs.arguments.line.quote_place.Goals.{then-taken, else-taken+else-byte-eq34}
 
 pub returns-then-byte-eq34-clause-place : goal.returns-then-byte-eq34-clause-place
 returns-then-byte-eq34-clause-place c =

@@ -1,9 +1,9 @@
 use Rattle.std.proofs.Common.{◌-◌, arith, drop, length, take, refl, length-drop, length-take}
 use Rattle.rdlpp_scan.specs.SourceTokens.{line_ends}
 use Rattle.rdlpp_scan.proofs.SourceLaws.{line_ends-most}
-use Rattle.rdlpp_conditions.specs.SkippedText.{Begins}
-use Rattle.rdlpp_conditions.proofs.Stacks.{lines_onward, passes_onward}
-use Rattle.rdlpp_conditions.proofs.skipped_text.skip_text.Goals as goal
+use Rattle.rdlpp_front.specs.SkippedText.{Begins}
+use Rattle.rdlpp_front.proofs.Stretches.{lines_onward, passes_onward}
+use Rattle.rdlpp_front.proofs.skipped_text.skip_text.Goals as goal
 
 pub loop-stretch-init : goal.loop-stretch-init
 unfolding line_ends

@@ -2,15 +2,15 @@
 -- A definition that names no source is this project's own.
 use Rattle.std.specs.Prelude.{◌≡◌, ℕ, ◌-◌, ◌≤◌, ◌<◌, false, ◌&&◌, nat_le, List, length, take, drop, Option, None, Some}
 use Rattle.arrayvec.specs.declared.array_string.ArrayString.{ArrayString}
-use Rattle.rdlpp_scan.specs.declared.token.Kind.{Kind}
-use Rattle.rdlpp_scan.specs.declared.token.Kind.TheVariants.{Blank, Name, Str}
-use Rattle.rdlpp_scan.specs.declared.token.Mode.TheVariants.{Plain}
 use Rattle.rdlpp_scan.specs.Lines.{ended_line_len}
 use Rattle.rdlpp_scan.specs.Tokens.{token_of}
 use Rattle.rdlpp_scan.specs.SourceTokens.{line_len}
+use Rattle.rdlpp_scan.specs.declared.token.Kind.{Kind}
+use Rattle.rdlpp_scan.specs.declared.token.Kind.TheVariants.{Blank, Name, Str}
+use Rattle.rdlpp_scan.specs.declared.token.Mode.TheVariants.{Plain}
 use Rattle.rdlpp_meaning.specs.Meaning.{digits_value, renumbered, renumbered_name}
-use Rattle.rdlpp_read.specs.declared.arguments.Given.{Given}
-use Rattle.rdlpp_read.specs.declared.arguments.line.GivenLine.{GivenLine}
+use Rattle.rdlpp_front.specs.declared.arguments.Given.{Given}
+use Rattle.rdlpp_front.specs.declared.arguments.line.GivenLine.{GivenLine}
 
 -- the first token of a text, where it is of a kind: how long it is; 0 where it isn't
 pub data IsLead (kind : Kind) (bytes : List ℕ) (len : ℕ) : Type 0 where

@@ -1,6 +1,6 @@
 use Rattle.std.proofs.Common.{sym, ◌∙◌, arith}
-use Rattle.rdlpp_conditions.proofs.Stacks.{passes_token, stops_by}
-use Rattle.rdlpp_conditions.proofs.skipped_text.pass_once.Goals as goal
+use Rattle.rdlpp_front.proofs.Stretches.{passes_token, stops_by}
+use Rattle.rdlpp_front.proofs.skipped_text.pass_once.Goals as goal
 
 pub returns-then-stops_skipping-clause-none : goal.returns-then-stops_skipping-clause-none
 returns-then-stops_skipping-clause-none c =

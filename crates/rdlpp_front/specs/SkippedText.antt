@@ -2,6 +2,7 @@
 -- A definition that names no source is this project's own.
 use Rattle.std.specs.Prelude.{◌≡◌, ℕ, ◌+◌, ◌<◌, Bool, true, false, List, length, take, drop, None, Some}
 use Rattle.rdlpp_scan.specs.Reserved.{directive_named}
+use Rattle.rdlpp_scan.specs.Tokens.{plain_len, token_of}
 use Rattle.rdlpp_scan.specs.declared.token.Directive.{Directive}
 use Rattle.rdlpp_scan.specs.declared.token.Directive.TheVariants.{Include, Undef}
 use Rattle.rdlpp_scan.specs.declared.token.Kind.{Kind}
@@ -9,7 +10,6 @@ use Rattle.rdlpp_scan.specs.declared.token.Kind.TheVariants.{Back, Perl}
 use Rattle.rdlpp_scan.specs.declared.token.Mode.{Mode}
 use Rattle.rdlpp_scan.specs.declared.token.Mode.TheVariants.{Plain}
 use Rattle.rdlpp_scan.specs.declared.token.Token.{Token}
-use Rattle.rdlpp_scan.specs.Tokens.{plain_len, token_of}
 
 -- whether a directive counts in skipped text: those of conditionals, and the two that take their lines (this project's profile)
 unfoldable pub counts : Directive → Bool

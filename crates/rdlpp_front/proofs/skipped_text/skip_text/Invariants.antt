@@ -1,7 +1,7 @@
 use Rattle.std.proofs.Common.{◌≡◌, ◌≤◌, ◌-◌, length, take}
 use Rattle.rdlpp_scan.specs.SourceTokens.{line_ends}
-use Rattle.rdlpp_conditions.specs.SkippedText.{IsPassed}
-use Rattle.rdlpp_conditions.proofs.skipped_text.skip_text.Given as goal
+use Rattle.rdlpp_front.specs.SkippedText.{IsPassed}
+use Rattle.rdlpp_front.proofs.skipped_text.skip_text.Given as goal
 
 abbrev pub invariant-loop-stretch : goal.invariant-loop-stretch
 invariant-loop-stretch l = IsPassed l.fn.mode l.held l.stretch.len l.stretch.mode × ((l.stretch.len ≤ length l.held) × (l.stretch.line_ends ≡ line_ends (take l.stretch.len l.held)))

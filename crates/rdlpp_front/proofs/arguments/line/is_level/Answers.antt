@@ -1,9 +1,9 @@
 use Rattle.std.proofs.Common.{◌∙◌, ap, arith}
 use Rattle.std.proofs.lemmas.List.{take_rest}
 use Rattle.rdlpp_meaning.specs.Meaning.{past_blank_bytes}
-use Rattle.rdlpp_read.proofs.LogicalLines.{level_digit, level_none, level_other}
-use Rattle.rdlpp_read.proofs.arguments.line.is_level.Goals as goal
-use Rattle.rdlpp_read.proofs.arguments.line.is_level.Goals.{then-is_empty-via-then-is_empty, then-is_empty-via-else-is_empty+then-bytes-lt48, then-is_empty-via-else-is_empty+else-bytes-lt48+then-bytes-gt50}
+use Rattle.rdlpp_front.proofs.LineArguments.{level_digit, level_none, level_other}
+use Rattle.rdlpp_front.proofs.arguments.line.is_level.Goals as goal
+use Rattle.rdlpp_front.proofs.arguments.line.is_level.Goals.{then-is_empty-via-then-is_empty, then-is_empty-via-else-is_empty+then-bytes-lt48, then-is_empty-via-else-is_empty+else-bytes-lt48+then-bytes-gt50}
 
 pub returns : goal.returns
 returns c =

@@ -1,7 +1,7 @@
 use Rattle.std.proofs.Common.{◌∙◌, ap, drop}
 use Rattle.std.proofs.lemmas.List.{take_rest}
 use Rattle.rdlpp_meaning.specs.Meaning.{past_blank_bytes}
-use Rattle.rdlpp_read.proofs.arguments.line.past_blanks.Goals as goal
+use Rattle.rdlpp_front.proofs.arguments.line.past_blanks.Goals as goal
 
 pub returns : goal.returns
 unfolding past_blank_bytes

@@ -2,7 +2,7 @@
 ghost use Rattle.std.specs.Prelude.{◌≡◌, ◌≤◌, ◌<◌, length, take, drop, true, None, IfSome};
 ghost use Rattle.rdlpp_scan.specs.SourceTokens.{line_ends};
 ghost use Rattle.rdlpp_scan.specs.Tokens.{plain_len};
-ghost use Rattle.rdlpp_conditions.specs.SkippedText.{
+ghost use Rattle.rdlpp_front.specs.SkippedText.{
   IsPassed,
   IsPassedOnce,
   counts,

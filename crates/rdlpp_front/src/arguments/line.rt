@@ -3,7 +3,7 @@ ghost use Rattle.std.specs.Prelude.{◌≡◌, ◌≤◌, ◌==◌, ◌||◌, �
 ghost use Rattle.std.specs.List.{prefix_len};
 ghost use Rattle.rdlpp_scan.specs.Bytes.{is_blank, is_digit};
 ghost use Rattle.rdlpp_meaning.specs.Meaning.{is_level, past_blank_bytes, quote_place};
-ghost use Rattle.rdlpp_read.specs.Arguments.{IsLineGiven, IsLineNumber, IsShownName, IsQuoteWithin};
+ghost use Rattle.rdlpp_front.specs.Arguments.{IsLineGiven, IsLineNumber, IsShownName, IsQuoteWithin};
 
 use arrayvec::ArrayString;
 use rdlpp_scan::{is_blank, rest_of_line};

@@ -1,6 +1,6 @@
 // What a directive is given behind its word.
 ghost use Rattle.std.specs.Prelude.{◌≡◌, ◌≤◌, length};
-ghost use Rattle.rdlpp_read.specs.Arguments.{IsClosedString, IsLead, IsNameGiven, IsStringGiven};
+ghost use Rattle.rdlpp_front.specs.Arguments.{IsClosedString, IsLead, IsNameGiven, IsStringGiven};
 
 mod line;
 

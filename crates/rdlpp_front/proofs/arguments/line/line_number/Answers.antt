@@ -1,6 +1,6 @@
 use Rattle.std.proofs.Common.{arith}
-use Rattle.rdlpp_read.proofs.LogicalLines.{digit_next, digits_at, digits_grow, number_past, with_digit}
-use Rattle.rdlpp_read.proofs.arguments.line.line_number.Goals as goal
+use Rattle.rdlpp_front.proofs.LineArguments.{digit_next, digits_at, digits_grow, number_past, with_digit}
+use Rattle.rdlpp_front.proofs.arguments.line.line_number.Goals as goal
 
 pub loop-digit-init : goal.loop-digit-init
 loop-digit-init c = (digits_at c.args.digits.now, omega arith)

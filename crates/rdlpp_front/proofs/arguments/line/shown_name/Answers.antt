@@ -2,9 +2,9 @@ use Rattle.std.proofs.Common.{◌≡◌, ◌<◌, ℕ, ◌+◌, ◌-◌, Bool, t
 use Rattle.std.specs.Str.{is_utf8}
 use Rattle.std.proofs.lemmas.List.{take_rest}
 use Rattle.rdlpp_meaning.specs.Meaning.{is_level, past_blank_bytes, quote_place}
-use Rattle.rdlpp_read.proofs.LogicalLines.{IsQuoted, fails_first, fails_fourth, name_no_text, name_open, name_refused, name_text, unnamed, unnamed_none}
-use Rattle.rdlpp_read.proofs.arguments.line.shown_name.Goals as goal
-use Rattle.rdlpp_read.proofs.arguments.line.shown_name.Goals.{then-is_empty-via-then-is_empty, then-is_empty-via-else-is_empty+then-bytes-ne34}
+use Rattle.rdlpp_front.proofs.LineArguments.{IsQuoted, fails_first, fails_fourth, name_no_text, name_open, name_refused, name_text, unnamed, unnamed_none}
+use Rattle.rdlpp_front.proofs.arguments.line.shown_name.Goals as goal
+use Rattle.rdlpp_front.proofs.arguments.line.shown_name.Goals.{then-is_empty-via-then-is_empty, then-is_empty-via-else-is_empty+then-bytes-ne34}
 
 pub returns-then-is_empty : goal.returns-then-is_empty
 returns-then-is_empty c = grind (arith, then-is_empty-via-then-is_empty, unnamed_none, then-is_empty-via-else-is_empty+then-bytes-ne34, unnamed, ne_eqb)
