@@ -256,8 +256,8 @@ IsOwnLine Failed = Unit
 
 -- what the opening of a usage of a macro leaves: the macro's body alone is open, on the usage's line, where it was opened; else nothing is
 -- open, the line is as it was, and the fault is one of a usage
-pub record LeavesOpen (macros : List Macro) (id line before : ℕ) (opening : Opening) (now : ℕ) (opens : List Open) : Type 0 where
-  pub line_is : now ≡ (if is_opened opening then line else before)
+pub record LeavesOpen (macros : List Macro) (id line old_line : ℕ) (opening : Opening) (new_line : ℕ) (opens : List Open) : Type 0 where
+  pub line_is : new_line ≡ (if is_opened opening then line else old_line)
   pub lets_go : is_opened opening ≡ false → opens ≡ []
   pub alone : is_opened opening ≡ true → IsOpenAlone macros id opens
   pub fault : IsUsageFault opening
@@ -276,14 +276,14 @@ pub record StandsInFront {R : Type 0} (macros : List Macro) (id len : ℕ) (file
 
 -- what opening such a usage comes to, in each run, and what it leaves of the open texts, of the open sources and of the sources (IEEE
 -- 1364-2001, `define`)
-pub record OpensInFront {S R : Type 0} (g : Ghosts S R) (macros : List Macro) (id len : ℕ) (result : Opening) (old new : ExpansionView) (before after : FilesView R) (sources now : S) : Type 0 where
+pub record OpensInFront {S R : Type 0} (g : Ghosts S R) (macros : List Macro) (id len : ℕ) (result : Opening) (old new : ExpansionView) (old_files new_files : FilesView R) (old_sources new_sources : S) : Type 0 where
   pub limits : (new.depth ≡ old.depth) × (new.most ≡ old.most)
-  pub only : after ≡ record before { include_stack = after.include_stack }
-  pub call : SourcesRead g (is_failed_opening result) sources now
-  pub uses : UsesSource (g.has_known_texts sources) g.unread result before.include_stack after.include_stack
+  pub only : new_files ≡ record old_files { include_stack = new_files.include_stack }
+  pub call : SourcesRead g (is_failed_opening result) old_sources new_sources
+  pub uses : UsesSource (g.has_known_texts old_sources) g.unread result old_files.include_stack new_files.include_stack
   pub sound : AreSound (texts_of macros new.arguments) new.opens
-  pub opens : LeavesOpen macros id (inner_buffer before.include_stack).line old.line result new.line new.opens
-  pub keeps : KeepsUsage (macro_at macros id).formals (g.has_known_texts sources) g.unread old.most result new.arguments (inner_buffer (with_inner (consumed_file len 0) before.include_stack)) (inner_buffer after.include_stack)
-  pub unheld : is_failed_opening result ≡ true → held_of (inner_buffer after.include_stack) ≡ []
-  pub means : (rules : Rules) (s : State) (ws : List Waiting) (os : List Progress) → IsRun rules s macros old.depth old.most → g.has_known_texts sources
-      → TellsUsage rules s g.unread ws os macros (inner_buffer before.include_stack).line (usage_name (held_of (inner_buffer before.include_stack)) len) result new before.include_stack after.include_stack
+  pub opens : LeavesOpen macros id (inner_buffer old_files.include_stack).line old.line result new.line new.opens
+  pub keeps : KeepsUsage (macro_at macros id).formals (g.has_known_texts old_sources) g.unread old.most result new.arguments (inner_buffer (with_inner (consumed_file len 0) old_files.include_stack)) (inner_buffer new_files.include_stack)
+  pub unheld : is_failed_opening result ≡ true → held_of (inner_buffer new_files.include_stack) ≡ []
+  pub means : (rules : Rules) (s : State) (ws : List Waiting) (os : List Progress) → IsRun rules s macros old.depth old.most → g.has_known_texts old_sources
+      → TellsUsage rules s g.unread ws os macros (inner_buffer old_files.include_stack).line (usage_name (held_of (inner_buffer old_files.include_stack)) len) result new old_files.include_stack new_files.include_stack
