@@ -28,19 +28,19 @@ use Rattle.rdlpp_conditions.specs.declared.conditions.Branch.TheVariants.{Decide
 use Rattle.rdlpp_read.specs.Buffer.{entered_mode, held_of, unused_of}
 use Rattle.rdlpp_read.specs.Files.{FilesView, consumed_file, inner_buffer, with_buffer, with_inner}
 use Rattle.rdlpp_read.specs.LogicalLines.{HoldsLine, IsExactLine}
-use Rattle.rdlpp_front.specs.SkippedText.{IsPassed}
+use Rattle.rdlpp_front.specs.SkippedText.{IsPassed, counts}
 use Rattle.rdlpp_read.specs.declared.buffer.extending.LogicalLine.TheVariants as line
 use Rattle.rdlpp_read.specs.declared.files.File.{File}
 use Rattle.rdlpp_read.proofs.Growing.{line_ends_le}
 use Rattle.rdlpp_read.proofs.BufferTokens.{slides-told}
-use Rattle.rdlpp_front.specs.SourceItems.{AtBare, AtPerl, IsDirective, IsNamed, IsRefused, IsText, given_by, given_len, given_name}
+use Rattle.rdlpp_front.specs.SourceItems.{AtBare, AtPerl, IsDirective, IsGivenString, IsNamed, IsRefused, IsText, given_by, given_len, given_name}
 use Rattle.rdlpp_front.specs.declared.item.Argument.{Argument}
 use Rattle.rdlpp_front.proofs.DirectivesLeft.{end_bare, opening_wants}
 use Rattle.rdlpp_front.proofs.TextLeft.{line_inside}
 use Rattle.rdlpp_front.proofs.Insides.{held_entered, name_inside, text_inside, usage_inside}
 use Rattle.rdlpp_front.proofs.NamedDirectives.{Bare, Begins, begins_token, begins_word, wants_word, named_begins, stands_bare, undef_wants, word_within}
 use Rattle.rdlpp_state.specs.Calls.{SourcesCalled}
-use Rattle.rdlpp_state.specs.Conditionals.{AnyUsage, DoesByTest, IncludeWord, IsGivenBranch, IsSkippedWord, LoneBackquote, OpensOne, UndefWord, goes_past, opening_word, passes_over, test_of}
+use Rattle.rdlpp_state.specs.Conditionals.{AnyUsage, DoesByTest, IsGivenBranch, IsSkippedWord, LoneBackquote, OpensOne, PassedWord, goes_past, opening_word, passes_over, test_of}
 use Rattle.rdlpp_state.specs.Engine.{EngineView}
 use Rattle.rdlpp_state.specs.Held.{IsBounded}
 use Rattle.rdlpp_state.specs.Moves.{IsReady, LooksAtName}
@@ -543,6 +543,16 @@ passes_by {S} {R} len lines old used new pending nothing uses queues adds =
     let exact : pending ≡ line_ends_pending lines = adds ∙ (ap (λ (o : PendingView). record o { line_ends = o.line_ends + lines }) same ∙ ap (λ (n : ℕ). line_ends_pending n) zero) in
     queues ∙ (ap (λ (o : PendingView). record used { pending = o }) exact ∙ ap (λ (e : EngineView S R). record e { pending = line_ends_pending lines }) uses)
 
+-- an `undef`, and an `include`, doesn't count in skipped text
+pub undef_passed : (held : List ℕ) (a : Option Argument) → IsNamed Undef held a → IsSkippedWord held 6
+unfolding counts
+undef_passed held a named = PassedWord Undef refl (begins_word Undef held _ _ (named_begins Undef held a undef_wants named)) refl
+
+pub include_passed : (held : List ℕ) (a : Option Argument) → IsGivenString held a → IsSkippedWord held 8
+unfolding counts
+include_passed held None lacks = PassedWord Include refl lacks.word refl
+include_passed held (Some a) has = PassedWord Include refl has.word refl
+
 -- a word that doesn't count lies in what is held, and has no line end
 pub record IsWordWithin (held : List ℕ) (len : ℕ) : Type 0 where
   pub positive : 0 < len
@@ -555,12 +565,9 @@ skipped_within held len some (LoneBackquote kind one) =
 skipped_within held len some (AnyUsage usage) =
     let within = usage_inside held len some usage in
     record { positive = within.0; inside = within.1; none = usage_ends held len usage }
-skipped_within held len some (UndefWord is whole) =
-    let within = word_within Undef held is some in
-    record { positive = omega (arith, within.0); inside = omega (arith, within.1); none = ap (λ (k : ℕ). line_ends (take k held)) whole ∙ directive_ends Undef held some is }
-skipped_within held len some (IncludeWord is whole) =
-    let within = word_within Include held is some in
-    record { positive = omega (arith, within.0); inside = omega (arith, within.1); none = ap (λ (k : ℕ). line_ends (take k held)) whole ∙ directive_ends Include held some is }
+skipped_within held len some (PassedWord d passed is whole) =
+    let within = word_within d held is some in
+    record { positive = omega (arith, within.0); inside = omega (arith, within.1); none = ap (λ (k : ℕ). line_ends (take k held)) whole ∙ directive_ends d held some is }
 
 module _ {S R : Type 0} (g : Ghosts S R) (old new : EngineView S R) (ready : IsReady old) (bounded : IsBounded new) (some : 0 < length (held_of (inner_buffer old.files.include_stack))) (s : IsSkipping old) where
   abbrev front_held : IsHeldFront old.files.include_stack

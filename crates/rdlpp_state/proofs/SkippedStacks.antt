@@ -52,19 +52,25 @@ use Rattle.rdlpp_front.proofs.TextLeft.{holds_define, perl_tokens, skipped_text_
 use Rattle.rdlpp_front.proofs.Insides.{back_front, back_text, bare_at_front, held_used, named_word, stops_at_front, text_at_front, tokens_entered, tokens_plain, tokens_used, usage_word, used_buffer, word_len}
 use Rattle.rdlpp_front.proofs.NamedDirectives.{word_line_ends}
 use Rattle.rdlpp_front.proofs.DirectivesLeft.{skipped_bare_left, skipped_unclosed_left, skipped_usage_left, skipped_word_left}
-use Rattle.rdlpp_state.specs.Conditionals.{AnyUsage, IncludeWord, IsSkippedWord, LoneBackquote, UndefWord, unclosed_fault}
+use Rattle.rdlpp_state.specs.Conditionals.{AnyUsage, IsSkippedWord, LoneBackquote, PassedWord, unclosed_fault}
 use Rattle.rdlpp_state.specs.OpenConditionals.{inner_below, outer_open}
 use Rattle.rdlpp_state.specs.Remaining.{file_state, include_stack_left, include_stack_state, waiting_around}
 use Rattle.rdlpp_state.proofs.IncludeStackLeft.{fails_include_stack, moved, include_stack_broken, none_held, place_inside, place_skipped, text_entered, ends_mid_line_consumed, waiting_same}
 
 -- What remains behind a stretch of skipped text that is passed: its LF bytes come before.
 
--- a directive whose word doesn't count stands by itself, and is a word
-uncounted : (d : Directive) → counts_skipped (directive_word d) ≡ false → (stands_by_itself d ≡ true) × (has_own_token d ≡ false)
-unfolding counts_skipped counts directive_named stands_by_itself has_own_token
+-- a directive that doesn't count stands by itself, and is a word
+uncounted : (d : Directive) → counts d ≡ false → (stands_by_itself d ≡ true) × (has_own_token d ≡ false)
+unfolding counts stands_by_itself has_own_token
 uncounted Undef e = (refl, refl)
 uncounted Include e = (refl, refl)
 uncounted _ e = cc
+
+-- whether its word counts
+word_counts : (d : Directive) → counts_skipped (directive_word d) ≡ counts d
+unfolding counts_skipped counts directive_named
+word_counts Undef = refl
+word_counts _ = refl
 
 word_ends : (bs : List ℕ) → list_all is_word bs ≡ true → line_ends bs ≡ 0
 unfolding line_ends
@@ -172,14 +178,14 @@ module _ {R : Type 0} (rules : Rules) (unread : R → List ℕ) (ws : List Waiti
         → counts_skipped (take (token_of Plain (held_of f.buffer)).len (held_of f.buffer)) ≡ false
         → (named : Option Directive) → directive_named (take ((token_of Plain (held_of f.buffer)).len - 1) (drop 1 (held_of f.buffer))) ≡ named
         → Passes f (token_of Plain (held_of f.buffer)).len
-    back_passes f holds mode kind counts None named = grind (arith, unreserved, back_text, back_front, word_passes, backquote_ends, word_ends, usage_word, skipped_usage_left)
-    back_passes f holds mode kind counts (Some d) named =
+    back_passes f holds mode kind passed None named = grind (arith, unreserved, back_text, back_front, word_passes, backquote_ends, word_ends, usage_word, skipped_usage_left)
+    back_passes f holds mode kind passed (Some d) named =
         let held = held_of f.buffer in
         let len = (token_of Plain held).len in
         let name = take (len - 1) (drop 1 held) in
         let text : take len held ≡ directive_word d = back_text held (back_front held kind) kind ∙ named_word name d named in
         let is : IsDirective d held = record { kind = kind; word = text } in
-        let own = uncounted d (ap counts_skipped (sym text) ∙ counts) in
+        let own = uncounted d (sym (word_counts d) ∙ (ap counts_skipped (sym text) ∙ passed)) in
         subst (λ (k : ℕ). Passes f k) (sym (word_len d held holds.some is))
         (word_passes f (length (directive_word d)) mode
         (ap (λ (k : ℕ). line_ends (take k held)) (sym (word_len d held holds.some is)) ∙ ap line_ends text ∙ word_line_ends d)
@@ -369,14 +375,6 @@ pub record IsHeldFront {R : Type 0} (include_stack : List (File R)) : Type 0 whe
 holds_front : {R : Type 0} (f : File R) (outer : List (File R)) → IsHeldFront (f ∷ outer) → HoldsFront f.buffer
 holds_front f outer h = record { some = h.some; ends = h.ends }
 
-undef_alone : (stands_by_itself Undef ≡ true) × (has_own_token Undef ≡ false)
-unfolding stands_by_itself has_own_token
-undef_alone = (refl, refl)
-
-include_alone : (stands_by_itself Include ≡ true) × (has_own_token Include ≡ false)
-unfolding stands_by_itself has_own_token
-include_alone = (refl, refl)
-
 module _ {R : Type 0} (limits : Limits) (rules : Rules) (unread : R → List ℕ) (macros : List Macro) (v : ConditionsView) (n : ℕ) (o : Progress) (os : List Progress) (is_open : v.open_now ≡ o ∷ os)
     (skips : v.skipped ≡ Some n) where
   -- the LF bytes of what is passed, and then what remains
@@ -447,14 +445,11 @@ module _ {R : Type 0} (limits : Limits) (rules : Rules) (unread : R → List ℕ
   passes_word (f ∷ outer) len h plain below (LoneBackquote kind one) = grind (arith, include_stack_word_passes, skipped_bare_left, holds_front)
   passes_word (f ∷ outer) len h plain below (AnyUsage usage) =
       include_stack_word_passes f outer len below (skipped_usage_left rules unread (around f outer) n o (own f) f (include_stack_state limits macros v (f ∷ outer)) len (holds_front f outer h) plain usage)
-  passes_word (f ∷ outer) len h plain below (UndefWord is whole) =
+  passes_word (f ∷ outer) len h plain below (PassedWord d passed is whole) =
+      let alone = uncounted d passed in
       subst (λ (k : ℕ). IncludeStackPasses (f ∷ outer) (take k (held_of f.buffer)) (consumed_file k 0 f ∷ outer)) (sym whole)
-      (include_stack_word_passes f outer (length (directive_word Undef)) below
-      (skipped_word_left rules unread (around f outer) n o (own f) f (include_stack_state limits macros v (f ∷ outer)) Undef undef_alone.1 undef_alone.0 (holds_front f outer h) plain is))
-  passes_word (f ∷ outer) len h plain below (IncludeWord is whole) =
-      subst (λ (k : ℕ). IncludeStackPasses (f ∷ outer) (take k (held_of f.buffer)) (consumed_file k 0 f ∷ outer)) (sym whole)
-      (include_stack_word_passes f outer (length (directive_word Include)) below
-      (skipped_word_left rules unread (around f outer) n o (own f) f (include_stack_state limits macros v (f ∷ outer)) Include include_alone.1 include_alone.0 (holds_front f outer h) plain is))
+      (include_stack_word_passes f outer (length (directive_word d)) below
+      (skipped_word_left rules unread (around f outer) n o (own f) f (include_stack_state limits macros v (f ∷ outer)) d alone.1 alone.0 (holds_front f outer h) plain is))
 
   -- a `line`
   pub passes_line : (include_stack : List (File R)) (len lines : ℕ) → IsHeldFront include_stack → (inner_buffer include_stack).mode ≡ Plain → inner_below include_stack ≤ length os → IsDirective Line (held_of (inner_buffer include_stack))

@@ -3,7 +3,7 @@
 use Rattle.std.specs.Prelude.{◌≡◌, ℕ, Bool, true, false, not, List, [], length, Option, None, Some, if◌then◌else◌}
 use Rattle.rdlpp_scan.specs.Reserved.{directive_word}
 use Rattle.rdlpp_scan.specs.declared.token.Directive.{Directive}
-use Rattle.rdlpp_scan.specs.declared.token.Directive.TheVariants.{Else, Elsif, Ifdef, Ifndef, Include, Undef}
+use Rattle.rdlpp_scan.specs.declared.token.Directive.TheVariants.{Else, Elsif, Ifdef, Ifndef}
 use Rattle.rdlpp_scan.specs.declared.token.Kind.TheVariants.{BareBackquote}
 use Rattle.rdlpp_scan.specs.declared.token.Mode.TheVariants.{Plain}
 use Rattle.rdlpp_scan.specs.Tokens.{token_of}
@@ -14,6 +14,7 @@ use Rattle.rdlpp_meaning.specs.State.{State, fault_at}
 use Rattle.rdlpp_conditions.specs.Conditions.{ConditionsView, conditions_left}
 use Rattle.rdlpp_conditions.specs.Moves.{opened_with}
 use Rattle.rdlpp_read.specs.Files.{consumed_file, inner_buffer, with_inner}
+use Rattle.rdlpp_front.specs.SkippedText.{counts}
 use Rattle.rdlpp_front.specs.SourceItems.{IsDirective, IsNamed, IsUsage}
 use Rattle.rdlpp_front.specs.declared.item.Argument.{Argument}
 use Rattle.rdlpp_state.specs.Engine.{EngineView}
@@ -32,13 +33,12 @@ opening_word false = Ifndef
 abbrev pub test_of : Bool → Bool → Bool
 test_of defined found = if defined then found else not found
 
--- a word in skipped text that doesn't count there: a lone backquote, a usage, or the word of an `undef` or of an `include`
+-- a word in skipped text that doesn't count there: a lone backquote, a usage, or the word of a directive that doesn't
 -- (this project's profile)
 pub data IsSkippedWord (held : List ℕ) (len : ℕ) : Type 0 where
   LoneBackquote : (token_of Plain held).kind ≡ BareBackquote → len ≡ 1 → IsSkippedWord held len
   AnyUsage : IsUsage held len → IsSkippedWord held len
-  UndefWord : IsDirective Undef held → len ≡ length (directive_word Undef) → IsSkippedWord held len
-  IncludeWord : IsDirective Include held → len ≡ length (directive_word Include) → IsSkippedWord held len
+  PassedWord : (d : Directive) → counts d ≡ false → IsDirective d held → len ≡ length (directive_word d) → IsSkippedWord held len
 
 -- a branch of a conditional, with the name that it is given if it wants one (IEEE 1364-2001, `elsif`, `else`)
 abbrev pub IsGivenBranch : Directive → List ℕ → Option Argument → Type 0
