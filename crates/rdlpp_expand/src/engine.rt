@@ -201,23 +201,8 @@ impl<S: Sources> Engine<S> {
         }
     }
 
-    // The step of `run` that is none over the open texts of a usage, cut to what the limit on the output leaves; it may lend
-    // nothing.
-    #[inline(always)]
-    pub(crate) fn advance_outside(&mut self) -> Option<PieceLocation>
-        requires started { IsStarted self.old }
-        requires outside { IsDrained self.old → self.old.expansion.opens ≡ [] }
-        ensures place { IfSome result (IsPlaced self.new) }
-        ensures steps { Step S.Sources self.old self.new (step_answer self.new result) }
-    {
-        match self.step_outside() {
-            Some(place) => Some(self.clip_to_quota(place)),
-            None => None,
-        }
-    }
-
     // Cuts a piece, to which a walk has led, to what the limit on the output leaves.
-    fn clip_to_quota(&mut self, place: PieceLocation) -> PieceLocation
+    pub(crate) fn clip_to_quota(&mut self, place: PieceLocation) -> PieceLocation
         requires placed { IsPlaced self.old place }
         requires open { (lent : List ℕ) → lent_answer self.old place ≡ Ok (Some lent) → self.old.phase ≡ Phase.Open }
         ensures place { IsPlaced self.new result }
@@ -297,9 +282,9 @@ impl<S: Sources> Engine<S> {
         step.place()
     }
 
-    // Takes one step that is none over the open texts of a usage.
+    // Takes one step that is none over the open texts of a usage; it may lend nothing.
     #[inline(always)]
-    fn step_outside(&mut self) -> Option<PieceLocation>
+    pub(crate) fn step_outside(&mut self) -> Option<PieceLocation>
         requires started { IsStarted self.old }
         requires outside { IsDrained self.old → self.old.expansion.opens ≡ [] }
         ensures place { IfSome result (IsPlaced self.new) }
@@ -330,21 +315,10 @@ impl<S: Sources> Engine<S> {
         ensures uncut_step { IsBounded self.new → UncutStepWithin S.Sources 1 self.old self.new (step_answer self.new result) }
     {
         self.facts();
-        match self.take_pending() {
-            Some(piece) => Some(PieceLocation::Pending(piece)),
-            None => self.step_sources(),
+        if let Some(piece) = self.take_pending() {
+            return Some(PieceLocation::Pending(piece));
         }
-    }
-
-    // Takes one step over the open sources: what is held, as most steps do.
-    #[inline(always)]
-    fn step_sources(&mut self) -> Option<PieceLocation>
-        requires { IsReady self.old }
-        ensures place { IfSome result (IsPlaced self.new) }
-        ensures uncut_step { IsBounded self.new → UncutStepWithin S.Sources 1 self.old self.new (step_answer self.new result) }
-    {
-        let held = self.files.file().buffer.held();
-        if held.is_empty() {
+        if self.files.file().buffer.held().is_empty() {
             return self.step_filled();
         }
         self.take_held()

@@ -317,14 +317,15 @@ fn pull<S: Sources, W: Sink, V: Watcher>(
     ensures pulls { Pulls S.Sources W.Sink engine.old engine.new writer.old writer.new result.len result.ending }
     ensures shows { Shows W.Sink V.Watcher writer.old writer.new watcher.old watcher.new }
 {
-    let Some(place) = engine.advance_outside() else {
+    let Some(place) = engine.step_outside() else {
         tell(engine, watcher);
         return Pulled {
             len: 0,
             ending: None,
         };
     };
-    match engine.answer(place) {
+    let lent = engine.clip_to_quota(place);
+    match engine.answer(lent) {
         Ok(Piece::Bytes(part)) => {
             let written = write_shown(engine, writer, watcher, part);
             Pulled {
