@@ -1,8 +1,7 @@
 -- What the bytes at the front of a text tell, and what remains of open sources for each kind of token there.
-use Rattle.std.proofs.Common.{◌≡◌, ◌≢◌, ℕ, suc, ◌-◌, ◌<◌, Bool, true, false, cond, List, [], ◌∷◌, length, take, drop, slice_index, refl, sym, ap, ◌∙◌, arith, Option, Some, None, subst, ◌+◌, ◌≤◌, not, ◌++◌, append-nil, inl, inr, bytes_eq, codes, eqb-true, drop-drop, length-drop, length-take-le}
+use Rattle.std.proofs.Common.{◌≡◌, ◌≢◌, ℕ, suc, ◌-◌, ◌<◌, Bool, true, false, cond, List, [], ◌∷◌, length, take, drop, slice_index, refl, sym, ap, ◌∙◌, arith, Option, Some, None, subst, ◌+◌, ◌≤◌, not, ◌++◌, append-nil, inl, inr, eqb-true, drop-drop, length-drop, length-take-le}
 use Rattle.std.specs.List.{list_all, prefix_len}
 use Rattle.std.proofs.lemmas.Bool.{and_parts, cond_both, false≢true}
-use Rattle.std.proofs.lemmas.Slice.Eq.{bytes_eq-Decides}
 use Rattle.rdlpp_scan.specs.Bytes.{begins_block_comment, begins_line_comment, begins_perl, is_blank, is_digit, is_letter, is_line_end, is_word, takes_word}
 use Rattle.rdlpp_scan.specs.Front.{Breach}
 use Rattle.rdlpp_scan.specs.Names.{IsWordBytes}
@@ -11,7 +10,7 @@ use Rattle.rdlpp_scan.specs.Resumed.{opening}
 use Rattle.rdlpp_scan.specs.SourceTokens.{Broken, Ordinary, SourceToken, line_ends, remaining_tokens}
 use Rattle.rdlpp_scan.specs.Tokens.{first_place, plain_len, plain_token, stops_plain_text, token_of, whole}
 use Rattle.rdlpp_scan.specs.declared.token.Directive.{Directive}
-use Rattle.rdlpp_scan.specs.declared.token.Directive.TheVariants.{Define, Else, Elsif, Endif, Ifdef, Ifndef, Include, Line, Undef}
+use Rattle.rdlpp_scan.specs.declared.token.Directive.TheVariants.{Define, Include}
 use Rattle.rdlpp_scan.specs.declared.token.Kind.{Kind}
 use Rattle.rdlpp_scan.specs.declared.token.Kind.TheVariants.{Back, BareBackquote, LineComment, Name, Perl}
 use Rattle.rdlpp_scan.specs.declared.token.Mode.{Mode}

@@ -1,12 +1,9 @@
 -- A new engine: its bound, its stores, and the opening of its main text.
-use Rattle.std.proofs.Common.{◌≡◌, inl, ℕ, ◌+◌, ◌*◌, ◌^◌, ◌≤◌, ◌<◌, List, [], ◌∷◌, ◌++◌, None, length, map, ap, ◌∙◌, subst, arith, Bool, Some, refl, sym, suc, zero, ◌&&◌, true, false, take, lit<, slice_index, leb, get_or, Err, inr, All, IsAscii, IsCharBoundary, IsUtf8, mul-le-mul_right, take_all}
-use Rattle.std.specs.List.{list_all}
+use Rattle.std.proofs.Common.{◌≡◌, inl, ℕ, ◌+◌, ◌*◌, ◌^◌, ◌≤◌, ◌<◌, List, [], ◌∷◌, ◌++◌, None, length, map, ap, ◌∙◌, subst, arith, Bool, Some, refl, sym, suc, zero, ◌&&◌, true, false, take, leb, get_or, Err, inr, All, IsCharBoundary, mul-le-mul_right, take_all}
 use Rattle.std.proofs.lemmas.Bool.{cases_lt, cond-false, cond-true}
 use Rattle.std.proofs.lemmas.Bool.Decides.{nat_tests}
 use Rattle.std.proofs.lemmas.List.{get_or_past, reverse-append}
 use Rattle.std.proofs.lemmas.List.Elements.{All-append, All-cons, All-head, All-nil, All-same, All-tail}
-use Rattle.std.proofs.lemmas.Str.{IsUtf8-from_ascii}
-use Rattle.rdlpp_scan.specs.Bytes.{is_digit, is_letter, is_word}
 use Rattle.rdlpp_scan.specs.SourceTokens.{SourceToken, whole_tokens}
 use Rattle.rdlpp_table.specs.Limits.{AreInRange}
 use Rattle.rdlpp_table.specs.declared.limits.Limits.{Limits}

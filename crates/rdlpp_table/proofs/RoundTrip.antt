@@ -1,5 +1,5 @@
 -- The macros of a table, read back from its lists, and a `define` by its name and what stands after it.
-use Rattle.std.proofs.Common.{◌≡◌, ℕ, ◌+◌, ◌-◌, true, false, List, [], ◌∷◌, ◌++◌, length, take, drop, map, get_or, Option, Some, None, option_map, unwrap_or, refl, ap, sym, ◌∙◌, arith, length-append, append_assoc, slice_range, sum_by, zero, suc, ◌<◌, ◌≤◌, remove, bytes_eq, append-nil, add-one, Ok, Err, le_trans, Bool, cond, eqb, one-add, inl, inr, All, flat_map, is_some, le-ltb, lt-ltb, length-drop, length-take-le}
+use Rattle.std.proofs.Common.{◌≡◌, ℕ, ◌+◌, ◌-◌, true, false, List, [], ◌∷◌, ◌++◌, length, take, drop, map, get_or, Option, Some, None, option_map, unwrap_or, refl, ap, sym, ◌∙◌, arith, length-append, append_assoc, slice_range, sum_by, zero, suc, ◌<◌, ◌≤◌, remove, bytes_eq, append-nil, add-one, Ok, Err, le_trans, Bool, cond, eqb, one-add, inl, inr, All, flat_map, le-ltb, lt-ltb, length-drop, length-take-le}
 use Rattle.std.specs.List.{IsDistinct, list_all, prefix_len}
 use Rattle.std.proofs.lemmas.Bool.{and_from, and_parts, cases_Bool, cond-false, cond-true}
 use Rattle.std.proofs.lemmas.Grind.{common_steps}

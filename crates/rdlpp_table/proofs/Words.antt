@@ -1,5 +1,5 @@
 -- Words are text.
-use Rattle.std.proofs.Common.{◌≡◌, ℕ, ◌<◌, List, ◌∷◌, zero, suc, take, lit<, slice_index, true, length, arith, IsAscii, IsUtf8, take_all}
+use Rattle.std.proofs.Common.{◌≡◌, ℕ, ◌<◌, List, ◌∷◌, zero, suc, take, lit<, slice_index, true, arith, IsAscii, IsUtf8}
 use Rattle.std.specs.List.{list_all}
 use Rattle.std.proofs.lemmas.Bool.{and_parts}
 use Rattle.std.proofs.lemmas.Bool.Decides.{nat_tests}

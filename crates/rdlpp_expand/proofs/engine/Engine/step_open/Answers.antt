@@ -1,7 +1,6 @@
-use Rattle.std.proofs.Common.{◌≡◌, ap, length, ◌∙◌, arith}
+use Rattle.std.proofs.Common.{ap, length, ◌∙◌, arith}
 use Rattle.rdlpp_state.proofs.EngineSteps.{wider}
-use Rattle.rdlpp_state.proofs.FrontSteps.{opened_phase, pending_is_placed, ready_idle, take_pending}
-use Rattle.rdlpp_expand.proofs.TextFacts.{some_in}
+use Rattle.rdlpp_state.proofs.FrontSteps.{opened_phase, pending_is_placed, take_pending}
 use Rattle.rdlpp_expand.proofs.engine.Engine.step_open.Goals as goal
 
 pub take_pending-requires : goal.take_pending-requires
