@@ -36,6 +36,11 @@ IsLineCounted (Usage n) = n < 2 ^ 63
 IsLineCounted Ending = ⊤
 IsLineCounted (Origin n) = ⊤
 
+-- the physical line of the innermost source on which a piece begins, where it is text of that source or the LF bytes that end lines of it
+abbrev pub lent_line : Lent → Option ℕ
+lent_line (Line line) = Some line
+lent_line _ = None
+
 -- nothing was lent
 unfoldable pub no_marks : MarksView
 no_marks = record { lent = Nothing; ending = false; name = []; line = 0 }

@@ -1,7 +1,7 @@
 // Where pieces of the output stand in the sources.
-ghost use Rattle.std.specs.Prelude.{◌≡◌, ◌<◌, ◌^◌, IfSome};
+ghost use Rattle.std.specs.Prelude.{◌≡◌, ◌<◌, ◌^◌};
 ghost use Rattle.rdlpp_read.specs.Files.{shift_of};
-ghost use Rattle.rdlpp_state.specs.Marks.{ends_line, lends_line, lends_pending, lends_usage, marked_place, no_marks, told_position};
+ghost use Rattle.rdlpp_state.specs.Marks.{ends_line, lends_line, lends_pending, lends_usage, lent_line, marked_place, no_marks, told_position};
 
 use crate::pending::Pending;
 use arrayvec::ArrayString;
@@ -134,7 +134,7 @@ impl Marks {
     /// The physical line of the innermost source on which the piece begins that was lent last, where it is text of that source
     /// or the LF bytes that end lines of it.
     pub fn source_line(&self) -> Option<u64>
-        ensures { IfSome result (λ line. self.now.lent ≡ Lent.Line line) }
+        ensures { result ≡ lent_line self.now.lent }
     {
         match self.lent {
             Lent::Line(line) => Some(line),
