@@ -29,11 +29,11 @@ out/rdlpp: $(call sources,rdlpp_cli)
 run: ## show the worked examples with their output, in two minutes: by out/rdlpp, or by a program without a proof where that isn't built
 	@if $(MAKE) --silent --question out/rdlpp; then examples/show; else examples/show --unproved; fi
 
-# The gate takes no links, of which the library for C has two; `checks/from_gate` makes them anew.
+# The gate takes no links, of which the library for C has two; `checks/from_gate` makes them anew. `make test anew=--anew` takes
+# nothing that earlier gates kept on this machine.
 test: ## the gate (every proof, the must-fail edits, the tests, the stored runs), and then the checks over what it built
 	@rm -f out/$(shared) out/$(shared).*
-	@rt ci
-	@checks/from_gate
+	@checks/gate $(anew)
 	@checks/all
 
 # The library for C, where the tools for it are there: without them the checks over it are skipped.
